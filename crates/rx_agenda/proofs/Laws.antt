@@ -17,13 +17,15 @@ pub use Rattle.rx_agenda.proofs.OneOrder.{Agrees, determined, determined_so_far,
 find-map : {A B : Type 0} (p : B → Bool) (f : A → B) (xs : List A) → find p (map f xs) ≡ option_map f (find (λ x. p (f x)) xs)
 find-map p f [] = refl
 find-map p f (x ∷ xs) =
-    elim (p (f x)) as (λ b. cond b (Some (f x)) (find p (map f xs)) ≡ option_map f (cond b (Some x) (find (λ y. p (f y)) xs))) [ true ↦ refl | false ↦ find-map p f xs ]
+    elim (p (f x)) as (λ b. cond b (Some (f x)) (find p (map f xs)) ≡ option_map f (cond b (Some x) (find (λ y. p (f y)) xs)))
+    [ true ↦ refl | false ↦ find-map p f xs ]
 
 found_passes : {A : Type 0} (P : A → Type 0) (p : A → Bool) (xs : List A) (x : A) → All P xs → find p xs ≡ Some x → P x
 found_passes P p [] x all e = absurd (cc)
 found_passes P p (y ∷ ys) x all e =
     let here : P y = all 0 y (omega arith) in
-    let branch : (b : Bool) → cond b (Some y) (find p ys) ≡ Some x → P x = λ b. elim b as (λ b. cond b (Some y) (find p ys) ≡ Some x → P x) [ true ↦ λ e. let same : y ≡ x = cc in subst P same here | false ↦ λ e. found_passes P p ys x (All-tail P y ys all) e ] in
+    let branch : (b : Bool) → cond b (Some y) (find p ys) ≡ Some x → P x = λ b. elim b as (λ b. cond b (Some y) (find p ys) ≡ Some x → P x)
+    [ true ↦ λ e. let same : y ≡ x = cc in subst P same here | false ↦ λ e. found_passes P p ys x (All-tail P y ys all) e ] in
     branch (p y) e
 
 option_key : {K : Type 0} (P : K → Type 0) (o : Option (Named K)) (k : K) → ((n : Named K) → o ≡ Some n → P n.key) → option_map (λ n. n.key) o ≡ Some k → P k
@@ -61,7 +63,8 @@ bound-numbers names name = ap (option_map (λ b. b.number)) (find-map (λ b. byt
 
 module _ {K : Type 0} (n : Named K) where
   -- where the name stood for nothing, it stands for the new key, and every other name for what it stood for
-  answered : (b : Bool) (o : Option (Named K)) → (b ≡ true → option_map (λ m. m.key) o ≡ None) → option_map (λ m. m.key) (or_last (λ m. b) n o) ≡ cond b (Some n.key) (option_map (λ m. m.key) o)
+  answered : (b : Bool) (o : Option (Named K)) → (b ≡ true → option_map (λ m. m.key) o ≡ None)
+      → option_map (λ m. m.key) (or_last (λ m. b) n o) ≡ cond b (Some n.key) (option_map (λ m. m.key) o)
   answered true None free = refl
   answered true (Some m) free = let clash : Some m.key ≡ None = free refl in absurd (cc)
   answered false None free = refl
@@ -71,11 +74,13 @@ module _ {K : Type 0} (n : Named K) where
   same_last p None = refl
   same_last p (Some m) = refl
 
-  pub key_of-bind : (names : List (Named K)) (q : Name) → key_of names (name_of n) ≡ None → key_of (names ++ n ∷ []) q ≡ cond (bytes_eq (name_of n) q) (Some n.key) (key_of names q)
+  pub key_of-bind : (names : List (Named K)) (q : Name) → key_of names (name_of n) ≡ None
+      → key_of (names ++ n ∷ []) q ≡ cond (bytes_eq (name_of n) q) (Some n.key) (key_of names q)
   unfolding key_of
   key_of-bind names q free =
       let p : Named K → Bool = λ m. bytes_eq (name_of m) q in
-      let taken : bytes_eq (name_of n) q ≡ true → key_of names q ≡ None = λ is. let same : name_of n ≡ q = (bytes_eq-Decides (name_of n) q).0 is in subst (λ name. key_of names name ≡ None) same free in
+      let taken : bytes_eq (name_of n) q ≡ true → key_of names q ≡ None =
+      λ is. let same : name_of n ≡ q = (bytes_eq-Decides (name_of n) q).0 is in subst (λ name. key_of names name ≡ None) same free in
       ap (option_map (λ m. m.key)) (find-push p names n ∙ same_last p (find p names)) ∙ answered (bytes_eq (name_of n) q) (find p names) taken
 
 pub none_there : {K : Type 0} (o : Option K) → is_some o ≡ false → o ≡ None

@@ -9,7 +9,8 @@ use Rattle.rx_agenda.specs.Names.{name_of, key_of}
 use Rattle.rx_agenda.specs.Ties.{IsTied}
 use Rattle.rx_agenda.proofs.Laws.{key_of-bind, none_there}
 
-pub still_tied : {K S : Type 0} (names : List (Named K)) (n : Named K) (old new : HashMap (String Global) K S) → IsTied names old → is_some (key_of names (name_of n)) ≡ false
+pub still_tied : {K S : Type 0} (names : List (Named K)) (n : Named K) (old new : HashMap (String Global) K S)
+    → IsTied names old → is_some (key_of names (name_of n)) ≡ false
     → ((q : List ℕ) → get_by_text new q ≡ update bytes_eq (get_by_text old) (name_of n) (Some n.key) q) → IsTied (names ++ n ∷ []) new
 still_tied names n old new tied free updated q =
     updated q ∙ ap (λ o. cond (bytes_eq (name_of n) q) (Some n.key) o) (tied q) ∙ sym (key_of-bind n names q (none_there (key_of names (name_of n)) free))

@@ -1,5 +1,6 @@
 -- A pass that closes what stands below closed nodes.
-use Rattle.std.proofs.Common.{◌≡◌, ℕ, zero, suc, ◌+◌, ◌-◌, ◌<◌, ◌≤◌, Bool, true, false, List, [], ◌∷◌, ◌++◌, length, Option, Some, None, refl, sym, ap, ◌∙◌, arith, cond, inl, inr, ◌⊎◌}
+use Rattle.std.proofs.Common.{◌≡◌, ℕ, zero, suc, ◌+◌, ◌-◌, ◌<◌, ◌≤◌, Bool, true, false, List, [], ◌∷◌}
+use Rattle.std.proofs.Common.{◌++◌, length, Option, Some, None, refl, sym, ap, ◌∙◌, arith, cond, inl, inr, ◌⊎◌}
 use Rattle.std.proofs.Common.{get_or, set, get_or-set_other, get_or-set_same, ◌≢◌, length-append}
 use Rattle.std.proofs.Math.ListN.{length-set, get_or-append}
 use Rattle.std.proofs.lemmas.List.{get_or_push}
@@ -461,7 +462,8 @@ none_number h n closed k o = not_true (n == k) (λ same. both_ways (is_open h k)
 
 -- what is listed in the end ---------------------------------------------------------------------------
 
-pub noted_first : (h : List Event) (ms : List Bool) (top : ℕ) → IsMarked ms (is_open h) → (n : ℕ) → is_open h n ≡ true → get_or (set ms top false) n false ≡ false
+pub noted_first : (h : List Event) (ms : List Bool) (top : ℕ) → IsMarked ms (is_open h)
+    → (n : ℕ) → is_open h n ≡ true → get_or (set ms top false) n false ≡ false
     → IsNoted 0 (top ∷ []) n
 noted_first h ms top tied n o gone = by_place (uncleared ms top n gone) where
   by_place : (n ≡ top) ⊎ (get_or ms n false ≡ false) → IsNoted 0 (top ∷ []) n

@@ -1,5 +1,6 @@
 -- Which openings force a connection, for which there has to be room.
-use Rattle.std.proofs.Common.{◌≡◌, ℕ, ◌+◌, ◌<◌, ◌≤◌, true, false, List, [], ◌∷◌, ◌++◌, length, Some, refl, sym, ap, ◌∙◌, arith, inl, inr, ◌⊎◌, slice_get, nat_le, length-append}
+use Rattle.std.proofs.Common.{◌≡◌, ℕ, ◌+◌, ◌<◌, ◌≤◌, true, false, List, [], ◌∷◌, ◌++◌, length, Some}
+use Rattle.std.proofs.Common.{refl, sym, ap, ◌∙◌, arith, inl, inr, ◌⊎◌, slice_get, nat_le, length-append}
 use Rattle.std.proofs.Math.Bool.{not, ◌&&◌, ◌||◌}
 use Rattle.std.specs.List.{list_any}
 use Rattle.std.specs.Option.{option_map_or}
@@ -38,28 +39,38 @@ connection_stays h place kind c g made alive =
     is_open_cut h (Open place kind) c (is_open_within h c alive) ∙ rw (alive, uncut) refl
 
 -- where none is open after it, none was
-none_before : (h : List Event) (place : Place) (kind : Kind) (g : ℕ) → open_connections (h ++ Open place kind ∷ []) g ≡ [] → has_key (open_connected h) h g ≡ false
+none_before : (h : List Event) (place : Place) (kind : Kind) (g : ℕ)
+    → open_connections (h ++ Open place kind ∷ []) g ≡ [] → has_key (open_connected h) h g ≡ false
 none_before h place kind g none = not_true (has_key (open_connected h) h g) (λ y.
     let f = find_number (λ n. at (is_connect_of g) h n && is_open h n) (length h) (sym (connected_key h g) ∙ y) in
     let p : (at (is_connect_of g) h f.number ≡ true) × (is_open h f.number ≡ true) = and_parts _ _ f.holds in
     let l = f.within in
     let still = connection_stays h place kind f.number g (at_connect h g f.number p.0) p.1 in
-    filter_nonempty (λ n. at (is_connect_of g) (h ++ Open place kind ∷ []) n && is_open (h ++ Open place kind ∷ []) n) 0 (length (h ++ Open place kind ∷ [])) f.number
-    (omega arith) (omega (arith, length-append h (Open place kind ∷ []))) (and_from _ _ (at-append (is_connect_of g) h (Open place kind ∷ []) f.number l ∙ p.0) still) none)
+    filter_nonempty (λ n. at (is_connect_of g) (h ++ Open place kind ∷ []) n && is_open (h ++ Open place kind ∷ []) n) 0
+    (length (h ++ Open place kind ∷ [])) f.number
+    (omega arith) (omega (arith, length-append h (Open place kind ∷ [])))
+    (and_from _ _ (at-append (is_connect_of g) h (Open place kind ∷ []) f.number l ∙ p.0) still) none)
 
 -- a hub that waits after it needs a connection
-connect_needs : (h : List Event) (place : Place) (kind : Kind) → IsLawful nothing_kept h → IsSettled nothing_kept h → (g : ℕ) → IsConnectDue (h ++ Open place kind ∷ []) g
+connect_needs : (h : List Event) (place : Place) (kind : Kind) → IsLawful nothing_kept h
+    → IsSettled nothing_kept h → (g : ℕ) → IsConnectDue (h ++ Open place kind ∷ []) g
     → needs_connection h (Open place kind) ≡ true
 connect_needs h place (Sub k) law settled g d =
     let same : g ≡ k = kept_subscribed nothing_kept h place k law (settled_connected nothing_kept h settled) g d in
     let auto : at is_auto_hub h k ≡ true = ap (at is_auto_hub h) (sym same) ∙ at_before is_auto_hub h (Open place (Sub k)) g refl d.auto in
-    let none : has_key (open_connected h) h k ≡ false = none_before h place (Sub k) k (ap (open_connections (h ++ Open place (Sub k) ∷ [])) (sym same) ∙ d.unconnected) in
+    let none : has_key (open_connected h) h k ≡ false =
+    none_before h place (Sub k) k (ap (open_connections (h ++ Open place (Sub k) ∷ [])) (sym same) ∙ d.unconnected) in
     rw (auto, none) refl
-connect_needs h place Leaf law settled g d = absurd (kept_unsubscribed nothing_kept h (Open place Leaf) law (settled_connected nothing_kept h settled) refl refl g d)
-connect_needs h place Pass law settled g d = absurd (kept_unsubscribed nothing_kept h (Open place Pass) law (settled_connected nothing_kept h settled) refl refl g d)
-connect_needs h place Flat law settled g d = absurd (kept_unsubscribed nothing_kept h (Open place Flat) law (settled_connected nothing_kept h settled) refl refl g d)
-connect_needs h place Switch law settled g d = absurd (kept_unsubscribed nothing_kept h (Open place Switch) law (settled_connected nothing_kept h settled) refl refl g d)
-connect_needs h place Until law settled g d = absurd (kept_unsubscribed nothing_kept h (Open place Until) law (settled_connected nothing_kept h settled) refl refl g d)
+connect_needs h place Leaf law settled g d =
+    absurd (kept_unsubscribed nothing_kept h (Open place Leaf) law (settled_connected nothing_kept h settled) refl refl g d)
+connect_needs h place Pass law settled g d =
+    absurd (kept_unsubscribed nothing_kept h (Open place Pass) law (settled_connected nothing_kept h settled) refl refl g d)
+connect_needs h place Flat law settled g d =
+    absurd (kept_unsubscribed nothing_kept h (Open place Flat) law (settled_connected nothing_kept h settled) refl refl g d)
+connect_needs h place Switch law settled g d =
+    absurd (kept_unsubscribed nothing_kept h (Open place Switch) law (settled_connected nothing_kept h settled) refl refl g d)
+connect_needs h place Until law settled g d =
+    absurd (kept_unsubscribed nothing_kept h (Open place Until) law (settled_connected nothing_kept h settled) refl refl g d)
 
 -- what is opened at a free place is open
 opened_at : (h : List Event) (place : Place) (kind : Kind) → IsFree nothing_kept h place → is_open (h ++ Open place kind ∷ []) (length h) ≡ true
@@ -80,17 +91,21 @@ needs_due h place (Sub k) free needs =
         subscriber = length h;
         subscribes = ap (λ o. option_map_or (is_subscriber_of k) o false) (slice_get_last h (Open place (Sub k))) ∙ eq-eqb k k refl;
         subscribed = opened_at h place (Sub k) free;
-        waits = λ t x. (let l = x.later in let w = slice_get_within (h ++ Open place (Sub k) ∷ []) x.place _ x.ended in omega (arith, length-append h (Open place (Sub k) ∷ [])));
+        waits = λ t x. (let l = x.later in let w = slice_get_within (h ++ Open place (Sub k) ∷ []) x.place _ x.ended in
+            omega (arith, length-append h (Open place (Sub k) ∷ [])));
         unconnected = filter_none (λ n. at (is_connect_of k) (h ++ Open place (Sub k) ∷ []) n && is_open (h ++ Open place (Sub k) ∷ []) n)
             (places (h ++ Open place (Sub k) ∷ [])) (not_true _ (λ y. unconnected k (not_not (has_key (open_connected h) h k) p.1) y));
       },
     )
   where
     unconnected : (j : ℕ) → has_key (open_connected h) h j ≡ false
-        → list_any (λ n. at (is_connect_of j) (h ++ Open place (Sub k) ∷ []) n && is_open (h ++ Open place (Sub k) ∷ []) n) (places (h ++ Open place (Sub k) ∷ [])) ≡ true → ⊥
+        → list_any (λ n. at (is_connect_of j) (h ++ Open place (Sub k) ∷ []) n && is_open (h ++ Open place (Sub k) ∷ []) n)
+        (places (h ++ Open place (Sub k) ∷ [])) ≡ true → ⊥
     unconnected j none y =
-        let f = find_number (λ n. at (is_connect_of j) (h ++ Open place (Sub k) ∷ []) n && is_open (h ++ Open place (Sub k) ∷ []) n) (length (h ++ Open place (Sub k) ∷ [])) y in
-        let p : (at (is_connect_of j) (h ++ Open place (Sub k) ∷ []) f.number ≡ true) × (is_open (h ++ Open place (Sub k) ∷ []) f.number ≡ true) = and_parts _ _ f.holds in
+        let f = find_number (λ n. at (is_connect_of j) (h ++ Open place (Sub k) ∷ []) n && is_open (h ++ Open place (Sub k) ∷ []) n)
+        (length (h ++ Open place (Sub k) ∷ [])) y in
+        let p : (at (is_connect_of j) (h ++ Open place (Sub k) ∷ []) f.number ≡ true)
+        × (is_open (h ++ Open place (Sub k) ∷ []) f.number ≡ true) = and_parts _ _ f.holds in
         let old : at (is_connect_of j) h f.number ≡ true = at_before (is_connect_of j) h (Open place (Sub k)) f.number refl p.0 in
         let l : f.number < length h = at_within (is_connect_of j) h f.number old in
         let alive = open_old h (Open place (Sub k)) f.number l p.1 in

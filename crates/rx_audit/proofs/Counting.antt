@@ -132,7 +132,8 @@ flow_step h leaf i log new total v next l is is_next kept more often grows few s
 
 -- too many visits
 pub flow_over : (h : List Event) (leaf i : ℕ) (log : List Visit) (total : ℕ) (v : Visit) (next : List ℕ) → i < length log → v ≡ get_or log i v
-    → ((number : ℕ → ℕ) → sum_by number next ≡ sum_by number (onward h v.node)) → 1048576 < total + v.count * length next → IsFlowing h leaf i log total → 1048576 < visits h leaf
+    → ((number : ℕ → ℕ) → sum_by number next ≡ sum_by number (onward h v.node))
+    → 1048576 < total + v.count * length next → IsFlowing h leaf i log total → 1048576 < visits h leaf
 unfolding visits climb most_visits
 flow_over h leaf i log total v next l is is_next many s = rw (visits_many 1048577 (2 + i) h (leaf ∷ []) enough) (omega arith) where
   one : ℕ → ℕ

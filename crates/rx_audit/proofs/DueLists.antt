@@ -1,5 +1,6 @@
 -- What has to end or to close after one more event is on the list.
-use Rattle.std.proofs.Common.{◌≡◌, ℕ, zero, suc, ◌+◌, ◌-◌, ◌<◌, ◌≤◌, Bool, true, false, List, [], ◌∷◌, ◌++◌, length, Some, None, refl, sym, ap, ◌∙◌, arith, inl, inr, ◌⊎◌, get_or, slice_get}
+use Rattle.std.proofs.Common.{◌≡◌, ℕ, zero, suc, ◌+◌, ◌-◌, ◌<◌, ◌≤◌, Bool, true, false, List, [], ◌∷◌, ◌++◌}
+use Rattle.std.proofs.Common.{length, Some, None, refl, sym, ap, ◌∙◌, arith, inl, inr, ◌⊎◌, get_or, slice_get}
 use Rattle.std.proofs.Math.Bool.{◌&&◌, ◌||◌}
 use Rattle.std.specs.Option.{option_and_then, option_map_or}
 use Rattle.std.proofs.lemmas.Bool.{cases_order, both_ways, false≢true, and_parts, eq-eqb}
@@ -42,7 +43,8 @@ due_close_open (left o at_c a n) = o
 
 -- subscribers that the event cuts off -----------------------------------------------------------------
 
-pub cut_after : (h : List Event) (e : Event) (before after : List ℕ) → IsLawful nothing_kept h → MayFollow nothing_kept h e → HasCut h before → Keeps before after
+pub cut_after : (h : List Event) (e : Event) (before after : List ℕ)
+    → IsLawful nothing_kept h → MayFollow nothing_kept h e → HasCut h before → Keeps before after
     → HasEnded h e after → HasCut (h ++ e ∷ []) after
 cut_after h e before after law next so_far keeps ended n alive is = by_reason found.0 (source_ended_or_now nothing_kept h e law next n found.0 found.1) where
   found : (t : Terminal) × SourceEnded (h ++ e ∷ []) n t
@@ -66,7 +68,8 @@ cut_after h e before after law next so_far keeps ended n alive is = by_reason fo
 -- connections that nobody uses any more ---------------------------------------------------------------
 
 -- the word of the hub leads to its open connection
-open_word : (h : List Event) → IsLawful nothing_kept h → (size g c : ℕ) (known : Hubs) → AreHubs h size known → g < size → slice_get h c ≡ Some (Connect g) → is_open h c ≡ true
+open_word : (h : List Event) → IsLawful nothing_kept h → (size g c : ℕ) (known : Hubs)
+    → AreHubs h size known → g < size → slice_get h c ≡ Some (Connect g) → is_open h c ≡ true
     → get_or known.connection.items g 0 ≡ suc c
 open_word h law size g c known w inside made alive =
     let room = w.connection_size in
@@ -111,7 +114,8 @@ acts_parts h n y = by_test (node_due h n) (is_open h n) (is_cut h n) (close_due 
   by_test false true false d y = inr (inr y)
   by_test false false c d y = inr (inr y)
 
-pub acts_noted : (h : List Event) (list : List ℕ) → ((n : ℕ) → node_due h n ≡ true → IsNoted 0 list n) → HasCut h list → HasLeft h list → (n : ℕ) → acts h n ≡ true → IsNoted 0 list n
+pub acts_noted : (h : List Event) (list : List ℕ) → ((n : ℕ) → node_due h n ≡ true → IsNoted 0 list n)
+    → HasCut h list → HasLeft h list → (n : ℕ) → acts h n ≡ true → IsNoted 0 list n
 acts_noted h list marked cut_off unused n y = by_case (acts_parts h n y) where
   by_case : (node_due h n ≡ true) ⊎ (((is_open h n ≡ true) × (is_cut h n ≡ true)) ⊎ (close_due h n ≡ true)) → IsNoted 0 list n
   by_case (inl m) = marked n m
@@ -174,7 +178,8 @@ pub none_acts_settled : (h : List Event) → IsConnected h → ((n : ℕ) → ac
 none_acts_settled h whole none = settled_by_marks nothing_kept h whole
     (λ n t o ended. none n (acts_by_cut h n o (is_cut_of h n t ended)))
     (λ c d. none c (acts_by_closing h c (close_due_of h c d)))
-    (λ n made o is. none_is_due made (marks_of nothing_kept h n) n (not_true (due_made h n made) (λ y. none n (acts_by_marks h n (due_made_at h n made o is ∙ y)))))
+    (λ n made o is. none_is_due made (marks_of nothing_kept h n) n
+    (not_true (due_made h n made) (λ y. none n (acts_by_marks h n (due_made_at h n made o is ∙ y)))))
 
 -- the list has all, so it has each part
 pub marks_noted : (h : List Event) (list : List ℕ) → HasAll h list → IsCovered h list
@@ -216,7 +221,8 @@ pub lost_more : (h : List Event) (closed connection before after : List ℕ) (i 
     → (k : ℕ) → k < i + 1 → IsLostNoted h (get_or closed k 0) connection after
 lost_more h closed connection before after i d within so_far keeps last k l = by_order (cases_order k i) where
   by_order : (k ≡ i) ⊎ ((k < i) ⊎ (i < k)) → IsLostNoted h (get_or closed k 0) connection after
-  by_order (inl same) = λ g c hub word. last g c (ap (hub_subscribed_at h) (any_default closed i d 0 within ∙ ap (λ j. get_or closed j 0) (sym same)) ∙ hub) word
+  by_order (inl same) = λ g c hub word.
+      last g c (ap (hub_subscribed_at h) (any_default closed i d 0 within ∙ ap (λ j. get_or closed j 0) (sym same)) ∙ hub) word
   by_order (inr (inl m)) = lost_keeps h (get_or closed k 0) connection before after (so_far k m) keeps
   by_order (inr (inr m)) = absurd (omega arith)
 
@@ -234,7 +240,8 @@ module _ (h : List Event) (size : ℕ) (s : Subscribers) (g : ℕ) (w : AreLinke
       let within : k < length h = at_within (is_subscriber_of g) h k (and_parts (at (is_subscriber_of g) h k) (get_or s.listed.items k false) y).0 in
       absurd (both_ways _ (last_none (on_list h s.listed.items g) (length h) k (omega arith) within) y)
 
-  pub noted_down : (next word : ℕ) (list : List ℕ) → 0 < next → ((k : ℕ) → next ≡ suc k → on_list h s.listed.items g k ≡ true) → word ≡ get_or s.before.items (next - 1) 0
+  pub noted_down : (next word : ℕ) (list : List ℕ) → 0 < next
+      → ((k : ℕ) → next ≡ suc k → on_list h s.listed.items g k ≡ true) → word ≡ get_or s.before.items (next - 1) 0
       → ((k : ℕ) → on_list h s.listed.items g k ≡ true → next ≤ k → IsNoted 0 list k)
       → (k : ℕ) → on_list h s.listed.items g k ≡ true → word ≤ k → IsNoted 0 (list ++ (next - 1) ∷ []) k
   noted_down next word list some here is so_far k y l = by_order (cases_order k (next - 1)) where

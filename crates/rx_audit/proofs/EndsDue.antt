@@ -1,5 +1,6 @@
 -- What operators must do, by marks and by the words of hubs.
-use Rattle.std.proofs.Common.{◌≡◌, ◌↔◌, ℕ, suc, ◌-◌, ◌<◌, ◌≤◌, Bool, true, false, List, length, Option, Some, None, refl, sym, ap, ◌∙◌, arith, inl, inr, ◌⊎◌, IsTrue, get_or, slice_get}
+use Rattle.std.proofs.Common.{◌≡◌, ◌↔◌, ℕ, suc, ◌-◌, ◌<◌, ◌≤◌, Bool, true, false, List, length, Option}
+use Rattle.std.proofs.Common.{Some, None, refl, sym, ap, ◌∙◌, arith, inl, inr, ◌⊎◌, IsTrue, get_or, slice_get}
 use Rattle.std.proofs.Math.Bool.{not, ◌&&◌, ◌||◌}
 use Rattle.std.proofs.lemmas.Bool.{cases_Bool, cases_order, both_ways, false≢true, and_parts, ltb-true}
 use Rattle.std.proofs.lemmas.Option.{none-some, same_Some, slice_get_within}
@@ -30,7 +31,8 @@ use Rattle.rx_audit.specs.Marking.{IsUntouched, leaf_of, ends_so, forced_end}
 use Rattle.rx_audit.specs.HubTables.{AreHubs, terminal_of_word, ends_last_so, cut_so, ends_now, forced_now}
 use Rattle.rx_audit.specs.Rules.{hub_subscribed_at, hub_ended, hub_ended_at, is_cut, any_connect_due, close_due, connect_due}
 use Rattle.rx_audit.proofs.Latest.{last_holds, last_none, key_is, is_key_of}
-use Rattle.rx_audit.proofs.Deciding.{both, left, right, either, not_not, is_false, not_true, terminal_is, terminal_self, subscriber_at, connection_at, at_connection, is_cut_of}
+use Rattle.rx_audit.proofs.Deciding.{both, left, right, either, not_not, is_false, not_true, terminal_is}
+use Rattle.rx_audit.proofs.Deciding.{terminal_self, subscriber_at, connection_at, at_connection, is_cut_of}
 use Rattle.rx_audit.proofs.Due.{connect_is_due, connect_due_of, some_connect_due, any_connect_due_of, no_connect_due, close_is_due, close_due_of}
 use Rattle.rx_audit.proofs.HubWords.{cut_word, uncut}
 
@@ -92,7 +94,8 @@ forced_parts h n t y = (and_parts (is_open h n) _ y).0
 -- the last end of a connection of g, by its word
 ended_last : (h : List Event) (g place : ℕ) → last_below (keyed (hub_ended_at h) g) (length h) ≡ suc place
     → (t : Terminal) × EndsLast h g place t × (terminal_of_word h (suc place) ≡ Some t)
-ended_last h g place found = by_event (slice_get h place) refl (is_key_of (hub_ended_at h place) g (last_holds (keyed (hub_ended_at h) g) (length h) place found)) where
+ended_last h g place found =
+    by_event (slice_get h place) refl (is_key_of (hub_ended_at h place) g (last_holds (keyed (hub_ended_at h) g) (length h) place found)) where
   last : (i : ℕ) (u : Terminal) → EndsConnection h g i u → i ≤ place
   last i u x = by_order (cases_order i place) where
     holds : keyed (hub_ended_at h) g i ≡ true
@@ -112,7 +115,8 @@ ended_last h g place found = by_event (slice_get h place) refl (is_key_of (hub_e
 
 -- what the words say of a subscriber
 module _ (h : List Event) (law : IsLawful nothing_kept h) (size : ℕ) (known : Hubs) (w : AreHubs h size known) (room : length h ≤ size) where
-  cut_parts : (s : ℕ) (t : Terminal) → cut_so h known.ended.items s t ≡ true → (is_open h s ≡ true) × (is_cut h s ≡ true) × (ends_last_so h known.ended.items s t ≡ true)
+  cut_parts : (s : ℕ) (t : Terminal) → cut_so h known.ended.items s t ≡ true
+    → (is_open h s ≡ true) × (is_cut h s ≡ true) × (ends_last_so h known.ended.items s t ≡ true)
   unfolding cut_so
   cut_parts s t y =
       let a = and_parts (is_open h s && is_cut h s) (ends_last_so h known.ended.items s t) y in
@@ -122,7 +126,8 @@ module _ (h : List Event) (law : IsLawful nothing_kept h) (size : ℕ) (known : 
   by_word : (s : ℕ) → is_cut h s ≡ true → (g : ℕ) × (place : ℕ) × (hub_subscribed_at h s ≡ Some g) × (get_or known.ended.items g 0 ≡ suc place) × (s < place)
       × (last_below (keyed (hub_ended_at h) g) (length h) ≡ suc place)
   by_word s is = by_hub (hub_subscribed_at h s) refl where
-    by_hub : (o : Option ℕ) → hub_subscribed_at h s ≡ o → (g : ℕ) × (place : ℕ) × (hub_subscribed_at h s ≡ Some g) × (get_or known.ended.items g 0 ≡ suc place) × (s < place)
+    by_hub : (o : Option ℕ) → hub_subscribed_at h s ≡ o → (g : ℕ) × (place : ℕ)
+      × (hub_subscribed_at h s ≡ Some g) × (get_or known.ended.items g 0 ≡ suc place) × (s < place)
         × (last_below (keyed (hub_ended_at h) g) (length h) ≡ suc place)
     by_hub None hub = absurd (both_ways (is_cut h s) (sym (uncut h s hub)) is)
     by_hub (Some g) hub =
@@ -133,7 +138,8 @@ module _ (h : List Event) (law : IsLawful nothing_kept h) (size : ℕ) (known : 
         let some : get_or known.ended.items g 0 ≡ suc (get_or known.ended.items g 0 - 1) = omega arith in
         (g, get_or known.ended.items g 0 - 1, hub, some, omega arith, sym word ∙ some)
 
-  last_so : (s g place : ℕ) (t u : Terminal) → hub_subscribed_at h s ≡ Some g → get_or known.ended.items g 0 ≡ suc place → terminal_of_word h (suc place) ≡ Some u
+  last_so : (s g place : ℕ) (t u : Terminal) → hub_subscribed_at h s ≡ Some g
+    → get_or known.ended.items g 0 ≡ suc place → terminal_of_word h (suc place) ≡ Some u
       → ends_last_so h known.ended.items s t ≡ same_terminal u t
   last_so s g place t u hub word ends =
       ap (λ o. option_map_or (λ j. option_map_or (λ v. same_terminal v t) (terminal_of_word h (get_or known.ended.items j 0)) false) o false) hub
@@ -148,7 +154,8 @@ module _ (h : List Event) (law : IsLawful nothing_kept h) (size : ℕ) (known : 
       let same : e.0 ≡ t = terminal_is e.0 t (sym (last_so s k.0 k.1 t e.0 k.2 k.3 e.2) ∙ p.2) in
       cut p.0 ((cut_by_last nothing_kept h law k.0 s k.1 e.0 t e.1 (subscriber_at h s k.0 k.2) p.0).1 (k.4, sym same))
 
-  unfold_cut : (s : ℕ) (t : Terminal) → is_open h s ≡ true → is_cut h s ≡ true → ends_last_so h known.ended.items s t ≡ true → cut_so h known.ended.items s t ≡ true
+  unfold_cut : (s : ℕ) (t : Terminal) → is_open h s ≡ true → is_cut h s ≡ true
+    → ends_last_so h known.ended.items s t ≡ true → cut_so h known.ended.items s t ≡ true
   unfolding cut_so
   unfold_cut s t o c e = both (is_open h s && is_cut h s) (ends_last_so h known.ended.items s t) (both (is_open h s) (is_cut h s) o c) e
 
@@ -231,7 +238,8 @@ module _ (h : List Event) (law : IsLawful nothing_kept h) (size : ℕ) (known : 
 
 -- the hub that may wait tells of all ----------------------------------------------------------------------
 
-pub some_waits : (h : List Event) (o : Option ℕ) (g : ℕ) (b : Bool) → ((k : ℕ) → IsConnectDue h k → o ≡ Some k) → o ≡ Some g → b ≡ connect_due h g → b ≡ any_connect_due h
+pub some_waits : (h : List Event) (o : Option ℕ) (g : ℕ) (b : Bool)
+    → ((k : ℕ) → IsConnectDue h k → o ≡ Some k) → o ≡ Some g → b ≡ connect_due h g → b ≡ any_connect_due h
 some_waits h o g b waits is same = by_due (cases_Bool (connect_due h g)) where
   by_due : (connect_due h g ≡ true) ⊎ (connect_due h g ≡ false) → b ≡ any_connect_due h
   by_due (inl y) = same ∙ y ∙ sym (any_connect_due_of h g (connect_is_due h g y))

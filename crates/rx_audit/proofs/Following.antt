@@ -9,7 +9,8 @@ use Rattle.rx_audit.specs.Rules.{hub_connected_at, hub_ended, hub_ended_at}
 use Rattle.rx_event.specs.Kept.{nothing_kept}
 use Rattle.rx_event.specs.Lawful.{IsLawful}
 use Rattle.rx_event.specs.declared.event.Event.{Event}
-use Rattle.std.proofs.Common.{◌≡◌, ℕ, zero, suc, ◌<◌, ◌≤◌, Bool, List, [], ◌∷◌, length, Option, Some, None, refl, sym, ◌∙◌, arith, inl, inr, ◌⊎◌, get_or, slice_get}
+use Rattle.std.proofs.Common.{◌≡◌, ℕ, zero, suc, ◌<◌, ◌≤◌, Bool, List, [], ◌∷◌, length, Option}
+use Rattle.std.proofs.Common.{Some, None, refl, sym, ◌∙◌, arith, inl, inr, ◌⊎◌, get_or, slice_get}
 use Rattle.std.specs.Option.{option_and_then}
 use Rattle.std.proofs.lemmas.Bool.{both_ways, false≢true, cases_lt}
 use Rattle.std.proofs.lemmas.Option.{none-some}
@@ -62,7 +63,8 @@ past_list (x ∷ xs) zero l = absurd (omega arith)
 past_list (x ∷ xs) (suc n) l = past_list xs n (omega arith)
 
 none_keyed : (h : List Event) (key : ℕ → Option ℕ) (g : ℕ) → ((k : ℕ) → key k ≡ Some g → ⊥) → last_below (keyed key g) (length h) ≡ 0
-none_keyed h key g none = last_unique (keyed key g) (length h) 0 (omega arith) (λ j l m. not_true _ (λ y. none j (is_key_of (key j) g y))) (λ j e. absurd (omega arith))
+none_keyed h key g none = last_unique (keyed key g) (length h) 0 (omega arith)
+    (λ j l m. not_true _ (λ y. none j (is_key_of (key j) g y))) (λ j e. absurd (omega arith))
 
 ended_below : (h : List Event) → IsLawful nothing_kept h → (k g : ℕ) → hub_ended_at h k ≡ Some g → g < length h
 ended_below h law k g named = by_event (slice_get h k) named where

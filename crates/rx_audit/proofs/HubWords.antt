@@ -1,5 +1,6 @@
 -- What the words of a hub tell: whether it has a connection, subscribers, one that waits, and who of them is cut.
-use Rattle.std.proofs.Common.{◌≡◌, ℕ, zero, suc, ◌-◌, ◌<◌, ◌≤◌, Bool, true, false, List, [], ◌∷◌, length, Option, Some, None, cond, refl, sym, ap, ◌∙◌, arith, inl, inr, ◌⊎◌, get_or, slice_get, drop, nat_lt}
+use Rattle.std.proofs.Common.{◌≡◌, ℕ, zero, suc, ◌-◌, ◌<◌, ◌≤◌, Bool, true, false, List, [], ◌∷◌, length, Option}
+use Rattle.std.proofs.Common.{Some, None, cond, refl, sym, ap, ◌∙◌, arith, inl, inr, ◌⊎◌, get_or, slice_get, drop, nat_lt}
 use Rattle.std.proofs.Math.Bool.{not, ◌&&◌, ◌||◌}
 use Rattle.std.specs.List.{list_any, range_with_len}
 use Rattle.std.specs.Option.{option_map_or, option_and_then}
@@ -16,7 +17,8 @@ use Rattle.rx_audit.specs.declared.subscribers.Subscribers.{Subscribers}
 use Rattle.rx_audit.specs.Tables.{IsMarked}
 use Rattle.rx_audit.specs.Latest.{last_below, keyed}
 use Rattle.rx_audit.specs.Listed.{on_list, AreLinked, AreOpenListed}
-use Rattle.rx_audit.specs.Rules.{is_key, joins, hub_connected_at, hub_subscribed_at, hub_ended, hub_ended_at, open_connected, open_subscribed, open_waiting, has_key, ends_source, is_cut}
+use Rattle.rx_audit.specs.Rules.{is_key, joins, hub_connected_at, hub_subscribed_at, hub_ended, hub_ended_at}
+use Rattle.rx_audit.specs.Rules.{open_connected, open_subscribed, open_waiting, has_key, ends_source, is_cut}
 use Rattle.rx_audit.proofs.Latest.{last_le, last_holds, last_none, key_is, is_key_of}
 use Rattle.rx_audit.proofs.Surveying.{any_found}
 use Rattle.rx_audit.proofs.Deciding.{find_after, find_number, any_after, not_true, subscribed_key, subscriber_at, at_subscriber, connection_at}
@@ -72,7 +74,8 @@ cut_word h s g word hub is = by_order (cases_order (suc s) word) where
       let found : last_below (keyed (hub_ended_at h) g) (length h) ≡ suc (word - 1) = omega arith in
       let holds = last_holds (keyed (hub_ended_at h) g) (length h) (word - 1) found in
       let event = ended_event (word - 1) (is_key_of (hub_ended_at h (word - 1)) g holds) in
-      lt-ltb (suc s) word l ∙ sym (any_after (ends_source h s) (suc s) (word - 1) h event.0 (omega arith) event.1 (sym (ended_key (word - 1) event.0 event.1) ∙ holds))
+      lt-ltb (suc s) word l ∙ sym (any_after (ends_source h s) (suc s) (word - 1) h event.0
+      (omega arith) event.1 (sym (ended_key (word - 1) event.0 event.1) ∙ holds))
     where
       ended_event : (k : ℕ) → hub_ended_at h k ≡ Some g → (e : Event) × (slice_get h k ≡ Some e)
       ended_event k e = by_event (slice_get h k) refl e where
@@ -101,7 +104,8 @@ past_word s word = by_order (cases_order (suc s) word) where
 -- what subscribes to no hub is not cut
 pub uncut : (h : List Event) (s : ℕ) → hub_subscribed_at h s ≡ None → false ≡ is_cut h s
 unfolding is_cut
-uncut h s none = sym (not_true _ (λ y. let f = find_after (ends_source h s) (suc s) h y in false≢true (sym (ap (λ o. joins o (hub_ended h f.event)) none) ∙ f.holds)))
+uncut h s none = sym (not_true _
+    (λ y. let f = find_after (ends_source h s) (suc s) h y in false≢true (sym (ap (λ o. joins o (hub_ended h f.event)) none) ∙ f.holds)))
 
 -- one that waits --------------------------------------------------------------------------------------
 
@@ -124,12 +128,14 @@ waited_word h size s g last ended w listed is_last is_ended = by_word last refl 
       by_open : (is_open h k ≡ true) ⊎ (is_open h k ≡ false) → (is_cut h k ≡ false) × (on_list h s.listed.items g k ≡ true) × (hub_subscribed_at h k ≡ Some g)
       by_open (inr o) = absurd (false≢true (sym (ap (λ b. is_key (cond b (hub_subscribed_at h k) None) g) o) ∙ key))
       by_open (inl o) =
-          let hub : hub_subscribed_at h k ≡ Some g = is_key_of (hub_subscribed_at h k) g (sym (ap (λ b. is_key (cond b (hub_subscribed_at h k) None) g) o) ∙ key) in
+          let hub : hub_subscribed_at h k ≡ Some g =
+          is_key_of (hub_subscribed_at h k) g (sym (ap (λ b. is_key (cond b (hub_subscribed_at h k) None) g) o) ∙ key) in
           (c, on_open h s g k listed ∙ rw (subscriber_at h k g hub, o) refl, hub)
 
   none : (nat_lt 0 last && not (nat_lt last ended)) ≡ false → ((k : ℕ) → is_key (open_waiting h k) g ≡ true → ⊥)
       → (nat_lt 0 last && not (nat_lt last ended)) ≡ has_key (open_waiting h) h g
-  none z refute = z ∙ sym (not_true (has_key (open_waiting h) h g) (λ y. let f = find_number (λ k. is_key (open_waiting h k) g) (length h) y in refute f.number f.holds))
+  none z refute = z ∙ sym (not_true (has_key (open_waiting h) h g)
+      (λ y. let f = find_number (λ k. is_key (open_waiting h k) g) (length h) y in refute f.number f.holds))
 
   by_word : (v : ℕ) → last ≡ v → (nat_lt 0 last && not (nat_lt last ended)) ≡ has_key (open_waiting h) h g
   by_word zero e = none (rw e refl) (λ k y.
@@ -195,7 +201,8 @@ connected_word h live g word law tied is = by_word word refl where
     by_open (inl o) = (o, is_key_of (hub_connected_at h k) g (sym (ap (λ b. is_key (cond b (hub_connected_at h k) None) g) o) ∙ y))
 
   none : ((k : ℕ) → is_key (open_connected h k) g ≡ true → ⊥) → has_key (open_connected h) h g ≡ false
-  none refute = not_true (has_key (open_connected h) h g) (λ y. let f = find_number (λ k. is_key (open_connected h k) g) (length h) y in refute f.number f.holds)
+  none refute = not_true (has_key (open_connected h) h g)
+      (λ y. let f = find_number (λ k. is_key (open_connected h k) g) (length h) y in refute f.number f.holds)
 
   by_word : (v : ℕ) → word ≡ v → (nat_lt 0 word && get_or live (word - 1) false) ≡ has_key (open_connected h) h g
   by_word zero e = rw e (sym (none (λ k y.
@@ -222,4 +229,5 @@ connected_word h live g word law tied is = by_word word refl where
             by_place : (j ≡ k) ⊎ ((j < k) ⊎ (k < j)) → is_open h k ≡ false
             by_place (inl same) = ap (is_open h) (sym same) ∙ o
             by_place (inr (inr l)) = absurd (omega arith)
-            by_place (inr (inl l)) = absurd (both_ways _ (last_none (keyed (hub_connected_at h) g) (length h) k (omega arith) (is_open_within h k alive)) (key_is (hub_connected_at h k) g named))
+            by_place (inr (inl l)) = absurd (both_ways _ (last_none (keyed (hub_connected_at h) g) (length h) k (omega arith) (is_open_within h k alive))
+                (key_is (hub_connected_at h k) g named))

@@ -1,5 +1,6 @@
 -- What is kept of the hubs, after one more event.
-use Rattle.std.proofs.Common.{◌≡◌, ℕ, zero, suc, ◌+◌, ◌<◌, ◌≤◌, Bool, true, false, List, [], ◌∷◌, ◌++◌, length, Option, Some, None, cond, refl, ap, ◌∙◌, arith, inl, inr, ◌⊎◌, slice_get, filter, length-append}
+use Rattle.std.proofs.Common.{◌≡◌, ℕ, zero, suc, ◌+◌, ◌<◌, ◌≤◌, Bool, true, false, List, [], ◌∷◌, ◌++◌, length}
+use Rattle.std.proofs.Common.{Option, Some, None, cond, refl, ap, ◌∙◌, arith, inl, inr, ◌⊎◌, slice_get, filter, length-append}
 use Rattle.std.specs.List.{range_with_len}
 use Rattle.std.specs.Option.{option_map_or, option_and_then, option_or}
 use Rattle.std.proofs.lemmas.List.Elements.{filter-append}
@@ -87,11 +88,13 @@ hub_count-push h e = by_test (makes_hub e) refl where
 -- all together ------------------------------------------------------------------------------------------
 
 pub hubs_more : (h : List Event) (e : Event) (size : ℕ) (old new : Hubs) → IsLawful nothing_kept h → MayFollow nothing_kept h e → AreHubs h size old
-    → new.connection.items ≡ table_with old.connection.items (hub_connected e) (suc (length h)) → new.ended.items ≡ table_with old.ended.items (hub_ended h e) (suc (length h))
+    → new.connection.items ≡ table_with old.connection.items (hub_connected e) (suc (length h))
+    → new.ended.items ≡ table_with old.ended.items (hub_ended h e) (suc (length h))
     → new.waiting ≡ option_or (hub_subscribed e) old.waiting → new.count ≡ old.count + cond (makes_hub e) 1 0 → AreHubs (h ++ e ∷ []) size new
 hubs_more h e size old new law next w connection ended waiting count = record {
   connection = rw (connection, one_longer h e)
-      (latest_with old.connection.items (hub_connected_at h) (hub_connected_at (h ++ e ∷ [])) (length h) (hub_connected e) w.connection (connected_same h e) (connected_last h e));
+      (latest_with old.connection.items (hub_connected_at h) (hub_connected_at (h ++ e ∷ []))
+      (length h) (hub_connected e) w.connection (connected_same h e) (connected_last h e));
   connection_size = ap length connection ∙ length-table_with old.connection.items (hub_connected e) (suc (length h)) ∙ w.connection_size;
   ended = rw (ended, one_longer h e)
       (latest_with old.ended.items (hub_ended_at h) (hub_ended_at (h ++ e ∷ [])) (length h) (hub_ended h e) w.ended (ended_same h e law) (ended_last h e next));
@@ -115,7 +118,8 @@ hub_count_few h = few (at makes_hub h) 0 (length h) where
   few : (p : ℕ → Bool) (s n : ℕ) → length (filter p (range_with_len s n)) ≤ n
   few p s zero = omega arith
   few p s (suc n) = by_test (p s) (few p (s + 1) n) where
-    by_test : (b : Bool) → length (filter p (range_with_len (s + 1) n)) ≤ n → length (cond b (s ∷ filter p (range_with_len (s + 1) n)) (filter p (range_with_len (s + 1) n))) ≤ suc n
+    by_test : (b : Bool) → length (filter p (range_with_len (s + 1) n)) ≤ n
+        → length (cond b (s ∷ filter p (range_with_len (s + 1) n)) (filter p (range_with_len (s + 1) n))) ≤ suc n
     by_test true l = omega arith
     by_test false l = omega arith
 

@@ -39,7 +39,8 @@ pub open_test : (h : List Event) (e : Event) (place : Place) (kind : Kind) (b : 
     → b ≡ (open_allowed h place kind && leaves_room h e) → (IsTrue b) ↔ IsAllowed nothing_kept h e
 open_test h e place kind b is_e law settled is = rw is_e (to, back) where
   parts : b ≡ true → (open_allowed h place kind ≡ true) × (leaves_room h (Open place kind) ≡ true)
-  parts y = and_parts (open_allowed h place kind) (leaves_room h (Open place kind)) (ap (λ x. open_allowed h place kind && leaves_room h x) (sym is_e) ∙ sym is ∙ y)
+  parts y = and_parts (open_allowed h place kind) (leaves_room h (Open place kind))
+      (ap (λ x. open_allowed h place kind && leaves_room h x) (sym is_e) ∙ sym is ∙ y)
 
   to : b ≡ true → IsAllowed nothing_kept h (Open place kind)
   to y = let p = parts y in open_may h place kind p.0 (room_fits h place kind law settled p.1)

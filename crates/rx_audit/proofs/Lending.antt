@@ -34,7 +34,8 @@ module _ (h : List Event) (old : List ℕ) (law : IsLawful nothing_kept h) (tied
     at_each : (n : ℕ) → n < length old → get_or counted n 0 ≡ (leases_of h n + cond (is_key (leased_of e) n) 1 0) - cond (is_key key n) 1 0
     at_each n less =
         counts_less_at (counts_with old (leased_of e)) key n (let same = length-counts_with old (leased_of e) in omega arith) ∙
-        ap (λ (k : ℕ). k - cond (is_key key n) 1 0) (counts_with_at old (leased_of e) n less ∙ ap (λ (k : ℕ). k + cond (is_key (leased_of e) n) 1 0) (tied n less))
+        ap (λ (k : ℕ). k - cond (is_key key n) 1 0)
+        (counts_with_at old (leased_of e) n less ∙ ap (λ (k : ℕ). k + cond (is_key (leased_of e) n) 1 0) (tied n less))
 
   -- an event that leases and returns nothing
   quiet : (e : Event) → leased_of e ≡ None → returned_of e ≡ None → ((n : ℕ) → leases_of (h ++ e ∷ []) n ≡ leases_of h n) →
@@ -57,7 +58,8 @@ module _ (h : List Event) (old : List ℕ) (law : IsLawful nothing_kept h) (tied
             let fewer = leases_of-return nothing_kept h l one.0 law next one.1 n in
             let key : resource_of h l ≡ Some one.0 = ap (option_and_then leased_of) one.1 in
             at_each (Return l) (resource_of h l) n less ∙ ap (λ (k : Option ℕ). (leases_of h n + 0) - cond (is_key k n) 1 0) key ∙ omega arith
-        by_event (Open place kind) next n less = quiet (Open place kind) refl refl (λ m. leases_of_still nothing_kept h (Open place kind) law refl m refl) n less
+        by_event (Open place kind) next n less =
+            quiet (Open place kind) refl refl (λ m. leases_of_still nothing_kept h (Open place kind) law refl m refl) n less
         by_event (Hub mode) next n less = quiet (Hub mode) refl refl (λ m. leases_of_still nothing_kept h (Hub mode) law refl m refl) n less
         by_event (Connect g) next n less = quiet (Connect g) refl refl (λ m. leases_of_still nothing_kept h (Connect g) law refl m refl) n less
         by_event (Accept k tag) next n less = quiet (Accept k tag) refl refl (λ m. leases_of_still nothing_kept h (Accept k tag) law refl m refl) n less
@@ -73,7 +75,8 @@ module _ (h : List Event) (old : List ℕ) (law : IsLawful nothing_kept h) (tied
   leases_long e = lengths e (option_and_then (resource_of h) (returned_of e))
 
 -- no resource has more than there are events
-pub leases_few : (old : List ℕ) (a b : Option ℕ) (many : ℕ) → ((n : ℕ) → get_or old n 0 ≤ many) → (n : ℕ) → get_or (counts_less (counts_with old a) b) n 0 ≤ many + 1
+pub leases_few : (old : List ℕ) (a b : Option ℕ) (many : ℕ) → ((n : ℕ) → get_or old n 0 ≤ many)
+    → (n : ℕ) → get_or (counts_less (counts_with old a) b) n 0 ≤ many + 1
 leases_few old a b many few n =
     let x = counts_less_few (counts_with old a) b n in
     let y = counts_few old a n in

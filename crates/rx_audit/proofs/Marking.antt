@@ -1,5 +1,6 @@
 -- The marks of the open nodes, one event after the other.
-use Rattle.std.proofs.Common.{◌≡◌, ℕ, ◌+◌, ◌<◌, ◌≤◌, Bool, true, false, List, [], ◌∷◌, ◌++◌, length, Option, Some, None, refl, sym, ap, ◌∙◌, arith, inl, inr, ◌⊎◌, ◌==◌, ◌≢◌, get_or, set, get_or-set_other, get_or-set_same, slice_get, length-append}
+use Rattle.std.proofs.Common.{◌≡◌, ℕ, ◌+◌, ◌<◌, ◌≤◌, Bool, true, false, List, [], ◌∷◌, ◌++◌, length, Option, Some, None, refl, sym, ap}
+use Rattle.std.proofs.Common.{◌∙◌, arith, inl, inr, ◌⊎◌, ◌==◌, ◌≢◌, get_or, set, get_or-set_other, get_or-set_same, slice_get, length-append}
 use Rattle.std.proofs.lemmas.Bool.{cases_Bool, cases_order, both_ways, eqb-true, and_parts, lt-ltb, and_from}
 use Rattle.std.proofs.lemmas.Option.{none-some, same_Some}
 use Rattle.std.proofs.Math.ListN.{length-set}
@@ -27,7 +28,8 @@ use Rattle.rx_event.proofs.Laws.Switches.{inner_above}
 use Rattle.rx_event.proofs.Laws.Stands.{event_at}
 use Rattle.rx_event.proofs.Laws.MarksNew.{marks-new}
 use Rattle.rx_event.proofs.Laws.MarksEnds.{marks_closed}
-use Rattle.rx_event.proofs.Laws.MarksTouched.{marks_untouched, marks-source_at, marks-notifier_at, marks-inner_at_flat, marks-inner_at_first, marks-inner_at_next, marks-decline_at, marks-end_at, child_counted}
+use Rattle.rx_event.proofs.Laws.MarksTouched.{marks_untouched, marks-source_at, marks-notifier_at, marks-inner_at_flat}
+use Rattle.rx_event.proofs.Laws.MarksTouched.{marks-inner_at_first, marks-inner_at_next, marks-decline_at, marks-end_at, child_counted}
 use Rattle.rx_audit.specs.Marking.{touched_by, IsKept, IsTop, IsUntouched}
 
 abbrev is_close : Event → Bool
@@ -210,12 +212,13 @@ inner_changes h e f p kind top b same = rw same
           → (at is_switch h f ≡ true) ⊎ (at is_switch h f ≡ false)
           → marks_of nothing_kept (h ++ Open (Inner f) kind ∷ []) f ≡ after_inner (is_some o) (marks_of nothing_kept h f)
       by_switch law next None none (inr flat) = marks-inner_at_flat nothing_kept h f kind law next flat
-      by_switch law next None none (inl switch) = marks-inner_at_first nothing_kept h f kind law next (λ k inner. not_open k inner (cases_Bool (is_open h k))) where
-        not_open : (k : ℕ) → at (is_inner_of f) h k ≡ true → (is_open h k ≡ true) ⊎ (is_open h k ≡ false) → is_open h k ≡ false
-        not_open k inner (inr closed) = closed
-        not_open k inner (inl here) =
-            let shut : is_switched_inner h f k ≡ true = and_from _ _ (and_from _ _ (lt-ltb f k (inner_above nothing_kept h law f k inner)) switch) inner in
-            absurd (both_ways (is_switched_inner h f k) (none k here) shut)
+      by_switch law next None none (inl switch) =
+          marks-inner_at_first nothing_kept h f kind law next (λ k inner. not_open k inner (cases_Bool (is_open h k))) where
+            not_open : (k : ℕ) → at (is_inner_of f) h k ≡ true → (is_open h k ≡ true) ⊎ (is_open h k ≡ false) → is_open h k ≡ false
+            not_open k inner (inr closed) = closed
+            not_open k inner (inl here) =
+                let shut : is_switched_inner h f k ≡ true = and_from _ _ (and_from _ _ (lt-ltb f k (inner_above nothing_kept h law f k inner)) switch) inner in
+                absurd (both_ways (is_switched_inner h f k) (none k here) shut)
       by_switch law next (Some old) w (inl switch) = marks-inner_at_next nothing_kept h f old kind law next switch (and_parts _ _ w.shut).1 w.open_before
       by_switch law next (Some old) w (inr flat) = absurd (both_ways (at is_switch h f) flat (and_parts _ _ (and_parts _ _ w.shut).0).1)
 

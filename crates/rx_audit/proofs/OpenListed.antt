@@ -29,7 +29,8 @@ subscriber_opens g _ is h next = absurd (false≢true is)
 pub hub_older : (h : List Event) (e : Event) (g : ℕ) → MayFollow nothing_kept h e → is_subscriber_of g e ≡ true → g < length h
 hub_older h e g next is =
     let found = subscriber_found g (Some e) is in
-    let may : MayFollow nothing_kept h (Open found.0 (Sub g)) = subst (λ (x : Event). MayFollow nothing_kept h x) (same_Some e (Open found.0 (Sub g)) found.1) next in
+    let may : MayFollow nothing_kept h (Open found.0 (Sub g)) =
+    subst (λ (x : Event). MayFollow nothing_kept h x) (same_Some e (Open found.0 (Sub g)) found.1) next in
     let hubbed : IsHubbed h found.0 (Sub g) = may_subscribe nothing_kept may in
     at_within makes_hub h g hubbed.0
 
@@ -64,6 +65,7 @@ open_listed_after h e old mid new closed next listed closing let_go others last 
   by_place : (k ≡ length h) ⊎ ((k < length h) ⊎ (length h < k)) → get_or new.listed.items k false ≡ is_open (h ++ e ∷ []) k
   by_place (inr (inl l)) = older l
   by_place (inl same) =
-      let new_one : is_subscriber_of g e ≡ true = sym (ap (λ o. option_map_or (is_subscriber_of g) o false) (slice_get_last h e)) ∙ sym (ap (at (is_subscriber_of g) (h ++ e ∷ [])) same) ∙ subscribes in
+      let new_one : is_subscriber_of g e ≡ true = sym (ap (λ o. option_map_or (is_subscriber_of g) o false) (slice_get_last h e))
+      ∙ sym (ap (at (is_subscriber_of g) (h ++ e ∷ [])) same) ∙ subscribes in
       ap (λ n. get_or new.listed.items n false) same ∙ last g new_one ∙ sym (ap (is_open (h ++ e ∷ [])) same ∙ subscriber_opens g e new_one h next)
   by_place (inr (inr l)) = absurd (let m = at_within (is_subscriber_of g) (h ++ e ∷ []) k subscribes in let n = one_longer h e in omega arith)

@@ -24,7 +24,8 @@ use Rattle.rx_event.specs.Climb.{visits, most_visits}
 use Rattle.rx_event.specs.Moments.{owed}
 use Rattle.rx_event.specs.Forced.{IsConnectDue}
 use Rattle.rx_event.specs.Allowed.{most_nodes, most_hubs, IsFree, IsInOrderAt, IsInOrder, IsHubbed, may_abort, IsAllowed, opened}
-use Rattle.rx_event.specs.Allowed.{published, connected, accepted, used, removed, leased, returned, emitted, declined, leaf_ended, aborted, projection_failed, root_closed}
+use Rattle.rx_event.specs.Allowed.{published, connected, accepted, used, removed, leased, returned}
+use Rattle.rx_event.specs.Allowed.{emitted, declined, leaf_ended, aborted, projection_failed, root_closed}
 use Rattle.rx_event.specs.Allowed.{disconnected, taken}
 use Rattle.rx_audit.specs.Tables.{IsMarked, mark_count}
 use Rattle.rx_audit.specs.Rules.{hub_connected_at, has_key, open_connected, is_owing}

@@ -1,5 +1,6 @@
 -- The lists of the subscribers of each hub: one taken off, and a new one.
-use Rattle.std.proofs.Common.{◌≡◌, ◌≢◌, ℕ, zero, suc, ◌+◌, ◌-◌, ◌<◌, ◌≤◌, Bool, true, false, List, [], ◌∷◌, ◌++◌, length, replicate, Some, None, cond, refl, sym, ap, ◌∙◌, arith, inl, inr, ◌⊎◌, get_or, set, get_or-set_other, get_or-set_same}
+use Rattle.std.proofs.Common.{◌≡◌, ◌≢◌, ℕ, zero, suc, ◌+◌, ◌-◌, ◌<◌, ◌≤◌, Bool, true, false, List, [], ◌∷◌, ◌++◌, length, replicate}
+use Rattle.std.proofs.Common.{Some, None, cond, refl, sym, ap, ◌∙◌, arith, inl, inr, ◌⊎◌, get_or, set, get_or-set_other, get_or-set_same}
 use Rattle.std.proofs.Math.ListN.{length-set}
 use Rattle.std.proofs.lemmas.List.{length-replicate}
 use Rattle.std.proofs.Math.Bool.{◌&&◌}
@@ -62,15 +63,18 @@ rows_none size s listed last before after = record {
 
 -- one that is taken off -----------------------------------------------------------------------------
 
-module _ (h : List Event) (size : ℕ) (old new : Subscribers) (w : AreLinked h size old) (s : ℕ) (is_listed : new.listed.items ≡ set old.listed.items s false) where
+module _ (h : List Event) (size : ℕ) (old new : Subscribers) (w : AreLinked h size old)
+    (s : ℕ) (is_listed : new.listed.items ≡ set old.listed.items s false) where
   on_old : ℕ → ℕ → Bool
   on_old = on_list h old.listed.items
 
   on_other : (g k : ℕ) → k ≢ s → on_list h new.listed.items g k ≡ on_list h old.listed.items g k
-  on_other g k apart = ap (λ b. at (is_subscriber_of g) h k && b) (ap (λ (ms : List Bool). get_or ms k false) is_listed ∙ get_or-set_other old.listed.items s k false false apart)
+  on_other g k apart = ap (λ b. at (is_subscriber_of g) h k && b)
+      (ap (λ (ms : List Bool). get_or ms k false) is_listed ∙ get_or-set_other old.listed.items s k false false apart)
 
   on_gone : (g : ℕ) → on_list h new.listed.items g s ≡ false
-  on_gone g = ap (λ b. at (is_subscriber_of g) h s && b) (ap (λ (ms : List Bool). get_or ms s false) is_listed ∙ mark_gone old.listed.items s) ∙ and_no (at (is_subscriber_of g) h s)
+  on_gone g = ap (λ b. at (is_subscriber_of g) h s && b) (ap (λ (ms : List Bool). get_or ms s false) is_listed ∙ mark_gone old.listed.items s)
+      ∙ and_no (at (is_subscriber_of g) h s)
 
   on_was : (g k : ℕ) → on_list h new.listed.items g k ≡ true → on_list h old.listed.items g k ≡ true
   on_was g k y = sym (on_other g k (λ same. both_ways _ (ap (on_list h new.listed.items g) same ∙ on_gone g) y)) ∙ y
@@ -90,7 +94,8 @@ pub rows_still : (h : List Event) (size : ℕ) (old new : Subscribers) (s : ℕ)
     → new.listed.items ≡ set old.listed.items s false → new.last.items ≡ old.last.items → new.before.items ≡ old.before.items
     → new.after.items ≡ old.after.items → AreLinked h size new
 rows_still h size old new s w none listed last before after = record {
-  rows = λ g. rw (last, before, after) (row_apart (on_list h old.listed.items g) (on_list h new.listed.items g) (length h) (length h) (get_or old.last.items g 0)
+  rows = λ g. rw (last, before, after)
+      (row_apart (on_list h old.listed.items g) (on_list h new.listed.items g) (length h) (length h) (get_or old.last.items g 0)
       old.before.items old.after.items old.before.items old.after.items (on_same h size old new w s listed g (out g)) (omega arith)
       (on_within h old.listed.items g) (λ k y. refl) (λ k y. refl) (w.rows g));
   hubbed = λ g k y. w.hubbed g k (on_was h size old new w s listed g k y);
@@ -161,13 +166,16 @@ rows_less h size old new g s w hub listed last before after = record {
 
   before_apart : (j k : ℕ) → j ≢ g → on_list h old.listed.items j k ≡ true → get_or new.before.items k 0 ≡ get_or old.before.items k 0
   before_apart j k apart y = ap (λ (ls : List ℕ). get_or ls k 0) before ∙ by_word (get_or old.after.items s 0) refl where
-    by_word : (a : ℕ) → get_or old.after.items s 0 ≡ a → get_or (table_with old.before.items (number_of a) (get_or old.before.items s 0)) k 0 ≡ get_or old.before.items k 0
+    by_word : (a : ℕ) → get_or old.after.items s 0 ≡ a
+        → get_or (table_with old.before.items (number_of a) (get_or old.before.items s 0)) k 0 ≡ get_or old.before.items k 0
     by_word zero e = refl
-    by_word (suc m) e = get_or-set_other old.before.items m k (get_or old.before.items s 0) 0 (λ same. apart (on_one h old.listed.items j g k m y ((row.up s here).some m e).0 same))
+    by_word (suc m) e = get_or-set_other old.before.items m k (get_or old.before.items s 0) 0
+        (λ same. apart (on_one h old.listed.items j g k m y ((row.up s here).some m e).0 same))
 
   after_apart : (j k : ℕ) → j ≢ g → on_list h old.listed.items j k ≡ true → get_or new.after.items k 0 ≡ get_or old.after.items k 0
   after_apart j k apart y = ap (λ (ls : List ℕ). get_or ls k 0) after ∙ by_word (get_or old.before.items s 0) refl where
-    by_word : (b : ℕ) → get_or old.before.items s 0 ≡ b → get_or (table_with old.after.items (number_of b) (get_or old.after.items s 0)) k 0 ≡ get_or old.after.items k 0
+    by_word : (b : ℕ) → get_or old.before.items s 0 ≡ b
+        → get_or (table_with old.after.items (number_of b) (get_or old.after.items s 0)) k 0 ≡ get_or old.after.items k 0
     by_word zero e = refl
     by_word (suc m) e = get_or-set_other old.after.items m k (get_or old.after.items s 0) 0
         (λ same. apart (on_one h old.listed.items j g k m y (last_holds (on_list h old.listed.items g) s m (sym (row.down s here) ∙ e)) same))
@@ -179,7 +187,8 @@ rows_less h size old new g s w hub listed last before after = record {
       (on_same h size old new w s listed j (not_true _ (λ y. apart (on_one h old.listed.items j g s s y here refl)))) (omega arith)
       (on_within h old.listed.items j) (λ k y. before_apart j k apart y) (λ k y. after_apart j k apart y) (w.rows j))
 
-  by_hub : (j : ℕ) → (j ≡ g) ⊎ ((j < g) ⊎ (g < j)) → IsRow (on_list h new.listed.items j) (length h) (get_or new.last.items j 0) new.before.items new.after.items
+  by_hub : (j : ℕ) → (j ≡ g) ⊎ ((j < g) ⊎ (g < j))
+      → IsRow (on_list h new.listed.items j) (length h) (get_or new.last.items j 0) new.before.items new.after.items
   by_hub j (inl same) = rw same own
   by_hub j (inr (inl l)) = other j (omega arith)
   by_hub j (inr (inr l)) = other j (omega arith)
@@ -192,7 +201,8 @@ on_longer : (h : List Event) (e : Event) (old new : List Bool) (j : ℕ) → is_
 on_longer h e old new j out same k = by_order (cases_order k (length h)) where
   by_order : (k ≡ length h) ⊎ ((k < length h) ⊎ (length h < k)) → on_list (h ++ e ∷ []) new j k ≡ on_list h old j k
   by_order (inl is) =
-      let last : at (is_subscriber_of j) (h ++ e ∷ []) k ≡ false = ap (at (is_subscriber_of j) (h ++ e ∷ [])) is ∙ ap (λ o. option_map_or (is_subscriber_of j) o false) (slice_get_last h e) ∙ out in
+      let last : at (is_subscriber_of j) (h ++ e ∷ []) k ≡ false =
+      ap (at (is_subscriber_of j) (h ++ e ∷ [])) is ∙ ap (λ o. option_map_or (is_subscriber_of j) o false) (slice_get_last h e) ∙ out in
       let past : at (is_subscriber_of j) h k ≡ false = at_past (is_subscriber_of j) h k (omega arith) in
       rw (last, past) refl
   by_order (inr (inl l)) = rw (at-append (is_subscriber_of j) h (e ∷ []) k l, same k l) refl
@@ -209,7 +219,8 @@ pub subscribes_none : (e : Event) (g : ℕ) → hub_subscribed e ≡ None → is
 subscribes_none e g hub = sym (same_subscribed e g) ∙ rw hub refl
 
 -- none is new
-pub rows_same : (h : List Event) (e : Event) (size : ℕ) (s : Subscribers) → AreLinked h size s → ((j : ℕ) → is_subscriber_of j e ≡ false) → AreLinked (h ++ e ∷ []) size s
+pub rows_same : (h : List Event) (e : Event) (size : ℕ) (s : Subscribers) → AreLinked h size s
+    → ((j : ℕ) → is_subscriber_of j e ≡ false) → AreLinked (h ++ e ∷ []) size s
 rows_same h e size s w none = record {
   rows = λ j. row_apart (on_list h s.listed.items j) (on_list (h ++ e ∷ []) s.listed.items j) (length h) (length (h ++ e ∷ [])) (get_or s.last.items j 0)
       s.before.items s.after.items s.before.items s.after.items (same j) (let l = one_longer h e in omega arith)
@@ -223,10 +234,12 @@ rows_same h e size s w none = record {
   same : (j k : ℕ) → on_list (h ++ e ∷ []) s.listed.items j k ≡ on_list h s.listed.items j k
   same j = on_longer h e s.listed.items s.listed.items j (none j) (λ k l. refl)
 
-pub rows_more : (h : List Event) (e : Event) (size g : ℕ) (old new : Subscribers) → AreLinked h size old → length h < size → g < size → hub_subscribed e ≡ Some g
+pub rows_more : (h : List Event) (e : Event) (size g : ℕ) (old new : Subscribers)
+    → AreLinked h size old → length h < size → g < size → hub_subscribed e ≡ Some g
     → new.listed.items ≡ set old.listed.items (length h) true → new.last.items ≡ set old.last.items g (suc (length h))
     → new.before.items ≡ set old.before.items (length h) (get_or old.last.items g 0)
-    → new.after.items ≡ table_with (set old.after.items (length h) 0) (number_of (get_or old.last.items g 0)) (suc (length h)) → AreLinked (h ++ e ∷ []) size new
+    → new.after.items ≡ table_with (set old.after.items (length h) 0) (number_of (get_or old.last.items g 0)) (suc (length h))
+    → AreLinked (h ++ e ∷ []) size new
 rows_more h e size g old new w room inside hub listed last before after = record {
   rows = λ j. by_hub j (cases_order j g);
   hubbed = λ j k y. by_hubbed j k y (cases_order j g);
@@ -250,7 +263,8 @@ rows_more h e size g old new w room inside hub listed last before after = record
   on_new : on_list (h ++ e ∷ []) new.listed.items g (length h) ≡ true
   on_new =
       let size_is = w.listed_size in
-      let last_is : at (is_subscriber_of g) (h ++ e ∷ []) (length h) ≡ true = ap (λ o. option_map_or (is_subscriber_of g) o false) (slice_get_last h e) ∙ subscribes in
+      let last_is : at (is_subscriber_of g) (h ++ e ∷ []) (length h) ≡ true =
+      ap (λ o. option_map_or (is_subscriber_of g) o false) (slice_get_last h e) ∙ subscribes in
       let mark : get_or new.listed.items (length h) false ≡ true = ap (λ (ms : List Bool). get_or ms (length h) false) listed
       ∙ get_or-set_same old.listed.items (length h) true false (omega arith) in
       rw (last_is, mark) refl
@@ -267,7 +281,8 @@ rows_more h e size g old new w room inside hub listed last before after = record
       let before_size = w.before_size in
       let after_size = w.after_size in
       rw (one_longer h e, last, before, after, get_or-set_same old.last.items g (suc (length h)) 0 (omega arith))
-      (row_more (on_list h old.listed.items g) (on_list (h ++ e ∷ []) new.listed.items g) (length h) (get_or old.last.items g 0) old.before.items old.after.items
+      (row_more (on_list h old.listed.items g) (on_list (h ++ e ∷ []) new.listed.items g)
+      (length h) (get_or old.last.items g 0) old.before.items old.after.items
       (on_before g) on_new (most g) (on_within h old.listed.items g) (omega arith) (omega arith) row)
 
   not_hub : (j : ℕ) → j ≢ g → is_subscriber_of j e ≡ false
@@ -301,7 +316,8 @@ rows_more h e size g old new w room inside hub listed last before after = record
       old.before.items old.after.items new.before.items new.after.items (on_apart j apart) (let l = one_longer h e in omega arith)
       (on_within h old.listed.items j) (before_apart j) (λ k y. after_apart j k apart y) (w.rows j))
 
-  by_hub : (j : ℕ) → (j ≡ g) ⊎ ((j < g) ⊎ (g < j)) → IsRow (on_list (h ++ e ∷ []) new.listed.items j) (length (h ++ e ∷ [])) (get_or new.last.items j 0) new.before.items new.after.items
+  by_hub : (j : ℕ) → (j ≡ g) ⊎ ((j < g) ⊎ (g < j))
+      → IsRow (on_list (h ++ e ∷ []) new.listed.items j) (length (h ++ e ∷ [])) (get_or new.last.items j 0) new.before.items new.after.items
   by_hub j (inl same) = rw same own
   by_hub j (inr (inl l)) = other j (omega arith)
   by_hub j (inr (inr l)) = other j (omega arith)
@@ -316,13 +332,15 @@ rows_more h e size g old new w room inside hub listed last before after = record
 pub falling_last : (p : ℕ → Bool) (k : ℕ) → falling p k ≡ falling p (last_below p k)
 falling_last p zero = refl
 falling_last p (suc k) = by_test (p k) refl (falling_last p k) where
-  by_test : (b : Bool) → p k ≡ b → falling p k ≡ falling p (last_below p k) → cond b (k ∷ falling p k) (falling p k) ≡ falling p (cond b (suc k) (last_below p k))
+  by_test : (b : Bool) → p k ≡ b → falling p k ≡ falling p (last_below p k)
+      → cond b (k ∷ falling p k) (falling p k) ≡ falling p (cond b (suc k) (last_below p k))
   by_test true y rest = sym (ap (λ b. cond b (k ∷ falling p k) (falling p k)) y)
   by_test false z rest = rest
 
 falling_same : (p q : ℕ → Bool) → ((k : ℕ) → p k ≡ q k) → (k : ℕ) → falling p k ≡ falling q k
 falling_same p q same zero = refl
-falling_same p q same (suc k) = ap (λ b. cond b (k ∷ falling p k) (falling p k)) (same k) ∙ ap (λ (ks : List ℕ). cond (q k) (k ∷ ks) ks) (falling_same p q same k)
+falling_same p q same (suc k) = ap (λ b. cond b (k ∷ falling p k) (falling p k)) (same k)
+    ∙ ap (λ (ks : List ℕ). cond (q k) (k ∷ ks) ks) (falling_same p q same k)
 
 -- so from the word of the hub on, in any sum
 pub falling_open : (h : List Event) (s : Subscribers) (g : ℕ) → AreOpenListed h s → (number : ℕ → ℕ)
@@ -356,7 +374,8 @@ module _ (h : List Event) (size : ℕ) (s : Subscribers) (g : ℕ) (w : AreLinke
       → word ≡ last_below (on_list h s.listed.items g) (next - 1)
   walk_word next word some here is = is ∙ (w.rows g).down (next - 1) (here (next - 1) (omega arith))
 
-  pub walk_less : (next word : ℕ) → 0 < next → ((k : ℕ) → next ≡ suc k → on_list h s.listed.items g k ≡ true) → word ≡ get_or s.before.items (next - 1) 0 → word < next
+  pub walk_less : (next word : ℕ) → 0 < next → ((k : ℕ) → next ≡ suc k → on_list h s.listed.items g k ≡ true)
+      → word ≡ get_or s.before.items (next - 1) 0 → word < next
   walk_less next word some here is = let e = walk_word next word some here is in let l = last_le (on_list h s.listed.items g) (next - 1) in omega arith
 
   pub walk_next : (next word : ℕ) → 0 < next → ((k : ℕ) → next ≡ suc k → on_list h s.listed.items g k ≡ true) → word ≡ get_or s.before.items (next - 1) 0
@@ -376,6 +395,7 @@ module _ (h : List Event) (size : ℕ) (s : Subscribers) (g : ℕ) (w : AreLinke
       let first = ap (sum_by number) split in
       let cons = sum_by-cons number (next - 1) (falling (on_list h s.listed.items g) (next - 1)) in
       let left : sum_by number (falling (on_list h s.listed.items g) (next - 1)) ≡ sum_by number (falling (on_list h s.listed.items g) word) =
-      ap (sum_by number) (falling_last (on_list h s.listed.items g) (next - 1) ∙ ap (falling (on_list h s.listed.items g)) (sym (walk_word next word some here is))) in
+      ap (sum_by number) (falling_last (on_list h s.listed.items g) (next - 1)
+      ∙ ap (falling (on_list h s.listed.items g)) (sym (walk_word next word some here is))) in
       let grown : sum_by number more ≡ sum_by number found + number (next - 1) = ap (sum_by number) pushed ∙ sum_by_push number found (next - 1) in
       omega arith

@@ -1,5 +1,6 @@
 -- What the visits of an item do to the marks of nodes.
-use Rattle.std.proofs.Common.{◌≡◌, ℕ, zero, suc, ◌+◌, ◌<◌, Bool, true, false, List, [], ◌∷◌, ◌++◌, length, take, Option, Some, None, refl, sym, ap, ◌∙◌, arith, inl, inr, ◌⊎◌, ◌==◌, ◌≢◌, get_or, get_or-set_other, get_or-set_same, cond, add-zero}
+use Rattle.std.proofs.Common.{◌≡◌, ℕ, zero, suc, ◌+◌, ◌<◌, Bool, true, false, List, [], ◌∷◌, ◌++◌, length, take, Option, Some, None}
+use Rattle.std.proofs.Common.{refl, sym, ap, ◌∙◌, arith, inl, inr, ◌⊎◌, ◌==◌, ◌≢◌, get_or, get_or-set_other, get_or-set_same, cond, add-zero}
 use Rattle.std.proofs.Math.Bool.{◌||◌}
 use Rattle.std.proofs.Math.ListN.{length-set}
 use Rattle.std.proofs.lemmas.Bool.{cases_order, false≢true, eq-eqb, eqb-true, ne_eqb, or_cases}

@@ -11,7 +11,8 @@ use Rattle.rx_event.specs.declared.event.Kind.{Kind}
 use Rattle.rx_event.specs.declared.event.Kind.TheVariants.{Pass, Sub}
 use Rattle.rx_event.specs.declared.event.Event.{Event}
 use Rattle.rx_event.specs.declared.event.Event.TheVariants.{Open, Hub, Connect, Accept, Use, Remove, Lease, Return, Item, Decline, End, Close, Take}
-use Rattle.rx_event.specs.Events.{makes_hub, has_source, is_leaf, is_merging, is_until, is_root, is_manual_hub, is_auto_hub, hub_subscribed, is_source_of, is_notifier_of}
+use Rattle.rx_event.specs.Events.{makes_hub, has_source, is_leaf, is_merging, is_until, is_root}
+use Rattle.rx_event.specs.Events.{is_manual_hub, is_auto_hub, hub_subscribed, is_source_of, is_notifier_of}
 use Rattle.rx_event.specs.Tree.{at, hubs, is_open, open_nodes, ancestors, has_open_child}
 use Rattle.rx_event.specs.Resources.{is_owned, is_out, is_held, is_waiting}
 use Rattle.rx_event.specs.Climb.{visits}

@@ -1,5 +1,6 @@
 -- What each open node remembers, as the audit keeps it.
-use Rattle.std.specs.Prelude.{◌≡◌, ℕ, Bool, true, false, ◌&&◌, ◌||◌, Option, Some, None, List, slice_index_or, slice_get, slice_set, is_some, MatchOption, length, sum_by, ◌+◌, ◌<◌, [], ◌∷◌, ◌++◌, if◌then◌else◌}
+use Rattle.std.specs.Prelude.{◌≡◌, ℕ, Bool, true, false, ◌&&◌, ◌||◌, Option, Some, None, List, slice_index_or}
+use Rattle.std.specs.Prelude.{slice_get, slice_set, is_some, MatchOption, length, sum_by, ◌+◌, ◌<◌, [], ◌∷◌, ◌++◌, if◌then◌else◌}
 use Rattle.std.specs.Option.{option_map_or, option_and_then}
 use Rattle.std.specs.List.{list_any}
 use Rattle.rx_event.specs.Kept.{nothing_kept}

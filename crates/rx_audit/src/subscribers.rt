@@ -101,9 +101,12 @@ fn listed_hub(past: &[Event], subs: &Subscribers, s: u64) -> Option<u64>
 
 /// Joins the neighbours of `s` on the list of hub `g`.
 fn join_neighbours(subs: &mut Subscribers, g: u64, s: u64)
-    ensures last { subs.new.last.items ≡ table_with subs.old.last.items (hub_if_last (slice_index_or subs.old.after.items s 0) g) (slice_index_or subs.old.before.items s 0) }
-    ensures before { subs.new.before.items ≡ table_with subs.old.before.items (number_of (slice_index_or subs.old.after.items s 0)) (slice_index_or subs.old.before.items s 0) }
-    ensures after { subs.new.after.items ≡ table_with subs.old.after.items (number_of (slice_index_or subs.old.before.items s 0)) (slice_index_or subs.old.after.items s 0) }
+    ensures last { subs.new.last.items ≡ table_with subs.old.last.items
+        (hub_if_last (slice_index_or subs.old.after.items s 0) g) (slice_index_or subs.old.before.items s 0) }
+    ensures before { subs.new.before.items ≡ table_with subs.old.before.items
+        (number_of (slice_index_or subs.old.after.items s 0)) (slice_index_or subs.old.before.items s 0) }
+    ensures after { subs.new.after.items ≡ table_with subs.old.after.items
+        (number_of (slice_index_or subs.old.before.items s 0)) (slice_index_or subs.old.after.items s 0) }
     ensures listed { subs.new.listed.items ≡ subs.old.listed.items }
 {
     let below = word_at(&subs.before, s);
@@ -141,7 +144,8 @@ fn put_last(subs: &mut Subscribers, g: u64, n: usize)
     requires { n < 4294967295 }
     ensures last { subs.new.last.items ≡ table_with subs.old.last.items (Some g) (n + 1) }
     ensures before { subs.new.before.items ≡ table_with subs.old.before.items (Some n) (slice_index_or subs.old.last.items g 0) }
-    ensures after { subs.new.after.items ≡ table_with (table_with subs.old.after.items (Some n) 0) (number_of (slice_index_or subs.old.last.items g 0)) (n + 1) }
+    ensures after { subs.new.after.items ≡ table_with (table_with subs.old.after.items (Some n) 0)
+        (number_of (slice_index_or subs.old.last.items g 0)) (n + 1) }
     ensures listed { subs.new.listed.items ≡ slice_set subs.old.listed.items n true }
 {
     let below = word_at(&subs.last, g);

@@ -7,25 +7,50 @@
 //!
 //! # Vocabulary
 //!
-//! | Case | Work at the size N | Operations |
-//! |---|---|---|
-//! | `timeline` | N entries scheduled on a timeline in falling, rising and equal order, and taken out | 6N: each call |
-//! | `trampoline` | the same on a trampoline | 6N: each call |
-//! | `sorted` | the same on a sorted list, which stands here to be compared with the timeline | 6N: each call |
-//! | `cycle` | a Using subscription opened with one resource and a leaf below it, one item, the disposal, the resource taken and released, the note taken; N times on one book, with a new one where its history is full | N: each cycle |
-//! | `crowd` | N subscriptions opened that stay open; then N times one more opened, an item emitted at it, its end and its notes taken; then the disposal of those that stayed | N: each subscription that comes and goes |
-//! | `items` | N items of a leaf below a mirroring root, whose notes are taken as they come | N: each item |
-//! | `chain` | N mirroring nodes, each at the source of the one before, and a leaf at the last; one item; the disposal of the root | N: each node |
-//! | `inner` | a FlatMap with N inners below it; then N times an item projected, its inner opened and ended; then the disposal of the root | N: each inner that comes and goes |
-//! | `share` | one RefCount hub: N observers subscribe to it one after another, a leaf is opened at the source of its connection, an item emitted there and each observer's note taken, and they leave, the oldest first; then the same again, the newest first | 2N: each observer, which subscribes, is told the item and leaves |
-//! | `hold` | N resources held at one node, every second one removed, the disposal of the root, each resource taken and released | N: each resource |
-//! | `lease` | N resources held at one node; each is leased, used and given back, one after another; the disposal of the root, each resource taken and released | N: each lease that comes and goes |
-//! | `checkpoint` | one checkpoint of a book in which N subscriptions are open, and which has had 100N events. Those are made before the time begins. Beside it, in the same call, the next one is measured | N: each open node |
-//! | `checkpoint-short` | the same of a book which has had N events, the openings alone | N: each open node |
-//! | `scenario` | the first N steps of this cycle, as a JSON text that is run by `rx_script` and reported: a Using root with one resource, a leaf at its source, two items, the end of the leaf or in each second cycle the disposal of the root, a drain. The text and the resources are made before the time begins | N: each step |
-//! | `audit-SHAPE` | the audit of a lawful history of N events of one of twelve shapes: `roots`, `items`, `cycle`, `chain`, `resources`, `flat`, `switch`, `until`, `subscribers`, `hub-end`, `hubs`, `hub-items`; N is at least 40. The history is made before the time begins. Beside it, in the same call, the next one is measured | N: each event |
-//! | `json-SHAPE` | serde_json's own reading of the dump of that history. The text is made before the time begins | N: each event |
-//! | `storm` | a storm of 64 sources, 16 workers and N items of each source, with its start, its end and its figures | 64N: each item |
+//! Of each case its work at the size N, and how many operations that is, of which kind.
+//!
+//! - `timeline`: N entries scheduled on a timeline in falling, rising and equal order, and taken out.
+//!   6N: each call.
+//! - `trampoline`: the same on a trampoline. 6N: each call.
+//! - `sorted`: the same on a sorted list, which stands here to be compared with the timeline. 6N: each
+//!   call.
+//! - `cycle`: a Using subscription opened with one resource and a leaf below it, one item, the disposal,
+//!   the resource taken and released, the note taken; N times on one book, with a new one where its
+//!   history is full. N: each cycle.
+//! - `crowd`: N subscriptions opened that stay open; then N times one more opened, an item emitted at
+//!   it, its end and its notes taken; then the disposal of those that stayed. N: each subscription that
+//!   comes and goes.
+//! - `items`: N items of a leaf below a mirroring root, whose notes are taken as they come. N: each
+//!   item.
+//! - `chain`: N mirroring nodes, each at the source of the one before, and a leaf at the last; one item;
+//!   the disposal of the root. N: each node.
+//! - `inner`: a FlatMap with N inners below it; then N times an item projected, its inner opened and
+//!   ended; then the disposal of the root. N: each inner that comes and goes.
+//! - `share`: one RefCount hub: N observers subscribe to it one after another, a leaf is opened at the
+//!   source of its connection, an item emitted there and each observer's note taken, and they leave, the
+//!   oldest first; then the same again, the newest first. 2N: each observer, which subscribes, is told
+//!   the item and leaves.
+//! - `hold`: N resources held at one node, every second one removed, the disposal of the root, each
+//!   resource taken and released. N: each resource.
+//! - `lease`: N resources held at one node; each is leased, used and given back, one after another; the
+//!   disposal of the root, each resource taken and released. N: each lease that comes and goes.
+//! - `checkpoint`: one checkpoint of a book in which N subscriptions are open, and which has had 100N
+//!   events. Those are made before the time begins. Beside it, in the same call, the next one is
+//!   measured. N: each open node.
+//! - `checkpoint-short`: the same of a book which has had N events, the openings alone. N: each open
+//!   node.
+//! - `scenario`: the first N steps of this cycle, as a JSON text that is run by `rx_script` and
+//!   reported: a Using root with one resource, a leaf at its source, two items, the end of the leaf or
+//!   in each second cycle the disposal of the root, a drain. The text and the resources are made before
+//!   the time begins. N: each step.
+//! - `audit-SHAPE`: the audit of a lawful history of N events of one of twelve shapes: `roots`, `items`,
+//!   `cycle`, `chain`, `resources`, `flat`, `switch`, `until`, `subscribers`, `hub-end`, `hubs`,
+//!   `hub-items`; N is at least 40. The history is made before the time begins. Beside it, in the same
+//!   call, the next one is measured. N: each event.
+//! - `json-SHAPE`: serde_json's own reading of the dump of that history. The text is made before the
+//!   time begins. N: each event.
+//! - `storm`: a storm of 64 sources, 16 workers and N items of each source, with its start, its end and
+//!   its figures. 64N: each item.
 //!
 //! The exit status is 0 where the case was run and what it did is written, 1 where memory, a call,
 //! the clock or the output refused, and 2 where the words are refused: a case that is not known, a

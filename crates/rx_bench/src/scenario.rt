@@ -25,31 +25,27 @@ impl Drop for Scenario {
     }
 }
 
-/// The step of this number, with `#` where the number of its cycle stands and `@` where its own does.
-/// Six steps are a cycle, which has names of its own; each second cycle ends in another way.
-fn pattern(number: u64) -> &'static str {
-    match number % 12 {
-        0 | 6 => "{\"do\":\"using\",\"name\":\"u#\",\"place\":\"root\",\"res\":\"r#\"}",
-        1 | 7 => {
-            "{\"do\":\"open\",\"name\":\"l#\",\"place\":\"source\",\"of\":\"u#\",\"kind\":\"leaf\"}"
-        }
-        2 | 3 | 8 | 9 => "{\"do\":\"next\",\"node\":\"l#\",\"value\":@}",
-        4 => "{\"do\":\"end\",\"node\":\"l#\"}",
-        10 => "{\"do\":\"dispose\",\"node\":\"u#\"}",
-        _ => "{\"do\":\"drain\"}",
-    }
-}
-
-/// Writes the step of this number.
+/// Writes the step of this number. Six steps are a cycle, which has names of its own; each second cycle
+/// ends in another way.
 fn push_step(text: &mut String, number: u64) -> Result<(), AllocError> {
-    for letter in pattern(number).chars() {
-        match letter {
-            '#' => write!(text, "{}", number / 6),
-            '@' => write!(text, "{number}"),
-            _ => text.push(letter),
-        }?;
+    let cycle = number / 6;
+    match number % 12 {
+        0 | 6 => write!(
+            text,
+            "{{\"do\":\"using\",\"name\":\"u{cycle}\",\"place\":\"root\",\"res\":\"r{cycle}\"}}"
+        ),
+        1 | 7 => write!(
+            text,
+            "{{\"do\":\"open\",\"name\":\"l{cycle}\",\"place\":\"source\",\"of\":\"u{cycle}\",\"kind\":\"leaf\"}}"
+        ),
+        2 | 3 | 8 | 9 => write!(
+            text,
+            "{{\"do\":\"next\",\"node\":\"l{cycle}\",\"value\":{number}}}"
+        ),
+        4 => write!(text, "{{\"do\":\"end\",\"node\":\"l{cycle}\"}}"),
+        10 => write!(text, "{{\"do\":\"dispose\",\"node\":\"u{cycle}\"}}"),
+        _ => text.push_str("{\"do\":\"drain\"}"),
     }
-    Ok(())
 }
 
 /// The text of the scenario of so many steps.

@@ -1,10 +1,10 @@
 -- A call, from where nothing stands against it: its events may be written, what they force is paid for, and it is accepted.
-use Rattle.std.proofs.Common.{◌≡◌, ℕ, ◌+◌, ◌≤◌, Bool, true, List, [], ◌∷◌, ◌++◌, length, Option, Some, None, is_some, refl, sym, ap, subst, ◌∙◌, arith}
+use Rattle.std.proofs.Common.{◌≡◌, ◌==◌, ℕ, ◌+◌, ◌≤◌, Bool, true, false, List, [], ◌∷◌, ◌++◌, length, Option, Some, None, is_some, refl, sym, ap, subst, ◌∙◌, arith}
 use Rattle.std.proofs.Common.{length-append, append_assoc, append-nil}
-use Rattle.std.proofs.Math.Bool.{not}
+use Rattle.std.proofs.Math.Bool.{not, ◌&&◌}
 use Rattle.std.specs.List.{list_all}
 use Rattle.std.specs.Option.{option_map_or}
-use Rattle.std.proofs.lemmas.Bool.{and_parts, false≢true}
+use Rattle.std.proofs.lemmas.Bool.{and_parts, false≢true, not-false, eqb-true}
 use Rattle.rx_event.specs.Kept.{Kept}
 use Rattle.rx_resource.specs.declared.Resource.{Ghosts}
 use Rattle.rx_event.specs.declared.mail.Mail.{Mail}
@@ -16,7 +16,9 @@ use Rattle.rx_event.specs.Notes.{notes, mail_of}
 use Rattle.rx_event.specs.Totals.{debt}
 use Rattle.rx_event.specs.Calls.{Call, outside_of}
 use Rattle.rx_event.specs.Lawful.{MayFollow, IsLawful, IsForcedOn, stays, more, forced, allowed, opened_with}
-use Rattle.rx_event.specs.declared.refusal.Refusal.TheVariants.{Full}
+use Rattle.rx_event.specs.declared.refusal.Refusal.TheVariants.{Full, NotFresh}
+use Rattle.rx_resource.specs.declared.Life.{Life}
+use Rattle.rx_resource.specs.declared.Life.TheVariants.{Live, Released}
 use Rattle.rx_event.specs.Refusals.{first_cause}
 use Rattle.rx_event.proofs.Laws.Counts.{notes-push}
 use Rattle.rx_event.proofs.Laws.Lawful.{IsLawful-push}
@@ -24,29 +26,30 @@ use Rattle.rx_event.proofs.Laws.Waits.{settled_connected, waits_after, forced_co
 use Rattle.rx_register.specs.State.{State as Register, IsPromised, Writes}
 use Rattle.rx_register.specs.Causes.{causes, added_by, by_key_of, is_over}
 use Rattle.rx_register.specs.Paid.{IsPaid, HasRoomFor, Fits, notes_added}
-use Rattle.rx_register.specs.Claims.{MayCall, MayFollowInTurn, IsReady as IsReadyFor}
+use Rattle.rx_register.specs.Claims.{MayFollowInTurn, IsReady as IsReadyFor}
 use Rattle.rx_register.proofs.Laws.NoCause.{no_cause}
 use Rattle.rx_register.proofs.Laws.Paid.{call_room, call_mail_room, paid_room, within_limit}
 use Rattle.rx_register.proofs.Laws.Calls.{call_follows, call_fits, called_paid}
-use Rattle.rx_ground.specs.declared.base.Wanted.{Wanted}
 use Rattle.rx_ground.specs.Shown.{Ground}
-use Rattle.rx_ground.specs.Ties.{IsStanding, IsRoomier, HasRoomBeside, IsReady, KeepsOlder, KeepsLeases, HasRoomToConnect}
-use Rattle.rx_ground.specs.Ties.{IsTied}
-use Rattle.rx_ground.proofs.Laws.KeysKept.{KeepsKeys, keeps_on, keeps_settled}
-use Rattle.rx_book.specs.State.{State, has_res_key, has_lease_key}
-use Rattle.rx_book.specs.Requests.{Request, stands}
+use Rattle.rx_ground.specs.Ties.{IsStanding, IsRoomier, IsReady, KeepsOlder, KeepsLeases, HasRoomToConnect}
+use Rattle.rx_ground.specs.Ties.{IsTied, AreTied, AreLeased, KeepsNodes, KeepsHeld}
+use Rattle.rx_ground.proofs.Laws.KeysKept.{KeepsKeys, keeps_on, keeps_settled, keeps_closed, keeps_held, leases_stay}
+use Rattle.rx_book.specs.State.{State, has_key, has_res_key, has_lease_key}
+use Rattle.rx_book.specs.Requests.{Request, stands, is_live, is_fresh_in}
 use Rattle.rx_book.specs.Answers.{Accepts, IsNewLeaseKey}
+use Rattle.rx_book.specs.Steps.{IsLetIn, IsWritten}
 use Rattle.rx_slots.specs.Slots.{Slots, find}
 use Rattle.rx_tree.specs.declared.node.ResKey.{ResKey as TreeResKey}
 use Rattle.rx_lease.specs.declared.leases.LeaseKey.{LeaseKey as GroundLeaseKey}
 use Rattle.rx_lease.specs.Leases.{lease_key, is_out_at}
-use Rattle.rx_tree.specs.Resources.{is_owned_at}
+use Rattle.rx_tree.specs.Resources.{is_held_at, is_owned_at}
 use Rattle.rx_event.specs.Resources.{is_owned}
 use Rattle.rx_ground.proofs.Laws.Owned.{owned_there}
+use Rattle.rx_book.specs.declared.key.Key.{Key}
 use Rattle.rx_book.specs.declared.key.ResKey.{ResKey}
 use Rattle.rx_book.specs.declared.key.LeaseKey.{LeaseKey}
-use Rattle.rx_book.specs.Shown.{tree_key_of, tree_res_key_of, ground_lease_key_of, lease_key_shown, res_keys_of, lease_keys_of, state_of}
-use Rattle.rx_book.proofs.ShownKeys.{key_finds, finding_key, res_key_finds, finding_res_key, has_res_key_is, lease_key_finds, finding_lease_key, has_lease_key_is}
+use Rattle.rx_book.specs.Shown.{tree_key_of, tree_res_key_of, ground_lease_key_of, lease_key_shown, keys_of, res_keys_of, lease_keys_of, state_of}
+use Rattle.rx_book.proofs.ShownKeys.{key_finds, finding_key, res_key_finds, finding_res_key, has_key_is, has_res_key_is, lease_key_finds, finding_lease_key, has_lease_key_is}
 use Rattle.rx_book.proofs.CausesByKey.{unstood}
 
 -- histories ---------------------------------------------------------------------------------------
@@ -95,13 +98,6 @@ within_full base call known fresh h limit counted none =
     let within = within_limit base h limit (added_by h call) (sym counted ∙ over) in
     omega arith
 
--- nothing stands against what is asked, and there is room for it
-pub record IsLetIn {T : Type 0} (g : Ghosts T) (b : Ground T) (asked : Request) : Type 0 where
-  pub standing : IsStanding g b
-  pub none : first_cause (stands (state_of g b) asked) ≡ None
-  pub may : MayCall b.register.base b.register.history b.register.limit asked.is_fresh asked.call
-  pub has : HasRoomFor b.register asked.call
-
 module _ {T : Type 0} (g : Ghosts T) (b : Ground T) (asked : Request) where
   abbrev h : List Event
   h = b.register.history
@@ -109,7 +105,7 @@ module _ {T : Type 0} (g : Ghosts T) (b : Ground T) (asked : Request) where
   abbrev outside : List Event
   outside = outside_of b.register.history asked.call
 
-  let_in : IsStanding g b → IsPromised b.register → first_cause (stands (state_of g b) asked) ≡ None → IsReadyFor h asked.call →
+  pub let_in : IsStanding g b → IsPromised b.register → first_cause (stands (state_of g b) asked) ≡ None → IsReadyFor h asked.call →
       HasRoomFor b.register asked.call → IsLetIn g b asked
   let_in standing promised none ready has = record {
     standing = standing;
@@ -220,6 +216,31 @@ module _ {T : Type 0} (g : Ghosts T) (b : Ground T) (asked : Request) where
         all = keeps_on b.tree mid.tree new.tree (length h) (length mid.register.history) (let l = longer in omega arith) kept
             (keeps_settled mid.register.base g mid.register.history new.register.history mid.tree new.tree lawful_then tied nodes resources)
 
+    pub accepts_written : (mid new : Ground T) → IsWritten g b asked.call mid → IsStanding g new → new.register.base ≡ mid.register.base →
+        IsForcedOn mid.register.base mid.register.history new.register.history →
+        KeepsOlder new.register.history (length mid.register.history) mid.tree.nodes new.tree.nodes →
+        new.tree.resources ≡ mid.tree.resources → new.register.limit ≡ mid.register.limit → new.register.given ≡ mid.register.given →
+        new.leases ≡ mid.leases → Accepts (state_of g b) asked (state_of g new)
+    accepts_written mid new w standing same on nodes resources limit given leases =
+        accepts mid new w.written (record { nodes = w.nodes; held = w.held.from }) w.tied.of_tree standing same on nodes resources limit given leases w.leases
+
+-- a closing is written
+pub written_closed : {T : Type 0} (g : Ghosts T) (old new : Ground T) (call : Call) → Writes old.register (outside_of old.register.history call) new.register →
+    AreTied new.register.base g new.register.history new.tree new.hubs → AreLeased new.register.history new.tree.resources new.leases →
+    KeepsNodes new.register.history old.tree.nodes new.tree.nodes → new.tree.resources ≡ old.tree.resources → new.leases ≡ old.leases → IsWritten g old call new
+written_closed g old new call written tied leased nodes resources leases =
+    let kept = keeps_closed new.register.history old.tree new.tree (length old.register.history) nodes resources in
+    record { written = written; tied = tied; leased = leased; nodes = kept.nodes; held = record { from = kept.held }; leases = leases_stay _ _ _ leases }
+
+-- what changes no node is written
+pub written_held : {T : Type 0} (g : Ghosts T) (old new : Ground T) (call : Call) → Writes old.register (outside_of old.register.history call) new.register →
+    AreTied new.register.base g new.register.history new.tree new.hubs → AreLeased new.register.history new.tree.resources new.leases →
+    new.tree.nodes ≡ old.tree.nodes → KeepsHeld old.tree new.tree (length old.register.history) →
+    KeepsLeases old.leases new.leases (length old.register.history) → IsWritten g old call new
+written_held g old new call written tied leased nodes held leases =
+    let kept = keeps_held old.tree new.tree (length old.register.history) nodes held in
+    record { written = written; tied = tied; leased = leased; nodes = kept.nodes; held = held; leases = leases }
+
 -- room --------------------------------------------------------------------------------------------
 
 -- with more room it is the same state
@@ -232,25 +253,16 @@ state_roomier g old new r = λ i. state_of g (record {
   space = old.space;
 })
 
--- a call for which room was gotten, after nothing stood against it
-pub let_in_roomy : {T : Type 0} (g : Ghosts T) (old b : Ground T) (asked : State → Request) (wanted : Wanted) →
-    IsRoomier old b → IsStanding g b → IsPromised b.register →
-    first_cause (stands (state_of g old) (asked (state_of g old))) ≡ None → IsReadyFor b.register.history (asked (state_of g b)).call → HasRoomBeside b wanted →
-    added_by b.register.history (asked (state_of g b)).call ≤ wanted.events → notes_added b.register.history (asked (state_of g b)).call ≤ wanted.notes →
-    IsLetIn g b (asked (state_of g b))
-let_in_roomy g old b asked wanted roomier standing promised none ready has events notes =
-    let none_now = subst (λ (s : State). first_cause (stands s (asked s)) ≡ None) (sym (state_roomier g old b roomier)) none in
-    let_in g b (asked (state_of g b)) standing promised none_now ready (record {
-      events = let e = has.events in omega arith;
-      notes = let n = has.notes in omega arith;
-    })
+-- a resource by whose key a call is made is held
+pub held_asked : {T : Type 0} (g : Ghosts T) (b : Ground T) (asked : Request) → IsLetIn g b asked → (res : ResKey) →
+    asked.is_known ≡ has_res_key (res_keys_of b.tree) res → is_held_at b.tree (tree_res_key_of res) ≡ true
+held_asked g b asked l res is = sym (has_res_key_is b.tree res) ∙ sym is ∙ known g b asked l
 
 -- a resource by whose key a call is made, and that the history leaves owned, is owned in the tree
 pub owned_asked : {T : Type 0} (g : Ghosts T) (b : Ground T) (asked : Request) → IsLetIn g b asked → (res : ResKey) →
     asked.is_known ≡ has_res_key (res_keys_of b.tree) res → is_owned b.register.history res.number ≡ true → is_owned_at b.tree (tree_res_key_of res) ≡ true
 owned_asked g b asked l res is owned =
-    let held = sym (has_res_key_is b.tree res) ∙ sym is ∙ known g b asked l in
-    owned_there b.register.base g b.register.history b.tree l.standing.tied.of_tree (tree_res_key_of res) held owned
+    owned_there b.register.base g b.register.history b.tree l.standing.tied.of_tree (tree_res_key_of res) (held_asked g b asked l res is) owned
 
 -- the key of a lease that was given out is known after what it forces
 pub lease_key_new : {T : Type 0} (g : Ghosts T) (mid new : Ground T) (place : ℕ) (lease : GroundLeaseKey) (k : LeaseKey) → k ≡ lease_key_shown lease →
@@ -264,3 +276,28 @@ lease_key_new g mid new place lease k shown number out same = rw shown (record {
 pub out_asked : {T : Type 0} (g : Ghosts T) (b : Ground T) (asked : Request) → IsLetIn g b asked → (lease : LeaseKey) →
     asked.is_known ≡ has_lease_key (lease_keys_of b.leases) lease → is_out_at b.leases (ground_lease_key_of lease) ≡ true
 out_asked g b asked l lease is = sym (has_lease_key_is b.leases lease) ∙ sym is ∙ known g b asked l
+
+-- a node by whose key a call is made is open
+pub open_asked : {T : Type 0} (g : Ghosts T) (b : Ground T) (asked : Request) → IsLetIn g b asked → (key : Key) →
+    asked.is_known ≡ has_key (keys_of b.tree) key → is_some (find b.tree.nodes (tree_key_of key)) ≡ true
+open_asked g b asked l key is = sym (has_key_is b.tree key) ∙ sym is ∙ known g b asked l
+
+-- a resource with which a call is made is fresh
+pub fresh_asked : {T : Type 0} (g : Ghosts T) (b : Ground T) (asked : Request) → IsLetIn g b asked →
+    causes b.register.base b.register.history b.register.limit asked.is_fresh asked.call NotFresh ≡ not asked.is_fresh → asked.is_fresh ≡ true
+fresh_asked g b asked l is =
+    not-false asked.is_fresh (sym is ∙ no_cause (causes b.register.base b.register.history b.register.limit asked.is_fresh asked.call) l.may.no_cause NotFresh)
+
+live_is : (life : Life) → is_live life ≡ true → life ≡ Live
+live_is Live is = refl
+live_is Released is = absurd (false≢true is)
+
+module _ {T : Type 0} (g : Ghosts T) (x : T) (fresh : is_fresh_in g x ≡ true) where
+  abbrev parts : (is_live (g.life_of x) ≡ true) × ((g.uses_of x == 0) ≡ true)
+  parts = and_parts (is_live (g.life_of x)) (g.uses_of x == 0) fresh
+
+  pub live_fresh : g.life_of x ≡ Live
+  live_fresh = live_is (g.life_of x) parts.0
+
+  pub unused_fresh : g.uses_of x ≡ 0
+  unused_fresh = eqb-true (g.uses_of x) 0 parts.1

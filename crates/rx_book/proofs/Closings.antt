@@ -189,8 +189,10 @@ closed_book mid new free returned takes kept =
     )
 
 -- what was accepted and not yet taken is taken at last
-pub closed_released : (old mid new : State) (released : ℕ) → new.base ≡ mid.base → IsPromised old → accepted_count mid.base mid.history ≡ accepted_count old.base old.history → taken_count mid.base mid.history ≡ taken_count old.base old.history → Takes mid.base mid.history new.history
-    → IsPromised new → new.held ≡ [] → new.waiting ≡ [] → taken_count new.base new.history ≡ taken_count mid.base mid.history + released → released ≡ held_count old.history + waiting_count old.history
+pub closed_released : (old mid new : State) (released : ℕ) → new.base ≡ mid.base → IsPromised old →
+    accepted_count mid.base mid.history ≡ accepted_count old.base old.history → taken_count mid.base mid.history ≡ taken_count old.base old.history →
+    Takes mid.base mid.history new.history → IsPromised new → new.held ≡ [] → new.waiting ≡ [] →
+    taken_count new.base new.history ≡ taken_count mid.base mid.history + released → released ≡ held_count old.history + waiting_count old.history
 closed_released old mid new released same before accepted taken takes after none_held none_waits rose =
     let parts = accepted_count-parts old.base old.history before.lawful in
     let all_accepted = takes_accepted mid.base takes in

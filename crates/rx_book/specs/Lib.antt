@@ -5,3 +5,5 @@ pub mod Drains
 pub mod Shown
 pub mod Places
 pub mod Checkpoints
+pub mod Steps
+pub mod Asked

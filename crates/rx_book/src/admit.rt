@@ -1,33 +1,106 @@
-//! Room for a call against which nothing stands.
+//! The calls that may take memory: what stands against each, and room for it.
 
-ghost use Rattle.std.specs.Prelude.{◌≡◌, ◌+◌, ◌≤◌, ◌⊎◌, length, Some, None, IfErr, OnOk};
-ghost use Rattle.rx_event.specs.declared.refusal.Refusal.{Refusal};
-ghost use Rattle.rx_event.specs.Totals.{debt};
-ghost use Rattle.rx_ground.specs.Ties.{IsStanding, IsRoomier, HasRoomBeside};
+ghost use Rattle.std.specs.Prelude.{◌≡◌, IfErr, OnOk};
+ghost use Rattle.rx_ground.specs.Ties.{IsStanding};
+ghost use Rattle.rx_book.specs.Answers.{IsCauseOrWant};
+ghost use Rattle.rx_book.specs.Asked.{request_for};
+ghost use Rattle.rx_book.specs.Shown.{state_of};
+ghost use Rattle.rx_book.specs.Steps.{IsAdmitted, IsDecided, unless_caused};
 
-use rx_event::Refusal;
+use crate::answer::At;
+use crate::key::{Key, ResKey, tree_key, tree_res_key};
+use crate::place::spot_of;
+use rx_event::{Kind, Mode, Refusal};
 use rx_ground::{Ground, Wanted};
 use rx_resource::Resource;
 
-/// Gets room for a call, where nothing stands against it. Refused for what stands first, else for want
-/// of memory; then some of the room may have been gotten, and nothing else changed.
-pub(crate) fn admit<R: Resource>(
-    ground: &mut Ground<R>,
-    cause: Option<Refusal>,
-    wanted: Wanted,
-) -> Result<(), Refusal>
+/// What a call asks for that may take memory.
+#[derive(Clone, Copy)]
+pub(crate) enum Wish {
+    /// A node, opened there.
+    Open(At, Kind),
+    /// A mirroring node, opened there with a resource of this tag, which is fresh or not.
+    OpenUsing(At, u64, bool),
+    /// A resource of this tag, which is fresh or not, held at a node.
+    Hold(Key, u64, bool),
+    /// A use of a held resource.
+    Apply(ResKey),
+    /// A lease of a held resource.
+    Lease(ResKey),
+    /// An item of a leaf.
+    Emit(Key, i64),
+    /// A hub.
+    Publish(Mode),
+    /// A connection of a hub.
+    Connect(u64),
+}
+
+/// The cost, unless something stands against the call.
+#[inline(always)]
+fn unless(cause: Option<Refusal>, cost: Wanted) -> Result<Wanted, Refusal>
+    ensures { result ≡ unless_caused cause cost }
+{
+    match cause {
+        Some(why) => Err(why),
+        None => Ok(cost),
+    }
+}
+
+/// What a call costs; or what stands first against it.
+#[inline(always)]
+fn decide<R: Resource>(ground: &mut Ground<R>, wish: Wish) -> Result<Wanted, Refusal>
     requires standing { IsStanding R.Resource ground.old }
-    requires within { cause ≡ None → length ground.old.register.history + debt ground.old.register.base ground.old.register.history + wanted.events ≤
-        ground.old.register.base.at_length + ground.old.register.limit }
-    requires notes { wanted.notes ≤ 4294967295 }
-    ensures ok { OnOk result (HasRoomBeside ground.new wanted) }
-    ensures none { OnOk result (cause ≡ None) }
-    ensures err { IfErr result (λ why. (cause ≡ Some why) ⊎ ((cause ≡ None) × (why ≡ Refusal.NoMemory))) }
-    ensures kept { IsRoomier ground.old ground.new }
+    ensures kept { ground.new ≡ ground.old }
+    ensures decided { IsDecided (state_of R.Resource ground.old) (request_for (state_of R.Resource ground.old) wish) result }
+{
+    match wish {
+        Wish::Open(at, kind) => {
+            let spot = spot_of(at);
+            unless(
+                ground.opening_cause(spot.place, spot.above, kind),
+                ground.opening_cost(spot.place, kind),
+            )
+        }
+        Wish::OpenUsing(at, tag, is_fresh) => {
+            let spot = spot_of(at);
+            unless(
+                ground.using_cause(spot.place, spot.above, tag, is_fresh),
+                Wanted::of_using(spot.place),
+            )
+        }
+        Wish::Hold(node, tag, is_fresh) => unless(
+            ground.holding_cause(tree_key(node), tag, is_fresh),
+            Wanted::of_holding(),
+        ),
+        Wish::Apply(res) => unless(
+            ground.applying_cause(tree_res_key(res)),
+            Wanted::of_applying(),
+        ),
+        Wish::Lease(res) => unless(
+            ground.leasing_cause(tree_res_key(res)),
+            Wanted::of_leasing(),
+        ),
+        Wish::Emit(leaf, value) => {
+            let reach = ground.route(tree_key(leaf), value)?;
+            Ok(Wanted::of_item(reach))
+        }
+        Wish::Publish(mode) => unless(ground.publishing_cause(mode), Wanted::of_hub()),
+        Wish::Connect(hub) => unless(ground.connecting_cause(hub), Wanted::of_connecting()),
+    }
+}
+
+/// Lets a call in: gets room for it, where nothing stands against it. Refused for what stands first, else
+/// for want of memory; then some of the room may have been gotten, and nothing else changed.
+#[inline(always)]
+pub(crate) fn admit<R: Resource>(ground: &mut Ground<R>, wish: Wish) -> Result<(), Refusal>
+    requires standing { IsStanding R.Resource ground.old }
+    ensures ok { OnOk result (IsAdmitted R.Resource ground.new (request_for (state_of R.Resource ground.new) wish)) }
+    ensures err { IfErr result (IsCauseOrWant (state_of R.Resource ground.old) (request_for (state_of R.Resource ground.old) wish)) }
+    ensures same { state_of R.Resource ground.new ≡ state_of R.Resource ground.old }
     ensures standing { IsStanding R.Resource ground.new }
 {
-    if let Some(why) = cause {
-        return Err(why);
-    }
-    ground.make_room(wanted)
+    let cost = decide(ground, wish)?;
+    ground.make_room(cost)?;
+    ground.promise();
+    Ok(())
 }

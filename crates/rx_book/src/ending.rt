@@ -5,9 +5,10 @@ ghost use Rattle.rx_book.specs.Requests.{decline_request, fail_request};
 ghost use Rattle.rx_book.specs.Answers.{AnswersPlace, AnswersPlaceOrWant};
 
 use crate::Book;
+use crate::admit::{Wish, admit};
+use crate::asked::Asked;
 use crate::key::{Key, tree_key};
 use rx_event::{Refusal, Terminal};
-use rx_ground::Wanted;
 use rx_resource::Resource;
 
 impl<R: Resource> Book<R> {
@@ -21,19 +22,9 @@ impl<R: Resource> Book<R> {
     pub fn next(&mut self, leaf: Key, value: i64) -> Result<u64, Refusal>
         ensures { AnswersPlaceOrWant self.old (next_request self.old leaf value) self.new result }
     {
-        let key = tree_key(leaf);
-        let reach = self.ground.route(key, value)?;
-        self.ground.make_room(Wanted {
-            events: reach.events,
-            notes: reach.notes,
-            nodes: 0,
-            resources: 0,
-            hubs: 0,
-            leases: 0,
-        })?;
-        self.ground.promise();
+        admit(&mut self.ground, Wish::Emit(leaf, value))?;
         let place = self.ground.len();
-        self.ground.write_item(key, value);
+        self.ground.write_item(tree_key(leaf), value);
         self.ground.settle();
         Ok(place)
     }
@@ -46,15 +37,7 @@ impl<R: Resource> Book<R> {
     pub fn end(&mut self, leaf: Key, terminal: Terminal) -> Result<u64, Refusal>
         ensures { AnswersPlace self.old (end_request self.old leaf terminal) self.new result }
     {
-        let key = tree_key(leaf);
-        self.ground.promise();
-        if let Some(why) = self.ground.ending_cause(key, terminal) {
-            return Err(why);
-        }
-        let place = self.ground.len();
-        self.ground.write_end(key, terminal);
-        self.ground.settle();
-        Ok(place)
+        self.answer_place(Asked::End(leaf, terminal))
     }
 
     /// Ends a node that is no leaf with an error (OnError), as an operator that fails does, and after it
@@ -65,15 +48,7 @@ impl<R: Resource> Book<R> {
     pub fn abort(&mut self, node: Key, code: u32) -> Result<u64, Refusal>
         ensures { AnswersPlace self.old (abort_request self.old node code) self.new result }
     {
-        let key = tree_key(node);
-        self.ground.promise();
-        if let Some(why) = self.ground.aborting_cause(key, code) {
-            return Err(why);
-        }
-        let place = self.ground.len();
-        self.ground.write_end(key, Terminal::Error(code));
-        self.ground.settle();
-        Ok(place)
+        self.answer_place(Asked::Abort(node, code))
     }
 
     /// Declines an item that was projected to a FlatMap or a Switch: it gets no inner observable (that a
@@ -84,15 +59,7 @@ impl<R: Resource> Book<R> {
     pub fn decline(&mut self, merging: Key) -> Result<u64, Refusal>
         ensures { AnswersPlace self.old (decline_request self.old merging) self.new result }
     {
-        let key = tree_key(merging);
-        self.ground.promise();
-        if let Some(why) = self.ground.declining_cause(key) {
-            return Err(why);
-        }
-        let place = self.ground.len();
-        self.ground.write_decline(key);
-        self.ground.settle();
-        Ok(place)
+        self.answer_place(Asked::Decline(merging))
     }
 
     /// Ends a FlatMap or a Switch with an error, as where an item that was projected to it gives no
@@ -104,16 +71,7 @@ impl<R: Resource> Book<R> {
     pub fn fail(&mut self, merging: Key, code: u32) -> Result<u64, Refusal>
         ensures { AnswersPlace self.old (fail_request self.old merging code) self.new result }
     {
-        let key = tree_key(merging);
-        self.ground.promise();
-        if let Some(why) = self.ground.failing_cause(key, code) {
-            return Err(why);
-        }
-        let place = self.ground.len();
-        let failure = Terminal::Error(code);
-        self.ground.write_end(key, failure);
-        self.ground.settle();
-        Ok(place)
+        self.answer_place(Asked::Fail(merging, code))
     }
 
     /// Unsubscribes a root, and closes all below it, the inners of a FlatMap or a Switch too; what these
@@ -123,14 +81,6 @@ impl<R: Resource> Book<R> {
     pub fn dispose(&mut self, root: Key) -> Result<u64, Refusal>
         ensures { AnswersPlace self.old (dispose_request self.old root) self.new result }
     {
-        let key = tree_key(root);
-        self.ground.promise();
-        if let Some(why) = self.ground.disposing_cause(key) {
-            return Err(why);
-        }
-        let place = self.ground.len();
-        self.ground.write_close(key);
-        self.ground.settle();
-        Ok(place)
+        self.answer_place(Asked::Dispose(root))
     }
 }

@@ -5,11 +5,11 @@ ghost use Rattle.rx_book.specs.Requests.{is_fresh_in, hold_request, apply_reques
 ghost use Rattle.rx_book.specs.Answers.{AnswersPlace, AnswersWord, AnswersResKey, AnswersHanded};
 
 use crate::Book;
-use crate::admit::admit;
+use crate::admit::{Wish, admit};
 use crate::answer::Refused;
+use crate::asked::Asked;
 use crate::key::{Key, ResKey, shown_res_key, tree_key, tree_res_key};
 use rx_event::Refusal;
-use rx_ground::Wanted;
 use rx_resource::{Handed, Life, Resource};
 
 /// Whether a resource was neither released nor used.
@@ -29,24 +29,13 @@ impl<R: Resource> Book<R> {
     {
         let tag = resource.tag();
         let fresh = is_fresh(&resource);
-        let key = tree_key(node);
-        let cause = self.ground.holding_cause(key, tag, fresh);
-        let wanted = Wanted {
-            events: 3,
-            notes: 0,
-            nodes: 0,
-            resources: 1,
-            hubs: 0,
-            leases: 0,
-        };
-        if let Err(why) = admit(&mut self.ground, cause, wanted) {
+        if let Err(why) = admit(&mut self.ground, Wish::Hold(node, tag, fresh)) {
             return Err(Refused {
                 why,
                 back: resource,
             });
         }
-        self.ground.promise();
-        let res = self.ground.write_accept(key, resource);
+        let res = self.ground.write_accept(tree_key(node), resource);
         self.ground.settle();
         Ok(shown_res_key(res))
     }
@@ -58,19 +47,8 @@ impl<R: Resource> Book<R> {
     pub fn apply(&mut self, res: ResKey, word: u64) -> Result<u64, Refusal>
         ensures { AnswersWord self.old (apply_request self.old res) self.new result }
     {
-        let key = tree_res_key(res);
-        let cause = self.ground.applying_cause(key);
-        let wanted = Wanted {
-            events: 1,
-            notes: 0,
-            nodes: 0,
-            resources: 0,
-            hubs: 0,
-            leases: 0,
-        };
-        admit(&mut self.ground, cause, wanted)?;
-        self.ground.promise();
-        let answer = self.ground.write_use(key, word);
+        admit(&mut self.ground, Wish::Apply(res))?;
+        let answer = self.ground.write_use(tree_res_key(res), word);
         self.ground.settle();
         Ok(answer)
     }
@@ -81,15 +59,7 @@ impl<R: Resource> Book<R> {
     pub fn remove(&mut self, res: ResKey) -> Result<u64, Refusal>
         ensures { AnswersPlace self.old (remove_request self.old res) self.new result }
     {
-        let key = tree_res_key(res);
-        self.ground.promise();
-        if let Some(why) = self.ground.removing_cause(key) {
-            return Err(why);
-        }
-        let place = self.ground.len();
-        self.ground.write_remove(key);
-        self.ground.settle();
-        Ok(place)
+        self.answer_place(Asked::Remove(res))
     }
 
     /// Hands out a resource that waits, for its release; which one is free. None exactly where

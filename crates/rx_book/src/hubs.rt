@@ -8,10 +8,10 @@ ghost use Rattle.rx_book.specs.Requests.{hub_request, connect_request, disconnec
 ghost use Rattle.rx_book.specs.Answers.{AnswersKey, AnswersPlace, AnswersPlaceOrWant};
 
 use crate::Book;
-use crate::admit::admit;
+use crate::admit::{Wish, admit};
+use crate::asked::Asked;
 use crate::key::{Key, shown_key};
 use rx_event::{Mode, Refusal};
-use rx_ground::Wanted;
 use rx_resource::Resource;
 
 impl<R: Resource> Book<R> {
@@ -22,17 +22,7 @@ impl<R: Resource> Book<R> {
     pub fn hub(&mut self, mode: Mode) -> Result<u64, Refusal>
         ensures { AnswersPlaceOrWant self.old (hub_request mode) self.new result }
     {
-        let cause = self.ground.publishing_cause(mode);
-        let wanted = Wanted {
-            events: 1,
-            notes: 0,
-            nodes: 0,
-            resources: 0,
-            hubs: 1,
-            leases: 0,
-        };
-        admit(&mut self.ground, cause, wanted)?;
-        self.ground.promise();
+        admit(&mut self.ground, Wish::Publish(mode))?;
         let number = self.ground.write_hub(mode);
         self.ground.settle();
         Ok(number)
@@ -46,17 +36,7 @@ impl<R: Resource> Book<R> {
     pub fn connect(&mut self, hub: u64) -> Result<Key, Refusal>
         ensures { AnswersKey self.old (connect_request hub) self.new result }
     {
-        let cause = self.ground.connecting_cause(hub);
-        let wanted = Wanted {
-            events: 2,
-            notes: 1,
-            nodes: 1,
-            resources: 0,
-            hubs: 0,
-            leases: 0,
-        };
-        admit(&mut self.ground, cause, wanted)?;
-        self.ground.promise();
+        admit(&mut self.ground, Wish::Connect(hub))?;
         let key = self.ground.write_connect(hub);
         self.ground.settle();
         Ok(shown_key(key))
@@ -69,17 +49,7 @@ impl<R: Resource> Book<R> {
     pub fn disconnect(&mut self, hub: u64) -> Result<u64, Refusal>
         ensures { AnswersPlace self.old (disconnect_request hub) self.new result }
     {
-        self.ground.promise();
-        if let Some(why) = self.ground.disconnecting_cause(hub) {
-            return Err(why);
-        }
-        let Some(connection) = self.ground.connection(hub) else {
-            unreachable!()
-        };
-        let place = self.ground.len();
-        self.ground.write_close(connection);
-        self.ground.settle();
-        Ok(place)
+        self.answer_place(Asked::Disconnect(hub))
     }
 
     /// The least number of a hub that was connected by hand and is connected still; None where there is

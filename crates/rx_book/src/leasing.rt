@@ -4,10 +4,10 @@ ghost use Rattle.rx_book.specs.Requests.{lease_request, give_back_request};
 ghost use Rattle.rx_book.specs.Answers.{AnswersLeaseKey, AnswersPlace};
 
 use crate::Book;
-use crate::admit::admit;
-use crate::key::{LeaseKey, ResKey, ground_lease_key, shown_lease_key, tree_res_key};
+use crate::admit::{Wish, admit};
+use crate::asked::Asked;
+use crate::key::{LeaseKey, ResKey, shown_lease_key, tree_res_key};
 use rx_event::Refusal;
-use rx_ground::Wanted;
 use rx_resource::Resource;
 
 impl<R: Resource> Book<R> {
@@ -19,19 +19,8 @@ impl<R: Resource> Book<R> {
     pub fn lease(&mut self, res: ResKey) -> Result<LeaseKey, Refusal>
         ensures { AnswersLeaseKey self.old (lease_request self.old res) self.new result }
     {
-        let key = tree_res_key(res);
-        let cause = self.ground.leasing_cause(key);
-        let wanted = Wanted {
-            events: 2,
-            notes: 0,
-            nodes: 0,
-            resources: 0,
-            hubs: 0,
-            leases: 1,
-        };
-        admit(&mut self.ground, cause, wanted)?;
-        self.ground.promise();
-        let lease = self.ground.write_lease(key);
+        admit(&mut self.ground, Wish::Lease(res))?;
+        let lease = self.ground.write_lease(tree_res_key(res));
         self.ground.settle();
         Ok(shown_lease_key(lease))
     }
@@ -42,14 +31,6 @@ impl<R: Resource> Book<R> {
     pub fn give_back(&mut self, lease: LeaseKey) -> Result<u64, Refusal>
         ensures { AnswersPlace self.old (give_back_request self.old lease) self.new result }
     {
-        let key = ground_lease_key(lease);
-        self.ground.promise();
-        if let Some(why) = self.ground.returning_cause(key) {
-            return Err(why);
-        }
-        let place = self.ground.len();
-        self.ground.write_return(key);
-        self.ground.settle();
-        Ok(place)
+        self.answer_place(Asked::GiveBack(lease))
     }
 }

@@ -66,6 +66,7 @@
 
 mod admit;
 mod answer;
+mod asked;
 mod book;
 mod checkpoint;
 mod closing;

@@ -9,13 +9,12 @@ ghost use Rattle.rx_book.specs.Requests.{open_request, using_request};
 ghost use Rattle.rx_book.specs.Answers.{AnswersOpened, AnswersOpenedUsing};
 
 use crate::Book;
-use crate::admit::admit;
+use crate::admit::{Wish, admit};
 use crate::answer::{At, Opened, OpenedUsing, Refused};
 use crate::holding::is_fresh;
 use crate::key::{Key, shown_key, shown_res_key};
 use crate::place::spot_of;
 use rx_event::{Kind, Refusal};
-use rx_ground::{Wanted, end_at};
 use rx_resource::Resource;
 
 impl<R: Resource> Book<R> {
@@ -34,20 +33,9 @@ impl<R: Resource> Book<R> {
     pub fn open(&mut self, at: At, kind: Kind) -> Result<Opened, Refusal>
         ensures { AnswersOpened self.old (open_request self.old at kind) self.new result }
     {
+        admit(&mut self.ground, Wish::Open(at, kind))?;
         let spot = spot_of(at);
-        let cause = self.ground.opening_cause(spot.place, spot.above, kind);
         let connects = self.ground.forces_connect(kind);
-        let nodes = self.ground.nodes_opened(kind);
-        let wanted = Wanted {
-            events: self.ground.added_by_opening(spot.place, kind),
-            notes: nodes,
-            nodes: nodes as usize,
-            resources: 0,
-            hubs: 0,
-            leases: 0,
-        };
-        admit(&mut self.ground, cause, wanted)?;
-        self.ground.promise();
         let key = self.ground.write_open(spot.place, kind, spot.above);
         self.ground.settle();
         Ok(Opened {
@@ -83,24 +71,13 @@ impl<R: Resource> Book<R> {
     {
         let tag = resource.tag();
         let fresh = is_fresh(&resource);
-        let spot = spot_of(at);
-        let cause = self.ground.using_cause(spot.place, spot.above, tag, fresh);
-        let end = end_at(spot.place);
-        let wanted = Wanted {
-            events: 4 + end,
-            notes: 1,
-            nodes: 1,
-            resources: 1,
-            hubs: 0,
-            leases: 0,
-        };
-        if let Err(why) = admit(&mut self.ground, cause, wanted) {
+        if let Err(why) = admit(&mut self.ground, Wish::OpenUsing(at, tag, fresh)) {
             return Err(Refused {
                 why,
                 back: resource,
             });
         }
-        self.ground.promise();
+        let spot = spot_of(at);
         let node = self.ground.write_open(spot.place, Kind::Pass, spot.above);
         let res = self.ground.write_accept(node, resource);
         self.ground.settle();

@@ -8,17 +8,24 @@ use std::test::Fail;
 
 // A subscription with a resource, from its beginning to its end.
 const FIRST_RUN: &str =
-    "{\"steps\":[{\"do\":\"using\",\"name\":\"a\",\"place\":\"root\",\"res\":\"r\"},{\"do\":\"open\",\"name\":\"b\",\"place\":\"source\",\"of\":\"a\",\"kind\":\"leaf\"},{\"do\":\"next\",\"node\":\"b\",\"value\":5},{\"do\":\"end\",\"node\":\"b\"},{\"do\":\"next\",\"node\":\"b\",\"value\":6},{\"do\":\"drain\"}]}";
+    "{\"steps\":[{\"do\":\"using\",\"name\":\"a\",\"place\":\"root\",\"res\":\"r\"},\
+        {\"do\":\"open\",\"name\":\"b\",\"place\":\"source\",\"of\":\"a\",\"kind\":\"leaf\"},\
+        {\"do\":\"next\",\"node\":\"b\",\"value\":5},{\"do\":\"end\",\"node\":\"b\"},\
+        {\"do\":\"next\",\"node\":\"b\",\"value\":6},{\"do\":\"drain\"}]}";
 
 const FIRST_REPORT: &str =
     "refused 4 Gone\nnode a closed: next=5 completed\nres r tag=0 uses=0 taken\ntotals nodes=2 open=0 accepted=1 held=0 waiting=0 taken=1\nclosed 0 faults 0\n";
 
 // A subscription with five resources, to the last but one of which a release is a fault.
 const FAULTY_RUN: &str =
-    "{\"steps\":[{\"do\":\"using\",\"name\":\"a\",\"place\":\"root\",\"res\":\"p\"},{\"do\":\"hold\",\"node\":\"a\",\"res\":\"q\"},{\"do\":\"hold\",\"node\":\"a\",\"res\":\"r\"},{\"do\":\"hold\",\"node\":\"a\",\"res\":\"s\"},{\"do\":\"hold\",\"node\":\"a\",\"res\":\"t\"}]}";
+    "{\"steps\":[{\"do\":\"using\",\"name\":\"a\",\"place\":\"root\",\"res\":\"p\"},\
+        {\"do\":\"hold\",\"node\":\"a\",\"res\":\"q\"},{\"do\":\"hold\",\"node\":\"a\",\"res\":\"r\"},\
+        {\"do\":\"hold\",\"node\":\"a\",\"res\":\"s\"},{\"do\":\"hold\",\"node\":\"a\",\"res\":\"t\"}]}";
 
 const FAULTY_REPORT: &str =
-    "node a open:\nres p tag=0 uses=0 held\nres q tag=1 uses=0 held\nres r tag=2 uses=0 held\nres s tag=3 uses=0 held\nres t tag=4 uses=0 held\ntotals nodes=1 open=1 accepted=5 held=5 waiting=0 taken=0\nclosed 5 faults 1\n";
+    "node a open:\nres p tag=0 uses=0 held\nres q tag=1 uses=0 held\nres r tag=2 uses=0 held\n\
+        res s tag=3 uses=0 held\nres t tag=4 uses=0 held\n\
+        totals nodes=1 open=1 accepted=5 held=5 waiting=0 taken=0\nclosed 5 faults 1\n";
 
 const FIRST_VERDICT: &str = "lawful\nlive:\nheld:\nwaiting:\n";
 

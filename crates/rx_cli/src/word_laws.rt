@@ -12,7 +12,6 @@ ghost use Rattle.rx_cli.specs.Words.{questions, answers, file_words, refusals_of
 /// orders a dump, and with the word `audit` an audit. With the word `storm` it orders a storm of 4 sources,
 /// 3 workers and 100 items, or of the numbers that its options give; one beyond its range is refused. The
 /// words `--help` and `--version` ask for help and for the version, and the name of a file is refused.
-#[tactic(auto, using(crate::proofs::Literals::alone, crate::proofs::Literals::with_run, crate::proofs::Literals::with_dump, crate::proofs::Literals::with_audit, crate::proofs::Literals::with_storm, crate::proofs::Literals::with_greatest, crate::proofs::Literals::beyond, crate::proofs::Literals::with_help, crate::proofs::Literals::with_files))]
 pub fn words_have_their_orders()
     ensures alone { Orders (codes "rxbook" ∷ []) (Order.Run Form.Report) }
     ensures with_run { Orders (codes "rxbook" ∷ codes "run" ∷ []) (Order.Run Form.Report) }

@@ -25,7 +25,8 @@ pub same_sums : (a b : Sums) → a.items ≡ b.items → a.accepted ≡ b.accept
 same_sums a b i j k = rw (i, j, k) refl
 
 sums-push : (base : Kept) → (h : List Event) (e : Event) → sums_of base (h ++ e ∷ []) ≡ counts e (sums_of base h)
-sums-push base h e = same_sums (sums_of base (h ++ e ∷ [])) (counts e (sums_of base h)) (item_count-push base h e) (accepted_count-push base h e) (taken_count-push base h e)
+sums-push base h e =
+    same_sums (sums_of base (h ++ e ∷ [])) (counts e (sums_of base h)) (item_count-push base h e) (accepted_count-push base h e) (taken_count-push base h e)
 
 plain : (e : Event) (s : Sums) → is_item e ≡ false → makes_resource e ≡ false → is_take e ≡ false → counts e s ≡ s
 plain e s i a k = same_sums (counts e s) s (rw i (omega arith)) (rw a (omega arith)) (rw k (omega arith))
@@ -48,7 +49,8 @@ counts_none (Take r) s m = cc
 -- what is forced counts nothing
 sums-forced : (base : Kept) → {h k : List Event} → IsForcedOn base h k → sums_of base k ≡ sums_of base h
 sums-forced base stays = refl
-sums-forced base (more {h} {k} {e} before is_forced) = sums-push base k e ∙ counts_none e (sums_of base k) (forced_kind base is_forced) ∙ sums-forced base before
+sums-forced base (more {h} {k} {e} before is_forced) =
+    sums-push base k e ∙ counts_none e (sums_of base k) (forced_kind base is_forced) ∙ sums-forced base before
 
 one_more : (base : Kept) → (h : List Event) (e : Event) (s : Sums) → counts e (sums_of base h) ≡ s → sums_of base (h ++ e ∷ []) ≡ s
 one_more base h e s counted = sums-push base h e ∙ counted
@@ -62,7 +64,8 @@ sums-closed base h (c ∷ cs) =
 sums-outside : (base : Kept) → (h : List Event) (call : Call) → sums_of base (h ++ outside_of h call) ≡ counting call (sums_of base h)
 sums-outside base h (Opening place kind) = one_more base h (Open place kind) (sums_of base h) (plain (Open place kind) (sums_of base h) refl refl refl)
 sums-outside base h (OpeningUsing place tag) =
-    let opened : sums_of base (h ++ Open place Pass ∷ []) ≡ sums_of base h = one_more base h (Open place Pass) (sums_of base h) (plain (Open place Pass) (sums_of base h) refl refl refl) in
+    let opened : sums_of base (h ++ Open place Pass ∷ []) ≡ sums_of base h =
+    one_more base h (Open place Pass) (sums_of base h) (plain (Open place Pass) (sums_of base h) refl refl refl) in
     let accept = Accept (length h) tag in
     let both : h ++ Open place Pass ∷ accept ∷ [] ≡ (h ++ Open place Pass ∷ []) ++ accept ∷ [] = sym (append_assoc h (Open place Pass ∷ []) (accept ∷ [])) in
     ap (sums_of base) both ∙ sums-push base (h ++ Open place Pass ∷ []) accept ∙ ap (counts accept) opened

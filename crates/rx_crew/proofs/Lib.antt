@@ -3,4 +3,3 @@ mod Ties
 mod Pulls
 mod Taken
 pub mod Laws
-pub mod Countable

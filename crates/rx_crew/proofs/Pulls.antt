@@ -1,5 +1,6 @@
 -- One pull more.
-use Rattle.std.proofs.Common.{◌≡◌, ℕ, zero, suc, ◌+◌, ◌<◌, IsTrue, true, false, List, [], ◌∷◌, ◌++◌, length, take, drop, refl, sym, ap, ◌∙◌, arith, add-one, Some, None}
+use Rattle.std.proofs.Common.{◌≡◌, ℕ, zero, suc, ◌+◌, ◌<◌, IsTrue, true, false, List, [], ◌∷◌}
+use Rattle.std.proofs.Common.{◌++◌, length, take, drop, refl, sym, ap, ◌∙◌, arith, add-one, Some, None}
 use Rattle.std.proofs.lemmas.Bool.{false≢true}
 use Rattle.std.proofs.lemmas.List.{map-append, length-append, length-drop}
 use Rattle.std.proofs.lemmas.List.Sums.{sum_by_push}
@@ -55,7 +56,8 @@ item_or_none leaf (PullItem v) = refl
 item_or_none leaf (PullDone t) = refl
 
 -- the count of the items among the receipts
-items-push : (leaf : ℕ) (p : Pull) (receipts : List Receipt) (r : Receipt) → r.event ≡ event_of leaf p → items_in (receipts ++ r ∷ []) ≡ items_in receipts + items_of p
+items-push : (leaf : ℕ) (p : Pull) (receipts : List Receipt) (r : Receipt)
+    → r.event ≡ event_of leaf p → items_in (receipts ++ r ∷ []) ≡ items_in receipts + items_of p
 items-push leaf p receipts r is =
     sum_by_push (λ (r : Receipt). cond (is_item r.event) 1 0) receipts r
     ∙ ap (λ (n : ℕ). items_in receipts + n) (ap (λ (e : Event). cond (is_item e) 1 0) is ∙ sym (item_or_none leaf p))

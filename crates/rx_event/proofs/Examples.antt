@@ -2,8 +2,8 @@ pub mod Using
 pub mod FlatMap
 pub mod Switch
 pub mod TakeUntil
-pub mod Hubs
+pub mod RefCount
 pub mod Marking
 pub mod Orders
-pub mod Bases
-pub mod Leases
+pub mod KeptInBase
+pub mod LeaseAfterDisposal

@@ -62,7 +62,8 @@ may_abort _ = false
 
 -- a caller's event may come next
 pub data IsAllowed (b : Kept) (h : List Event) : Event → Type 0 where
-  opened : {place : Place} {kind : Kind} → IsFree b h place → IsHubbed h place kind → length (open_nodes h) + 1 ≤ most_nodes → ((g : ℕ) → IsConnectDue (h ++ Open place kind ∷ []) g → length (open_nodes h) + 2 ≤ most_nodes) → IsAllowed b h (Open place kind)
+  opened : {place : Place} {kind : Kind} → IsFree b h place → IsHubbed h place kind → length (open_nodes h) + 1 ≤ most_nodes →
+      ((g : ℕ) → IsConnectDue (h ++ Open place kind ∷ []) g → length (open_nodes h) + 2 ≤ most_nodes) → IsAllowed b h (Open place kind)
   published : {mode : Mode} → length (hubs h) < most_hubs → IsAllowed b h (Hub mode)
   connected : {g : ℕ} → IsTrue (at is_manual_hub h g) → open_connections h g ≡ [] → length (open_nodes h) < most_nodes → IsAllowed b h (Connect g)
   accepted : {n tag : ℕ} → IsTrue (is_open h n) → IsAllowed b h (Accept n tag)
@@ -73,7 +74,8 @@ pub data IsAllowed (b : Kept) (h : List Event) : Event → Type 0 where
   emitted : {l : ℕ} {value : ℤ} → IsTrue (is_open h l) → IsTrue (at is_leaf h l) → visits h l ≤ most_visits → IsAllowed b h (Item l value)
   declined : {f : ℕ} → IsTrue (is_open h f) → IsTrue (at is_merging h f) → 0 < owed b h f → IsAllowed b h (Decline f)
   leaf_ended : {l : ℕ} {t : Terminal} → IsTrue (is_open h l) → IsTrue (at is_leaf h l) → IsAllowed b h (End l t)
-  aborted : {n c : ℕ} → IsTrue (is_open h n) → IsTrue (at may_abort h n) → ((d : ℕ) → parent h d ≡ Some n → is_open h d ≡ false) → IsAllowed b h (End n (Error c))
+  aborted : {n c : ℕ} → IsTrue (is_open h n) → IsTrue (at may_abort h n) → ((d : ℕ) → parent h d ≡ Some n → is_open h d ≡ false) →
+      IsAllowed b h (End n (Error c))
   projection_failed : {f c : ℕ} → IsTrue (is_open h f) → IsTrue (at is_merging h f) → 0 < owed b h f → IsAllowed b h (End f (Error c))
   root_closed : {n : ℕ} → IsTrue (is_open h n) → IsTrue (at is_root h n) → IsAllowed b h (Close n)
   disconnected : {c g : ℕ} → IsTrue (is_open h c) → slice_get h c ≡ Some (Connect g) → IsTrue (at is_manual_hub h g) → IsAllowed b h (Close c)

@@ -57,9 +57,13 @@ gives base h Joining n = if at is_auto_hub h n && list_any (waits_at h n) (place
 gives base h Mirroring n = if is_open h n && at is_mirroring h n then option_map (λ t. End n t) (child_terminal h n) else None
 gives base h Firing n = if is_open h n && at is_until h n && is_fired h n then Some (End n Completed) else None
 gives base h Failing n = if is_open h n && at is_merging h n then option_map (λ t. End n t) (child_terminal h n) else None
-gives base h Completing n = if is_open h n && at is_merging h n && is_nothing (child_terminal h n) && is_over (marks_of base h n) then Some (End n Completed) else None
+gives base h Completing n =
+    if is_open h n && at is_merging h n && is_nothing (child_terminal h n) && is_over (marks_of base h n) then Some (End n Completed) else None
 gives base h Cutting n = if is_open h n then option_map (λ t. End n t) (source_end h n) else None
-gives base h Leaving n = if is_open h n && option_map_or (λ g. at is_auto_hub h g && is_nil (open_subscribers h g)) (option_and_then hub_connected (slice_get h n)) false then Some (Close n) else None
+gives base h Leaving n =
+    if is_open h n && option_map_or (λ g. at is_auto_hub h g && is_nil (open_subscribers h g)) (option_and_then hub_connected (slice_get h n)) false
+    then Some (Close n)
+    else None
 
 -- the first that is given, if anything is forced
 unfoldable pub first_forced : (base : Kept) → List Event → Option Event

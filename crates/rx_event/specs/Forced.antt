@@ -41,7 +41,8 @@ pub data IsDue (b : Kept) (h : List Event) : Event → Type 0 where
   -- FlatMap, Switch: the source or an inner failed
   failed : {f c : ℕ} → IsTrue (is_open h f) → IsTrue (at is_merging h f) → ChildEnded h f (Error c) → IsDue b h (End f (Error c))
   -- FlatMap, Switch: nothing failed, the source has completed, no child is open, and nothing is owed
-  completed : {f : ℕ} → IsTrue (is_open h f) → IsTrue (at is_merging h f) → ((c : ℕ) → ¬ ChildEnded h f (Error c)) → IsTrue (source_completed b h f) → ((c : ℕ) → parent h c ≡ Some f → is_open h c ≡ false) → owed b h f ≡ 0 → IsDue b h (End f Completed)
+  completed : {f : ℕ} → IsTrue (is_open h f) → IsTrue (at is_merging h f) → ((c : ℕ) → ¬ ChildEnded h f (Error c)) → IsTrue (source_completed b h f) →
+      ((c : ℕ) → parent h c ≡ Some f → is_open h c ≡ false) → owed b h f ≡ 0 → IsDue b h (End f Completed)
   -- Publish: the connection that a subscriber had ended
   cut : {s : ℕ} {t : Terminal} → IsTrue (is_open h s) → SourceEnded h s t → IsDue b h (End s t)
   -- RefCount: the last subscriber has gone

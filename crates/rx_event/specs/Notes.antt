@@ -20,7 +20,8 @@ told place value (Firing u) = None
 -- what an event after this history tells: an item its stops, the end of a root that end
 abbrev pub mail_of : List Event → Event → List Mail
 mail_of before (Item leaf value) = filter_map (told (length before) value) (stops before leaf)
-mail_of before (End n t) = if at is_root before n then (record { place = length before; to = n; note = Rattle.rx_note.specs.declared.note.Note.TheVariants.End t }) ∷ [] else []
+mail_of before (End n t) =
+    if at is_root before n then (record { place = length before; to = n; note = Rattle.rx_note.specs.declared.note.Note.TheVariants.End t }) ∷ [] else []
 mail_of before _ = []
 
 -- all that was told, by place

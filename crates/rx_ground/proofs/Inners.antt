@@ -48,7 +48,8 @@ child_of_switch base h law f n switch below = by_event e.0 e.1 (parent_name h n 
   by_event (Open (Notifier q) kind) at_n named = absurd (no_until (slice_get h f) switch (ap (at is_until h) (sym (same_Some q f named)) ∙ notifier_stands base h law n q kind at_n))
   by_event _ at_n named = absurd (none-some f named)
 
-module _ (base : Kept) (h : List Event) (law : IsLawful base h) (nodes : Slots Node) (chain : List Key) (r : AreRecords base h nodes chain) (switch : Key) (there : IsSome (find nodes switch)) (switches : at is_switch h switch.number ≡ true) where
+module _ (base : Kept) (h : List Event) (law : IsLawful base h) (nodes : Slots Node) (chain : List Key) (r : AreRecords base h nodes chain)
+    (switch : Key) (there : IsSome (find nodes switch)) (switches : at is_switch h switch.number ≡ true) where
   -- a child of the tree stands there in the history, at one of the two places
   child_place : (key : Key) → IsChild nodes switch key → (at (is_source_of switch.number) h key.number ≡ true) ⊎ (at (is_inner_of switch.number) h key.number ≡ true)
   child_place key child =
@@ -137,7 +138,9 @@ made_found None made read = absurd (none-some made read)
 made_found (Some x) made read = (x, refl, same_Some x.made made read)
 
 -- where the node above is no Switch, nothing is replaced
-pub no_switch : (base : Kept) → (h : List Event) (nodes : Slots Node) (chain : List Key) (r : AreRecords base h nodes chain) (place : Place) (above : Option Key) (merging : Key) (made : Event) → named_by place ≡ option_map (λ k. k.number) above → above ≡ Some merging → option_map (λ (x : Node). x.made) (find nodes merging) ≡ Some made → false ≡ is_switch made → ReplacesNone h place
+pub no_switch : (base : Kept) → (h : List Event) (nodes : Slots Node) (chain : List Key) (r : AreRecords base h nodes chain) (place : Place)
+    (above : Option Key) (merging : Key) (made : Event) → named_by place ≡ option_map (λ k. k.number) above → above ≡ Some merging →
+    option_map (λ (x : Node). x.made) (find nodes merging) ≡ Some made → false ≡ is_switch made → ReplacesNone h place
 no_switch base h nodes chain r place above merging made named at_above read flat f inner switch =
     let x = made_found (find nodes merging) made read in
     let same : f ≡ merging.number = same_Some f merging.number (sym (ap named_by inner) ∙ named ∙ ap (option_map (λ (k : Key). k.number)) at_above) in

@@ -9,11 +9,14 @@ pub mod Written
 pub mod Memory
 pub mod HeldKept
 pub mod Newest
+pub mod NodeEnds
 pub mod Settling
 pub mod Inners
-pub mod Exchanged
+pub mod ReadyToOpen
 pub mod Joined
 pub mod Published
+pub mod HubsAtOpening
+pub mod RoomAtOpening
 pub mod Connections
 pub mod Taking
 pub mod Told

@@ -39,7 +39,10 @@ module _ {X : Type 0} where
   stands_from first [] k c = absurd (Contains-none k c)
   stands_from first (None ∷ es) k c = let r = stands_from (suc first) es k c in (suc r.0, (let e = r.1 in omega arith), r.2)
   stands_from first (Some e ∷ es) k c = by_place (stands_from (suc first) es k) (Contains-cases (record { key = record { slot = first; number = e.number }; value = e.value }) (kept_from (suc first) es) k c) where
-    by_place : (Contains (kept_from (suc first) es) k → (i : ℕ) × (k.key.slot ≡ suc first + i) × (get_or es i None ≡ Some (entry_of k.key.number k.value))) → ((let here : Kept X = record { key = record { slot = first; number = e.number }; value = e.value } in here) ≡ k) ⊎ Contains (kept_from (suc first) es) k → (i : ℕ) × (k.key.slot ≡ first + i) × (get_or (Some e ∷ es) i None ≡ Some (entry_of k.key.number k.value))
+    by_place : (Contains (kept_from (suc first) es) k → (i : ℕ) × (k.key.slot ≡ suc first + i) ×
+        (get_or es i None ≡ Some (entry_of k.key.number k.value))) →
+        ((let here : Kept X = record { key = record { slot = first; number = e.number }; value = e.value } in here) ≡ k) ⊎
+        Contains (kept_from (suc first) es) k → (i : ℕ) × (k.key.slot ≡ first + i) × (get_or (Some e ∷ es) i None ≡ Some (entry_of k.key.number k.value))
     by_place rest (inl same) = (0, (let s = ap (λ (j : Kept X). j.key.slot) same in omega arith), ap (λ (j : Kept X). Some (entry_of j.key.number j.value)) same)
     by_place rest (inr later) = let r = rest later in (suc r.0, (let s = r.1 in omega arith), r.2)
 
@@ -48,8 +51,15 @@ module _ {X : Type 0} where
   listed_from first (None ∷ es) zero e at = absurd (none-some e at)
   listed_from first (None ∷ es) (suc i) e at = subst (λ (s : ℕ). Contains (kept_from (suc first) es) (record { key = record { slot = s; number = e.number }; value = e.value })) (omega arith) (listed_from (suc first) es i e at)
   listed_from first (Some d ∷ es) zero e at =
-      subst (λ (x : Entry X). Contains (kept_from first (Some d ∷ es)) (record { key = record { slot = first + 0; number = x.number }; value = x.value })) (same_Some d e at) (subst (λ (s : ℕ). Contains (kept_from first (Some d ∷ es)) (record { key = record { slot = s; number = d.number }; value = d.value })) (omega arith) (Contains-head _ (kept_from (suc first) es)))
-  listed_from first (Some d ∷ es) (suc i) e at = Contains-later _ (kept_from (suc first) es) _ (subst (λ (s : ℕ). Contains (kept_from (suc first) es) (record { key = record { slot = s; number = e.number }; value = e.value })) (omega arith) (listed_from (suc first) es i e at))
+      subst (λ (x : Entry X). Contains (kept_from first (Some d ∷ es)) (record {
+        key = record { slot = first + 0; number = x.number };
+        value = x.value;
+      })) (same_Some d e at)
+      (subst (λ (s : ℕ). Contains (kept_from first (Some d ∷ es)) (record { key = record { slot = s; number = d.number }; value = d.value }))
+      (omega arith) (Contains-head _ (kept_from (suc first) es)))
+  listed_from first (Some d ∷ es) (suc i) e at = Contains-later _ (kept_from (suc first) es) _
+      (subst (λ (s : ℕ). Contains (kept_from (suc first) es) (record { key = record { slot = s; number = e.number }; value = e.value })) (omega arith)
+      (listed_from (suc first) es i e at))
 
   module _ (slots : Slots X) where
     -- what is listed is found, and what is found is listed
@@ -60,6 +70,8 @@ module _ {X : Type 0} where
         found_entry slots k.key k.value (subst (λ (i : ℕ). get_or slots.entries i None ≡ Some (entry_of k.key.number k.value)) slot r.2)
 
     pub kept_listed : (key : Key) (x : X) → find slots key ≡ Some x → Contains (kept_in slots) (record { key = key; value = x })
-    kept_listed key x found = subst (λ (s : ℕ). Contains (kept_in slots) (record { key = record { slot = s; number = key.number }; value = x })) (none_before key.slot) (listed_from 0 slots.entries key.slot (entry_of key.number x) (entry_found slots key x found)) where
-      none_before : (n : ℕ) → 0 + n ≡ n
-      none_before n = omega arith
+    kept_listed key x found = subst (λ (s : ℕ). Contains (kept_in slots) (record { key = record { slot = s; number = key.number }; value = x }))
+        (none_before key.slot) (listed_from 0 slots.entries key.slot (entry_of key.number x) (entry_found slots key x found))
+      where
+        none_before : (n : ℕ) → 0 + n ≡ n
+        none_before n = omega arith

@@ -12,7 +12,11 @@ same_places {X = X} old new same = ap (λ (s : Slots X). s.count + s.room) same
 
 module _ {T : Type 0} where
   -- what was written takes the register's room, and the tree beside it keeps its own
-  pub written_memory : {old new : Ground T} (es : List Event) → Writes old.register es new.register → new.tree.nodes.count + new.tree.nodes.room ≡ old.tree.nodes.count + old.tree.nodes.room → new.tree.resources.count + new.tree.resources.room ≡ old.tree.resources.count + old.tree.resources.room → new.tree.nodes.count + new.space ≡ old.tree.nodes.count + old.space → length new.hubs.hubs + new.hubs.room ≡ length old.hubs.hubs + old.hubs.room → new.hubs.slots ≡ old.hubs.slots → TakesNoMemory old new
+  pub written_memory : {old new : Ground T} (es : List Event) → Writes old.register es new.register →
+      new.tree.nodes.count + new.tree.nodes.room ≡ old.tree.nodes.count + old.tree.nodes.room →
+      new.tree.resources.count + new.tree.resources.room ≡ old.tree.resources.count + old.tree.resources.room →
+      new.tree.nodes.count + new.space ≡ old.tree.nodes.count + old.space →
+      length new.hubs.hubs + new.hubs.room ≡ length old.hubs.hubs + old.hubs.room → new.hubs.slots ≡ old.hubs.slots → TakesNoMemory old new
   written_memory {old = old} {new = new} es w nodes resources closing hubs slots = record {
     events = let n = ap (λ (k : List Event). length k) w.history in let r = w.room in omega (arith, length-append old.register.history es);
     notes = let r = w.mail_room in omega arith;

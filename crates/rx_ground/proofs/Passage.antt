@@ -133,7 +133,9 @@ record IsFurther (base : Kept) {T : Type 0} (h : List Event) (done : List Number
   resources : new.resources ≡ old.resources
   owed : owed_in new.nodes ≡ owed_in old.nodes + owed_at stop
 
-module _ (base : Kept) {T : Type 0} (h : List Event) (done : List NumberedStop) (hubs : List Hub) (route : Route) (old new : Tree T) (passed : ArePassed base h done old.nodes old.chain) (apart : AreApart old.nodes) (ordered : IsOrdered old.nodes hubs) (under_way : IsUnderWay old.nodes hubs route) where
+module _ (base : Kept) {T : Type 0} (h : List Event) (done : List NumberedStop) (hubs : List Hub) (route : Route) (old new : Tree T)
+    (passed : ArePassed base h done old.nodes old.chain) (apart : AreApart old.nodes) (ordered : IsOrdered old.nodes hubs)
+    (under_way : IsUnderWay old.nodes hubs route) where
   further_told : (key : Key) → new ≡ old → IsFurther base h done hubs route (Delivery key) (DeliveryTo key.number) old new
   further_told key same = subst (λ (tree : Tree T). IsFurther base h done hubs route (Delivery key) (DeliveryTo key.number) old tree) (sym same) (record {
     records = passed_told base h done old.nodes old.chain key.number passed;

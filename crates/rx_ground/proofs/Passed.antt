@@ -1,7 +1,7 @@
 -- What an item leaves of the records, stop by stop.
 use Rattle.std.proofs.Common.{◌≡◌, ◌≢◌, ℕ, ℤ, true, false, cond, List, [], ◌∷◌, ◌++◌, Some, None, is_some, IsSome, option_map, slice_get}
 use Rattle.std.proofs.Common.{refl, sym, ap, ◌∙◌, inl, inr, ◌⊎◌}
-use Rattle.std.proofs.lemmas.Bool.{both_ways, eq-eqb, ne_eqb}
+use Rattle.std.proofs.lemmas.Bool.{eq-eqb, ne_eqb}
 use Rattle.std.proofs.lemmas.Option.{same_Some}
 use Rattle.rx_event.specs.Kept.{Kept}
 use Rattle.rx_resource.specs.declared.Resource.{Ghosts}
@@ -18,13 +18,13 @@ use Rattle.rx_event.proofs.Laws.MarksTouched.{marks-item_at}
 use Rattle.rx_slots.specs.declared.Key.{Key}
 use Rattle.rx_slots.specs.Slots.{Slots, find}
 use Rattle.rx_tree.specs.declared.node.Node.{Node}
-use Rattle.rx_tree.specs.Tree.{Tree, AreApart, Rewrites, with_marks, with_last, is_on}
+use Rattle.rx_tree.specs.Tree.{Tree, AreApart, Rewrites, with_marks, with_due, is_on}
 use Rattle.rx_tree.proofs.Laws.Keys.{cases_key, some_of}
 use Rattle.rx_hub.specs.Hubs.{Hubs}
 use Rattle.rx_ground.specs.Ties.{HasKey, AreRecords, AreTied}
 use Rattle.rx_ground.specs.Passing.{ArePassed}
 use Rattle.rx_ground.proofs.Published.{tied_on}
-use Rattle.rx_ground.proofs.Records.{on_last, off_last}
+use Rattle.rx_ground.proofs.Records.{undue, off_due}
 use Rattle.rx_ground.proofs.Stored.{all_stored}
 
 -- marks -------------------------------------------------------------------------------------------
@@ -78,7 +78,7 @@ passed_told base h done nodes chain root p = record {
 -- at one that changes those of one record
 pub passed_marked : (base : Kept) → (h : List Event) (done : List NumberedStop) (nodes new : Slots Node) (chain : List Key) (p : Key) (s : NumberedStop) (change : Marks → Marks) →
     ArePassed base h done nodes chain → AreApart nodes → IsSome (find nodes p) → Changes p.number s change →
-    Rewrites nodes new p (λ node. with_marks (change node.marks) node) → ArePassed base h (done ++ s ∷ []) new (with_last p chain)
+    Rewrites nodes new p (λ node. with_marks (change node.marks) node) → ArePassed base h (done ++ s ∷ []) new (with_due new p chain)
 passed_marked base h done nodes new chain p s change was apart there changes rewrites =
     record { made = made; alive = alive; marks = marks; every = every; quiet = quiet } where
       before : (x : Node) × (find nodes p ≡ Some x)
@@ -135,11 +135,13 @@ passed_marked base h done nodes new chain p s change was apart there changes rew
           by_cases (inl same) = record { key = p; value = after; found = here; numbered = sym (number has.key same) ∙ has.numbered }
           by_cases (inr differs) = record { key = has.key; value = has.value; found = rewrites.others has.key differs ∙ has.found; numbered = has.numbered }
 
-      quiet : (key : Key) (node : Node) → find new key ≡ Some node → is_on key (with_last p chain) ≡ false → due_at node.made node.marks key.number ≡ None
+      quiet : (key : Key) (node : Node) → find new key ≡ Some node → is_on key (with_due new p chain) ≡ false → due_at node.made node.marks key.number ≡ None
       quiet key node found off = by_key (cases_key key p) where
         by_key : (key ≡ p) ⊎ (key ≢ p) → due_at node.made node.marks key.number ≡ None
-        by_key (inl same) = absurd (both_ways (is_on p (with_last p chain)) (sym (ap (λ (k : Key). is_on k (with_last p chain)) same) ∙ off) (on_last p chain))
-        by_key (inr differs) = was.quiet key node (other key node differs found) (off_last key p chain off)
+        by_key (inl same) =
+            ap (λ (k : Key). due_at node.made node.marks k.number) same ∙
+            undue new p node chain (sym (ap (find new) same) ∙ found) (sym (ap (λ (k : Key). is_on k (with_due new p chain)) same) ∙ off)
+        by_key (inr differs) = was.quiet key node (other key node differs found) (off_due new key p chain off)
 
 -- and after the last, once the item is written
 pub passed_all : (base : Kept) → (h : List Event) (leaf : ℕ) (v : ℤ) (nodes : Slots Node) (chain : List Key) → IsLawful base h →

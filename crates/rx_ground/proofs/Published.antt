@@ -3,46 +3,40 @@ use Rattle.std.proofs.Common.{◌≡◌, ℕ, ◌+◌, ◌<◌, Bool, true, fals
 use Rattle.std.proofs.Common.{◌≢◌, is_some, nat_lt, IsTrue, IsSome, IfSome, IfNone, option_map, slice_get, refl, sym, ap, subst, ◌∙◌, inl, inr, ◌⊎◌, arith}
 use Rattle.std.specs.Option.{option_map_or, option_to_list}
 use Rattle.std.specs.List.{AllByRecursion, AllPairs, Contains}
-use Rattle.std.proofs.lemmas.Bool.{false≢true, cases_Bool, lt-ltb, ltb-true, ltb_from_iff}
+use Rattle.std.proofs.lemmas.Bool.{false≢true, lt-ltb, ltb-true, ltb_from_iff}
 use Rattle.std.proofs.lemmas.List.{length-map}
 use Rattle.std.proofs.lemmas.List.Sums.{length-filter}
 use Rattle.std.proofs.lemmas.Option.{slice_get_within, slice_get-get_or, get_or_from_slice_get}
 use Rattle.rx_event.specs.Kept.{Kept}
 use Rattle.rx_resource.specs.declared.Resource.{Ghosts}
 use Rattle.rx_event.specs.declared.event.Mode.{Mode}
-use Rattle.rx_event.specs.declared.event.Place.{Place}
-use Rattle.rx_event.specs.declared.event.Kind.{Kind}
-use Rattle.rx_event.specs.declared.event.Kind.TheVariants.{Sub}
 use Rattle.rx_event.specs.declared.event.Event.{Event}
-use Rattle.rx_event.specs.declared.event.Event.TheVariants.{Open, Hub as Publish, Connect}
+use Rattle.rx_event.specs.declared.event.Event.TheVariants.{Hub as Publish, Connect}
 use Rattle.rx_event.specs.declared.marks.Marks.{Marks}
 use Rattle.rx_event.specs.Events.{makes_hub, is_auto_hub}
 use Rattle.rx_event.specs.Allowed.{most_hubs}
 use Rattle.rx_event.specs.Lawful.{MayFollow, IsLawful}
 use Rattle.rx_event.specs.Tree.{at, places, hubs as hubs_in}
-use Rattle.rx_event.proofs.Laws.Openness.{shuts_none, is_open_within}
+use Rattle.rx_event.proofs.Laws.Openness.{shuts_none}
 use Rattle.rx_event.proofs.Laws.Places.{at_within}
 use Rattle.rx_slots.specs.declared.Key.{Key}
 use Rattle.rx_slots.specs.Slots.{Slots, find}
 use Rattle.rx_tree.specs.declared.node.Node.{Node}
-use Rattle.rx_tree.specs.Tree.{Tree, IsSound}
-use Rattle.rx_tree.proofs.Laws.Keys.{some_of}
+use Rattle.rx_tree.specs.Tree.{Tree}
 use Rattle.rx_hub.specs.declared.hub.LastEnd.{LastEnd}
 use Rattle.rx_hub.specs.declared.hub.Published.{Published}
-use Rattle.rx_hub.specs.After.{joins_hubs, hubs_after, with_made, next_key, is_inside}
+use Rattle.rx_hub.specs.After.{joins_hubs, hubs_after}
 use Rattle.rx_hub.specs.Closing.{without_gone}
-use Rattle.rx_hub.specs.Hubs.{Hub, Hubs, IsPromised, AreBelow, find_hub, at_hub, connected, new_hub, published_of}
+use Rattle.rx_hub.specs.Hubs.{Hub, Hubs, IsPromised, find_hub, at_hub, connected, new_hub, published_of}
 use Rattle.rx_hub.specs.Records.{IsHubOf, AreHubsOf, numbers}
 use Rattle.rx_hub.proofs.Laws.AfterAll.{hubs_follow, pushed_from}
-use Rattle.rx_hub.proofs.Laws.AfterCases.{closes_none, hubs_stay, hubs_with_made, hubs_published, hubs_connected, hubs_exchanged}
-use Rattle.rx_hub.proofs.Laws.AfterReady.{ready_to_subscribe, ready_to_exchange}
+use Rattle.rx_hub.proofs.Laws.AfterCases.{closes_none, hubs_stay, hubs_published, hubs_connected}
 use Rattle.rx_hub.proofs.Laws.Walks.{found_hub}
 use Rattle.rx_register.specs.Causes.{has_connection}
+use Rattle.rx_register.specs.State.{State, Writes}
 use Rattle.rx_ground.specs.Told.{IsHubTold}
-use Rattle.rx_ground.specs.Inners.{MakesWay, ClearsHubs, LeavesHubs}
 use Rattle.rx_ground.specs.Ties.{IsTied, AreTied, AreJoined, KeepsNodes, Remarks}
-use Rattle.rx_ground.proofs.Exchanged.{none_closed}
-use Rattle.rx_ground.proofs.Joined.{joined_without, joined_still, joined_found, joined_cut, joined_opened, joined_connected, found_named}
+use Rattle.rx_ground.proofs.Joined.{joined_without, joined_still, joined_found, joined_connected, found_named}
 use Rattle.rx_ground.proofs.Tied.{still_there}
 use Rattle.rx_ground.proofs.Laws.Members.{Contains-map, Contains-from_map, All-members, AllPairs-map}
 use Rattle.rx_ground.proofs.Laws.Numbers.{ListsJust, just_counted}
@@ -156,65 +150,6 @@ too_many h s promised of count is = one_more most_hubs 1023 count (length (hubs_
 
 -- ties --------------------------------------------------------------------------------------------
 
--- what an opening leaves of the hubs, in the place of an open inner or not
-pub cleared : (base : Kept) → {T : Type 0} (g : Ghosts T) (h : List Event) (place : Place) (kind : Kind) (slot : ℕ) (old left : Tree T) (hubs later : Hubs) (replaces : Bool) → IsLawful base h →
-    AreTied base g h old hubs → MakesWay h place old left replaces → ClearsHubs h place old left hubs later replaces →
-    hubs_after h (Open place kind) slot hubs.hubs ≡ with_made (next_key h slot) (Open place kind) later.hubs
-cleared base {T = T} g h place kind slot old left hubs later replaces law tied way clears = by_test (cases_Bool replaces) where
-  exchanged : LeavesHubs h place old left hubs later → hubs_after h (Open place kind) slot hubs.hubs ≡ with_made (next_key h slot) (Open place kind) later.hubs
-  exchanged x =
-      let r = x.replaced in
-      let found = some_of (find old.nodes x.inner) r.inner.found in
-      let alive = (tied.of_tree.records.each x.inner found.0 found.1).alive in
-      ap (λ (q : Place). hubs_after h (Open q kind) slot hubs.hubs) r.named ∙
-      hubs_exchanged base h r.switch x.inner.number kind slot hubs.hubs law tied.published r.switches r.inner.stands alive ∙
-      (λ i. with_made (next_key h slot) (Open (sym r.named i) kind) ((sym x.leave i).hubs))
-
-  by_test : (replaces ≡ true) ⊎ (replaces ≡ false) → hubs_after h (Open place kind) slot hubs.hubs ≡ with_made (next_key h slot) (Open place kind) later.hubs
-  by_test (inl takes) = exchanged (clears.exchanged takes)
-  by_test (inr leaves) =
-      hubs_with_made h (Open place kind) slot hubs.hubs tied.published
-      (λ n o. none_closed h place kind (way.none leaves) n (is_open_within h n o) ∙ o) ∙
-      ap (λ (hs : Hubs). with_made (next_key h slot) (Open place kind) hs.hubs) (sym (clears.same leaves))
-
--- of the rest nothing changes
-pub rest_same : {T : Type 0} (h : List Event) (place : Place) (old left : Tree T) (hubs later : Hubs) (replaces : Bool) → ClearsHubs h place old left hubs later replaces →
-    later ≡ record hubs { hubs = later.hubs }
-rest_same h place old left hubs later replaces clears = by_test (cases_Bool replaces) where
-  by_test : (replaces ≡ true) ⊎ (replaces ≡ false) → later ≡ record hubs { hubs = later.hubs }
-  by_test (inl takes) =
-      let leave = (clears.exchanged takes).leave in
-      leave ∙ ap (λ (hs : Hubs). record hubs { hubs = hs.hubs }) (sym leave)
-  by_test (inr leaves) =
-      let same = clears.same leaves in
-      same ∙ ap (λ (hs : Hubs). record hubs { hubs = hs.hubs }) (sym same)
-
-module _ (base : Kept) {T : Type 0} (g : Ghosts T) (h : List Event) (place : Place) (old left : Tree T) (hubs later : Hubs) (replaces : Bool) (law : IsLawful base h)
-    (tied : AreTied base g h old hubs) (clears : ClearsHubs h place old left hubs later replaces) where
-  -- what is left of the hubs finds its records in what is left of the tree
-  pub joined_left : IsSound old.nodes → MakesWay h place old left replaces → AreJoined left.nodes later.hubs
-  joined_left sound way = by_test (cases_Bool replaces) where
-    by_test : (replaces ≡ true) ⊎ (replaces ≡ false) → AreJoined left.nodes later.hubs
-    by_test (inl takes) =
-        let x = clears.exchanged takes in
-        subst (λ (hs : Hubs). AreJoined left.nodes hs.hubs) (sym x.leave) (joined_cut base g h old hubs tied law sound left x.inner.number None x.cuts)
-    by_test (inr leaves) =
-        subst (λ (hs : Hubs). AreJoined left.nodes hs.hubs) (sym (clears.same leaves))
-        (subst (λ (t : Tree T). AreJoined t.nodes hubs.hubs) (sym (way.same leaves)) tied.joined)
-
-  -- the hub that is subscribed to is there still, and its subscribers are older
-  pub ready_left : (n : ℕ) → MayFollow base h (Open place (Sub n)) →
-      (hub : Hub) × (find_hub later.hubs n ≡ Some hub) × AreBelow (length h) hub.subscribers
-  ready_left n next = by_test (cases_Bool replaces) where
-    by_test : (replaces ≡ true) ⊎ (replaces ≡ false) → (hub : Hub) × (find_hub later.hubs n ≡ Some hub) × AreBelow (length h) hub.subscribers
-    by_test (inl takes) =
-        let x = clears.exchanged takes in
-        subst (λ (hs : Hubs). (hub : Hub) × (find_hub hs.hubs n ≡ Some hub) × AreBelow (length h) hub.subscribers) (sym x.leave)
-        (ready_to_exchange base h place n hubs.hubs (is_inside h x.inner.number) None next tied.published)
-    by_test (inr leaves) =
-        subst (λ (hs : Hubs). (hub : Hub) × (find_hub hs.hubs n ≡ Some hub) × AreBelow (length h) hub.subscribers) (sym (clears.same leaves))
-        (ready_to_subscribe base h place n hubs.hubs next tied.published)
-
 -- the hubs after a connection of one of them
 pub connected_after : (h : List Event) (n : ℕ) (key : Key) (hubs : List Hub) → AreHubsOf h hubs → key.number ≡ length h →
     hubs_after h (Connect n) key.slot hubs ≡ at_hub n (connected key) hubs
@@ -225,6 +160,12 @@ module _ {T : Type 0} (g : Ghosts T) where
   -- over the same base
   pub rebased : {c base : Kept} {h : List Event} {tree : Tree T} {hubs : Hubs} → c ≡ base → AreTied base g h tree hubs → AreTied c g h tree hubs
   rebased {h = h} {tree = tree} {hubs = hubs} same tied = subst (λ (b : Kept). AreTied b g h tree hubs) (sym same) tied
+
+  -- and over the register on which the events were written
+  pub tied_written : {es : List Event} {old new : State} {tree : Tree T} {hubs : Hubs} → Writes old es new →
+      AreTied old.base g (old.history ++ es) tree hubs → AreTied new.base g new.history tree hubs
+  tied_written {old = old} {tree = tree} {hubs = hubs} w tied =
+      rebased w.base (subst (λ (k : List Event). AreTied old.base g k tree hubs) (sym w.history) tied)
 
   -- another tree of the same history with the same nodes, beside the same hubs
   pub tied_beside : (base : Kept) → {h : List Event} {old new : Tree T} {hubs later : Hubs} → later.hubs ≡ hubs.hubs →
@@ -278,18 +219,6 @@ module _ {T : Type 0} (g : Ghosts T) where
       of : AreHubsOf k later.hubs
       of = subst (λ (j : List Event). AreHubsOf j later.hubs) (sym grown)
           (subst (AreHubsOf (h ++ e ∷ [])) (after ∙ sym left) (hubs_follow base h e 0 hubs.hubs law next was.published))
-
-  -- after one that opens a node, which joins the hub that it subscribes to
-  pub tied_opened : (base : Kept) → {h k : List Event} {old new : Tree T} {hubs later : Hubs} (mid : Hubs) (place : Place) (kind : Kind) (key : Key) →
-      IsLawful base h →
-      MayFollow base h (Open place kind) → AreTied base g h old hubs → k ≡ h ++ Open place kind ∷ [] → later.hubs ≡ hubs_after h (Open place kind) key.slot hubs.hubs →
-      later.hubs ≡ with_made key (Open place kind) mid.hubs → AreJoined new.nodes mid.hubs → IsSome (find new.nodes key) → IsTied base g k new → AreTied base g k new later
-  tied_opened base {h = h} {new = new} {hubs = hubs} {later = later} mid place kind key law next was grown after made joined there tied = record {
-    of_tree = tied;
-    published = subst (λ (j : List Event). AreHubsOf j later.hubs) (sym grown)
-        (subst (AreHubsOf (h ++ Open place kind ∷ [])) (sym after) (hubs_follow base h (Open place kind) key.slot hubs.hubs law next was.published));
-    joined = subst (AreJoined new.nodes) (sym made) (joined_opened new.nodes key place kind mid.hubs there joined);
-  }
 
   -- after one that makes a connection, which its hub has from then on
   pub tied_connected : (base : Kept) → {h : List Event} {old new : Tree T} {hubs later : Hubs} (n : ℕ) (key : Key) → IsLawful base h → MayFollow base h (Connect n) → AreTied base g h old hubs →

@@ -38,7 +38,8 @@ use Rattle.rx_hub.proofs.Laws.Dues.{hubs_forced}
 use Rattle.rx_hub.proofs.Laws.Forgetting.{forgot_get, forgotten_hubs}
 use Rattle.rx_ground.specs.Shown.{Ground}
 use Rattle.rx_ground.specs.Checkpoints.{IsCheckpoint}
-use Rattle.rx_ground.specs.Ties.{IsRecordOf, IsStored, AreJoined, AreLeased, IsTied, AreTied, IsStanding}
+use Rattle.rx_flow.specs.Records.{IsRecordOf}
+use Rattle.rx_ground.specs.Ties.{IsStored, AreJoined, AreLeased, IsTied, AreTied, IsStanding}
 
 -- in a settled history nothing is due at any hub
 pub settled_quiet_hubs : (base : Base) (h : List Event) (hubs : List Hub) → AreHubsOf h hubs → IsSettled base h → IsQuiet hubs

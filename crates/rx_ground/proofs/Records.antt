@@ -7,10 +7,12 @@ use Rattle.std.proofs.lemmas.Bool.{false≢true, cases_order, and_parts, and_fro
 use Rattle.std.proofs.lemmas.Option.{none-some, same_Some}
 use Rattle.rx_event.specs.Kept.{Kept}
 use Rattle.rx_event.specs.declared.marks.Marks.{Marks}
+use Rattle.rx_note.specs.declared.note.Terminal.{Terminal}
 use Rattle.rx_event.specs.declared.event.Event.{Event}
+use Rattle.rx_event.specs.declared.event.Event.TheVariants.{End}
 use Rattle.rx_event.specs.Events.{makes_node, parent_named}
 use Rattle.rx_event.specs.Tree.{is_open, parent, if_less, ancestors, shuts}
-use Rattle.rx_event.specs.Marks.{marks_of, due_at, touches}
+use Rattle.rx_event.specs.Marks.{marks_of, due_at, terminal_due, touches}
 use Rattle.rx_event.specs.Lawful.{MayFollow, IsLawful}
 use Rattle.rx_event.proofs.Laws.Places.{slice_get-append, slice_get_last}
 use Rattle.rx_event.proofs.Laws.Parents.{ancestors_step, parent-lt, option_map_or-same}
@@ -21,12 +23,14 @@ use Rattle.rx_event.proofs.Laws.MarksTouched.{marks_untouched, blank_quiet}
 use Rattle.rx_slots.specs.declared.Key.{Key}
 use Rattle.rx_slots.specs.Slots.{Slots, find, entry_at, with_number, KeepsOthers}
 use Rattle.rx_tree.specs.declared.node.Node.{Node}
-use Rattle.rx_tree.specs.Tree.{IsSound, AreApart, Rewrites, blank_node, named_above, parent_number, with_marks, with_last, is_key, is_on}
+use Rattle.rx_tree.specs.Tree.{IsSound, AreApart, Rewrites, blank_node, named_above, parent_number, with_marks, with_last, with_due, is_key, is_on, is_due}
 use Rattle.rx_tree.specs.Below.{up, ancestors as tree_ancestors, is_below}
 use Rattle.rx_tree.specs.Closing.{outside}
 use Rattle.rx_tree.proofs.Laws.Below.{climb_step, up-lt, record_found}
 use Rattle.rx_tree.proofs.Laws.Keys.{key_is, cases_key}
-use Rattle.rx_ground.specs.Ties.{IsRecordOf, HasKey, AreRecords}
+use Rattle.rx_flow.specs.Due.{IsChained}
+use Rattle.rx_flow.specs.Records.{IsRecordOf, AreRecordsOf}
+use Rattle.rx_ground.specs.Ties.{HasKey, AreRecords}
 
 -- the chain ---------------------------------------------------------------------------------------
 
@@ -41,18 +45,42 @@ on_append k (x ∷ xs) ys = by_test (is_key k x) (on_append k xs ys) where
   by_test false e = e
 
 -- a key that is put on the chain is there
-pub on_last : (p : Key) (chain : List Key) → is_on p (with_last p chain) ≡ true
+on_last : (p : Key) (chain : List Key) → is_on p (with_last p chain) ≡ true
 on_last p chain = by_test (is_on p chain) refl where
   by_test : (b : Bool) → is_on p chain ≡ b → is_on p (cond b chain (chain ++ p ∷ [])) ≡ true
   by_test true e = e
   by_test false e = on_append p chain (p ∷ []) ∙ rw (e, key_itself p) refl
 
 -- and what is not there then was not there before
-pub off_last : (k p : Key) (chain : List Key) → is_on k (with_last p chain) ≡ false → is_on k chain ≡ false
+off_last : (k p : Key) (chain : List Key) → is_on k (with_last p chain) ≡ false → is_on k chain ≡ false
 off_last k p chain off = by_test (is_on p chain) off where
   by_test : (b : Bool) → is_on k (cond b chain (chain ++ p ∷ [])) ≡ false → is_on k chain ≡ false
   by_test true e = e
   by_test false e = (or_parts (is_on k chain) _ (sym (on_append k chain (p ∷ [])) ∙ e)).0
+
+-- a node that has to end is put there
+pub off_due : (nodes : Slots Node) (k p : Key) (chain : List Key) → is_on k (with_due nodes p chain) ≡ false → is_on k chain ≡ false
+off_due nodes k p chain off = by_test (is_due nodes p) off where
+  by_test : (b : Bool) → is_on k (cond b (with_last p chain) chain) ≡ false → is_on k chain ≡ false
+  by_test true e = off_last k p chain e
+  by_test false e = e
+
+-- and one that is not there then has not to end
+pub undue : (nodes : Slots Node) (p : Key) (node : Node) (chain : List Key) → find nodes p ≡ Some node → is_on p (with_due nodes p chain) ≡ false →
+    due_at node.made node.marks p.number ≡ None
+undue nodes p node chain found off =
+    ap (option_map (λ (t : Terminal). End p.number t)) (none_of (terminal_due node.made node.marks) (sym now ∙ by_test (is_due nodes p) refl off))
+  where
+    now : is_due nodes p ≡ is_some (terminal_due node.made node.marks)
+    now = ap (λ (o : Option Node). option_map_or (λ (x : Node). is_some (terminal_due x.made x.marks)) o false) found
+
+    none_of : (o : Option Terminal) → is_some o ≡ false → o ≡ None
+    none_of None e = refl
+    none_of (Some t) e = absurd (false≢true (sym e))
+
+    by_test : (b : Bool) → is_due nodes p ≡ b → is_on p (cond b (with_last p chain) chain) ≡ false → is_due nodes p ≡ false
+    by_test true is e = absurd (both_ways (is_on p (with_last p chain)) e (on_last p chain))
+    by_test false is e = is
 
 -- what stays open and is not on the chain that stays was not on it
 pub off_outside : (nodes : Slots Node) (top : ℕ) (k : Key) (chain : List Key) → is_below nodes top k.number ≡ false → is_on k (outside nodes top chain) ≡ false → is_on k chain ≡ false
@@ -62,7 +90,8 @@ off_outside nodes top k (x ∷ chain) apart off = by_test (off_outside nodes top
   by_key rest e off true same = absurd (false≢true (sym apart ∙ ap (λ (j : Key). is_below nodes top j.number) (key_is k x same) ∙ e))
   by_key rest e off false other = rest off
 
-  by_test : (is_on k (outside nodes top chain) ≡ false → is_on k chain ≡ false) → (b : Bool) → is_below nodes top x.number ≡ b → is_on k (cond (not b) (x ∷ outside nodes top chain) (outside nodes top chain)) ≡ false → (is_key k x || is_on k chain) ≡ false
+  by_test : (is_on k (outside nodes top chain) ≡ false → is_on k chain ≡ false) → (b : Bool) → is_below nodes top x.number ≡ b →
+      is_on k (cond (not b) (x ∷ outside nodes top chain) (outside nodes top chain)) ≡ false → (is_key k x || is_on k chain) ≡ false
   by_test rest false e off = let parts = or_parts (is_key k x) (is_on k (outside nodes top chain)) off in rw parts.0 (rest parts.1)
   by_test rest true e off = by_key rest e off (is_key k x) refl
 
@@ -84,7 +113,9 @@ all_fresh base h nodes chain near = record {
 }
 
 -- the marks of that record are set
-pub remarked : (base : Kept) → (h : List Event) (nodes new : Slots Node) (chain : List Key) (p : Key) (before : Node) (change : Marks → Marks) → AreNearly base h (Some p.number) nodes chain → AreApart nodes → find nodes p ≡ Some before → marks_of base h p.number ≡ change before.marks → Rewrites nodes new p (λ node. with_marks (change node.marks) node) → AreRecords base h new (with_last p chain)
+pub remarked : (base : Kept) → (h : List Event) (nodes new : Slots Node) (chain : List Key) (p : Key) (before : Node) (change : Marks → Marks) →
+    AreNearly base h (Some p.number) nodes chain → AreApart nodes → find nodes p ≡ Some before → marks_of base h p.number ≡ change before.marks →
+    Rewrites nodes new p (λ node. with_marks (change node.marks) node) → AreRecords base h new (with_due new p chain)
 remarked base h nodes new chain p before change near apart at_p marked rewrites = record { each = each; every = every; quiet = quiet } where
   here : find new p ≡ Some (with_marks (change before.marks) before)
   here = rewrites.changed ∙ ap (option_map (λ (node : Node). with_marks (change node.marks) node)) at_p
@@ -118,25 +149,38 @@ remarked base h nodes new chain p before change near apart at_p marked rewrites 
       by_cases (inl same) = record { key = p; value = with_marks (change before.marks) before; found = here; numbered = ap (λ (k : Key). k.number) (sym same) ∙ has.numbered }
       by_cases (inr differs) = record { key = has.key; value = has.value; found = rewrites.others has.key differs ∙ has.found; numbered = has.numbered }
 
-  quiet : (key : Key) (node : Node) → find new key ≡ Some node → is_on key (with_last p chain) ≡ false → due_at node.made node.marks key.number ≡ None
+  quiet : (key : Key) (node : Node) → find new key ≡ Some node → is_on key (with_due new p chain) ≡ false → due_at node.made node.marks key.number ≡ None
   quiet key node found off = by_key (cases_key key p) where
     by_key : (key ≡ p) ⊎ (key ≢ p) → due_at node.made node.marks key.number ≡ None
-    by_key (inl same) = absurd (both_ways (is_on p (with_last p chain)) (sym (ap (λ (k : Key). is_on k (with_last p chain)) same) ∙ off) (on_last p chain))
+    by_key (inl same) =
+        ap (λ (k : Key). due_at node.made node.marks k.number) same ∙
+        undue new p node chain (sym (ap (find new) same) ∙ found) (sym (ap (λ (k : Key). is_on k (with_due new p chain)) same) ∙ off)
     by_key (inr differs) =
         let was = other key node differs found in
-        near.quiet key node was (fresh key node differs was) (off_last key p chain off)
+        near.quiet key node was (fresh key node differs was) (off_due new key p chain off)
+
+-- the records are those of the history, whatever is due
+pub as_records : (base : Kept) → (h : List Event) (nodes : Slots Node) (chain : List Key) → AreRecords base h nodes chain → AreRecordsOf base h nodes
+as_records base h nodes chain r = record {
+  each = r.each;
+  every = λ n alive. let has = r.every n alive in record { key = has.key; node = has.value; numbered = has.numbered; found = has.found };
+}
+
+-- nothing is due off their chain
+pub chained : (base : Kept) → (h : List Event) (nodes : Slots Node) (chain : List Key) → AreRecords base h nodes chain → IsChained nodes chain
+chained base h nodes chain r key off = by_node (find nodes key) refl where
+  by_node : (o : Option Node) → find nodes key ≡ o → option_and_then (λ (node : Node). due_at node.made node.marks key.number) o ≡ None
+  by_node None found = refl
+  by_node (Some node) found = r.quiet key node found off
 
 -- another chain, off which nothing is due
-pub rechained : (base : Kept) → (h : List Event) (nodes : Slots Node) (chain other : List Key) → AreRecords base h nodes chain → ((key : Key) (node : Node) → find nodes key ≡ Some node → is_on key other ≡ false → is_on key chain ≡ true → due_at node.made node.marks key.number ≡ None) → AreRecords base h nodes other
-rechained base h nodes chain other r quiet = record {
+pub rechained : (base : Kept) → (h : List Event) (nodes : Slots Node) (chain other : List Key) → AreRecords base h nodes chain → IsChained nodes other →
+    AreRecords base h nodes other
+rechained base h nodes chain other r off_it = record {
   each = r.each;
   every = r.every;
-  quiet = λ key node found off. by_test key node found off (is_on key chain) refl;
+  quiet = λ key node found off. sym (ap (option_and_then (λ (n : Node). due_at n.made n.marks key.number)) found) ∙ off_it key off;
 }
-  where
-    by_test : (key : Key) (node : Node) → find nodes key ≡ Some node → is_on key other ≡ false → (b : Bool) → is_on key chain ≡ b → due_at node.made node.marks key.number ≡ None
-    by_test key node found off true on = quiet key node found off on
-    by_test key node found off false on = r.quiet key node found on
 
 -- the way up --------------------------------------------------------------------------------------
 
@@ -162,7 +206,9 @@ module _ (base : Kept) (h : List Event) (nodes : Slots Node) (chain : List Key) 
     climbs_agree (suc k) n l alive =
         let has = r.every n alive in
         let at : up nodes n ≡ parent h n = subst (λ (m : ℕ). up nodes m ≡ parent h m) has.numbered (up_is_parent has.key has.value has.found) in
-        tree_ancestors_step nodes n ∙ ap (λ o. n ∷ option_map_or (tree_ancestors nodes) o []) at ∙ ap (λ (xs : List ℕ). n ∷ xs) (option_map_or-same (tree_ancestors nodes) (ancestors h) (parent h n) [] (λ p below. let s : p < n = parent-lt h n p below in climbs_agree k p (omega arith) (parent_open h n p alive below))) ∙ sym (ancestors_step h n)
+        tree_ancestors_step nodes n ∙ ap (λ o. n ∷ option_map_or (tree_ancestors nodes) o []) at ∙
+        ap (λ (xs : List ℕ). n ∷ xs) (option_map_or-same (tree_ancestors nodes) (ancestors h) (parent h n) []
+        (λ p below. let s : p < n = parent-lt h n p below in climbs_agree k p (omega arith) (parent_open h n p alive below))) ∙ sym (ancestors_step h n)
 
     -- what is below a node of the tree is within it in the history
     pub below_is_within : (key : Key) (node : Node) → find nodes key ≡ Some node → (top : ℕ) → is_below nodes top key.number ≡ list_any (λ a. top == a) (ancestors h key.number)
@@ -221,10 +267,14 @@ module _ (base : Kept) (h : List Event) (e : Event) (law : IsLawful base h) (nex
   }
 
   -- where it closes a node and all below it, the others stay
-  pub cut_left : (left : Slots Node) (rest : List Key) (top : ℕ) → IsSound nodes → ((n : ℕ) → n < length h → is_open (h ++ e ∷ []) n ≡ (is_open h n && not (list_any (λ a. top == a) (ancestors h n)))) → ((key : Key) → find left key ≡ cond (is_below nodes top key.number) None (find nodes key)) → rest ≡ outside nodes top chain → AreLeft h e nodes left chain rest
+  pub cut_left : (left : Slots Node) (rest : List Key) (top : ℕ) → IsSound nodes →
+      ((n : ℕ) → n < length h → is_open (h ++ e ∷ []) n ≡ (is_open h n && not (list_any (λ a. top == a) (ancestors h n)))) →
+      ((key : Key) → find left key ≡ cond (is_below nodes top key.number) None (find nodes key)) → rest ≡ outside nodes top chain →
+      AreLeft h e nodes left chain rest
   cut_left left rest top sound opens cuts chained = record {
     was = λ k node f. (was k node f).1;
-    alive = λ k node f. let o = was k node f in let is = r.each k node o.1 in opens k.number (is_open_within h k.number is.alive) ∙ and_from _ _ is.alive (not_from_false _ (sym (below_is_within base h nodes chain r sound k node o.1 top) ∙ o.0));
+    alive = λ k node f. let o = was k node f in let is = r.each k node o.1 in opens k.number (is_open_within h k.number is.alive) ∙
+        and_from _ _ is.alive (not_from_false _ (sym (below_is_within base h nodes chain r sound k node o.1 top) ∙ o.0));
     still = still;
     off = λ k node f off. off_outside nodes top k chain (was k node f).0 (sym (ap (is_on k) chained) ∙ off);
   }
@@ -241,7 +291,10 @@ module _ (base : Kept) (h : List Event) (e : Event) (law : IsLawful base h) (nex
           cuts k ∙ ap (λ b. cond b None (find nodes k)) (below_is_within base h nodes chain r sound k node f top ∙ not-true (list_any (λ a. top == a) (ancestors h k.number)) parts.1) ∙ f
 
   -- a new node beside those that stay
-  pub records_opened : (left : Slots Node) (rest : List Key) → AreLeft h e nodes left chain rest → (new : Slots Node) (key : Key) (above : Option Key) → makes_node e ≡ true → ((n : ℕ) → parent_named e ≢ Some n → touches h n e ≡ false) → key.number ≡ length h → entry_at left key.slot ≡ None → find new key ≡ Some (blank_node e above) → KeepsOthers left new key → AreNearly base (h ++ e ∷ []) (parent_named e) new rest
+  pub records_opened : (left : Slots Node) (rest : List Key) → AreLeft h e nodes left chain rest →
+      (new : Slots Node) (key : Key) (above : Option Key) → makes_node e ≡ true → ((n : ℕ) → parent_named e ≢ Some n → touches h n e ≡ false) →
+      key.number ≡ length h → entry_at left key.slot ≡ None → find new key ≡ Some (blank_node e above) → KeepsOthers left new key →
+      AreNearly base (h ++ e ∷ []) (parent_named e) new rest
   records_opened left rest stays new key above makes untouched numbered free found others = record {
     made = made;
     alive = alive;
@@ -297,7 +350,11 @@ module _ (base : Kept) (h : List Event) (e : Event) (law : IsLawful base h) (nex
         by_key (inr differs) = let here = old k node differs f in r.quiet k node (stays.was k node here) (stays.off k node here off)
 
   -- what a closing leaves
-  pub records_cut : (new : Slots Node) (rest : List Key) (top : ℕ) (stale : Option ℕ) → IsSound nodes → ((n : ℕ) → stale ≢ Some n → is_open (h ++ e ∷ []) n ≡ true → marks_of base (h ++ e ∷ []) n ≡ marks_of base h n) → ((n : ℕ) → is_open (h ++ e ∷ []) n ≡ (is_open h n && not (list_any (λ a. top == a) (ancestors h n)))) → ((key : Key) → find new key ≡ cond (is_below nodes top key.number) None (find nodes key)) → rest ≡ outside nodes top chain → AreNearly base (h ++ e ∷ []) stale new rest
+  pub records_cut : (new : Slots Node) (rest : List Key) (top : ℕ) (stale : Option ℕ) → IsSound nodes →
+      ((n : ℕ) → stale ≢ Some n → is_open (h ++ e ∷ []) n ≡ true → marks_of base (h ++ e ∷ []) n ≡ marks_of base h n) →
+      ((n : ℕ) → is_open (h ++ e ∷ []) n ≡ (is_open h n && not (list_any (λ a. top == a) (ancestors h n)))) →
+      ((key : Key) → find new key ≡ cond (is_below nodes top key.number) None (find nodes key)) → rest ≡ outside nodes top chain →
+      AreNearly base (h ++ e ∷ []) stale new rest
   records_cut new rest top stale sound kept opens cuts chained = record {
     made = λ k node f. let o = was k node f in made_still k node o.1;
     alive = λ k node f. let o = was k node f in alive k node o.1 o.0;

@@ -26,7 +26,6 @@ use Rattle.rx_tree.specs.Tree.{Tree, IsSound, is_key}
 use Rattle.rx_tree.proofs.Laws.Keys.{key_is}
 use Rattle.rx_flow.specs.declared.stop.Stop.{Stop}
 use Rattle.rx_flow.specs.declared.stop.Stop.TheVariants.{Delivery, Projection, Firing, Connection}
-use Rattle.rx_flow.specs.Records.{AreRecordsOf}
 use Rattle.rx_flow.specs.Claims.{numbered}
 use Rattle.rx_hub.specs.Hubs.{Hub, Hubs}
 use Rattle.rx_hub.specs.Walk.{IsWalk, stops_over}
@@ -36,14 +35,8 @@ use Rattle.rx_ground.specs.declared.route.Reach.{Reach}
 use Rattle.rx_ground.specs.Ties.{AreRecords, AreTied}
 use Rattle.rx_ground.specs.Reached.{IsReach}
 use Rattle.rx_ground.proofs.Bare.{stops_bare}
+use Rattle.rx_ground.proofs.Records.{as_records}
 use Rattle.rx_ground.specs.Passing.{IsMeasured, IsOnly, owed_at, told_at, sum_at}
-
--- the records are those of the history, whatever is due
-as_records : (base : Kept) → (h : List Event) (nodes : Slots Node) (chain : List Key) → AreRecords base h nodes chain → AreRecordsOf base h nodes
-as_records base h nodes chain r = record {
-  each = λ key node found. let is = r.each key node found in record { alive = is.alive; made = is.made; marks = is.marks };
-  every = λ n alive. let has = r.every n alive in record { key = has.key; node = has.value; numbered = has.numbered; found = has.found };
-}
 
 -- an item may go over a tree and hubs of one history
 pub walk_tied : (base : Kept) → {T : Type 0} {g : Ghosts T} {h : List Event} {tree : Tree T} {hubs : Hubs} → AreTied base g h tree hubs → IsSound tree.nodes → IsWalk base h tree.nodes hubs.hubs

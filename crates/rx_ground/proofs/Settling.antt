@@ -1,10 +1,9 @@
--- What an opening, an end, and the loop that settles, leave of the tie.
-use Rattle.std.proofs.Common.{◌≡◌, ℕ, ◌<◌, Bool, true, false, cond, List, [], ◌∷◌, ◌++◌, length, Option, Some, None, is_some, IsSome, IfSome, option_map, slice_get, drop, refl, sym, ap, subst, ◌∙◌, ◌≤◌, ◌+◌, arith, length-append}
-use Rattle.std.specs.Prelude.{IfNone}
+-- What the loop that settles leaves of the tie.
+use Rattle.std.proofs.Common.{◌≡◌, ℕ, ◌<◌, Bool, true, false, List, [], ◌∷◌, ◌++◌, length, Option, Some, None, is_some, IsSome, IfSome}
+use Rattle.std.proofs.Common.{option_map, slice_get, refl, sym, ap, subst, ◌∙◌, ◌≤◌, ◌+◌, arith, length-append}
 use Rattle.std.specs.List.{AllByRecursion}
-use Rattle.std.specs.Option.{option_and_then}
 use Rattle.std.proofs.Math.Bool.{◌||◌}
-use Rattle.std.proofs.lemmas.Bool.{false≢true, both_ways}
+use Rattle.std.proofs.lemmas.Bool.{false≢true}
 use Rattle.std.proofs.lemmas.Option.{none-some, same_Some}
 use Rattle.rx_event.specs.Kept.{Kept}
 use Rattle.rx_resource.specs.declared.Resource.{Ghosts}
@@ -12,60 +11,38 @@ use Rattle.rx_note.specs.declared.note.Terminal.{Terminal}
 use Rattle.rx_event.specs.declared.marks.Marks.{Marks}
 use Rattle.rx_event.specs.declared.event.Event.{Event}
 use Rattle.rx_event.specs.declared.event.Event.TheVariants.{Connect, End}
-use Rattle.rx_event.specs.Events.{source_named, is_merging}
-use Rattle.rx_event.specs.Tree.{is_open, parent}
-use Rattle.rx_event.specs.Marks.{marks_of, due_at, terminal_due, after_child}
+use Rattle.rx_event.specs.Events.{is_merging}
+use Rattle.rx_event.specs.Tree.{is_open}
+use Rattle.rx_event.specs.Marks.{after_child}
 use Rattle.rx_event.specs.Notes.{mail_of}
-use Rattle.rx_event.specs.Forced.{IsConnectDue, IsConnected, IsForced, IsSettled, connecting, due}
-use Rattle.rx_event.specs.Lawful.{MayFollow, IsLawful, IsForcedOn, forced, stays, more}
-use Rattle.rx_event.proofs.Laws.MarksDue.{due_at_forced, settled_by_marks}
-use Rattle.rx_event.proofs.Laws.Openness.{is_open_outside-end, is_open_within, stays_closed}
+use Rattle.rx_event.specs.Forced.{IsConnectDue, IsForced, IsSettled, connecting, due}
+use Rattle.rx_event.specs.Lawful.{IsLawful, IsForcedOn, forced, stays, more}
+use Rattle.rx_event.proofs.Laws.Openness.{is_open_within, stays_closed}
 use Rattle.rx_event.proofs.Laws.Waits.{forced_connected}
-use Rattle.rx_event.proofs.Laws.MarksTouched.{child_counted}
 use Rattle.rx_slots.specs.declared.Key.{Key}
 use Rattle.rx_slots.specs.Slots.{Slots, find}
 use Rattle.rx_tree.specs.declared.node.Node.{Node}
-use Rattle.rx_tree.specs.Tree.{Tree, IsSound, AreApart, Rewrites, first_of, is_on, is_key, with_marks, with_last}
+use Rattle.rx_tree.specs.Tree.{Tree, Rewrites, is_on, is_key, with_marks, with_due}
 use Rattle.rx_tree.proofs.Laws.Keys.{key_is, some_of}
 use Rattle.rx_register.specs.State.{State as Register, Writes}
 use Rattle.rx_register.specs.Paid.{IsPaid}
 use Rattle.rx_register.proofs.Laws.Paid.{forced_room, end_room, forced_pays}
 use Rattle.rx_register.proofs.Laws.Fits.{told_by_end}
-use Rattle.rx_ground.specs.declared.settle.Due.{Due}
-use Rattle.rx_ground.specs.Ties.{AreLeased, IsTied, AreTied, IsReady, WithChain, IsDueNext, IsNext, AllQuiet, KeepsNodes, KeepsOlder, Remarks, Cuts, HasRoomToConnect, is_there, key_due}
+use Rattle.rx_flow.specs.declared.forcing.Due.{Due}
+use Rattle.rx_flow.specs.Due.{IsChained, IsDueAt, IsQuiet as IsQuietTree}
+use Rattle.rx_flow.specs.Records.{AreRecordsOf}
+use Rattle.rx_flow.proofs.Laws.Dues.{due_at_in, due_forced}
+use Rattle.rx_ground.specs.Ties.{AreLeased, IsTied, AreTied, IsReady, WithChain, IsNext, KeepsOlder, Remarks, HasRoomToConnect, is_there, key_due}
 use Rattle.rx_ground.specs.Memory.{TakesNoMemory}
 use Rattle.rx_ground.proofs.Memory.{memory_on}
 use Rattle.rx_ground.specs.Shown.{Ground}
-use Rattle.rx_ground.proofs.Records.{rechained}
+use Rattle.rx_ground.proofs.Records.{as_records, rechained}
 use Rattle.rx_hub.specs.declared.hub.HubDue.{HubDue}
 use Rattle.rx_hub.specs.declared.hub.HubDue.TheVariants.{Connect as ConnectDue, End as EndDue, Close as CloseDue}
 use Rattle.rx_hub.specs.Due.{event_of, IsDueIn, IsQuiet, ConcernsHub}
-use Rattle.rx_hub.specs.Hubs.{Hub, find_hub}
-use Rattle.rx_hub.proofs.Laws.Dues.{hubs_forced, none_waits, none_cut, none_left}
+use Rattle.rx_hub.specs.Hubs.{Hub, Hubs, find_hub}
+use Rattle.rx_hub.proofs.Laws.Dues.{hubs_forced, none_waits, quiet_settles}
 use Rattle.rx_hub.proofs.Laws.Walks.{found_hub}
-use Rattle.rx_ground.proofs.Tied.{tied_end_top, tied_end_child, parent_stays, cut_keeps, keeps_marked}
-
--- ends ----------------------------------------------------------------------------------------------
-
-module _ (base : Kept) {T : Type 0} (g : Ghosts T) (h : List Event) (c : ℕ) (t : Terminal) (law : IsLawful base h) (next : MayFollow base h (End c t)) (old mid new : Tree T) (tied : IsTied base g h old) (sound : IsSound old.nodes) (cuts : Cuts old mid c) (made : Event) (alive : is_open h c ≡ true) (at_c : slice_get h c ≡ Some made) where
-  -- the one above has an open child
-  pub above_counted : (above : Option Key) → option_map (λ k. k.number) above ≡ parent h c → IfSome above (λ k. IsSome (find old.nodes k)) → IfSome above (λ key. IfSome (find mid.nodes key) (λ node. 0 < node.marks.open_children))
-  above_counted None named there = tt
-  above_counted (Some p) named there =
-      let x = some_of (find old.nodes p) there in
-      let stays = parent_stays base g h c t law next old mid new tied sound cuts p x.0 alive (sym named) x.1 in
-      let counted = child_counted h c p.number alive (sym named) in
-      let marks = (tied.records.each p x.0 x.1).marks in
-      subst (λ o. IfSome o (λ (node : Node). 0 < node.marks.open_children)) (sym stays) (rw marks counted)
-
-  pub ended_tied : (above : Option Key) → AreApart mid.nodes → option_map (λ k. k.number) above ≡ parent h c → IfSome above (λ k. IsSome (find old.nodes k)) → IfSome above (λ key. IfSome (find mid.nodes key) (λ node. Remarks mid new key (after_child (is_some (source_named made)) (is_merging node.made) t))) → IfNone above (new ≡ mid) → IsTied base g (h ++ End c t ∷ []) new × KeepsNodes (h ++ End c t ∷ []) old.nodes new.nodes × (new.resources ≡ old.resources) × (new.nodes.count ≡ mid.nodes.count)
-  ended_tied None apart named there marked same =
-      subst (λ (tree : Tree T). IsTied base g (h ++ End c t ∷ []) tree × KeepsNodes (h ++ End c t ∷ []) old.nodes tree.nodes × (tree.resources ≡ old.resources) × (tree.nodes.count ≡ mid.nodes.count)) (sym same) (tied_end_top base g h c t law next old mid new tied sound cuts (sym named), cut_keeps base h (End c t) old mid tied.records sound c (is_open_outside-end h c t) cuts, cuts.resources, refl)
-  ended_tied (Some p) apart named there marked same =
-      let x = some_of (find old.nodes p) there in
-      let stays = parent_stays base g h c t law next old mid new tied sound cuts p x.0 alive (sym named) x.1 in
-      let m : Remarks mid new p (after_child (is_some (source_named made)) (is_merging x.0.made) t) = subst (λ o. IfSome o (λ (node : Node). Remarks mid new p (after_child (is_some (source_named made)) (is_merging node.made) t))) stays marked in
-      (tied_end_child base g h c t law next old mid new tied sound cuts p made x.0 apart alive (sym named) at_c x.1 stays m, keeps_marked base h (End c t) old mid tied.records sound c (is_open_outside-end h c t) cuts new p _ m, m.resources ∙ cuts.resources, ap (λ (s : Slots Node). s.count) m.nodes.rest)
 
 -- settling ------------------------------------------------------------------------------------------
 
@@ -82,6 +59,20 @@ found_on nodes key (k ∷ keys) all on = by_test (is_key key k) refl (found_on n
   by_test true here later = ap (λ (x : Key). is_some (find nodes x)) (key_is key k here) ∙ all.0
   by_test false here later = later (ap (λ b. b || is_on key keys) (sym here) ∙ on)
 
+-- where no hub has anything to do
+module _ (base : Kept) {T : Type 0} (g : Ghosts T) (h : List Event) (tree : Tree T) (hubs : Hubs)
+    (tied : AreTied base g h tree hubs) (quiet : IsQuiet hubs.hubs) where
+  records : AreRecordsOf base h tree.nodes
+  records = as_records base h tree.nodes tree.chain tied.of_tree.records
+
+  -- what is due by a record is forced
+  pub node_forced : (next : Due) → IsDueAt tree.nodes next → IsForced base h (End next.node.number next.terminal)
+  node_forced next is = due_forced base h tree.nodes _ records (none_waits h hubs.hubs tied.published quiet.connected) (due_at_in tree.nodes next is)
+
+  -- and where nothing is either, nothing is forced
+  pub quiet_settled : IsQuietTree tree.nodes → IsSettled base h
+  quiet_settled all = quiet_settles base h tree.nodes hubs.hubs records tied.published all quiet
+
 module _ {T : Type 0} (g : Ghosts T) (b : Ground T) (tied : AreTied b.register.base g b.register.history b.tree b.hubs) where
   -- what is due at a hub comes next
   pub hub_next : (d : HubDue) → IsDueIn b.hubs.hubs d → ConcernsHub b.hubs.hubs d → IsNext b d
@@ -95,31 +86,6 @@ module _ {T : Type 0} (g : Ghosts T) (b : Ground T) (tied : AreTied b.register.b
     by_due (CloseDue key) c =
         let at_i = at_hub c.hub c.there in
         subst (λ (o : Option Key). IfSome o (λ k. IsSome (find b.tree.nodes k))) c.own (tied.joined.connection at_i.0 c.hub at_i.1)
-
-  module _ (quiet : IsQuiet b.hubs.hubs) where
-    connected : IsConnected b.register.history
-    connected = none_waits b.register.history b.hubs.hubs tied.published quiet.connected
-
-    -- and where nothing is, what is due by a record
-    pub node_next : (next : Due) → IsDueNext b.tree.nodes next → IsNext b (EndDue next.node next.terminal)
-    node_next next is_due =
-        let is = tied.of_tree.records.each next.node is_due.node is_due.found in
-        record {
-          forced = due_at_forced b.register.base b.register.history next.node.number is_due.node.made (End next.node.number next.terminal) connected is.alive is.made
-              (ap (λ m. due_at is_due.node.made m next.node.number) (sym is.marks) ∙ ap (option_map (λ t. End next.node.number t)) is_due.due);
-          there = ap is_some is_due.found;
-        }
-
-    -- and where nothing is either, nothing is forced
-    pub quiet_settled : AllQuiet b.tree.nodes → IsSettled b.register.base b.register.history
-    quiet_settled all = settled_by_marks b.register.base b.register.history connected
-        (λ n t alive. none_cut b.register.history b.hubs.hubs tied.published quiet n t alive) (none_left b.register.base b.register.history b.hubs.hubs tied.published quiet)
-        (λ n made alive at_n.
-        let has = tied.of_tree.records.every n alive in
-        let is = tied.of_tree.records.each has.key has.value has.found in
-        let same : has.value.made ≡ made = same_Some _ _ (sym is.made ∙ ap (slice_get b.register.history) has.numbered ∙ at_n) in
-        ap (λ (e : Event). due_at e (marks_of b.register.base b.register.history n) n) (sym same) ∙ ap (λ (m : ℕ). due_at has.value.made (marks_of b.register.base b.register.history m) n) (sym has.numbered) ∙
-        ap (λ m. due_at has.value.made m n) (sym is.marks) ∙ ap (option_map (λ t. End n t)) (all.quiet has.key has.value has.found))
 
   -- what comes next may be written
   pub next_ready : (d : HubDue) → IsLawful b.register.base b.register.history → IsNext b d → IsPaid b.register → IsReady b.register (event_of d)
@@ -209,7 +175,15 @@ way_rechained {T = T} g start old new w kept tied = record {
   hubs = ap (λ (b : Ground T). length b.hubs.hubs) kept.same ∙ w.hubs;
   limit = ap (λ (s : Register). s.limit) register ∙ w.limit;
   given = ap (λ (s : Register). s.given) register ∙ w.given;
-  memory = subst (TakesNoMemory start) (sym kept.same) (record { events = w.memory.events; notes = w.memory.notes; nodes = w.memory.nodes; resources = w.memory.resources; hubs = w.memory.hubs; slots = w.memory.slots; closing = w.memory.closing });
+  memory = subst (TakesNoMemory start) (sym kept.same) (record {
+    events = w.memory.events;
+    notes = w.memory.notes;
+    nodes = w.memory.nodes;
+    resources = w.memory.resources;
+    hubs = w.memory.hubs;
+    slots = w.memory.slots;
+    closing = w.memory.closing;
+  });
 }
   where
     register : new.register ≡ old.register
@@ -254,49 +228,22 @@ way_on g start old new d w law next written tied leased kept resources hubs leas
 
 -- the chain -----------------------------------------------------------------------------------------
 
--- where the first of the chain is not due it may be dropped
-pub chain_dropped : (base : Kept) → {T : Type 0} (g : Ghosts T) (h : List Event) (tree new : Tree T) (p : Key) → IsTied base g h tree → first_of tree.chain ≡ Some p → option_and_then (λ (node : Node). terminal_due node.made node.marks) (find tree.nodes p) ≡ None → new ≡ record tree { chain = drop 1 tree.chain } → IsTied base g h new
-chain_dropped base {T = T} g h tree new p tied first undue same = subst (IsTied base g h) (sym same) (record {
-  records = rechained base h tree.nodes tree.chain (drop 1 tree.chain) tied.records (λ key node found off on. by_chain key node found tree.chain first off on);
-  stored = record { each = tied.stored.each; every = tied.stored.every };
-})
-  where
-    by_key : (key : Key) (node : Node) → find tree.nodes key ≡ Some node → key ≡ p → due_at node.made node.marks key.number ≡ None
-    by_key key node found same = ap (option_map (λ t. End key.number t)) (sym (ap (option_and_then (λ (x : Node). terminal_due x.made x.marks)) (sym (ap (find tree.nodes) same) ∙ found)) ∙ undue)
-
-    by_chain : (key : Key) (node : Node) → find tree.nodes key ≡ Some node → (chain : List Key) → first_of chain ≡ Some p → is_on key (drop 1 chain) ≡ false → is_on key chain ≡ true → due_at node.made node.marks key.number ≡ None
-    by_chain key node found [] first off on = absurd (false≢true on)
-    by_chain key node found (x ∷ chain) first off on = by_test (is_key key x) refl where
-      by_test : (b : Bool) → is_key key x ≡ b → due_at node.made node.marks key.number ≡ None
-      by_test true here = by_key key node found (key_is key x here ∙ same_Some x p first)
-      by_test false here = absurd (both_ways (is_on key (x ∷ chain)) (ap (λ b. b || is_on key chain) here ∙ off) on)
-
--- with an empty chain nothing is due
-pub chain_empty : (base : Kept) → {T : Type 0} (g : Ghosts T) (h : List Event) (tree : Tree T) → IsTied base g h tree → first_of tree.chain ≡ None →
-    AllQuiet tree.nodes
-chain_empty base g h tree tied empty = record { quiet = λ key node found. undue node key (tied.records.quiet key node found (by_chain key tree.chain empty)) } where
-  by_chain : (key : Key) (chain : List Key) → first_of chain ≡ None → is_on key chain ≡ false
-  by_chain key [] e = refl
-  by_chain key (x ∷ chain) e = absurd (none-some x (sym e))
-
-  undue : (node : Node) (key : Key) → due_at node.made node.marks key.number ≡ None → terminal_due node.made node.marks ≡ None
-  undue node key none = by_terminal (terminal_due node.made node.marks) none where
-    by_terminal : (o : Option Terminal) → option_map (λ t. End key.number t) o ≡ None → o ≡ None
-    by_terminal None e = refl
-    by_terminal (Some t) e = absurd (none-some (End key.number t) (sym e))
-
--- another chain after another
-pub with_chain_on : {T : Type 0} (start old new : Ground T) (tree : Tree T) → WithChain start old → new ≡ record old { tree = tree } → tree ≡ record old.tree { chain = tree.chain } → WithChain start new
-with_chain_on {T = T} start old new tree kept changed chained = record { same = whole ∙ ap (λ (b : Ground T). record b { tree = record b.tree { chain = new.tree.chain } }) kept.same } where
-  at_new : tree.chain ≡ new.tree.chain
-  at_new = sym (ap (λ (b : Ground T). b.tree.chain) changed)
-
-  whole : new ≡ record old { tree = record old.tree { chain = new.tree.chain } }
-  whole = changed ∙ ap (λ (t : Tree T). record old { tree = t }) (chained ∙ ap (λ (k : List Key). record old.tree { chain = k }) at_new)
+-- another chain off which nothing is due leaves the tie
+pub tied_rechained : (base : Kept) → {T : Type 0} (g : Ghosts T) (h : List Event) (old new : Tree T) (hubs later : Hubs) (chain : List Key) →
+    AreTied base g h old hubs → later ≡ hubs → new ≡ record old { chain = chain } → IsChained new.nodes new.chain → AreTied base g h new later
+tied_rechained base {T = T} g h old new hubs later chain tied calm same off =
+    subst (AreTied base g h new) (sym calm) (subst (λ (tree : Tree T). AreTied base g h tree hubs) (sym same) (record {
+      of_tree = record {
+        records = rechained base h old.nodes old.chain chain tied.of_tree.records (subst (λ (tree : Tree T). IsChained tree.nodes tree.chain) same off);
+        stored = record { each = tied.of_tree.stored.each; every = tied.of_tree.stored.every };
+      };
+      published = tied.published;
+      joined = tied.joined;
+    }))
 
 -- marks that were read and set anew change so
 pub set_remarks : {T : Type 0} (old new : Tree T) (key : Key) (marks after : Marks) (change : Marks → Marks) → option_map (λ (node : Node). node.marks) (find old.nodes key) ≡ Some marks → after ≡ change marks →
-    Rewrites old.nodes new.nodes key (with_marks after) → new.chain ≡ cond (is_some (find old.nodes key)) (with_last key old.chain) old.chain → new.resources ≡ old.resources → Remarks old new key change
+    Rewrites old.nodes new.nodes key (with_marks after) → new.chain ≡ with_due new.nodes key old.chain → new.resources ≡ old.resources → Remarks old new key change
 set_remarks {T = T} old new key marks after change at_marks changes w chain resources = by_value (find old.nodes key) refl where
   by_value : (o : Option Node) → find old.nodes key ≡ o → Remarks old new key change
   by_value None e = absurd (none-some marks (sym (ap (option_map (λ (node : Node). node.marks)) e) ∙ at_marks))
@@ -309,12 +256,17 @@ set_remarks {T = T} old new key marks after change at_marks changes w chain reso
           others = w.others;
           rest = w.rest;
         };
-        chain = chain ∙ ap (λ (o : Option Node). cond (is_some o) (with_last key old.chain) old.chain) e;
+        chain = chain;
         resources = resources;
       }
 
 -- those of an end are set by the record that is found
-pub found_end : {T : Type 0} (old new : Tree T) (key : Key) (made : Event) (marks : Marks) (source merging : Bool) (t : Terminal) → option_map (λ (node : Node). node.made) (find old.nodes key) ≡ Some made → option_map (λ (node : Node). node.marks) (find old.nodes key) ≡ Some marks → merging ≡ is_merging made → Rewrites old.nodes new.nodes key (with_marks (after_child source merging t marks)) → new.chain ≡ cond (is_some (find old.nodes key)) (with_last key old.chain) old.chain → new.resources ≡ old.resources → IfSome (find old.nodes key) (λ node. Remarks old new key (after_child source (is_merging node.made) t))
+pub found_end : {T : Type 0} (old new : Tree T) (key : Key) (made : Event) (marks : Marks) (source merging : Bool) (t : Terminal) →
+    option_map (λ (node : Node). node.made) (find old.nodes key) ≡ Some made →
+    option_map (λ (node : Node). node.marks) (find old.nodes key) ≡ Some marks → merging ≡ is_merging made →
+    Rewrites old.nodes new.nodes key (with_marks (after_child source merging t marks)) →
+    new.chain ≡ with_due new.nodes key old.chain → new.resources ≡ old.resources →
+    IfSome (find old.nodes key) (λ node. Remarks old new key (after_child source (is_merging node.made) t))
 found_end {T = T} old new key made marks source merging t at_made at_marks merges w chain resources = by_value (find old.nodes key) refl where
   by_value : (o : Option Node) → find old.nodes key ≡ o → IfSome o (λ node. Remarks old new key (after_child source (is_merging node.made) t))
   by_value None e = tt

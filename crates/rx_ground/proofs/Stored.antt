@@ -144,14 +144,21 @@ module _ (base : Kept) {T : Type 0} (g : Ghosts T) (h : List Event) (law : IsLaw
     untaken_before r none = (or_parts (list_any (is_take_of r) h) (is_take_of r e) (sym (list_any_push (is_take_of r) h e) ∙ none)).0
 
     -- an event that is about no resource
-    pub all_stored : (old new : Tree T) → AreStored base g h old → new.resources ≡ old.resources → makes_resource e ≡ false → ((r : ℕ) → IsApart r e) → ((key : Key) → IsSome (find old.nodes key) → is_open (h ++ e ∷ []) key.number ≡ true → IsSome (find new.nodes key)) → AreStored base g (h ++ e ∷ []) new
+    pub all_stored : (old new : Tree T) → AreStored base g h old → new.resources ≡ old.resources → makes_resource e ≡ false →
+        ((r : ℕ) → IsApart r e) → ((key : Key) → IsSome (find old.nodes key) → is_open (h ++ e ∷ []) key.number ≡ true →
+        IsSome (find new.nodes key)) → AreStored base g (h ++ e ∷ []) new
     all_stored old new s same none apart kept = record {
       each = λ key x found. stored_still old.nodes new.nodes key.number x (s.each key x (sym (ap (λ (r : Slots (Stowed T)). find r key) same) ∙ found)) (apart key.number) kept;
-      every = λ r made untaken. let has = s.every r (accepted_before r none made) (untaken_before r untaken) in record { key = has.key; value = has.value; found = ap (λ (x : Slots (Stowed T)). find x has.key) same ∙ has.found; numbered = has.numbered };
+      every = λ r made untaken. let has = s.every r (accepted_before r none made) (untaken_before r untaken) in
+          record { key = has.key; value = has.value; found = ap (λ (x : Slots (Stowed T)). find x has.key) same ∙ has.found; numbered = has.numbered };
     }
 
     -- one that is about the resource of one key alone
-    pub all_stored_but : (old new : Tree T) (k : Key) → AreStored base g h old → AreApart old.resources → IsSome (find old.resources k) → new.nodes ≡ old.nodes → KeepsOthers old.resources new.resources k → makes_resource e ≡ false → ((r : ℕ) (x : Stowed T) → r ≢ k.number → IsStored base g h old.nodes r x → IsStored base g (h ++ e ∷ []) old.nodes r x) → ((x : Stowed T) → find new.resources k ≡ Some x → IsStored base g (h ++ e ∷ []) old.nodes k.number x) → (list_any (is_take_of k.number) (h ++ e ∷ []) ≡ false → IsSome (find new.resources k)) → AreStored base g (h ++ e ∷ []) new
+    pub all_stored_but : (old new : Tree T) (k : Key) → AreStored base g h old → AreApart old.resources → IsSome (find old.resources k) →
+        new.nodes ≡ old.nodes → KeepsOthers old.resources new.resources k → makes_resource e ≡ false →
+        ((r : ℕ) (x : Stowed T) → r ≢ k.number → IsStored base g h old.nodes r x → IsStored base g (h ++ e ∷ []) old.nodes r x) →
+        ((x : Stowed T) → find new.resources k ≡ Some x → IsStored base g (h ++ e ∷ []) old.nodes k.number x) →
+        (list_any (is_take_of k.number) (h ++ e ∷ []) ≡ false → IsSome (find new.resources k)) → AreStored base g (h ++ e ∷ []) new
     all_stored_but old new k s unique there nodes others none stays here left = record { each = each; every = every } where
       each : (key : Key) (x : Stowed T) → find new.resources key ≡ Some x → IsStored base g (h ++ e ∷ []) new.nodes key.number x
       each key x found = subst (λ (ns : Slots Node). IsStored base g (h ++ e ∷ []) ns key.number x) (sym nodes) (by_key (cases_key key k)) where
@@ -185,37 +192,41 @@ module _ (base : Kept) {T : Type 0} (g : Ghosts T) (h : List Event) (law : IsLaw
   others_still e k apart r x differs is = stored_still base g h law e old.nodes old.nodes r x is (apart r differs) (kept_all e)
 
   -- a resource is used
-  pub stored_used : (k : Key) (before : Stowed T) (after : T) → find old.resources k ≡ Some before → g.uses_of after ≡ g.uses_of before.resource + 1 → g.tag_of after ≡ g.tag_of before.resource → g.life_of after ≡ g.life_of before.resource → Rewrites old.resources new.resources k (with_resource after) → AreStored base g (h ++ Use k.number ∷ []) new
-  stored_used k before after found used tagged lives w = all_stored_but base g h law (Use k.number) old new k s unique (ap is_some found) nodes w.others refl (others_still (Use k.number) k.number apart) here (λ untaken. ap is_some now) where
-    now : find new.resources k ≡ Some (with_resource after before)
-    now = w.changed ∙ ap (option_map (with_resource after)) found
+  pub stored_used : (k : Key) (before : Stowed T) (after : T) → find old.resources k ≡ Some before → g.uses_of after ≡ g.uses_of before.resource + 1 →
+      g.tag_of after ≡ g.tag_of before.resource → g.life_of after ≡ g.life_of before.resource →
+      Rewrites old.resources new.resources k (with_resource after) → AreStored base g (h ++ Use k.number ∷ []) new
+  stored_used k before after found used tagged lives w = all_stored_but base g h law (Use k.number) old new k s unique (ap is_some found) nodes
+      w.others refl (others_still (Use k.number) k.number apart) here (λ untaken. ap is_some now)
+    where
+      now : find new.resources k ≡ Some (with_resource after before)
+      now = w.changed ∙ ap (option_map (with_resource after)) found
 
-    was : IsStored base g h old.nodes k.number before
-    was = s.each k before found
+      was : IsStored base g h old.nodes k.number before
+      was = s.each k before found
 
-    within : (k.number < length h) × (before.node.number < k.number)
-    within = stored_within base g h law old.nodes k.number before was
+      within : (k.number < length h) × (before.node.number < k.number)
+      within = stored_within base g h law old.nodes k.number before was
 
-    apart : (r : ℕ) → r ≢ k.number → IsApart r (Use k.number)
-    apart r differs = record { removes = refl; takes = refl; uses = ne_eqb k.number r (λ same. differs (sym same)); leases = refl; returns = refl }
+      apart : (r : ℕ) → r ≢ k.number → IsApart r (Use k.number)
+      apart r differs = record { removes = refl; takes = refl; uses = ne_eqb k.number r (λ same. differs (sym same)); leases = refl; returns = refl }
 
-    after_it : IsStored base g (h ++ Use k.number ∷ []) old.nodes k.number (with_resource after before)
-    after_it = record {
-      made = at-append makes_resource h (Use k.number ∷ []) k.number within.0 ∙ was.made;
-      accepted = accepted_by-push base h (Use k.number) k.number within.0 ∙ was.accepted ∙ ap (λ (t : ℕ). Some (Accept before.node.number t)) (sym tagged);
-      older = was.older;
-      owned = owned_still base g h law (Use k.number) old.nodes k.number before was refl;
-      lent = was.lent ∙ sym (leases_of_still base h (Use k.number) law refl k.number refl);
-      untaken = still base g h law (Use k.number) (is_take_of k.number) refl ∙ was.untaken;
-      home = λ alive. was.home (open_before base g h law (Use k.number) before.node.number (let a = within.0 in let b = within.1 in omega arith) alive);
-      live = lives ∙ was.live;
-      few = few_after base g h law (Use k.number) k.number was.few;
-      uses = used ∙ ap (λ (n : ℕ). n + 1) was.uses ∙ sym (uses-push base h (Use k.number) k.number ∙
-          ap (λ b. uses base h k.number + cond {A = ℕ} b 1 0) (eq-eqb k.number k.number refl));
-    }
+      after_it : IsStored base g (h ++ Use k.number ∷ []) old.nodes k.number (with_resource after before)
+      after_it = record {
+        made = at-append makes_resource h (Use k.number ∷ []) k.number within.0 ∙ was.made;
+        accepted = accepted_by-push base h (Use k.number) k.number within.0 ∙ was.accepted ∙ ap (λ (t : ℕ). Some (Accept before.node.number t)) (sym tagged);
+        older = was.older;
+        owned = owned_still base g h law (Use k.number) old.nodes k.number before was refl;
+        lent = was.lent ∙ sym (leases_of_still base h (Use k.number) law refl k.number refl);
+        untaken = still base g h law (Use k.number) (is_take_of k.number) refl ∙ was.untaken;
+        home = λ alive. was.home (open_before base g h law (Use k.number) before.node.number (let a = within.0 in let b = within.1 in omega arith) alive);
+        live = lives ∙ was.live;
+        few = few_after base g h law (Use k.number) k.number was.few;
+        uses = used ∙ ap (λ (n : ℕ). n + 1) was.uses ∙ sym (uses-push base h (Use k.number) k.number ∙
+            ap (λ b. uses base h k.number + cond {A = ℕ} b 1 0) (eq-eqb k.number k.number refl));
+      }
 
-    here : (x : Stowed T) → find new.resources k ≡ Some x → IsStored base g (h ++ Use k.number ∷ []) old.nodes k.number x
-    here x f = subst (IsStored base g (h ++ Use k.number ∷ []) old.nodes k.number) (same_Some _ x (sym now ∙ f)) after_it
+      here : (x : Stowed T) → find new.resources k ≡ Some x → IsStored base g (h ++ Use k.number ∷ []) old.nodes k.number x
+      here x f = subst (IsStored base g (h ++ Use k.number ∷ []) old.nodes k.number) (same_Some _ x (sym now ∙ f)) after_it
 
   -- a resource is removed
   pub stored_removed : (k : Key) (before : Stowed T) → find old.resources k ≡ Some before → Rewrites old.resources new.resources k removed → AreStored base g (h ++ Remove k.number ∷ []) new
@@ -320,12 +331,18 @@ module _ (base : Kept) {T : Type 0} (g : Ghosts T) (h : List Event) (law : IsLaw
 
   -- a resource is taken
   pub stored_taken : (k : Key) → IsSome (find old.resources k) → find new.resources k ≡ None → KeepsOthers old.resources new.resources k → AreStored base g (h ++ Take k.number ∷ []) new
-  stored_taken k there gone others = all_stored_but base g h law (Take k.number) old new k s unique there nodes others refl (others_still (Take k.number) k.number apart) (λ x f. absurd (none-some x (sym gone ∙ f))) (λ untaken. absurd (both_ways _ untaken (list_any_push (is_take_of k.number) h (Take k.number) ∙ or_right (list_any (is_take_of k.number) h) _ (eq-eqb k.number k.number refl)))) where
-    apart : (r : ℕ) → r ≢ k.number → IsApart r (Take k.number)
-    apart r differs = record { removes = refl; takes = ne_eqb k.number r (λ same. differs (sym same)); uses = refl; leases = refl; returns = refl }
+  stored_taken k there gone others = all_stored_but base g h law (Take k.number) old new k s unique there nodes others refl
+      (others_still (Take k.number) k.number apart) (λ x f. absurd (none-some x (sym gone ∙ f)))
+      (λ untaken. absurd (both_ways _ untaken (list_any_push (is_take_of k.number) h (Take k.number) ∙
+      or_right (list_any (is_take_of k.number) h) _ (eq-eqb k.number k.number refl))))
+    where
+      apart : (r : ℕ) → r ≢ k.number → IsApart r (Take k.number)
+      apart r differs = record { removes = refl; takes = ne_eqb k.number r (λ same. differs (sym same)); uses = refl; leases = refl; returns = refl }
 
   -- a fresh resource is accepted
-  pub stored_accepted : (home k : Key) (x : T) → IsSome (find old.nodes home) → is_open h home.number ≡ true → g.life_of x ≡ Live → g.uses_of x ≡ 0 → k.number ≡ length h → entry_at old.resources k.slot ≡ None → find new.resources k ≡ Some (stowed_at home x) → KeepsOthers old.resources new.resources k → AreStored base g (h ++ Accept home.number (g.tag_of x) ∷ []) new
+  pub stored_accepted : (home k : Key) (x : T) → IsSome (find old.nodes home) → is_open h home.number ≡ true → g.life_of x ≡ Live → g.uses_of x ≡ 0 →
+      k.number ≡ length h → entry_at old.resources k.slot ≡ None → find new.resources k ≡ Some (stowed_at home x) →
+      KeepsOthers old.resources new.resources k → AreStored base g (h ++ Accept home.number (g.tag_of x) ∷ []) new
   stored_accepted home k x there alive lives unused numbered free found others = record { each = each; every = every } where
     e : Event
     e = Accept home.number (g.tag_of x)

@@ -63,12 +63,17 @@ module _ {T : Type 0} (g : Ghosts T) (h : List Event) (old new : Tree T) (number
 
 -- it is listed among those that wait
 pub takes_listed : {T : Type 0} (g : Ghosts T) (old new : Tree T) (number : ℕ) (x : T) → Takes old new number x → IsListed g old (number, x)
-takes_listed {T = T} g old new number x t = record { listed = subst (λ (l : Label). Contains (map (label_in g) (waiting_in old)) l) same (Contains-map (label_in g) (waiting_in old) here (filter_has (λ (k : Kept (Stowed T)). not (is_held old.nodes k.value)) (kept_in old.resources) here (kept_listed old.resources t.key t.stowed t.found) (ap not t.waited))) } where
-  here : Kept (Stowed T)
-  here = record { key = t.key; value = t.stowed }
+takes_listed {T = T} g old new number x t = record {
+  listed = subst (λ (l : Label). Contains (map (label_in g) (waiting_in old)) l) same
+      (Contains-map (label_in g) (waiting_in old) here (filter_has (λ (k : Kept (Stowed T)). not (is_held old.nodes k.value)) (kept_in old.resources)
+      here (kept_listed old.resources t.key t.stowed t.found) (ap not t.waited)));
+}
+  where
+    here : Kept (Stowed T)
+    here = record { key = t.key; value = t.stowed }
 
-  same : label_in g here ≡ label_of g number x
-  same = ap (λ (n : ℕ). label_of g n t.stowed.resource) t.numbered ∙ ap (label_of g number) t.handed
+    same : label_in g here ≡ label_of g number x
+    same = ap (λ (n : ℕ). label_of g n t.stowed.resource) t.numbered ∙ ap (label_of g number) t.handed
 
 -- where all that is stored is held none waits
 pub none_waits : {T : Type 0} (old : Tree T) → ((key : Key) (s : Stowed T) → find old.resources key ≡ Some s → IsTrue (is_held old.nodes s)) → waiting_in old ≡ []

@@ -25,7 +25,7 @@ use Rattle.rx_event.proofs.Laws.MarksTouched.{marks-decline_at, marks-end_at}
 use Rattle.rx_slots.specs.declared.Key.{Key}
 use Rattle.rx_slots.specs.Slots.{Slots, find, entry_at, with_number, KeepsOthers}
 use Rattle.rx_tree.specs.declared.node.Node.{Node}
-use Rattle.rx_tree.specs.Tree.{Tree, IsSound, AreApart, Rewrites, blank_node, with_last}
+use Rattle.rx_tree.specs.Tree.{Tree, IsSound, AreApart, Rewrites, blank_node, with_due}
 use Rattle.rx_tree.specs.Below.{is_below}
 use Rattle.rx_tree.proofs.Laws.Keys.{cases_key, some_of}
 use Rattle.rx_ground.specs.Ties.{AreRecords, AreStored, IsTied, KeepsNodes, Remarks, Cuts}
@@ -122,7 +122,8 @@ module _ (base : Kept) {T : Type 0} (g : Ghosts T) (h : List Event) (law : IsLaw
     true_false e = absurd (false≢true (sym e))
 
   -- what stays open stands in the tree with the new node
-  pub opened_there : (e : Event) (above : Option Key) → AreLeft h e old.nodes left.nodes old.chain left.chain → IsOpenedIn h e above left mid key → (k : Key) → IsSome (find old.nodes k) → is_open (h ++ e ∷ []) k.number ≡ true → IsSome (find mid.nodes k)
+  pub opened_there : (e : Event) (above : Option Key) → AreLeft h e old.nodes left.nodes old.chain left.chain → IsOpenedIn h e above left mid key →
+      (k : Key) → IsSome (find old.nodes k) → is_open (h ++ e ∷ []) k.number ≡ true → IsSome (find mid.nodes k)
   opened_there e above stays opened k some alive =
       let x = some_of (find old.nodes k) some in
       let here = ap is_some (stays.still k x.0 x.1 alive) in
@@ -155,8 +156,10 @@ module _ (base : Kept) {T : Type 0} (g : Ghosts T) (h : List Event) (kind : Kind
       marks_of base (h ++ e ∷ []) p.number ≡ change (marks_of base h p.number)
       → AreApart mid.nodes → IsSome (find left.nodes p) → IsOpenedIn h e (Some p) left mid key → Remarks mid new p change → IsTied base g (h ++ e ∷ []) new)
   tied_below place p change next stays same named apart_marks changed apart there opened marked = record {
-    records = subst (AreRecords base (h ++ e ∷ []) new.nodes) (ap (with_last p) (sym opened.chain) ∙ sym marked.chain) (remarked base (h ++ e ∷ []) mid.nodes new.nodes left.chain p before.0 change near apart at_p marks marked.nodes);
-    stored = all_stored base g h law e old new tied.stored (marked.resources ∙ opened.resources ∙ same) refl (apart_all place) (λ k some alive. still_there p marked.nodes k (opened_there base g h law old left mid tied key e (Some p) stays opened k some alive));
+    records = subst (AreRecords base (h ++ e ∷ []) new.nodes) (ap (with_due new.nodes p) (sym opened.chain) ∙ sym marked.chain) (remarked base (h ++ e ∷ []) mid.nodes new.nodes left.chain p before.0 change near apart at_p marks marked.nodes);
+    stored = all_stored base g h law e old new tied.stored (marked.resources ∙ opened.resources ∙
+        same) refl (apart_all place) (λ k some alive. still_there p marked.nodes k
+        (opened_there base g h law old left mid tied key e (Some p) stays opened k some alive));
   }
     where
       e : Event
@@ -164,7 +167,8 @@ module _ (base : Kept) {T : Type 0} (g : Ghosts T) (h : List Event) (kind : Kind
 
       near : AreNearly base (h ++ e ∷ []) (Some p.number) mid.nodes left.chain
       near = subst (λ (o : Option ℕ). AreNearly base (h ++ e ∷ []) o mid.nodes left.chain) named
-          (records_opened base h e law next old.nodes old.chain tied.records left.nodes left.chain stays mid.nodes key (Some p) refl (λ n differs. apart_marks n (λ same. differs (named ∙ ap (λ (m : ℕ). Some m) same))) opened.numbered opened.free opened.found opened.others)
+          (records_opened base h e law next old.nodes old.chain tied.records left.nodes left.chain stays mid.nodes key (Some p) refl
+          (λ n differs. apart_marks n (λ same. differs (named ∙ ap (λ (m : ℕ). Some m) same))) opened.numbered opened.free opened.found opened.others)
 
       before : (x : Node) × (find left.nodes p ≡ Some x)
       before = some_of (find left.nodes p) there
@@ -188,7 +192,9 @@ module _ (base : Kept) {T : Type 0} (g : Ghosts T) (h : List Event) (law : IsLaw
 
 -- closings ----------------------------------------------------------------------------------------
 
-module _ (base : Kept) {T : Type 0} (h : List Event) (e : Event) (old mid : Tree T) (r : AreRecords base h old.nodes old.chain) (sound : IsSound old.nodes) (top : ℕ) (opens : (n : ℕ) → is_open (h ++ e ∷ []) n ≡ (is_open h n && not (list_any (λ a. top == a) (ancestors h n)))) (cuts : Cuts old mid top) where
+module _ (base : Kept) {T : Type 0} (h : List Event) (e : Event) (old mid : Tree T) (r : AreRecords base h old.nodes old.chain)
+    (sound : IsSound old.nodes) (top : ℕ) (opens : (n : ℕ) → is_open (h ++ e ∷ []) n ≡
+    (is_open h n && not (list_any (λ a. top == a) (ancestors h n)))) (cuts : Cuts old mid top) where
   -- a closing keeps what stays open
   pub cut_keeps : KeepsNodes (h ++ e ∷ []) old.nodes mid.nodes
   cut_keeps = record {
@@ -214,7 +220,8 @@ module _ (base : Kept) {T : Type 0} (h : List Event) (e : Event) (old mid : Tree
         still = λ key some alive. still_there p marked.nodes key (k.still key some alive);
       }
 
-module _ (base : Kept) {T : Type 0} (g : Ghosts T) (h : List Event) (c : ℕ) (t : Terminal) (law : IsLawful base h) (next : MayFollow base h (End c t)) (old mid new : Tree T) (tied : IsTied base g h old) (sound : IsSound old.nodes) (cuts : Cuts old mid c) where
+module _ (base : Kept) {T : Type 0} (g : Ghosts T) (h : List Event) (c : ℕ) (t : Terminal) (law : IsLawful base h) (next : MayFollow base h (End c t))
+    (old mid new : Tree T) (tied : IsTied base g h old) (sound : IsSound old.nodes) (cuts : Cuts old mid c) where
   near_end : (stale : Option ℕ) → ((n : ℕ) → stale ≢ Some n → is_open (h ++ End c t ∷ []) n ≡ true → marks_of base (h ++ End c t ∷ []) n ≡ marks_of base h n) → AreNearly base (h ++ End c t ∷ []) stale mid.nodes mid.chain
   near_end stale kept = records_cut base h (End c t) law next old.nodes old.chain tied.records mid.nodes mid.chain c stale sound kept (is_open_outside-end h c t) cuts.nodes cuts.chain
 
@@ -232,9 +239,14 @@ module _ (base : Kept) {T : Type 0} (g : Ghosts T) (h : List Event) (c : ℕ) (t
   }
 
   -- and that of one that stands below another, which remembers it
-  pub tied_end_child : (p : Key) (made : Event) (above : Node) → AreApart mid.nodes → is_open h c ≡ true → parent h c ≡ Some p.number → slice_get h c ≡ Some made → find old.nodes p ≡ Some above → find mid.nodes p ≡ Some above → Remarks mid new p (after_child (is_some (source_named made)) (is_merging above.made) t) → IsTied base g (h ++ End c t ∷ []) new
+  pub tied_end_child : (p : Key) (made : Event) (above : Node) → AreApart mid.nodes → is_open h c ≡ true → parent h c ≡ Some p.number →
+      slice_get h c ≡ Some made → find old.nodes p ≡ Some above → find mid.nodes p ≡ Some above →
+      Remarks mid new p (after_child (is_some (source_named made)) (is_merging above.made) t) → IsTied base g (h ++ End c t ∷ []) new
   tied_end_child p made above apart alive below at_c found at_p marked = record {
-    records = subst (AreRecords base (h ++ End c t ∷ []) new.nodes) (sym marked.chain) (remarked base (h ++ End c t ∷ []) mid.nodes new.nodes mid.chain p above (after_child (is_some (source_named made)) (is_merging above.made) t) (near_end (Some p.number) (λ n fresh alive. marks-end_other base h c t law next n alive (no_child (Some p.number) below n fresh))) apart at_p marks marked.nodes);
+    records = subst (AreRecords base (h ++ End c t ∷ []) new.nodes) (sym marked.chain)
+        (remarked base (h ++ End c t ∷ []) mid.nodes new.nodes mid.chain p above (after_child (is_some (source_named made)) (is_merging above.made) t)
+        (near_end (Some p.number) (λ n fresh alive. marks-end_other base h c t law next n alive (no_child (Some p.number) below n fresh)))
+        apart at_p marks marked.nodes);
     stored = all_stored base g h law (End c t) old new tied.stored (marked.resources ∙ cuts.resources) refl apart_end (keeps_marked base h (End c t) old mid tied.records sound c (is_open_outside-end h c t) cuts new p _ marked).still;
   }
     where
@@ -242,16 +254,25 @@ module _ (base : Kept) {T : Type 0} (g : Ghosts T) (h : List Event) (c : ℕ) (t
       is = (tied.records.each p above found).made
 
       marks : marks_of base (h ++ End c t ∷ []) p.number ≡ after_child (is_some (source_named made)) (is_merging above.made) t above.marks
-      marks = marks-end_at base h c p.number made above.made t law next below at_c is ∙ ap (λ b. after_child b (is_merging above.made) t (marks_of base h p.number)) (sym (source_at made p.number (parent_name h c p.number made below at_c))) ∙ ap (after_child (is_some (source_named made)) (is_merging above.made) t) (sym (tied.records.each p above found).marks)
+      marks = marks-end_at base h c p.number made above.made t law next below at_c is ∙
+          ap (λ b. after_child b (is_merging above.made) t (marks_of base h p.number))
+          (sym (source_at made p.number (parent_name h c p.number made below at_c))) ∙
+          ap (after_child (is_some (source_named made)) (is_merging above.made) t) (sym (tied.records.each p above found).marks)
 
   -- the parent stays where it was
   pub parent_stays : (p : Key) (above : Node) → is_open h c ≡ true → parent h c ≡ Some p.number → find old.nodes p ≡ Some above → find mid.nodes p ≡ Some above
   parent_stays p above alive below found =
-      cuts.nodes p ∙ ap (λ b. cond b None (find old.nodes p)) (below_is_within base h old.nodes old.chain tied.records sound p above found c ∙ false_from_ne_true (is_within h c p.number) (λ within. let l = is_within-le h c p.number within in let s = parent-lt h c p.number below in absurd (omega arith))) ∙ found
+      cuts.nodes p ∙ ap (λ b. cond b None (find old.nodes p)) (below_is_within base h old.nodes old.chain tied.records sound p above found c ∙
+      false_from_ne_true (is_within h c p.number) (λ within. let l = is_within-le h c p.number within in let s = parent-lt h c p.number below in
+      absurd (omega arith))) ∙ found
 
 -- the closing of a root
-pub tied_close : (base : Kept) → {T : Type 0} (g : Ghosts T) (h : List Event) (c : ℕ) → IsLawful base h → MayFollow base h (Close c) → (old mid : Tree T) → IsTied base g h old → IsSound old.nodes → Cuts old mid c → IsTied base g (h ++ Close c ∷ []) mid
+pub tied_close : (base : Kept) → {T : Type 0} (g : Ghosts T) (h : List Event) (c : ℕ) → IsLawful base h → MayFollow base h (Close c) →
+    (old mid : Tree T) → IsTied base g h old → IsSound old.nodes → Cuts old mid c → IsTied base g (h ++ Close c ∷ []) mid
 tied_close base g h c law next old mid tied sound cuts = record {
-  records = all_fresh _ _ mid.nodes mid.chain (records_cut base h (Close c) law next old.nodes old.chain tied.records mid.nodes mid.chain c None sound (λ n fresh alive. marks_closed base h c law next n alive) (is_open_outside-close h c) cuts.nodes cuts.chain);
-  stored = all_stored base g h law (Close c) old mid tied.stored cuts.resources refl (λ r. record { removes = refl; takes = refl; uses = refl; leases = refl; returns = refl }) (cut_keeps base h (Close c) old mid tied.records sound c (is_open_outside-close h c) cuts).still;
+  records = all_fresh _ _ mid.nodes mid.chain (records_cut base h (Close c) law next old.nodes old.chain tied.records mid.nodes mid.chain c None sound
+      (λ n fresh alive. marks_closed base h c law next n alive) (is_open_outside-close h c) cuts.nodes cuts.chain);
+  stored = all_stored base g h law (Close c) old mid tied.stored cuts.resources refl
+      (λ r. record { removes = refl; takes = refl; uses = refl; leases = refl; returns = refl })
+      (cut_keeps base h (Close c) old mid tied.records sound c (is_open_outside-close h c) cuts).still;
 }

@@ -7,7 +7,9 @@ use Rattle.rx_event.proofs.Laws.Counts.{notes-push}
 use Rattle.rx_register.specs.State.{State, Writes}
 
 -- an event whose notes were told before it was written
-pub writes_told : (old told new : State) (e : Event) → told ≡ record old { pending = told.pending; mail_room = told.mail_room } → old.mail_room ≡ told.mail_room + length (mail_of old.history e) → new.base ≡ told.base → new.history ≡ told.history ++ e ∷ [] → new.pending ≡ [] → new.room + 1 ≡ told.room → new.limit ≡ told.limit → new.given ≡ told.given → new.mail_room ≡ told.mail_room → Writes old (e ∷ []) new
+pub writes_told : (old told new : State) (e : Event) → told ≡ record old { pending = told.pending; mail_room = told.mail_room } →
+    old.mail_room ≡ told.mail_room + length (mail_of old.history e) → new.base ≡ told.base → new.history ≡ told.history ++ e ∷ [] → new.pending ≡ [] →
+    new.room + 1 ≡ told.room → new.limit ≡ told.limit → new.given ≡ told.given → new.mail_room ≡ told.mail_room → Writes old (e ∷ []) new
 writes_told old told new e same notes_told base history pending room limit given mail_room = record {
   base = base ∙ ap (λ (s : State). s.base) same;
   history = grown;
@@ -22,5 +24,6 @@ writes_told old told new e same notes_told base history pending room limit given
     grown = history ∙ ap (λ (s : State). s.history ++ e ∷ []) same
 
 -- one that tells nothing
-pub writes_silent : (old new : State) (e : Event) → mail_of old.history e ≡ [] → new.base ≡ old.base → new.history ≡ old.history ++ e ∷ [] → new.pending ≡ [] → new.room + 1 ≡ old.room → new.limit ≡ old.limit → new.given ≡ old.given → new.mail_room ≡ old.mail_room → Writes old (e ∷ []) new
+pub writes_silent : (old new : State) (e : Event) → mail_of old.history e ≡ [] → new.base ≡ old.base → new.history ≡ old.history ++ e ∷ [] →
+    new.pending ≡ [] → new.room + 1 ≡ old.room → new.limit ≡ old.limit → new.given ≡ old.given → new.mail_room ≡ old.mail_room → Writes old (e ∷ []) new
 writes_silent old new e silent base history pending room limit given mail_room = writes_told old old new e refl (let n = ap (λ (m : List Mail). length m) silent in omega arith) base history pending room limit given mail_room

@@ -7,3 +7,4 @@ pub mod Ties
 pub mod Inners
 pub mod Told
 pub mod Checkpoints
+pub mod Costs

@@ -15,7 +15,7 @@ use Rattle.rx_event.specs.Events.{makes_resource, is_take_of}
 use Rattle.rx_event.specs.Kept.{Kept}
 use Rattle.rx_event.specs.Tree.{at, is_open}
 use Rattle.rx_event.specs.Resources.{accepted_by, is_owned, is_out, leases_of, uses}
-use Rattle.rx_event.specs.Marks.{marks_of, due_at, terminal_due, after_source, after_notifier, after_inner}
+use Rattle.rx_event.specs.Marks.{due_at, after_source, after_notifier, after_inner}
 use Rattle.rx_event.specs.Notes.{mail_of}
 use Rattle.rx_event.specs.Totals.{debt, open_count}
 use Rattle.rx_event.specs.Lawful.{MayFollow}
@@ -28,7 +28,8 @@ use Rattle.rx_tree.specs.declared.node.ResKey.{ResKey}
 use Rattle.rx_tree.specs.Below.{is_below}
 use Rattle.rx_tree.specs.Closing.{outside}
 use Rattle.rx_tree.specs.Resources.{is_held_at, store_key}
-use Rattle.rx_tree.specs.Tree.{Tree, Rewrites, is_on, with_last, with_marks}
+use Rattle.rx_tree.specs.Tree.{Tree, Rewrites, is_on, with_due, with_marks}
+use Rattle.rx_flow.specs.Records.{IsRecordOf}
 use Rattle.rx_hub.specs.declared.hub.HubDue.{HubDue}
 use Rattle.rx_hub.specs.declared.hub.HubDue.TheVariants.{Connect as ConnectDue, End as EndDue, Close as CloseDue}
 use Rattle.rx_hub.specs.declared.hub.LastEnd.{LastEnd}
@@ -39,7 +40,6 @@ use Rattle.rx_hub.specs.Hubs.{Hub, Hubs}
 use Rattle.rx_hub.specs.Records.{AreHubsOf}
 use Rattle.rx_register.specs.State.{State as Register}
 use Rattle.rx_register.specs.Paid.{IsPaid}
-use Rattle.rx_ground.specs.declared.settle.Due.{Due}
 use Rattle.rx_ground.specs.declared.base.Record.{Record}
 use Rattle.rx_ground.specs.declared.base.Wanted.{Wanted}
 use Rattle.rx_ground.specs.Shown.{Ground, label_of, label_in, waiting_in}
@@ -52,12 +52,6 @@ opened_marks replaces (Source p) m = after_source m
 opened_marks replaces (Inner f) m = after_inner replaces m
 opened_marks replaces (Notifier u) m = after_notifier m
 opened_marks replaces Root m = m
-
--- the record of an open node: its event, and its marks by the history
-pub record IsRecordOf (base : Kept) (h : List Event) (n : ℕ) (node : Node) : Type 0 where
-  pub made : slice_get h n ≡ Some node.made
-  pub alive : is_open h n ≡ true
-  pub marks : node.marks ≡ marks_of base h n
 
 -- some slot has a value under this number
 pub record HasKey {X : Type 0} (slots : Slots X) (number : ℕ) : Type 0 where
@@ -188,10 +182,10 @@ module _ {T : Type 0} where
     pub chain : new.chain ≡ outside old.nodes top old.chain
     pub resources : new.resources ≡ old.resources
 
-  -- the marks of this key's record change so, and its key goes on the chain
+  -- the marks of this key's record change so, and its key goes on the chain where its node has to end by them
   pub record Remarks (old new : Tree T) (key : Key) (change : Marks → Marks) : Type 0 where
     pub nodes : Rewrites old.nodes new.nodes key (λ node. with_marks (change node.marks) node)
-    pub chain : new.chain ≡ with_last key old.chain
+    pub chain : new.chain ≡ with_due new.nodes key old.chain
     pub resources : new.resources ≡ old.resources
 
 -- of its leases, those out now that are older than this were out
@@ -217,16 +211,6 @@ pub record IsNewNode (old new : Slots Node) (number : ℕ) (key : Key) : Type 0 
   pub numbered : key.number ≡ number
   pub found : IsSome (find new key)
   pub from : (other : Key) → IsSome (find new other) → other.number < number → IsSome (find old other)
-
--- nothing is due at any node
-pub record AllQuiet (nodes : Slots Node) : Type 0 where
-  pub quiet : (key : Key) (node : Node) → find nodes key ≡ Some node → terminal_due node.made node.marks ≡ None
-
--- this is due at this node
-pub record IsDueNext (nodes : Slots Node) (next : Due) : Type 0 where
-  pub node : Node
-  pub found : find nodes next.node ≡ Some node
-  pub due : terminal_due node.made node.marks ≡ Some next.terminal
 
 -- the key of the node that ends or closes by what is due, if one does
 abbrev pub key_due : HubDue → Option Key

@@ -1,7 +1,7 @@
 //! What a book stands on: the register of what happened, the tree of what is open, held and waiting, the
 //! hubs that were made, and the leases that are out.
 
-ghost use Rattle.std.specs.Prelude.{◌≡◌, ◌+◌, ◌<◌, ◌≤◌, length, option_map, OnOk};
+ghost use Rattle.std.specs.Prelude.{◌≡◌, ◌+◌, ◌-◌, ◌<◌, ◌≤◌, length, vec_capacity, option_map, OnOk};
 ghost use Rattle.rx_register.specs.State.{IsPromised as IsRegisterPromised};
 ghost use Rattle.rx_tree.specs.Tree.{AreApart, IsPromised as IsTreePromised};
 ghost use Rattle.rx_hub.specs.Hubs.{IsPromised as IsHubsPromised};
@@ -80,6 +80,52 @@ pub struct Record {
     pub marks: Marks,
 }
 
+// Room for so many nodes more, and for closing all there are then. Where none is wanted, none is asked for.
+fn reserve_nodes<R: Resource>(
+    tree: &mut Tree<R>,
+    closed: &mut Vec<Closed>,
+    additional: usize,
+) -> Result<(), AllocError>
+    ensures ok { OnOk result (additional ≤ tree.new.nodes.room) }
+    ensures kept { tree.new ≡ record tree.old { nodes = record tree.old.nodes { room = tree.new.nodes.room } } }
+    ensures room { tree.old.nodes.room ≤ tree.new.nodes.room }
+    ensures space { OnOk result (additional ≤ vec_capacity closed.new - tree.new.nodes.count) }
+    ensures closed { closed.new.items ≡ closed.old.items }
+    ensures capacity { vec_capacity closed.old ≤ vec_capacity closed.new }
+{
+    if additional == 0 {
+        return Ok(());
+    }
+    let Some(space) = tree.len().checked_add(additional) else {
+        return Err(AllocError);
+    };
+    closed.reserve(space)?;
+    tree.reserve(additional)
+}
+
+// Room for so many resources more. Where none is wanted, none is asked for.
+fn reserve_resources<R: Resource>(tree: &mut Tree<R>, additional: usize) -> Result<(), AllocError>
+    ensures ok { OnOk result (additional ≤ tree.new.resources.room) }
+    ensures kept { tree.new ≡ record tree.old
+        { resources = record tree.old.resources { room = tree.new.resources.room } } }
+{
+    if additional == 0 {
+        return Ok(());
+    }
+    tree.reserve_resources(additional)
+}
+
+// Room for so many leases more. Where none is wanted, none is asked for.
+fn reserve_leases(leases: &mut Leases, additional: usize) -> Result<(), AllocError>
+    ensures ok { OnOk result (additional ≤ leases.new.room) }
+    ensures kept { leases.new ≡ record leases.old { room = leases.new.room } }
+{
+    if additional == 0 {
+        return Ok(());
+    }
+    leases.reserve(additional)
+}
+
 // Lets subscribers stand at all slots below this one, where there are hubs.
 fn reserve_slots(hubs: &mut Hubs, slots: usize) -> Result<(), AllocError>
     ensures ok { OnOk result (0 < length hubs.old.hubs → slots ≤ hubs.new.slots) }
@@ -89,6 +135,24 @@ fn reserve_slots(hubs: &mut Hubs, slots: usize) -> Result<(), AllocError>
         return Ok(());
     }
     hubs.reserve_slots(slots)
+}
+
+// Room for so many hubs more, and for an item's way over all there are then. Where none is wanted, none is
+// asked for.
+fn reserve_hubs(hubs: &mut Hubs, route: &mut Route, additional: usize) -> Result<(), AllocError>
+    requires within { length hubs.old.hubs + hubs.old.room ≤ route.old.room }
+    ensures ok { OnOk result (additional ≤ hubs.new.room) }
+    ensures kept { hubs.new ≡ record hubs.old { room = hubs.new.room } }
+    ensures within { length hubs.new.hubs + hubs.new.room ≤ route.new.room }
+{
+    if additional == 0 {
+        return Ok(());
+    }
+    let Some(in_all) = hubs.len().checked_add(additional) else {
+        return Err(AllocError);
+    };
+    route.reserve(in_all)?;
+    hubs.reserve(additional)
 }
 
 impl<R: Resource> Ground<R> {
@@ -116,21 +180,13 @@ impl<R: Resource> Ground<R> {
         ensures ok { OnOk result (HasRoom self.new wanted) }
         ensures kept { IsRoomier self.old self.new }
     {
-        let Some(space) = self.tree.len().checked_add(wanted.nodes) else {
-            return Err(AllocError);
-        };
-        let Some(hubs) = self.hubs.len().checked_add(wanted.hubs) else {
-            return Err(AllocError);
-        };
         self.register.reserve(wanted.events)?;
         self.register.reserve_mail(wanted.notes as usize)?;
-        self.closed.reserve(space)?;
-        self.tree.reserve(wanted.nodes)?;
-        self.tree.reserve_resources(wanted.resources)?;
-        self.leases.reserve(wanted.leases)?;
-        self.route.reserve(hubs)?;
+        reserve_nodes(&mut self.tree, &mut self.closed, wanted.nodes)?;
+        reserve_resources(&mut self.tree, wanted.resources)?;
+        reserve_leases(&mut self.leases, wanted.leases)?;
         reserve_slots(&mut self.hubs, self.tree.slots())?;
-        self.hubs.reserve(wanted.hubs)
+        reserve_hubs(&mut self.hubs, &mut self.route, wanted.hubs)
     }
 
     /// How many events there are, which is the place of the next one.

@@ -11,7 +11,7 @@ ghost use Rattle.rx_event.specs.Refusals.{first_cause};
 ghost use Rattle.rx_slots.specs.Slots.{find};
 ghost use Rattle.rx_tree.specs.Resources.{is_held_at};
 ghost use Rattle.rx_lease.specs.Leases.{is_out_at};
-ghost use Rattle.rx_register.specs.Causes.{by_key, projecting_causes, end_at as end_at_in};
+ghost use Rattle.rx_register.specs.Causes.{by_key, projecting_causes};
 ghost use Rattle.rx_register.specs.Causes.{is_without_hub as is_without_hub_in, is_wrong_place as is_wrong_place_in};
 ghost use Rattle.rx_register.specs.Causes.{is_taken_place as is_taken_place_in, is_unowed_place as is_unowed_place_in};
 ghost use Rattle.rx_register.specs.Causes.{is_crowded as is_crowded_in, is_over as is_over_in};
@@ -20,7 +20,7 @@ ghost use Rattle.rx_ground.specs.Ties.{IsStanding, is_there};
 ghost use Rattle.rx_ground.specs.Told.{IsTold, has_place as has_place_in};
 ghost use Rattle.rx_ground.specs.Told.{is_used as is_used_in, is_unowed as is_unowed_in};
 
-use crate::base::{Ground, Record};
+use crate::base::{Ground, Record, Wanted};
 use rx_event::{Event, Kind, Marks, Place, Refusal};
 use rx_lease::LeaseKey;
 use rx_note::Terminal;
@@ -57,17 +57,6 @@ fn is_unowed(marks: Marks, place: Place) -> bool
     match place {
         Place::Root | Place::Source(_) | Place::Notifier(_) => false,
         Place::Inner(_) => marks.owed == 0,
-    }
-}
-
-/// How many events the end of a node at this place has to be given, when it is opened: 0 for an inner,
-/// whose end the item was given that it was projected for, and 1 at each other place.
-pub fn end_at(place: Place) -> u64
-    ensures { result ≡ end_at_in place }
-{
-    match place {
-        Place::Inner(_) => 0,
-        Place::Root | Place::Source(_) | Place::Notifier(_) => 1,
     }
 }
 
@@ -197,10 +186,11 @@ impl<R: Resource> Ground<R> {
         if self.is_out_of_order(place, above, kind) {
             return Some(Refusal::HubOrder);
         }
-        if self.is_crowded(self.nodes_opened(kind)) {
+        let cost = self.opening_cost(place, kind);
+        if self.is_crowded(cost.nodes as u64) {
             return Some(Refusal::TooMany);
         }
-        if self.is_over(self.added_by_opening(place, kind)) {
+        if self.is_over(cost.events) {
             return Some(Refusal::Full);
         }
         None
@@ -236,10 +226,11 @@ impl<R: Resource> Ground<R> {
         if !is_fresh {
             return Some(Refusal::NotFresh);
         }
-        if self.is_crowded(1) {
+        let cost = Wanted::of_using(place);
+        if self.is_crowded(cost.nodes as u64) {
             return Some(Refusal::TooMany);
         }
-        if self.is_over(4 + end_at(place)) {
+        if self.is_over(cost.events) {
             return Some(Refusal::Full);
         }
         None
@@ -258,7 +249,7 @@ impl<R: Resource> Ground<R> {
         if !is_fresh {
             return Some(Refusal::NotFresh);
         }
-        if self.is_over(3) {
+        if self.is_over(Wanted::of_holding().events) {
             return Some(Refusal::Full);
         }
         None
@@ -273,7 +264,7 @@ impl<R: Resource> Ground<R> {
         if !self.holds(res) {
             return Some(Refusal::NotHeld);
         }
-        if self.is_over(1) {
+        if self.is_over(Wanted::of_applying().events) {
             return Some(Refusal::Full);
         }
         None
@@ -306,7 +297,7 @@ impl<R: Resource> Ground<R> {
         if !self.owns(res) {
             return Some(Refusal::Leased);
         }
-        if self.is_over(2) {
+        if self.is_over(Wanted::of_leasing().events) {
             return Some(Refusal::Full);
         }
         None

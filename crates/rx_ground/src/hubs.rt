@@ -9,20 +9,19 @@ ghost use Rattle.rx_event.specs.declared.event.Event.{Event};
 ghost use Rattle.rx_event.specs.Allowed.{most_hubs};
 ghost use Rattle.rx_event.specs.Events.{makes_hub, is_manual_hub};
 ghost use Rattle.rx_event.specs.Tree.{at, hubs, open_connections, places};
-ghost use Rattle.rx_event.specs.Calls.{Opening, Publishing, Connecting, Disconnecting};
+ghost use Rattle.rx_event.specs.Calls.{Publishing, Connecting, Disconnecting};
 ghost use Rattle.rx_slots.specs.Slots.{find as find_in};
 ghost use Rattle.rx_hub.specs.After.{hubs_after};
 ghost use Rattle.rx_hub.specs.Hubs.{new_hub};
-ghost use Rattle.rx_register.specs.Causes.{forces_connect, nodes_opened, added_by};
+ghost use Rattle.rx_register.specs.Causes.{forces_connect};
 ghost use Rattle.rx_register.specs.State.{Writes};
 ghost use Rattle.rx_ground.specs.FirstCause.{first_by_key};
 ghost use Rattle.rx_ground.specs.Memory.{TakesNoMemory};
 ghost use Rattle.rx_ground.specs.Ties.{AreTied, AreLeased, IsReady, IsStanding, IsNewNode, KeepsOlder};
 ghost use Rattle.rx_ground.specs.Told.{IsHubTold, is_connected_manual};
 
-use crate::base::Ground;
-use crate::decide::end_at;
-use rx_event::{Event, Kind, Mode, Place, Refusal};
+use crate::base::{Ground, Wanted};
+use rx_event::{Event, Kind, Mode, Refusal};
 use rx_hub::Published;
 use rx_resource::Resource;
 use rx_tree::Key;
@@ -72,27 +71,6 @@ impl<R: Resource> Ground<R> {
         }
     }
 
-    /// How many nodes an opening makes: its own, and a connection where it forces one.
-    pub fn nodes_opened(&self, kind: Kind) -> u64
-        requires standing { IsStanding R.Resource self.now }
-        ensures { result ≡ nodes_opened self.now.register.history kind }
-    {
-        if self.forces_connect(kind) { 2 } else { 1 }
-    }
-
-    /// How many events an opening adds, with one for the end of each node that it makes; for an inner's the item
-    /// was given one that it was projected for.
-    pub fn added_by_opening(&self, place: Place, kind: Kind) -> u64
-        requires standing { IsStanding R.Resource self.now }
-        ensures { result ≡ added_by self.now.register.history (Opening place kind) }
-    {
-        if self.forces_connect(kind) {
-            3 + end_at(place)
-        } else {
-            1 + end_at(place)
-        }
-    }
-
     /// Whether one hub more would be too many.
     fn has_most_hubs(&self) -> bool
         requires standing { IsStanding R.Resource self.now }
@@ -111,7 +89,7 @@ impl<R: Resource> Ground<R> {
         if self.has_most_hubs() {
             return Some(Refusal::TooMany);
         }
-        if self.is_over(1) {
+        if self.is_over(Wanted::of_hub().events) {
             return Some(Refusal::Full);
         }
         None
@@ -132,10 +110,11 @@ impl<R: Resource> Ground<R> {
         if published.connection.is_some() {
             return Some(Refusal::Connected);
         }
-        if self.is_crowded(1) {
+        let cost = Wanted::of_connecting();
+        if self.is_crowded(cost.nodes as u64) {
             return Some(Refusal::TooMany);
         }
-        if self.is_over(2) {
+        if self.is_over(cost.events) {
             return Some(Refusal::Full);
         }
         None

@@ -46,6 +46,7 @@
 
 mod base;
 mod checkpoint;
+mod costs;
 mod counts;
 mod decide;
 mod hubs;
@@ -57,5 +58,4 @@ mod settle;
 mod write;
 
 pub use base::{Ground, Record, Wanted};
-pub use decide::end_at;
 pub use route::Reach;

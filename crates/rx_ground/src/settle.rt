@@ -1,60 +1,22 @@
 //! What operators and hubs still have to do, done.
 
 ghost use Rattle.std.specs.Prelude.{◌≡◌, ◌<◌, ◌∷◌, [], true, length, MatchOption};
-ghost use Rattle.std.specs.Option.{option_and_then};
-ghost use Rattle.rx_slots.specs.Slots.{find};
 ghost use Rattle.rx_event.specs.Forced.{IsSettled};
-ghost use Rattle.rx_event.specs.Marks.{terminal_due};
 ghost use Rattle.rx_event.specs.Lawful.{IsForcedOn};
 ghost use Rattle.rx_register.specs.Paid.{IsPaid};
 ghost use Rattle.rx_register.specs.State.{Writes};
 ghost use Rattle.rx_hub.specs.declared.hub.HubDue.{HubDue};
 ghost use Rattle.rx_hub.specs.Due.{event_of};
-ghost use Rattle.rx_ground.specs.Ties.{AreTied, AreLeased, IsStanding, IsReady, IsDueNext, IsNext, KeepsOlder, AllQuiet, WithChain};
+ghost use Rattle.rx_ground.specs.Ties.{AreTied, AreLeased, IsStanding, IsReady, IsNext, KeepsOlder, WithChain};
 ghost use Rattle.rx_ground.specs.Ties.{HasRoomToConnect, is_there, key_due};
 ghost use Rattle.rx_ground.specs.Memory.{TakesNoMemory};
 
 use crate::base::Ground;
-use rx_event::Terminal;
+use rx_flow::{Due, next_due};
 use rx_hub::HubDue;
 use rx_resource::Resource;
-use rx_tree::Key;
-
-/// A node that has to end by its operator's rule, and how.
-#[derive(Clone, Copy)]
-pub(crate) struct Due {
-    pub(crate) node: Key,
-    pub(crate) terminal: Terminal,
-}
 
 impl<R: Resource> Ground<R> {
-    /// How the node has to end by its marks; None where it has not, and where the key finds none.
-    fn terminal_due(&self, node: Key) -> Option<Terminal>
-        ensures { result ≡ option_and_then (λ node. terminal_due node.made node.marks) (find self.now.tree.nodes node) }
-    {
-        match self.record(node) {
-            Some(record) => record.marks.terminal_due(record.made),
-            None => None,
-        }
-    }
-
-    /// The next node that is due; None where none is. It drops from the chain those that are not.
-    fn next_due(&mut self) -> Option<Due>
-        requires tied { AreTied self.old.register.base R.Resource self.old.register.history self.old.tree
-            self.old.hubs }
-        ensures tied { AreTied self.new.register.base R.Resource self.new.register.history self.new.tree self.new.hubs }
-        ensures next { MatchOption result (AllQuiet self.new.tree.nodes) (IsDueNext self.new.tree.nodes) }
-        ensures kept { WithChain self.old self.new }
-    {
-        while let Some(node) = self.tree.pending() {
-            if let Some(terminal) = self.terminal_due(node) {
-                return Some(Due { node, terminal });
-            }
-            self.tree.unchain();
-        }
-        None
-    }
-
     /// What is forced next; None where nothing is. What is due at a hub comes first, since nothing else
     /// is forced while one waits for its connection.
     fn next_forced(&mut self) -> Option<HubDue>
@@ -68,10 +30,8 @@ impl<R: Resource> Ground<R> {
         if let Some(due) = self.hubs.next_forced() {
             return Some(due);
         }
-        match self.next_due() {
-            Some(due) => Some(HubDue::End(due.node, due.terminal)),
-            None => None,
-        }
+        let Due { node, terminal } = next_due(&mut self.tree)?;
+        Some(HubDue::End(node, terminal))
     }
 
     /// Writes what is due: a hub connects, a node ends, or a connection closes.

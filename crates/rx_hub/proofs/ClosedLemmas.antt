@@ -1,5 +1,6 @@
 -- What a closing takes away from hubs, one closed node after the other.
-use Rattle.std.proofs.Common.{◌≡◌, ◌≢◌, ℕ, zero, suc, ◌<◌, ◌==◌, ◌||◌, cond, map, Bool, true, false, List, [], ◌∷◌, ◌++◌, length, get_or, slice_get, take, Option, Some, None}
+use Rattle.std.proofs.Common.{◌≡◌, ◌≢◌, ℕ, zero, suc, ◌<◌, ◌==◌, ◌||◌, cond, map, Bool, true, false, List}
+use Rattle.std.proofs.Common.{[], ◌∷◌, ◌++◌, length, get_or, slice_get, take, Option, Some, None}
 use Rattle.std.proofs.Common.{is_some, IsSome, IfSome, refl, sym, ap, subst, ◌∙◌, arith, true≢false}
 use Rattle.std.specs.List.{filter, AllPairs}
 use Rattle.std.specs.Option.{option_map_or, option_or}
@@ -75,12 +76,15 @@ number_kept gone ended hub = of (option_map_or gone hub.connection false) where
   of true = refl
   of false = refl
 
-some_kept : (gone : Key → Bool) (ended : Option LastEnd) (hubs : List Hub) (g : ℕ) → IsSome (find_hub hubs g) → IsSome (find_hub (map (without_gone gone ended) hubs) g)
+some_kept : (gone : Key → Bool) (ended : Option LastEnd) (hubs : List Hub) (g : ℕ) → IsSome (find_hub hubs g) →
+    IsSome (find_hub (map (without_gone gone ended) hubs) g)
 some_kept gone ended [] g some = some
 some_kept gone ended (h ∷ hubs) g some =
-    subst (λ n. is_some (cond (n == g) (Some (without_gone gone ended h)) (find_hub (map (without_gone gone ended) hubs) g)) ≡ true) (sym (number_kept gone ended h))
+    subst (λ n. is_some (cond (n == g) (Some (without_gone gone ended h)) (find_hub (map (without_gone gone ended) hubs) g)) ≡ true)
+    (sym (number_kept gone ended h))
     (of (h.number == g) (some_kept gone ended hubs g) some) where
-      of : (b : Bool) → (IsSome (find_hub hubs g) → IsSome (find_hub (map (without_gone gone ended) hubs) g)) → is_some (cond b (Some h) (find_hub hubs g)) ≡ true →
+      of : (b : Bool) → (IsSome (find_hub hubs g) → IsSome (find_hub (map (without_gone gone ended) hubs) g)) →
+          is_some (cond b (Some h) (find_hub hubs g)) ≡ true →
           is_some (cond b (Some (without_gone gone ended h)) (find_hub (map (without_gone gone ended) hubs) g)) ≡ true
       of true rest s = refl
       of false rest s = rest s
@@ -90,7 +94,8 @@ some_kept gone ended (h ∷ hubs) g some =
 without_none : (key : Key) (ks : List Key) → is_on key ks ≡ false → without_key key ks ≡ ks
 without_none key [] e = refl
 without_none key (k ∷ ks) e = of (is_key key k) (without_none key ks) e where
-  of : (b : Bool) → (is_on key ks ≡ false → without_key key ks ≡ ks) → (b || is_on key ks) ≡ false → cond (not b) (k ∷ without_key key ks) (without_key key ks) ≡ k ∷ ks
+  of : (b : Bool) → (is_on key ks ≡ false → without_key key ks ≡ ks) → (b || is_on key ks) ≡ false →
+      cond (not b) (k ∷ without_key key ks) (without_key key ks) ≡ k ∷ ks
   of true rest f = absurd (true≢false f)
   of false rest f = ap (λ (zs : List Key). k ∷ zs) (rest f)
 
@@ -101,8 +106,11 @@ filter_twice p q (k ∷ ks) = of (p k) (q k) refl (filter_twice p q ks) where
       filter (λ k. not (q k)) (cond (not a) (k ∷ filter (λ k. not (p k)) ks) (filter (λ k. not (p k)) ks)) ≡
       cond (not (a || b)) (k ∷ filter (λ k. not (p k || q k)) ks) (filter (λ k. not (p k || q k)) ks)
   of true b e rest = rest
-  of false true e rest = ap (λ t. cond (not t) (k ∷ filter (λ k. not (q k)) (filter (λ k. not (p k)) ks)) (filter (λ k. not (q k)) (filter (λ k. not (p k)) ks))) e ∙ rest
-  of false false e rest = ap (λ t. cond (not t) (k ∷ filter (λ k. not (q k)) (filter (λ k. not (p k)) ks)) (filter (λ k. not (q k)) (filter (λ k. not (p k)) ks))) e ∙ ap (λ (zs : List Key). k ∷ zs) rest
+  of false true e rest =
+      ap (λ t. cond (not t) (k ∷ filter (λ k. not (q k)) (filter (λ k. not (p k)) ks)) (filter (λ k. not (q k)) (filter (λ k. not (p k)) ks))) e ∙ rest
+  of false false e rest =
+      ap (λ t. cond (not t) (k ∷ filter (λ k. not (q k)) (filter (λ k. not (p k)) ks)) (filter (λ k. not (q k)) (filter (λ k. not (p k)) ks))) e ∙
+      ap (λ (zs : List Key). k ∷ zs) rest
 
 on_kept : (gone : Key → Bool) (key : Key) → gone key ≡ false → (ks : List Key) → is_on key (filter (λ k. not (gone k)) ks) ≡ is_on key ks
 on_kept gone key stays [] = refl
@@ -133,7 +141,8 @@ module _ (key : Key) (ended : Option LastEnd) where
       (record hub { subscribers = sym (without_none key hub.subscribers off) i }))
 
   -- and where it is neither
-  kept_one : (hub : Hub) → is_on key hub.subscribers ≡ false → option_map_or (is_key key) hub.connection false ≡ false → hub ≡ without_gone (is_key key) ended hub
+  kept_one : (hub : Hub) → is_on key hub.subscribers ≡ false → option_map_or (is_key key) hub.connection false ≡ false →
+      hub ≡ without_gone (is_key key) ended hub
   kept_one hub off none =
       (λ i. record hub { subscribers = sym (without_none key hub.subscribers off) i }) ∙
       sym (ap (λ b. cond b (disconnected ended (unsubscribed key hub)) (unsubscribed key hub)) none)
@@ -188,7 +197,8 @@ module _ (hubs : List Hub) (c : Closed) (ended : Option LastEnd) (known : IsKnow
 module _ (p q : Key → Bool) (ended : Option LastEnd) (hub : Hub) where
   twice_some : (c : Key) (a : Bool) →
       without_gone q ended (cond a (disconnected ended (remaining p (record hub { connection = Some c }))) (remaining p (record hub { connection = Some c }))) ≡
-      cond (a || q c) (disconnected ended (remaining (λ k. p k || q k) (record hub { connection = Some c }))) (remaining (λ k. p k || q k) (record hub { connection = Some c }))
+      cond (a || q c) (disconnected ended (remaining (λ k. p k || q k) (record hub { connection = Some c })))
+      (remaining (λ k. p k || q k) (record hub { connection = Some c }))
   twice_some c true = λ i. record hub { connection = None; last_end = option_or ended hub.last_end; subscribers = filter_twice p q hub.subscribers i }
   twice_some c false = λ i. cond (q c) (disconnected ended (record hub { connection = Some c; subscribers = filter_twice p q hub.subscribers i }))
       (record hub { connection = Some c; subscribers = filter_twice p q hub.subscribers i })
@@ -220,7 +230,8 @@ closed_next closed i j d ended hubs below next =
     ap (λ (xs : List Closed). after_closing xs ended hub) (sym (take-suc closed i d below))) ∙
     ap (λ n. map (after_closing (take n closed) ended) hubs) next
 
-not_yet : (closed : List Closed) (i : ℕ) (d : Closed) → AllPairs (λ a b. a.key ≢ b.key) closed → i < length closed → is_closed (take i closed) (get_or closed i d).key ≡ false
+not_yet : (closed : List Closed) (i : ℕ) (d : Closed) → AllPairs (λ a b. a.key ≢ b.key) closed → i < length closed →
+    is_closed (take i closed) (get_or closed i d).key ≡ false
 not_yet [] i d once below = absurd (omega (arith, below))
 not_yet (x ∷ closed) zero d once below = refl
 not_yet (x ∷ closed) (suc i) d once below =
@@ -230,16 +241,23 @@ not_yet (x ∷ closed) (suc i) d once below =
       apart true e = absurd (once 0 (suc i) d (omega arith) below (key_is x.key (get_or closed i d).key e))
       apart false e = refl
 
-known_kept : (gone : Key → Bool) (ended : Option LastEnd) (hubs : List Hub) (c : Closed) → gone c.key ≡ false → IsKnown hubs c → IsKnown (map (without_gone gone ended) hubs) c
+known_kept : (gone : Key → Bool) (ended : Option LastEnd) (hubs : List Hub) (c : Closed) → gone c.key ≡ false → IsKnown hubs c →
+    IsKnown (map (without_gone gone ended) hubs) c
 known_kept gone ended hubs c stays known = record {
   subscribed = λ g made. some_kept gone ended hubs g (known.subscribed g made);
   connected = λ g made. some_kept gone ended hubs g (known.connected g made);
   subscribes = λ i hub got.
       let h = map_at (without_gone gone ended) hubs i hub got in
-      sym (ap (λ (x : Hub). is_on c.key x.subscribers) h.1.1) ∙ on_same h.0 ∙ known.subscribes i h.0 h.1.0 ∙ named h.0 hub h.1.1 (λ n. is_subscriber_of n c.node.made);
+      sym (ap (λ (x : Hub). is_on c.key x.subscribers) h.1.1) ∙
+      on_same h.0 ∙
+      known.subscribes i h.0 h.1.0 ∙
+      named h.0 hub h.1.1 (λ n. is_subscriber_of n c.node.made);
   connects = λ i hub got.
       let h = map_at (without_gone gone ended) hubs i hub got in
-      sym (ap (λ (x : Hub). option_map_or (is_key c.key) x.connection false) h.1.1) ∙ connection_is h.0 ∙ connection_same h.0.connection ∙ known.connects i h.0 h.1.0 ∙
+      sym (ap (λ (x : Hub). option_map_or (is_key c.key) x.connection false) h.1.1) ∙
+      connection_is h.0 ∙
+      connection_same h.0.connection ∙
+      known.connects i h.0 h.1.0 ∙
       named h.0 hub h.1.1 (λ n. is_connect_of n c.node.made);
 } where
   named : (h hub : Hub) → without_gone gone ended h ≡ hub → (test : ℕ → Bool) → test h.number ≡ test hub.number
@@ -274,7 +292,8 @@ known_next hubs closed i d ended closing below =
     known_kept (is_closed (take i closed)) ended hubs (get_or closed i d) (not_yet closed i d closing.once below)
     (closing.known i (get_or closed i d) (get_some closed i d below))
 
-pub known_at : (now hubs : List Hub) (closed : List Closed) (i : ℕ) (d : Closed) (ended : Option LastEnd) → now ≡ map (after_closing (take i closed) ended) hubs →
+pub known_at : (now hubs : List Hub) (closed : List Closed) (i : ℕ) (d : Closed) (ended : Option LastEnd) →
+    now ≡ map (after_closing (take i closed) ended) hubs →
     AreClosing hubs closed → i < length closed → IsKnown now (get_or closed i d)
 known_at now hubs closed i d ended is closing below =
     subst (λ (hs : List Hub). IsKnown hs (get_or closed i d)) (sym is) (known_next hubs closed i d ended closing below)

@@ -1,5 +1,6 @@
 -- Hubs that forget how their connections ended, and what is kept of hubs.
-use Rattle.std.proofs.Common.{◌≡◌, ℕ, zero, suc, ◌<◌, ◌+◌, ◌-◌, ◌++◌, ◌&&◌, ◌||◌, map, take, drop, Bool, true, false, List, [], ◌∷◌, length, set, get_or, slice_get, Option, Some, None}
+use Rattle.std.proofs.Common.{◌≡◌, ℕ, zero, suc, ◌<◌, ◌+◌, ◌-◌, ◌++◌, ◌&&◌, ◌||◌, map, take, drop, Bool, true}
+use Rattle.std.proofs.Common.{false, List, [], ◌∷◌, length, set, get_or, slice_get, Option, Some, None}
 use Rattle.std.proofs.Common.{option_map, is_none, refl, sym, ap, ◌∙◌, arith, nat_lt}
 use Rattle.std.specs.Prelude.{if◌then◌else◌}
 use Rattle.std.specs.List.{range_with_len, list_any, filter_map, cons_option}
@@ -65,7 +66,9 @@ module _ (hub : Hub) (waits_not : connect_of hub ≡ None) (acts_not : due_of hu
         cut_of hub.last_end ks ≡ None → (if joined && list_any (λ key. not (is_cut None key)) ks then Some (Connecting hub.number) else None) ≡ None
     by_list [] waits cut = ap (λ b. if b then Some (Connecting hub.number) else None) (no_and joined)
     by_list (k ∷ ks) waits cut =
-        ap (λ b. if joined && (b || list_any (λ key. not (is_cut hub.last_end key)) ks) then Some (Connecting hub.number) else None) (sym (first_stays hub.last_end k ks cut)) ∙ waits
+        ap (λ b. if joined && (b || list_any (λ key. not (is_cut hub.last_end key)) ks) then Some (Connecting hub.number) else None)
+        (sym (first_stays hub.last_end k ks cut)) ∙
+        waits
 
 pub calm_forgot : (due : Hub → Option HubDue) (hubs : List Hub) (chain : Lists) →
     ((i : ℕ) (hub : Hub) → slice_get hubs i ≡ Some hub → due (without_end hub) ≡ None) → IsCalm due (map without_end hubs) chain
@@ -73,7 +76,8 @@ calm_forgot due hubs chain none = λ i hub at_i off.
     let before = forgot_get hubs i hub at_i in
     ap due before.2 ∙ none i before.0 before.1
 
-pub linked_forgot : (s : Hubs) (waiting due : Lists) → IsQuiet s.hubs → IsLinked s waiting due → IsLinked (record s { hubs = map without_end s.hubs }) waiting due
+pub linked_forgot : (s : Hubs) (waiting due : Lists) → IsQuiet s.hubs → IsLinked s waiting due →
+    IsLinked (record s { hubs = map without_end s.hubs }) waiting due
 linked_forgot s waiting due quiet linked =
     let long = length-map s.hubs without_end in
     let fit = linked.fit in

@@ -54,16 +54,19 @@ pub find_at : (s : Hubs) → IsPromised s → (i : ℕ) (hub : Hub) → slice_ge
 find_at s p i hub got = find_one s.hubs i hub.number hub got refl (λ j other at_j e. one_index s p j i other hub at_j got e)
 
 -- the index of a number finds its hub
-pub find_index : (s : Hubs) → IsPromised s → (i n : ℕ) → option_map (λ (hub : Hub). hub.number) (slice_get s.hubs i) ≡ Some n → find_hub s.hubs n ≡ slice_get s.hubs i
+pub find_index : (s : Hubs) → IsPromised s → (i n : ℕ) → option_map (λ (hub : Hub). hub.number) (slice_get s.hubs i) ≡ Some n →
+    find_hub s.hubs n ≡ slice_get s.hubs i
 find_index s p i n named = of (slice_get s.hubs i) refl named where
   of : (o : Option Hub) → slice_get s.hubs i ≡ o → option_map (λ (hub : Hub). hub.number) o ≡ Some n → find_hub s.hubs n ≡ o
   of None got none = absurd (none-some n none)
   of (Some hub) got some = ap (find_hub s.hubs) (sym (same_Some hub.number n some)) ∙ find_at s p i hub got
 
 -- the hub of an index
-pub hub_at : (hubs : List Hub) (i n : ℕ) → option_map (λ (hub : Hub). hub.number) (slice_get hubs i) ≡ Some n → (hub : Hub) × ((slice_get hubs i ≡ Some hub) × (hub.number ≡ n))
+pub hub_at : (hubs : List Hub) (i n : ℕ) → option_map (λ (hub : Hub). hub.number) (slice_get hubs i) ≡ Some n →
+    (hub : Hub) × ((slice_get hubs i ≡ Some hub) × (hub.number ≡ n))
 hub_at hubs i n named = of (slice_get hubs i) refl named where
-  of : (o : Option Hub) → slice_get hubs i ≡ o → option_map (λ (hub : Hub). hub.number) o ≡ Some n → (hub : Hub) × ((slice_get hubs i ≡ Some hub) × (hub.number ≡ n))
+  of : (o : Option Hub) → slice_get hubs i ≡ o → option_map (λ (hub : Hub). hub.number) o ≡ Some n →
+      (hub : Hub) × ((slice_get hubs i ≡ Some hub) × (hub.number ≡ n))
   of None got none = absurd (none-some n none)
   of (Some hub) got some = (hub, (got, same_Some hub.number n some))
 
@@ -77,7 +80,8 @@ count_at n change [] = refl
 count_at n change (h ∷ hubs) = ap suc (count_at n change hubs)
 
 -- two changes that are the same at the hubs of the number
-pub at_same : (n : ℕ) (f g : Hub → Hub) (hubs : List Hub) → ((i : ℕ) (hub : Hub) → slice_get hubs i ≡ Some hub → hub.number ≡ n → f hub ≡ g hub) → at_hub n f hubs ≡ at_hub n g hubs
+pub at_same : (n : ℕ) (f g : Hub → Hub) (hubs : List Hub) → ((i : ℕ) (hub : Hub) → slice_get hubs i ≡ Some hub → hub.number ≡ n → f hub ≡ g hub) →
+    at_hub n f hubs ≡ at_hub n g hubs
 at_same n f g [] same = refl
 at_same n f g (h ∷ hubs) same = λ i. of (h.number == n) refl i ∷ at_same n f g hubs (λ j hub got. same (suc j) hub got) i where
   of : (b : Bool) → (h.number == n) ≡ b → cond b (f h) h ≡ cond b (g h) h
@@ -117,7 +121,8 @@ calm_changed due s old new index n change p named noted calm i hub got off =
     of (Some h) at_i some = by_number h at_i some (cases_Bool (h.number == n))
 
 -- one more hub at which nothing is due
-pub calm_added : (due : Hub → Option HubDue) (hubs : List Hub) (chain : Lists) (added : Hub) → due added ≡ None → IsCalm due hubs chain → IsCalm due (hubs ++ added ∷ []) chain
+pub calm_added : (due : Hub → Option HubDue) (hubs : List Hub) (chain : Lists) (added : Hub) → due added ≡ None → IsCalm due hubs chain →
+    IsCalm due (hubs ++ added ∷ []) chain
 calm_added due hubs chain added none calm i hub got off = by_place hubs i got (λ at_i. calm i hub at_i off) where
   by_place : (xs : List Hub) (j : ℕ) → slice_get (xs ++ added ∷ []) j ≡ Some hub → (slice_get xs j ≡ Some hub → due hub ≡ None) → due hub ≡ None
   by_place [] zero at_j old = ap due (sym (same_Some added hub at_j)) ∙ none
@@ -174,7 +179,8 @@ nothing_new_due n Auto = refl
 nothing_new_due n Manual = refl
 
 -- an index and a number lead to one hub
-pub only_hub : (s : Hubs) → IsPromised s → (i j : ℕ) (hub other : Hub) → slice_get s.hubs i ≡ Some hub → slice_get s.hubs j ≡ Some other → other.number ≡ hub.number → hub ≡ other
+pub only_hub : (s : Hubs) → IsPromised s → (i j : ℕ) (hub other : Hub) → slice_get s.hubs i ≡ Some hub → slice_get s.hubs j ≡ Some other →
+    other.number ≡ hub.number → hub ≡ other
 only_hub s p i j hub other at_i at_j same =
     same_Some hub other (sym at_i ∙ ap (slice_get s.hubs) (one_index s p i j hub other at_i at_j (sym same)) ∙ at_j)
 

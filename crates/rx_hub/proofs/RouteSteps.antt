@@ -5,11 +5,7 @@ use Rattle.std.specs.List.{AllByRecursion, filter_map, cons_option}
 use Rattle.std.specs.Option.{option_and_then, option_to_list}
 use Rattle.std.proofs.lemmas.Bool.{false≢true}
 use Rattle.std.proofs.lemmas.List.Elements.{filter_map-append}
-use Rattle.std.proofs.lemmas.Option.{same_Some, none-some}
 use Rattle.std.proofs.Math.Bool.{Bool, true, false, ◌||◌}
-use Rattle.rx_event.specs.declared.event.Event.{Event}
-use Rattle.rx_event.specs.declared.event.Event.TheVariants.{Connect}
-use Rattle.rx_event.specs.Events.{hub_connected}
 use Rattle.rx_event.specs.Climb.{most_visits}
 use Rattle.rx_slots.specs.declared.Key.{Key}
 use Rattle.rx_slots.specs.Slots.{Slots, find}
@@ -17,13 +13,12 @@ use Rattle.rx_tree.specs.declared.node.Node.{Node}
 use Rattle.rx_tree.specs.Tree.{is_key, is_on}
 use Rattle.rx_flow.specs.declared.stop.Stop.{Stop}
 use Rattle.rx_flow.specs.declared.stop.Stop.TheVariants.{Delivery, Projection, Firing, Connection}
-use Rattle.rx_flow.specs.Way.{made_of, way, end_of, hub_of}
+use Rattle.rx_flow.specs.Way.{way, end_of, hub_of}
 use Rattle.rx_hub.specs.declared.route.Frame.{Frame}
 use Rattle.rx_hub.specs.Hubs.{Hub}
 use Rattle.rx_hub.specs.Walk.{visited_over, arrival, arrival_at}
 use Rattle.rx_hub.specs.Route.{Route, after_frames, todo, visits_left, visited_next, stops_left, all_visits}
 use Rattle.rx_hub.specs.Route.{IsBehind, ReachesFrom, IsOrdered, IsUnderWay, IsTurn, beyond_end, hub_keys, first_keys, GoesOn, Climbs, Arrives}
-use Rattle.rx_hub.proofs.RouteFrames.{behind_later}
 use Rattle.rx_hub.proofs.RouteWays.{visited_way, stops_way, visited_cut}
 use Rattle.rx_tree.proofs.Laws.Keys.{key_is}
 
@@ -82,30 +77,6 @@ hub_beyond nodes hubs (Some (Projection c)) = refl
 hub_beyond nodes hubs (Some (Firing c)) = refl
 hub_beyond nodes hubs (Some (Connection c)) = refl
 
--- behind a connection alone there is a hub
-hub_reached : (nodes : Slots Node) (stop : Option Stop) (g : ℕ) → hub_of nodes stop ≡ Some g →
-    (c : Key) × (stop ≡ Some (Connection c)) × (made_of nodes c ≡ Some (Connect g))
-hub_reached nodes None g none = absurd (none-some g none)
-hub_reached nodes (Some (Delivery c)) g none = absurd (none-some g none)
-hub_reached nodes (Some (Projection c)) g none = absurd (none-some g none)
-hub_reached nodes (Some (Firing c)) g none = absurd (none-some g none)
-hub_reached nodes (Some (Connection c)) g some = (c, refl, by_made (made_of nodes c) some) where
-  by_made : (o : Option Event) → option_and_then hub_connected o ≡ Some g → o ≡ Some (Connect g)
-  by_made None none = absurd (none-some g none)
-  by_made (Some (Connect k)) some = ap (λ n. Some (Connect n)) (same_Some k g some)
-  by_made (Some _) none = absurd (none-some g none)
-
--- and it is a later one than those before it on the way
-pub behind_first : (nodes : Slots Node) (hubs : List Hub) (seen old : Route) (node : Key) (reached : Option ℕ) (stop : Option Stop)
-    (first : Option Frame) → seen ≡ old → IsUnderWay nodes hubs old → old.at ≡ Some node → stop ≡ end_of nodes (way nodes node) →
-    reached ≡ hub_of nodes stop → IfSome first (λ frame. reached ≡ Some frame.hub) → IfSome first (λ frame. IsBehind frame.hub seen.frames)
-behind_first nodes hubs seen old node reached stop None same under_way at ends is found = tt
-behind_first nodes hubs seen old node reached stop (Some frame) same under_way at ends is found =
-    let own = hub_reached nodes stop frame.hub (sym is ∙ found) in
-    let reaches = subst (λ (o : Option Key). IfSome o (ReachesFrom nodes under_way.hub)) at under_way.reaches in
-    subst (λ (r : Route). IsBehind frame.hub r.frames) (sym same)
-    (behind_later old.frames under_way.hub frame.hub (reaches own.0 frame.hub (sym ends ∙ own.1) own.2) under_way.behind)
-
 -- one climb -----------------------------------------------------------------------------------------------
 
 -- what is still to be visited is the way of one climb, and then what is left after it
@@ -127,7 +98,8 @@ visited_on nodes hubs old new node first at fits visits firsts on =
 
 -- so it gives the stop of that climb, and then those that come after
 pub climbs_on : (nodes : Slots Node) (hubs : List Hub) (old new : Route) (node : Key) (first : Option Frame) → IsOrdered nodes hubs →
-    IsUnderWay nodes hubs old → old.at ≡ Some node → old.visits + length (way nodes node) ≤ suc most_visits → new.visits ≡ old.visits + length (way nodes node) →
+    IsUnderWay nodes hubs old → old.at ≡ Some node → old.visits + length (way nodes node) ≤ suc most_visits →
+    new.visits ≡ old.visits + length (way nodes node) →
     first_keys hubs first ≡ beyond_end nodes hubs (end_of nodes (way nodes node)) → GoesOn hubs old.frames new.frames first new.at →
     new.room ≡ old.room → Climbs nodes hubs old new (option_and_then arrival (end_of nodes (way nodes node)))
 climbs_on nodes hubs old new node first ordered under_way at fits visits firsts on room =
@@ -157,7 +129,8 @@ nothing_left m = omega arith
 
 -- and where too few visits are left, the way is cut off
 pub climbs_cut : (nodes : Slots Node) (hubs : List Hub) (old new : Route) (node : Key) → IsUnderWay nodes hubs old → old.at ≡ Some node →
-    old.visits ≤ most_visits → suc most_visits < old.visits + length (way nodes node) → new ≡ record old { visits = suc most_visits } → Climbs nodes hubs old new None
+    old.visits ≤ most_visits → suc most_visits < old.visits + length (way nodes node) → new ≡ record old { visits = suc most_visits } →
+    Climbs nodes hubs old new None
 climbs_cut nodes hubs old new node under_way at within cut is =
     subst (λ (r : Route). Climbs nodes hubs old r None) (sym is) (record {
       stops = ap (λ (ks : List Key). filter_map (arrival_at nodes) ks) same ∙ cuts.1 ∙ sym (ap (filter_map (arrival_at nodes)) none);
@@ -192,14 +165,16 @@ climbs_cut nodes hubs old new node under_way at within cut is =
 -- the same of a way that is seen as another --------------------------------------------------------------
 
 pub cut_seen : (nodes : Slots Node) (hubs : List Hub) (seen old : Route) (node : Key) (visits : ℕ) → seen ≡ old → IsUnderWay nodes hubs old →
-    old.at ≡ Some node → old.visits ≤ most_visits → visits ≡ length (way nodes node) → 1048577 - seen.visits < visits → Climbs nodes hubs old (record seen { visits = 1048577 }) None
+    old.at ≡ Some node → old.visits ≤ most_visits → visits ≡ length (way nodes node) → 1048577 - seen.visits < visits →
+    Climbs nodes hubs old (record seen { visits = 1048577 }) None
 cut_seen nodes hubs seen old node visits same under_way at within all cut =
     let made = ap (λ (r : Route). r.visits) same in
     climbs_cut nodes hubs old (record seen { visits = 1048577 }) node under_way at within (omega (arith, made, within, all, cut, limit_is))
     (ap (λ (r : Route). record r { visits = 1048577 }) same ∙ ap (λ n. record old { visits = n }) (sym (ap suc limit_is)))
 
 pub climbs_seen : (nodes : Slots Node) (hubs : List Hub) (seen old new : Route) (node : Key) (visits : ℕ) (stop arrived : Option Stop)
-    (reached : Option ℕ) (first : Option Frame) → seen ≡ old → IsOrdered nodes hubs → IsUnderWay nodes hubs old → old.at ≡ Some node → old.visits ≤ most_visits → visits ≡ length (way nodes node) →
+    (reached : Option ℕ) (first : Option Frame) → seen ≡ old → IsOrdered nodes hubs → IsUnderWay nodes hubs old → old.at ≡ Some node →
+    old.visits ≤ most_visits → visits ≡ length (way nodes node) →
     stop ≡ end_of nodes (way nodes node) → visits ≤ 1048577 - seen.visits → new.visits ≡ seen.visits + visits →
     reached ≡ hub_of nodes stop → first_keys hubs first ≡ hub_keys hubs reached → GoesOn hubs seen.frames new.frames first new.at → new.room ≡ seen.room →
     arrived ≡ option_and_then arrival stop → Climbs nodes hubs old new arrived
@@ -207,7 +182,8 @@ climbs_seen nodes hubs seen old new node visits stop arrived reached first same 
     let made = ap (λ (r : Route). r.visits) same in
     subst (λ (s : Option Stop). Climbs nodes hubs old new s) (sym (arrives ∙ ap (option_and_then arrival) ends))
     (climbs_on nodes hubs old new node first ordered under_way at (omega (arith, made, within, all, fits, limit_is)) (omega (arith, made, all, sum))
-    (firsts ∙ ap (hub_keys hubs) is ∙ hub_beyond nodes hubs stop ∙ ap (beyond_end nodes hubs) ends) (subst (λ (r : Route). GoesOn hubs r.frames new.frames first new.at) same on)
+    (firsts ∙ ap (hub_keys hubs) is ∙ hub_beyond nodes hubs stop ∙ ap (beyond_end nodes hubs) ends)
+    (subst (λ (r : Route). GoesOn hubs r.frames new.frames first new.at) same on)
     (room ∙ ap (λ (r : Route). r.room) same))
 
 -- climb after climb, up to a stop ------------------------------------------------------------------------

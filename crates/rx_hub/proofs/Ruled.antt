@@ -57,7 +57,8 @@ due_told hub = of hub.last_end hub.subscribers where
   none_or None = refl
   none_or (Some x) = refl
 
-  of : (last : Option LastEnd) (ks : List Key) → due_by (record { number = hub.number; mode = hub.mode; connection = hub.connection; last_end = last }) (first_of ks) ≡
+  of : (last : Option LastEnd) (ks : List Key) →
+      due_by (record { number = hub.number; mode = hub.mode; connection = hub.connection; last_end = last }) (first_of ks) ≡
       option_or (cut_of last ks) (left_of (is_auto hub.mode) hub.connection ks)
   of None [] = refl
   of (Some e) [] = refl
@@ -65,14 +66,16 @@ due_told hub = of hub.last_end hub.subscribers where
   of (Some e) (k ∷ ks) = none_or (cut_by (Some e) k)
 
 -- at an index
-pub at_none : (rule : Rule) (hubs : List Hub) (index : ℕ) → option_map published_of (slice_get hubs index) ≡ None → option_and_then (given_by rule) (slice_get hubs index) ≡ None
+pub at_none : (rule : Rule) (hubs : List Hub) (index : ℕ) → option_map published_of (slice_get hubs index) ≡ None →
+    option_and_then (given_by rule) (slice_get hubs index) ≡ None
 at_none rule hubs index none = of (slice_get hubs index) none where
   of : (o : Option Hub) → option_map published_of o ≡ None → option_and_then (given_by rule) o ≡ None
   of None e = refl
   of (Some hub) e = absurd (none-some (published_of hub) (sym e))
 
 pub connect_found : (s : Hubs) (index : ℕ) (p : Published) (youngest : Option Key) → IsPromised s → option_map published_of (slice_get s.hubs index) ≡ Some p →
-    IfSome (slice_get s.hubs index) (λ hub. youngest ≡ last_from None hub.subscribers) → connect_by p youngest ≡ option_and_then (given_by Connect) (slice_get s.hubs index)
+    IfSome (slice_get s.hubs index) (λ hub. youngest ≡ last_from None hub.subscribers) →
+    connect_by p youngest ≡ option_and_then (given_by Connect) (slice_get s.hubs index)
 connect_found s index p youngest promised some last = of (slice_get s.hubs index) refl some last where
   of : (o : Option Hub) → slice_get s.hubs index ≡ o → option_map published_of o ≡ Some p → IfSome o (λ hub. youngest ≡ last_from None hub.subscribers) →
       connect_by p youngest ≡ option_and_then (given_by Connect) o
@@ -129,7 +132,8 @@ found_at due hubs index d some = of (slice_get hubs index) refl some where
   of (Some hub) got e = record { index = index; hub = hub; there = got; gives = e }
 
 -- of an answer
-pub found_if : (due : Hub → Option HubDue) (hubs : List Hub) (index : ℕ) (r : Option HubDue) → r ≡ option_and_then due (slice_get hubs index) → IfSome r (IsAt due hubs)
+pub found_if : (due : Hub → Option HubDue) (hubs : List Hub) (index : ℕ) (r : Option HubDue) → r ≡ option_and_then due (slice_get hubs index) →
+    IfSome r (IsAt due hubs)
 found_if due hubs index None e = tt
 found_if due hubs index (Some d) e = found_at due hubs index d (sym e)
 

@@ -1,5 +1,6 @@
 -- What the records and the lists of subscribers show as hubs.
-use Rattle.std.proofs.Common.{◌≡◌, ◌≢◌, ℕ, zero, suc, ◌<◌, ◌≤◌, ◌+◌, ◌==◌, ◌||◌, ◌&&◌, ◌++◌, cond, map, Bool, true, false, List, [], ◌∷◌, length, get_or, set, slice_get, Option, Some, None}
+use Rattle.std.proofs.Common.{◌≡◌, ◌≢◌, ℕ, zero, suc, ◌<◌, ◌≤◌, ◌+◌, ◌==◌, ◌||◌, ◌&&◌, ◌++◌, cond, map, Bool}
+use Rattle.std.proofs.Common.{true, false, List, [], ◌∷◌, length, get_or, set, slice_get, Option, Some, None}
 use Rattle.std.proofs.Common.{◌-◌, min, option_map, is_some, IsSome, IfSome, refl, sym, ap, subst, ◌∙◌, inl, inr, arith, true≢false, zero-add}
 use Rattle.std.specs.List.{range_with_len, list_any}
 use Rattle.std.proofs.Math.Bool.{not}
@@ -97,7 +98,8 @@ key_of numbers key slot e = of (key.slot == slot) (key.number == get_or numbers 
 pub is_key_in : (numbers : List ℕ) (key : Key) (slot : ℕ) → key ≡ key_in numbers key.slot → is_key key (key_in numbers slot) ≡ (key.slot == slot)
 is_key_in numbers key slot own = of (key.slot == slot) refl where
   of : (a : Bool) → (key.slot == slot) ≡ a → (a && (key.number == get_or numbers slot 0)) ≡ a
-  of true s = ap (λ j. key.number == get_or numbers j 0) (sym (eq_is key.slot slot s)) ∙ ap (λ n. n == get_or numbers key.slot 0) (ap (λ (k : Key). k.number) own) ∙
+  of true s =
+      ap (λ j. key.number == get_or numbers j 0) (sym (eq_is key.slot slot s)) ∙ ap (λ n. n == get_or numbers key.slot 0) (ap (λ (k : Key). k.number) own) ∙
       eq_self (get_or numbers key.slot 0)
   of false s = refl
 
@@ -106,7 +108,8 @@ has_slot numbers slot [] = refl
 has_slot numbers slot (x ∷ xs) = ap (λ b. (slot == x) || b) (has_slot numbers slot xs)
 
 -- a key on the list of keys is that of its slot, and the slot is on the list
-pub key_on : (numbers : List ℕ) (key : Key) (xs : List ℕ) → is_on key (map (key_in numbers) xs) ≡ true → (is_in key.slot xs ≡ true) × (key ≡ key_in numbers key.slot)
+pub key_on : (numbers : List ℕ) (key : Key) (xs : List ℕ) → is_on key (map (key_in numbers) xs) ≡ true →
+    (is_in key.slot xs ≡ true) × (key ≡ key_in numbers key.slot)
 key_on numbers key [] e = absurd (false≢true e)
 key_on numbers key (x ∷ xs) e = of (λ e. key_on numbers key xs e) (is_key key (key_in numbers x)) refl e where
   of : (is_on key (map (key_in numbers) xs) ≡ true → (is_in key.slot xs ≡ true) × (key ≡ key_in numbers key.slot)) → (b : Bool) →
@@ -129,32 +132,38 @@ last_key : (numbers : List ℕ) (before : Option ℕ) (xs : List ℕ) →
 last_key numbers before [] = refl
 last_key numbers before (x ∷ xs) = last_key numbers (Some x) xs
 
-after_key : (numbers : List ℕ) (key : Key) (xs : List ℕ) → key ≡ key_in numbers key.slot → key_after key (map (key_in numbers) xs) ≡ option_map (key_in numbers) (after key.slot xs)
+after_key : (numbers : List ℕ) (key : Key) (xs : List ℕ) → key ≡ key_in numbers key.slot →
+    key_after key (map (key_in numbers) xs) ≡ option_map (key_in numbers) (after key.slot xs)
 after_key numbers key [] own = refl
 after_key numbers key (x ∷ xs) own =
     ap (λ b. cond b (first_of (map (key_in numbers) xs)) (key_after key (map (key_in numbers) xs))) (is_key_in numbers key x own) ∙
     of (key.slot == x) (after_key numbers key xs own) where
       of : (b : Bool) → key_after key (map (key_in numbers) xs) ≡ option_map (key_in numbers) (after key.slot xs) →
-          cond b (first_of (map (key_in numbers) xs)) (key_after key (map (key_in numbers) xs)) ≡ option_map (key_in numbers) (cond b (head_of xs) (after key.slot xs))
+          cond b (first_of (map (key_in numbers) xs)) (key_after key (map (key_in numbers) xs)) ≡
+          option_map (key_in numbers) (cond b (head_of xs) (after key.slot xs))
       of true rest = first_key numbers xs
       of false rest = rest
 
-out_keys : (numbers : List ℕ) (key : Key) (xs : List ℕ) → key ≡ key_in numbers key.slot → map (key_in numbers) (take_out key.slot xs) ≡ without_key key (map (key_in numbers) xs)
+out_keys : (numbers : List ℕ) (key : Key) (xs : List ℕ) → key ≡ key_in numbers key.slot →
+    map (key_in numbers) (take_out key.slot xs) ≡ without_key key (map (key_in numbers) xs)
 out_keys numbers key [] own = refl
 out_keys numbers key (x ∷ xs) own =
     of (key.slot == x) (out_keys numbers key xs own) ∙
-    ap (λ b. cond (not b) (key_in numbers x ∷ without_key key (map (key_in numbers) xs)) (without_key key (map (key_in numbers) xs))) (sym (is_key_in numbers key x own)) where
-      of : (b : Bool) → map (key_in numbers) (take_out key.slot xs) ≡ without_key key (map (key_in numbers) xs) →
-          map (key_in numbers) (cond (not b) (x ∷ take_out key.slot xs) (take_out key.slot xs)) ≡
-          cond (not b) (key_in numbers x ∷ without_key key (map (key_in numbers) xs)) (without_key key (map (key_in numbers) xs))
-      of true rest = rest
-      of false rest = ap (λ (ks : List Key). key_in numbers x ∷ ks) rest
+    ap (λ b. cond (not b) (key_in numbers x ∷ without_key key (map (key_in numbers) xs)) (without_key key (map (key_in numbers) xs)))
+    (sym (is_key_in numbers key x own))
+  where
+    of : (b : Bool) → map (key_in numbers) (take_out key.slot xs) ≡ without_key key (map (key_in numbers) xs) →
+        map (key_in numbers) (cond (not b) (x ∷ take_out key.slot xs) (take_out key.slot xs)) ≡
+        cond (not b) (key_in numbers x ∷ without_key key (map (key_in numbers) xs)) (without_key key (map (key_in numbers) xs))
+    of true rest = rest
+    of false rest = ap (λ (ks : List Key). key_in numbers x ∷ ks) rest
 
 -- taking out what is not there
 out_none : (slot : ℕ) (xs : List ℕ) → is_in slot xs ≡ false → take_out slot xs ≡ xs
 out_none slot [] e = refl
 out_none slot (x ∷ xs) e = of (slot == x) (out_none slot xs) e where
-  of : (b : Bool) → (is_in slot xs ≡ false → take_out slot xs ≡ xs) → (b || is_in slot xs) ≡ false → cond (not b) (x ∷ take_out slot xs) (take_out slot xs) ≡ x ∷ xs
+  of : (b : Bool) → (is_in slot xs ≡ false → take_out slot xs ≡ xs) → (b || is_in slot xs) ≡ false →
+      cond (not b) (x ∷ take_out slot xs) (take_out slot xs) ≡ x ∷ xs
   of true later e = absurd (true≢false e)
   of false later e = ap (λ (ys : List ℕ). x ∷ ys) (later e)
 
@@ -162,10 +171,12 @@ out_none slot (x ∷ xs) e = of (slot == x) (out_none slot xs) e where
 keys_set : (numbers : List ℕ) (slot number : ℕ) (xs : List ℕ) → is_in slot xs ≡ false → map (key_in (set numbers slot number)) xs ≡ map (key_in numbers) xs
 keys_set numbers slot number [] e = refl
 keys_set numbers slot number (x ∷ xs) e = of (slot == x) refl (keys_set numbers slot number xs) e where
-  of : (b : Bool) → (slot == x) ≡ b → (is_in slot xs ≡ false → map (key_in (set numbers slot number)) xs ≡ map (key_in numbers) xs) → (b || is_in slot xs) ≡ false →
+  of : (b : Bool) → (slot == x) ≡ b → (is_in slot xs ≡ false → map (key_in (set numbers slot number)) xs ≡ map (key_in numbers) xs) →
+      (b || is_in slot xs) ≡ false →
       map (key_in (set numbers slot number)) (x ∷ xs) ≡ map (key_in numbers) (x ∷ xs)
   of true s later e = absurd (true≢false e)
-  of false s later e = (λ i. record { slot = x; number = get_or-set_other numbers slot x number 0 (λ q. true≢false (sym (eq_self x) ∙ ap (λ j. j == x) q ∙ s)) i } ∷ later e i)
+  of false s later e =
+      (λ i. record { slot = x; number = get_or-set_other numbers slot x number 0 (λ q. true≢false (sym (eq_self x) ∙ ap (λ j. j == x) q ∙ s)) i } ∷ later e i)
 
 append_keys : (numbers : List ℕ) (xs : List ℕ) (x : ℕ) → map (key_in numbers) (xs ++ x ∷ []) ≡ map (key_in numbers) xs ++ key_in numbers x ∷ []
 append_keys numbers [] x = refl
@@ -245,13 +256,17 @@ module _ (records : List Published) (lists : Lists) (numbers : List ℕ) where
       | inr past ↦ past_free slot e past
     ]
 
-    pub first_shown : (i : ℕ) → IfSome (slice_get (hubs_in records lists numbers) i) (λ hub. option_map (key_in numbers) (head_of (list_at lists i)) ≡ first_of hub.subscribers)
+    pub first_shown : (i : ℕ) →
+        IfSome (slice_get (hubs_in records lists numbers) i) (λ hub. option_map (key_in numbers) (head_of (list_at lists i)) ≡ first_of hub.subscribers)
     first_shown i = by_hub (slice_get (hubs_in records lists numbers) i) refl where
-      by_hub : (o : Option Hub) → slice_get (hubs_in records lists numbers) i ≡ o → IfSome o (λ hub. option_map (key_in numbers) (head_of (list_at lists i)) ≡ first_of hub.subscribers)
+      by_hub : (o : Option Hub) → slice_get (hubs_in records lists numbers) i ≡ o →
+          IfSome o (λ hub. option_map (key_in numbers) (head_of (list_at lists i)) ≡ first_of hub.subscribers)
       by_hub None got = tt
       by_hub (Some hub) got = sym (first_key numbers (list_at lists i)) ∙ ap (λ (h : Hub). first_of h.subscribers) (hub_is i hub got).1
 
-    pub last_shown : (i : ℕ) → IfSome (slice_get (hubs_in records lists numbers) i) (λ hub. option_map (key_in numbers) (last_after None (list_at lists i)) ≡ last_from None hub.subscribers)
+    pub last_shown : (i : ℕ) →
+        IfSome (slice_get (hubs_in records lists numbers) i)
+        (λ hub. option_map (key_in numbers) (last_after None (list_at lists i)) ≡ last_from None hub.subscribers)
     last_shown i = by_hub (slice_get (hubs_in records lists numbers) i) refl where
       by_hub : (o : Option Hub) → slice_get (hubs_in records lists numbers) i ≡ o →
           IfSome o (λ hub. option_map (key_in numbers) (last_after None (list_at lists i)) ≡ last_from None hub.subscribers)
@@ -277,12 +292,14 @@ module _ (records : List Published) (lists : Lists) (numbers : List ℕ) where
       of None got none = absurd (none-some n none)
       of (Some hub) got some = let h = hub_is i hub got in (h.0, ap (λ (x : Hub). x.number) h.1 ∙ same_Some hub.number n some)
 
-    pub number_at : (i : ℕ) → i < length records → option_map (λ (hub : Hub). hub.number) (slice_get (hubs_in records lists numbers) i) ≡ Some (record_at records i).number
+    pub number_at : (i : ℕ) → i < length records →
+        option_map (λ (hub : Hub). hub.number) (slice_get (hubs_in records lists numbers) i) ≡ Some (record_at records i).number
     number_at i l = ap (option_map (λ (hub : Hub). hub.number)) (hub_get i l)
 
     -- what the search for a number knows of the places before and behind
     pub not_between : (low high n : ℕ) → high ≤ low → ((i : ℕ) → i < low → (record_at records i).number < n) →
-        ((i : ℕ) → high ≤ i → i < length records → n < (record_at records i).number) → (i : ℕ) (hub : Hub) → slice_get (hubs_in records lists numbers) i ≡ Some hub → hub.number ≢ n
+        ((i : ℕ) → high ≤ i → i < length records → n < (record_at records i).number) → (i : ℕ) (hub : Hub) →
+        slice_get (hubs_in records lists numbers) i ≡ Some hub → hub.number ≢ n
     not_between low high n met before behind i hub got same =
         let h = hub_is i hub got in
         let is : (record_at records i).number ≡ n = ap (λ (x : Hub). x.number) h.1 ∙ same in
@@ -309,27 +326,32 @@ module _ (records : List Published) (lists : Lists) (numbers : List ℕ) where
       | inr past ↦ get_none records i past ∙ sym (ap (option_map published_of) (table_past (hub_in records lists numbers) 0 (length records) i past))
     ]
 
-    pub below_here : (i n : ℕ) → IfSome (slice_get (hubs_in records lists numbers) i) (λ hub. AreBelow n hub.subscribers) → i < length records → AreBelow n (keys_at lists numbers i)
+    pub below_here : (i n : ℕ) → IfSome (slice_get (hubs_in records lists numbers) i) (λ hub. AreBelow n hub.subscribers) → i < length records →
+        AreBelow n (keys_at lists numbers i)
     below_here i n below l = subst (λ (o : Option Hub). IfSome o (λ hub. AreBelow n hub.subscribers)) (hub_get i l) below
 
     -- one hub changes
-    one_hub : (records' : List Published) (lists' : Lists) (numbers' : List ℕ) (index : ℕ) (change : Hub → Hub) → index < length records → length records' ≡ length records →
+    one_hub : (records' : List Published) (lists' : Lists) (numbers' : List ℕ) (index : ℕ) (change : Hub → Hub) → index < length records →
+        length records' ≡ length records →
         hub_in records' lists' numbers' index ≡ change (hub_in records lists numbers index) →
         ((j : ℕ) → j < length records → index ≢ j → hub_in records' lists' numbers' j ≡ hub_in records lists numbers j) →
         hubs_in records' lists' numbers' ≡ at_hub (record_at records index).number change (hubs_in records lists numbers)
     one_hub records' lists' numbers' index change below same here others =
         ap (λ n. map (hub_in records' lists' numbers') (range_with_len 0 n)) same ∙
-        table_map (hub_in records lists numbers) (hub_in records' lists' numbers') (λ hub. cond (hub.number == (record_at records index).number) (change hub) hub) 0 (length records)
+        table_map (hub_in records lists numbers) (hub_in records' lists' numbers')
+        (λ hub. cond (hub.number == (record_at records index).number) (change hub) hub) 0 (length records)
         (λ j l m. let m' : j < length records = omega (arith, m) in elim (cases_eq index j) [
           | inl is ↦ subst (λ k. hub_in records' lists' numbers' k ≡ cond ((record_at records k).number == (record_at records index).number)
               (change (hub_in records lists numbers k)) (hub_in records lists numbers k)) is (here ∙
-              ap (λ b. cond b (change (hub_in records lists numbers index)) (hub_in records lists numbers index)) (sym (eq_self (record_at records index).number)))
+              ap (λ b. cond b (change (hub_in records lists numbers index)) (hub_in records lists numbers index))
+              (sym (eq_self (record_at records index).number)))
           | inr apart ↦ others j m' apart ∙ ap (λ b. cond b (change (hub_in records lists numbers j)) (hub_in records lists numbers j))
               (sym (eq_not (record_at records j).number (record_at records index).number (λ s. apart (one_number index j below m' (sym s)))))
         ])
 
     -- a subscriber comes last on the list of a hub
-    module _ (index : ℕ) (key : Key) (lists' : Lists) (below : index < length records) (slot : key.slot < lists.members) (free : (e : ℕ) → is_in key.slot (list_at lists e) ≡ false)
+    module _ (index : ℕ) (key : Key) (lists' : Lists) (below : index < length records) (slot : key.slot < lists.members)
+        (free : (e : ℕ) → is_in key.slot (list_at lists e) ≡ false)
         (joined : (e : ℕ) → list_at lists' e ≡ cond (index == e) (list_at lists e ++ key.slot ∷ []) (list_at lists e)) where
       key_written : key_in (set numbers key.slot key.number) key.slot ≡ key
       key_written = same_key (key_in (set numbers key.slot key.number) key.slot) key refl
@@ -337,16 +359,19 @@ module _ (records : List Published) (lists : Lists) (numbers : List ℕ) where
 
       keys_here : keys_at lists' (set numbers key.slot key.number) index ≡ keys_at lists numbers index ++ key ∷ []
       keys_here =
-          ap (map (key_in (set numbers key.slot key.number))) (joined index ∙ ap (λ b. cond b (list_at lists index ++ key.slot ∷ []) (list_at lists index)) (eq_self index)) ∙
+          ap (map (key_in (set numbers key.slot key.number)))
+          (joined index ∙ ap (λ b. cond b (list_at lists index ++ key.slot ∷ []) (list_at lists index)) (eq_self index)) ∙
           append_keys (set numbers key.slot key.number) (list_at lists index) key.slot ∙
           (λ i. keys_set numbers key.slot key.number (list_at lists index) (free index) i ++ key_written i ∷ [])
 
       keys_other : (j : ℕ) → index ≢ j → keys_at lists' (set numbers key.slot key.number) j ≡ keys_at lists numbers j
       keys_other j apart =
-          ap (map (key_in (set numbers key.slot key.number))) (joined j ∙ ap (λ b. cond b (list_at lists j ++ key.slot ∷ []) (list_at lists j)) (eq_not index j apart)) ∙
+          ap (map (key_in (set numbers key.slot key.number)))
+          (joined j ∙ ap (λ b. cond b (list_at lists j ++ key.slot ∷ []) (list_at lists j)) (eq_not index j apart)) ∙
           keys_set numbers key.slot key.number (list_at lists j) (free j)
 
-      pub hubs_joined : hubs_in records lists' (set numbers key.slot key.number) ≡ at_hub (record_at records index).number (subscribed key) (hubs_in records lists numbers)
+      pub hubs_joined : hubs_in records lists' (set numbers key.slot key.number) ≡
+          at_hub (record_at records index).number (subscribed key) (hubs_in records lists numbers)
       hubs_joined = one_hub records lists' (set numbers key.slot key.number) index (subscribed key) below refl
           (ap (hub_of (record_at records index)) keys_here) (λ j l apart. ap (hub_of (record_at records j)) (keys_other j apart))
 
@@ -384,7 +409,8 @@ module _ (records : List Published) (lists : Lists) (numbers : List ℕ) where
       kept_left count members = record {
         rising = kept.rising;
         rises = λ j. elim (cases_eq index j) [
-          | inl is ↦ subst (λ k. Rises (keys_at lists' numbers k)) is (subst Rises (sym left_here) (rises_without key (keys_at lists numbers index) (kept.rises index)))
+          | inl is ↦ subst (λ k. Rises (keys_at lists' numbers k)) is
+              (subst Rises (sym left_here) (rises_without key (keys_at lists numbers index) (kept.rises index)))
           | inr apart ↦ subst Rises (sym (left_other j apart)) (kept.rises j)
         ];
         listed = count ∙ kept.listed;
@@ -406,7 +432,8 @@ module _ (records : List Published) (lists : Lists) (numbers : List ℕ) where
 
       number_kept : (j : ℕ) → (record_at (set records index p) j).number ≡ (record_at records j).number
       number_kept j = elim (cases_eq index j) [
-        | inl is ↦ subst (λ k. (record_at (set records index p) k).number ≡ (record_at records k).number) is (ap (λ (r : Published). r.number) record_here ∙ sym same)
+        | inl is ↦ subst (λ k. (record_at (set records index p) k).number ≡ (record_at records k).number) is
+            (ap (λ (r : Published). r.number) record_here ∙ sym same)
         | inr apart ↦ ap (λ (r : Published). r.number) (record_other j apart)
       ]
 
@@ -414,7 +441,8 @@ module _ (records : List Published) (lists : Lists) (numbers : List ℕ) where
       kept_written = record {
         rising = λ i j l m.
             let r = kept.rising i j l (subst (λ n. j < n) (length-set records index p) m) in
-            subst (λ n. n < (record_at (set records index p) j).number) (sym (number_kept i)) (subst (λ n. (record_at records i).number < n) (sym (number_kept j)) r);
+            subst (λ n. n < (record_at (set records index p) j).number) (sym (number_kept i))
+            (subst (λ n. (record_at records i).number < n) (sym (number_kept j)) r);
         rises = kept.rises;
         listed = kept.listed ∙ sym (length-set records index p);
         slots = kept.slots;
@@ -436,7 +464,9 @@ module _ (records : List Published) (lists : Lists) (numbers : List ℕ) where
       old_hub j z l = λ i. hub_of (old_record j (omega (arith, l)) i) (map (key_in numbers) (list_kept j i))
 
       new_one : hub_in (records ++ p ∷ []) lists' numbers (length records) ≡ hub_of p []
-      new_one = λ i. hub_of (new_record i) (map (key_in numbers) ((list_kept (length records) ∙ get_or_past lists.lists (length records) [] (let k = kept.listed in omega (arith, k))) i))
+      new_one =
+          λ i. hub_of (new_record i)
+          (map (key_in numbers) ((list_kept (length records) ∙ get_or_past lists.lists (length records) [] (let k = kept.listed in omega (arith, k))) i))
 
       pub hubs_added : hubs_in (records ++ p ∷ []) lists' numbers ≡ hubs_in records lists numbers ++ hub_of p [] ∷ []
       hubs_added =
@@ -459,7 +489,8 @@ module _ (records : List Published) (lists : Lists) (numbers : List ℕ) where
               let i_old : i < length records = omega (arith, l, j_is) in
               subst (λ k. (record_at (records ++ p ∷ []) i).number < (record_at (records ++ p ∷ []) k).number) j_is
               (subst (λ (r : Published). r.number < (record_at (records ++ p ∷ []) (length records)).number) (sym (old_record i i_old))
-              (subst (λ (q : Published). (record_at records i).number < q.number) (sym new_record) (newest i (hub_in records lists numbers i) (hub_get i i_old))))
+              (subst (λ (q : Published). (record_at records i).number < q.number) (sym new_record)
+              (newest i (hub_in records lists numbers i) (hub_get i i_old))))
         ];
         rises = λ e. subst (λ (xs : List ℕ). Rises (map (key_in numbers) xs)) (sym (list_kept e)) (kept.rises e);
         listed = ap length grown ∙ length-append lists.lists ([] ∷ []) ∙ ap (λ n. n + 1) kept.listed ∙ sym (length-append records (p ∷ []));
@@ -467,9 +498,12 @@ module _ (records : List Published) (lists : Lists) (numbers : List ℕ) where
       }
 
     -- other numbers that read the same, and lists that are the same
-    module _ (lists' : Lists) (numbers' : List ℕ) (same_lists : lists'.lists ≡ lists.lists) (same : (slot : ℕ) → get_or numbers' slot 0 ≡ get_or numbers slot 0) where
+    module _ (lists' : Lists) (numbers' : List ℕ) (same_lists : lists'.lists ≡ lists.lists)
+        (same : (slot : ℕ) → get_or numbers' slot 0 ≡ get_or numbers slot 0) where
       pub hubs_same : hubs_in records lists' numbers' ≡ hubs_in records lists numbers
-      hubs_same = λ i. map (λ j. hub_of (record_at records j) (map (λ slot. record { slot = slot; number = same slot i }) (get_or (same_lists i) j []))) (range_with_len 0 (length records))
+      hubs_same =
+          λ i. map (λ j. hub_of (record_at records j) (map (λ slot. record { slot = slot; number = same slot i }) (get_or (same_lists i) j [])))
+          (range_with_len 0 (length records))
 
       pub kept_same : lists'.members ≤ length numbers' → IsKept records lists' numbers'
       kept_same fit = record {

@@ -40,7 +40,8 @@ pub record HubsAreForced (base : Kept) : Type 0 where
   pub connected : (h : List Event) (hubs : List Hub) → AreHubsOf h hubs → NoneWaits hubs → IsConnected h
   pub whole : (h : List Event) (hubs : List Hub) → AreHubsOf h hubs → IsQuiet hubs → (n : ℕ) (t : Terminal) → IsTrue (is_open h n) → ¬ SourceEnded h n t
   pub kept : (h : List Event) (hubs : List Hub) → AreHubsOf h hubs → IsQuiet hubs → (c : ℕ) → ¬ IsDue base h (Close c)
-  pub settled : (h : List Event) (nodes : Slots Node) (hubs : List Hub) → AreRecordsOf base h nodes → AreHubsOf h hubs → IsQuietTree nodes → IsQuiet hubs → IsSettled base h
+  pub settled : (h : List Event) (nodes : Slots Node) (hubs : List Hub) → AreRecordsOf base h nodes → AreHubsOf h hubs → IsQuietTree nodes → IsQuiet hubs →
+      IsSettled base h
 
 -- where an item goes over tree and hubs is its climb in the history, and so are its stops and visits
 pub record WalksAreClimbs (base : Kept) : Type 0 where

@@ -122,7 +122,9 @@ module _ (out : Slots ResKey) (order : Lists) (is : IsInOrder out order) where
 
       each : (slot : ℕ) → ((m == slot) ≡ true) ⊎ ((m == slot) ≡ false) → (is_in slot xs && not (m == slot)) ≡ is_some (entry_at new slot)
       each slot (inl here) =
-          ap (λ b. is_in slot xs && not b) here ∙ and_false (is_in slot xs) ∙ sym (ap is_some (ap (entry_at new) (sym (eqb-true m slot here)) ∙ changes.changed))
+          ap (λ b. is_in slot xs && not b) here ∙
+          and_false (is_in slot xs) ∙
+          sym (ap is_some (ap (entry_at new) (sym (eqb-true m slot here)) ∙ changes.changed))
       each slot (inr other) =
           ap (λ b. is_in slot xs && not b) other ∙ and_true (is_in slot xs) ∙ is.each slot ∙
           sym (ap is_some (changes.others slot (λ same. both_ways (m == slot) other (eq-eqb m slot (sym same)))))

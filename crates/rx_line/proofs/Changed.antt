@@ -10,7 +10,8 @@ use Rattle.rx_line.specs.declared.names.Names.{Names}
 use Rattle.rx_line.specs.Names.{spot_of, name_of, IsPaired, Binds, Forgets}
 use Rattle.rx_line.proofs.Pairing.{paired-bind, paired-forget}
 
-by_bytes : (b : Bool) (x : Option (String Global)) (y : Option (String Global)) → option_map string_bytes (cond b x y) ≡ cond b (option_map string_bytes x) (option_map string_bytes y)
+by_bytes : (b : Bool) (x : Option (String Global)) (y : Option (String Global))
+    → option_map string_bytes (cond b x y) ≡ cond b (option_map string_bytes x) (option_map string_bytes y)
 by_bytes true x y = refl
 by_bytes false x y = refl
 
@@ -23,8 +24,10 @@ bound_names old new one other spot twice by_name by_number = record {
       ∙ ap (λ (name : List ℕ). cond (spot.number == k) (Some name) (name_of old k)) twice;
 }
 
-pub bound_paired : (old new : Names) (name : List ℕ) (spot : Spot) → spot_of old name ≡ None → name_of old spot.number ≡ None → Binds old name spot new → IsPaired old → IsPaired new
-bound_paired old new name spot free unnamed binds paired = paired-bind (spot_of old) (spot_of new) (name_of old) (name_of new) paired name spot free unnamed binds.spots binds.names
+pub bound_paired : (old new : Names) (name : List ℕ) (spot : Spot) → spot_of old name ≡ None
+    → name_of old spot.number ≡ None → Binds old name spot new → IsPaired old → IsPaired new
+bound_paired old new name spot free unnamed binds paired =
+    paired-bind (spot_of old) (spot_of new) (name_of old) (name_of new) paired name spot free unnamed binds.spots binds.names
 
 pub forgotten_names : (old new : Names) (number : ℕ) (name : List ℕ) →
     UpdatesBy string_eq (λ (k : String Global). bytes_eq name (string_bytes k)) old.by_name new.by_name None →
@@ -34,5 +37,7 @@ forgotten_names old new number name by_name by_number = record {
   names = λ k. ap (option_map string_bytes) (by_number.0 k) ∙ by_bytes (nat_eq number k) None _;
 }
 
-pub forgotten_paired : (old new : Names) (number : ℕ) (name : List ℕ) → name_of old number ≡ Some name → Forgets old number name new → IsPaired old → IsPaired new
-forgotten_paired old new number name known forgets paired = paired-forget (spot_of old) (spot_of new) (name_of old) (name_of new) paired number name known forgets.spots forgets.names
+pub forgotten_paired : (old new : Names) (number : ℕ) (name : List ℕ)
+    → name_of old number ≡ Some name → Forgets old number name new → IsPaired old → IsPaired new
+forgotten_paired old new number name known forgets paired =
+    paired-forget (spot_of old) (spot_of new) (name_of old) (name_of new) paired number name known forgets.spots forgets.names

@@ -33,7 +33,8 @@ module _ (spot_of spot_of' : List ℕ → Option Spot) (name_of name_of' : ℕ �
           let clash : None ≡ Some n = sym unnamed ∙ ap name_of (eqb-true s.number t.number same) ∙ old in absurd (none-some n clash)
       other false differ = names t.number ∙ ap (λ (c : Bool). cond c (Some name) (name_of t.number)) differ ∙ old
 
-    numbered_by : (k : ℕ) (n : List ℕ) (b : Bool) → (s.number == k) ≡ b → cond b (Some name) (name_of k) ≡ Some n → option_map (λ (t : Spot). t.number) (spot_of' n) ≡ Some k
+    numbered_by : (k : ℕ) (n : List ℕ) (b : Bool) → (s.number == k) ≡ b
+        → cond b (Some name) (name_of k) ≡ Some n → option_map (λ (t : Spot). t.number) (spot_of' n) ≡ Some k
     numbered_by k n true same found =
         let is_k : s.number ≡ k = eqb-true s.number k same in
         let is_n : name ≡ n = same_Some name n found in
@@ -72,7 +73,8 @@ module _ (spot_of spot_of' : List ℕ → Option Spot) (name_of name_of' : ℕ �
           let clash : false ≡ true = sym apart ∙ told in absurd (cc)
       other false differ = names t.number ∙ ap (λ (c : Bool). cond c None (name_of t.number)) differ ∙ old
 
-    left_numbered : (k : ℕ) (n : List ℕ) (b : Bool) → (number == k) ≡ b → cond b None (name_of k) ≡ Some n → option_map (λ (t : Spot). t.number) (spot_of' n) ≡ Some k
+    left_numbered : (k : ℕ) (n : List ℕ) (b : Bool) → (number == k) ≡ b
+        → cond b None (name_of k) ≡ Some n → option_map (λ (t : Spot). t.number) (spot_of' n) ≡ Some k
     left_numbered k n true same found = absurd (none-some n found)
     left_numbered k n false apart found = other (bytes_eq name n) refl where
       old : option_map (λ (t : Spot). t.number) (spot_of n) ≡ Some k

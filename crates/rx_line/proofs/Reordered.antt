@@ -15,7 +15,8 @@ use Rattle.rx_line.specs.Names.{IsPaired, AreSame}
 found_at : {K X : Type 0} (test : K → Bool) (es : List (K × X)) (x : X) → lookup test es ≡ Some x → (k : K) × (test k ≡ true)
 found_at test [] x found = absurd (none-some x found)
 found_at {K = K} {X = X} test (e ∷ es) x found = by_test (test e.0) refl (λ there. found_at test es x there) found where
-  by_test : (b : Bool) → test e.0 ≡ b → (lookup test es ≡ Some x → (k : K) × (test k ≡ true)) → cond b (Some e.1) (lookup test es) ≡ Some x → (k : K) × (test k ≡ true)
+  by_test : (b : Bool) → test e.0 ≡ b → (lookup test es ≡ Some x → (k : K) × (test k ≡ true))
+      → cond b (Some e.1) (lookup test es) ≡ Some x → (k : K) × (test k ≡ true)
   by_test true passes later found = (e.0, passes)
   by_test false fails later found = later found
 

@@ -2,7 +2,8 @@
 
 ghost use Rattle.std.specs.Prelude.{◌≡◌, ◌++◌, ◌+◌, ◌≤◌, length, string_bytes, IfOk};
 ghost use Rattle.std.specs.String.{string_len, string_capacity};
-ghost use Rattle.rx_line.specs.Pieces.{refusal_name, cause_name, faulty_text, to_text, next_text, project_text, completed_text, error_text, note_text, ok_text, refused_text};
+ghost use Rattle.rx_line.specs.Pieces.{refusal_name, cause_name, faulty_text, to_text, next_text};
+ghost use Rattle.rx_line.specs.Pieces.{project_text, completed_text, error_text, note_text, ok_text, refused_text};
 
 use crate::outcome::Cause;
 use rx_event::{Refusal, Terminal};

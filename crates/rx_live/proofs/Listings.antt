@@ -1,11 +1,14 @@
 -- All names that are bound, as a session ends.
-use Rattle.std.proofs.Common.{◌≡◌, ℕ, ◌+◌, ◌<◌, zero, suc, Bool, true, false, cond, List, [], ◌∷◌, ◌++◌, codes, length, map, Option, Some, None, option_map, refl, sym, ap, ◌∙◌, arith, subst, append_assoc, add-one, inl, inr, ◌⊎◌}
+use Rattle.std.proofs.Common.{◌≡◌, ℕ, ◌+◌, ◌<◌, ◌≤◌, zero, suc, Bool, true, false, cond, List, [], ◌∷◌, ◌++◌, codes, length, take, map, filter, get_or}
+use Rattle.std.proofs.Common.{Option, Some, None, option_map, refl, sym, ap, ◌∙◌, arith, subst, append_assoc, add-one, inl, inr, ◌⊎◌}
 use Rattle.std.specs.Prelude.{is_some, nat_lt}
 use Rattle.std.proofs.Math.Bool.{not, ◌&&◌}
+use Rattle.std.specs.List.{filter_map, cons_option, range_with_len}
 use Rattle.std.specs.Str.{bytes_eq}
 use Rattle.std.specs.Option.{option_map_or, option_to_list}
 use Rattle.std.proofs.lemmas.Bool.{lt-ltb, ltb-false, le-ltb, cases_order}
-use Rattle.std.proofs.lemmas.List.{append-nil, map-append}
+use Rattle.std.proofs.lemmas.List.{append-nil, map-append, take_more, take_all}
+use Rattle.std.proofs.lemmas.List.Elements.{filter_map-append}
 use Rattle.std.proofs.lemmas.Option.{none-some, same_Some}
 use Rattle.std.proofs.lemmas.Slice.Eq.{bytes_eq-Decides}
 use Rattle.rx_scenario.specs.Scenario.{Name}
@@ -16,6 +19,7 @@ use Rattle.rx_live.specs.Session.{Session, IsSound, is_kept, has_resource}
 use Rattle.rx_live.specs.Promise.{Act, released, with_held, Leads, no_act, releases}
 use Rattle.rx_live.specs.Listed.{names_below, all_names, is_nil, led_text, open_text}
 use Rattle.rx_live.proofs.Remaining.{kept_past}
+use Rattle.rx_live.proofs.Binding.{none_of}
 use Rattle.rx_live.proofs.Tellings.{joined_more}
 use Rattle.rx_live.proofs.Laws.Held.{leads_on, leads_same}
 use Rattle.rx_live.proofs.Drops.{dropped_unnamed, or_none}
@@ -37,23 +41,69 @@ text_more (name ∷ names) (Some n) =
     ∙ append_assoc (joined (map name_text (name ∷ names))) (codes ",") (name_text n))
     ∙ sym (append_assoc (codes ",\"release\":[") (joined (map name_text (name ∷ names))) (codes "," ++ name_text n))
 
+-- the names of numbers
+abbrev pub names_at : Session → List ℕ → List Name
+names_at s ns = filter_map (name_of s.resources) ns
+
+one_name : (o : Option Name) → cons_option o [] ≡ option_to_list o
+one_name None = refl
+one_name (Some n) = refl
+
 -- a number more
-pub below_more : (s : Session) (before : List Name) (k : ℕ) → before ++ names_below s (k + 1) ≡ (before ++ names_below s k) ++ option_to_list (name_of s.resources k)
-below_more s before k =
-    ap (λ (j : ℕ). before ++ names_below s j) (add-one k) ∙ sym (append_assoc before (names_below s k) (option_to_list (name_of s.resources k)))
+pub names_more : (s : Session) (before : List Name) (ns : List ℕ) (i d : ℕ) → i < length ns →
+    before ++ names_at s (take (i + 1) ns) ≡ (before ++ names_at s (take i ns)) ++ option_to_list (name_of s.resources (get_or ns i d))
+names_more s before ns i d within =
+    let n = get_or ns i d in
+    ap (λ (ms : List ℕ). before ++ names_at s ms) (take_more ns i d within)
+    ∙ ap (λ (names : List Name). before ++ names) (filter_map-append (name_of s.resources) (take i ns) (n ∷ [])
+    ∙ ap (λ (names : List Name). names_at s (take i ns) ++ names) (one_name (name_of s.resources n)))
+    ∙ sym (append_assoc before (names_at s (take i ns)) (option_to_list (name_of s.resources n)))
 
-pub text_step : (s : Session) (before : List Name) (k : ℕ) (begun text new : List ℕ) (first : Bool) → first ≡ is_nil (before ++ names_below s k) →
-    text ≡ begun ++ open_text (before ++ names_below s k) → new ≡ text ++ led_text first (name_of s.resources k) → new ≡ begun ++ open_text (before ++ names_below s (k + 1))
-text_step s before k begun text new first is written next =
-    let so_far = before ++ names_below s k in
-    let o = name_of s.resources k in
-    next ∙ (λ i. written i ++ led_text (is i) o) ∙ append_assoc begun (open_text so_far) (led_text (is_nil so_far) o)
-    ∙ ap (λ (t : List ℕ). begun ++ t) (sym (text_more so_far o) ∙ ap open_text (sym (below_more s before k)))
+range_more : (a n : ℕ) → range_with_len a (suc n) ≡ range_with_len a n ++ (a + n) ∷ []
+range_more a zero = ap (λ (k : ℕ). k ∷ []) (let e : a ≡ a + 0 = omega arith in e)
+range_more a (suc n) =
+    ap (λ (ns : List ℕ). a ∷ ns)
+    (range_more (a + 1) n ∙ ap (λ (k : ℕ). range_with_len (a + 1) n ++ k ∷ []) (let e : (a + 1) + n ≡ a + suc n = omega arith in e))
 
-pub first_step : (s : Session) (before : List Name) (k : ℕ) (first new : Bool) → first ≡ is_nil (before ++ names_below s k) → new ≡ (first && not (is_some (name_of s.resources k))) →
-    new ≡ is_nil (before ++ names_below s (k + 1))
-first_step s before k first new is next =
-    next ∙ ap (λ (b : Bool). b && not (is_some (name_of s.resources k))) is ∙ sym (nil_more (before ++ names_below s k) (name_of s.resources k)) ∙ ap is_nil (sym (below_more s before k))
+below_is : (s : Session) (k : ℕ) → names_at s (range_with_len 0 k) ≡ names_below s k
+below_is s zero = refl
+below_is s (suc k) =
+    ap (names_at s) (range_more 0 k ∙ ap (λ (n : ℕ). range_with_len 0 k ++ n ∷ []) (let e : 0 + k ≡ k = omega arith in e))
+    ∙ filter_map-append (name_of s.resources) (range_with_len 0 k) (k ∷ [])
+    ∙ (λ i. below_is s k i ++ one_name (name_of s.resources k) i)
+
+-- numbers without a name may be left out
+named_alone : (s : Session) (ns : List ℕ) → names_at s (filter (λ n. is_some (name_of s.resources n)) ns) ≡ names_at s ns
+named_alone s [] = refl
+named_alone s (n ∷ ns) = by_name (name_of s.resources n) refl (named_alone s ns) where
+  by_name : (o : Option Name) → name_of s.resources n ≡ o → names_at s (filter (λ m. is_some (name_of s.resources m)) ns) ≡ names_at s ns →
+      names_at s (cond (is_some o) (n ∷ filter (λ m. is_some (name_of s.resources m)) ns) (filter (λ m. is_some (name_of s.resources m)) ns))
+      ≡ names_at s (n ∷ ns)
+  by_name (Some name) is rest = ap (cons_option (name_of s.resources n)) rest
+  by_name None is rest = rest ∙ sym (ap (λ (o : Option Name). cons_option o (names_at s ns)) is)
+
+-- all numbers that have names
+placed_resources : (s : Session) → IsSound s → (n : ℕ) → length s.book.history ≤ n → name_of s.resources n ≡ None
+placed_resources s sound n past = none_of (name_of s.resources n) (sound.resources n ∙ kept_past s.book.history n past)
+
+pub names_all : (s : Session) (before : List Name) (ns : List ℕ) (i : ℕ) → IsSound s → length ns ≤ i →
+    ((len : ℕ) → ((n : ℕ) → len ≤ n → name_of s.resources n ≡ None) → ns ≡ filter (λ n. is_some (name_of s.resources n)) (range_with_len 0 len)) →
+    before ++ names_at s (take i ns) ≡ before ++ names_below s (length s.book.history)
+names_all s before ns i sound past are =
+    let len = length s.book.history in
+    ap (λ (names : List Name). before ++ names)
+    (ap (names_at s) (take_all i ns past ∙ are len (placed_resources s sound)) ∙ named_alone s (range_with_len 0 len) ∙ below_is s len)
+
+pub text_step : (names more : List Name) (o : Option Name) (begun text new : List ℕ) (first : Bool) → more ≡ names ++ option_to_list o → first ≡ is_nil names →
+    text ≡ begun ++ open_text names → new ≡ text ++ led_text first o → new ≡ begun ++ open_text more
+text_step names more o begun text new first longer is written next =
+    next ∙ (λ i. written i ++ led_text (is i) o) ∙ append_assoc begun (open_text names) (led_text (is_nil names) o)
+    ∙ ap (λ (t : List ℕ). begun ++ t) (sym (text_more names o) ∙ ap open_text (sym longer))
+
+pub first_step : (names more : List Name) (o : Option Name) (first new : Bool) → more ≡ names ++ option_to_list o → first ≡ is_nil names →
+    new ≡ (first && not (is_some o)) → new ≡ is_nil more
+first_step names more o first new longer is next =
+    next ∙ ap (λ (b : Bool). b && not (is_some o)) is ∙ sym (nil_more names o) ∙ ap is_nil (sym longer)
 
 -- what is held ---------------------------------------------------------------------------------------
 

@@ -53,13 +53,22 @@ pub of_cause : {A : Type 0} (old : State) (asked : Request) (answer : Result A R
 of_cause old asked (Ok a) refuses = refuses
 of_cause old asked (Err why) refuses = inl refuses
 
+-- what is known of the book's answer to such a call
+pub record Called {A : Type 0} (old : State) (asked : Request) (answer : Result A Refusal) (new : State) : Type 0 where
+  pub kept : IsPromised new
+  pub resources : keeps_resources asked.call ≡ true
+  pub leases : keeps_leases asked.call ≡ true
+  pub accepts : OnOk answer (Accepts old asked new)
+  pub refuses : IfErr answer (IsCauseOrWant old asked)
+  pub same : OnErr answer (new ≡ old)
+
 -- the whole answer, where the name is bound
 pub call_ok : {A K : Type 0} (s : Session) (f : K → Request) (k : K) (key : Option K) → key ≡ Some k → (book : State) (answer : Result A Refusal) (result : Result Outcome AllocError) →
-    IsSound s → IsPromised book → keeps_resources (f k).call ≡ true → keeps_leases (f k).call ≡ true → OnOk answer (Accepts s.book (f k) book) → IfErr answer (IsCauseOrWant s.book (f k)) →
-    OnErr answer (book ≡ s.book) → IfOk result (λ o. o ≡ outcome_of answer) → IfOk result (λ o. Goes s (option_map f key) o (record s { book = book }))
-call_ok s f k key found book answer (Err e) sound kept resources leases accepts refuses same told = told
-call_ok s f k key found book answer (Ok o) sound kept resources leases accepts refuses same told =
-    subst (λ (j : Option _). Goes s (option_map f j) o (record s { book = book })) (sym found) (goes_on s (f k) book answer o sound kept resources leases accepts refuses same told)
+    IsSound s → Called s.book (f k) answer book → IfOk result (λ o. o ≡ outcome_of answer) → IfOk result (λ o. Goes s (option_map f key) o (record s { book = book }))
+call_ok s f k key found book answer (Err e) sound called told = told
+call_ok s f k key found book answer (Ok o) sound called told =
+    subst (λ (j : Option _). Goes s (option_map f j) o (record s { book = book })) (sym found)
+    (goes_on s (f k) book answer o sound called.kept called.resources called.leases called.accepts called.refuses called.same told)
 
 -- before the first line
 kept_none : (r : ℕ) → is_kept [] r ≡ false

@@ -29,9 +29,10 @@ next_told s (Some m) book untold none gone next given =
     let all : List Mail = notes s.book.history in
     let old : to_tell s ≡ drop s.book.given all = ap (λ (o : Option Mail). option_to_list o ++ drop s.book.given all) none in
     let new : to_tell (record s { book = book; untold = untold }) ≡ drop (s.book.given + 1) all = λ i. option_to_list (gone i) ++ drop (given i).given (notes (given i).history) in
+    let alone : book ≡ record s.book { given = book.given } = given ∙ ap (λ (k : ℕ). record s.book { given = k }) (sym (ap (λ (b : State). b.given) given)) in
     record {
       next = old ∙ dropped_one all s.book.given m (sym next) ∙ ap (λ (ms : List Mail). m ∷ ms) (sym new);
-      rest = λ i. record s { book = record s.book { base = (given i).base; history = (given i).history; limit = (given i).limit; keys = (given i).keys; res_keys = (given i).res_keys; lease_keys = (given i).lease_keys; held = (given i).held; waiting = (given i).waiting; given = book.given }; untold = untold };
+      rest = ap (λ (b : State). record s { book = b; untold = untold }) alone;
     }
 
 past_all : (xs : List Mail) (k : ℕ) → slice_get xs k ≡ None → length xs ≤ k

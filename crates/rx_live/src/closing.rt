@@ -12,6 +12,7 @@ ghost use Rattle.rx_live.specs.Listed.{all_names, is_nil, lead_of, led_text, ope
 use crate::engine::Engine;
 use crate::telling::push_quoted;
 use rx_line::Names;
+use rx_listing::rising;
 use std::alloc::AllocError;
 
 // What leads to a name in an array.
@@ -54,20 +55,23 @@ fn push_unnamed(engine: &Engine, text: &mut String) -> Result<bool, AllocError>
     }
 }
 
-// Writes all names that are bound or still to be told, each once.
+// Writes all names that are bound or still to be told, each once. It goes over what has names.
 fn push_all(engine: &Engine, text: &mut String) -> Result<bool, AllocError>
+    requires { IsSound (session_of engine.now) }
     ensures first { IfOk result (λ b. b ≡ is_nil (all_names (session_of engine.now))) }
     ensures text { OnOk result (string_bytes text.new ≡ string_bytes text.old ++ open_text (all_names (session_of engine.now))) }
 {
     let mut is_first = push_unnamed(engine, text)?;
-    'numbers: for number in 0..engine.book.len() {
-        is_first = push_number(engine, text, is_first, number)?;
+    let numbers = rising(engine.alloc, &engine.resources)?;
+    'numbers: for number in &numbers {
+        is_first = push_number(engine, text, is_first, *number)?;
     }
     Ok(is_first)
 }
 
 /// Writes the member that names all that is left to be released. Err where memory is refused.
 pub fn push_names(engine: &Engine, text: &mut String) -> Result<(), AllocError>
+    requires { IsSound (session_of engine.now) }
     ensures { OnOk result (string_bytes text.new ≡ string_bytes text.old ++ member_text (codes "release") (map name_text (all_names (session_of engine.now)))) }
 {
     if push_all(engine, text)? {

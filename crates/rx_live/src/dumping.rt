@@ -1,38 +1,15 @@
 //! The history so far, as a dump.
 
-ghost use Rattle.std.specs.Prelude.{◌≡◌, ◌≤◌, nat_lt, length, string_bytes, IfOk};
+ghost use Rattle.std.specs.Prelude.{◌≡◌, string_bytes, IfOk};
 ghost use Rattle.rx_live.specs.Session.{session_of};
 ghost use Rattle.rx_live.specs.Dumps.{whole_text, since_text, dump_text};
 
 use crate::engine::Engine;
-use crate::token::Token;
-use rx_book::{Book, Event};
+use rx_book::Event;
 use rx_dump::push_dump;
 use rx_line::ok_text;
+use rx_listing::since;
 use std::alloc::AllocError;
-
-/// Whether the event before a place was written since the last checkpoint.
-pub fn is_since(book: &Book<Token>, place: u64) -> bool
-    requires { place ≤ length book.now.history }
-    ensures { result ≡ nat_lt book.now.base.at_length place }
-{
-    if place == 0 {
-        return false;
-    }
-    book.event(place - 1).is_some()
-}
-
-/// The place of the last checkpoint, 0 where there was none. It goes over the events since.
-pub fn since(book: &Book<Token>) -> u64
-    ensures { result ≡ book.now.base.at_length }
-{
-    book.promise();
-    let mut place = book.len();
-    'places: while is_since(book, place) {
-        place -= 1;
-    }
-    place
-}
 
 // All events, oldest first, where there was no checkpoint.
 fn events_of(engine: &Engine) -> Result<Vec<Event>, AllocError>

@@ -12,7 +12,7 @@ ghost use Rattle.rx_live.specs.Taken.{may_renew, is_full, IsFullByAge, Answered}
 ghost use Rattle.rx_live.specs.Room.{HasRoom};
 
 use crate::closing::{close, push_names};
-use crate::dumping::{dump_text, is_since};
+use crate::dumping::dump_text;
 use crate::engine::Engine;
 use crate::listing::list_text;
 use crate::renewing::renew;
@@ -20,6 +20,7 @@ use crate::running::run;
 use crate::telling::{ROOM, tell_notes, tell_releases};
 use rx_book::Refusal;
 use rx_line::{Cause, Order, Outcome, Unread, faulty_text, ok_text, order_of, put, refused_text};
+use rx_listing::is_since;
 use rx_scenario::Command;
 use std::alloc::AllocError;
 

@@ -1,17 +1,8 @@
 //! A run that is longer than its limit.
 
+use crate::asked::expect;
 use rx_live::Live;
 use std::test::Fail;
-
-// Sends a line for which there is memory, and compares its answer.
-fn expect(live: &mut Live, line: &str, answer: &str) -> Result<(), Fail> {
-    let told = live.send(line.as_bytes())?;
-    if told.as_str() == answer {
-        Ok(())
-    } else {
-        Err(Fail::new(told))
-    }
-}
 
 // A root that holds a resource, and its source.
 fn begin(live: &mut Live) -> Result<(), Fail> {
@@ -33,8 +24,9 @@ fn a_run_that_is_longer_than_its_limit_goes_on(rt: HostRuntime) -> Result<(), Fa
                 .ends_with(",\"notes\":[{\"to\":\"a\",\"next\":5}]}")
         );
     }
-    let nodes =
-        "{\"ok\":103,\"nodes\":[{\"name\":\"a\",\"kind\":\"pass\",\"place\":\"root\"},{\"name\":\"b\",\"kind\":\"leaf\",\"place\":\"source\",\"of\":\"a\"}],\"resources\":[{\"name\":\"r\",\"node\":\"a\",\"uses\":0}],\"leases\":[],\"hubs\":[]}";
+    let nodes = "{\"ok\":103,\"nodes\":[{\"name\":\"a\",\"kind\":\"pass\",\"place\":\"root\"},\
+            {\"name\":\"b\",\"kind\":\"leaf\",\"place\":\"source\",\"of\":\"a\"}],\
+            \"resources\":[{\"name\":\"r\",\"node\":\"a\",\"uses\":0}],\"leases\":[],\"hubs\":[]}";
     expect(&mut live, "{\"do\":\"list\"}", nodes)?;
     let end = "{\"ok\":103,\"notes\":[{\"to\":\"a\",\"completed\":true}],\"release\":[\"r\"]}";
     expect(&mut live, "{\"do\":\"end\",\"node\":\"b\"}", end)?;

@@ -1,8 +1,12 @@
-//! What no clause of a live book says: that a run that is longer than its limit goes on, what `list` answers of
-//! what is older than a checkpoint, and what is told where memory is refused and comes back.
+//! What no clause of a live book says: that a run that is longer than its limit goes on, and what is told where
+//! memory is refused and comes back. What `list` answers is compared with the words of its document.
 #![tactic(auto)]
 
 #[cfg(test)]
+mod asked;
+#[cfg(test)]
 mod lasting;
+#[cfg(test)]
+mod listed;
 #[cfg(test)]
 mod want;

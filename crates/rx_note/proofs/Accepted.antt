@@ -12,7 +12,8 @@ use Rattle.rx_note.specs.Notes.{is_end, accepts, IsGrammatical}
 
 -- an item before a list that has the form
 IsGrammatical-cons : (item : Note) (rest : List Note) → is_end item ≡ false → IsGrammatical rest → IsGrammatical (item ∷ rest)
-IsGrammatical-cons item rest e g = record { items = item ∷ g.items; last = g.last; no_end = rw e g.no_end; whole = ap (λ (notes : List Note). item ∷ notes) g.whole }
+IsGrammatical-cons item rest e g =
+    record { items = item ∷ g.items; last = g.last; no_end = rw e g.no_end; whole = ap (λ (notes : List Note). item ∷ notes) g.whole }
 
 pub accepted_form : (notes : List Note) → IsTrue (accepts false notes) → IsGrammatical notes
 accepted_form [] a = record { items = []; last = None; no_end = refl; whole = refl }
@@ -21,7 +22,8 @@ accepted_form (Project value ∷ rest) a = IsGrammatical-cons (Project value) re
 accepted_form (End terminal ∷ []) a = record { items = []; last = Some terminal; no_end = refl; whole = refl }
 accepted_form (End terminal ∷ note ∷ rest) a = absurd (false≢true a)
 
-accepts_items : (items : List Note) (last : Option Terminal) → list_all (λ note. not (is_end note)) items ≡ true → IsTrue (accepts false (items ++ option_to_list (option_map End last)))
+accepts_items : (items : List Note) (last : Option Terminal) → list_all (λ note. not (is_end note)) items ≡ true →
+    IsTrue (accepts false (items ++ option_to_list (option_map End last)))
 accepts_items [] None e = refl
 accepts_items [] (Some terminal) e = refl
 accepts_items (Next value ∷ rest) last e = accepts_items rest last e

@@ -22,7 +22,8 @@ leaf = Open Root Leaf
 
 pub leaf_follows : MayFollow nothing_kept [] leaf
 unfolding most_nodes
-leaf_follows = allowed (settled_empty nothing_kept) (opened tt tt (omega arith) (λ g d. absurd (kept_unsubscribed nothing_kept [] leaf IsLawful_nothing connected_empty refl refl g d)))
+leaf_follows = allowed (settled_empty nothing_kept)
+    (opened tt tt (omega arith) (λ g d. absurd (kept_unsubscribed nothing_kept [] leaf IsLawful_nothing connected_empty refl refl g d)))
 
 no_other : (q : Event → Bool) → q leaf ≡ false → (n : ℕ) → at q (leaf ∷ []) n ≡ true → ⊥
 no_other q out zero found = false≢true (sym out ∙ found)

@@ -4,7 +4,7 @@ ghost use Rattle.std.specs.Prelude.{◌≡◌, IfErr};
 ghost use Rattle.rx_tree.specs.Tree.{IsPlaced};
 
 use super::same::same;
-use rx_event::{Event, Kind, Marks, Place};
+use rx_event::{Event, Kind, Marks, Place, Terminal};
 use rx_resource::{Resource, Sample};
 use rx_scarce::Scarce;
 use rx_tree::{Closed, Key, ResKey, Tree};
@@ -131,28 +131,31 @@ fn pass_at(place: Place) -> Event
     }
 }
 
-fn fired() -> Marks {
+// Of a node that has to complete, since one below it did.
+fn passing_on() -> Marks {
     Marks {
-        fired: true,
+        child_terminal: Some(Terminal::Completed),
         ..Marks::blank()
     }
 }
 
-// A chain of nodes, each at the source of the one before, and all of them as what may be due.
+// A chain of nodes, each at the source of the one before, and each of which has to end.
 fn chain(grown: &mut Grown<Sample>, count: usize) -> Result<Key, Fail> {
     let top = grown.open_root().ok_or("no memory")?;
     let mut above = top;
-    grown.set_marks(top, fired());
+    grown.set_marks(top, passing_on());
     for _ in 1..count {
         above = grown.open_below(above).ok_or("no memory")?;
-        grown.set_marks(above, fired());
+        grown.set_marks(above, passing_on());
     }
     Ok(top)
 }
 
 // Whether the record is of this number, with the marks that it was given, and is not there any more.
 fn is_closed(grown: &Grown<Sample>, record: &Closed, number: u64) -> bool {
-    record.key.number == number && record.node.marks == fired() && !grown.tree.contains(record.key)
+    record.key.number == number
+        && record.node.marks == passing_on()
+        && !grown.tree.contains(record.key)
 }
 
 // Closes a chain of a hundred thousand nodes beside another root, with no memory left.
@@ -164,7 +167,7 @@ fn close_chain(
 ) -> Result<(), Fail> {
     let top = chain(grown, 100_000)?;
     let other = grown.open_root().ok_or("no memory")?;
-    grown.set_marks(other, fired());
+    grown.set_marks(other, passing_on());
     {
         let _scarce = Scarce::new(alloc)?;
         grown.close(top, closed);

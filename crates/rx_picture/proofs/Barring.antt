@@ -1,5 +1,6 @@
 -- The bar of a resource: while its node is open and it was not removed it is held, and from its taking on taken.
-use Rattle.std.proofs.Common.{◌≡◌, ℕ, ◌<◌, ◌≤◌, min, max, Bool, true, false, cond, List, length, take, get_or, Option, Some, None, refl, sym, ap, ◌∙◌, arith, inl, inr, ◌⊎◌, nat_lt, slice_get}
+use Rattle.std.proofs.Common.{◌≡◌, ℕ, ◌<◌, ◌≤◌, min, max, Bool, true, false, cond, List, length, take, get_or}
+use Rattle.std.proofs.Common.{Option, Some, None, refl, sym, ap, ◌∙◌, arith, inl, inr, ◌⊎◌, nat_lt, slice_get}
 use Rattle.std.proofs.Math.Bool.{not, ◌&&◌}
 use Rattle.std.specs.List.{list_any}
 use Rattle.std.specs.Option.{option_and_then, option_map_or}
@@ -52,10 +53,12 @@ bar_within h r node gone ends inside lines (inr l) =
     rw (le-ltb node (length ends) (omega arith)) (omega arith)
 
 module _ (h : List Event) (r node : ℕ) (accepted : option_and_then node_of_accept (slice_get h r) ≡ Some node) where
-  owned_prefix : (gone k : ℕ) → IsTurn h (was_removed r) (length h) (length h) gone → r < k → k ≤ length h → is_owned (take k h) r ≡ (is_open (take k h) node && not (nat_lt gone k))
+  owned_prefix : (gone k : ℕ) → IsTurn h (was_removed r) (length h) (length h) gone → r < k
+      → k ≤ length h → is_owned (take k h) r ≡ (is_open (take k h) node && not (nat_lt gone k))
   unfolding is_owned
   owned_prefix gone k removed l m =
-      ap (λ (o : Option Event). option_map_or (is_open (take k h)) (option_and_then node_of_accept o) false && not (list_any (is_remove_of r) (take k h))) (get_prefix h k r l m)
+      ap (λ (o : Option Event). option_map_or (is_open (take k h)) (option_and_then node_of_accept o) false && not (list_any (is_remove_of r) (take k h)))
+      (get_prefix h k r l m)
       ∙ ap (λ (o : Option ℕ). option_map_or (is_open (take k h)) o false && not (list_any (is_remove_of r) (take k h))) accepted
       ∙ ap (λ (x : Bool). is_open (take k h) node && not x) (removed.turns k m)
 
@@ -63,7 +66,8 @@ module _ (h : List Event) (r node : ℕ) (accepted : option_and_then node_of_acc
       Spans h (λ k. is_owned k r) (owned_start ends node r) (max (owned_end ends node gone) (owned_start ends node r))
   bar_owned gone ends removed lines k m = by_place (cases_lt r k) where
     by_node : r < k → (node < length h) ⊎ (length h ≤ node) →
-        (is_open (take k h) node && not (nat_lt gone k)) ≡ (nat_lt (owned_start ends node r) k && not (nat_lt (max (owned_end ends node gone) (owned_start ends node r)) k))
+        (is_open (take k h) node && not (nat_lt gone k))
+        ≡ (nat_lt (owned_start ends node r) k && not (nat_lt (max (owned_end ends node gone) (owned_start ends node r)) k))
     by_node l (inl inside) =
         let size = lines.size in
         ap (λ (x : Bool). x && not (nat_lt gone k)) (lines.spans node inside k m) ∙ bar_cut node (get_or ends node 0) gone r k l
@@ -77,14 +81,17 @@ module _ (h : List Event) (r node : ℕ) (accepted : option_and_then node_of_acc
         (le-ltb node (length ends) (omega arith))
         ∙ ap (λ (j : ℕ). nat_lt r k && not (nat_lt j k)) none ∙ and_not (nat_lt r k))
 
-    by_place : (r < k) ⊎ (k ≤ r) → is_owned (take k h) r ≡ (nat_lt (owned_start ends node r) k && not (nat_lt (max (owned_end ends node gone) (owned_start ends node r)) k))
+    by_place : (r < k) ⊎ (k ≤ r) → is_owned (take k h) r
+        ≡ (nat_lt (owned_start ends node r) k && not (nat_lt (max (owned_end ends node gone) (owned_start ends node r)) k))
     by_place (inl l) = owned_prefix gone k removed l m ∙ by_node l (cases_lt node (length h))
-    by_place (inr l) = let later = start_after ends node r in is_owned_past (take k h) r (past_prefix h k r l m) ∙ sym (and_left _ _ (le-ltb (owned_start ends node r) k (omega arith)))
+    by_place (inr l) = let later =
+        start_after ends node r in is_owned_past (take k h) r (past_prefix h k r l m) ∙ sym (and_left _ _ (le-ltb (owned_start ends node r) k (omega arith)))
 
   taken_prefix : (out k : ℕ) → IsTurn h (was_taken r) (length h) (length h) out → r < k → k ≤ length h → is_taken (take k h) r ≡ nat_lt out k
   unfolding is_taken
   taken_prefix out k taken l m =
-      ap (λ (x : Bool). x && list_any (is_take_of r) (take k h)) (at_prefix makes_resource h k r l m ∙ accepted_makes (slice_get h r) node accepted) ∙ taken.turns k m
+      ap (λ (x : Bool). x && list_any (is_take_of r) (take k h))
+      (at_prefix makes_resource h k r l m ∙ accepted_makes (slice_get h r) node accepted) ∙ taken.turns k m
 
   bar_taken : (out : ℕ) → IsTurn h (was_taken r) (length h) (length h) out → Begins h (λ k. is_taken k r) (max out r)
   bar_taken out taken k m = by_place (cases_lt r k) where
@@ -92,7 +99,8 @@ module _ (h : List Event) (r node : ℕ) (accepted : option_and_then node_of_acc
     by_place (inl l) = taken_prefix out k taken l m ∙ sym (cut_alone out r k l)
     by_place (inr l) = is_taken_past (take k h) r (past_prefix h k r l m) ∙ sym (le-ltb (max out r) k (omega arith))
 
-  pub bar_is : (gone out : ℕ) (ends : List ℕ) → r < length h → IsTurn h (was_removed r) (length h) (length h) gone → IsTurn h (was_taken r) (length h) (length h) out → AreLines h (length h) ends →
+  pub bar_is : (gone out : ℕ) (ends : List ℕ) → r < length h → IsTurn h (was_removed r) (length h) (length h) gone
+      → IsTurn h (was_taken r) (length h) (length h) out → AreLines h (length h) ends →
       IsBar h r (owned_start ends node r) (max (owned_end ends node gone) (owned_start ends node r)) (max out r)
   bar_is gone out ends inside removed taken lines = record {
     accepted = start_after ends node r;

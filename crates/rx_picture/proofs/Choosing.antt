@@ -1,5 +1,6 @@
 -- Marks of the numbers so far, and how many are chosen.
-use Rattle.std.proofs.Common.{◌≡◌, ℕ, zero, suc, ◌+◌, ◌-◌, ◌<◌, ◌≤◌, min, Bool, true, false, cond, List, [], ◌∷◌, ◌++◌, length, refl, ap, ◌∙◌, arith, inl, inr, ◌⊎◌, nat_lt}
+use Rattle.std.proofs.Common.{◌≡◌, ℕ, zero, suc, ◌+◌, ◌-◌, ◌<◌, ◌≤◌, min, Bool, true, false, cond}
+use Rattle.std.proofs.Common.{List, [], ◌∷◌, ◌++◌, length, refl, ap, ◌∙◌, arith, inl, inr, ◌⊎◌, nat_lt}
 use Rattle.std.proofs.Math.Bool.{not, ◌&&◌}
 use Rattle.std.proofs.lemmas.Bool.{cases_lt, lt-ltb, le-ltb}
 use Rattle.std.proofs.lemmas.List.{length_push}
@@ -17,7 +18,8 @@ mark_new : (xs : List Bool) (y : Bool) → marked (xs ++ y ∷ []) (length xs) �
 mark_new [] y = refl
 mark_new (x ∷ xs) y = mark_new xs y
 
-pub marks_more : (marks : List Bool) (n : ℕ) (test : ℕ → Bool) (mark : Bool) → AreMarks marks n test → mark ≡ test n → AreMarks (marks ++ mark ∷ []) (n + 1) test
+pub marks_more : (marks : List Bool) (n : ℕ) (test : ℕ → Bool) (mark : Bool)
+    → AreMarks marks n test → mark ≡ test n → AreMarks (marks ++ mark ∷ []) (n + 1) test
 marks_more marks n test mark tied is = record {
   size = length_push marks mark ∙ ap (λ (j : ℕ). j + 1) tied.size;
   each = λ i l. by_place i l (cases_lt i n);
@@ -43,7 +45,8 @@ few_plain limit most a b true true = by_place (cases_lt a limit) where
   by_place (inl l) = rw (lt-ltb a limit l) (omega arith)
   by_place (inr l) = rw (le-ltb a limit l) (omega arith)
 few_plain limit most a b true false = by_place (cases_lt (most + b) limit) where
-  by_place : (most + b < limit) ⊎ (limit ≤ most + b) → bit (nat_lt (most + b) limit) + (min limit a + min (limit - most) b) ≡ min limit (a + 0) + min (limit - most) (b + 1)
+  by_place : (most + b < limit) ⊎ (limit ≤ most + b)
+      → bit (nat_lt (most + b) limit) + (min limit a + min (limit - most) b) ≡ min limit (a + 0) + min (limit - most) (b + 1)
   by_place (inl l) = rw (lt-ltb (most + b) limit l) (omega arith)
   by_place (inr l) = rw (le-ltb (most + b) limit l) (omega arith)
 

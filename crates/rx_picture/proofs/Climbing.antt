@@ -1,5 +1,6 @@
 -- A climb by a list whose last number is visited next.
-use Rattle.std.proofs.Common.{◌≡◌, ℕ, zero, suc, ◌+◌, ◌-◌, ◌<◌, ◌≤◌, Bool, List, [], ◌∷◌, ◌++◌, length, take, get_or, reverse, refl, sym, ap, ◌∙◌, arith, nat_lt, append-nil}
+use Rattle.std.proofs.Common.{◌≡◌, ℕ, zero, suc, ◌+◌, ◌-◌, ◌<◌, ◌≤◌, Bool, List, [], ◌∷◌, ◌++◌}
+use Rattle.std.proofs.Common.{length, take, get_or, reverse, refl, sym, ap, ◌∙◌, arith, nat_lt, append-nil}
 use Rattle.std.proofs.Math.Bool.{not, ◌&&◌}
 use Rattle.std.proofs.lemmas.Bool.{lt-ltb}
 use Rattle.std.proofs.lemmas.List.{reverse-append, reverse-reverse, append_assoc, length-take-le}
@@ -28,7 +29,8 @@ visited_none : (left : ℕ) (past : List Event) → visited left past [] ≡ []
 visited_none zero past = refl
 visited_none (suc left) past = refl
 
-pub climb_ends : (most : ℕ) (past : List Event) (leaf step : ℕ) (visits : List ℕ) → ClimbsOn most past leaf step visits [] → visits ≡ visited (suc most) past (leaf ∷ [])
+pub climb_ends : (most : ℕ) (past : List Event) (leaf step : ℕ) (visits : List ℕ)
+    → ClimbsOn most past leaf step visits [] → visits ≡ visited (suc most) past (leaf ∷ [])
 climb_ends most past leaf step visits on = sym (append-nil visits) ∙ ap (λ (vs : List ℕ). visits ++ vs) (sym (visited_none (suc most - step) past)) ∙ on
 
 pub climb_stops : (most : ℕ) (past : List Event) (leaf step : ℕ) (visits todo : List ℕ) → suc most ≤ step → ClimbsOn most past leaf step visits todo →
@@ -61,10 +63,12 @@ unfolding climb
 climb_is past leaf = refl
 
 -- the same, as the loop has it
-pub climb_ended : (past : List Event) (leaf step : ℕ) (visits todo : List ℕ) → todo ≡ [] → ClimbsOn most_visits past leaf step visits todo → visits ≡ climb past leaf
+pub climb_ended : (past : List Event) (leaf step : ℕ) (visits todo : List ℕ) → todo ≡ []
+    → ClimbsOn most_visits past leaf step visits todo → visits ≡ climb past leaf
 climb_ended past leaf step visits todo none on = climb_ends most_visits past leaf step visits (rw none at on) ∙ sym (climb_is past leaf)
 
-pub climb_stopped : (past : List Event) (leaf step : ℕ) (visits todo : List ℕ) → 1048577 ≤ step → ClimbsOn most_visits past leaf step visits todo → visits ≡ climb past leaf
+pub climb_stopped : (past : List Event) (leaf step : ℕ) (visits todo : List ℕ)
+    → 1048577 ≤ step → ClimbsOn most_visits past leaf step visits todo → visits ≡ climb past leaf
 climb_stopped past leaf step visits todo whole on =
     let limit = limit_is in
     climb_stops most_visits past leaf step visits todo (omega arith) on ∙ sym (climb_is past leaf)

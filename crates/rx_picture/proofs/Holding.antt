@@ -1,5 +1,6 @@
 -- A resource is held where its own row has a full bar, or a lease of it has one.
-use Rattle.std.proofs.Common.{◌≡◌, ℕ, zero, suc, ◌+◌, ◌<◌, ◌≤◌, Bool, true, false, List, [], ◌∷◌, length, take, map, Option, Some, None, refl, sym, ap, subst, ◌∙◌, arith, inl, inr, ◌⊎◌, ◌==◌, nat_lt, slice_get}
+use Rattle.std.proofs.Common.{◌≡◌, ℕ, zero, suc, ◌+◌, ◌<◌, ◌≤◌, Bool, true, false, List, [], ◌∷◌, length, take, map}
+use Rattle.std.proofs.Common.{Option, Some, None, refl, sym, ap, subst, ◌∙◌, arith, inl, inr, ◌⊎◌, ◌==◌, nat_lt, slice_get}
 use Rattle.std.proofs.Math.Bool.{not, ◌&&◌, ◌||◌}
 use Rattle.std.specs.List.{AllByRecursion, list_any, range_with_len}
 use Rattle.std.specs.Option.{option_map_or}
@@ -49,7 +50,8 @@ row_there : (h : List Event) (shown : ℕ → Bool) (rows : List Row) → AreRow
     (i : ℕ) × (row : Row) × (slice_get rows i ≡ Some row) × ((n == row.number) ≡ true)
 row_there h shown rows are n within has = list_any_found (λ row. n == row.number) rows
     (sym (any_map n rows) ∙ ap (list_any (λ m. n == m)) are.numbers
-    ∙ any-filter_same (λ m. n == m) (λ k. at has_row h k && shown k) true (λ m same. ap (λ (k : ℕ). at has_row h k && shown k) (sym (eqb-true n m same)) ∙ has) (places h)
+    ∙ any-filter_same (λ m. n == m) (λ k. at has_row h k && shown k) true
+    (λ m same. ap (λ (k : ℕ). at has_row h k && shown k) (sym (eqb-true n m same)) ∙ has) (places h)
     ∙ in_range n 0 (length h) (omega arith) (omega arith))
 
 -- what the shape of a row says ----------------------------------------------------------------------
@@ -84,7 +86,8 @@ out_barred : (h : List Event) (r k l : ℕ) (shape : Shape) → IsShape h l shap
     bars r k l shape ≡ true
 out_barred h r k l (Node until ending) is leased m out = absurd (false≢true (sym (ap (λ (o : Option Event). option_map_or makes_node o false) leased) ∙ is.0))
 out_barred h r k l Hub is leased m out = absurd (false≢true (sym (ap (λ (o : Option Event). option_map_or makes_hub o false) leased) ∙ is))
-out_barred h r k l (Resource after until taken) is leased m out = absurd (false≢true (sym (ap (λ (o : Option Event). option_map_or makes_resource o false) leased) ∙ is.0))
+out_barred h r k l (Resource after until taken) is leased m out =
+    absurd (false≢true (sym (ap (λ (o : Option Event). option_map_or makes_resource o false) leased) ∙ is.0))
 out_barred h r k l (Loan q until) is leased m out = and_from (q == r) _ (eq-eqb q r (lease_of q r (sym is.0 ∙ leased))) (sym (is.1.out k m) ∙ out)
 
 -- a full bar says that the resource is held
@@ -111,7 +114,8 @@ barred_held h r k n (Loan q until) is made l m barred =
     let parts = and_parts (q == r) (nat_lt n k && not (nat_lt until k)) barred in
     let inside = ltb-true n k (and_parts (nat_lt n k) (not (nat_lt until k)) parts.1).0 in
     let leased : slice_get (take k h) n ≡ Some (Lease r) = get_prefix h k n inside m ∙ is.0 ∙ ap (λ (p : ℕ). Some (Lease p)) (eqb-true q r parts.0) in
-    held_by_lease (take k h) r (leased_where (take k h) r (at_prefix makes_resource h k r l m ∙ made) (leases_of_some (take k h) n r leased (is.1.out k m ∙ parts.1)))
+    held_by_lease (take k h) r (leased_where (take k h) r (at_prefix makes_resource h k r l m ∙ made)
+    (leases_of_some (take k h) n r leased (is.1.out k m ∙ parts.1)))
 
 -- a lease that is out --------------------------------------------------------------------------------
 
@@ -120,12 +124,14 @@ unfolding leases_of
 out_somewhere h r some = by_test (cases_Bool (list_any (is_out_of h r) (places h))) where
   by_test : (list_any (is_out_of h r) (places h) ≡ true) ⊎ (list_any (is_out_of h r) (places h) ≡ false) → list_any (is_out_of h r) (places h) ≡ true
   by_test (inl passes) = passes
-  by_test (inr fail) = absurd (let none = count_none (is_out_of h r) (places h) (λ i x at_i. fails i x at_i (cases_Bool (is_out_of h r x))) in omega arith) where
-    fails : (i x : ℕ) → slice_get (places h) i ≡ Some x → (is_out_of h r x ≡ true) ⊎ (is_out_of h r x ≡ false) → is_out_of h r x ≡ false
-    fails i x at_i (inl passes) = absurd (false≢true (sym fail ∙ list_any_holds (is_out_of h r) (places h) i x at_i passes))
-    fails i x at_i (inr none) = none
+  by_test (inr fail) =
+      absurd (let none = count_none (is_out_of h r) (places h) (λ i x at_i. fails i x at_i (cases_Bool (is_out_of h r x))) in omega arith) where
+        fails : (i x : ℕ) → slice_get (places h) i ≡ Some x → (is_out_of h r x ≡ true) ⊎ (is_out_of h r x ≡ false) → is_out_of h r x ≡ false
+        fails i x at_i (inl passes) = absurd (false≢true (sym fail ∙ list_any_holds (is_out_of h r) (places h) i x at_i passes))
+        fails i x at_i (inr none) = none
 
-module _ (h : List Event) (d : Drawing) (is : IsDrawing h d) (r : ℕ) (made : at makes_resource h r ≡ true) (shown : is_shown h r ≡ true) (k : ℕ) (l : r < k) (m : k ≤ length h) where
+module _ (h : List Event) (d : Drawing) (is : IsDrawing h d) (r : ℕ) (made : at makes_resource h r ≡ true)
+    (shown : is_shown h r ≡ true) (k : ℕ) (l : r < k) (m : k ≤ length h) where
   barred_by : (n : ℕ) → n < length h → (at has_row h n && is_rowed h n) ≡ true → ((shape : Shape) → IsShape h n shape → bars r k n shape ≡ true) →
       list_any (bars_row r k) d.rows.items ≡ true
   barred_by n within has holds =

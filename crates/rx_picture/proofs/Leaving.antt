@@ -36,7 +36,8 @@ left_by h ends taken n lines turns l =
     ∙ ap (λ (x : Bool). not (nat_lt (get_or ends n 0) (length h)) || (at makes_resource h n && not x)) (taken_whole h taken n turns l)
     ∙ shape (not (nat_lt (get_or ends n 0) (length h))) (at makes_resource h n) (nat_lt (get_or taken n 0) (length h))
 
-module _ (h : List Event) (ends taken : List ℕ) (n : ℕ) (lines : AreLines h (length h) ends) (turns : AreTurns h was_taken (length h) taken) (within : n < length h) where
+module _ (h : List Event) (ends taken : List ℕ) (n : ℕ) (lines : AreLines h (length h) ends)
+    (turns : AreTurns h was_taken (length h) taken) (within : n < length h) where
   pub left_open : length h ≤ get_or ends n 0 → is_left h n ≡ true
   left_open l = left_by h ends taken n lines turns within
       ∙ ap (λ (x : Bool). not x || (at makes_resource h n && not (nat_lt (get_or taken n 0) (length h)))) (le-ltb (get_or ends n 0) (length h) l)

@@ -1,5 +1,6 @@
 -- Where the line of a node ends: where it is itself taken away, or with the line of the node above it.
-use Rattle.std.proofs.Common.{◌≡◌, ℕ, zero, suc, ◌+◌, ◌<◌, ◌≤◌, min, max, Bool, true, false, List, [], ◌∷◌, ◌++◌, length, take, get_or, Option, Some, None, refl, sym, ap, ◌∙◌, arith, inl, inr, ◌⊎◌, nat_lt}
+use Rattle.std.proofs.Common.{◌≡◌, ℕ, zero, suc, ◌+◌, ◌<◌, ◌≤◌, min, max, Bool, true, false, List, [], ◌∷◌, ◌++◌}
+use Rattle.std.proofs.Common.{length, take, get_or, Option, Some, None, refl, sym, ap, ◌∙◌, arith, inl, inr, ◌⊎◌, nat_lt}
 use Rattle.std.proofs.Math.Bool.{not, ◌&&◌, ◌||◌}
 use Rattle.std.specs.Option.{option_map_or}
 use Rattle.std.proofs.lemmas.Bool.{cases_lt, lt-ltb, le-ltb, ltb-true, and_left, or_left, or_right, or_cases}
@@ -25,7 +26,8 @@ cut_either s u n k l = same_tests _ _ (λ passes. there (ltb-true (max (min s u)
   back (inr a) = let m = ltb-true u k a in lt-ltb (max (min s u) n) k (omega arith)
 
 pub cut_alone : (s n k : ℕ) → n < k → nat_lt (max s n) k ≡ nat_lt s k
-cut_alone s n k l = same_tests _ _ (λ passes. let m = ltb-true (max s n) k passes in lt-ltb s k (omega arith)) (λ passes. let m = ltb-true s k passes in lt-ltb (max s n) k (omega arith))
+cut_alone s n k l = same_tests _ _ (λ passes. let m = ltb-true (max s n) k passes in lt-ltb s k (omega arith))
+    (λ passes. let m = ltb-true s k passes in lt-ltb (max s n) k (omega arith))
 
 pub neither : (a b : Bool) → ((true && not a) && not b) ≡ (true && not (a || b))
 neither true b = refl
@@ -40,7 +42,8 @@ and_not false = refl
 open_prefix : (h : List Event) (n k : ℕ) → n < k → k ≤ length h →
     is_open (take k h) n ≡ ((at makes_node h n && not (is_shut (take k h) n)) && option_map_or (is_open (take k h)) (parent h n) true)
 open_prefix h n k l m =
-    is_open_step (take k h) n ∙ ap (λ (x : Bool). (x && not (is_shut (take k h) n)) && option_map_or (is_open (take k h)) (parent (take k h) n) true) (at_prefix makes_node h k n l m)
+    is_open_step (take k h) n ∙ ap (λ (x : Bool). (x && not (is_shut (take k h) n)) && option_map_or (is_open (take k h)) (parent (take k h) n) true)
+    (at_prefix makes_node h k n l m)
     ∙ ap (λ (o : Option ℕ). (at makes_node h n && not (is_shut (take k h) n)) && option_map_or (is_open (take k h)) o true) (parent_prefix h k n l m)
 
 pub line_none : (h : List Event) (n : ℕ) → at makes_node h n ≡ false → Spans h (λ k. is_open k n) n n
@@ -50,7 +53,8 @@ line_none h n none k m = by_place (cases_lt n k) ∙ sym (and_not (nat_lt n k)) 
   by_place (inr l) = is_open_past (take k h) n (past_prefix h k n l m)
 
 module _ (h : List Event) (n s : ℕ) (node : at makes_node h n ≡ true) (shut : IsTurn h (was_shut n) (length h) (length h) s) where
-  line_whole : (k until : ℕ) (above : Bool) → n < k → k ≤ length h → option_map_or (is_open (take k h)) (parent h n) true ≡ not above → nat_lt until k ≡ (nat_lt s k || above) →
+  line_whole : (k until : ℕ) (above : Bool) → n < k → k ≤ length h
+      → option_map_or (is_open (take k h)) (parent h n) true ≡ not above → nat_lt until k ≡ (nat_lt s k || above) →
       is_open (take k h) n ≡ (nat_lt n k && not (nat_lt until k))
   line_whole k until above l m stays cuts =
       open_prefix h n k l m ∙ ap (λ (x : Bool). (x && not (is_shut (take k h) n)) && option_map_or (is_open (take k h)) (parent h n) true) node
@@ -69,7 +73,8 @@ module _ (h : List Event) (n s : ℕ) (node : at makes_node h n ≡ true) (shut 
     or_false false = refl
 
     by_place : (n < k) ⊎ (k ≤ n) → is_open (take k h) n ≡ (nat_lt n k && not (nat_lt (max s n) k))
-    by_place (inl l) = line_whole k (max s n) false l m (ap (λ (o : Option ℕ). option_map_or (is_open (take k h)) o true) none) (cut_alone s n k l ∙ or_false (nat_lt s k))
+    by_place (inl l) =
+        line_whole k (max s n) false l m (ap (λ (o : Option ℕ). option_map_or (is_open (take k h)) o true) none) (cut_alone s n k l ∙ or_false (nat_lt s k))
     by_place (inr l) = line_short k (max s n) l m
 
   pub line_below : (p u : ℕ) → parent h n ≡ Some p → Spans h (λ k. is_open k p) p u → Spans h (λ k. is_open k n) n (max (min s u) n)
@@ -78,7 +83,8 @@ module _ (h : List Event) (n s : ℕ) (node : at makes_node h n ≡ true) (shut 
     by_place (inl l) =
         let less : p < n = parent-lt h n p below in
         line_whole k (max (min s u) n) (nat_lt u k) l m
-        (ap (λ (o : Option ℕ). option_map_or (is_open (take k h)) o true) below ∙ spans k m ∙ ap (λ (x : Bool). x && not (nat_lt u k)) (lt-ltb p k (omega arith)))
+        (ap (λ (o : Option ℕ). option_map_or (is_open (take k h)) o true) below
+        ∙ spans k m ∙ ap (λ (x : Bool). x && not (nat_lt u k)) (lt-ltb p k (omega arith)))
         (cut_either s u n k l)
     by_place (inr l) = line_short k (max (min s u) n) l m
 

@@ -49,20 +49,25 @@ drawn h n shape is = by_shape shape is where
 pub rows_none : (h : List Event) (shown : ℕ → Bool) → RowsUpTo h shown 0 []
 rows_none h shown = record { numbers = refl; each = tt }
 
-pub rows_more : (h : List Event) (shown : ℕ → Bool) (n : ℕ) (rows : List Row) (row : Row) → RowsUpTo h shown n rows → IsShownAt h shown n row → RowsUpTo h shown (n + 1) (rows ++ row ∷ [])
+pub rows_more : (h : List Event) (shown : ℕ → Bool) (n : ℕ) (rows : List Row) (row : Row)
+    → RowsUpTo h shown n rows → IsShownAt h shown n row → RowsUpTo h shown (n + 1) (rows ++ row ∷ [])
 rows_more h shown n rows row tied here = record {
   numbers =
-      let here_made : (at has_row h n && shown n) ≡ true = and_from _ _ (ap (at has_row h) (sym here.number) ∙ drawn h row.number row.shape here.is.shape) here.shown_here in
+      let here_made : (at has_row h n && shown n) ≡ true =
+      and_from _ _ (ap (at has_row h) (sym here.number) ∙ drawn h row.number row.shape here.is.shape) here.shown_here in
       map-append (λ row. row.number) rows (row ∷ []) ∙ ap (λ (ks : List ℕ). ks ++ row.number ∷ []) tied.numbers
       ∙ ap (λ (k : ℕ). filter (λ k. at has_row h k && shown k) (range_with_len 0 n) ++ k ∷ []) here.number
-      ∙ sym (next_filter (λ k. at has_row h k && shown k) n ∙ ap (λ (x : Bool). filter (λ k. at has_row h k && shown k) (range_with_len 0 n) ++ cond x (n ∷ []) []) here_made);
+      ∙ sym (next_filter (λ k. at has_row h k && shown k) n
+      ∙ ap (λ (x : Bool). filter (λ k. at has_row h k && shown k) (range_with_len 0 n) ++ cond x (n ∷ []) []) here_made);
   each = AllByRecursion-both (IsRow h) rows (row ∷ []) tied.each (here.is, tt);
 }
 
-pub rows_skip : (h : List Event) (shown : ℕ → Bool) (n : ℕ) (rows : List Row) → RowsUpTo h shown n rows → (at has_row h n && shown n) ≡ false → RowsUpTo h shown (n + 1) rows
+pub rows_skip : (h : List Event) (shown : ℕ → Bool) (n : ℕ) (rows : List Row)
+    → RowsUpTo h shown n rows → (at has_row h n && shown n) ≡ false → RowsUpTo h shown (n + 1) rows
 rows_skip h shown n rows tied none = record {
   numbers =
-      tied.numbers ∙ sym (next_filter (λ k. at has_row h k && shown k) n ∙ ap (λ (x : Bool). filter (λ k. at has_row h k && shown k) (range_with_len 0 n) ++ cond x (n ∷ []) []) none
+      tied.numbers ∙ sym (next_filter (λ k. at has_row h k && shown k) n
+      ∙ ap (λ (x : Bool). filter (λ k. at has_row h k && shown k) (range_with_len 0 n) ++ cond x (n ∷ []) []) none
       ∙ append-nil (filter (λ k. at has_row h k && shown k) (range_with_len 0 n)));
   each = tied.each;
 }

@@ -20,7 +20,8 @@ module _ (h : List Event) (l r back : ℕ) (leased : slice_get h l ≡ Some (Lea
   out_prefix : (k : ℕ) → l < k → k ≤ length h → is_out (take k h) l ≡ not (nat_lt back k)
   unfolding is_out
   out_prefix k p m =
-      ap (λ (x : Bool). x && not (list_any (is_return_of l) (take k h))) (at_prefix makes_lease h k l p m ∙ ap (λ (o : Option Event). option_map_or makes_lease o false) leased)
+      ap (λ (x : Bool). x && not (list_any (is_return_of l) (take k h)))
+      (at_prefix makes_lease h k l p m ∙ ap (λ (o : Option Event). option_map_or makes_lease o false) leased)
       ∙ ap (λ (x : Bool). true && not x) (returned.turns k m)
 
   loan_out : Spans h (λ k. is_out k l) l (max back l)

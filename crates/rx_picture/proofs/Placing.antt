@@ -1,5 +1,6 @@
 -- Marks that say a test choose what the test chooses, and stand where it stands.
-use Rattle.std.proofs.Common.{◌≡◌, ℕ, zero, suc, ◌+◌, ◌<◌, ◌≤◌, Bool, true, false, cond, List, [], ◌∷◌, ◌++◌, length, filter, replicate, get_or, Option, Some, None, refl, sym, ap, ◌∙◌, arith, inl, inr, ◌⊎◌, nat_lt, slice_get}
+use Rattle.std.proofs.Common.{◌≡◌, ℕ, zero, suc, ◌+◌, ◌<◌, ◌≤◌, Bool, true, false, cond, List, [], ◌∷◌, ◌++◌, length, filter}
+use Rattle.std.proofs.Common.{replicate, get_or, Option, Some, None, refl, sym, ap, ◌∙◌, arith, inl, inr, ◌⊎◌, nat_lt, slice_get}
 use Rattle.std.proofs.Math.Bool.{not, ◌&&◌}
 use Rattle.std.specs.List.{range_with_len}
 use Rattle.std.specs.Option.{option_map_or}
@@ -46,13 +47,15 @@ marks_chosen firsts amongs chosen first among limit size tied_first tied_among t
     let here : AreMarks chosen size (is_chosen (marked firsts) (marked amongs) limit size) = rw tied_among.size at told in
     record {
       size = here.size;
-      each = λ n l. here.each n l ∙ chosen_same (marked firsts) first (marked amongs) among limit size (λ k m. tied_first.each k m) (λ k m. tied_among.each k m) n l;
+      each = λ n l. here.each n l ∙ chosen_same (marked firsts) first
+          (marked amongs) among limit size (λ k m. tied_first.each k m) (λ k m. tied_among.each k m) n l;
     }
 
 pub marks_all : (size : ℕ) → AreMarks (replicate size true) size (λ n. nat_lt n size)
 marks_all size = record { size = length-replicate size true; each = λ n l. get_or-replicate size n true false l ∙ sym (lt-ltb n size l) }
 
-pub rows_same : (h : List Event) (shown : List Bool) (test : ℕ → Bool) (rows : List Row) → AreMarks shown (length h) test → AreRows h (marked shown) rows → AreRows h test rows
+pub rows_same : (h : List Event) (shown : List Bool) (test : ℕ → Bool) (rows : List Row)
+    → AreMarks shown (length h) test → AreRows h (marked shown) rows → AreRows h test rows
 rows_same h shown test rows tied told = record {
   numbers = told.numbers ∙ filter_same (λ n. at has_row h n && marked shown n) (λ n. at has_row h n && test n) 0 (length h)
       (λ k l. ap (λ (x : Bool). at has_row h k && x) (tied.each k (omega arith)));
@@ -83,7 +86,8 @@ placed_anywhere h placed tied n = by_place (cases_lt n (length h)) where
   by_place (inr l) = let size = tied.size in marked_past placed n (omega arith) ∙ sym (and_left _ _ (le-ltb n (length h) l))
 
 -- a row is shown where the marks show its lane
-pub rowed_same : (h : List Event) (shown rowed : List Bool) → AreMarks shown (length h) (is_shown h) → AreMarks rowed (length h) (is_rowed_by (marked shown) h) →
+pub rowed_same : (h : List Event) (shown rowed : List Bool) → AreMarks shown (length h) (is_shown h)
+    → AreMarks rowed (length h) (is_rowed_by (marked shown) h) →
     AreMarks rowed (length h) (is_rowed h)
 rowed_same h shown rowed lanes told = record {
   size = told.size;
@@ -93,7 +97,8 @@ rowed_same h shown rowed lanes told = record {
   by_event n None = refl
   by_event n (Some e) = shown_anywhere h shown lanes (lane_of n e)
 
-pub columns_same : (shown : List Bool) (size : ℕ) (test : ℕ → Bool) (columns : List ℕ) → AreMarks shown size test → AreColumns (marked shown) (length shown) columns → AreColumns test size columns
+pub columns_same : (shown : List Bool) (size : ℕ) (test : ℕ → Bool) (columns : List ℕ)
+    → AreMarks shown size test → AreColumns (marked shown) (length shown) columns → AreColumns test size columns
 columns_same shown size test columns tied told =
     let here : AreColumns (marked shown) size columns = rw tied.size at told in
     record {
@@ -107,7 +112,8 @@ pub record ColumnsUpTo (test : ℕ → Bool) (n : ℕ) (columns : List ℕ) : Ty
   pub size : length columns ≡ n
   pub each : (k : ℕ) → k < n → get_or columns k 0 ≡ count_below test k
 
-pub columns_more : (test : ℕ → Bool) (n : ℕ) (columns : List ℕ) (before : ℕ) → ColumnsUpTo test n columns → before ≡ count_below test n → ColumnsUpTo test (n + 1) (columns ++ before ∷ [])
+pub columns_more : (test : ℕ → Bool) (n : ℕ) (columns : List ℕ) (before : ℕ) → ColumnsUpTo test n columns
+    → before ≡ count_below test n → ColumnsUpTo test (n + 1) (columns ++ before ∷ [])
 columns_more test n columns before tied is = record {
   size = length_push columns before ∙ ap (λ (j : ℕ). j + 1) tied.size;
   each = λ k l. by_place k l (cases_lt k n);

@@ -1,5 +1,6 @@
 -- The points of the first places.
-use Rattle.std.proofs.Common.{◌≡◌, ℕ, ◌+◌, ◌<◌, Bool, false, cond, List, [], ◌∷◌, ◌++◌, length, map, filter, sym, ap, ◌∙◌, slice_get, is_some, Option, Some, append-nil}
+use Rattle.std.proofs.Common.{◌≡◌, ℕ, ◌+◌, ◌<◌, Bool, false, cond, List, [], ◌∷◌, ◌++◌, length}
+use Rattle.std.proofs.Common.{map, filter, sym, ap, ◌∙◌, slice_get, is_some, Option, Some, append-nil}
 use Rattle.std.proofs.Math.Bool.{◌&&◌}
 use Rattle.std.specs.List.{AllByRecursion, range_with_len}
 use Rattle.std.proofs.lemmas.List.{map-append}

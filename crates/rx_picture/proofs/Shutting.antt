@@ -1,9 +1,11 @@
 -- Which node an event itself takes away: what it stops, or the last inner of its Switch.
-use Rattle.std.proofs.Common.{◌≡◌, ℕ, zero, suc, ◌+◌, ◌<◌, ◌≤◌, Bool, true, false, cond, List, [], length, take, replicate, get_or, set, Option, Some, None, refl, sym, ap, ◌∙◌, arith, inl, inr, ◌⊎◌, ◌==◌, nat_lt, slice_get}
+use Rattle.std.proofs.Common.{◌≡◌, ℕ, zero, suc, ◌+◌, ◌<◌, ◌≤◌, Bool, true, false, cond, List, [], length, take, replicate}
+use Rattle.std.proofs.Common.{get_or, set, Option, Some, None, refl, sym, ap, ◌∙◌, arith, inl, inr, ◌⊎◌, ◌==◌, nat_lt, slice_get}
 use Rattle.std.proofs.Math.Bool.{◌&&◌, ◌||◌}
 use Rattle.std.specs.List.{list_any}
 use Rattle.std.specs.Option.{option_and_then, option_map_or}
-use Rattle.std.proofs.lemmas.Bool.{cases_Bool, cases_lt, cases_eq, lt-ltb, le-ltb, ltb-true, eq-eqb, ne_eqb, eqb-true, and_left, and_right, and_from, and_parts, or_from, or_parts, both_ways, false≢true, false_from_ne_true}
+use Rattle.std.proofs.lemmas.Bool.{cases_Bool, cases_lt, cases_eq, lt-ltb, le-ltb, ltb-true, eq-eqb, ne_eqb, eqb-true, and_left}
+use Rattle.std.proofs.lemmas.Bool.{and_right, and_from, and_parts, or_from, or_parts, both_ways, false≢true, false_from_ne_true}
 use Rattle.std.proofs.lemmas.Option.{none-some, same_Some, cond_some, option_and_then_some, slice_get_within}
 use Rattle.std.proofs.lemmas.List.{get_or-set_same, get_or-set_other, length-set, length-replicate, drop_all}
 use Rattle.rx_event.specs.declared.event.Place.TheVariants.{Inner}
@@ -12,7 +14,8 @@ use Rattle.rx_event.specs.declared.event.Event.TheVariants.{Open, End, Close}
 use Rattle.rx_event.specs.Events.{inner_named, is_switch, is_inner_of}
 use Rattle.rx_event.specs.Tree.{at, if_less, is_shut, shuts, is_switched_inner}
 use Rattle.rx_event.proofs.Laws.Openness.{is_shut-push}
-use Rattle.rx_picture.specs.Tables.{is_key, AreTurns, AreInners, IsShutBy, noted, was_shut, if_switch, switch_of, number_before, latest_of, inner_with, stopped_of, shut_key}
+use Rattle.rx_picture.specs.Tables.{is_key, AreTurns, AreInners, IsShutBy, noted, was_shut, if_switch}
+use Rattle.rx_picture.specs.Tables.{switch_of, number_before, latest_of, inner_with, stopped_of, shut_key}
 use Rattle.rx_picture.proofs.Prefixes.{same_tests, take_next, some_event, in_prefix, past_prefix, at_prefix}
 use Rattle.rx_picture.proofs.Turning.{turns_step}
 
@@ -71,7 +74,8 @@ shuts_inner k n _ g named = absurd (none-some g named)
 
 -- what an event shuts -----------------------------------------------------------------------------
 
-is_shut_next : (h : List Event) (b : ℕ) (e : Event) (n : ℕ) → slice_get h b ≡ Some e → n < b → is_shut (take (suc b) h) n ≡ (is_shut (take b h) n || shuts (take b h) n e)
+is_shut_next : (h : List Event) (b : ℕ) (e : Event) (n : ℕ) → slice_get h b ≡ Some e
+    → n < b → is_shut (take (suc b) h) n ≡ (is_shut (take b h) n || shuts (take b h) n e)
 is_shut_next h b e n at_b l =
     let inside = slice_get_within h b e at_b in
     ap (λ (k : List Event). is_shut k n) (take_next h b e at_b) ∙ is_shut-push (take b h) e n (in_prefix h b n l (omega arith))
@@ -121,7 +125,8 @@ module _ (h : List Event) (b : ℕ) (inner : List ℕ) (n f : ℕ) (within : b �
   shut_inner = by_switch (cases_Bool (nat_lt f b && at is_switch h f)) where
     by_switch : ((nat_lt f b && at is_switch h f) ≡ true) ⊎ ((nat_lt f b && at is_switch h f) ≡ false) →
         is_key (latest_of inner (if_switch h b f)) n ≡ (nat_lt n b && is_switched_inner (take b h) f n)
-    by_switch (inl here) = ap (λ (x : Bool). is_key (latest_of inner (cond x (Some f) None)) n) here ∙ same_tests _ _ (named_last (get_or inner f 0) refl) last_named
+    by_switch (inl here) =
+        ap (λ (x : Bool). is_key (latest_of inner (cond x (Some f) None)) n) here ∙ same_tests _ _ (named_last (get_or inner f 0) refl) last_named
     by_switch (inr none) = ap (λ (x : Bool). is_key (latest_of inner (cond x (Some f) None)) n) none ∙ sym (false_from_ne_true _ (λ passes.
         let parts = switched_parts passes in
         let of_switch = switch_parts h n f parts.1 in
@@ -133,11 +138,13 @@ pub shut_by_key : (h : List Event) (b : ℕ) (inner : List ℕ) → b < length h
 shut_by_key h b inner inside tied n still =
     let e = (some_event h b inside).0 in
     let at_b : slice_get h b ≡ Some e = (some_event h b inside).1 in
-    ap (λ (o : Option Event). is_key (option_map_or (if_less b) (option_and_then stopped_of o) (latest_of inner (option_and_then (if_switch h b) (option_and_then inner_named o)))) n) at_b
+    ap (λ (o : Option Event). is_key
+    (option_map_or (if_less b) (option_and_then stopped_of o) (latest_of inner (option_and_then (if_switch h b) (option_and_then inner_named o)))) n) at_b
     ∙ by_event e ∙ sym (ap (λ (o : Option Event). nat_lt n b && option_map_or (shuts (take b h) n) o false) at_b)
   where
     by_event : (e : Event) →
-        is_key (option_map_or (if_less b) (stopped_of e) (latest_of inner (option_and_then (if_switch h b) (inner_named e)))) n ≡ (nat_lt n b && shuts (take b h) n e)
+        is_key (option_map_or (if_less b) (stopped_of e) (latest_of inner (option_and_then (if_switch h b) (inner_named e)))) n
+        ≡ (nat_lt n b && shuts (take b h) n e)
     by_event (End m t) = below_key b m n
     by_event (Close m) = below_key b m n
     by_event (Open (Inner f) kind) = shut_inner h b inner n f (omega arith) tied still
@@ -146,14 +153,17 @@ shut_by_key h b inner inside tied n still =
 pub shut_step : (h : List Event) (b : ℕ) (table inner : List ℕ) → b < length h → AreInners h b inner → AreTurns h was_shut b table →
     AreTurns h was_shut (b + 1) (noted table (shut_key h inner b) b)
 shut_step h b table inner inside inners tied =
-    turns_step h was_shut b table (shut_key h inner b) (λ n. nat_lt n b && option_map_or (shuts (take b h) n) (slice_get h b) false) inside (λ n. next n (cases_lt n b))
+    turns_step h was_shut b table (shut_key h inner b) (λ n. nat_lt n b && option_map_or (shuts (take b h) n) (slice_get h b) false) inside
+    (λ n. next n (cases_lt n b))
     (shut_by_key h b inner inside inners) tied
   where
-    next : (n : ℕ) → (n < b) ⊎ (b ≤ n) → is_shut (take (suc b) h) n ≡ (is_shut (take b h) n || (nat_lt n b && option_map_or (shuts (take b h) n) (slice_get h b) false))
+    next : (n : ℕ) → (n < b) ⊎ (b ≤ n) → is_shut (take (suc b) h) n
+        ≡ (is_shut (take b h) n || (nat_lt n b && option_map_or (shuts (take b h) n) (slice_get h b) false))
     next n (inl l) =
         let e = (some_event h b inside).0 in
         let at_b : slice_get h b ≡ Some e = (some_event h b inside).1 in
-        is_shut_next h b e n at_b l ∙ sym (ap (λ (x : Bool). is_shut (take b h) n || (x && option_map_or (shuts (take b h) n) (slice_get h b) false)) (lt-ltb n b l)
+        is_shut_next h b e n at_b l ∙ sym
+        (ap (λ (x : Bool). is_shut (take b h) n || (x && option_map_or (shuts (take b h) n) (slice_get h b) false)) (lt-ltb n b l)
         ∙ ap (λ (o : Option Event). is_shut (take b h) n || option_map_or (shuts (take b h) n) o false) at_b)
     next n (inr l) =
         is_shut_short (take (suc b) h) n (past_prefix h (suc b) (suc n) (omega arith) (omega arith))
@@ -176,7 +186,8 @@ inners_none h = record {
   others = λ f c l named still. absurd (omega arith);
 }
 
-pub inners_step : (h : List Event) (b : ℕ) (inner : List ℕ) → b < length h → AreInners h b inner → AreInners h (b + 1) (inner_with inner (switch_of h b) (b + 1))
+pub inners_step : (h : List Event) (b : ℕ) (inner : List ℕ) → b < length h
+    → AreInners h b inner → AreInners h (b + 1) (inner_with inner (switch_of h b) (b + 1))
 inners_step h b inner inside tied = by_key (switch_of h b) refl where
   e : Event
   e = (some_event h b inside).0
@@ -217,7 +228,8 @@ inners_step h b inner inside tied = by_key (switch_of h b) refl where
         let l : c < b = one.0 in
         (omega arith, one.1)
 
-    by_place : (f c : ℕ) → c < b + 1 → switch_of h c ≡ Some f → is_shut (take (b + 1) h) c ≡ false → (c < b) ⊎ (b ≤ c) → get_or (set inner g (b + 1)) f 0 ≡ suc c
+    by_place : (f c : ℕ) → c < b + 1 → switch_of h c ≡ Some f → is_shut (take (b + 1) h) c ≡ false
+        → (c < b) ⊎ (b ≤ c) → get_or (set inner g (b + 1)) f 0 ≡ suc c
     by_place f c l named still (inl m) = by_same (cases_eq f g) where
       by_same : (f ≡ g) ⊎ (f ≡ g → ⊥) → get_or (set inner g (b + 1)) f 0 ≡ suc c
       by_same (inl same) = absurd (both_ways _ (before c m still).1 (shuts_inner (take b h) c e g (switch_inner h b g e at_b some)

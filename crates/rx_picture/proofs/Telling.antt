@@ -1,5 +1,6 @@
 -- The notes of a prefix, so far as they are shown, and what one more event tells.
-use Rattle.std.proofs.Common.{◌≡◌, ℕ, zero, suc, ◌+◌, ◌<◌, ◌≤◌, Bool, true, false, cond, List, [], ◌∷◌, ◌++◌, length, take, filter, Option, Some, None, refl, sym, ap, ◌∙◌, arith, slice_get, append-nil, ℤ}
+use Rattle.std.proofs.Common.{◌≡◌, ℕ, zero, suc, ◌+◌, ◌<◌, ◌≤◌, Bool, true, false, cond, List, [], ◌∷◌, ◌++◌}
+use Rattle.std.proofs.Common.{length, take, filter, Option, Some, None, refl, sym, ap, ◌∙◌, arith, slice_get, append-nil, ℤ}
 use Rattle.std.proofs.Math.Bool.{◌&&◌}
 use Rattle.std.proofs.Math.Seq.{take-length}
 use Rattle.std.specs.List.{AllByRecursion, filter_map, flat_map, cons_option}
@@ -36,7 +37,8 @@ module _ (lane : ℕ → Bool) (past : List Event) (value : ℤ) where
   told_stop (Some s) ss more same = told_mail (told (length past) value s) (filter_map (told (length past) value) ss) more same
 
   -- what the stops tell, visit by visit
-  told_visits : (ns : List ℕ) → filter (λ m. lane m.to) (filter_map (told (length past) value) (filter_map (stop_at past) ns)) ≡ flat_map (told_at lane past value) ns
+  told_visits : (ns : List ℕ) → filter (λ m. lane m.to) (filter_map (told (length past) value) (filter_map (stop_at past) ns))
+      ≡ flat_map (told_at lane past value) ns
   told_visits [] = refl
   told_visits (n ∷ ns) = told_stop (stop_at past n) (filter_map (stop_at past) ns) (flat_map (told_at lane past value) ns) (told_visits ns)
 
@@ -58,7 +60,8 @@ told_place place value (Firing u ∷ ss) = told_place place value ss
 mail_place : (past : List Event) (e : Event) → StandAt (length past) (mail_of past e)
 mail_place past (Item leaf value) = told_place (length past) value (stops past leaf)
 mail_place past (End n t) = by_root (at is_root past n) where
-  by_root : (b : Bool) → StandAt (length past) (cond b ((record { place = length past; to = n; note = Rattle.rx_note.specs.declared.note.Note.TheVariants.End t }) ∷ []) [])
+  by_root : (b : Bool) → StandAt (length past)
+      (cond b ((record { place = length past; to = n; note = Rattle.rx_note.specs.declared.note.Note.TheVariants.End t }) ∷ []) [])
   by_root true = (refl, tt)
   by_root false = tt
 mail_place past _ = tt
@@ -92,7 +95,8 @@ unfolding notes moments
 marbles_none lane place h = refl
 
 module _ (lane place : ℕ → Bool) (h : List Event) (n : ℕ) (within : n < length h) where
-  marbles_next : (e : Event) → slice_get h n ≡ Some e → marbles lane place (take (n + 1) h) ≡ marbles lane place (take n h) ++ filter (is_marble lane place) (mail_of (take n h) e)
+  marbles_next : (e : Event) → slice_get h n ≡ Some e
+      → marbles lane place (take (n + 1) h) ≡ marbles lane place (take n h) ++ filter (is_marble lane place) (mail_of (take n h) e)
   marbles_next e at_n =
       let more : n + 1 ≡ suc n = omega arith in
       ap (λ (k : ℕ). marbles lane place (take k h)) more ∙ ap (marbles lane place) (take_next h n e at_n)
@@ -118,13 +122,16 @@ module _ (lane place : ℕ → Bool) (h : List Event) (n : ℕ) (within : n < le
   marbles_skip shown hidden same =
       let e = (some_event h n within).0 in
       let at_n : slice_get h n ≡ Some e = (some_event h n within).1 in
-      same ∙ sym (marbles_next e at_n ∙ ap (λ (ms : List Mail). marbles lane place (take n h) ++ ms) (none_placed lane place n hidden (mail_of (take n h) e) (stands e))
+      same ∙ sym (marbles_next e at_n ∙ ap (λ (ms : List Mail). marbles lane place (take n h) ++ ms)
+      (none_placed lane place n hidden (mail_of (take n h) e) (stands e))
       ∙ append-nil (marbles lane place (take n h)))
 
-pub marbles_whole : (lane place : ℕ → Bool) (h : List Event) (n : ℕ) (shown : List Mail) → n ≡ length h → shown ≡ marbles lane place (take n h) → shown ≡ marbles lane place h
+pub marbles_whole : (lane place : ℕ → Bool) (h : List Event) (n : ℕ) (shown : List Mail)
+    → n ≡ length h → shown ≡ marbles lane place (take n h) → shown ≡ marbles lane place h
 marbles_whole lane place h n shown whole same = same ∙ ap (λ (k : ℕ). marbles lane place (take k h)) whole ∙ ap (marbles lane place) (take-length h)
 
-pub visits_whole : (old new : List Mail) (f : ℕ → List Mail) (ns : List ℕ) (i : ℕ) → length ns ≤ i → new ≡ old ++ flat_map f (take i ns) → new ≡ old ++ flat_map f ns
+pub visits_whole : (old new : List Mail) (f : ℕ → List Mail) (ns : List ℕ) (i : ℕ)
+    → length ns ≤ i → new ≡ old ++ flat_map f (take i ns) → new ≡ old ++ flat_map f ns
 visits_whole old new f ns i whole is = is ∙ ap (λ (ks : List ℕ). old ++ flat_map f ks) (take_all ns i whole) where
   take_all : (ns : List ℕ) (i : ℕ) → length ns ≤ i → take i ns ≡ ns
   take_all [] zero l = refl

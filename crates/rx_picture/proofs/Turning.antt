@@ -1,5 +1,6 @@
 -- The place at which a test of the prefixes turns true, in a table by number.
-use Rattle.std.proofs.Common.{◌≡◌, ℕ, suc, ◌+◌, ◌<◌, ◌≤◌, Bool, true, false, cond, List, [], ◌∷◌, length, take, replicate, get_or, set, Option, Some, None, refl, sym, ap, ◌∙◌, arith, inl, inr, ◌⊎◌, ◌==◌, nat_lt, slice_get}
+use Rattle.std.proofs.Common.{◌≡◌, ℕ, suc, ◌+◌, ◌<◌, ◌≤◌, Bool, true, false, cond, List, [], ◌∷◌, length, take, replicate}
+use Rattle.std.proofs.Common.{get_or, set, Option, Some, None, refl, sym, ap, ◌∙◌, arith, inl, inr, ◌⊎◌, ◌==◌, nat_lt, slice_get}
 use Rattle.std.proofs.Math.Bool.{◌||◌}
 use Rattle.std.specs.List.{list_any}
 use Rattle.std.specs.Option.{option_and_then}
@@ -115,7 +116,8 @@ noted_at table (Some m) place n l = by_order (cases_eq m n) where
   there false differs = refl
 
   by_order : (m ≡ n) ⊎ (m ≡ n → ⊥) →
-      get_or (cond (get_or table m 0 == length table) (set table m place) table) n 0 ≡ cond (m == n) (cond (get_or table n 0 == length table) place (get_or table n 0)) (get_or table n 0)
+      get_or (cond (get_or table m 0 == length table) (set table m place) table) n 0
+      ≡ cond (m == n) (cond (get_or table n 0 == length table) place (get_or table n 0)) (get_or table n 0)
   by_order (inl same) = rw (same, eq-eqb n n refl) (here (get_or table n 0 == length table))
   by_order (inr differs) = rw (ne_eqb m n differs) (there (get_or table m 0 == length table) (λ e. differs (sym e)))
 
@@ -139,7 +141,8 @@ or_false false = refl
 
 -- a test of any event is true after one more where it was, or where it holds of that
 any_next : (p : Event → Bool) (h : List Event) (b : ℕ) (e : Event) → slice_get h b ≡ Some e → list_any p (take (suc b) h) ≡ (list_any p (take b h) || p e)
-any_next p h b e at_b = ap (λ (k : List Event). list_any p k) (take_next h b e at_b) ∙ list_any-append p (take b h) (e ∷ []) ∙ ap (λ x. list_any p (take b h) || x) (or_false (p e))
+any_next p h b e at_b = ap (λ (k : List Event). list_any p k) (take_next h b e at_b)
+    ∙ list_any-append p (take b h) (e ∷ []) ∙ ap (λ x. list_any p (take b h) || x) (or_false (p e))
 
 removes : (e : Event) (n : ℕ) → is_key (removed_of e) n ≡ is_remove_of n e
 removes (Remove r) n = refl

@@ -1,6 +1,7 @@
 -- What the rows of a picture are, in the words of the history. A prefix of length k is what had happened just before the
 -- event at place k: so a thing is drawn at the places of the events that found it so.
-use Rattle.std.specs.Prelude.{◌≡◌, ℕ, ◌≤◌, Bool, ◌&&◌, ◌||◌, ◌==◌, nat_lt, if◌then◌else◌, Option, Some, None, List, length, slice_get, filter, map, take, IsTrue}
+use Rattle.std.specs.Prelude.{◌≡◌, ℕ, ◌≤◌, Bool, ◌&&◌, ◌||◌, ◌==◌, nat_lt, if◌then◌else◌}
+use Rattle.std.specs.Prelude.{Option, Some, None, List, length, slice_get, filter, map, take, IsTrue}
 use Rattle.std.proofs.Math.Bool.{not}
 use Rattle.std.specs.List.{AllByRecursion}
 use Rattle.rx_event.specs.declared.event.Event.{Event}

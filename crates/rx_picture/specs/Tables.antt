@@ -1,6 +1,7 @@
 -- What the tables of a picture say, by number: the place of the event that made a test true, for the places so far. The
 -- length of the history stands where none did.
-use Rattle.std.specs.Prelude.{◌≡◌, ℕ, zero, suc, ◌≤◌, ◌<◌, Bool, true, false, ◌&&◌, ◌==◌, nat_lt, min, max, if◌then◌else◌, Option, Some, None, List, length, slice_get, slice_index_or, slice_set, take, IsTrue}
+use Rattle.std.specs.Prelude.{◌≡◌, ℕ, zero, suc, ◌≤◌, ◌<◌, Bool, true, false, ◌&&◌, ◌==◌, nat_lt, min, max}
+use Rattle.std.specs.Prelude.{if◌then◌else◌, Option, Some, None, List, length, slice_get, slice_index_or, slice_set, take, IsTrue}
 use Rattle.std.proofs.Math.Bool.{◌||◌}
 use Rattle.std.specs.List.{list_any}
 use Rattle.std.specs.Option.{option_and_then, option_map_or}

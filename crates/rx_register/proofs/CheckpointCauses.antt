@@ -12,8 +12,10 @@ pub left_over : (h : List Event) (told : ℕ) → told ≤ length (notes h) → 
     first_cause (checkpoint_causes h (length (notes h) - told)) ≡ Some MailLeft
 left_over h told l some = rw (lt-ltb (length (notes h) - told) (length (notes h)) (omega arith)) refl
 
-pub too_many : (h : List Event) (told : ℕ) → told ≡ 0 → 9223372036854775807 < length h → first_cause (checkpoint_causes h (length (notes h) - told)) ≡ Some TooMany
+pub too_many : (h : List Event) (told : ℕ) → told ≡ 0 → 9223372036854775807 < length h →
+    first_cause (checkpoint_causes h (length (notes h) - told)) ≡ Some TooMany
 too_many h told none many = rw (le-ltb (length (notes h) - told) (length (notes h)) (omega arith), lt-ltb 9223372036854775807 (length h) many) refl
 
-pub nothing_stands : (h : List Event) (told : ℕ) → told ≡ 0 → length h ≤ 9223372036854775807 → first_cause (checkpoint_causes h (length (notes h) - told)) ≡ None
+pub nothing_stands : (h : List Event) (told : ℕ) → told ≡ 0 → length h ≤ 9223372036854775807 →
+    first_cause (checkpoint_causes h (length (notes h) - told)) ≡ None
 nothing_stands h told none few = rw (le-ltb (length (notes h) - told) (length (notes h)) (omega arith), le-ltb 9223372036854775807 (length h) few) refl

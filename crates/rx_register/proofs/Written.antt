@@ -1,5 +1,6 @@
 -- A register after one more event, and after a note that was handed out.
-use Rattle.std.proofs.Common.{◌≡◌, ℕ, zero, suc, ◌+◌, ◌-◌, ◌<◌, ◌≤◌, Bool, true, false, List, [], ◌∷◌, ◌++◌, length, take, drop, Option, Some, None, cond, refl, sym, ap, subst, ◌∙◌, arith, slice_get, length-append, length-drop, take-append-drop}
+use Rattle.std.proofs.Common.{◌≡◌, ℕ, zero, suc, ◌+◌, ◌-◌, ◌<◌, ◌≤◌, Bool, true, false, List, [], ◌∷◌, ◌++◌, length, take, drop, Option, Some}
+use Rattle.std.proofs.Common.{None, cond, refl, sym, ap, subst, ◌∙◌, arith, slice_get, length-append, length-drop, take-append-drop}
 use Rattle.std.specs.Option.{option_to_list}
 use Rattle.std.specs.VecDeque.{deque_len, deque_capacity}
 use Rattle.std.proofs.lemmas.List.{drop-append-le, drop_all, take_all}
@@ -33,9 +34,13 @@ told_length items told ms l same =
     omega arith
 
 -- the queue is of the notes that were not handed out
-queue_after : (ns ms items : List Mail) (told : ℕ) → told ≤ length ns → take told items ≡ drop (length ns - told) ns → drop told items ≡ ms → items ≡ drop (length ns - told) (ns ++ ms)
+queue_after : (ns ms items : List Mail) (told : ℕ) → told ≤ length ns → take told items ≡ drop (length ns - told) ns → drop told items ≡ ms →
+    items ≡ drop (length ns - told) (ns ++ ms)
 queue_after ns ms items told l front behind =
-    sym (take-append-drop told items) ∙ ap (λ (x : List Mail). x ++ drop told items) front ∙ ap (λ (x : List Mail). drop (length ns - told) ns ++ x) behind ∙ sym (drop-append-le (length ns - told) ns ms (omega arith))
+    sym (take-append-drop told items) ∙
+    ap (λ (x : List Mail). x ++ drop told items) front ∙
+    ap (λ (x : List Mail). drop (length ns - told) ns ++ x) behind ∙
+    sym (drop-append-le (length ns - told) ns ms (omega arith))
 
 -- how many were handed out stays
 pub given_after : (ns ms : List Mail) (told items : ℕ) → told ≤ length ns → items ≡ told + length ms → length (ns ++ ms) - items ≡ length ns - told
@@ -81,7 +86,16 @@ written a b e r w = record {
       omega (arith, length-append h (e ∷ [])));
   some_told = rw (w.events, w.all_told, notes-push h e) (let s = r.some_told in let n = count in omega (arith, length-append (notes h) (mail_of h e)));
   queued = rw (w.all_told, w.mail) (omega arith);
-  mail = rw (w.mail, w.all_told, take_all (length a.mail.items) a.mail.items (omega arith), w.events, notes-push h e, given_after (notes h) (mail_of h e) a.told (length a.mail.items) r.some_told count) (queue_after (notes h) (mail_of h e) a.mail.items a.told r.some_told r.mail w.told);
+  mail =
+      rw (
+        w.mail,
+        w.all_told,
+        take_all (length a.mail.items) a.mail.items (omega arith),
+        w.events,
+        notes-push h e,
+        given_after (notes h) (mail_of h e) a.told (length a.mail.items) r.some_told count,
+      )
+      (queue_after (notes h) (mail_of h e) a.mail.items a.told r.some_told r.mail w.told);
 }
   where
     h : List Event
@@ -108,7 +122,8 @@ pub record IsPopped (ns items rest : List Mail) (told : ℕ) (o : Option Mail) :
   pub mail : take (told - 1) rest ≡ drop (length ns - (told - 1)) ns
   pub pending : drop (told - 1) rest ≡ drop told items
 
-pub popped : (ns items rest : List Mail) (told : ℕ) (x : Mail) → items ≡ x ∷ rest → 0 < told → told ≤ length items → told ≤ length ns → take told items ≡ drop (length ns - told) ns → IsPopped ns items rest told (Some x)
+pub popped : (ns items rest : List Mail) (told : ℕ) (x : Mail) → items ≡ x ∷ rest → 0 < told → told ≤ length items → told ≤ length ns →
+    take told items ≡ drop (length ns - told) ns → IsPopped ns items rest told (Some x)
 popped ns items rest zero x is some l m same = absurd (omega arith)
 popped ns items rest (suc t) x is some l m same = record {
   value = ap (λ (y : Mail). Some y) first ∙ sym here.1;
@@ -137,11 +152,15 @@ popped ns items rest (suc t) x is some l m same = record {
     next = omega arith
 
 -- the same, of what a queue answers
-pub popped_first : (ns items rest : List Mail) (told : ℕ) (o : Option Mail) → items ≡ option_to_list o ++ rest → rest ≡ drop 1 items → 0 < told → told ≤ length items → told ≤ length ns → take told items ≡ drop (length ns - told) ns → IsPopped ns items rest told o
+pub popped_first : (ns items rest : List Mail) (told : ℕ) (o : Option Mail) → items ≡ option_to_list o ++ rest → rest ≡ drop 1 items → 0 < told →
+    told ≤ length items → told ≤ length ns → take told items ≡ drop (length ns - told) ns → IsPopped ns items rest told o
 popped_first ns items rest told (Some x) is next some l m same = popped ns items rest told x is some l m same
-popped_first ns items rest told None is next some l m same = absurd (let d = length-drop 1 items in let a = ap (length {A = Mail}) is in let b = ap (length {A = Mail}) next in omega arith)
+popped_first ns items rest told None is next some l m same =
+    absurd (let d = length-drop 1 items in let a = ap (length {A = Mail}) is in let b = ap (length {A = Mail}) next in omega arith)
 
-pub popped_inside : (a b : Inside) (o : Option Mail) → IsTied a → IsPopped (notes a.history.events) a.mail.items b.mail.items a.told o → 0 < a.told → b.history ≡ a.history → b.item_total ≡ a.item_total → b.accepted_total ≡ a.accepted_total → b.taken_total ≡ a.taken_total → b.limit ≡ a.limit → b.told ≡ a.told - 1 → IsTied b
+pub popped_inside : (a b : Inside) (o : Option Mail) → IsTied a → IsPopped (notes a.history.events) a.mail.items b.mail.items a.told o → 0 < a.told →
+    b.history ≡ a.history → b.item_total ≡ a.item_total → b.accepted_total ≡ a.accepted_total → b.taken_total ≡ a.taken_total → b.limit ≡ a.limit →
+    b.told ≡ a.told - 1 → IsTied b
 popped_inside a b o r p some same items accepted taken own told = record {
   lawful = rw same r.lawful;
   limited = rw same r.limited;
@@ -273,7 +292,8 @@ none_left notes told l same = omega arith
 pub base_long : (a : Inside) (s : State) (base : Kept) → state_of a ≡ s → base ≡ base_of s.base s.history → base.at_length ≡ length a.history.events
 base_long a s base same is = ap (λ (b : Kept). b.at_length) is ∙ base_length s.base s.history ∙ ap (λ (t : State). length t.history) (sym same)
 
-pub placed_base : (a : Inside) (s : State) (base : Kept) → state_of a ≡ s → base ≡ base_of s.base s.history → length s.history ≤ 9223372036854775807 → base.at_length ≤ 9223372036854775807
+pub placed_base : (a : Inside) (s : State) (base : Kept) → state_of a ≡ s → base ≡ base_of s.base s.history → length s.history ≤ 9223372036854775807 →
+    base.at_length ≤ 9223372036854775807
 placed_base a s base same is placed = let l = ap (λ (b : Kept). b.at_length) is ∙ base_length s.base s.history in omega arith
 
 pub record MayRebase (a : Inside) (base : Kept) (reserved : ℕ) : Type 0 where
@@ -286,7 +306,8 @@ pub record MayRebase (a : Inside) (base : Kept) (reserved : ℕ) : Type 0 where
   pub within : reserved ≤ a.history.limit
 
 pub may_rebase : (a : Inside) (s : State) (base : Kept) (reserved : ℕ) → state_of a ≡ s → base ≡ base_of s.base s.history → IsSettled s.base s.history →
-    s.given ≡ length (notes s.history) → s.pending ≡ [] → length s.history ≤ 9223372036854775807 → debt s.base s.history ≤ reserved → reserved ≤ s.limit → MayRebase a base reserved
+    s.given ≡ length (notes s.history) → s.pending ≡ [] → length s.history ≤ 9223372036854775807 → debt s.base s.history ≤ reserved → reserved ≤ s.limit →
+    MayRebase a base reserved
 may_rebase a s base reserved same is settled handed pending placed closing within = record {
   base_is = is ∙ ap (λ (t : State). base_of t.base t.history) (sym same);
   settled = subst (λ (t : State). IsSettled t.base t.history) (sym same) settled;
@@ -319,5 +340,6 @@ made_rebased a b base reserved r may same_base same_events same_room same_limit 
 }
 
 -- what callers see of it, of a register that they saw as this
-pub rebases_seen : (a b : Inside) (s : State) (reserved : ℕ) → state_of a ≡ s → IsTied a → IsRebased a b reserved → drop a.told a.mail.items ≡ [] → Rebases s (state_of b) reserved
+pub rebases_seen : (a b : Inside) (s : State) (reserved : ℕ) → state_of a ≡ s → IsTied a → IsRebased a b reserved → drop a.told a.mail.items ≡ [] →
+    Rebases s (state_of b) reserved
 rebases_seen a b s reserved same r w none = subst (λ (t : State). Rebases t (state_of b) reserved) same (rebases a b reserved r w none)

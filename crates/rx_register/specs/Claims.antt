@@ -32,11 +32,13 @@ pub record CallsFollow (base : Kept) : Type 0 where
   -- its events may follow
   pub follow : (h : List Event) (limit : ℕ) (is_fresh : Bool) (call : Call) → MayCall base h limit is_fresh call → MayFollowInTurn base h (outside_of h call)
   -- and what they add is what the causes have counted
-  pub fit : (h : List Event) (limit : ℕ) (is_fresh : Bool) (call : Call) → MayCall base h limit is_fresh call → Fits base h (h ++ outside_of h call) (added_by h call) (notes_added h call)
+  pub fit : (h : List Event) (limit : ℕ) (is_fresh : Bool) (call : Call) → MayCall base h limit is_fresh call →
+      Fits base h (h ++ outside_of h call) (added_by h call) (notes_added h call)
 
 pub record RoomIsKept : Type 0 where
   -- after a call that there was room for, what it forces is paid for
-  pub called : (old new : State) (limit : ℕ) (is_fresh : Bool) (call : Call) → MayCall old.base old.history limit is_fresh call → HasRoomFor old call → Writes old (outside_of old.history call) new → IsPaid new
+  pub called : (old new : State) (limit : ℕ) (is_fresh : Bool) (call : Call) → MayCall old.base old.history limit is_fresh call → HasRoomFor old call →
+      Writes old (outside_of old.history call) new → IsPaid new
   -- and after each forced event what is still forced
   pub forced : (old new : State) (e : Event) → IsLawful old.base old.history → IsForced old.base old.history e → IsPaid old → Writes old (e ∷ []) new →
       IsPaid new

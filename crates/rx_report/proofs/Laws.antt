@@ -58,17 +58,20 @@ key_kept f was is old new bound k before after older within found good =
 same_key : (k j : Key) → (j.slot == k.slot && j.number == k.number) ≡ true → k ≡ j
 same_key k j h =
     let parts = and_parts (j.slot == k.slot) (j.number == k.number) h in
-    ap (λ n. record { slot = n; number = k.number }) (sym (eqb-true j.slot k.slot parts.0)) ∙ ap (λ n. record { slot = j.slot; number = n }) (sym (eqb-true j.number k.number parts.1))
+    ap (λ n. record { slot = n; number = k.number }) (sym (eqb-true j.slot k.slot parts.0))
+    ∙ ap (λ n. record { slot = j.slot; number = n }) (sym (eqb-true j.number k.number parts.1))
 
 same_res_key : (k j : ResKey) → (j.slot == k.slot && j.number == k.number) ≡ true → k ≡ j
 same_res_key k j h =
     let parts = and_parts (j.slot == k.slot) (j.number == k.number) h in
-    ap (λ n. record { slot = n; number = k.number }) (sym (eqb-true j.slot k.slot parts.0)) ∙ ap (λ n. record { slot = j.slot; number = n }) (sym (eqb-true j.number k.number parts.1))
+    ap (λ n. record { slot = n; number = k.number }) (sym (eqb-true j.slot k.slot parts.0))
+    ∙ ap (λ n. record { slot = j.slot; number = n }) (sym (eqb-true j.number k.number parts.1))
 
 same_lease_key : (k j : LeaseKey) → (j.slot == k.slot && j.number == k.number) ≡ true → k ≡ j
 same_lease_key k j h =
     let parts = and_parts (j.slot == k.slot) (j.number == k.number) h in
-    ap (λ n. record { slot = n; number = k.number }) (sym (eqb-true j.slot k.slot parts.0)) ∙ ap (λ n. record { slot = j.slot; number = n }) (sym (eqb-true j.number k.number parts.1))
+    ap (λ n. record { slot = n; number = k.number }) (sym (eqb-true j.slot k.slot parts.0))
+    ∙ ap (λ n. record { slot = j.slot; number = n }) (sym (eqb-true j.number k.number parts.1))
 
 pub has_key-contained : (keys : List Key) (k : Key) → has_key keys k ≡ true → Contains keys k
 has_key-contained keys k h = Contains-from_any {eq = λ q j. j.slot == q.slot && j.number == q.number} same_key k keys h
@@ -104,17 +107,20 @@ same_test false false p q = refl
 pub has_key-is_open : (s : State) (k : Key) → IsPromised s → IsNodeKey s k → has_key s.keys k ≡ is_open s.history k.number
 has_key-is_open s k kept node =
     same_test _ _
-    (λ h. let listed = Contains-map (λ (j : Key). j.number) s.keys k (has_key-contained s.keys k h) in subst (λ n. is_open s.history n ≡ true) listed.2 (kept.keys.each listed.0 k.number listed.1))
+    (λ h. let listed = Contains-map (λ (j : Key). j.number) s.keys k (has_key-contained s.keys k h) in
+    subst (λ n. is_open s.history n ≡ true) listed.2 (kept.keys.each listed.0 k.number listed.1))
     (λ open_now. has_key-from_contained s.keys k (node.found open_now))
 
 pub has_res_key-is_held : (s : State) (k : ResKey) → IsPromised s → IsHeldKey s k → has_res_key s.res_keys k ≡ is_held s.history k.number
 has_res_key-is_held s k kept held =
     same_test _ _
-    (λ h. let listed = Contains-map (λ (j : ResKey). j.number) s.res_keys k (has_res_key-contained s.res_keys k h) in subst (λ n. is_held s.history n ≡ true) listed.2 (kept.res_keys.each listed.0 k.number listed.1))
+    (λ h. let listed = Contains-map (λ (j : ResKey). j.number) s.res_keys k (has_res_key-contained s.res_keys k h) in
+    subst (λ n. is_held s.history n ≡ true) listed.2 (kept.res_keys.each listed.0 k.number listed.1))
     (λ held_now. has_res_key-from_contained s.res_keys k (held.found held_now))
 
 pub has_lease_key-is_out : (s : State) (k : LeaseKey) → IsPromised s → IsLeaseKey s k → has_lease_key s.lease_keys k ≡ is_out s.history k.number
 has_lease_key-is_out s k kept out =
     same_test _ _
-    (λ h. let listed = Contains-map (λ (j : LeaseKey). j.number) s.lease_keys k (has_lease_key-contained s.lease_keys k h) in subst (λ n. is_out s.history n ≡ true) listed.2 (kept.lease_keys.each listed.0 k.number listed.1))
+    (λ h. let listed = Contains-map (λ (j : LeaseKey). j.number) s.lease_keys k (has_lease_key-contained s.lease_keys k h) in
+    subst (λ n. is_out s.history n ≡ true) listed.2 (kept.lease_keys.each listed.0 k.number listed.1))
     (λ out_now. has_lease_key-from_contained s.lease_keys k (out.found out_now))

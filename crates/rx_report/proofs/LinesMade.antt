@@ -1,5 +1,6 @@
 -- The lines of nodes and of resources, one more at a time.
-use Rattle.std.proofs.Common.{◌≡◌, ◌<◌, ◌+◌, ◌++◌, ◌∷◌, [], ℕ, List, Bool, true, false, map, filter, length, take, get_or, cond, refl, sym, ap, ◌∙◌, append_assoc, append-nil}
+use Rattle.std.proofs.Common.{◌≡◌, ◌<◌, ◌+◌, ◌++◌, ◌∷◌, [], ℕ, List, Bool, true, false, map, filter}
+use Rattle.std.proofs.Common.{length, take, get_or, cond, refl, sym, ap, ◌∙◌, append_assoc, append-nil}
 use Rattle.std.specs.Prelude.{flat_map}
 use Rattle.std.proofs.lemmas.List.{take_more, map-append}
 use Rattle.std.proofs.lemmas.Grind.{flat_map-append}
@@ -24,11 +25,13 @@ filter-push p (y ∷ ys) x =
     elim (p y) as (λ b. cond b (y ∷ filter p (ys ++ x ∷ [])) (filter p (ys ++ x ∷ [])) ≡ cond b (y ∷ filter p ys) (filter p ys) ++ cond (p x) (x ∷ []) [])
     [ true ↦ ap (λ l. y ∷ l) (filter-push p ys x) | false ↦ filter-push p ys x ]
 
-node_lines-push : (h : List Event) (nodes : List Binding) (b : Binding) → node_lines h (nodes ++ b ∷ []) ≡ node_lines h nodes ++ cond (at is_told h b.number) (node_shown h b) []
+node_lines-push : (h : List Event) (nodes : List Binding) (b : Binding)
+    → node_lines h (nodes ++ b ∷ []) ≡ node_lines h nodes ++ cond (at is_told h b.number) (node_shown h b) []
 node_lines-push h nodes b =
     ap (flat_map (node_shown h)) (filter-push (λ b. at is_told h b.number) nodes b)
     ∙ flat_map-append (node_shown h) (filter (λ b. at is_told h b.number) nodes) (cond (at is_told h b.number) (b ∷ []) [])
-    ∙ ap (λ l. node_lines h nodes ++ l) (elim (at is_told h b.number) as (λ t. flat_map (node_shown h) (cond t (b ∷ []) []) ≡ cond t (node_shown h b) []) [ true ↦ append-nil (node_shown h b) | false ↦ refl ])
+    ∙ ap (λ l. node_lines h nodes ++ l) (elim (at is_told h b.number) as
+    (λ t. flat_map (node_shown h) (cond t (b ∷ []) []) ≡ cond t (node_shown h b) []) [ true ↦ append-nil (node_shown h b) | false ↦ refl ])
 
 res_lines-push : (h : List Event) (resources : List Binding) (b : Binding) → res_lines h (resources ++ b ∷ []) ≡ res_lines h resources ++ res_shown h b
 res_lines-push h resources b = flat_map-append (res_shown h) resources (b ∷ []) ∙ ap (λ l. res_lines h resources ++ l) (append-nil (res_shown h b))
@@ -37,19 +40,24 @@ module _ {A : Type 0} (binding : A → Binding) (xs : List A) (i : ℕ) (x : A) 
   bindings_more : map binding (take (i + 1) xs) ≡ map binding (take i xs) ++ binding x ∷ []
   bindings_more = ap (map binding) (take_more xs i x within ∙ ap (λ y. take i xs ++ y ∷ []) (sym is)) ∙ map-append binding (take i xs) (x ∷ [])
 
-  pub node_line_told : (h : List Event) (old mid new : List ℕ) → mid ≡ old ++ node_lines h (map binding (take i xs)) → at is_told h (binding x).number ≡ true → new ≡ mid ++ node_shown h (binding x)
+  pub node_line_told : (h : List Event) (old mid new : List ℕ) → mid ≡ old ++ node_lines h (map binding (take i xs))
+      → at is_told h (binding x).number ≡ true → new ≡ mid ++ node_shown h (binding x)
       → new ≡ old ++ node_lines h (map binding (take (i + 1) xs))
   node_line_told h old mid new before told here =
       here ∙ ap (λ l. l ++ node_shown h (binding x)) before ∙ append_assoc old (node_lines h (map binding (take i xs))) (node_shown h (binding x))
-      ∙ ap (λ l. old ++ l) (ap (λ t. node_lines h (map binding (take i xs)) ++ cond t (node_shown h (binding x)) []) (sym told) ∙ sym (ap (node_lines h) bindings_more ∙ node_lines-push h (map binding (take i xs)) (binding x)))
+      ∙ ap (λ l. old ++ l) (ap (λ t. node_lines h (map binding (take i xs)) ++ cond t (node_shown h (binding x)) []) (sym told)
+      ∙ sym (ap (node_lines h) bindings_more ∙ node_lines-push h (map binding (take i xs)) (binding x)))
 
   pub node_line_untold : (h : List Event) (old mid : List ℕ) → mid ≡ old ++ node_lines h (map binding (take i xs)) → at is_told h (binding x).number ≡ false
       → mid ≡ old ++ node_lines h (map binding (take (i + 1) xs))
   node_line_untold h old mid before untold =
-      before ∙ ap (λ l. old ++ l) (sym (append-nil (node_lines h (map binding (take i xs)))) ∙ ap (λ t. node_lines h (map binding (take i xs)) ++ cond t (node_shown h (binding x)) []) (sym untold) ∙ sym (ap (node_lines h) bindings_more ∙ node_lines-push h (map binding (take i xs)) (binding x)))
+      before ∙ ap (λ l. old ++ l) (sym (append-nil (node_lines h (map binding (take i xs))))
+      ∙ ap (λ t. node_lines h (map binding (take i xs)) ++ cond t (node_shown h (binding x)) []) (sym untold)
+      ∙ sym (ap (node_lines h) bindings_more ∙ node_lines-push h (map binding (take i xs)) (binding x)))
 
 -- a node's line, from what the book and its tallies say
-pub node_line_shown : (h : List Event) (x : Named Key) (name : List ℕ) (open_now : Bool) (told : List Note) → name ≡ name_of x → open_now ≡ is_open h x.key.number → told ≡ notes_to h x.key.number
+pub node_line_shown : (h : List Event) (x : Named Key) (name : List ℕ) (open_now : Bool) (told : List Note)
+    → name ≡ name_of x → open_now ≡ is_open h x.key.number → told ≡ notes_to h x.key.number
     → node_line name open_now told ≡ node_shown h (node_binding x)
 node_line_shown h x name open_now told same_name same_open same_notes =
     ap (λ n. node_line n open_now told) same_name

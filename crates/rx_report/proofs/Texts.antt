@@ -15,16 +15,19 @@ enumerate_from-push n (y ∷ ys) x =
     ap (λ l. (n, y) ∷ l) (enumerate_from-push (n + 1) ys x ∙ ap (λ k. enumerate_from (n + 1) ys ++ (k, x) ∷ []) e)
 
 -- one line more
-pub refused_lines-more : (xs : List Answer) (i : ℕ) (d : Answer) → i < length xs → refused_lines (take (i + 1) xs) ≡ refused_lines (take i xs) ++ refused_line i (get_or xs i d)
+pub refused_lines-more : (xs : List Answer) (i : ℕ) (d : Answer) → i < length xs
+    → refused_lines (take (i + 1) xs) ≡ refused_lines (take i xs) ++ refused_line i (get_or xs i d)
 refused_lines-more xs i d h =
     let more = take_more xs i d h in
     let long : 0 + length (take i xs) ≡ i = simp length-take (omega arith) in
     ap refused_lines more
     ∙ ap (flat_map (λ p. refused_line p.0 p.1)) (enumerate_from-push 0 (take i xs) (get_or xs i d))
     ∙ flat_map-append (λ p. refused_line p.0 p.1) (enumerate_from 0 (take i xs)) ((0 + length (take i xs), get_or xs i d) ∷ [])
-    ∙ ap (λ l. refused_lines (take i xs) ++ l) (append-nil (refused_line (0 + length (take i xs)) (get_or xs i d)) ∙ ap (λ k. refused_line k (get_or xs i d)) long)
+    ∙ ap (λ l. refused_lines (take i xs) ++ l)
+    (append-nil (refused_line (0 + length (take i xs)) (get_or xs i d)) ∙ ap (λ k. refused_line k (get_or xs i d)) long)
 
-pub pushed_refused : (old mid new : List ℕ) (xs : List Answer) (i : ℕ) (d : Answer) → i < length xs → mid ≡ old ++ refused_lines (take i xs) → new ≡ mid ++ refused_line i (get_or xs i d) → new ≡ old ++ refused_lines (take (i + 1) xs)
+pub pushed_refused : (old mid new : List ℕ) (xs : List Answer) (i : ℕ) (d : Answer) → i < length xs
+    → mid ≡ old ++ refused_lines (take i xs) → new ≡ mid ++ refused_line i (get_or xs i d) → new ≡ old ++ refused_lines (take (i + 1) xs)
 pushed_refused old mid new xs i d h before here =
     here
     ∙ ap (λ l. l ++ refused_line i (get_or xs i d)) before

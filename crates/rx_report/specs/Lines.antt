@@ -42,7 +42,12 @@ abbrev pub whereabouts : List Event → ℕ → Whereabouts
 whereabouts h r = if is_held h r then Held else if is_taken h r then Taken else Waiting
 
 abbrev pub account_of : List Event → ℕ → Account
-account_of h r = record { tag = unwrap_or (option_and_then accepted_tag (slice_get h r)) 0; uses = uses nothing_kept h r; whereabouts = whereabouts h r; leases = leases_of h r }
+account_of h r = record {
+  tag = unwrap_or (option_and_then accepted_tag (slice_get h r)) 0;
+  uses = uses nothing_kept h r;
+  whereabouts = whereabouts h r;
+  leases = leases_of h r;
+}
 
 -- a resource that the scenario handed in; what happened is told from its beginning
 abbrev pub res_shown : List Event → Binding → List ℕ
@@ -52,4 +57,11 @@ abbrev pub res_lines : List Event → List Binding → List ℕ
 res_lines h resources = flat_map (res_shown h) resources
 
 abbrev pub totals_of : Kept → List Event → Totals
-totals_of base h = record { nodes = count_by makes_node h; open_nodes = open_count h; accepted = accepted_count base h; held = held_count h; waiting = waiting_count h; taken = taken_count base h }
+totals_of base h = record {
+  nodes = count_by makes_node h;
+  open_nodes = open_count h;
+  accepted = accepted_count base h;
+  held = held_count h;
+  waiting = waiting_count h;
+  taken = taken_count base h;
+}

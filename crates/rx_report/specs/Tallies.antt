@@ -1,5 +1,6 @@
 -- What each resource, lease and node met, by their numbers: what the lines are written from, with no event and no note kept.
-use Rattle.std.specs.Prelude.{◌≡◌, ◌≤◌, ◌==◌, ℕ, [], ◌++◌, List, Option, None, nat_eq, slice_get, unwrap_or, option_and_then, map, filter, length, drop, count_by, if◌then◌else◌}
+use Rattle.std.specs.Prelude.{◌≡◌, ◌≤◌, ◌==◌, ℕ, [], ◌++◌, List, Option, None, nat_eq, slice_get}
+use Rattle.std.specs.Prelude.{unwrap_or, option_and_then, map, filter, length, drop, count_by, if◌then◌else◌}
 use Rattle.std.specs.List.{list_any}
 use Rattle.std.specs.Option.{option_map_or}
 use Rattle.std.specs.HashMap.{get}

@@ -5,7 +5,8 @@ use Rattle.rx_note.specs.declared.note.Terminal.TheVariants.{Completed, Error}
 use Rattle.rx_note.specs.declared.note.Note.{Note}
 use Rattle.rx_note.specs.declared.note.Note.TheVariants.{Next, Project, End}
 use Rattle.rx_event.specs.declared.refusal.Refusal.{Refusal}
-use Rattle.rx_event.specs.declared.refusal.Refusal.TheVariants.{NoMemory, Full, Gone, WrongKind, PlaceTaken, NothingOwed, NotRoot, NoHub, HubOrder, Connected, NotConnected, NotFresh, NotHeld, HasChild, TooMany, NoLease, Leased, MailLeft}
+use Rattle.rx_event.specs.declared.refusal.Refusal.TheVariants.{NoMemory, Full, Gone, WrongKind, PlaceTaken, NothingOwed, NotRoot, NoHub, HubOrder}
+use Rattle.rx_event.specs.declared.refusal.Refusal.TheVariants.{Connected, NotConnected, NotFresh, NotHeld, HasChild, TooMany, NoLease, Leased, MailLeft}
 use Rattle.rx_agenda.specs.declared.answer.Answer.{Answer}
 use Rattle.rx_agenda.specs.declared.answer.Answer.TheVariants.{Accepted, Refused}
 use Rattle.rx_agenda.specs.declared.answer.Cause.{Cause}
@@ -78,12 +79,14 @@ abbrev pub leases_text : ℕ → List ℕ
 leases_text n = if n == 0 then [] else codes " leases=" ++ decimal n
 
 unfoldable pub res_line : Name → Account → List ℕ
-res_line name a = codes "res " ++ name ++ codes " tag=" ++ decimal a.tag ++ codes " uses=" ++ decimal a.uses ++ codes " " ++ whereabouts_text a.whereabouts ++ leases_text a.leases ++ codes "\n"
+res_line name a = codes "res " ++ name ++ codes " tag=" ++ decimal a.tag ++ codes " uses="
+    ++ decimal a.uses ++ codes " " ++ whereabouts_text a.whereabouts ++ leases_text a.leases ++ codes "\n"
 
 -- the last two lines -------------------------------------------------------------------------------
 
 unfoldable pub totals_line : Totals → List ℕ
-totals_line t = codes "totals nodes=" ++ decimal t.nodes ++ codes " open=" ++ decimal t.open_nodes ++ codes " accepted=" ++ decimal t.accepted ++ codes " held=" ++ decimal t.held ++ codes " waiting=" ++ decimal t.waiting ++ codes " taken=" ++ decimal t.taken ++ codes "\n"
+totals_line t = codes "totals nodes=" ++ decimal t.nodes ++ codes " open=" ++ decimal t.open_nodes ++ codes " accepted=" ++ decimal t.accepted
+    ++ codes " held=" ++ decimal t.held ++ codes " waiting=" ++ decimal t.waiting ++ codes " taken=" ++ decimal t.taken ++ codes "\n"
 
 -- how many resources were released after the last step, and how many of all releases met a fault
 unfoldable pub closed_line : ℕ → ℕ → List ℕ

@@ -1,6 +1,7 @@
 //! One more event, counted.
 
-ghost use Rattle.std.specs.Prelude.{◌≡◌, ◌<◌, ◌+◌, ◌-◌, ◌==◌, ◌++◌, ◌∷◌, [], ℕ, List, nat_eq, slice_get, length, option_and_then, unwrap_or, OnOk, if◌then◌else◌};
+ghost use Rattle.std.specs.Prelude.{◌≡◌, ◌<◌, ◌+◌, ◌-◌, ◌==◌, ◌++◌, ◌∷◌, [], ℕ, List, nat_eq};
+ghost use Rattle.std.specs.Prelude.{slice_get, length, option_and_then, unwrap_or, OnOk, if◌then◌else◌};
 ghost use Rattle.std.specs.List.{list_any};
 ghost use Rattle.std.specs.HashMap.{get};
 ghost use Rattle.std.specs.HashSet.{contains};

@@ -1,7 +1,8 @@
 //! The lines of a report, each written behind a text.
 
 ghost use Rattle.std.specs.Prelude.{◌≡◌, ◌++◌, flat_map, string_bytes, OnOk};
-ghost use Rattle.rx_report.specs.Text.{refusal_name, cause_name, refused_line, note_text, node_line, whereabouts_text, leases_text, res_line, totals_line, closed_line};
+ghost use Rattle.rx_report.specs.Text.{refusal_name, cause_name, refused_line, note_text, node_line};
+ghost use Rattle.rx_report.specs.Text.{whereabouts_text, leases_text, res_line, totals_line, closed_line};
 ghost use Rattle.rx_report.specs.Lines.{refused_lines};
 
 use crate::line::{Account, Totals, Whereabouts};

@@ -1,5 +1,6 @@
 -- Labels that were seen, as a set and as a list.
-use Rattle.std.proofs.Common.{◌≡◌, ℕ, ◌+◌, ◌<◌, Bool, true, false, List, [], ◌∷◌, length, drop, get_or, Option, Some, None, option_map, string_bytes, String, Global, cond, refl, sym, ◌∙◌, Bor, add-one, drop-cons}
+use Rattle.std.proofs.Common.{◌≡◌, ℕ, ◌+◌, ◌<◌, Bool, true, false, List, [], ◌∷◌, length, drop, get_or, Option, Some}
+use Rattle.std.proofs.Common.{None, option_map, string_bytes, String, Global, cond, refl, sym, ◌∙◌, Bor, add-one, drop-cons}
 use Rattle.std.specs.Prelude.{◌||◌, not}
 use Rattle.std.specs.HashSet.{HashSet, contains, Updates}
 use Rattle.std.specs.Str.{bytes_eq}

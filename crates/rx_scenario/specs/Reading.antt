@@ -1,5 +1,6 @@
 -- The scenario that a JSON value is.
-use Rattle.std.specs.Prelude.{ℕ, zero, suc, ◌&&◌, ◌||◌, not, ◌==◌, ◌^◌, ℤ, List, [], ◌∷◌, length, codes, Bool, true, false, nat_lt, nat_le, is_some, if◌then◌else◌, Option, Some, None, option_map, option_and_then}
+use Rattle.std.specs.Prelude.{ℕ, zero, suc, ◌&&◌, ◌||◌, not, ◌==◌, ◌^◌, ℤ, List, [], ◌∷◌, length, codes, Bool, true}
+use Rattle.std.specs.Prelude.{false, nat_lt, nat_le, is_some, if◌then◌else◌, Option, Some, None, option_map, option_and_then}
 use Rattle.std.specs.Str.{bytes_eq}
 use Rattle.std.specs.List.{list_all, list_any}
 use Rattle.serde_json.specs.Data.{Data, null, boolean, number, string, array, object, Items, no_items, item, Members, no_members, member}
@@ -8,7 +9,9 @@ use Rattle.rx_note.specs.declared.note.Terminal.{Terminal}
 use Rattle.rx_note.specs.declared.note.Terminal.TheVariants.{Completed, Error}
 use Rattle.rx_event.specs.declared.event.Mode.{Mode}
 use Rattle.rx_event.specs.declared.event.Mode.TheVariants.{Auto, Manual}
-use Rattle.rx_scenario.specs.Scenario.{Name, Site, root, source, inner, notifier, Sort, leaf, pass, flat, switch, until, sub, Command, using, open_node, hold, apply, remove, lease, give_back, next, end, abort, decline, fail, dispose, make_hub, connect, disconnect, drain, checkpoint, Action, command, cancel, Step, no_steps, steps_of, labels_in, Script}
+use Rattle.rx_scenario.specs.Scenario.{Name, Site, root, source, inner, notifier, Sort, leaf, pass, flat, switch, until, sub, Command, using}
+use Rattle.rx_scenario.specs.Scenario.{open_node, hold, apply, remove, lease, give_back, next, end, abort, decline, fail, dispose, make_hub}
+use Rattle.rx_scenario.specs.Scenario.{connect, disconnect, drain, checkpoint, Action, command, cancel, Step, no_steps, steps_of, labels_in, Script}
 
 -- members -----------------------------------------------------------------------------------------
 

@@ -8,7 +8,8 @@ use Rattle.rx_scenario.specs.declared.scenario.Site.TheVariants.{Root, Source, I
 use Rattle.rx_scenario.specs.declared.scenario.Sort.{Sort as SortInCode}
 use Rattle.rx_scenario.specs.declared.scenario.Sort.TheVariants.{Leaf, Pass, Flat, Switch, Until, Sub}
 use Rattle.rx_scenario.specs.declared.scenario.Command.{Command as CommandInCode}
-use Rattle.rx_scenario.specs.declared.scenario.Command.TheVariants.{Using, Open, Hold, Apply, Remove, Lease, Return, Next, End, Abort, Decline, Fail, Dispose, Hub, Connect, Disconnect, Drain, Checkpoint}
+use Rattle.rx_scenario.specs.declared.scenario.Command.TheVariants.{Using, Open, Hold, Apply, Remove, Lease, Return, Next, End, Abort}
+use Rattle.rx_scenario.specs.declared.scenario.Command.TheVariants.{Decline, Fail, Dispose, Hub, Connect, Disconnect, Drain, Checkpoint}
 use Rattle.rx_scenario.specs.declared.scenario.Action.{Action as ActionInCode}
 use Rattle.rx_scenario.specs.declared.scenario.Action.TheVariants.{Command as CommandThere, Cancel}
 use Rattle.rx_scenario.specs.declared.scenario.Step.{Step as StepInCode, fold-Step}

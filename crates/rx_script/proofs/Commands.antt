@@ -39,7 +39,8 @@ use Rattle.rx_script.proofs.Carrying.{Agrees, first_cause-by_key, with, refused_
 pub cause_of : (stand : Refusal → Bool) (why : Refusal) → IsRefusal stand why → why ≢ NoMemory → first_cause stand ≡ Some why
 cause_of stand why refusal other = elim refusal [ inl cause ↦ cause | inr none ↦ absurd (other none.1) ]
 
-pub answered : (r : Result Answer AllocError) (why : Refusal) (P : Answer → Type 0) → IfOk r (λ a. (a ≡ Refused (Book why)) × (why ≢ NoMemory)) → (why ≢ NoMemory → P (Refused (Book why))) → IfOk r P
+pub answered : (r : Result Answer AllocError) (why : Refusal) (P : Answer → Type 0)
+    → IfOk r (λ a. (a ≡ Refused (Book why)) × (why ≢ NoMemory)) → (why ≢ NoMemory → P (Refused (Book why))) → IfOk r P
 answered (Ok a) why P told here = subst P (sym told.0) (here told.1)
 answered (Err e) why P told here = tt
 
@@ -56,22 +57,64 @@ pub record IsNodeStep (step : Command) (name : Name) (call : ℕ → Call) : Typ
       causes base h limit true (call n) ≡ causes base h limit is_fresh (call n)
 
 pub next_step : (node : Name) (value : ℤ) → IsNodeStep (next node value) node (λ n. Emitting n value)
-next_step node value = record { own = λ s. refl; called = λ s. refl; binds_none = λ s k. refl; gone = λ b h limit f n. refl; by_node = λ n known stand. refl; any_front = λ b h limit f n. refl }
+next_step node value = record {
+  own = λ s. refl;
+  called = λ s. refl;
+  binds_none = λ s k. refl;
+  gone = λ b h limit f n. refl;
+  by_node = λ n known stand. refl;
+  any_front = λ b h limit f n. refl;
+}
 
 pub end_step : (node : Name) (t : Terminal) → IsNodeStep (end node t) node (λ n. Ending n t)
-end_step node t = record { own = λ s. refl; called = λ s. refl; binds_none = λ s k. refl; gone = λ b h limit f n. refl; by_node = λ n known stand. refl; any_front = λ b h limit f n. refl }
+end_step node t = record {
+  own = λ s. refl;
+  called = λ s. refl;
+  binds_none = λ s k. refl;
+  gone = λ b h limit f n. refl;
+  by_node = λ n known stand. refl;
+  any_front = λ b h limit f n. refl;
+}
 
 pub abort_step : (node : Name) (code : ℕ) → IsNodeStep (abort node code) node (λ n. Aborting n code)
-abort_step node code = record { own = λ s. refl; called = λ s. refl; binds_none = λ s k. refl; gone = λ b h limit f n. refl; by_node = λ n known stand. refl; any_front = λ b h limit f n. refl }
+abort_step node code = record {
+  own = λ s. refl;
+  called = λ s. refl;
+  binds_none = λ s k. refl;
+  gone = λ b h limit f n. refl;
+  by_node = λ n known stand. refl;
+  any_front = λ b h limit f n. refl;
+}
 
 pub decline_step : (node : Name) → IsNodeStep (decline node) node Declining
-decline_step node = record { own = λ s. refl; called = λ s. refl; binds_none = λ s k. refl; gone = λ b h limit f n. refl; by_node = λ n known stand. refl; any_front = λ b h limit f n. refl }
+decline_step node = record {
+  own = λ s. refl;
+  called = λ s. refl;
+  binds_none = λ s k. refl;
+  gone = λ b h limit f n. refl;
+  by_node = λ n known stand. refl;
+  any_front = λ b h limit f n. refl;
+}
 
 pub fail_step : (node : Name) (code : ℕ) → IsNodeStep (fail node code) node (λ n. Failing n code)
-fail_step node code = record { own = λ s. refl; called = λ s. refl; binds_none = λ s k. refl; gone = λ b h limit f n. refl; by_node = λ n known stand. refl; any_front = λ b h limit f n. refl }
+fail_step node code = record {
+  own = λ s. refl;
+  called = λ s. refl;
+  binds_none = λ s k. refl;
+  gone = λ b h limit f n. refl;
+  by_node = λ n known stand. refl;
+  any_front = λ b h limit f n. refl;
+}
 
 pub dispose_step : (node : Name) → IsNodeStep (dispose node) node Disposing
-dispose_step node = record { own = λ s. refl; called = λ s. refl; binds_none = λ s k. refl; gone = λ b h limit f n. refl; by_node = λ n known stand. refl; any_front = λ b h limit f n. refl }
+dispose_step node = record {
+  own = λ s. refl;
+  called = λ s. refl;
+  binds_none = λ s k. refl;
+  gone = λ b h limit f n. refl;
+  by_node = λ n known stand. refl;
+  any_front = λ b h limit f n. refl;
+}
 
 module _ {R : Type 0} (e : Engine R) {step : Command} {name : Name} {call : ℕ → Call} (is_step : IsNodeStep step name call) (sound : IsSound e) where
   pub node_nameless : key_of e.nodes name ≡ None → Carries e step (Refused NoName) (with e e.book e.stock)
@@ -97,15 +140,19 @@ module _ {R : Type 0} (e : Engine R) {step : Command} {name : Name} {call : ℕ 
       called = is_step.called (stored_stage e) ∙ ap (option_map call) number_named;
       same =
           ap first_cause (is_step.by_node k.number (has_key e.book.keys k) (causes e.book.base e.book.history e.book.limit true (call k.number)))
-          ∙ ap (λ stand. first_cause (by_key (has_key e.book.keys k) stand)) (is_step.any_front e.book.base e.book.history e.book.limit (front_is_fresh (stored_stage e)) k.number)
+          ∙ ap (λ stand. first_cause (by_key (has_key e.book.keys k) stand))
+          (is_step.any_front e.book.base e.book.history e.book.limit (front_is_fresh (stored_stage e)) k.number)
           ∙ first_cause-by_key (has_key e.book.keys k) (causes e.book.base e.book.history e.book.limit (front_is_fresh (stored_stage e)) (call k.number))
           (λ unknown. is_step.gone e.book.base e.book.history e.book.limit (front_is_fresh (stored_stage e)) k.number ∙ ap not (sym known ∙ unknown));
     }
 
-    pub node_refused : (book : State) (why : Refusal) → book ≡ e.book → IsRefusal (stands e.book (node_request e.book k (call k.number))) why → why ≢ NoMemory → Carries e step (Refused (Book why)) (with e book e.stock)
-    node_refused book why same refusal other = refused_there e step asked why book e.stock sound same refl no_own_cause agrees (cause_of (stands e.book asked) why refusal other)
+    pub node_refused : (book : State) (why : Refusal) → book ≡ e.book → IsRefusal (stands e.book (node_request e.book k (call k.number))) why
+        → why ≢ NoMemory → Carries e step (Refused (Book why)) (with e book e.stock)
+    node_refused book why same refusal other =
+        refused_there e step asked why book e.stock sound same refl no_own_cause agrees (cause_of (stands e.book asked) why refusal other)
 
-    pub node_accepted : (book : State) → IsPromised book → Accepts e.book (node_request e.book k (call k.number)) book → Carries e step Accepted (with e book e.stock)
+    pub node_accepted : (book : State) → IsPromised book
+        → Accepts e.book (node_request e.book k (call k.number)) book → Carries e step Accepted (with e book e.stock)
     node_accepted book kept accepts = accepted_plain e step asked book sound kept no_own_cause agrees accepts (is_step.binds_none (stored_stage e))
 
 -- commands that name one resource ------------------------------------------------------------------
@@ -116,13 +163,16 @@ pub record IsResStep (step : Command) (name : Name) (call : ℕ → Call) : Type
   pub called : (s : Stage) → call_of s step ≡ option_map call (bound s.resources name)
   pub binds_none : (s : Stage) (k : List Event) → after s step k ≡ record s { history = k }
   -- to look for the key is to look whether the resource is held
-  pub same_cause : (known : Bool) (base : Kept) (h : List Event) (limit : ℕ) (is_fresh : Bool) (n : ℕ) → known ≡ is_held h n → first_cause (by_key_of (call n) known (causes base h limit true (call n))) ≡ first_cause (causes base h limit is_fresh (call n))
+  pub same_cause : (known : Bool) (base : Kept) (h : List Event) (limit : ℕ) (is_fresh : Bool) (n : ℕ) → known ≡ is_held h n
+      → first_cause (by_key_of (call n) known (causes base h limit true (call n))) ≡ first_cause (causes base h limit is_fresh (call n))
 
-apply_same_cause : (known : Bool) (base : Kept) (h : List Event) (limit : ℕ) (is_fresh : Bool) (n : ℕ) → known ≡ is_held h n → first_cause (by_res_key known (causes base h limit true (Applying n))) ≡ first_cause (causes base h limit is_fresh (Applying n))
+apply_same_cause : (known : Bool) (base : Kept) (h : List Event) (limit : ℕ) (is_fresh : Bool) (n : ℕ) → known ≡ is_held h n
+    → first_cause (by_res_key known (causes base h limit true (Applying n))) ≡ first_cause (causes base h limit is_fresh (Applying n))
 apply_same_cause true base h limit f n same = refl
 apply_same_cause false base h limit f n same = let not_held : is_held h n ≡ false = sym same in rw not_held refl
 
-remove_same_cause : (known : Bool) (base : Kept) (h : List Event) (limit : ℕ) (is_fresh : Bool) (n : ℕ) → known ≡ is_held h n → first_cause (by_res_key known (causes base h limit true (Removing n))) ≡ first_cause (causes base h limit is_fresh (Removing n))
+remove_same_cause : (known : Bool) (base : Kept) (h : List Event) (limit : ℕ) (is_fresh : Bool) (n : ℕ) → known ≡ is_held h n
+    → first_cause (by_res_key known (causes base h limit true (Removing n))) ≡ first_cause (causes base h limit is_fresh (Removing n))
 remove_same_cause true base h limit f n same = refl
 remove_same_cause false base h limit f n same = let not_held : is_held h n ≡ false = sym same in rw not_held refl
 
@@ -157,8 +207,11 @@ module _ {R : Type 0} (e : Engine R) {step : Command} {name : Name} {call : ℕ 
       same = is_step.same_cause (has_res_key e.book.res_keys k) e.book.base e.book.history e.book.limit (front_is_fresh (stored_stage e)) k.number res_known;
     }
 
-    pub res_refused : (book : State) (why : Refusal) → book ≡ e.book → IsRefusal (stands e.book (res_request e.book k (call k.number))) why → why ≢ NoMemory → Carries e step (Refused (Book why)) (with e book e.stock)
-    res_refused book why same refusal other = refused_there e step res_asked why book e.stock sound same refl res_no_own_cause res_agrees (cause_of (stands e.book res_asked) why refusal other)
+    pub res_refused : (book : State) (why : Refusal) → book ≡ e.book → IsRefusal (stands e.book (res_request e.book k (call k.number))) why
+        → why ≢ NoMemory → Carries e step (Refused (Book why)) (with e book e.stock)
+    res_refused book why same refusal other =
+        refused_there e step res_asked why book e.stock sound same refl res_no_own_cause res_agrees (cause_of (stands e.book res_asked) why refusal other)
 
-    pub res_accepted : (book : State) → IsPromised book → Accepts e.book (res_request e.book k (call k.number)) book → Carries e step Accepted (with e book e.stock)
+    pub res_accepted : (book : State) → IsPromised book
+        → Accepts e.book (res_request e.book k (call k.number)) book → Carries e step Accepted (with e book e.stock)
     res_accepted book kept accepts = accepted_plain e step res_asked book sound kept res_no_own_cause res_agrees accepts (is_step.binds_none (stored_stage e))

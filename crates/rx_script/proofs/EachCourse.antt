@@ -1,5 +1,6 @@
 -- Each scenario with a stock has a canonical course, and so just one.
-use Rattle.std.proofs.Common.{◌≡◌, ◌⊎◌, inl, inr, ℕ, zero, suc, ◌<◌, List, [], ◌∷◌, ◌++◌, Option, Some, None, refl, sym, ap, subst, ◌∙◌, arith, append_assoc, append-nil}
+use Rattle.std.proofs.Common.{◌≡◌, ◌⊎◌, inl, inr, ℕ, zero, suc, ◌<◌, List, [], ◌∷◌, ◌++◌, Option}
+use Rattle.std.proofs.Common.{Some, None, refl, sym, ap, subst, ◌∙◌, arith, append_assoc, append-nil}
 use Rattle.std.specs.Option.{option_and_then}
 use Rattle.rx_event.specs.Kept.{nothing_kept}
 use Rattle.rx_event.specs.Forced.{IsSettled}
@@ -17,13 +18,15 @@ use Rattle.rx_agenda.specs.Bindings.{bound}
 use Rattle.rx_agenda.specs.Agenda.{Agenda, empty_agenda, with_steps, followed_by, next_step, without_ticket, Cancels, taken_off, none_waits}
 use Rattle.rx_scenario.specs.Scenario.{Name, Command, drain, checkpoint, Action, command, cancel, Step, list_of, Script}
 use Rattle.rx_script.specs.Stage.{Ware, Stage, own_cause, call_of, front_is_fresh, after}
-use Rattle.rx_script.specs.Course.{in_one_order, cause_in, Executes, refused, refused_by_book, accepted, drained, checkpointed, Course, IsCanonicalCourseOf, HasOneCourse}
+use Rattle.rx_script.specs.Course.{in_one_order, cause_in, Executes, refused, refused_by_book}
+use Rattle.rx_script.specs.Course.{accepted, drained, checkpointed, Course, IsCanonicalCourseOf, HasOneCourse}
 use Rattle.rx_script.specs.Progress.{Progress, begin, Performs, executes, cancels, Advances, Leads, not_begun, advanced, Ends}
 use Rattle.rx_script.proofs.CoursesInOrder.{course_in_order}
 use Rattle.rx_script.proofs.Calling.{call_ready, not_called, history-after}
 use Rattle.rx_script.proofs.Ordering.{FirstStep, ordered_step, OrderedDrain, ordered_drain}
 use Rattle.rx_script.proofs.OneCourse.{one_canonical_course}
-use Rattle.rx_script.proofs.Remaining.{to_come, IsOrderly, IsLeft, IsNoMore, empty-orderly, with_steps-orderly, followed-total, followed-orderly, next_left, cancelled_left}
+use Rattle.rx_script.proofs.Remaining.{to_come, IsOrderly, IsLeft, IsNoMore, empty-orderly}
+use Rattle.rx_script.proofs.Remaining.{with_steps-orderly, followed-total, followed-orderly, next_left, cancelled_left}
 
 -- a command --------------------------------------------------------------------------------------------------------------------------
 
@@ -102,7 +105,8 @@ record IsPerformed (p : Progress) (action : Action) : Type 0 where
   pub settled : IsSettled nothing_kept done.stage.history
   pub left : IsNoMore p.agenda done.agenda
 
-is_performed : (p : Progress) → IsLawful nothing_kept p.stage.history → IsSettled nothing_kept p.stage.history → IsOrderly p.agenda → (action : Action) → IsPerformed p action
+is_performed : (p : Progress) → IsLawful nothing_kept p.stage.history
+    → IsSettled nothing_kept p.stage.history → IsOrderly p.agenda → (action : Action) → IsPerformed p action
 is_performed p law settled orderly (command c) =
     let w = is_executed p.stage law settled c in
     record {
@@ -137,13 +141,15 @@ record IsGone (until : ℕ) (p : Progress) : Type 0 where
   pub last : Stage
   pub goes_on : GoesOn until p answers last
 
-go_far : (until steps : ℕ) (p : Progress) → IsLawful nothing_kept p.stage.history → IsSettled nothing_kept p.stage.history → IsOrderly p.agenda → to_come p.agenda < steps
+go_far : (until steps : ℕ) (p : Progress) → IsLawful nothing_kept p.stage.history
+    → IsSettled nothing_kept p.stage.history → IsOrderly p.agenda → to_come p.agenda < steps
     → IsGone until p
 go_far until zero p law settled orderly few = absurd (omega arith)
 go_far until (suc steps) p law settled orderly few = by_next (next_step until p.agenda) refl
     (λ q one also in_order less. go_far until steps q one also in_order (let a = less in let b = few in omega arith)) where
       by_next : (o : Option (Step × Agenda)) → next_step until p.agenda ≡ o
-          → ((q : Progress) → IsLawful nothing_kept q.stage.history → IsSettled nothing_kept q.stage.history → IsOrderly q.agenda → to_come q.agenda < to_come p.agenda → IsGone until q)
+          → ((q : Progress) → IsLawful nothing_kept q.stage.history → IsSettled nothing_kept q.stage.history
+          → IsOrderly q.agenda → to_come q.agenda < to_come p.agenda → IsGone until q)
           → IsGone until p
       by_next None over on = record { answers = []; last = p.stage; goes_on = halts over }
       by_next (Some (step, rest)) comes on = record { answers = w.answer ∷ beyond.answers; last = beyond.last; goes_on = goes advances beyond.goes_on } where

@@ -34,7 +34,8 @@ use Rattle.rx_book.proofs.Laws.Going.{accepted_continues}
 use Rattle.rx_script.proofs.Going.{node_keys_kept, held_keys_kept, lease_keys_kept}
 use Rattle.rx_script.proofs.Carrying.{Agrees, first_cause-by_key, with, refused_own, refused_there, accepted_to, stored_stage, KeepsRest}
 use Rattle.rx_script.proofs.Commands.{cause_of}
-use Rattle.rx_script.proofs.Openings.{is_bound-nodes, is_bound-resources, IsPlaced, site_placed, site_nameless, new_node_key, new_held_key, nodes_bound, resources_bound, same_stage, all_pushed}
+use Rattle.rx_script.proofs.Openings.{is_bound-nodes, is_bound-resources, IsPlaced, site_placed, site_nameless}
+use Rattle.rx_script.proofs.Openings.{new_node_key, new_held_key, nodes_bound, resources_bound, same_stage, all_pushed}
 
 -- a stock with a resource in front
 module _ {R : Type 0} (e : Engine R) (w : Ware) (rest : List Ware) (stocked : e.stock.wares ≡ w ∷ rest) where
@@ -52,9 +53,11 @@ module _ {R : Type 0} (e : Engine R) (w : Ware) (rest : List Ware) (stocked : e.
 
   -- the causes look at that resource
   pub same_stocked : (known : Bool) (call : Call) → (known ≡ false → causes e.book.base e.book.history e.book.limit w.is_fresh call Gone ≡ true)
-      → first_cause (by_key known (causes e.book.base e.book.history e.book.limit w.is_fresh call)) ≡ first_cause (causes e.book.base e.book.history e.book.limit (front_is_fresh (stored_stage e)) call)
+      → first_cause (by_key known (causes e.book.base e.book.history e.book.limit w.is_fresh call))
+      ≡ first_cause (causes e.book.base e.book.history e.book.limit (front_is_fresh (stored_stage e)) call)
   same_stocked known call gone =
-      first_cause-by_key known (causes e.book.base e.book.history e.book.limit w.is_fresh call) gone ∙ ap (λ f. first_cause (causes e.book.base e.book.history e.book.limit f call)) (sym fresh_stocked)
+      first_cause-by_key known (causes e.book.base e.book.history e.book.limit w.is_fresh call) gone
+      ∙ ap (λ f. first_cause (causes e.book.base e.book.history e.book.limit f call)) (sym fresh_stocked)
 
 -- opening with a resource --------------------------------------------------------------------------
 
@@ -66,7 +69,8 @@ module _ {R : Type 0} (e : Engine R) (name : Name) (site : Site) (res : Name) (s
     facts : IsPlaced e site place
     facts = site_placed e site place sound at
 
-    pub using_taken : (is_some (key_of e.nodes name) || is_some (key_of e.resources res)) ≡ true → Carries e (using name site res) (Refused NameTaken) (with e e.book e.stock)
+    pub using_taken : (is_some (key_of e.nodes name) || is_some (key_of e.resources res)) ≡ true
+        → Carries e (using name site res) (Refused NameTaken) (with e e.book e.stock)
     using_taken taken =
         let named = facts.named in
         let node_named = is_bound-nodes e.nodes name in
@@ -102,25 +106,40 @@ module _ {R : Type 0} (e : Engine R) (name : Name) (site : Site) (res : Name) (s
               same = same_stocked e w rest stocked (is_known_place e.book.keys place) (OpeningUsing (place_of place) w.tag) facts.gone;
             }
 
-        pub using_refused : (book : State) (stock : Shelf) (why : Refusal) → book ≡ e.book → stock.wares ≡ e.stock.wares → IsRefusal (stands e.book (record { call = OpeningUsing (place_of place) w.tag; is_known = is_known_place e.book.keys place; is_fresh = w.is_fresh })) why → why ≢ NoMemory
+        pub using_refused : (book : State) (stock : Shelf) (why : Refusal) → book ≡ e.book → stock.wares ≡ e.stock.wares
+            → IsRefusal (stands e.book (record {
+              call = OpeningUsing (place_of place) w.tag;
+              is_known = is_known_place e.book.keys place;
+              is_fresh = w.is_fresh;
+            })) why → why ≢ NoMemory
             → Carries e (using name site res) (Refused (Book why)) (with e book stock)
         using_refused book stock why same same_stock refusal other =
-            refused_there e (using name site res) asked why book stock sound same same_stock no_own_cause agrees (cause_of (stands e.book asked) why refusal other)
+            refused_there e (using name site res) asked why book stock sound same same_stock no_own_cause agrees
+            (cause_of (stands e.book asked) why refusal other)
 
         pub using_accepted : (new : Engine R) (x : Named Key) (y : Named ResKey) → IsPromised new.book
-            → Accepts e.book (record { call = OpeningUsing (place_of place) w.tag; is_known = is_known_place e.book.keys place; is_fresh = w.is_fresh }) new.book
-            → x.key.number ≡ length e.book.history → IsTrue (has_key new.book.keys x.key) → name_of x ≡ name → y.key.number ≡ length e.book.history + 1 → IsTrue (has_res_key new.book.res_keys y.key) → name_of y ≡ res
-            → new.nodes ≡ e.nodes ++ x ∷ [] → new.hubs ≡ e.hubs → new.resources ≡ e.resources ++ y ∷ [] → new.leases ≡ e.leases → new.stock.wares ≡ rest → KeepsRest e new → Carries e (using name site res) Accepted new
-        using_accepted new x y kept accepts number listed same_name res_number res_listed same_res pushed same_hubs res_pushed same_leases same_stock rest_kept =
+            → Accepts e.book
+            (record { call = OpeningUsing (place_of place) w.tag; is_known = is_known_place e.book.keys place; is_fresh = w.is_fresh }) new.book
+            → x.key.number ≡ length e.book.history → IsTrue (has_key new.book.keys x.key) → name_of x ≡ name
+            → y.key.number ≡ length e.book.history + 1 → IsTrue (has_res_key new.book.res_keys y.key) → name_of y ≡ res
+            → new.nodes ≡ e.nodes ++ x ∷ [] → new.hubs ≡ e.hubs → new.resources ≡ e.resources ++ y ∷ []
+            → new.leases ≡ e.leases → new.stock.wares ≡ rest → KeepsRest e new → Carries e (using name site res) Accepted new
+        using_accepted new x y kept accepts number listed same_name res_number
+            res_listed same_res pushed same_hubs res_pushed same_leases same_stock rest_kept =
             let goes = accepted_continues e.book new.book asked accepts in
             accepted_to e new (using name site res) asked sound kept no_own_cause agrees accepts
             (same_stage new.book.history _ _ _ _ _ _ _ _ _ _
-            (nodes_bound e.nodes new.nodes x (length e.book.history) pushed number ∙ ap (λ n. with_binding (map node_binding e.nodes) n (length e.book.history)) same_name)
+            (nodes_bound e.nodes new.nodes x (length e.book.history) pushed number
+            ∙ ap (λ n. with_binding (map node_binding e.nodes) n (length e.book.history)) same_name)
             (ap (map number_binding) same_hubs)
-            (resources_bound e.resources new.resources y (length e.book.history + 1) res_pushed res_number ∙ ap (λ n. with_binding (map res_binding e.resources) n (length e.book.history + 1)) same_res)
+            (resources_bound e.resources new.resources y (length e.book.history + 1) res_pushed res_number
+            ∙ ap (λ n. with_binding (map res_binding e.resources) n (length e.book.history + 1)) same_res)
             (ap (map lease_binding) same_leases) (same_stock ∙ sym (rest_stocked e w rest stocked)))
-            (all_pushed (λ n. IsNodeKey new.book n.key) e.nodes new.nodes x pushed (node_keys_kept e.book new.book e.nodes sound.kept kept goes sound.nodes) (new_node_key e.book new.book asked x.key accepts number (omega arith) listed))
-            (all_pushed (λ n. IsHeldKey new.book n.key) e.resources new.resources y res_pushed (held_keys_kept e.book new.book e.resources sound.kept kept goes sound.resources) (new_held_key e.book new.book asked y.key 1 accepts res_number (omega arith) res_listed))
+            (all_pushed (λ n. IsNodeKey new.book n.key) e.nodes new.nodes x pushed (node_keys_kept e.book new.book e.nodes sound.kept kept goes sound.nodes)
+            (new_node_key e.book new.book asked x.key accepts number (omega arith) listed))
+            (all_pushed (λ n. IsHeldKey new.book n.key) e.resources new.resources y res_pushed
+            (held_keys_kept e.book new.book e.resources sound.kept kept goes sound.resources)
+            (new_held_key e.book new.book asked y.key 1 accepts res_number (omega arith) res_listed))
             (subst (All (λ n. IsLeaseKey new.book n.key)) (sym same_leases) (lease_keys_kept e.book new.book e.leases sound.kept kept goes sound.leases))
             rest_kept
 
@@ -172,22 +191,29 @@ module _ {R : Type 0} (e : Engine R) (node : Name) (res : Name) (sound : IsSound
               same = same_stocked e w rest stocked (has_key e.book.keys k) (Holding k.number w.tag) (λ unknown. ap not (sym hold_known ∙ unknown));
             }
 
-        pub hold_refused : (book : State) (stock : Shelf) (why : Refusal) → book ≡ e.book → stock.wares ≡ e.stock.wares → IsRefusal (stands e.book (record { call = Holding k.number w.tag; is_known = has_key e.book.keys k; is_fresh = w.is_fresh })) why → why ≢ NoMemory
+        pub hold_refused : (book : State) (stock : Shelf) (why : Refusal) → book ≡ e.book → stock.wares ≡ e.stock.wares
+            → IsRefusal (stands e.book (record { call = Holding k.number w.tag; is_known = has_key e.book.keys k; is_fresh = w.is_fresh })) why → why ≢ NoMemory
             → Carries e (hold node res) (Refused (Book why)) (with e book stock)
         hold_refused book stock why same same_stock refusal other =
-            refused_there e (hold node res) hold_asked why book stock sound same same_stock hold_no_own_cause hold_agrees (cause_of (stands e.book hold_asked) why refusal other)
+            refused_there e (hold node res) hold_asked why book stock sound same same_stock hold_no_own_cause hold_agrees
+            (cause_of (stands e.book hold_asked) why refusal other)
 
-        pub hold_accepted : (new : Engine R) (y : Named ResKey) → IsPromised new.book → Accepts e.book (record { call = Holding k.number w.tag; is_known = has_key e.book.keys k; is_fresh = w.is_fresh }) new.book
+        pub hold_accepted : (new : Engine R) (y : Named ResKey) → IsPromised new.book
+            → Accepts e.book (record { call = Holding k.number w.tag; is_known = has_key e.book.keys k; is_fresh = w.is_fresh }) new.book
             → y.key.number ≡ length e.book.history → IsTrue (has_res_key new.book.res_keys y.key) → name_of y ≡ res
-            → new.nodes ≡ e.nodes → new.hubs ≡ e.hubs → new.resources ≡ e.resources ++ y ∷ [] → new.leases ≡ e.leases → new.stock.wares ≡ rest → KeepsRest e new → Carries e (hold node res) Accepted new
+            → new.nodes ≡ e.nodes → new.hubs ≡ e.hubs → new.resources ≡ e.resources ++ y ∷ []
+            → new.leases ≡ e.leases → new.stock.wares ≡ rest → KeepsRest e new → Carries e (hold node res) Accepted new
         hold_accepted new y kept accepts number listed same_res same_nodes same_hubs pushed same_leases same_stock rest_kept =
             let goes = accepted_continues e.book new.book hold_asked accepts in
             accepted_to e new (hold node res) hold_asked sound kept hold_no_own_cause hold_agrees accepts
             (same_stage new.book.history _ _ _ _ _ _ _ _ _ _ (ap (map node_binding) same_nodes) (ap (map number_binding) same_hubs)
-            (resources_bound e.resources new.resources y (length e.book.history) pushed number ∙ ap (λ n. with_binding (map res_binding e.resources) n (length e.book.history)) same_res)
+            (resources_bound e.resources new.resources y (length e.book.history) pushed number
+            ∙ ap (λ n. with_binding (map res_binding e.resources) n (length e.book.history)) same_res)
             (ap (map lease_binding) same_leases) (same_stock ∙ sym (rest_stocked e w rest stocked)))
             (subst (All (λ n. IsNodeKey new.book n.key)) (sym same_nodes) (node_keys_kept e.book new.book e.nodes sound.kept kept goes sound.nodes))
-            (all_pushed (λ n. IsHeldKey new.book n.key) e.resources new.resources y pushed (held_keys_kept e.book new.book e.resources sound.kept kept goes sound.resources) (new_held_key e.book new.book hold_asked y.key 0 accepts (number ∙ sym (add-zero (length e.book.history))) (omega arith) listed))
+            (all_pushed (λ n. IsHeldKey new.book n.key) e.resources new.resources y pushed
+            (held_keys_kept e.book new.book e.resources sound.kept kept goes sound.resources)
+            (new_held_key e.book new.book hold_asked y.key 0 accepts (number ∙ sym (add-zero (length e.book.history))) (omega arith) listed))
             (subst (All (λ n. IsLeaseKey new.book n.key)) (sym same_leases) (lease_keys_kept e.book new.book e.leases sound.kept kept goes sound.leases))
             rest_kept
 

@@ -79,7 +79,8 @@ module _ {R : Type 0} (e : Engine R) (res name : Name) (sound : IsSound e) where
           let named = res_named in
           record {
             called = rw named refl;
-            same = lease_same_cause (has_res_key e.book.res_keys k) e.book.base e.book.history e.book.limit (front_is_fresh (stored_stage e)) k.number lease_known;
+            same = lease_same_cause (has_res_key e.book.res_keys k) e.book.base e.book.history e.book.limit
+                (front_is_fresh (stored_stage e)) k.number lease_known;
           }
 
       pub lease_refused : (book : State) (why : Refusal) → book ≡ e.book → IsRefusal (stands e.book (lease_request e.book k)) why → why ≢ NoMemory
@@ -90,13 +91,16 @@ module _ {R : Type 0} (e : Engine R) (res name : Name) (sound : IsSound e) where
 
       pub lease_accepted : (new : Engine R) (x : Named LeaseKey) → IsPromised new.book → Accepts e.book (lease_request e.book k) new.book
           → x.key.number ≡ length e.book.history → IsTrue (has_lease_key new.book.lease_keys x.key) → name_of x ≡ name
-          → new.nodes ≡ e.nodes → new.hubs ≡ e.hubs → new.resources ≡ e.resources → new.leases ≡ e.leases ++ x ∷ [] → new.stock.wares ≡ e.stock.wares → KeepsRest e new
+          → new.nodes ≡ e.nodes → new.hubs ≡ e.hubs → new.resources ≡ e.resources
+          → new.leases ≡ e.leases ++ x ∷ [] → new.stock.wares ≡ e.stock.wares → KeepsRest e new
           → Carries e (lease res name) Accepted new
       lease_accepted new x kept accepts number listed same_name same_nodes same_hubs same_resources pushed same_stock rest_kept =
           let goes = accepted_continues e.book new.book (lease_request e.book k) accepts in
           accepted_to e new (lease res name) (lease_request e.book k) sound kept lease_no_own_cause lease_agrees accepts
-          (same_stage new.book.history _ _ _ _ _ _ _ _ _ _ (ap (map node_binding) same_nodes) (ap (map number_binding) same_hubs) (ap (map res_binding) same_resources)
-          (leases_bound e.leases new.leases x (length e.book.history) pushed number ∙ ap (λ n. with_binding (map lease_binding e.leases) n (length e.book.history)) same_name)
+          (same_stage new.book.history _ _ _ _ _ _ _ _ _ _ (ap (map node_binding) same_nodes)
+          (ap (map number_binding) same_hubs) (ap (map res_binding) same_resources)
+          (leases_bound e.leases new.leases x (length e.book.history) pushed number
+          ∙ ap (λ n. with_binding (map lease_binding e.leases) n (length e.book.history)) same_name)
           same_stock)
           (subst (All (λ n. IsNodeKey new.book n.key)) (sym same_nodes) (node_keys_kept e.book new.book e.nodes sound.kept kept goes sound.nodes))
           (subst (All (λ n. IsHeldKey new.book n.key)) (sym same_resources) (held_keys_kept e.book new.book e.resources sound.kept kept goes sound.resources))
@@ -127,7 +131,8 @@ module _ {R : Type 0} (e : Engine R) (name : Name) (sound : IsSound e) where
         let named = lease_named in
         record {
           called = rw named refl;
-          same = return_same_cause (has_lease_key e.book.lease_keys k) e.book.base e.book.history e.book.limit (front_is_fresh (stored_stage e)) k.number return_known;
+          same = return_same_cause (has_lease_key e.book.lease_keys k) e.book.base e.book.history e.book.limit
+              (front_is_fresh (stored_stage e)) k.number return_known;
         }
 
     pub return_refused : (book : State) (why : Refusal) → book ≡ e.book → IsRefusal (stands e.book (give_back_request e.book k)) why → why ≢ NoMemory
@@ -136,5 +141,7 @@ module _ {R : Type 0} (e : Engine R) (name : Name) (sound : IsSound e) where
         refused_there e (give_back name) (give_back_request e.book k) why book e.stock sound same refl return_no_own_cause return_agrees
         (cause_of (stands e.book (give_back_request e.book k)) why refusal other)
 
-    pub return_accepted : (book : State) → IsPromised book → Accepts e.book (give_back_request e.book k) book → Carries e (give_back name) Accepted (with e book e.stock)
-    return_accepted book kept accepts = accepted_plain e (give_back name) (give_back_request e.book k) book sound kept return_no_own_cause return_agrees accepts (λ h. refl)
+    pub return_accepted : (book : State) → IsPromised book → Accepts e.book (give_back_request e.book k) book
+        → Carries e (give_back name) Accepted (with e book e.stock)
+    return_accepted book kept accepts =
+        accepted_plain e (give_back name) (give_back_request e.book k) book sound kept return_no_own_cause return_agrees accepts (λ h. refl)

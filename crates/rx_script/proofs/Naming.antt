@@ -33,7 +33,8 @@ res_unbound names name e = bound-resources names name ∙ ap (option_map (λ k. 
 pub bound-leases : (names : List (Named LeaseKey)) (name : Name) → bound (map lease_binding names) name ≡ option_map (λ k. k.number) (key_of names name)
 bound-leases names name = bound-keys (λ k. k.number) names name
 
-pub lease_bound : (names : List (Named LeaseKey)) (name : Name) (k : LeaseKey) → key_of names name ≡ Some k → bound (map lease_binding names) name ≡ Some k.number
+pub lease_bound : (names : List (Named LeaseKey)) (name : Name) (k : LeaseKey)
+    → key_of names name ≡ Some k → bound (map lease_binding names) name ≡ Some k.number
 lease_bound names name k e = bound-leases names name ∙ ap (option_map (λ k. k.number)) e
 
 pub lease_unbound : (names : List (Named LeaseKey)) (name : Name) → key_of names name ≡ None → bound (map lease_binding names) name ≡ None

@@ -30,7 +30,8 @@ use Rattle.rx_book.proofs.Laws.Going.{accepted_continues}
 use Rattle.rx_script.proofs.Going.{node_keys_kept, held_keys_kept, lease_keys_kept}
 use Rattle.rx_script.proofs.Carrying.{Agrees, first_cause-by_key, with, refused_own, refused_there, accepted_to, stored_stage, KeepsRest}
 use Rattle.rx_script.proofs.Commands.{cause_of}
-use Rattle.rx_script.proofs.Openings.{is_bound-nodes, taken_beside-bound, named_bound, all_named, forced_node_key, IsPlaced, site_placed, site_nameless, new_node_key, nodes_bound, same_stage, all_pushed}
+use Rattle.rx_script.proofs.Openings.{is_bound-nodes, taken_beside-bound, named_bound, all_named, forced_node_key}
+use Rattle.rx_script.proofs.Openings.{IsPlaced, site_placed, site_nameless, new_node_key, nodes_bound, same_stage, all_pushed}
 
 -- kinds --------------------------------------------------------------------------------------------
 
@@ -69,7 +70,8 @@ module _ {R : Type 0} (e : Engine R) where
 
 module _ {R : Type 0} (e : Engine R) (name : Name) (site : Site) (sort : Sort) (sound : IsSound e) where
   pub open_nameless : at_of e.nodes site ≡ None → Carries e (open_node name site sort) (Refused NoName) (with e e.book e.stock)
-  open_nameless none = let nameless = site_nameless e site none in refused_own e (open_node name site sort) NoName e.book e.stock sound refl refl (rw nameless refl)
+  open_nameless none = let nameless =
+      site_nameless e site none in refused_own e (open_node name site sort) NoName e.book e.stock sound refl refl (rw nameless refl)
 
   module _ (place : At) (at : at_of e.nodes site ≡ Some place) where
     facts : IsPlaced e site place
@@ -93,7 +95,8 @@ module _ {R : Type 0} (e : Engine R) (name : Name) (site : Site) (sort : Sort) (
           refused_own e (open_node name site sort) NameTaken e.book e.stock sound refl refl (rw (named, hubbed, is_taken) refl)
 
       module _ (free : is_some (key_of e.nodes name) ≡ false) where
-        pub open_taken_beside : is_taken_beside e.nodes name (connection_name sort) ≡ true → Carries e (open_node name site sort) (Refused NameTaken) (with e e.book e.stock)
+        pub open_taken_beside : is_taken_beside e.nodes name (connection_name sort) ≡ true
+            → Carries e (open_node name site sort) (Refused NameTaken) (with e e.book e.stock)
         open_taken_beside taken =
             let named = facts.named in
             let hubbed = known.named in
@@ -115,14 +118,17 @@ module _ {R : Type 0} (e : Engine R) (name : Name) (site : Site) (sort : Sort) (
 
           agrees : Agrees e.book asked (stored_stage e) (open_node name site sort)
           agrees = record {
-            called = ap (option_and_then (λ p. option_map (Opening p) (kind_at (stored_stage e) sort))) facts.placed ∙ ap (option_map (Opening (place_of place))) known.meant;
-            same = first_cause-by_key (is_known_place e.book.keys place) (causes e.book.base e.book.history e.book.limit true (Opening (place_of place) kind)) facts.gone;
+            called = ap (option_and_then (λ p. option_map (Opening p) (kind_at (stored_stage e) sort))) facts.placed
+                ∙ ap (option_map (Opening (place_of place))) known.meant;
+            same = first_cause-by_key (is_known_place e.book.keys place)
+                (causes e.book.base e.book.history e.book.limit true (Opening (place_of place) kind)) facts.gone;
           }
 
           pub open_refused : (book : State) (why : Refusal) → book ≡ e.book → IsRefusal (stands e.book (open_request e.book place kind)) why → why ≢ NoMemory
               → Carries e (open_node name site sort) (Refused (Book why)) (with e book e.stock)
           open_refused book why same refusal other =
-              refused_there e (open_node name site sort) asked why book e.stock sound same refl no_own_cause agrees (cause_of (stands e.book asked) why refusal other)
+              refused_there e (open_node name site sort) asked why book e.stock sound same refl no_own_cause agrees
+              (cause_of (stands e.book asked) why refusal other)
 
           module _ (new : Engine R) (x : Named Key) (between : List (Named Key)) (connection : Option (String Global)) (made : Option Key)
               (pushed : between ≡ e.nodes ++ x ∷ []) (named_on : new.nodes ≡ with_named between connection made)
@@ -152,10 +158,14 @@ module _ {R : Type 0} (e : Engine R) (name : Name) (site : Site) (sort : Sort) (
                 let goes = accepted_continues e.book new.book asked accepts in
                 let older = node_keys_kept e.book new.book e.nodes sound.kept kept goes sound.nodes in
                 let nodes : All (λ n. IsNodeKey new.book n.key) between =
-                all_pushed (λ n. IsNodeKey new.book n.key) e.nodes between x pushed older (new_node_key e.book new.book asked x.key accepts opened.key.number (omega arith) opened.key.listed) in
+                all_pushed (λ n. IsNodeKey new.book n.key) e.nodes between x pushed older
+                (new_node_key e.book new.book asked x.key accepts opened.key.number (omega arith) opened.key.listed) in
                 accepted_to e new (open_node name site sort) asked sound kept no_own_cause agrees accepts
-                (same_stage new.book.history _ _ _ _ _ _ _ _ _ _ nodes_opened (ap (map number_binding) same_hubs) (ap (map res_binding) same_resources) (ap (map lease_binding) same_leases) same_stock)
-                (subst (All (λ n. IsNodeKey new.book n.key)) (sym named_on) (all_named (IsNodeKey new.book) between connection made nodes (forced_node_key e.book new.book made opened)))
-                (subst (All (λ n. IsHeldKey new.book n.key)) (sym same_resources) (held_keys_kept e.book new.book e.resources sound.kept kept goes sound.resources))
+                (same_stage new.book.history _ _ _ _ _ _ _ _ _ _ nodes_opened (ap (map number_binding) same_hubs)
+                (ap (map res_binding) same_resources) (ap (map lease_binding) same_leases) same_stock)
+                (subst (All (λ n. IsNodeKey new.book n.key)) (sym named_on)
+                (all_named (IsNodeKey new.book) between connection made nodes (forced_node_key e.book new.book made opened)))
+                (subst (All (λ n. IsHeldKey new.book n.key)) (sym same_resources)
+                (held_keys_kept e.book new.book e.resources sound.kept kept goes sound.resources))
                 (subst (All (λ n. IsLeaseKey new.book n.key)) (sym same_leases) (lease_keys_kept e.book new.book e.leases sound.kept kept goes sound.leases))
                 rest_kept

@@ -1,5 +1,6 @@
 -- Names that commands bind, places where nodes are opened, and what is known of a name that is new.
-use Rattle.std.proofs.Common.{◌≡◌, ◌<◌, ◌+◌, ◌++◌, ◌∷◌, [], ℕ, List, Bool, true, false, cond, String, Global, string_bytes, refl, sym, ap, subst, ◌∙◌, map, length, arith}
+use Rattle.std.proofs.Common.{◌≡◌, ◌<◌, ◌+◌, ◌++◌, ◌∷◌, [], ℕ, List, Bool, true, false, cond}
+use Rattle.std.proofs.Common.{String, Global, string_bytes, refl, sym, ap, subst, ◌∙◌, map, length, arith}
 use Rattle.std.specs.Prelude.{◌||◌, Option, Some, None, IsTrue, IfSome, is_none, is_some, option_map}
 use Rattle.std.specs.Str.{bytes_eq}
 use Rattle.std.specs.Option.{option_map_or}
@@ -82,7 +83,8 @@ inner_below = record { unbound = λ s n. refl; placed = λ s n. refl; keyed = λ
 notifier_below : IsBelow notifier AtNotifier Notifier
 notifier_below = record { unbound = λ s n. refl; placed = λ s n. refl; keyed = λ s n. refl; number = λ k. refl; known = λ s k. refl; gone = λ h n. refl }
 
-module _ {R : Type 0} (e : Engine R) {site : Name → Site} {at_key : Key → At} {at_number : ℕ → Place} (below : IsBelow site at_key at_number) (name : Name) where
+module _ {R : Type 0} (e : Engine R) {site : Name → Site} {at_key : Key → At} {at_number : ℕ → Place}
+    (below : IsBelow site at_key at_number) (name : Name) where
   placed_by : (place : At) (o : Option Key) → IsSound e → key_of e.nodes name ≡ o → option_map at_key o ≡ Some place → IsPlaced e (site name) place
   placed_by place None sound is at = absurd (cc)
   placed_by place (Some k) sound is at =
@@ -92,7 +94,8 @@ module _ {R : Type 0} (e : Engine R) {site : Name → Site} {at_key : Key → At
       let here : IsPlaced e (site name) (at_key k) = record {
         named = below.unbound (stored_stage e) name ∙ ap is_none number;
         placed = below.placed (stored_stage e) name ∙ ap (option_map at_number) number ∙ ap Some (sym (below.number k));
-        gone = λ unknown. ap (is_gone e.book.history) (below.number k) ∙ below.gone e.book.history k.number ∙ ap not (sym known ∙ sym (below.known e.book.keys k) ∙ unknown);
+        gone = λ unknown. ap (is_gone e.book.history) (below.number k)
+            ∙ below.gone e.book.history k.number ∙ ap not (sym known ∙ sym (below.known e.book.keys k) ∙ unknown);
       } in
       subst (IsPlaced e (site name)) same here
 
@@ -123,41 +126,49 @@ site_nameless e (notifier name) at = below_nameless e notifier_below name at
 
 -- new names ----------------------------------------------------------------------------------------
 
-pub new_node_key : (old new : State) (asked : Request) (k : Key) → Accepts old asked new → k.number ≡ length old.history → 0 < length (outside_of old.history asked.call)
+pub new_node_key : (old new : State) (asked : Request) (k : Key) → Accepts old asked new
+    → k.number ≡ length old.history → 0 < length (outside_of old.history asked.call)
     → IsTrue (has_key new.keys k) → IsNodeKey new k
 new_node_key old new asked k accepts number some listed =
     let longer = step_longer old.base old.history new.history asked.call accepts.step in
     record { within = omega arith; found = λ open_now. has_key-contained new.keys k listed }
 
-pub new_held_key : (old new : State) (asked : Request) (k : ResKey) (place : ℕ) → Accepts old asked new → k.number ≡ length old.history + place → place < length (outside_of old.history asked.call)
+pub new_held_key : (old new : State) (asked : Request) (k : ResKey) (place : ℕ) → Accepts old asked new
+    → k.number ≡ length old.history + place → place < length (outside_of old.history asked.call)
     → IsTrue (has_res_key new.res_keys k) → IsHeldKey new k
 new_held_key old new asked k place accepts number some listed =
     let longer = step_longer old.base old.history new.history asked.call accepts.step in
     record { within = omega arith; found = λ held_now. has_res_key-contained new.res_keys k listed }
 
-pub new_out_key : (old new : State) (asked : Request) (k : LeaseKey) → Accepts old asked new → k.number ≡ length old.history → 0 < length (outside_of old.history asked.call)
+pub new_out_key : (old new : State) (asked : Request) (k : LeaseKey) → Accepts old asked new
+    → k.number ≡ length old.history → 0 < length (outside_of old.history asked.call)
     → IsTrue (has_lease_key new.lease_keys k) → IsLeaseKey new k
 new_out_key old new asked k accepts number some listed =
     let longer = step_longer old.base old.history new.history asked.call accepts.step in
     record { within = omega arith; found = λ out_now. has_lease_key-contained new.lease_keys k listed }
 
-pub nodes_bound : (xs ys : List (Named Key)) (x : Named Key) (number : ℕ) → ys ≡ xs ++ x ∷ [] → x.key.number ≡ number → map node_binding ys ≡ with_binding (map node_binding xs) (name_of x) number
+pub nodes_bound : (xs ys : List (Named Key)) (x : Named Key) (number : ℕ) → ys ≡ xs ++ x ∷ []
+    → x.key.number ≡ number → map node_binding ys ≡ with_binding (map node_binding xs) (name_of x) number
 nodes_bound xs ys x number pushed same =
     ap (map node_binding) pushed ∙ map-append node_binding xs (x ∷ []) ∙ ap (λ n. with_binding (map node_binding xs) (name_of x) n) same
 
-pub resources_bound : (xs ys : List (Named ResKey)) (x : Named ResKey) (number : ℕ) → ys ≡ xs ++ x ∷ [] → x.key.number ≡ number → map res_binding ys ≡ with_binding (map res_binding xs) (name_of x) number
+pub resources_bound : (xs ys : List (Named ResKey)) (x : Named ResKey) (number : ℕ) → ys ≡ xs ++ x ∷ []
+    → x.key.number ≡ number → map res_binding ys ≡ with_binding (map res_binding xs) (name_of x) number
 resources_bound xs ys x number pushed same =
     ap (map res_binding) pushed ∙ map-append res_binding xs (x ∷ []) ∙ ap (λ n. with_binding (map res_binding xs) (name_of x) n) same
 
-pub leases_bound : (xs ys : List (Named LeaseKey)) (x : Named LeaseKey) (number : ℕ) → ys ≡ xs ++ x ∷ [] → x.key.number ≡ number → map lease_binding ys ≡ with_binding (map lease_binding xs) (name_of x) number
+pub leases_bound : (xs ys : List (Named LeaseKey)) (x : Named LeaseKey) (number : ℕ) → ys ≡ xs ++ x ∷ []
+    → x.key.number ≡ number → map lease_binding ys ≡ with_binding (map lease_binding xs) (name_of x) number
 leases_bound xs ys x number pushed same =
     ap (map lease_binding) pushed ∙ map-append lease_binding xs (x ∷ []) ∙ ap (λ n. with_binding (map lease_binding xs) (name_of x) n) same
 
 pub same_stage : (h : List Event) (n m g i r s j k : List Binding) (u v : List Ware) → n ≡ m → g ≡ i → r ≡ s → j ≡ k → u ≡ v
-    → let stage : List Binding → List Binding → List Binding → List Binding → List Ware → Stage = λ x y z l w. record { history = h; checked = 0; nodes = x; hubs = y; resources = z; leases = l; stock = w } in
+    → let stage : List Binding → List Binding → List Binding → List Binding → List Ware → Stage =
+    λ x y z l w. record { history = h; checked = 0; nodes = x; hubs = y; resources = z; leases = l; stock = w } in
     stage n g r j u ≡ stage m i s k v
 same_stage h n m g i r s j k u v p o q a t =
-    let stage : List Binding → List Binding → List Binding → List Binding → List Ware → Stage = λ x y z l w. record { history = h; checked = 0; nodes = x; hubs = y; resources = z; leases = l; stock = w } in
+    let stage : List Binding → List Binding → List Binding → List Binding → List Ware → Stage =
+    λ x y z l w. record { history = h; checked = 0; nodes = x; hubs = y; resources = z; leases = l; stock = w } in
     ap (λ x. stage x g r j u) p ∙ ap (λ y. stage m y r j u) o ∙ ap (λ z. stage m i z j u) q ∙ ap (λ l. stage m i s l u) a ∙ ap (λ w. stage m i s k w) t
 
 pub all_pushed : {A : Type 0} (P : A → Type 0) (xs ys : List A) (x : A) → ys ≡ xs ++ x ∷ [] → All P xs → P x → All P ys
@@ -169,12 +180,14 @@ pub taken-bound : (names : List (Named Key)) (name : Option Name) → option_map
 taken-bound names None = refl
 taken-bound names (Some n) = is_bound-nodes names n
 
-pub taken_beside-bound : (names : List (Named Key)) (node : Name) (name : Option Name) → option_map_or (λ c. is_bound (map node_binding names) c || bytes_eq node c) name false ≡ is_taken_beside names node name
+pub taken_beside-bound : (names : List (Named Key)) (node : Name) (name : Option Name)
+    → option_map_or (λ c. is_bound (map node_binding names) c || bytes_eq node c) name false ≡ is_taken_beside names node name
 taken_beside-bound names node None = refl
 taken_beside-bound names node (Some n) = ap (λ b. b || bytes_eq node n) (is_bound-nodes names n)
 
 -- a name that is free, and is not the node's, is free still once the node has its own
-pub free_behind : (names between : List (Named Key)) (x : Named Key) (name : Option Name) → between ≡ names ++ x ∷ [] → is_some (key_of names (name_of x)) ≡ false
+pub free_behind : (names between : List (Named Key)) (x : Named Key) (name : Option Name)
+    → between ≡ names ++ x ∷ [] → is_some (key_of names (name_of x)) ≡ false
     → is_taken_beside names (name_of x) name ≡ false → is_taken between name ≡ false
 free_behind names between x None pushed free beside = refl
 free_behind names between x (Some n) pushed free beside =
@@ -200,7 +213,8 @@ all_named P names (Some n) None all here = all
 all_named P names (Some n) (Some k) all here = All-push (λ n. P n.key) names (record { name = n; key = k }) all here
 
 -- a connection that was forced is a node of the history
-pub forced_node_key : (old new : State) (made : Option Key) {key : Key} → IsOpened old new (record { key = key; connected = made }) → IfSome made (IsNodeKey new)
+pub forced_node_key : (old new : State) (made : Option Key) {key : Key}
+    → IsOpened old new (record { key = key; connected = made }) → IfSome made (IsNodeKey new)
 forced_node_key old new None opened = tt
 forced_node_key old new (Some k) opened =
     let place = length old.history + 1 in

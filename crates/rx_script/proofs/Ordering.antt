@@ -1,5 +1,6 @@
 -- In the one order a call against which no cause stands is carried out, and all that waits is taken.
-use Rattle.std.proofs.Common.{◌≡◌, ℕ, zero, suc, ◌+◌, ◌<◌, ◌≤◌, Bool, true, false, List, [], ◌∷◌, ◌++◌, length, None, slice_get, refl, sym, ap, subst, ◌∙◌, arith, append_assoc, append-nil}
+use Rattle.std.proofs.Common.{◌≡◌, ℕ, zero, suc, ◌+◌, ◌<◌, ◌≤◌, Bool, true, false, List, [], ◌∷◌, ◌++◌}
+use Rattle.std.proofs.Common.{length, None, slice_get, refl, sym, ap, subst, ◌∙◌, arith, append_assoc, append-nil}
 use Rattle.std.proofs.lemmas.Bool.{false_from_ne_true, ltb-true}
 use Rattle.rx_event.specs.Kept.{nothing_kept, shown}
 use Rattle.rx_event.specs.declared.event.Event.{Event}
@@ -13,7 +14,8 @@ use Rattle.rx_event.specs.Forced.{IsSettled}
 use Rattle.rx_event.specs.Allowed.{taken}
 use Rattle.rx_event.specs.Lawful.{allowed, MayFollow, IsLawful, stays}
 use Rattle.rx_event.specs.Refusals.{first_cause}
-use Rattle.rx_event.specs.Calls.{Call, Opening, OpeningUsing, Holding, Applying, Removing, Leasing, GivingBack, Emitting, Ending, Aborting, Declining, Failing, Disposing, Publishing, Connecting, Disconnecting, Taking, outside_of, IsStepOf}
+use Rattle.rx_event.specs.Calls.{Call, Opening, OpeningUsing, Holding, Applying, Removing, Leasing, GivingBack, Emitting, Ending}
+use Rattle.rx_event.specs.Calls.{Aborting, Declining, Failing, Disposing, Publishing, Connecting, Disconnecting, Taking, outside_of, IsStepOf}
 use Rattle.rx_event.specs.Canonical.{IsFirstStep, nothing_yet}
 use Rattle.rx_event.proofs.Laws.Lists.{first_passes}
 use Rattle.rx_event.proofs.Laws.Lawful.{IsLawful-push}
@@ -36,7 +38,8 @@ abbrev pub roomy : List Event → Call → ℕ
 roomy h call = length h + debt nothing_kept h + added_by h call
 
 none_over : (h : List Event) (limit more : ℕ) → length h + debt nothing_kept h + more ≤ limit → is_over nothing_kept h limit more ≡ false
-none_over h limit more room = false_from_ne_true (is_over nothing_kept h limit more) (λ is. let l = ltb-true (0 + limit) (length h + debt nothing_kept h + more) is in absurd (omega arith))
+none_over h limit more room = false_from_ne_true (is_over nothing_kept h limit more)
+    (λ is. let l = ltb-true (0 + limit) (length h + debt nothing_kept h + more) is in absurd (omega arith))
 
 pub roomy_cause : (h : List Event) (limit : ℕ) (fresh : Bool) (call : Call) → roomy h call ≤ limit → (why : Refusal)
     → causes nothing_kept h limit fresh call why ≡ unlimited (causes nothing_kept h 0 fresh call) why
@@ -66,7 +69,8 @@ roomy_first h limit fresh call room = λ i. first_cause (λ why. roomy_cause h l
 
 lawful_in_turn : (h es : List Event) → IsLawful nothing_kept h → MayFollowInTurn nothing_kept h es → IsLawful nothing_kept (h ++ es)
 lawful_in_turn h [] law next = subst (IsLawful nothing_kept) (sym (append-nil h)) law
-lawful_in_turn h (e ∷ es) law next = subst (IsLawful nothing_kept) (append_assoc h (e ∷ []) es) (lawful_in_turn (h ++ e ∷ []) es (IsLawful-push nothing_kept h e law next.0) next.1)
+lawful_in_turn h (e ∷ es) law next =
+    subst (IsLawful nothing_kept) (append_assoc h (e ∷ []) es) (lawful_in_turn (h ++ e ∷ []) es (IsLawful-push nothing_kept h e law next.0) next.1)
 
 -- the events of a call against which no cause stands may come
 pub outside_lawful : (h : List Event) (fresh : Bool) (call : Call) → IsLawful nothing_kept h → IsSettled nothing_kept h → IsReady h call
@@ -89,13 +93,17 @@ ordered_step h fresh call law settled ready none =
     let w = finishes nothing_kept (h ++ outside_of h call) (outside_lawful h fresh call law settled ready none) in
     record {
       last = w.last;
-      step = record { step = record { forced = first_forced_on nothing_kept w.ordered; lawful = w.law; settled = finish_settled nothing_kept w.last w.over }; ordered = w.ordered };
+      step = record {
+        step = record { forced = first_forced_on nothing_kept w.ordered; lawful = w.law; settled = finish_settled nothing_kept w.last w.over };
+        ordered = w.ordered;
+      };
     }
 
 -- drains -----------------------------------------------------------------------------------------------------------------------------
 
 -- a taking forces nothing
-pub settled_take : (h : List Event) (q : ℕ) → IsLawful nothing_kept h → MayFollow nothing_kept h (Take q) → IsSettled nothing_kept h → IsSettled nothing_kept (h ++ Take q ∷ [])
+pub settled_take : (h : List Event) (q : ℕ) → IsLawful nothing_kept h → MayFollow nothing_kept h (Take q)
+    → IsSettled nothing_kept h → IsSettled nothing_kept (h ++ Take q ∷ [])
 settled_take h q law next settled = settled_on nothing_kept h (Take q) law next settled refl (λ n. refl) (closes_none_kept h (Take q) refl) refl
 
 -- a history has all that nothing shows
@@ -125,7 +133,8 @@ takes_drained {h = h} {k = k} law settled (next_taken {m = m} {r = q} before ste
       settled = step.settled;
     }
 
-takes_before : {h : List Event} {q : ℕ} {k : List Event} → MayFollow nothing_kept h (Take q) → TakesOn nothing_kept (h ++ Take q ∷ []) k → TakesOn nothing_kept h k
+takes_before : {h : List Event} {q : ℕ} {k : List Event} → MayFollow nothing_kept h (Take q)
+    → TakesOn nothing_kept (h ++ Take q ∷ []) k → TakesOn nothing_kept h k
 takes_before next takes_none = takes_one takes_none next
 takes_before next (takes_one on then) = takes_one (takes_before next on) then
 
@@ -135,7 +144,8 @@ pub record OrderedDrain (h : List Event) : Type 0 where
   pub drained : Drained h last
   pub none : waiting_resources last ≡ []
 
-take_one : (h : List Event) (q : ℕ) → IsLawful nothing_kept h → IsSettled nothing_kept h → MayFollow nothing_kept h (Take q) → IsFirstStep nothing_kept h (Take q ∷ []) (h ++ Take q ∷ [])
+take_one : (h : List Event) (q : ℕ) → IsLawful nothing_kept h → IsSettled nothing_kept h
+    → MayFollow nothing_kept h (Take q) → IsFirstStep nothing_kept h (Take q ∷ []) (h ++ Take q ∷ [])
 take_one h q law settled next = record {
   step = record { forced = stays; lawful = IsLawful-push nothing_kept h (Take q) law next; settled = settled_take h q law next settled };
   ordered = nothing_yet;
@@ -147,7 +157,8 @@ drain_on zero h law settled few = absurd (omega arith)
 drain_on (suc steps) h law settled few = by_list (waiting_resources h) refl
     (λ q law next less. drain_on steps (h ++ Take q ∷ []) law next (let a = less in let l = few in omega arith)) where
       by_list : (ns : List ℕ) → waiting_resources h ≡ ns
-          → ((q : ℕ) → IsLawful nothing_kept (h ++ Take q ∷ []) → IsSettled nothing_kept (h ++ Take q ∷ []) → waiting_count (h ++ Take q ∷ []) + 1 ≡ waiting_count h
+          → ((q : ℕ) → IsLawful nothing_kept (h ++ Take q ∷ [])
+          → IsSettled nothing_kept (h ++ Take q ∷ []) → waiting_count (h ++ Take q ∷ []) + 1 ≡ waiting_count h
           → OrderedDrain (h ++ Take q ∷ [])) → OrderedDrain h
       by_list [] none rest = record { last = h; drains = nothing_left none; drained = record { takes = takes_none; law = law; settled = settled }; none = none }
       by_list (q ∷ ns) some rest =

@@ -7,7 +7,8 @@ use Rattle.rx_book.specs.Drains.{Takes, none_taken, next_taken}
 use Rattle.rx_agenda.specs.declared.answer.Answer.{Answer}
 use Rattle.rx_scenario.specs.Scenario.{Command, Action, Step}
 use Rattle.rx_script.specs.Stage.{Stage, front_is_fresh}
-use Rattle.rx_script.specs.Course.{limited, in_one_order, DrainsInOrder, nothing_left, least_taken, Executes, refused, refused_by_book, accepted, drained, checkpointed}
+use Rattle.rx_script.specs.Course.{limited, in_one_order, DrainsInOrder, nothing_left, least_taken}
+use Rattle.rx_script.specs.Course.{Executes, refused, refused_by_book, accepted, drained, checkpointed}
 use Rattle.rx_script.specs.Course.{Does, does, leaves, Plays, none_played, one_played, CanonicalCoursesArePossible}
 use Rattle.rx_script.proofs.Ordering.{roomy, roomy_first}
 
@@ -30,8 +31,11 @@ executed_too : {s last : Stage} {step : Command} {answer : Answer} → Executes 
 executed_too (refused own) = (0, λ limit room. refused own)
 executed_too {s = s} (refused_by_book {call = call} own called stands) =
     (roomy s.history call, λ limit room. refused_by_book own called (roomy_first s.history (s.checked + limit) (front_is_fresh s) call (omega arith) ∙ stands))
-executed_too {s = s} (accepted {call = call} k own called none step) =
-    (roomy s.history call, λ limit room. accepted k own called (roomy_first s.history (s.checked + limit) (front_is_fresh s) call (omega arith) ∙ none) step.step)
+executed_too {s = s} (accepted {call = call} k own called none step) = (
+  roomy s.history call,
+  λ limit room.
+      accepted k own called (roomy_first s.history (s.checked + limit) (front_is_fresh s) call (omega arith) ∙ none) step.step,
+)
 executed_too (drained drains) = (0, λ limit room. drained (record { takes = takes_on none_taken drains; none_waits = none_left drains }))
 executed_too checkpointed = (0, λ limit room. checkpointed)
 

@@ -1,5 +1,6 @@
 -- What a step binds, it binds at two stages that are the same but for numbers to numbers of the same things.
-use Rattle.std.proofs.Common.{◌≡◌, ℕ, ◌+◌, ◌-◌, ◌<◌, Bool, true, false, List, [], ◌∷◌, ◌++◌, length, drop, Option, Some, None, cond, map, slice_get, refl, sym, ap, subst, ◌∙◌, arith, append_assoc, length-append}
+use Rattle.std.proofs.Common.{◌≡◌, ℕ, ◌+◌, ◌-◌, ◌<◌, Bool, true, false, List, [], ◌∷◌, ◌++◌, length, drop, Option, Some}
+use Rattle.std.proofs.Common.{None, cond, map, slice_get, refl, sym, ap, subst, ◌∙◌, arith, append_assoc, length-append}
 use Rattle.std.specs.Prelude.{option_map}
 use Rattle.std.specs.Option.{option_and_then, option_map_or}
 use Rattle.std.proofs.lemmas.Bool.{false≢true}
@@ -19,7 +20,8 @@ use Rattle.rx_event.specs.Renumbered.{event_by, is_named, AreSameBy, AreSameSinc
 use Rattle.rx_event.proofs.Laws.Places.{slice_get-append, slice_get_last, at_within}
 use Rattle.rx_book.specs.Answers.{makes_connection, connection_made}
 use Rattle.rx_agenda.specs.Bindings.{Binding, bound, with_binding}
-use Rattle.rx_scenario.specs.Scenario.{Name, Command, using, open_node, hold, apply, remove, lease, give_back, next, end, abort, decline, fail, dispose, make_hub, connect, disconnect, drain, checkpoint}
+use Rattle.rx_scenario.specs.Scenario.{Name, Command, using, open_node, hold, apply, remove, lease, give_back, next}
+use Rattle.rx_scenario.specs.Scenario.{end, abort, decline, fail, dispose, make_hub, connect, disconnect, drain, checkpoint}
 use Rattle.rx_script.specs.Stage.{Ware, Stage, connection_name, place_at, kind_at, front, call_of, with_connection, after}
 use Rattle.rx_script.proofs.Renaming.{renamed, AllNumbers, all_numbers, renamed-same, with_binding-renamed, with_binding-all}
 use Rattle.rx_script.proofs.SameStages.{AreSameStages}

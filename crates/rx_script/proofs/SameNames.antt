@@ -10,8 +10,10 @@ use Rattle.rx_event.specs.Calls.{Opening, OpeningUsing}
 use Rattle.rx_book.specs.Answers.{makes_connection, connection_made}
 use Rattle.rx_agenda.specs.declared.answer.Cause.TheVariants.{NoName, NameTaken, NoStock}
 use Rattle.rx_agenda.specs.Bindings.{with_binding}
-use Rattle.rx_scenario.specs.Scenario.{Site, root, source, inner, notifier, Sort, leaf, pass, flat, switch, until, sub, Command, using, open_node, hold, lease, make_hub, connect, checkpoint}
-use Rattle.rx_script.specs.Stage.{Stage, is_unbound_site, is_unbound_hub, connection_name, with_connection, lacks_name, takes_name, lacks_stock, own_cause, place_at, kind_at, front, call_of, after}
+use Rattle.rx_scenario.specs.Scenario.{Site, root, source, inner, notifier, Sort, leaf, pass, flat, switch, until}
+use Rattle.rx_scenario.specs.Scenario.{sub, Command, using, open_node, hold, lease, make_hub, connect, checkpoint}
+use Rattle.rx_script.specs.Stage.{Stage, is_unbound_site, is_unbound_hub, connection_name, with_connection}
+use Rattle.rx_script.specs.Stage.{lacks_name, takes_name, lacks_stock, own_cause, place_at, kind_at, front, call_of, after}
 
 -- a stage with another history, in which so many events came before the last checkpoint
 abbrev pub with_history : Stage → List Event → ℕ → Stage

@@ -1,5 +1,6 @@
 -- The same cause comes first against a call in two stored histories that agree, where the limits end at one place.
-use Rattle.std.proofs.Common.{◌≡◌, ℕ, ◌+◌, ◌*◌, Bool, true, false, List, [], ◌∷◌, length, Option, Some, cond, refl, sym, ap, ◌∙◌, inl, inr, ◌⊎◌, ◌==◌, nat_lt, count_by}
+use Rattle.std.proofs.Common.{◌≡◌, ℕ, ◌+◌, ◌*◌, Bool, true, false, List, [], ◌∷◌, length, Option}
+use Rattle.std.proofs.Common.{Some, cond, refl, sym, ap, ◌∙◌, inl, inr, ◌⊎◌, ◌==◌, nat_lt, count_by}
 use Rattle.std.proofs.Math.Bool.{not, ◌&&◌, ◌||◌}
 use Rattle.std.specs.List.{list_any, AllByRecursion, range_with_len}
 use Rattle.std.specs.Option.{option_map_or}
@@ -14,7 +15,8 @@ use Rattle.rx_event.specs.declared.event.Kind.TheVariants.{Leaf, Pass, Flat, Swi
 use Rattle.rx_event.specs.declared.event.Event.{Event}
 use Rattle.rx_event.specs.declared.event.Event.TheVariants.{Open, Hub}
 use Rattle.rx_event.specs.declared.refusal.Refusal.{Refusal}
-use Rattle.rx_event.specs.declared.refusal.Refusal.TheVariants.{Full, Gone, WrongKind, PlaceTaken, NothingOwed, NotRoot, NoHub, HubOrder, Connected, NotConnected}
+use Rattle.rx_event.specs.declared.refusal.Refusal.TheVariants.{Full, Gone, WrongKind, PlaceTaken, NothingOwed}
+use Rattle.rx_event.specs.declared.refusal.Refusal.TheVariants.{NotRoot, NoHub, HubOrder, Connected, NotConnected}
 use Rattle.rx_event.specs.declared.refusal.Refusal.TheVariants.{NoLease, NotHeld, Leased, HasChild, TooMany}
 use Rattle.rx_event.specs.Events.{makes_hub, has_source, is_leaf, is_merging, is_until, is_root, is_auto_hub, is_manual_hub}
 use Rattle.rx_event.specs.Tree.{at, ancestors, parent, is_open, is_open_child_of, has_open_child}
@@ -31,7 +33,8 @@ use Rattle.rx_event.proofs.Laws.SameTree.{alike_back, at_alike, at_hub_alike, pa
 use Rattle.rx_event.proofs.Laws.Agreed.{hubs_alike, hub_is}
 use Rattle.rx_event.proofs.Laws.Steps.{named_below}
 use Rattle.rx_event.proofs.Laws.Checkpoints.{same_debt}
-use Rattle.rx_register.specs.Causes.{has_connection, is_without_hub, forces_connect, connects_up_to, is_out_of_order, is_gone, is_wrong_place, is_taken_place, is_unowed_place, is_crowded, is_over, nodes_opened, end_at, added_by, opening_causes, using_causes, causes}
+use Rattle.rx_register.specs.Causes.{has_connection, is_without_hub, forces_connect, connects_up_to, is_out_of_order, is_gone, is_wrong_place}
+use Rattle.rx_register.specs.Causes.{is_taken_place, is_unowed_place, is_crowded, is_over, nodes_opened, end_at, added_by, opening_causes, using_causes, causes}
 
 same_first : (p q : Refusal → Bool) → ((why : Refusal) → p why ≡ q why) → first_cause p ≡ first_cause q
 same_first p q same = λ i. first_cause (λ why. same why i)

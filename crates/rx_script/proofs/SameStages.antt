@@ -14,13 +14,17 @@ use Rattle.rx_event.specs.declared.event.Kind.TheVariants.{Leaf, Pass, Flat, Swi
 use Rattle.rx_event.specs.Events.{makes_node, makes_hub, makes_resource, makes_lease}
 use Rattle.rx_event.specs.Tree.{at}
 use Rattle.rx_event.specs.Forced.{IsSettled}
-use Rattle.rx_event.specs.Calls.{Call, Opening, OpeningUsing, Holding, Applying, Removing, Leasing, GivingBack, Emitting, Ending, Aborting, Declining, Failing, Disposing, Publishing, Connecting, Disconnecting}
+use Rattle.rx_event.specs.Calls.{Call, Opening, OpeningUsing, Holding, Applying, Removing, Leasing, GivingBack}
+use Rattle.rx_event.specs.Calls.{Emitting, Ending, Aborting, Declining, Failing, Disposing, Publishing, Connecting, Disconnecting}
 use Rattle.rx_event.specs.Renumbered.{place_by, kind_by, call_by, AreSameBy}
 use Rattle.rx_register.proofs.Laws.SameCauses.{NamesPlace, NamesKind, NamesKnown}
 use Rattle.rx_agenda.specs.declared.answer.Cause.TheVariants.{NoName, NameTaken, NoStock}
 use Rattle.rx_agenda.specs.Bindings.{Binding, bound, is_unbound, is_bound}
-use Rattle.rx_scenario.specs.Scenario.{Name, Site, root, source, inner, notifier, Sort, leaf, pass, flat, switch, until, sub, Command, using, open_node, hold, apply, remove, lease, give_back, next, end, abort, decline, fail, dispose, make_hub, connect, disconnect, drain, checkpoint}
-use Rattle.rx_script.specs.Stage.{Ware, Stage, is_unbound_site, is_unbound_hub, lacks_name, connection_name, takes_name, is_empty, lacks_stock, own_cause, place_at, kind_at, front, call_of}
+use Rattle.rx_scenario.specs.Scenario.{Name, Site, root, source, inner, notifier, Sort, leaf, pass, flat, switch}
+use Rattle.rx_scenario.specs.Scenario.{until, sub, Command, using, open_node, hold, apply, remove, lease, give_back}
+use Rattle.rx_scenario.specs.Scenario.{next, end, abort, decline, fail, dispose, make_hub, connect, disconnect, drain, checkpoint}
+use Rattle.rx_script.specs.Stage.{Ware, Stage, is_unbound_site, is_unbound_hub, lacks_name, connection_name}
+use Rattle.rx_script.specs.Stage.{takes_name, is_empty, lacks_stock, own_cause, place_at, kind_at, front, call_of}
 use Rattle.rx_script.proofs.Renaming.{renamed, AllNumbers, bound-same, is_bound-same, is_unbound-same, bound-holds}
 
 pub record AreSameStages (r s : ℕ → ℕ) (x y : Stage) : Type 0 where

@@ -9,7 +9,8 @@ use Rattle.rx_scenario.specs.Checkpoints.{has_checkpoint, makes_checkpoint}
 use Rattle.rx_scenario.proofs.Laws.{list_of-steps_of}
 use Rattle.rx_scenario.proofs.Laws.Checkpoints.{is_checkpoint-makes, has_checkpoint-followers, makes_checkpoint-at}
 use Rattle.rx_script.specs.Stage.{Ware, Stage, after}
-use Rattle.rx_script.specs.Course.{Manner, Executes, refused, refused_by_book, accepted, drained, checkpointed, Does, does, leaves, Plays, none_played, one_played, Course, IsCourseIn}
+use Rattle.rx_script.specs.Course.{Manner, Executes, refused, refused_by_book, accepted, drained}
+use Rattle.rx_script.specs.Course.{checkpointed, Does, does, leaves, Plays, none_played, one_played, Course, IsCourseIn}
 
 -- the executed steps ---------------------------------------------------------------------------------
 

@@ -22,7 +22,8 @@ use Rattle.rx_script.specs.declared.engine.Engine.{Engine}
 use Rattle.rx_agenda.specs.declared.agenda.Agenda.{Agenda as AgendaInCode}
 use Rattle.rx_scenario.specs.declared.scenario.Action.{Action as ActionInCode}
 use Rattle.rx_scenario.specs.declared.scenario.Step.{Step as StepInCode}
-use Rattle.rx_scenario.specs.Scenario.{Name, Site, root, source, inner, notifier, Sort, leaf, pass, flat, switch, until, sub, Command, action_of, list_of, step_of}
+use Rattle.rx_scenario.specs.Scenario.{Name, Site, root, source, inner, notifier, Sort, leaf, pass}
+use Rattle.rx_scenario.specs.Scenario.{flat, switch, until, sub, Command, action_of, list_of, step_of}
 use Rattle.rx_agenda.specs.Names.{key_of}
 use Rattle.rx_agenda.specs.Shown.{number_binding, agenda_of, size_of, size_left}
 use Rattle.rx_report.specs.declared.tallies.Tallies.{Tallies}

@@ -15,7 +15,8 @@ use Rattle.rx_script.specs.Course.{Course, HasNoFull, IsCourseOf}
 
 -- all lines but the last
 unfoldable pub unclosed_report : List Answer → Stage → List ℕ
-unclosed_report answers s = refused_lines answers ++ node_lines s.history s.nodes ++ res_lines s.history s.resources ++ totals_line (totals_of nothing_kept s.history)
+unclosed_report answers s =
+    refused_lines answers ++ node_lines s.history s.nodes ++ res_lines s.history s.resources ++ totals_line (totals_of nothing_kept s.history)
 
 -- the text, where so many releases of the whole run met a fault. What is held or waits after the last step is released then
 unfoldable pub report : Course → ℕ → List ℕ

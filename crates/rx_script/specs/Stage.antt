@@ -1,5 +1,6 @@
 -- Where a scenario is while it runs.
-use Rattle.std.specs.Prelude.{ℕ, ◌+◌, Bool, true, false, ◌||◌, Option, Some, None, List, [], ◌∷◌, length, drop, slice_get, option_map, option_and_then, if◌then◌else◌}
+use Rattle.std.specs.Prelude.{ℕ, ◌+◌, Bool, true, false, ◌||◌, Option, Some, None, List, [], ◌∷◌}
+use Rattle.std.specs.Prelude.{length, drop, slice_get, option_map, option_and_then, if◌then◌else◌}
 use Rattle.std.specs.Str.{bytes_eq}
 use Rattle.std.specs.Option.{option_map_or}
 use Rattle.rx_event.specs.declared.event.Place.{Place}
@@ -7,14 +8,17 @@ use Rattle.rx_event.specs.declared.event.Place.TheVariants.{Root, Source, Inner,
 use Rattle.rx_event.specs.declared.event.Kind.{Kind}
 use Rattle.rx_event.specs.declared.event.Kind.TheVariants.{Leaf, Pass, Flat, Switch, Until, Sub}
 use Rattle.rx_event.specs.declared.event.Event.{Event}
-use Rattle.rx_event.specs.Calls.{Call, Opening, OpeningUsing, Holding, Applying, Removing, Leasing, GivingBack, Emitting, Ending, Aborting, Declining, Failing, Disposing, Publishing, Connecting, Disconnecting}
+use Rattle.rx_event.specs.Calls.{Call, Opening, OpeningUsing, Holding, Applying, Removing, Leasing, GivingBack}
+use Rattle.rx_event.specs.Calls.{Emitting, Ending, Aborting, Declining, Failing, Disposing, Publishing, Connecting, Disconnecting}
 use Rattle.rx_resource.specs.declared.Resource.{Ghosts}
 use Rattle.rx_book.specs.Requests.{is_fresh_in}
 use Rattle.rx_book.specs.Answers.{connection_made}
 use Rattle.rx_agenda.specs.declared.answer.Cause.{Cause}
 use Rattle.rx_agenda.specs.declared.answer.Cause.TheVariants.{NoName, NameTaken, NoStock}
 use Rattle.rx_agenda.specs.Bindings.{Binding, bound, is_unbound, is_bound, with_binding}
-use Rattle.rx_scenario.specs.Scenario.{Name, Site, root, source, inner, notifier, Sort, leaf, pass, flat, switch, until, sub, Command, using, open_node, hold, apply, remove, lease, give_back, next, end, abort, decline, fail, dispose, make_hub, connect, disconnect, drain, checkpoint}
+use Rattle.rx_scenario.specs.Scenario.{Name, Site, root, source, inner, notifier, Sort, leaf, pass, flat, switch}
+use Rattle.rx_scenario.specs.Scenario.{until, sub, Command, using, open_node, hold, apply, remove, lease, give_back}
+use Rattle.rx_scenario.specs.Scenario.{next, end, abort, decline, fail, dispose, make_hub, connect, disconnect, drain, checkpoint}
 
 -- a resource of the stock: its tag, and whether a book would take it
 pub record Ware : Type 0 where
@@ -189,8 +193,14 @@ with_connection bindings _ _ = bindings
 -- resource by the place of its acceptance, and a lease by the place where it was given out. The connection of a subscriber's hub is
 -- named where the history has made one. A checkpoint comes after all events so far
 abbrev pub after : Stage → Command → List Event → Stage
-after s (using name site res) k = record s { history = k; nodes = with_binding s.nodes name (length s.history); resources = with_binding s.resources res (length s.history + 1); stock = drop 1 s.stock }
-after s (open_node name site sort) k = record s { history = k; nodes = with_connection (with_binding s.nodes name (length s.history)) (connection_name sort) (connection_made s.history k) }
+after s (using name site res) k = record s {
+  history = k;
+  nodes = with_binding s.nodes name (length s.history);
+  resources = with_binding s.resources res (length s.history + 1);
+  stock = drop 1 s.stock;
+}
+after s (open_node name site sort) k =
+    record s { history = k; nodes = with_connection (with_binding s.nodes name (length s.history)) (connection_name sort) (connection_made s.history k) }
 after s (hold node res) k = record s { history = k; resources = with_binding s.resources res (length s.history); stock = drop 1 s.stock }
 after s (apply res word) k = record s { history = k }
 after s (remove res) k = record s { history = k }

@@ -4,7 +4,9 @@ ghost use Rattle.std.specs.Prelude.{◌≡◌, ◌≢◌, ◌≤◌, [], map, st
 ghost use Rattle.rx_event.specs.declared.refusal.Refusal.{Refusal};
 ghost use Rattle.rx_agenda.specs.declared.answer.Answer.{Answer};
 ghost use Rattle.rx_agenda.specs.declared.answer.Cause.{Cause};
-ghost use Rattle.rx_scenario.specs.Scenario.{site_of, using, hold as holding, apply as applying, remove as removing, lease as leasing, give_back as giving_back, next as emitting, end as ending, abort as aborting, decline as declining, fail as failing, dispose as disposing, drain as draining, checkpoint as checkpointing};
+ghost use Rattle.rx_scenario.specs.Scenario.{site_of, using, hold as holding, apply as applying, remove as removing, lease as leasing};
+ghost use Rattle.rx_scenario.specs.Scenario.{give_back as giving_back, next as emitting, end as ending, abort as aborting};
+ghost use Rattle.rx_scenario.specs.Scenario.{decline as declining, fail as failing, dispose as disposing, drain as draining, checkpoint as checkpointing};
 ghost use Rattle.rx_script.specs.Stage.{start, ware_of};
 ghost use Rattle.rx_script.specs.Engine.{at_of, stage_of, IsHistoryOf, IsSound, Carries};
 

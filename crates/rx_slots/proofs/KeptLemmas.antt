@@ -1,5 +1,6 @@
 -- What the table of slots shows of the slab underneath.
-use Rattle.std.proofs.Common.{List, ◌≡◌, ◌⊎◌, ℕ, ◌+◌, ◌-◌, ◌<◌, max, ◌++◌, length, get_or, set, replicate, Option, Some, None, is_some, IsSome, count_by, cond, option_map, refl, sym, ap, ◌∙◌, inl, inr, arith, zero-add, true≢false}
+use Rattle.std.proofs.Common.{List, ◌≡◌, ◌⊎◌, ℕ, ◌+◌, ◌-◌, ◌<◌, max, ◌++◌, length, get_or, set, replicate, Option, Some, None, is_some}
+use Rattle.std.proofs.Common.{IsSome, count_by, cond, option_map, refl, sym, ap, ◌∙◌, inl, inr, arith, zero-add, true≢false}
 use Rattle.std.proofs.lemmas.Bool.{cases_eq, cases_lt}
 use Rattle.std.proofs.lemmas.List.{get_or_past, get_or-set_same, get_or-set_other, length-set, length-append, length-replicate}
 use Rattle.std.proofs.lemmas.List.FromFn.{length-map-range_with_len, get_or-map-range_with_len, fill_by_all}
@@ -39,28 +40,37 @@ module _ {T : Type 0} where
       sum_by-same_reads (λ at. cond (is_some at) 1 0) refl (table cells n) cells.slots (λ slot. get_or-table cells n slot kept)
 
   -- what an update of the slab below the count of slots does to the table
-  pub table-update : (old new : Slab (Entry T)) (n slot : ℕ) (entry : Option (Entry T)) → IsKept old n → Updates old new slot entry → slot < n → table new n ≡ set (table old n) slot entry
+  pub table-update : (old new : Slab (Entry T)) (n slot : ℕ) (entry : Option (Entry T)) → IsKept old n → Updates old new slot entry → slot < n →
+      table new n ≡ set (table old n) slot entry
   table-update old new n slot entry kept updates within =
-      sym (fill_by_all (get new) (set (table old n) slot entry) n None (length-set (table old n) slot entry ∙ length-table old n) (λ k below. elim (cases_eq k slot) [
+      sym (fill_by_all (get new) (set (table old n) slot entry) n None (length-set (table old n) slot entry ∙ length-table old n)
+      (λ k below. elim (cases_eq k slot) [
         | inl same ↦ rw same (get_or-set_same (table old n) slot entry None (omega (arith, length-table old n)) ∙ sym updates.changed)
         | inr differs ↦ get_or-set_other (table old n) slot k entry None differs ∙ get_or-table old n k kept ∙ sym (updates.others k differs)
       ]))
 
   -- what a new value in the slab does to the table
-  pub table-placed : (old new : Slab (Entry T)) (n slot : ℕ) (e : Entry T) → IsKept old n → Updates old new slot (Some e) → table new (max n (slot + 1)) ≡ placed (table old n) slot e
+  pub table-placed : (old new : Slab (Entry T)) (n slot : ℕ) (e : Entry T) → IsKept old n → Updates old new slot (Some e) →
+      table new (max n (slot + 1)) ≡ placed (table old n) slot e
   table-placed old new n slot e kept updates =
       let entries = table old n in
       let more = slot + 1 - length entries in
       let none : Option (Entry T) = None in
       let longer = entries ++ replicate more none in
-      let count : length longer ≡ max n (slot + 1) = omega (arith, length-table old n, length-append entries (replicate more none), length-replicate more none) in
-      sym (fill_by_all (get new) (set longer slot (Some e)) (max n (slot + 1)) None (length-set longer slot (Some e) ∙ count) (λ k below. elim (cases_eq k slot) [
+      let count : length longer ≡ max n (slot + 1) =
+      omega (arith, length-table old n, length-append entries (replicate more none), length-replicate more none) in
+      sym (fill_by_all (get new) (set longer slot (Some e)) (max n (slot + 1)) None (length-set longer slot (Some e) ∙ count)
+      (λ k below. elim (cases_eq k slot) [
         | inl same ↦ rw same (get_or-set_same longer slot (Some e) None (omega arith) ∙ sym updates.changed)
-        | inr differs ↦ get_or-set_other longer slot k (Some e) None differs ∙ get_or-append-nothing entries more k ∙ get_or-table old n k kept ∙ sym (updates.others k differs)
+        | inr differs ↦ get_or-set_other longer slot k (Some e) None differs ∙
+            get_or-append-nothing entries more k ∙
+            get_or-table old n k kept ∙
+            sym (updates.others k differs)
       ]))
 
   -- a key that finds a value has its number beside it in the slab
-  pub stored_entry : (cells : Slab (Entry T)) (n : ℕ) (key : Key) → IsKept cells n → IsSome (find (shown cells n) key) → (e : Entry T) × (get cells key.slot ≡ Some e) × (e.number ≡ key.number)
+  pub stored_entry : (cells : Slab (Entry T)) (n : ℕ) (key : Key) → IsKept cells n → IsSome (find (shown cells n) key) →
+      (e : Entry T) × (get cells key.slot ≡ Some e) × (e.number ≡ key.number)
   stored_entry cells n key kept found =
       let at = numbered_entry key.number (get_or (table cells n) key.slot None) found in
       (at.0, sym (get_or-table cells n key.slot kept) ∙ at.1, at.2)
@@ -75,12 +85,14 @@ module _ {T : Type 0} where
       omega (arith, below, slots, values)
 
   -- an update after the slab grew is one of the slab as it was before
-  pub Updates-grown : (old grown new : Slab (Entry T)) (slot : ℕ) (entry : Option (Entry T)) → grown ≡ record old { capacity = grown.capacity } → Updates grown new slot entry → Updates old new slot entry
+  pub Updates-grown : (old grown new : Slab (Entry T)) (slot : ℕ) (entry : Option (Entry T)) → grown ≡ record old { capacity = grown.capacity } →
+      Updates grown new slot entry → Updates old new slot entry
   Updates-grown old grown new slot entry same updates =
       record { changed = updates.changed; others = λ other differs. updates.others other differs ∙ ap (λ s. get s other) same }
 
   -- the entry that the slab has where a key finds a value has the key's number
-  pub stored_number : (cells : Slab (Entry T)) (n : ℕ) (key : Key) (e : Entry T) → IsKept cells n → IsSome (find (shown cells n) key) → get cells key.slot ≡ Some e → e.number ≡ key.number
+  pub stored_number : (cells : Slab (Entry T)) (n : ℕ) (key : Key) (e : Entry T) → IsKept cells n → IsSome (find (shown cells n) key) →
+      get cells key.slot ≡ Some e → e.number ≡ key.number
   stored_number cells n key e kept found read =
       let at = stored_entry cells n key kept found in
       let here = at.1 in
@@ -88,19 +100,23 @@ module _ {T : Type 0} where
       ap (λ x. x.number) same ∙ at.2
 
   -- and its value is what the key finds
-  pub find-stored : (cells : Slab (Entry T)) (n : ℕ) (key : Key) (e : Entry T) → IsKept cells n → IsSome (find (shown cells n) key) → get cells key.slot ≡ Some e → find (shown cells n) key ≡ Some e.value
+  pub find-stored : (cells : Slab (Entry T)) (n : ℕ) (key : Key) (e : Entry T) → IsKept cells n → IsSome (find (shown cells n) key) →
+      get cells key.slot ≡ Some e → find (shown cells n) key ≡ Some e.value
   find-stored cells n key e kept found read =
       ap (with_number key.number) (get_or-table cells n key.slot kept ∙ read)
       ∙ with_number-same key.number e (stored_number cells n key e kept found read)
 
   -- a write through a reference into the slab changes the table at that slot alone
-  pub table-with_value : (cells : Slab (Entry T)) (n slot : ℕ) (old new : Entry T) → IsKept cells n → get cells slot ≡ Some old → table (with_value cells slot new) n ≡ set (table cells n) slot (Some new)
+  pub table-with_value : (cells : Slab (Entry T)) (n slot : ℕ) (old new : Entry T) → IsKept cells n → get cells slot ≡ Some old →
+      table (with_value cells slot new) n ≡ set (table cells n) slot (Some new)
   table-with_value cells n slot old new kept found =
       let present = ap is_some found in
-      table-update cells (with_value cells slot new) n slot (Some new) kept (Updates-with_value cells slot new present) (IsKept-within cells n slot kept present)
+      table-update cells (with_value cells slot new) n slot (Some new) kept (Updates-with_value cells slot new present)
+      (IsKept-within cells n slot kept present)
 
   -- and no count
-  pub slab_len-with_value : (cells : Slab (Entry T)) (slot : ℕ) (old new : Entry T) → get cells slot ≡ Some old → slab_len (with_value cells slot new) ≡ slab_len cells
+  pub slab_len-with_value : (cells : Slab (Entry T)) (slot : ℕ) (old new : Entry T) → get cells slot ≡ Some old →
+      slab_len (with_value cells slot new) ≡ slab_len cells
   slab_len-with_value cells slot old new found =
       let counts : Option (Entry T) → ℕ = λ at. cond (is_some at) 1 0 in
       let read = ap counts found in
@@ -111,17 +127,20 @@ module _ {T : Type 0} where
   entry_at-stored cells n slot e kept read = get_or-table cells n slot kept ∙ read
 
   -- what a contract sees of a write at a slot
-  pub shown-with_value_at : (cells : Slab (Entry T)) (n slot : ℕ) (e : Entry T) (value : T) → IsKept cells n → get cells slot ≡ Some e → shown (with_value cells slot (record e { value = value })) n ≡ with_value_at (shown cells n) slot value
+  pub shown-with_value_at : (cells : Slab (Entry T)) (n slot : ℕ) (e : Entry T) (value : T) → IsKept cells n → get cells slot ≡ Some e →
+      shown (with_value cells slot (record e { value = value })) n ≡ with_value_at (shown cells n) slot value
   shown-with_value_at cells n slot e value kept read =
       let new : Entry T = record e { value = value } in
       let entries = table-with_value cells n slot e new kept read in
       let count = slab_len-with_value cells slot e new read in
-      let rest : Option (Entry T) → List (Option (Entry T)) = λ at. set (table cells n) slot (option_map (λ number. entry_of number value) (option_map (λ x. x.number) at)) in
+      let rest : Option (Entry T) → List (Option (Entry T)) =
+      λ at. set (table cells n) slot (option_map (λ number. entry_of number value) (option_map (λ x. x.number) at)) in
       let written = entries ∙ ap rest (sym (entry_at-stored cells n slot e kept read)) in
       λ i. record { entries = written i; next_slot = cells.vacant_key; count = count i; room = cells.capacity - count i }
 
   -- and of one at a key
-  pub shown-with_value : (cells : Slab (Entry T)) (n : ℕ) (key : Key) (e : Entry T) (value : T) → IsKept cells n → get cells key.slot ≡ Some e → e.number ≡ key.number → shown (with_value cells key.slot (record e { value = value })) n ≡ written_at (shown cells n) key value
+  pub shown-with_value : (cells : Slab (Entry T)) (n : ℕ) (key : Key) (e : Entry T) (value : T) → IsKept cells n → get cells key.slot ≡ Some e →
+      e.number ≡ key.number → shown (with_value cells key.slot (record e { value = value })) n ≡ written_at (shown cells n) key value
   shown-with_value cells n key e value kept read number =
       let new : Entry T = record e { value = value } in
       let entries = table-with_value cells n key.slot e new kept read in

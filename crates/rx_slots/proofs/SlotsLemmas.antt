@@ -1,5 +1,6 @@
 -- Lemmas on what a contract sees of `Slots`, for this crate and its callers.
-use Rattle.std.proofs.Common.{◌≡◌, ◌≢◌, ℕ, zero, suc, ◌+◌, ◌-◌, ◌<◌, List, [], ◌∷◌, ◌++◌, length, get_or, set, replicate, Option, Some, None, is_some, IsSome, refl, sym, ap, ◌∙◌, inl, inr, arith, true≢false}
+use Rattle.std.proofs.Common.{◌≡◌, ◌≢◌, ℕ, zero, suc, ◌+◌, ◌-◌, ◌<◌, List, [], ◌∷◌, ◌++◌, length, get_or, set, replicate}
+use Rattle.std.proofs.Common.{Option, Some, None, is_some, IsSome, refl, sym, ap, ◌∙◌, inl, inr, arith, true≢false}
 use Rattle.std.specs.List.{sum_by}
 use Rattle.std.proofs.lemmas.Bool.{cases_eq, cases_lt}
 use Rattle.std.proofs.lemmas.List.Sums.{sum_by-cons}
@@ -18,7 +19,8 @@ get_or-append-nothing (x ∷ xs) more zero = refl
 get_or-append-nothing (x ∷ xs) more (suc k) = get_or-append-nothing xs more k
 
 -- a sum to which nothing adds nothing is told by the look-ups alone
-pub sum_by-same_reads : {X : Type 0} (f : Option X → ℕ) → f None ≡ 0 → (xs ys : List (Option X)) → ((k : ℕ) → get_or xs k None ≡ get_or ys k None) → sum_by f xs ≡ sum_by f ys
+pub sum_by-same_reads : {X : Type 0} (f : Option X → ℕ) → f None ≡ 0 → (xs ys : List (Option X)) → ((k : ℕ) → get_or xs k None ≡ get_or ys k None) →
+    sum_by f xs ≡ sum_by f ys
 sum_by-same_reads f nothing [] [] same = refl
 sum_by-same_reads f nothing [] (y ∷ ys) same =
     let head : f y ≡ 0 = ap f (sym (same 0)) ∙ nothing in
@@ -34,7 +36,8 @@ same_key : (a b : Key) → a.slot ≡ b.slot → a.number ≡ b.number → a ≡
 same_key a b slot number = λ i. record { slot = slot i; number = number i }
 
 module _ {T : Type 0} where
-  pub length-placed : (entries : List (Option (Entry T))) (slot : ℕ) (e : Entry T) → length (placed entries slot e) ≡ length entries + (slot + 1 - length entries)
+  pub length-placed : (entries : List (Option (Entry T))) (slot : ℕ) (e : Entry T) →
+      length (placed entries slot e) ≡ length entries + (slot + 1 - length entries)
   length-placed entries slot e =
       let more = slot + 1 - length entries in
       let nothing : Option (Entry T) = None in
@@ -49,7 +52,8 @@ module _ {T : Type 0} where
       ]
 
   -- a write of one slot changes that slot alone
-  pub Changes-set : (old new : Slots T) (slot : ℕ) (entry : Option (Entry T)) → slot < slot_count old → new.entries ≡ set old.entries slot entry → Changes old new slot entry
+  pub Changes-set : (old new : Slots T) (slot : ℕ) (entry : Option (Entry T)) → slot < slot_count old → new.entries ≡ set old.entries slot entry →
+      Changes old new slot entry
   Changes-set old new slot entry within written =
       record {
         changed = rw written (get_or-set_same old.entries slot entry None within);
@@ -69,7 +73,9 @@ module _ {T : Type 0} where
       }
 
   -- where another key finds what it found before, if its slot kept it or found nothing for other numbers
-  KeepsOthers-at : (old new : Slots T) (key : Key) → ((number : ℕ) → key.number ≢ number → with_number number (entry_at new key.slot) ≡ with_number number (entry_at old key.slot)) → ((slot : ℕ) → slot ≢ key.slot → entry_at new slot ≡ entry_at old slot) → KeepsOthers old new key
+  KeepsOthers-at : (old new : Slots T) (key : Key) →
+      ((number : ℕ) → key.number ≢ number → with_number number (entry_at new key.slot) ≡ with_number number (entry_at old key.slot)) →
+      ((slot : ℕ) → slot ≢ key.slot → entry_at new slot ≡ entry_at old slot) → KeepsOthers old new key
   KeepsOthers-at old new key here elsewhere other differs =
       elim (cases_eq other.slot key.slot) [
         | inl same ↦ rw same (here other.number (λ q. differs (same_key other key same (sym q))))
@@ -77,7 +83,8 @@ module _ {T : Type 0} where
       ]
 
   -- a value put at a free slot leaves what each other key finds
-  pub KeepsOthers-insert : (old new : Slots T) (key : Key) (value : T) → entry_at old key.slot ≡ None → Changes old new key.slot (Some (record { number = key.number; value = value })) → KeepsOthers old new key
+  pub KeepsOthers-insert : (old new : Slots T) (key : Key) (value : T) → entry_at old key.slot ≡ None →
+      Changes old new key.slot (Some (record { number = key.number; value = value })) → KeepsOthers old new key
   KeepsOthers-insert old new key value free changes =
       KeepsOthers-at old new key (λ number apart. rw (changes.changed, free) (with_number-other number _ apart)) changes.others
 

@@ -1,6 +1,7 @@
 -- What a contract sees of `Slots`: a finite map from slots to values with their numbers.
 -- A key is a slot and a number. It finds the value of its slot where that has its number.
-use Rattle.std.specs.Prelude.{◌≡◌, ◌≢◌, ℕ, ◌+◌, ◌-◌, ◌<◌, ◌==◌, cond, List, ◌++◌, length, replicate, Option, Some, None, IsSome, option_map, slice_index_or, slice_set, refl}
+use Rattle.std.specs.Prelude.{◌≡◌, ◌≢◌, ℕ, ◌+◌, ◌-◌, ◌<◌, ◌==◌, cond, List, ◌++◌, length, replicate, Option}
+use Rattle.std.specs.Prelude.{Some, None, IsSome, option_map, slice_index_or, slice_set, refl}
 use Rattle.std.specs.Coded.{Coded, code_by, coded×, coded_ℕ, coded_list, coded_option}
 use Rattle.rx_slots.specs.declared.Entry.{Entry}
 use Rattle.rx_slots.specs.declared.Key.{Key}

@@ -1,5 +1,6 @@
 -- The document of a drawing is well formed, whatever the drawing and the verdict are.
-use Rattle.std.proofs.Common.{◌≡◌, ℕ, ◌+◌, ◌-◌, true, List, [], ◌∷◌, ◌++◌, map, codes, flat_map, length, take, drop, refl, sym, ap, subst, ◌∙◌, append_assoc, append-nil}
+use Rattle.std.proofs.Common.{◌≡◌, ℕ, ◌+◌, ◌-◌, true, List, [], ◌∷◌, ◌++◌, map, codes, flat_map}
+use Rattle.std.proofs.Common.{length, take, drop, refl, sym, ap, subst, ◌∙◌, append_assoc, append-nil}
 use Rattle.std.proofs.lemmas.Bool.{and_from}
 use Rattle.rx_audit.specs.declared.verdict.Verdict.{Verdict}
 use Rattle.rx_audit.specs.declared.verdict.Verdict.TheVariants.{Lawful, Unlawful, Unsettled}
@@ -7,11 +8,13 @@ use Rattle.rx_picture.specs.declared.points.Point.{Point}
 use Rattle.rx_picture.specs.declared.drawing.Drawing.{Drawing}
 use Rattle.rx_svg.specs.Parts.{Part, words, number, text_of}
 use Rattle.rx_svg.specs.Lane.{x_of, row_text, tick_text, told_text}
-use Rattle.rx_svg.specs.Page.{lanes_shown, places_shown, height_of, style_text, head_text, point_text, below_text, listed_text, list_text, untaken_text, lawful_text, unlawful_text, unsettled_text, verdict_text, break_text, shares_text, under_text, lanes_text, svg_text}
+use Rattle.rx_svg.specs.Page.{lanes_shown, places_shown, height_of, style_text, head_text, point_text, below_text, listed_text, list_text}
+use Rattle.rx_svg.specs.Page.{untaken_text, lawful_text, unlawful_text, unsettled_text, verdict_text, break_text, shares_text, under_text, lanes_text, svg_text}
 use Rattle.rx_svg.specs.WellFormed.{is_plain, IsContent, nothing, IsWellFormed}
 use Rattle.rx_svg.proofs.Characters.{plain_append, plain_flat_map}
 use Rattle.rx_svg.proofs.Contents.{content_append, contents}
-use Rattle.rx_svg.proofs.Markup.{Valued, text_from, text_from-append, attribute_of, element_parts, element_reads, tag_of, element_then, words_then, content_then, parts_are_plain, plain_parts, newline}
+use Rattle.rx_svg.proofs.Markup.{Valued, text_from, text_from-append, attribute_of, element_parts, element_reads}
+use Rattle.rx_svg.proofs.Markup.{tag_of, element_then, words_then, content_then, parts_are_plain, plain_parts, newline}
 use Rattle.rx_svg.proofs.Elements.{valued, text_content, between, broken_is_content, column_is_content}
 use Rattle.rx_svg.proofs.Rows.{row_is_content, tick_is_content, told_is_content}
 
@@ -123,7 +126,8 @@ style_is_content =
 abbrev svg_attributes : ℕ → ℕ → List Valued
 svg_attributes width height =
     valued (codes "xmlns") (words (codes "http://www.w3.org/2000/svg") ∷ []) ∷ valued (codes "width") (number width ∷ [])
-    ∷ valued (codes "height") (number height ∷ []) ∷ valued (codes "viewBox") (words (codes "0 0 ") ∷ number width ∷ words (codes " ") ∷ number height ∷ []) ∷ []
+    ∷ valued (codes "height") (number height ∷ []) ∷ valued (codes "viewBox")
+    (words (codes "0 0 ") ∷ number width ∷ words (codes " ") ∷ number height ∷ []) ∷ []
 
 abbrev svg_inside : List ℕ → List ℕ → List Part
 svg_inside lanes under = words (codes "\n") ∷ words style_text ∷ words lanes ∷ words under ∷ []

@@ -9,11 +9,13 @@ use Rattle.rx_event.specs.declared.event.Event.{Event}
 use Rattle.rx_svg.specs.Parts.{Part, words, number, signed, text_of}
 use Rattle.rx_svg.specs.Label.{event_text}
 use Rattle.rx_svg.specs.Said.{note_text}
-use Rattle.rx_svg.specs.Stroke.{until_text, stretch_end, line_front, line_text, bar_front, bar_text, mark_text, code_text, leak_text, marble_shape, above_text, value_text, marble_front, by_text, marble_text, column_front, axis_text, column_text, broken_text}
+use Rattle.rx_svg.specs.Stroke.{until_text, stretch_end, line_front, line_text, bar_front, bar_text, mark_text, code_text, leak_text}
+use Rattle.rx_svg.specs.Stroke.{marble_shape, above_text, value_text, marble_front, by_text, marble_text, column_front, axis_text, column_text, broken_text}
 use Rattle.rx_svg.specs.WellFormed.{is_plain, are_distinct, IsContent, nothing}
 use Rattle.rx_svg.proofs.Characters.{both_are_plain, event_is_plain, note_is_plain}
 use Rattle.rx_svg.proofs.Contents.{content_append}
-use Rattle.rx_svg.proofs.Markup.{Valued, text_from, text_from-append, are_plain, attribute_of, is_valued, element_parts, tag_of, element_then, words_then, parts_are_plain, plain_parts, newline}
+use Rattle.rx_svg.proofs.Markup.{Valued, text_from, text_from-append, are_plain, attribute_of, is_valued}
+use Rattle.rx_svg.proofs.Markup.{element_parts, tag_of, element_then, words_then, parts_are_plain, plain_parts, newline}
 
 abbrev pub valued : List ℕ → List Part → Valued
 valued name value = record { name = name; value = value }

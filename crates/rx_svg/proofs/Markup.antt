@@ -4,7 +4,8 @@ use Rattle.std.specs.List.{list_all}
 use Rattle.std.proofs.lemmas.Bool.{and_from, and_parts}
 use Rattle.std.proofs.lemmas.List.Concat.{flat_map-append}
 use Rattle.rx_svg.specs.Parts.{Part, words, number, signed, part_text}
-use Rattle.rx_svg.specs.WellFormed.{Attribute, IsTag, IsContent, nothing, text_first, element_first, is_plain, is_name, is_attribute, are_distinct, attribute_text, element_text}
+use Rattle.rx_svg.specs.WellFormed.{Attribute, IsTag, IsContent, nothing, text_first, element_first}
+use Rattle.rx_svg.specs.WellFormed.{is_plain, is_name, is_attribute, are_distinct, attribute_text, element_text}
 use Rattle.rx_svg.proofs.Characters.{plain_append, decimal_is_plain, signed_is_plain}
 use Rattle.rx_svg.proofs.Contents.{content_append}
 

@@ -17,11 +17,13 @@ use Rattle.rx_picture.specs.Rows.{lane_of}
 use Rattle.rx_svg.specs.Parts.{Part, words, number, text_of}
 use Rattle.rx_svg.specs.Label.{event_text}
 use Rattle.rx_svg.specs.Stroke.{mark_text, code_text, line_text, leak_text, bar_text, bar_shape, cross_shape, ring_shape, diamond_shape, tick_shape}
-use Rattle.rx_svg.specs.Lane.{x_of, y_of, has_lane, steps_of, label_front, label_text, ending_text, life_text, stretch_text, owned_text, loan_text, wait_text, release_text, shape_text, name_text, row_text, use_text, tick_text, told_text}
+use Rattle.rx_svg.specs.Lane.{x_of, y_of, has_lane, steps_of, label_front, label_text, ending_text, life_text, stretch_text}
+use Rattle.rx_svg.specs.Lane.{owned_text, loan_text, wait_text, release_text, shape_text, name_text, row_text, use_text, tick_text, told_text}
 use Rattle.rx_svg.specs.WellFormed.{is_plain, IsContent, nothing}
 use Rattle.rx_svg.proofs.Characters.{event_is_plain}
 use Rattle.rx_svg.proofs.Contents.{content_append, content_if}
-use Rattle.rx_svg.proofs.Elements.{valued, text_content, between, line_is_content, bar_is_content, mark_is_content, code_is_content, leak_is_content, marble_is_content}
+use Rattle.rx_svg.proofs.Elements.{valued, text_content, between, line_is_content, bar_is_content}
+use Rattle.rx_svg.proofs.Elements.{mark_is_content, code_is_content, leak_is_content, marble_is_content}
 
 label_is_content : (x y n : ℕ) (made : Event) → IsContent (label_text x y n made)
 unfolding label_text label_front text_of
@@ -61,10 +63,12 @@ stretch_is_content d class title above height y after until end c t a h =
     (bar_is_content class title above height (x_of d after) (x_of d until) y after until end c t a h) nothing
 
 owned_is_content : (d : Drawing) (y after until end : ℕ) → IsContent (owned_text d y after until end)
-owned_is_content d y after until end = stretch_is_content d (codes "held") (codes "held by its node") (codes "5") (codes "10") y after until end refl refl refl refl
+owned_is_content d y after until end =
+    stretch_is_content d (codes "held") (codes "held by its node") (codes "5") (codes "10") y after until end refl refl refl refl
 
 loan_is_content : (d : Drawing) (y after until end : ℕ) → IsContent (loan_text d y after until end)
-loan_is_content d y after until end = stretch_is_content d (codes "held") (codes "held by a lease") (codes "3") (codes "6") y after until end refl refl refl refl
+loan_is_content d y after until end =
+    stretch_is_content d (codes "held") (codes "held by a lease") (codes "3") (codes "6") y after until end refl refl refl refl
 
 wait_is_content : (d : Drawing) (y after until end : ℕ) → IsContent (wait_text d y after until end)
 wait_is_content d y after until end =

@@ -14,7 +14,8 @@ use Rattle.rx_picture.specs.declared.drawing.Drawing.{Drawing}
 use Rattle.rx_picture.specs.Rows.{lane_of}
 use Rattle.rx_svg.specs.Parts.{words, number, text_of}
 use Rattle.rx_svg.specs.Label.{event_text}
-use Rattle.rx_svg.specs.Stroke.{line_text, bar_text, mark_text, code_text, leak_text, marble_text, bar_shape, cross_shape, ring_shape, diamond_shape, tick_shape}
+use Rattle.rx_svg.specs.Stroke.{line_text, bar_text, mark_text, code_text, leak_text}
+use Rattle.rx_svg.specs.Stroke.{marble_text, bar_shape, cross_shape, ring_shape, diamond_shape, tick_shape}
 
 -- where things stand --------------------------------------------------------------------------------
 

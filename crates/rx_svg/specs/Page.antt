@@ -24,7 +24,14 @@ abbrev pub height_of : Drawing → ℕ → ℕ
 height_of d end = 32 + 24 * lanes_shown d end
 
 abbrev pub style_text : List ℕ
-style_text = codes "<style>text{font:12px monospace;fill:#222}.axis{font-size:8px;text-anchor:middle}.value{font-size:10px;text-anchor:middle}path{stroke:#222;stroke-width:2;fill:none}.place{stroke:#ddd;stroke-width:1;pointer-events:all}.hub{stroke-dasharray:2 4}.held,.leak{fill:#222}.waiting{fill:#fff;stroke-dasharray:3 3}.ring,.marble{fill:#fff}.tick{stroke:#fff}.broken{stroke-width:5;stroke-dasharray:9 5}@media(prefers-color-scheme:dark){svg{background:#111}text{fill:#eee}path{stroke:#eee}.place{stroke:#333}.held,.leak{fill:#eee}.waiting,.ring,.marble{fill:#111}.tick{stroke:#111}}</style>\n"
+style_text =
+    codes "<style>text{font:12px monospace;fill:#222}.axis{font-size:8px;text-anchor:middle}"
+    ++ codes ".value{font-size:10px;text-anchor:middle}path{stroke:#222;stroke-width:2;fill:none}"
+    ++ codes ".place{stroke:#ddd;stroke-width:1;pointer-events:all}.hub{stroke-dasharray:2 4}"
+    ++ codes ".held,.leak{fill:#222}.waiting{fill:#fff;stroke-dasharray:3 3}.ring,.marble{fill:#fff}"
+    ++ codes ".tick{stroke:#fff}.broken{stroke-width:5;stroke-dasharray:9 5}"
+    ++ codes "@media(prefers-color-scheme:dark){svg{background:#111}text{fill:#eee}path{stroke:#eee}"
+    ++ codes ".place{stroke:#333}.held,.leak{fill:#eee}.waiting,.ring,.marble{fill:#111}.tick{stroke:#111}}</style>\n"
 
 unfoldable pub head_text : ℕ → ℕ → List ℕ
 head_text width height =

@@ -2,7 +2,8 @@
 
 ghost use Rattle.std.specs.Prelude.{◌≡◌, ◌++◌, ◌≤◌, ◌*◌, string_bytes, OnOk, slice_index_or};
 ghost use Rattle.rx_picture.specs.Rows.{lane_of};
-ghost use Rattle.rx_svg.specs.Lane.{x_of, y_of, has_lane, steps_of, label_front, label_text, ending_text, life_text, stretch_text, owned_text, loan_text, wait_text, release_text, shape_text, name_text, row_text, use_text, tick_text, told_text};
+ghost use Rattle.rx_svg.specs.Lane.{x_of, y_of, has_lane, steps_of, label_front, label_text, ending_text, life_text, stretch_text};
+ghost use Rattle.rx_svg.specs.Lane.{owned_text, loan_text, wait_text, release_text, shape_text, name_text, row_text, use_text, tick_text, told_text};
 
 use crate::labels::push_event;
 use crate::pieces::{Piece, push_pieces};

@@ -1,7 +1,9 @@
 //! The elements of a picture, each written behind a text.
 
 ghost use Rattle.std.specs.Prelude.{◌≡◌, ◌++◌, string_bytes, OnOk};
-ghost use Rattle.rx_svg.specs.Stroke.{until_text, stretch_end, line_front, line_text, bar_front, bar_text, mark_text, code_text, leak_text, marble_shape, above_text, value_text, marble_front, by_text, marble_text, column_front, axis_text, column_text, broken_text};
+ghost use Rattle.rx_svg.specs.Stroke.{until_text, stretch_end, line_front, line_text, bar_front, bar_text};
+ghost use Rattle.rx_svg.specs.Stroke.{mark_text, code_text, leak_text, marble_shape, above_text, value_text};
+ghost use Rattle.rx_svg.specs.Stroke.{marble_front, by_text, marble_text, column_front, axis_text, column_text, broken_text};
 
 use crate::labels::{push_event, push_note};
 use crate::pieces::{Piece, push_pieces};

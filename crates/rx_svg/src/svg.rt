@@ -2,7 +2,8 @@
 
 ghost use Rattle.std.specs.Prelude.{◌≡◌, ◌+◌, ◌++◌, ◌≤◌, string_bytes, OnOk, IfOk, flat_map};
 ghost use Rattle.rx_svg.specs.Lane.{row_text, tick_text, told_text};
-ghost use Rattle.rx_svg.specs.Page.{lanes_shown, places_shown, head_text, point_text, below_text, listed_text, list_text, untaken_text, lawful_text, unlawful_text, unsettled_text, verdict_text, break_text, shares_text, under_text, lanes_text, svg_text, IsPicture};
+ghost use Rattle.rx_svg.specs.Page.{lanes_shown, places_shown, head_text, point_text, below_text, listed_text, list_text, untaken_text, lawful_text};
+ghost use Rattle.rx_svg.specs.Page.{unlawful_text, unsettled_text, verdict_text, break_text, shares_text, under_text, lanes_text, svg_text, IsPicture};
 
 use crate::lanes::{push_row, push_tick, push_told, value_at, x_of};
 use crate::pieces::{Piece, push_pieces};
@@ -14,7 +15,13 @@ use std::alloc::{AllocError, Global};
 
 /// How the marks look, on a bright page and on a dark one.
 const STYLE: &str =
-    "<style>text{font:12px monospace;fill:#222}.axis{font-size:8px;text-anchor:middle}.value{font-size:10px;text-anchor:middle}path{stroke:#222;stroke-width:2;fill:none}.place{stroke:#ddd;stroke-width:1;pointer-events:all}.hub{stroke-dasharray:2 4}.held,.leak{fill:#222}.waiting{fill:#fff;stroke-dasharray:3 3}.ring,.marble{fill:#fff}.tick{stroke:#fff}.broken{stroke-width:5;stroke-dasharray:9 5}@media(prefers-color-scheme:dark){svg{background:#111}text{fill:#eee}path{stroke:#eee}.place{stroke:#333}.held,.leak{fill:#eee}.waiting,.ring,.marble{fill:#111}.tick{stroke:#111}}</style>\n";
+    "<style>text{font:12px monospace;fill:#222}.axis{font-size:8px;text-anchor:middle}\
+    .value{font-size:10px;text-anchor:middle}path{stroke:#222;stroke-width:2;fill:none}\
+    .place{stroke:#ddd;stroke-width:1;pointer-events:all}.hub{stroke-dasharray:2 4}\
+    .held,.leak{fill:#222}.waiting{fill:#fff;stroke-dasharray:3 3}.ring,.marble{fill:#fff}\
+    .tick{stroke:#fff}.broken{stroke-width:5;stroke-dasharray:9 5}\
+    @media(prefers-color-scheme:dark){svg{background:#111}text{fill:#eee}path{stroke:#eee}\
+    .place{stroke:#333}.held,.leak{fill:#eee}.waiting,.ring,.marble{fill:#111}.tick{stroke:#111}}</style>\n";
 
 /// How many lanes are shown, of so many events.
 fn lanes_shown(drawing: &Drawing, end: u64) -> u64

@@ -9,5 +9,7 @@ use Rattle.rx_tree.specs.Store.{on_entry, project}
 
 module _ {X Y Z : Type 0} (f : X → Y) (keep : Entry Y → Z) where
   -- at all slots
-  pub list_kept : (s : Slots X) → filter_map (λ slot. option_map keep (entry_at (project f s) slot)) (range_with_len 0 (slot_count s)) ≡ kept_by keep (project f s)
-  list_kept s = ap (λ n. filter_map (λ slot. option_map keep (entry_at (project f s) slot)) (range_with_len 0 n)) (sym (length-map s.entries (option_map (on_entry f))))
+  pub list_kept : (s : Slots X) →
+      filter_map (λ slot. option_map keep (entry_at (project f s) slot)) (range_with_len 0 (slot_count s)) ≡ kept_by keep (project f s)
+  list_kept s =
+      ap (λ n. filter_map (λ slot. option_map keep (entry_at (project f s) slot)) (range_with_len 0 n)) (sym (length-map s.entries (option_map (on_entry f))))

@@ -8,6 +8,7 @@ pub mod WaitSteps
 pub mod CountLemmas
 pub mod CountSteps
 pub mod TieLemmas
+pub mod LinkWrites
 pub mod TieSteps
 pub mod Sound
 pub mod TieRecords

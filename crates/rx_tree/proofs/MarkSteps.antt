@@ -5,6 +5,7 @@ use Rattle.std.specs.Option.{option_map_or}
 use Rattle.std.proofs.Math.Bool.{not}
 use Rattle.std.proofs.lemmas.Bool.{false≢true, false_from_ne_true}
 use Rattle.rx_event.specs.declared.marks.Marks.{Marks}
+use Rattle.rx_event.specs.Marks.{terminal_due}
 use Rattle.rx_slots.specs.declared.Key.{Key}
 use Rattle.rx_slots.specs.declared.Entry.{Entry}
 use Rattle.rx_slots.specs.Slots.{Slots, entry_of, entry_at, find, key_at, Changes, KeepsOthers}
@@ -21,7 +22,7 @@ use Rattle.rx_tree.proofs.Laws.Links.{no_loop, first_among}
 use Rattle.rx_tree.proofs.Laws.Rings.{some_none}
 use Rattle.rx_tree.specs.Store.{key_on, nodes_of, resources_of, next_of, previous_of, KeepsLinks, Relinks, shown}
 use Rattle.rx_tree.specs.Ties.{home_of, IsTiedAt, IsTied}
-use Rattle.rx_tree.specs.Tree.{is_on, with_last, with_marks, first_of}
+use Rattle.rx_tree.specs.Tree.{is_on, is_due, with_last, with_due, with_marks, first_of}
 use Rattle.rx_tree.proofs.TieSteps.{tied_links, tied_noted, tied_unnoted}
 use Rattle.rx_tree.proofs.TieRecords.{tied_marked, by_entry, home_stands}
 use Rattle.rx_tree.proofs.Chain.{chain_is, retie, due_is, on_places, places_on, key_on_found}
@@ -76,20 +77,33 @@ module _ {T : Type 0} where
     chain_before : (shown s).chain ≡ map (key_on (nodes_of s)) (tied.rings Due)
     chain_before = chain_is s (nodes_of s) (resources_of s) refl tied
 
-    there : is_some (find (nodes_of s) key) ≡ true
-    there = ap is_some found
+    -- the chain is the one before
+    marked_same : (shown m).chain ≡ (shown s).chain
+    marked_same = chain_is m (nodes_of m) (resources_of s) refl marked ∙
+        map_same (key_on (nodes_of m)) (key_on (nodes_of s)) (tied.rings Due) same_keys ∙ sym chain_before
+
+    -- the node has to end by its new marks, or it has not
+    due_now : find (nodes_of m) key ≡ Some (with_marks marks node) → is_due (nodes_of m) key ≡ is_some (terminal_due node.made marks)
+    due_now now = ap (λ o. option_map_or (λ (x : Node). is_some (terminal_due x.made x.marks)) o false) now
+
+    -- where it has not, it is not put there
+    pub marked_undue : find (nodes_of m) key ≡ Some (with_marks marks node) → is_some (terminal_due node.made marks) ≡ false →
+        (shown m).chain ≡ with_due (nodes_of m) key (shown s).chain
+    marked_undue now undue = marked_same ∙ sym (ap (λ b. cond b (with_last key (shown s).chain) (shown s).chain) (due_now now ∙ undue))
 
     -- it was on the chain
-    pub marked_on : is_place (next_of m (Noted key.slot)) (Noted key.slot) ≡ false →
-        (shown m).chain ≡ cond (is_some (find (nodes_of s) key)) (with_last key (shown s).chain) (shown s).chain
-    marked_on other =
-        let among = on_chain (next_of m) (previous_of m) (nodes_of m) (resources_of s) marked key.slot other in
-        let on : is_on key (shown s).chain ≡ true =
-        ap (is_on key) chain_before ∙ subst (λ k. is_on k (map (key_on (nodes_of s)) (tied.rings Due)) ≡ true)
-        (key_on_found (nodes_of s) key node (Noted key.slot) refl found) (places_on (nodes_of s) (tied.rings Due) (Noted key.slot) among) in
-        chain_is m (nodes_of m) (resources_of s) refl marked ∙ map_same (key_on (nodes_of m)) (key_on (nodes_of s)) (tied.rings Due) same_keys ∙
-        sym chain_before ∙ sym (ap (λ b. cond b (with_last key (shown s).chain) (shown s).chain) there ∙
-        ap (λ b. cond b (shown s).chain ((shown s).chain ++ key ∷ [])) on)
+    pub marked_on : is_place (next_of m (Noted key.slot)) (Noted key.slot) ≡ false → (shown m).chain ≡ with_due (nodes_of m) key (shown s).chain
+    marked_on other = marked_same ∙ sym (by_test (is_due (nodes_of m) key)) where
+      among : is_among places (Noted key.slot) (tied.rings Due) ≡ true
+      among = on_chain (next_of m) (previous_of m) (nodes_of m) (resources_of s) marked key.slot other
+
+      on : is_on key (shown s).chain ≡ true
+      on = ap (is_on key) chain_before ∙ subst (λ k. is_on k (map (key_on (nodes_of s)) (tied.rings Due)) ≡ true)
+          (key_on_found (nodes_of s) key node (Noted key.slot) refl found) (places_on (nodes_of s) (tied.rings Due) (Noted key.slot) among)
+
+      by_test : (b : Bool) → cond b (with_last key (shown s).chain) (shown s).chain ≡ (shown s).chain
+      by_test true = ap (λ b. cond b (shown s).chain ((shown s).chain ++ key ∷ [])) on
+      by_test false = refl
 
     -- it was not, and is put there
     module _ (t : Store T) (off : is_place (next_of m (Noted key.slot)) (Noted key.slot) ≡ true)
@@ -104,8 +118,9 @@ module _ {T : Type 0} where
       pub joined_tied : IsTied t
       joined_tied = retie t (nodes_of m) (resources_of s) relinks.nodes (relinks.resources ∙ rest) joined
 
-      pub joined_chain : (shown t).chain ≡ cond (is_some (find (nodes_of s) key)) (with_last key (shown s).chain) (shown s).chain
-      joined_chain =
+      pub joined_chain : find (nodes_of m) key ≡ Some (with_marks marks node) → is_some (terminal_due node.made marks) ≡ true →
+          (shown t).chain ≡ with_due (nodes_of t) key (shown s).chain
+      joined_chain now due =
           let off_it : is_on key (shown s).chain ≡ false = false_from_ne_true (is_on key (shown s).chain)
           (λ on. let h = on_places (nodes_of s) (tied.rings Due) key (subst (λ c. is_on key c ≡ true) chain_before on) in let home =
           tied.ringed.members Due h.place h.among in let is : h.place ≡ Noted key.slot = due_is (nodes_of s) (resources_of s) tied.noted h.place home ∙
@@ -114,8 +129,9 @@ module _ {T : Type 0} where
           let last : key_on (nodes_of m) (Noted key.slot) ≡ key = same_keys (Noted key.slot) ∙ key_on_found (nodes_of s) key node (Noted key.slot) refl found in
           chain_is t (nodes_of m) (resources_of s) relinks.nodes joined ∙ map_append (key_on (nodes_of m)) (tied.rings Due) (Noted key.slot ∷ []) ∙
           (λ i. map_same (key_on (nodes_of m)) (key_on (nodes_of s)) (tied.rings Due) same_keys i ++ last i ∷ []) ∙
-          ap (λ c. c ++ key ∷ []) (sym chain_before) ∙ sym
-          (ap (λ b. cond b (with_last key (shown s).chain) (shown s).chain) there ∙ ap (λ b. cond b (shown s).chain ((shown s).chain ++ key ∷ [])) off_it)
+          ap (λ c. c ++ key ∷ []) (sym chain_before) ∙
+          sym (ap (λ b. cond b (shown s).chain ((shown s).chain ++ key ∷ [])) off_it) ∙
+          sym (ap (λ b. cond b (with_last key (shown s).chain) (shown s).chain) (ap (λ ns. is_due ns key) relinks.nodes ∙ due_now now ∙ due))
 
   -- the first of the chain
   module _ (s : Store T) (tied : IsTied s) where

@@ -1,13 +1,13 @@
 -- What a contract sees of a tree: the records of its open nodes and the resources that came to it, each at a slot
 -- and under its number, and the chain of what may be due. Slots are finite maps: a key, which is a slot and a
 -- number, finds its own value alone.
-use Rattle.std.specs.Prelude.{◌≡◌, ℕ, ◌<◌, ◌≤◌, Bool, ◌&&◌, ◌==◌, false, List, [], ◌∷◌, ◌++◌, Option, Some, None, IsSome, IfSome, IsTrue, option_map, cond}
+use Rattle.std.specs.Prelude.{◌≡◌, ℕ, ◌<◌, ◌≤◌, Bool, ◌&&◌, ◌==◌, false, List, [], ◌∷◌, ◌++◌, Option, Some, None, is_some, IsSome, IfSome, IsTrue, option_map, cond}
 use Rattle.std.specs.List.{list_any}
-use Rattle.std.specs.Option.{option_and_then}
+use Rattle.std.specs.Option.{option_and_then, option_map_or}
 use Rattle.rx_event.specs.declared.event.Event.{Event}
 use Rattle.rx_event.specs.declared.marks.Marks.{Marks}
 use Rattle.rx_event.specs.Events.{makes_node, parent_named, is_root}
-use Rattle.rx_event.specs.Marks.{blank_marks}
+use Rattle.rx_event.specs.Marks.{blank_marks, terminal_due}
 use Rattle.rx_event.specs.Tree.{if_less}
 use Rattle.rx_slots.specs.declared.Key.{Key}
 use Rattle.rx_slots.specs.Slots.{Slots, find, KeepsOthers}
@@ -86,6 +86,14 @@ is_on key chain = list_any (is_key key) chain
 -- with a key last, where it is not there
 abbrev pub with_last : Key → List Key → List Key
 with_last key chain = cond (is_on key chain) chain (chain ++ key ∷ [])
+
+-- the node that a key finds has to end, by its marks
+abbrev pub is_due : Slots Node → Key → Bool
+is_due nodes key = option_map_or (λ node. is_some (terminal_due node.made node.marks)) (find nodes key) false
+
+-- with a key last, where its node has to end and it is not there
+abbrev pub with_due : Slots Node → Key → List Key → List Key
+with_due nodes key chain = cond (is_due nodes key) (with_last key chain) chain
 
 -- the first of a list
 abbrev pub first_of : List Key → Option Key

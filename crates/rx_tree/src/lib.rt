@@ -4,7 +4,7 @@
 //! node. A [`Node`] has the event that made it, the key of the node above, and its marks, which are
 //! what a rule of its operator has to know of what happened below it. Resources stand in a store of
 //! their own, each under the number of its acceptance and with the key of its node: a [`ResKey`] names
-//! one. A node whose marks were set goes on a chain of what may be due.
+//! one. A node goes on a chain of what may be due where it is given marks by which it has to end.
 //!
 //! # Vocabulary
 //!

@@ -65,7 +65,7 @@ impl<R: Resource> Model for Tree<R> {
 
 impl<R: Resource> Tree<R> {
     ghost use Rattle.rx_tree.specs.Tree.{IsPromised, IsNewest, IsPast, IsPlaced, IsChild, IsRoot, IsFirst, HasNone};
-    ghost use Rattle.rx_tree.specs.Tree.{Rewrites, blank_node, parent_number, with_marks, with_last, first_of};
+    ghost use Rattle.rx_tree.specs.Tree.{Rewrites, blank_node, parent_number, with_marks, with_due, first_of};
     ghost use Rattle.rx_tree.specs.Below.{is_below};
     ghost use Rattle.rx_tree.specs.Closing.{IsSubtree, outside};
     ghost use Rattle.rx_tree.specs.Owed.{owed_in};
@@ -258,21 +258,22 @@ impl<R: Resource> Tree<R> {
         Ok(key)
     }
 
-    /// Gives the node these marks, and puts it last on the chain of what may be due where it is not
-    /// there. Nothing changes where the key finds none. It takes no memory.
+    /// Gives the node these marks, and puts it last on the chain of what may be due where by them it has
+    /// to end and it is not there. Nothing changes where the key finds none. It takes no memory.
     ///
     /// What all nodes owe is counted as a `u64`, which the caller keeps from its end.
     pub fn set_marks(&mut self, key: Key, marks: Marks)
         requires countable { owed_in self.old.nodes + marks.owed < 18446744073709551616 }
         ensures nodes { Rewrites self.old.nodes self.new.nodes key (with_marks marks) }
-        ensures chain { self.new.chain ≡ cond (is_some (find self.old.nodes key)) (with_last key self.old.chain)
-            self.old.chain }
+        ensures chain { self.new.chain ≡ with_due self.new.nodes key self.old.chain }
         ensures resources { self.new.resources ≡ self.old.resources }
     {
-        if let Some(_node) = self.store.node(key) {
+        if let Some(node) = self.store.node(key) {
             self.store.write_marks(key, marks);
-            if !self.store.is_noted(key.slot) {
-                self.store.join(Place::Due, Place::Noted(key.slot));
+            if marks.terminal_due(node.made).is_some() {
+                if !self.store.is_noted(key.slot) {
+                    self.store.join(Place::Due, Place::Noted(key.slot));
+                }
             }
         }
     }

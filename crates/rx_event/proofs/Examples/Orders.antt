@@ -55,21 +55,26 @@ long = halfway ++ End 4 Completed ∷ End 1 Completed ∷ []
 short_course : IsForcedOn nothing_kept ended short
 unfolding first_forced source_end is_open is_shut ancestors parent shown
 short_course =
-    more (more (more stays (due (none_connecting nothing_kept ended refl) connection_due)) (due (none_connecting nothing_kept (ended ++ End 3 Completed ∷ []) refl) source_due))
+    more (more (more stays (due (none_connecting nothing_kept ended refl) connection_due))
+    (due (none_connecting nothing_kept (ended ++ End 3 Completed ∷ []) refl) source_due))
     (due (none_connecting nothing_kept halfway refl) until_due)
 
 long_course : IsForcedOn nothing_kept ended long
 unfolding first_forced source_end is_open is_shut ancestors parent shown
 long_course =
-    more (more (more (more stays (due (none_connecting nothing_kept ended refl) connection_due)) (due (none_connecting nothing_kept (ended ++ End 3 Completed ∷ []) refl) source_due)) (due (none_connecting nothing_kept halfway refl) notifier_due))
+    more (more (more (more stays (due (none_connecting nothing_kept ended refl) connection_due))
+    (due (none_connecting nothing_kept (ended ++ End 3 Completed ∷ []) refl) source_due))
+    (due (none_connecting nothing_kept halfway refl) notifier_due))
     (due (none_connecting nothing_kept (halfway ++ End 4 Completed ∷ []) refl) until_due_later)
 
 short_over : first_forced nothing_kept short ≡ None
-unfolding first_forced source_end child_terminal source_completed open_children is_fired owed projections moments stops climb most_visits is_open is_shut ancestors parent shown
+unfolding first_forced source_end child_terminal source_completed open_children is_fired owed projections moments stops climb most_visits is_open is_shut
+    ancestors parent shown
 short_over = refl
 
 long_over : first_forced nothing_kept long ≡ None
-unfolding first_forced source_end child_terminal source_completed open_children is_fired owed projections moments stops climb most_visits is_open is_shut ancestors parent shown
+unfolding first_forced source_end child_terminal source_completed open_children is_fired owed projections moments stops climb most_visits is_open is_shut
+    ancestors parent shown
 long_over = refl
 
 -- both are finished, and one is longer
@@ -88,5 +93,6 @@ nothing_open = refl
 
 -- the one order is the short one: a mirroring node before a subscriber
 until_first : first_forced nothing_kept halfway ≡ Some (End 1 Completed)
-unfolding first_forced source_end child_terminal source_completed open_children is_fired owed projections moments stops climb most_visits is_open is_shut ancestors parent shown
+unfolding first_forced source_end child_terminal source_completed open_children is_fired owed projections moments stops climb most_visits is_open is_shut
+    ancestors parent shown
 until_first = refl

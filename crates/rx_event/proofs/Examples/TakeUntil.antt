@@ -22,7 +22,8 @@ until_due : IsDue nothing_kept until (End 0 Completed)
 unfolding is_fired moments stops climb most_visits is_open is_shut ancestors parent shown
 until_due = fired refl refl refl
 
-until_notes : notes (until ++ End 0 Completed ∷ []) ≡ (record { place = 3; to = 0; note = Next (pos 4) }) ∷ (record { place = 5; to = 0; note = Ended Completed }) ∷ []
+until_notes : notes (until ++ End 0 Completed ∷ []) ≡
+    (record { place = 3; to = 0; note = Next (pos 4) }) ∷ (record { place = 5; to = 0; note = Ended Completed }) ∷ []
 unfolding notes moments stops climb most_visits is_open is_shut ancestors parent shown
 until_notes = refl
 
@@ -55,6 +56,7 @@ both_open : open_nodes (both ++ Item 5 (pos 9) ∷ End 1 Completed ∷ Close 3 �
 unfolding is_open is_shut ancestors parent shown
 both_open = refl
 
-both_notes : notes (both ++ Item 5 (pos 9) ∷ End 1 Completed ∷ Close 3 ∷ []) ≡ (record { place = 6; to = 1; note = Next (pos 9) }) ∷ (record { place = 7; to = 1; note = Ended Completed }) ∷ []
+both_notes : notes (both ++ Item 5 (pos 9) ∷ End 1 Completed ∷ Close 3 ∷ []) ≡
+    (record { place = 6; to = 1; note = Next (pos 9) }) ∷ (record { place = 7; to = 1; note = Ended Completed }) ∷ []
 unfolding notes moments stops climb most_visits is_open is_shut ancestors parent shown
 both_notes = refl

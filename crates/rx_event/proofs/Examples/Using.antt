@@ -47,7 +47,8 @@ completion_due : IsDue nothing_kept completed (End 0 Completed)
 unfolding is_open is_shut ancestors parent shown
 completion_due = mirrored refl refl (record { child = 1; below = refl; ended = record { place = 4; found = refl } })
 
-completion_notes : notes (completed ++ End 0 Completed ∷ []) ≡ (record { place = 3; to = 0; note = Next (pos 5) }) ∷ (record { place = 5; to = 0; note = Ended Completed }) ∷ []
+completion_notes : notes (completed ++ End 0 Completed ∷ []) ≡
+    (record { place = 3; to = 0; note = Next (pos 5) }) ∷ (record { place = 5; to = 0; note = Ended Completed }) ∷ []
 unfolding notes moments stops climb most_visits is_open is_shut ancestors parent shown
 completion_notes = refl
 

@@ -1,5 +1,6 @@
 -- Stored histories that agree: the same is forced and allowed in both, and followed by one event they agree again.
-use Rattle.std.proofs.Common.{◌≡◌, ℕ, ◌+◌, ◌<◌, ◌≤◌, Bool, true, false, List, [], ◌∷◌, ◌++◌, length, Some, refl, sym, ap, ◌∙◌, arith, inl, inr, ◌⊎◌, ◌==◌, filter}
+use Rattle.std.proofs.Common.{◌≡◌, ℕ, ◌+◌, ◌<◌, ◌≤◌, Bool, true, false, List, [], ◌∷◌, ◌++◌, length}
+use Rattle.std.proofs.Common.{Some, refl, sym, ap, ◌∙◌, arith, inl, inr, ◌⊎◌, ◌==◌, filter}
 use Rattle.std.proofs.Math.Bool.{◌||◌}
 use Rattle.std.specs.List.{list_any, AllByRecursion, range_with_len}
 use Rattle.std.proofs.lemmas.Bool.{cases_Bool, both_ways, false≢true, eqb-true}
@@ -20,7 +21,8 @@ use Rattle.rx_event.specs.Moments.{owed}
 use Rattle.rx_event.specs.Bases.{is_untaken, Alike, Completes, Leaves, Gives, Agree}
 use Rattle.rx_event.specs.Lawful.{forced, allowed, opened_with, MayFollow, IsLawful}
 use Rattle.rx_event.proofs.Laws.Openness.{ancestors_open}
-use Rattle.rx_event.proofs.Laws.SameTree.{alike_back, alike_on, at_alike, at_hub_alike, parent_alike, within_alike, open_nodes_alike, subscribers_alike, connections_alike, visits_alike, alike_push}
+use Rattle.rx_event.proofs.Laws.SameTree.{alike_back, at_alike, at_hub_alike, parent_alike, within_alike, open_nodes_alike}
+use Rattle.rx_event.proofs.Laws.SameTree.{subscribers_alike, connections_alike, visits_alike, alike_push}
 use Rattle.rx_event.proofs.Laws.Gives.{gives-push}
 use Rattle.rx_event.proofs.Laws.Steps.{named_below}
 
@@ -48,31 +50,6 @@ agree_back b h c k a =
   where
     there : (r : ℕ) → is_untaken k r ≡ true → is_untaken h r ≡ true
     there r i = (λ j. a.held r j || a.waiting r j) ∙ i
-
-pub agree_on : (b : Kept) (h : List Event) (c : Kept) (k : List Event) (d : Kept) (m : List Event) → Agree b h c k → Agree c k d m → Agree b h d m
-agree_on b h c k d m x y =
-    record {
-      alike = alike_on h k m x.alike y.alike;
-      sources = λ n o. x.sources n o ∙ y.sources n (sym (x.alike.same_open n) ∙ o);
-      notifiers = λ n o. x.notifiers n o ∙ y.notifiers n (sym (x.alike.same_open n) ∙ o);
-      completions = λ n o. x.completions n o ∙ y.completions n (sym (x.alike.same_open n) ∙ o);
-      debts = λ n o. x.debts n o ∙ y.debts n (sym (x.alike.same_open n) ∙ o);
-      owned = λ r. x.owned r ∙ y.owned r;
-      held = λ r. x.held r ∙ y.held r;
-      waiting = λ r. x.waiting r ∙ y.waiting r;
-      accepts = λ r i. x.accepts r i ∙ y.accepts r (there r i);
-      used = λ r i. x.used r i ∙ y.used r (there r i);
-      out = λ l. x.out l ∙ y.out l;
-      leased = λ l o. x.leased l o ∙ y.leased l (sym (x.out l) ∙ o);
-      item_total = x.item_total ∙ y.item_total;
-      accepted_total = x.accepted_total ∙ y.accepted_total;
-      taken_total = x.taken_total ∙ y.taken_total;
-      gives = record { mirrors = λ p t g. y.gives.mirrors p t (x.gives.mirrors p t g); fires = λ u g. y.gives.fires u (x.gives.fires u g); fails = λ f e g. y.gives.fails f e (x.gives.fails f e g); cuts = λ s t g. y.gives.cuts s t (x.gives.cuts s t g) };
-      gives_back = record { mirrors = λ p t g. x.gives_back.mirrors p t (y.gives_back.mirrors p t g); fires = λ u g. x.gives_back.fires u (y.gives_back.fires u g); fails = λ f e g. x.gives_back.fails f e (y.gives_back.fails f e g); cuts = λ s t g. x.gives_back.cuts s t (y.gives_back.cuts s t g) };
-    }
-  where
-    there : (r : ℕ) → is_untaken h r ≡ true → is_untaken k r ≡ true
-    there r i = (λ j. sym (x.held r) j || sym (x.waiting r) j) ∙ i
 
 -- forced --------------------------------------------------------------------------------------------
 
@@ -103,7 +80,8 @@ connects_too h k a back g d =
       unconnected = sym (connections_alike h k a g) ∙ d.unconnected;
     }
 
-childless_too : (h k : List Event) → Alike h k → (f : ℕ) → ((c : ℕ) → parent h c ≡ Some f → is_open h c ≡ false) → (c : ℕ) → parent k c ≡ Some f → is_open k c ≡ false
+childless_too : (h k : List Event) → Alike h k → (f : ℕ) → ((c : ℕ) → parent h c ≡ Some f → is_open h c ≡ false) → (c : ℕ) → parent k c ≡ Some f →
+    is_open k c ≡ false
 childless_too h k a f none c below = by_test (cases_Bool (is_open k c)) where
   by_test : (is_open k c ≡ true) ⊎ (is_open k c ≡ false) → is_open k c ≡ false
   by_test (inr closed) = closed
@@ -138,7 +116,9 @@ module _ (b : Kept) (h : List Event) (c : Kept) (k : List Event) (a : Agree b h 
   due_too (fired {u = u} o m f) = let g = a.gives.fires u (o, m, f) in fired g.0 g.1 g.2
   due_too (failed {f = f} {c = code} o m child) = let g = a.gives.fails f code (o, m, child) in failed g.0 g.1 g.2
   due_too (completed {f = f} o m none source childless paid) =
-      let d : Completes c k f = completes_too f (record { alive = o; merging = m; fails_not = λ code fails. none code fails.2; source = source; childless = childless; paid = paid }) in
+      let d : Completes c k f =
+      completes_too f
+      (record { alive = o; merging = m; fails_not = λ code fails. none code fails.2; source = source; childless = childless; paid = paid }) in
       completed d.alive d.merging (λ code child. d.fails_not code (d.alive, d.merging, child)) d.source d.childless d.paid
   due_too (cut {s = s} {t = t} o x) = let g = a.gives.cuts s t (o, x) in cut g.0 g.1
   due_too (left {c = n} {g = g} o connects auto none) =
@@ -215,27 +195,35 @@ module _ (b : Kept) (h : List Event) (c : Kept) (k : List Event) (a : Agree b h 
   few n m less = let e = ap length (open_nodes_alike h k a.alike) in omega arith
 
   -- the opening makes a hub wait in both
-  waits_back : (place : Place) (kind : Kind) → IsFree b h place → IsHubbed h place kind → (g : ℕ) → IsConnectDue (k ++ Open place kind ∷ []) g → IsConnectDue (h ++ Open place kind ∷ []) g
+  waits_back : (place : Place) (kind : Kind) → IsFree b h place → IsHubbed h place kind → (g : ℕ) → IsConnectDue (k ++ Open place kind ∷ []) g →
+      IsConnectDue (h ++ Open place kind ∷ []) g
   waits_back place kind free hubbed g d =
-      connects_too (k ++ Open place kind ∷ []) (h ++ Open place kind ∷ []) (alike_back (h ++ Open place kind ∷ []) (k ++ Open place kind ∷ []) (alike_push h k a.alike (Open place kind)))
+      connects_too (k ++ Open place kind ∷ []) (h ++ Open place kind ∷ [])
+      (alike_back (h ++ Open place kind ∷ []) (k ++ Open place kind ∷ []) (alike_push h k a.alike (Open place kind)))
       (gives-push b h c k (Open place kind) law (λ n t same. absurd (cc)) (λ l v same. absurd (cc)) a.alike a.gives) g d
 
   pub allowed_too : {e : Event} → IsAllowed b h e → IsAllowed c k e
-  allowed_too (opened {place = place} {kind = kind} free hubbed room more) = opened (free_too place free) (hubbed_too place kind free hubbed) (few 1 most_nodes room) (λ g d. few 2 most_nodes (more g (waits_back place kind free hubbed g d)))
+  allowed_too (opened {place = place} {kind = kind} free hubbed room more) =
+      opened (free_too place free) (hubbed_too place kind free hubbed) (few 1 most_nodes room)
+      (λ g d. few 2 most_nodes (more g (waits_back place kind free hubbed g d)))
   allowed_too (published less) = published (let e = ap length (hubs_alike h k a.alike) in omega arith)
-  allowed_too (connected {g = g} manual none less) = connected (at_hub_alike h k a.alike is_manual_hub manual_is g manual) (sym (connections_alike h k a.alike g) ∙ none) (let e = ap length (open_nodes_alike h k a.alike) in omega arith)
+  allowed_too (connected {g = g} manual none less) =
+      connected (at_hub_alike h k a.alike is_manual_hub manual_is g manual) (sym (connections_alike h k a.alike g) ∙ none)
+      (let e = ap length (open_nodes_alike h k a.alike) in omega arith)
   allowed_too (accepted o) = accepted (there _ o)
   allowed_too (used held) = used (sym (a.held _) ∙ held)
   allowed_too (removed owned) = removed (sym (a.owned _) ∙ owned)
   allowed_too (leased owned) = leased (sym (a.owned _) ∙ owned)
   allowed_too (returned out) = returned (sym (a.out _) ∙ out)
-  allowed_too (emitted {l = l} o leaf less) = emitted (there _ o) (test_there is_leaf _ o leaf) (let e = visits_alike h k a.alike (named_below b h law) l o in omega arith)
+  allowed_too (emitted {l = l} o leaf less) =
+      emitted (there _ o) (test_there is_leaf _ o leaf) (let e = visits_alike h k a.alike (named_below b h law) l o in omega arith)
   allowed_too (declined o m some) = declined (there _ o) (test_there is_merging _ o m) (owes_there _ o some)
   allowed_too (leaf_ended o leaf) = leaf_ended (there _ o) (test_there is_leaf _ o leaf)
   allowed_too (aborted {n = n} o may none) = aborted (there _ o) (test_there may_abort _ o may) (childless_too h k a.alike n none)
   allowed_too (projection_failed o m some) = projection_failed (there _ o) (test_there is_merging _ o m) (owes_there _ o some)
   allowed_too (root_closed o root) = root_closed (there _ o) (test_there is_root _ o root)
-  allowed_too (disconnected {g = g} o connects manual) = disconnected (there _ o) (sym (a.alike.same_made _ o) ∙ connects) (at_hub_alike h k a.alike is_manual_hub manual_is g manual)
+  allowed_too (disconnected {g = g} o connects manual) =
+      disconnected (there _ o) (sym (a.alike.same_made _ o) ∙ connects) (at_hub_alike h k a.alike is_manual_hub manual_is g manual)
   allowed_too (taken waits) = taken (sym (a.waiting _) ∙ waits)
 
   pub follows_too : {e : Event} → MayFollow b h e → MayFollow c k e

@@ -29,7 +29,9 @@ use Rattle.rx_event.proofs.Laws.Openness.{stays_closed, is_open_past, is_open_ou
 use Rattle.rx_event.proofs.Laws.Leases.{is_out_past}
 use Rattle.rx_event.proofs.Laws.Resources.{node_of, is_owned_past, is_held_past, is_waiting_past}
 use Rattle.rx_event.proofs.Laws.Notes.{notes_in, notes_to-push, noted_to}
-use Rattle.rx_event.proofs.Laws.Dues.{and_false, IsDueOn, none_more, one_more, IsClosing, by_end, by_close, closing_of, Fails, SeesNone, seen_on, connect_on, at_on, any_on, count_on, owed_on, stays_closed_on, EndsSo, ends_one, EndStands, stood_before, came_after, end_stands, begun_on}
+use Rattle.rx_event.proofs.Laws.Dues.{and_false, IsDueOn, none_more, one_more, IsClosing, by_end, by_close, closing_of, Fails}
+use Rattle.rx_event.proofs.Laws.Dues.{SeesNone, seen_on, connect_on, at_on, any_on, count_on, owed_on, stays_closed_on, EndsSo}
+use Rattle.rx_event.proofs.Laws.Dues.{ends_one, EndStands, stood_before, came_after, end_stands, begun_on}
 use Rattle.rx_event.proofs.Laws.Spared.{same_open, spared}
 use Rattle.rx_event.proofs.Laws.SameMarks.{marks_both}
 use Rattle.rx_event.proofs.Laws.Starts.{StartAlike, BeginsWith, begins_with, starts_with, start_alike, lawful_begun}
@@ -57,7 +59,8 @@ root_alone h n root = by_event (slice_get h n) refl root where
 -- what n was told since b: nothing, or as a root its end
 data Tells (base : Kept) (b k : List Event) (n : ℕ) : Type 0 where
   tells_none : notes_to k n ≡ notes_to b n → (at is_root b n ≡ true → is_open k n ≡ is_open b n) → Tells base b k n
-  tells_end : {t : Terminal} → notes_to k n ≡ notes_to b n ++ EndNote t ∷ [] → EndsSo base b t → at is_root b n ≡ true → is_open b n ≡ true → is_open k n ≡ false →
+  tells_end : {t : Terminal} → notes_to k n ≡ notes_to b n ++ EndNote t ∷ [] → EndsSo base b t → at is_root b n ≡ true → is_open b n ≡ true →
+      is_open k n ≡ false →
       Tells base b k n
 
 tells_more : (base : Kept) → {b k : List Event} → IsDueOn base b k → {e : Event} → IsDue base k e → (n : ℕ) → notes_in n (mail_of k e) ≡ [] →
@@ -70,7 +73,8 @@ tells_more base {b = b} {k = k} on {e = e} d n silent still before = by_before b
   by_before (tells_none told open_still) = tells_none (same ∙ told) (λ root. still root ∙ open_still root)
   by_before (tells_end told so root was gone) = tells_end (same ∙ told) so root was (stays_closed_on base on d n gone)
 
-tells_closing : (base : Kept) → {b k : List Event} → IsDueOn base b k → IsLawful base b → IsConnected b → {e : Event} → IsDue base k e → IsClosing base k e → (n : ℕ) → Tells base b k n →
+tells_closing : (base : Kept) → {b k : List Event} → IsDueOn base b k → IsLawful base b → IsConnected b → {e : Event} → IsDue base k e → IsClosing base k e →
+    (n : ℕ) → Tells base b k n →
     Tells base b (k ++ e ∷ []) n
 tells_closing base {b = b} {k = k} on law whole d (by_close c g at_c none o) n before = tells_more base on d n refl still before where
   apart : at is_root k n ≡ true → (a : Bool) → (c == n) ≡ a → a ≡ false
@@ -122,7 +126,8 @@ tells_on base none_more law whole n = tells_none refl (λ root. refl)
 tells_on base (one_more on d) law whole n = tells_closing base on law whole d (closing_of base d) n (tells_on base on law whole n)
 
 -- two courses that leave the same open tell the same
-same_notes : (base : Kept) → {b k j : List Event} → IsLawful base b → (n : ℕ) → is_open k n ≡ is_open j n → Tells base b k n → Tells base b j n → notes_to k n ≡ notes_to j n
+same_notes : (base : Kept) → {b k j : List Event} → IsLawful base b → (n : ℕ) → is_open k n ≡ is_open j n → Tells base b k n → Tells base b j n →
+    notes_to k n ≡ notes_to j n
 same_notes base law n same (tells_none told still) (tells_none other also) = told ∙ sym other
 same_notes base {b = b} law n same (tells_end {t = t} told so root was gone) (tells_end {t = u} other too also was_too gone_too) =
     told ∙ ap (λ v. notes_to b n ++ EndNote v ∷ []) (ends_one base b law t u so too) ∙ sym other
@@ -145,7 +150,8 @@ plain_back (Some x) e same = by_test (is_closing x) same where
   by_test true same = absurd (none-some e same)
   by_test false same = same
 
-module _ (base : Kept) (b k j : List Event) (law : IsLawful base b) (whole : IsConnected b) (on_k : IsDueOn base b k) (settled_k : IsSettled base k) (on_j : IsDueOn base b j)
+module _ (base : Kept) (b k j : List Event) (law : IsLawful base b) (whole : IsConnected b) (on_k : IsDueOn base b k) (settled_k : IsSettled base k)
+    (on_j : IsDueOn base b j)
     (settled_j : IsSettled base j) where
   opens : (n : ℕ) → is_open k n ≡ is_open j n
   opens n = same_open base law whole on_k settled_k on_j settled_j n
@@ -165,9 +171,11 @@ module _ (base : Kept) (b k j : List Event) (law : IsLawful base b) (whole : IsC
     sees = record { no_end = λ c t. refl; no_close = λ c. refl }
 
   stands_both : (n : ℕ) (e : Event) → is_closing e ≡ false → slice_get k n ≡ Some e → slice_get j n ≡ Some e
-  stands_both n e other at_n = plain_back (slice_get j n) e (sym (seen_on base plain sees on_k n ∙ sym (seen_on base plain sees on_j n)) ∙ ap plain at_n ∙ rw other refl) where
-    sees : SeesNone plain
-    sees = record { no_end = λ c t. refl; no_close = λ c. refl }
+  stands_both n e other at_n =
+      plain_back (slice_get j n) e (sym (seen_on base plain sees on_k n ∙ sym (seen_on base plain sees on_j n)) ∙ ap plain at_n ∙ rw other refl)
+    where
+      sees : SeesNone plain
+      sees = record { no_end = λ c t. refl; no_close = λ c. refl }
 
   owned_both : (r : ℕ) → is_owned k r ≡ is_owned j r
   unfolding is_owned
@@ -196,7 +204,9 @@ module _ (base : Kept) (b k j : List Event) (law : IsLawful base b) (whole : IsC
 
   taken_both : (r : ℕ) → is_taken k r ≡ is_taken j r
   unfolding is_taken
-  taken_both r = λ i. at_both makes_resource (record { at_end = λ c t. refl; at_close = λ c. refl }) r i && any_both (is_take_of r) (record { at_end = λ c t. refl; at_close = λ c. refl }) i
+  taken_both r =
+      λ i. at_both makes_resource (record { at_end = λ c t. refl; at_close = λ c. refl }) r i &&
+      any_both (is_take_of r) (record { at_end = λ c t. refl; at_close = λ c. refl }) i
 
   waiting_both : (r : ℕ) → is_waiting k r ≡ is_waiting j r
   unfolding is_waiting
@@ -204,7 +214,8 @@ module _ (base : Kept) (b k j : List Event) (law : IsLawful base b) (whole : IsC
 
   uses_both : (r : ℕ) → uses base k r ≡ uses base j r
   unfolding uses
-  uses_both r = ap (λ x. option_map_or (λ k. k.uses + x) (resource_kept base r) x) (count_both (is_use_of r) (record { at_end = λ c t. refl; at_close = λ c. refl }))
+  uses_both r =
+      ap (λ x. option_map_or (λ k. k.uses + x) (resource_kept base r) x) (count_both (is_use_of r) (record { at_end = λ c t. refl; at_close = λ c. refl }))
 
   -- the open nodes of one sort, in order
   sorted_both : (q : Event → Bool) → Fails q → filter (λ n. at q k n && is_open k n) (places k) ≡ filter (λ n. at q j n && is_open j n) (places j)
@@ -254,12 +265,15 @@ module _ (base : Kept) (b k j : List Event) (law : IsLawful base b) (whole : IsC
     waiting_total = sym (length-filter (is_waiting k) (places k)) ∙ ap length all_waiting ∙ length-filter (is_waiting j) (places j);
     nodes_total = count_both makes_node (record { at_end = λ c t. refl; at_close = λ c. refl });
     items = ap (λ x. base.items + x) (count_both is_item (record { at_end = λ c t. refl; at_close = λ c. refl }));
-    accepted = ap (λ x. (base.accepted - count_by makes_resource (shown base)) + x) (count_both makes_resource (record { at_end = λ c t. refl; at_close = λ c. refl }));
+    accepted =
+        ap (λ x. (base.accepted - count_by makes_resource (shown base)) + x)
+        (count_both makes_resource (record { at_end = λ c t. refl; at_close = λ c. refl }));
     taken = ap (λ x. base.taken + x) (count_both is_take (record { at_end = λ c t. refl; at_close = λ c. refl }));
   }
 
 -- Two courses of what is forced after one history come to the same
-pub courses_alike : (base : Kept) → (b k j : List Event) → IsLawful base b → IsForcedOn base b k → IsSettled base k → IsForcedOn base b j → IsSettled base j → AreAlike base k j
+pub courses_alike : (base : Kept) → (b k j : List Event) → IsLawful base b → IsForcedOn base b k → IsSettled base k → IsForcedOn base b j → IsSettled base j →
+    AreAlike base k j
 courses_alike base b k j law on_k settled_k on_j settled_j =
     let s = start_alike base law on_k settled_k on_j settled_j in
     alike base s.start k j s.law s.whole s.one settled_k s.other settled_j
@@ -267,7 +281,9 @@ courses_alike base b k j law on_k settled_k on_j settled_j =
 -- and so do two steps
 pub steps_alike : (base : Kept) → (h outside k j : List Event) → IsLawful base h → IsStep base h outside k → IsStep base h outside j → AreAlike base k j
 steps_alike base h outside k j law one other =
-    courses_alike base (h ++ outside) k j (lawful_begun base one.forced (let long = shown_within base h law in omega (arith, length-append h outside)) one.lawful) one.forced one.settled other.forced other.settled
+    courses_alike base (h ++ outside) k j
+    (lawful_begun base one.forced (let long = shown_within base h law in omega (arith, length-append h outside)) one.lawful) one.forced one.settled
+    other.forced other.settled
 
 -- on the way --------------------------------------------------------------------------------------------------
 
@@ -288,7 +304,8 @@ start_new base {b = b} s i x l at_i = by_start s.begun where
 not_connect : (n g : ℕ) (t : Terminal) → End n t ≡ Connect g → ⊥
 not_connect n g t same = absurd (cc)
 
-ends_after : (base : Kept) → {b k j : List Event} (s : StartAlike base b k j) {q : List Event} → IsDueOn base s.start q → (n i : ℕ) (t : Terminal) → length b ≤ i →
+ends_after : (base : Kept) → {b k j : List Event} (s : StartAlike base b k j) {q : List Event} → IsDueOn base s.start q → (n i : ℕ) (t : Terminal) →
+    length b ≤ i →
     slice_get q i ≡ Some (End n t) → EndsSo base s.start t
 ends_after base s {q = q} on n i t l at_i = by_place (end_stands base on s.law s.whole n t i at_i) where
   by_place : EndStands base s.start q n t i → EndsSo base s.start t
@@ -303,7 +320,8 @@ nothing_past b k i x same l at_i =
     let w : i < length b = slice_get_within b i x (ap (λ (q : List Event). slice_get q i) (sym same) ∙ at_i) in omega arith
 
 -- all ends of two courses are alike
-pub one_terminal : (base : Kept) → (b k j : List Event) → IsLawful base b → IsForcedOn base b k → IsForcedOn base b j → (n m i l : ℕ) (t u : Terminal) → length b ≤ i →
+pub one_terminal : (base : Kept) → (b k j : List Event) → IsLawful base b → IsForcedOn base b k → IsForcedOn base b j → (n m i l : ℕ) (t u : Terminal) →
+    length b ≤ i →
     slice_get k i ≡ Some (End n t) → length b ≤ l → slice_get j l ≡ Some (End m u) → t ≡ u
 one_terminal base b k j law on_k on_j n m i l t u far at_i also at_l = by_first (begins_with base on_k) (begins_with base on_j) where
   by_first : (k ≡ b) ⊎ BeginsWith base b k → (j ≡ b) ⊎ BeginsWith base b j → t ≡ u
@@ -314,7 +332,8 @@ one_terminal base b k j law on_k on_j n m i l t u far at_i also at_l = by_first 
       ends_one base s.start s.law t u (ends_after base s s.one n i t far at_i) (ends_after base s s.other m l u also at_l)
 
 -- a connection comes first
-pub connects_first : (base : Kept) → (b k : List Event) → IsLawful base b → IsForcedOn base b k → (c g : ℕ) → length b ≤ c → slice_get k c ≡ Some (Connect g) → c ≡ length b
+pub connects_first : (base : Kept) → (b k : List Event) → IsLawful base b → IsForcedOn base b k → (c g : ℕ) → length b ≤ c →
+    slice_get k c ≡ Some (Connect g) → c ≡ length b
 connects_first base b k law on c g l at_c = by_first (begins_with base on) where
   by_first : (k ≡ b) ⊎ BeginsWith base b k → c ≡ length b
   by_first (inl same) = absurd (nothing_past b k c (Connect g) same l at_c)
@@ -330,7 +349,8 @@ closed_forced base (more {k = k} {e = e} on f) n l closed =
     ((let w = within in omega (arith, length-append k (e ∷ []))), stays_closed k e n within before.1)
 
 -- what one course has closed so far, another has closed in the end
-pub closed_in_both : (base : Kept) → (b p k : List Event) → IsLawful base b → IsForcedOn base b p → IsForcedOn base b k → IsSettled base k → (n : ℕ) → n < length b → is_open p n ≡ false →
+pub closed_in_both : (base : Kept) → (b p k : List Event) → IsLawful base b → IsForcedOn base b p → IsForcedOn base b k → IsSettled base k → (n : ℕ) →
+    n < length b → is_open p n ≡ false →
     is_open k n ≡ false
 closed_in_both base b p k law on_p on_k settled n l closed = by_first (begins_with base on_p) (begins_with base on_k) where
   by_first : (p ≡ b) ⊎ BeginsWith base b p → (k ≡ b) ⊎ BeginsWith base b k → is_open k n ≡ false

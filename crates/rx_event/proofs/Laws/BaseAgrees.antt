@@ -81,11 +81,13 @@ base_taken : (b : Kept) (h : List Event) → (base_of b h).taken ≡ taken_count
 unfolding base_of
 base_taken b h = refl
 
-uses_read : (b : Kept) (h : List Event) (r : ℕ) → uses b h r ≡ option_map_or (λ x. x.uses + count_by (is_use_of r) h) (resource_kept b r) (count_by (is_use_of r) h)
+uses_read : (b : Kept) (h : List Event) (r : ℕ) →
+    uses b h r ≡ option_map_or (λ x. x.uses + count_by (is_use_of r) h) (resource_kept b r) (count_by (is_use_of r) h)
 unfolding uses
 uses_read b h r = refl
 
-completed_read : (b : Kept) (h : List Event) (n : ℕ) → source_completed b h n ≡ (option_map_or (λ x. x.source_completed) (node_kept b n) false || list_any (completes_source h n) h)
+completed_read : (b : Kept) (h : List Event) (n : ℕ) →
+    source_completed b h n ≡ (option_map_or (λ x. x.source_completed) (node_kept b n) false || list_any (completes_source h n) h)
 unfolding source_completed
 completed_read b h n = refl
 
@@ -196,19 +198,22 @@ module _ (b : Kept) (h : List Event) where
     no_hub None is = refl
     no_hub (Some x) is = not_hub x is
 
-  accepted_some : (r : ℕ) → at makes_resource h r ≡ true → accepted_by b h r ≡ Some (Accept (option_map_or accept_node (accepted_by b h r) 0) (option_map_or accept_tag (accepted_by b h r) 0))
+  accepted_some : (r : ℕ) → at makes_resource h r ≡ true →
+      accepted_by b h r ≡ Some (Accept (option_map_or accept_node (accepted_by b h r) 0) (option_map_or accept_tag (accepted_by b h r) 0))
   accepted_some r makes = by_record (resource_kept b r) where
     in_event : (x : Event) → makes_resource x ≡ true → x ≡ Accept (accept_node x) (accept_tag x)
     in_event (Accept n tag) is = refl
     in_event (Open place kind) is = absurd (false≢true is)
     in_event _ is = absurd (false≢true is)
 
-    in_place : (o : Option Event) → option_map_or makes_resource o false ≡ true → o ≡ Some (Accept (option_map_or accept_node o 0) (option_map_or accept_tag o 0))
+    in_place : (o : Option Event) → option_map_or makes_resource o false ≡ true →
+        o ≡ Some (Accept (option_map_or accept_node o 0) (option_map_or accept_tag o 0))
     in_place None is = absurd (false≢true is)
     in_place (Some x) is = ap Some (in_event x is)
 
     by_record : (k : Option BaseResource) → option_map_or (λ x. Some (Accept x.node x.tag)) k (slice_get h r) ≡
-        Some (Accept (option_map_or accept_node (option_map_or (λ x. Some (Accept x.node x.tag)) k (slice_get h r)) 0) (option_map_or accept_tag (option_map_or (λ x. Some (Accept x.node x.tag)) k (slice_get h r)) 0))
+        Some (Accept (option_map_or accept_node (option_map_or (λ x. Some (Accept x.node x.tag)) k (slice_get h r)) 0)
+        (option_map_or accept_tag (option_map_or (λ x. Some (Accept x.node x.tag)) k (slice_get h r)) 0))
     by_record None = in_place (slice_get h r) makes
     by_record (Some k) = refl
 
@@ -265,7 +270,8 @@ module _ (b : Kept) (h : List Event) where
     is_hub_there : at makes_hub h r ≡ true → is_open h r ≡ false → r < length h → at makes_resource (shown (base_of b h)) r ≡ false
     is_hub_there hub closed l = ap (λ o. option_map_or makes_resource o false) (s_hub r l closed hub)
 
-    by_tests : r < length h → (is_open h r ≡ true) ⊎ (is_open h r ≡ false) → (at makes_hub h r ≡ true) ⊎ (at makes_hub h r ≡ false) → at makes_resource (shown (base_of b h)) r ≡ false
+    by_tests : r < length h → (is_open h r ≡ true) ⊎ (is_open h r ≡ false) → (at makes_hub h r ≡ true) ⊎ (at makes_hub h r ≡ false) →
+        at makes_resource (shown (base_of b h)) r ≡ false
     by_tests l (inl o) hub = ap (λ x. option_map_or makes_resource x false) (kept_open b h r o) ∙ by_event (slice_get h r) (open_node h r o)
     by_tests l (inr closed) (inl hub) = is_hub_there hub closed l
     by_tests l (inr closed) (inr plain) =
@@ -418,7 +424,9 @@ module _ (b : Kept) (h : List Event) where
     and_true true = refl
     and_true false = refl
 
-    node_open_there : (o : Option Event) → option_map_or (is_open h) (option_and_then node_of_accept o) false ≡ option_map_or (is_open (shown (base_of b h))) (option_and_then node_of_accept o) false
+    node_open_there : (o : Option Event) →
+        option_map_or (is_open h) (option_and_then node_of_accept o) false ≡
+        option_map_or (is_open (shown (base_of b h))) (option_and_then node_of_accept o) false
     node_open_there None = refl
     node_open_there (Some (Accept n tag)) = base_is_alike.same_open n
     node_open_there (Some (Open place kind)) = refl
@@ -488,11 +496,14 @@ module _ (b : Kept) (h : List Event) where
 
     s_uses : (r : ℕ) → is_untaken h r ≡ true → uses b h r ≡ uses (base_of b h) (shown (base_of b h)) r
     s_uses r untaken =
-        sym (uses_is ∙ ap (λ k. option_map_or (λ x. x.uses + count_by (is_use_of r) (shown (base_of b h))) k (count_by (is_use_of r) (shown (base_of b h)))) (s_kept r untaken) ∙
+        sym (uses_is ∙
+        ap (λ k. option_map_or (λ x. x.uses + count_by (is_use_of r) (shown (base_of b h))) k (count_by (is_use_of r) (shown (base_of b h))))
+        (s_kept r untaken) ∙
         (let none = s_unused r in let e : uses b h r + count_by (is_use_of r) (shown (base_of b h)) ≡ uses b h r = omega arith in e))
       where
         uses_is : uses (base_of b h) (shown (base_of b h)) r ≡
-            option_map_or (λ x. x.uses + count_by (is_use_of r) (shown (base_of b h))) (resource_kept (base_of b h) r) (count_by (is_use_of r) (shown (base_of b h)))
+            option_map_or (λ x. x.uses + count_by (is_use_of r) (shown (base_of b h))) (resource_kept (base_of b h) r)
+            (count_by (is_use_of r) (shown (base_of b h)))
         uses_is = uses_read (base_of b h) (shown (base_of b h)) r
 
     -- marks of an open node
@@ -527,25 +538,35 @@ module _ (b : Kept) (h : List Event) where
     s_sources : (n : ℕ) → is_open h n ≡ true → source_opened b h n ≡ source_opened (base_of b h) (shown (base_of b h)) n
     s_sources n o =
         sym (ap (λ k. option_map_or (λ x. x.source_opened) k false || list_any (is_source_of n) (shown (base_of b h))) (s_node n o) ∙
-        or_more (option_map_or (λ x. x.source_opened) (node_kept b n) false) (list_any (is_source_of n) h) (list_any (is_source_of n) (shown (base_of b h))) (shown_some (is_source_of n) (inert_source n)))
+        or_more (option_map_or (λ x. x.source_opened) (node_kept b n) false) (list_any (is_source_of n) h) (list_any (is_source_of n) (shown (base_of b h)))
+        (shown_some (is_source_of n) (inert_source n)))
 
     s_notifiers : (n : ℕ) → is_open h n ≡ true → notifier_opened b h n ≡ notifier_opened (base_of b h) (shown (base_of b h)) n
     s_notifiers n o =
         sym (ap (λ k. option_map_or (λ x. x.notifier_opened) k false || list_any (is_notifier_of n) (shown (base_of b h))) (s_node n o) ∙
-        or_more (option_map_or (λ x. x.notifier_opened) (node_kept b n) false) (list_any (is_notifier_of n) h) (list_any (is_notifier_of n) (shown (base_of b h))) (shown_some (is_notifier_of n) (inert_notifier n)))
+        or_more (option_map_or (λ x. x.notifier_opened) (node_kept b n) false) (list_any (is_notifier_of n) h)
+        (list_any (is_notifier_of n) (shown (base_of b h))) (shown_some (is_notifier_of n) (inert_notifier n)))
 
     s_completions : (n : ℕ) → is_open h n ≡ true → source_completed b h n ≡ source_completed (base_of b h) (shown (base_of b h)) n
     s_completions n o =
-        sym (completed_read (base_of b h) (shown (base_of b h)) n ∙ (λ i. option_map_or (λ x. x.source_completed) (s_node n o i) false || s_completed n i) ∙ or_nothing (source_completed b h n))
+        sym (completed_read (base_of b h) (shown (base_of b h)) n ∙
+        (λ i. option_map_or (λ x. x.source_completed) (s_node n o i) false || s_completed n i) ∙
+        or_nothing (source_completed b h n))
       where
         or_nothing : (x : Bool) → (x || false) ≡ x
         or_nothing true = refl
         or_nothing false = refl
 
     s_debts : (n : ℕ) → is_open h n ≡ true → owed b h n ≡ owed (base_of b h) (shown (base_of b h)) n
-    s_debts n o = sym (owed_is ∙ ap (λ k. option_map_or (λ x. x.owed + count_by (pays n) (shown (base_of b h)) + projections (shown (base_of b h)) n) k (projections (shown (base_of b h)) n) - count_by (pays n) (shown (base_of b h))) (s_node n o) ∙ (let none = s_projections n in let e : owed b h n + count_by (pays n) (shown (base_of b h)) + projections (shown (base_of b h)) n - count_by (pays n) (shown (base_of b h)) ≡ owed b h n = omega arith in e)) where
-      owed_is : owed (base_of b h) (shown (base_of b h)) n ≡ projected_by (base_of b h) (shown (base_of b h)) n - count_by (pays n) (shown (base_of b h))
-      owed_is = owed_is_less (base_of b h) (shown (base_of b h)) n
+    s_debts n o =
+        let paid = count_by (pays n) (shown (base_of b h)) in
+        let shows = projections (shown (base_of b h)) n in
+        let none : shows ≡ 0 = s_projections n in
+        let e : owed b h n + paid + shows - paid ≡ owed b h n = omega arith in
+        sym (owed_is ∙ ap (λ k. option_map_or (λ x. x.owed + paid + shows) k shows - paid) (s_node n o) ∙ e)
+      where
+        owed_is : owed (base_of b h) (shown (base_of b h)) n ≡ projected_by (base_of b h) (shown (base_of b h)) n - count_by (pays n) (shown (base_of b h))
+        owed_is = owed_is_less (base_of b h) (shown (base_of b h)) n
 
     -- a base is sound ---------------------------------------------------------------------------------
 
@@ -568,7 +589,13 @@ module _ (b : Kept) (h : List Event) where
         let y_open : is_open h y ≡ true = a.same_open y ∙ two.other_open in
         let one : at (is_inner_of f) h x ≡ true = at_alike h (shown (base_of b h)) a (is_inner_of f) x x_open ∙ two.one in
         let f_open : is_open h f ≡ true = inner_open f x x_open one in
-        sound.one_inner f x y (record { switch = at_alike h (shown (base_of b h)) a is_switch f f_open ∙ two.switch; one = one; one_open = x_open; other = at_alike h (shown (base_of b h)) a (is_inner_of f) y y_open ∙ two.other; other_open = y_open })
+        sound.one_inner f x y (record {
+          switch = at_alike h (shown (base_of b h)) a is_switch f f_open ∙ two.switch;
+          one = one;
+          one_open = x_open;
+          other = at_alike h (shown (base_of b h)) a (is_inner_of f) y y_open ∙ two.other;
+          other_open = y_open;
+        })
       where
         names : (f : ℕ) (o : Option Event) → option_map_or (is_inner_of f) o false ≡ true → (e : Event) × (o ≡ Some e) × (parent_named e ≡ Some f)
         names f None inner = absurd (false≢true inner)
@@ -585,8 +612,10 @@ module _ (b : Kept) (h : List Event) where
 
     pub s_paid : (f : ℕ) → is_open h f ≡ true → count_by (pays f) (shown (base_of b h)) ≤ projected_by (base_of b h) (shown (base_of b h)) f
     s_paid f o =
-        let known : projected_by (base_of b h) (shown (base_of b h)) f ≡ owed b h f + count_by (pays f) (shown (base_of b h)) + projections (shown (base_of b h)) f =
-        ap (λ k. option_map_or (λ x. x.owed + count_by (pays f) (shown (base_of b h)) + projections (shown (base_of b h)) f) k (projections (shown (base_of b h)) f)) (s_node f o) in
+        let paid = count_by (pays f) (shown (base_of b h)) in
+        let shows = projections (shown (base_of b h)) f in
+        let known : projected_by (base_of b h) (shown (base_of b h)) f ≡ owed b h f + paid + shows =
+        ap (λ k. option_map_or (λ x. x.owed + paid + shows) k shows) (s_node f o) in
         omega arith
 
     pub base_sound : Sound (base_of b h) (shown (base_of b h))
@@ -669,7 +698,9 @@ module _ (b : Kept) (h : List Event) where
     s_accepted_less =
         let one = count_by-places makes_resource (shown (base_of b h)) in
         let two = count_by-places makes_resource h in
-        let less = sum_by_no_rise (λ n. cond (at makes_resource h n) 1 0) (λ n. cond (at makes_resource (shown (base_of b h)) n) 1 0) (length h) (λ n l. bit_le (at makes_resource (shown (base_of b h)) n) (at makes_resource h n) (made n)) in
+        let less =
+        sum_by_no_rise (λ n. cond (at makes_resource h n) 1 0) (λ n. cond (at makes_resource (shown (base_of b h)) n) 1 0) (length h)
+        (λ n l. bit_le (at makes_resource (shown (base_of b h)) n) (at makes_resource h n) (made n)) in
         rw (one, two, length_base b h) less
       where
         bit_le : (x y : Bool) → (x ≡ true → y ≡ true) → cond {A = ℕ} x 1 0 ≤ cond {A = ℕ} y 1 0

@@ -1,5 +1,6 @@
 -- A history may begin with the base of a lawful settled one.
-use Rattle.std.proofs.Common.{◌≡◌, ℕ, ◌+◌, ◌<◌, ◌≤◌, Bool, true, false, List, ◌++◌, length, take, drop, cond, Option, Some, None, refl, sym, ap, ◌∙◌, arith, inl, inr, ◌⊎◌, ◌==◌, slice_get, count_by}
+use Rattle.std.proofs.Common.{◌≡◌, ℕ, ◌+◌, ◌<◌, ◌≤◌, Bool, true, false, List, ◌++◌, length, take, drop, cond, Option}
+use Rattle.std.proofs.Common.{Some, None, refl, sym, ap, ◌∙◌, arith, inl, inr, ◌⊎◌, ◌==◌, slice_get, count_by}
 use Rattle.std.proofs.Math.Bool.{◌||◌}
 use Rattle.std.specs.List.{list_any}
 use Rattle.std.specs.Option.{option_map_or}
@@ -53,13 +54,15 @@ open_front h n p l less o = by_test (cases_Bool (is_open (take n h) p)) where
   by_test : (is_open (take n h) p ≡ true) ⊎ (is_open (take n h) p ≡ false) → is_open (take n h) p ≡ true
   by_test (inl before) = before
   by_test (inr closed) =
-      absurd (both_ways _ (ap (λ k. is_open k p) (sym (take-append-drop n h)) ∙ stays_closed_after (take n h) (drop n h) p (let t = length-take-le n h (omega arith) in omega arith) closed) o)
+      absurd (both_ways _ (ap (λ k. is_open k p) (sym (take-append-drop n h)) ∙
+      stays_closed_after (take n h) (drop n h) p (let t = length-take-le n h (omega arith) in omega arith) closed) o)
 
 order_front : (h : List Event) (n g p : ℕ) → n < length h → p < n → IsInOrderAt h g p → IsInOrderAt (take n h) g p
 order_front h n g p l less ordered a k within connects =
     let short = length-take-le n h (omega arith) in
     let whole : take n h ++ drop n h ≡ h = take-append-drop n h in
-    let inside : is_within h a p ≡ true = ap (λ x. is_within x a p) (sym whole) ∙ ap (list_any (λ x. a == x)) (ancestors-append (take n h) (drop n h) p (omega arith)) ∙ within in
+    let inside : is_within h a p ≡ true =
+    ap (λ x. is_within x a p) (sym whole) ∙ ap (list_any (λ x. a == x)) (ancestors-append (take n h) (drop n h) p (omega arith)) ∙ within in
     ordered a k inside (ap (λ x. slice_get x a) (sym whole) ∙ slice_get-append (take n h) (drop n h) a (slice_get_within (take n h) a _ connects) ∙ connects)
 
 module _ (b : Kept) (h : List Event) (law : IsLawful b h) (settled : IsSettled b h) where
@@ -212,7 +215,9 @@ module _ (b : Kept) (h : List Event) (law : IsLawful b h) (settled : IsSettled b
     by_test : (o : Bool) → is_open h f ≡ o → count_by (pays f) s ≤ projected_by (base_of b h) s f
     by_test true o = s_paid b h sound f o
     by_test false closed =
-        let none : count_by (pays f) s ≡ 0 = count_none (pays f) s (λ i x at_i. never (pays f x) (λ p. both_ways _ closed (parent_there i f x at_i (pays_named x (s_making b h i x at_i) p)))) in
+        let none : count_by (pays f) s ≡ 0 =
+        count_none (pays f) s
+        (λ i x at_i. never (pays f x) (λ p. both_ways _ closed (parent_there i f x at_i (pays_named x (s_making b h i x at_i) p)))) in
         omega arith
 
   alive : (n : ℕ) (e : Event) → slice_get s n ≡ Some e → makes_node e ≡ true → is_open s n ≡ true
@@ -242,10 +247,16 @@ module _ (b : Kept) (h : List Event) (law : IsLawful b h) (settled : IsSettled b
         connects = connects;
         accepts = accepts;
         holds = holds;
-        one_source = λ f x y one other. one_source b h law f x y (at_there (is_source_of f) (makes_source f) x one) (at_there (is_source_of f) (makes_source f) y other);
+        one_source =
+            λ f x y one other. one_source b h law f x y (at_there (is_source_of f) (makes_source f) x one)
+            (at_there (is_source_of f) (makes_source f) y other);
         leases = leases;
-        one_inner = λ f x y switch one one_open other other_open. s_one_inner b h sound f x y (record { switch = switch; one = one; one_open = one_open; other = other; other_open = other_open });
-        one_connection = λ g x y one one_open other other_open. base_one_connection b h sound (one_connection b h law) g x y (record { one = one; one_open = one_open; other = other; other_open = other_open });
+        one_inner =
+            λ f x y switch one one_open other other_open. s_one_inner b h sound f x y
+            (record { switch = switch; one = one; one_open = one_open; other = other; other_open = other_open });
+        one_connection =
+            λ g x y one one_open other other_open. base_one_connection b h sound (one_connection b h law) g x y
+            (record { one = one; one_open = one_open; other = other; other_open = other_open });
         unused = unused;
         parts = agree_accepted b h (base_of b h) s agree (accepted_count-parts b h law);
         unkept = unkept;

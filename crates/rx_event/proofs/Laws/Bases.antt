@@ -1,5 +1,6 @@
 -- The base of a history reads as a list of events with the same hubs and open nodes.
-use Rattle.std.proofs.Common.{◌≡◌, ℕ, zero, suc, ◌+◌, ◌<◌, ◌≤◌, Bool, true, false, List, [], ◌∷◌, length, drop, map, cond, Option, Some, None, refl, sym, ap, subst, ◌∙◌, arith, inl, inr, ◌⊎◌, nat_lt, ◌==◌, slice_get, filter}
+use Rattle.std.proofs.Common.{◌≡◌, ℕ, zero, suc, ◌+◌, ◌<◌, ◌≤◌, Bool, true, false, List, [], ◌∷◌, length, drop, map, cond, Option}
+use Rattle.std.proofs.Common.{Some, None, refl, sym, ap, subst, ◌∙◌, arith, inl, inr, ◌⊎◌, nat_lt, ◌==◌, slice_get, filter}
 use Rattle.std.proofs.Math.Bool.{not, ◌&&◌}
 use Rattle.std.specs.List.{list_any, range_with_len}
 use Rattle.std.specs.Option.{option_and_then, option_map, option_map_or}
@@ -57,7 +58,8 @@ module _ {X : Type 0} (number : X → ℕ) (keep : ℕ → X) (numbered : (n : �
     rest : Option X
     rest = find_by number (map keep (filter p (range_with_len (s + 1) n))) k
 
-    here : (b : Bool) → s ≡ k → p s ≡ b → find_by number (map keep (cond b (s ∷ filter p (range_with_len (s + 1) n)) (filter p (range_with_len (s + 1) n)))) k ≡ cond (p k) (Some (keep k)) None
+    here : (b : Bool) → s ≡ k → p s ≡ b →
+        find_by number (map keep (cond b (s ∷ filter p (range_with_len (s + 1) n)) (filter p (range_with_len (s + 1) n)))) k ≡ cond (p k) (Some (keep k)) None
     here true same at_s =
         ap (λ c. cond c (Some (keep s)) rest) (ap (λ m. m == k) (numbered s) ∙ eq-eqb s k same) ∙ ap (λ m. Some (keep m)) same ∙
         ap (λ c. cond c (Some (keep k)) None) (sym at_s ∙ ap p same)
@@ -75,7 +77,8 @@ module _ {X : Type 0} (number : X → ℕ) (keep : ℕ → X) (numbered : (n : �
     by_order (inr (inr l)) further = absurd (omega arith)
 
   -- the record of this number, where the number passes
-  pub found : (len : ℕ) → ((n : ℕ) → p n ≡ true → n < len) → (k : ℕ) → find_by number (map keep (filter p (range_with_len 0 len))) k ≡ cond (p k) (Some (keep k)) None
+  pub found : (len : ℕ) → ((n : ℕ) → p n ≡ true → n < len) → (k : ℕ) →
+      find_by number (map keep (filter p (range_with_len 0 len))) k ≡ cond (p k) (Some (keep k)) None
   found len within k = by_order (cases_lt k len) where
     none : (b : Bool) → p k ≡ b → len ≤ k → cond b (Some (keep k)) None ≡ None
     none true passes past = absurd (let l = within k passes in omega arith)
@@ -212,7 +215,8 @@ inner_parent h f n less inner = ap (option_and_then (if_less n)) (names (slice_g
   names (Some _) inner = absurd (false≢true inner)
 
 -- no later place of the base's list shuts an open node
-not_shut_later : (b : Kept) (h : List Event) → ((f x y : ℕ) → TwoOpenInners h f x y → x ≡ y) → (n m : ℕ) (x : Event) → is_open h n ≡ true → n < m → slice_get (shown (base_of b h)) m ≡ Some x →
+not_shut_later : (b : Kept) (h : List Event) → ((f x y : ℕ) → TwoOpenInners h f x y → x ≡ y) → (n m : ℕ) (x : Event) → is_open h n ≡ true → n < m →
+    slice_get (shown (base_of b h)) m ≡ Some x →
     shuts (shown (base_of b h)) n x ≡ true → ⊥
 not_shut_later b h law n m x o later at_m shut = by_event x (kept_at b h m x at_m) shut where
   s : List Event
@@ -227,7 +231,14 @@ not_shut_later b h law n m x o later at_m shut = by_event x (kept_at b h m x at_
       let front = and_parts (nat_lt f n) (at is_switch s f) parts.0 in
       let inner : at (is_inner_of f) h n ≡ true = sym (same_at (is_inner_of f) n o) ∙ parts.1 in
       let f_open : is_open h f ≡ true = parent_open h n f o (inner_parent h f n front.0 inner) in
-      let same = law f n m (record { switch = sym (same_at is_switch f f_open) ∙ front.1; one = inner; one_open = o; other = ap (λ e. option_map_or (is_inner_of f) e false) at_m ∙ eq-eqb f f refl; other_open = m_open }) in
+      let same =
+      law f n m (record {
+        switch = sym (same_at is_switch f f_open) ∙ front.1;
+        one = inner;
+        one_open = o;
+        other = ap (λ e. option_map_or (is_inner_of f) e false) at_m ∙ eq-eqb f f refl;
+        other_open = m_open;
+      }) in
       absurd (omega arith)
 
   by_event : (x : Event) → KeptAt h m x → shuts s n x ≡ true → ⊥
@@ -243,10 +254,12 @@ not_shut_later b h law n m x o later at_m shut = by_event x (kept_at b h m x at_
   by_event (Hub mode) k shut = false≢true shut
   by_event _ k shut = false≢true shut
 
-not_shut_here : (b : Kept) (h : List Event) → ((f x y : ℕ) → TwoOpenInners h f x y → x ≡ y) → (n : ℕ) → is_open h n ≡ true → is_shut (shown (base_of b h)) n ≡ false
+not_shut_here : (b : Kept) (h : List Event) → ((f x y : ℕ) → TwoOpenInners h f x y → x ≡ y) → (n : ℕ) → is_open h n ≡ true →
+    is_shut (shown (base_of b h)) n ≡ false
 unfolding is_shut
 not_shut_here b h law n o = by_test (cases_Bool (list_any (shuts (shown (base_of b h)) n) (drop (suc n) (shown (base_of b h))))) where
-  by_test : (list_any (shuts (shown (base_of b h)) n) (drop (suc n) (shown (base_of b h))) ≡ true) ⊎ (list_any (shuts (shown (base_of b h)) n) (drop (suc n) (shown (base_of b h))) ≡ false) →
+  by_test : (list_any (shuts (shown (base_of b h)) n) (drop (suc n) (shown (base_of b h))) ≡ true) ⊎
+      (list_any (shuts (shown (base_of b h)) n) (drop (suc n) (shown (base_of b h))) ≡ false) →
       list_any (shuts (shown (base_of b h)) n) (drop (suc n) (shown (base_of b h))) ≡ false
   by_test (inr none) = none
   by_test (inl some) =
@@ -257,7 +270,8 @@ parent_of_event : (s h : List Event) (n : ℕ) → slice_get s n ≡ slice_get h
 unfolding parent
 parent_of_event s h n same = ap (λ x. option_and_then (if_less n) (option_and_then parent_named x)) same
 
-open_within_base : (k : ℕ) (b : Kept) (h : List Event) → ((f x y : ℕ) → TwoOpenInners h f x y → x ≡ y) → (n : ℕ) → n < k → is_open (shown (base_of b h)) n ≡ is_open h n
+open_within_base : (k : ℕ) (b : Kept) (h : List Event) → ((f x y : ℕ) → TwoOpenInners h f x y → x ≡ y) → (n : ℕ) → n < k →
+    is_open (shown (base_of b h)) n ≡ is_open h n
 open_within_base zero b h law n l = absurd (omega arith)
 open_within_base (suc k) b h law n l = by_test (is_open h n) refl (λ m less. open_within_base k b h law m (omega arith)) where
   s : List Event
@@ -273,7 +287,8 @@ open_within_base (suc k) b h law n l = by_test (is_open h n) refl (λ m less. op
   by_test : (o : Bool) → is_open h n ≡ o → ((m : ℕ) → m < n → is_open s m ≡ is_open h m) → is_open s n ≡ o
   by_test true o further =
       let stands : at makes_node s n ≡ true = ap (λ e. option_map_or makes_node e false) (kept_open b h n o) ∙ open_node h n o in
-      let open_above : option_map_or (is_open s) (parent s n) true ≡ true = ap (λ x. option_map_or (is_open s) x true) (same_parent o) ∙ above further o (parent h n) refl in
+      let open_above : option_map_or (is_open s) (parent s n) true ≡ true =
+      ap (λ x. option_map_or (is_open s) x true) (same_parent o) ∙ above further o (parent h n) refl in
       is_open_step s n ∙ (λ i. (stands i && not (not_shut_here b h law n o i)) && open_above i)
   by_test false closed further = is_open_step s n ∙ (λ i. (closed_here b h n closed i && not (is_shut s n)) && option_map_or (is_open s) (parent s n) true)
 

@@ -1,6 +1,7 @@
 -- After an event that ends no node, declines nothing and fires none, no node is due to end that was not before. Where it closes none
 -- either, nothing is forced that was not, but the connection of a new subscriber's hub.
-use Rattle.std.proofs.Common.{◌≡◌, ℕ, ◌<◌, Bool, true, false, List, [], ◌∷◌, ◌++◌, length, Option, Some, None, option_map, slice_get, refl, sym, ap, subst, ◌∙◌, inl, inr, ◌⊎◌, arith, length-append}
+use Rattle.std.proofs.Common.{◌≡◌, ℕ, ◌<◌, Bool, true, false, List, [], ◌∷◌, ◌++◌, length, Option, Some, None, option_map}
+use Rattle.std.proofs.Common.{slice_get, refl, sym, ap, subst, ◌∙◌, inl, inr, ◌⊎◌, arith, length-append}
 use Rattle.std.proofs.Math.Bool.{not, ◌&&◌}
 use Rattle.std.specs.List.{list_any}
 use Rattle.std.proofs.lemmas.Bool.{false≢true, cases_order, both_ways, and_parts, and_from, eq-eqb}
@@ -17,7 +18,8 @@ use Rattle.rx_event.specs.Events.{is_auto_hub, is_manual_hub, is_subscriber_of, 
 use Rattle.rx_event.specs.Tree.{at, places, is_open, open_subscribers, open_connections}
 use Rattle.rx_event.specs.Moments.{is_firing_of, stops_of}
 use Rattle.rx_event.specs.Marks.{marks_of, terminal_due, due_at}
-use Rattle.rx_event.specs.Forced.{mirrored, fired, failed, completed, cut, left, connecting, due, SourceEnded, IsDue, IsForced, IsConnectDue, IsConnected, IsSettled}
+use Rattle.rx_event.specs.Forced.{mirrored, fired, failed, completed, cut, left, connecting, due, SourceEnded}
+use Rattle.rx_event.specs.Forced.{IsDue, IsForced, IsConnectDue, IsConnected, IsSettled}
 use Rattle.rx_event.specs.Allowed.{connected, IsAllowed}
 use Rattle.rx_event.specs.Lawful.{forced, allowed, stays, more, MayFollow, IsLawful, IsForcedOn}
 use Rattle.rx_event.specs.Claims.Stays.{ends_or_declines, FiresNone, ClosesNone, ConnectsAtMost, is_done, is_waiting_for}
@@ -39,7 +41,8 @@ abbrev pub EndsNone : (base : Kept) → List Event → Type 0
 EndsNone base h = (n : ℕ) (t : Terminal) → ¬ IsDue base h (End n t)
 
 -- after such an event what is due to end was so before
-pub due_calm : (base : Kept) → (h : List Event) (e : Event) → IsLawful base h → MayFollow base h e → ends_or_declines e ≡ false → FiresNone h e → (n : ℕ) (t : Terminal) →
+pub due_calm : (base : Kept) → (h : List Event) (e : Event) → IsLawful base h → MayFollow base h e → ends_or_declines e ≡ false → FiresNone h e →
+    (n : ℕ) (t : Terminal) →
     IsDue base (h ++ e ∷ []) (End n t) → IsDue base h (End n t)
 due_calm base h e law next calm unfired n t d = by_reason (due_before base h e law next n t d) where
   ends_calm : (x : Event) → ends_or_declines x ≡ false → ends_as x ≡ Some t → ⊥
@@ -58,7 +61,8 @@ due_calm base h e law next calm unfired n t d = by_reason (due_before base h e l
   by_reason (inr (fires_it now whole)) = absurd (both_ways (list_any (is_firing_of n) (stops_of h e)) (unfired n) now)
 
 -- so no node is, where none was
-pub ends_none_on : (base : Kept) → (h : List Event) (e : Event) → IsLawful base h → MayFollow base h e → ends_or_declines e ≡ false → FiresNone h e → EndsNone base h →
+pub ends_none_on : (base : Kept) → (h : List Event) (e : Event) → IsLawful base h → MayFollow base h e → ends_or_declines e ≡ false → FiresNone h e →
+    EndsNone base h →
     EndsNone base (h ++ e ∷ [])
 ends_none_on base h e law next calm unfired ends_none n t d = ends_none n t (due_calm base h e law next calm unfired n t d)
 
@@ -74,7 +78,8 @@ quiet_ends_none base h ends_none n made o at_n = by_terminal (terminal_due made 
   by_terminal (Some t) found = absurd (ends_none n t (terminal_due_due base h n made t o at_n found))
 
 -- so none do after such an event
-pub quiet_on : (base : Kept) → (h : List Event) (e : Event) → IsLawful base h → MayFollow base h e → IsSettled base h → ends_or_declines e ≡ false → FiresNone h e → (n : ℕ) (made : Event) →
+pub quiet_on : (base : Kept) → (h : List Event) (e : Event) → IsLawful base h → MayFollow base h e → IsSettled base h → ends_or_declines e ≡ false →
+    FiresNone h e → (n : ℕ) (made : Event) →
     is_open (h ++ e ∷ []) n ≡ true → slice_get (h ++ e ∷ []) n ≡ Some made → due_at made (marks_of base (h ++ e ∷ []) n) n ≡ None
 quiet_on base h e law next settled calm unfired n made o at_n =
     quiet_ends_none base (h ++ e ∷ []) (ends_none_on base h e law next calm unfired (settled_ends_none base h settled)) n made o at_n
@@ -125,7 +130,8 @@ abbrev pub KeepsSubscribers : List Event → List Event → ℕ → Type 0
 KeepsSubscribers h k g = (s : ℕ) → at (is_subscriber_of g) h s ≡ true → is_open h s ≡ true → is_open k s ≡ true
 
 -- then an older connection of g that nobody uses was so before
-pub unused_older : (base : Kept) → (h t k : List Event) → k ≡ h ++ t → IsLawful base k → (c g : ℕ) → IsUnused k c g → c < length h → KeepsSubscribers h k g → IsUnused h c g
+pub unused_older : (base : Kept) → (h t k : List Event) → k ≡ h ++ t → IsLawful base k → (c g : ℕ) → IsUnused k c g → c < length h → KeepsSubscribers h k g →
+    IsUnused h c g
 unused_older base h t k grown law c g u l keeps = record {
   alive = open_older h t c l (ap (λ (q : List Event). is_open q c) (sym grown) ∙ u.alive);
   made = sym (slice_get-append h t c l) ∙ ap (λ (q : List Event). slice_get q c) (sym grown) ∙ u.made;
@@ -140,7 +146,8 @@ unused_older base h t k grown law c g u l keeps = record {
       ap (λ (q : List Event). at (is_subscriber_of g) q s) grown ∙ at-append (is_subscriber_of g) h t s (is_open_within h s was) ∙ subscribes
 
 -- after an event that closes nothing only what it connects is unused that was not before
-unused_new : (base : Kept) → (h : List Event) (e : Event) (c g : ℕ) → IsLawful base (h ++ e ∷ []) → ClosesNone h e → HasNoUnused h → IsUnused (h ++ e ∷ []) c g → e ≡ Connect g
+unused_new : (base : Kept) → (h : List Event) (e : Event) (c g : ℕ) → IsLawful base (h ++ e ∷ []) → ClosesNone h e → HasNoUnused h →
+    IsUnused (h ++ e ∷ []) c g → e ≡ Connect g
 unused_new base h e c g law still used u = by_place (cases_order c (length h)) where
   by_place : (c ≡ length h) ⊎ ((c < length h) ⊎ (length h < c)) → e ≡ Connect g
   by_place (inl same) = same_Some e (Connect g) (sym (slice_get_last h e) ∙ ap (slice_get (h ++ e ∷ [])) (sym same) ∙ u.made)
@@ -186,7 +193,8 @@ closes_none_by base h (Close n) next calm still =
 closes_none_by base h _ next calm still = refl
 
 -- After a calm event that closes nothing and subscribes to no hub nothing is forced, where nothing was before
-pub settled_on : (base : Kept) → (h : List Event) (e : Event) → IsLawful base h → MayFollow base h e → IsSettled base h → ends_or_declines e ≡ false → FiresNone h e → ClosesNone h e →
+pub settled_on : (base : Kept) → (h : List Event) (e : Event) → IsLawful base h → MayFollow base h e → IsSettled base h → ends_or_declines e ≡ false →
+    FiresNone h e → ClosesNone h e →
     hub_subscribed e ≡ None → IsSettled base (h ++ e ∷ [])
 settled_on base h e law next settled calm unfired still unsubscribed =
     settled_undue base (h ++ e ∷ []) (kept_unsubscribed base h e law (settled_connected base h settled) (closes_none_by base h e next calm still) unsubscribed)
@@ -227,7 +235,8 @@ connects_at_most base h g s law ends_none used only subscribes o = by_test (at i
   waiting d =
       let next = forced (connecting d) in
       is_waiting_for (connecting d) (alone d)
-      (settled_undue base (h ++ Connect g ∷ []) (connected_first base h g only) (ends_none_on base h (Connect g) law next refl (λ m. refl) ends_none) (used_after next))
+      (settled_undue base (h ++ Connect g ∷ []) (connected_first base h g only) (ends_none_on base h (Connect g) law next refl (λ m. refl) ends_none)
+      (used_after next))
 
   done : ((k : ℕ) → IsConnectDue h k → k ≡ g → ⊥) → ConnectsAtMost base h g
   done other = is_done (settled_undue base h (λ k d. other k d (only k d)) ends_none used)
@@ -248,7 +257,8 @@ opened_settled base (forced f) = absurd (false≢true (forced_kind base f))
 opened_settled base (allowed settled a) = settled
 
 -- After the opening of a subscriber that closes nothing either nothing is forced, or just that its hub is connected, and then nothing
-pub subscribed_on : (base : Kept) → (h : List Event) (place : Place) (g : ℕ) → IsLawful base h → MayFollow base h (Open place (Sub g)) → ClosesNone h (Open place (Sub g)) →
+pub subscribed_on : (base : Kept) → (h : List Event) (place : Place) (g : ℕ) → IsLawful base h → MayFollow base h (Open place (Sub g)) →
+    ClosesNone h (Open place (Sub g)) →
     ConnectsAtMost base (h ++ Open place (Sub g) ∷ []) g
 subscribed_on base h place g law next still =
     let settled = opened_settled base next in

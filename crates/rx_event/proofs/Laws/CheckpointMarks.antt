@@ -72,19 +72,22 @@ fired_until base = by_events base (λ h. (u : ℕ) → is_fired h u ≡ true →
 
 -- in a settled history no open node was fired
 settled_unfired : (base : Kept) (h : List Event) → IsLawful base h → IsSettled base h → (n : ℕ) → is_open h n ≡ true → is_fired h n ≡ false
-settled_unfired base h law settled n o = never (is_fired h n) (λ is. settled.none (End n Completed) (due (settled_connected base h settled) (fired o (fired_until base h law n is) is)))
+settled_unfired base h law settled n o =
+    never (is_fired h n) (λ is. settled.none (End n Completed) (due (settled_connected base h settled) (fired o (fired_until base h law n is) is)))
 
 -- what agreeing histories leave ------------------------------------------------------------------------
 
 module _ (b : Kept) (h : List Event) (c : Kept) (k : List Event) (a : Agree b h c k) where
   same_child : (n m : ℕ) → is_open_child_of h n m ≡ is_open_child_of k n m
-  same_child n m = by_test (is_open h m) (is_open k m) (a.alike.same_open m) (λ o. ap (λ p. option_map_or (λ q. q == n) p false) (parent_alike h k a.alike m o)) where
-    by_test : (x y : Bool) → x ≡ y → (x ≡ true → option_map_or (λ q. q == n) (parent h m) false ≡ option_map_or (λ q. q == n) (parent k m) false) →
-        (x && option_map_or (λ q. q == n) (parent h m) false) ≡ (y && option_map_or (λ q. q == n) (parent k m) false)
-    by_test true true same then = then refl
-    by_test false false same then = refl
-    by_test true false same then = absurd (false≢true (sym same))
-    by_test false true same then = absurd (false≢true same)
+  same_child n m =
+      by_test (is_open h m) (is_open k m) (a.alike.same_open m) (λ o. ap (λ p. option_map_or (λ q. q == n) p false) (parent_alike h k a.alike m o))
+    where
+      by_test : (x y : Bool) → x ≡ y → (x ≡ true → option_map_or (λ q. q == n) (parent h m) false ≡ option_map_or (λ q. q == n) (parent k m) false) →
+          (x && option_map_or (λ q. q == n) (parent h m) false) ≡ (y && option_map_or (λ q. q == n) (parent k m) false)
+      by_test true true same then = then refl
+      by_test false false same then = refl
+      by_test true false same then = absurd (false≢true (sym same))
+      by_test false true same then = absurd (false≢true same)
 
   same_children : (n : ℕ) → open_children h n ≡ open_children k n
   unfolding open_children

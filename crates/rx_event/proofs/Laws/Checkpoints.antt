@@ -1,5 +1,6 @@
 -- Checkpoints: a stored history and its base agree, and go on by the same events.
-use Rattle.std.proofs.Common.{◌≡◌, ℕ, ◌+◌, length, Bool, true, false, List, [], ◌∷◌, ◌++◌, map, cond, Option, Some, None, refl, sym, ap, subst, ◌∙◌, slice_get, sum_by, filter, append_assoc, append-nil, drop}
+use Rattle.std.proofs.Common.{◌≡◌, ℕ, ◌+◌, length, Bool, true, false, List, [], ◌∷◌, ◌++◌, map, cond, Option, Some, None}
+use Rattle.std.proofs.Common.{refl, sym, ap, subst, ◌∙◌, slice_get, sum_by, filter, append_assoc, append-nil, drop}
 use Rattle.std.proofs.Math.Bool.{◌||◌, ◌&&◌}
 use Rattle.std.specs.List.{AllByRecursion, range_with_len, filter_map}
 use Rattle.std.specs.Option.{option_map_or}
@@ -66,13 +67,17 @@ pub goes_on : (b : Kept) (h : List Event) (c : Kept) (k es : List Event) → IsL
 goes_on b h c k [] law law_k a each = record { continues = tt; agree = rw (append-nil h, append-nil k) a }
 goes_on b h c k (e ∷ es) law law_k a each =
     let next : MayFollow c k e = follows_too b h c k a law law_k each.0 in
-    let further : GoesOn b (h ++ e ∷ []) c (k ++ e ∷ []) es = goes_on b (h ++ e ∷ []) c (k ++ e ∷ []) es (IsLawful-push b h e law each.0) (IsLawful-push c k e law_k next) (agree-push b h c k e law law_k each.0 next a) each.1 in
+    let further : GoesOn b (h ++ e ∷ []) c (k ++ e ∷ []) es =
+    goes_on b (h ++ e ∷ []) c (k ++ e ∷ []) es (IsLawful-push b h e law each.0) (IsLawful-push c k e law_k next)
+    (agree-push b h c k e law law_k each.0 next a) each.1 in
     record { continues = (next, further.continues); agree = rw (← append_assoc h (e ∷ []) es, ← append_assoc k (e ∷ []) es) further.agree }
 
 mail_alike : (b : Kept) (h : List Event) (c : Kept) (k : List Event) → Agree b h c k → IsLawful b h → (e : Event) → MayFollow b h e → mail_of h e ≡ mail_of k e
-mail_alike b h c k a law (Item l v) f = (λ i. filter_map (told (a.alike.same_length i) v) (stops_of_alike b h k (Item l v) law (emits b h (Item l v) f) a.alike i))
+mail_alike b h c k a law (Item l v) f =
+    (λ i. filter_map (told (a.alike.same_length i) v) (stops_of_alike b h k (Item l v) law (emits b h (Item l v) f) a.alike i))
 mail_alike b h c k a law (End n t) f =
-    (λ i. cond (at_alike h k a.alike is_root n (may_end b f) i) ((record { place = a.alike.same_length i; to = n; note = Rattle.rx_note.specs.declared.note.Note.TheVariants.End t }) ∷ []) [])
+    (λ i. cond (at_alike h k a.alike is_root n (may_end b f) i)
+    ((record { place = a.alike.same_length i; to = n; note = Rattle.rx_note.specs.declared.note.Note.TheVariants.End t }) ∷ []) [])
 mail_alike b h c k a law (Open place kind) f = refl
 mail_alike b h c k a law _ f = refl
 
@@ -95,7 +100,8 @@ agreeing b h c k law law_c a e =
 map_filter_same : {X : Type 0} (f g : ℕ → X) (p : ℕ → Bool) → ((n : ℕ) → p n ≡ true → f n ≡ g n) → (ns : List ℕ) → map f (filter p ns) ≡ map g (filter p ns)
 map_filter_same f g p same [] = refl
 map_filter_same {X = X} f g p same (n ∷ ns) = by_test (p n) refl (map_filter_same f g p same ns) where
-  by_test : (c : Bool) → p n ≡ c → map f (filter p ns) ≡ map g (filter p ns) → map f (cond c (n ∷ filter p ns) (filter p ns)) ≡ map g (cond c (n ∷ filter p ns) (filter p ns))
+  by_test : (c : Bool) → p n ≡ c → map f (filter p ns) ≡ map g (filter p ns) →
+      map f (cond c (n ∷ filter p ns) (filter p ns)) ≡ map g (cond c (n ∷ filter p ns) (filter p ns))
   by_test true passes rest = (λ i. same n passes i ∷ rest i)
   by_test false fails rest = rest
 
@@ -103,7 +109,15 @@ module _ (b : Kept) (h : List Event) (c : Kept) (k : List Event) (a : Agree b h 
   same_nodes : map (keep_node b h) (open_nodes h) ≡ map (keep_node c k) (open_nodes k)
   same_nodes = map_filter_same (keep_node b h) (keep_node c k) (is_open h) same (places h) ∙ ap (map (keep_node c k)) (open_nodes_alike h k a.alike) where
     same : (n : ℕ) → is_open h n ≡ true → keep_node b h n ≡ keep_node c k n
-    same n o = (λ i. record { number = n; made = option_map_or (λ e. e) (a.alike.same_made n o i) (Close n); source_opened = a.sources n o i; notifier_opened = a.notifiers n o i; source_completed = a.completions n o i; owed = a.debts n o i })
+    same n o =
+        (λ i. record {
+          number = n;
+          made = option_map_or (λ e. e) (a.alike.same_made n o i) (Close n);
+          source_opened = a.sources n o i;
+          notifier_opened = a.notifiers n o i;
+          source_completed = a.completions n o i;
+          owed = a.debts n o i;
+        })
 
   same_hubs : map (keep_hub h) (hubs h) ≡ map (keep_hub k) (hubs k)
   same_hubs = map_filter_same (keep_hub h) (keep_hub k) (at makes_hub h) same (places h) ∙ ap (map (keep_hub k)) (hubs_alike h k a.alike) where
@@ -203,8 +217,9 @@ after_base b h es law settled longer =
 before_base : (b : Kept) (h es : List Event) → IsLawful b h → IsSettled b h → IsLawful (base_of b h) (shown (base_of b h) ++ es) → IsLawful b (h ++ es)
 before_base b h es law settled longer =
     let based = base_lawful b h law settled in
-    lawful_on b h es law (goes_on (base_of b h) (shown (base_of b h)) b h es based law
-    (agree_back b h (base_of b h) (shown (base_of b h)) (kept_agrees b h law settled)) (list_continues (base_of b h) (shown (base_of b h)) es based longer)).continues
+    let agree = agree_back b h (base_of b h) (shown (base_of b h)) (kept_agrees b h law settled) in
+    let from_base = list_continues (base_of b h) (shown (base_of b h)) es based longer in
+    lawful_on b h es law (goes_on (base_of b h) (shown (base_of b h)) b h es based law agree from_base).continues
 
 each_rule : (b : Kept) (h : List Event) (c : Kept) (k : List Event) → Agree b h c k → EachRule b h c k
 each_rule b h c k a =

@@ -1,5 +1,6 @@
 -- Climbs in the subject's own words: a node, and then the climbs of where it goes on, in order.
-use Rattle.std.proofs.Common.{◌≡◌, ◌↔◌, ℕ, zero, suc, ◌+◌, ◌*◌, ◌<◌, ◌≤◌, Bool, true, false, List, [], ◌∷◌, ◌++◌, length, take, Option, Some, None, cond, min, refl, sym, ap, ◌∙◌, arith, ◌==◌, slice_get, append_assoc, append-nil, add-zero, length-append}
+use Rattle.std.proofs.Common.{◌≡◌, ◌↔◌, ℕ, zero, suc, ◌+◌, ◌*◌, ◌<◌, ◌≤◌, Bool, true, false, List, [], ◌∷◌, ◌++◌, length, take, Option, Some}
+use Rattle.std.proofs.Common.{None, cond, min, refl, sym, ap, ◌∙◌, arith, ◌==◌, slice_get, append_assoc, append-nil, add-zero, length-append}
 use Rattle.std.proofs.Math.Bool.{◌&&◌}
 use Rattle.std.specs.List.{AllByRecursion, filter_map, flat_map, sum_by, range_with_len, cons_option}
 use Rattle.std.specs.Option.{option_map_or, option_to_list}
@@ -29,7 +30,8 @@ use Rattle.rx_event.proofs.Laws.Hubs.{subscriber_hub, hubs_in_order}
 -- climbs one after the other
 pub Visits-append : {h : List Event} {ns vs ms ws : List ℕ} → Visits h ns vs → Visits h ms ws → Visits h (ns ++ ms) (vs ++ ws)
 Visits-append nowhere q = q
-Visits-append {h = h} {ms = ms} {ws = ws} (visit {n = n} {others = others} {later = later} {rest = rest} p r) q = rw (append_assoc later rest ws) (visit p (Visits-append r q))
+Visits-append {h = h} {ms = ms} {ws = ws} (visit {n = n} {others = others} {later = later} {rest = rest} p r) q =
+    rw (append_assoc later rest ws) (visit p (Visits-append r q))
 
 -- there is only one way
 pub visits_only : {h : List Event} {ns vs ws : List ℕ} → Visits h ns vs → Visits h ns ws → vs ≡ ws
@@ -39,7 +41,8 @@ visits_only (visit {n = n} p r) (visit q s) = λ i. n ∷ visits_only p q i ++ v
 -- what is reached from open nodes is open
 pub visits_open : (h : List Event) {ns vs : List ℕ} → Visits h ns vs → AllByRecursion (λ m. is_open h m ≡ true) ns → AllByRecursion (λ m. is_open h m ≡ true) vs
 visits_open h nowhere open_all = tt
-visits_open h (visit {n = n} {later = later} {rest = rest} p r) open_all = (open_all.0, AllByRecursion-both (λ m. is_open h m ≡ true) later rest (visits_open h p (onward_open h n open_all.0)) (visits_open h r open_all.1))
+visits_open h (visit {n = n} {later = later} {rest = rest} p r) open_all =
+    (open_all.0, AllByRecursion-both (λ m. is_open h m ≡ true) later rest (visits_open h p (onward_open h n open_all.0)) (visits_open h r open_all.1))
 
 -- every climb ends --------------------------------------------------------------------------------
 
@@ -69,7 +72,9 @@ ends_below h d subscribed (suc j) n l o late = whole (ends_each h (onward h n) (
   by_parent : ((p : ℕ) → p < j → is_open h p ≡ true → IsLate h d p → Ends h (p ∷ [])) → (q : Option ℕ) → parent h n ≡ q →
       AllByRecursion (λ m. Ends h (m ∷ [])) (option_to_list q)
   by_parent up None below = tt
-  by_parent up (Some p) below = let s : p < n = parent-lt h n p below in (up p (omega arith) (parent_open h n p o below) (λ a k within connects. late a k (within_parent h a n p below within) connects), tt)
+  by_parent up (Some p) below =
+      let s : p < n = parent-lt h n p below in
+      (up p (omega arith) (parent_open h n p o below) (λ a k within connects. late a k (within_parent h a n p below within) connects), tt)
 
   by_subscriber : (g : ℕ) → slice_get h n ≡ Some (Connect g) → (s : ℕ) → (at (is_subscriber_of g) h s && is_open h s) ≡ true → Ends h (s ∷ [])
   by_subscriber g connects s both =
@@ -90,7 +95,9 @@ ends_below h d subscribed (suc j) n l o late = whole (ends_each h (onward h n) (
 -- the hubs above a subscriber are later than its own, and there are only so many
 ends_from : (base : Kept) → (h : List Event) → IsLawful base h → (d : ℕ) → EndsFrom h d
 ends_from base h law zero = λ g s subscribes o l. absurd (let w = subscriber_hub base h law g s subscribes in omega arith)
-ends_from base h law (suc d) = λ g s subscribes o l. ends_below h d (ends_from base h law d) (suc s) s (omega arith) o (λ a k within connects. let m = hubs_in_order base h law g s a k subscribes within connects in omega arith)
+ends_from base h law (suc d) =
+    λ g s subscribes o l. ends_below h d (ends_from base h law d) (suc s) s (omega arith) o
+    (λ a k within connects. let m = hubs_in_order base h law g s a k subscribes within connects in omega arith)
 
 -- so the climb from each open node ends
 pub visits_end : (base : Kept) → (h : List Event) → IsLawful base h → (n : ℕ) → is_open h n ≡ true → (vs : List ℕ) × Visits h (n ∷ []) vs
@@ -124,12 +131,14 @@ climbs_each : {h : List Event} {ns vs : List ℕ} → Visits h ns vs → length 
 climbs_each nowhere few = refl
 climbs_each {h = h} (visit {n = n} {others = others} {later = later} {rest = rest} p r) few =
     let count : length (n ∷ later ++ rest) ≡ suc (length later) + length rest = omega (arith, length-append later rest) in
-    let first : climb h n ≡ n ∷ later = climb_whole h n (n ∷ later ++ []) (visit p nowhere) (omega (arith, length-append later [])) ∙ ap (λ (xs : List ℕ). n ∷ xs) (append-nil later) in
+    let first : climb h n ≡ n ∷ later =
+    climb_whole h n (n ∷ later ++ []) (visit p nowhere) (omega (arith, length-append later [])) ∙ ap (λ (xs : List ℕ). n ∷ xs) (append-nil later) in
     let next : rest ≡ flat_map (climb h) others = climbs_each r (omega arith) in
     λ i. sym first i ++ next i
 
 -- within the limit the climb is the node, and then the climbs of where it goes on
-pub climb_in_order : (base : Kept) → (h : List Event) → IsLawful base h → (n : ℕ) → is_open h n ≡ true → visits h n ≤ most_visits → climb h n ≡ n ∷ flat_map (climb h) (onward h n)
+pub climb_in_order : (base : Kept) → (h : List Event) → IsLawful base h → (n : ℕ) → is_open h n ≡ true → visits h n ≤ most_visits →
+    climb h n ≡ n ∷ flat_map (climb h) (onward h n)
 climb_in_order base h law n o few = by_visits (visits_end base h law n o) where
   by_parts : {m : ℕ} {vs : List ℕ} → Visits h (m ∷ []) vs → climb h m ≡ vs → length vs ≤ most_visits → climb h m ≡ m ∷ flat_map (climb h) (onward h m)
   by_parts (visit {n = m} {later = later} p nowhere) whole short =
@@ -149,7 +158,9 @@ visited_nothing (suc k) h = refl
 pub stops_stop : (h : List Event) (n : ℕ) (s : Stop) → stop_at h n ≡ Some s → stops h n ≡ s ∷ []
 unfolding stops climb
 stops_stop h n s stop =
-    let one : climb h n ≡ n ∷ [] = ap (λ (xs : List ℕ). n ∷ xs) (ap (λ t. visited most_visits h (onward_unless t (option_map_or (onward_from h n) (slice_get h n) []) ++ [])) stop ∙ visited_nothing most_visits h) in
+    let one : climb h n ≡ n ∷ [] =
+    ap (λ (xs : List ℕ). n ∷ xs)
+    (ap (λ t. visited most_visits h (onward_unless t (option_map_or (onward_from h n) (slice_get h n) []) ++ [])) stop ∙ visited_nothing most_visits h) in
     ap (filter_map (stop_at h)) one ∙ rw stop refl
 
 -- within the limit the stops are those of the whole climb
@@ -165,7 +176,10 @@ filter_map-flat_map f g (x ∷ xs) = filter_map-append f (g x) (flat_map g xs) �
 pub stops_in_order : (base : Kept) → (h : List Event) → IsLawful base h → (n : ℕ) → is_open h n ≡ true → visits h n ≤ most_visits → stop_at h n ≡ None →
     stops h n ≡ flat_map (stops h) (onward h n)
 unfolding stops
-stops_in_order base h law n o few passes = ap (filter_map (stop_at h)) (climb_in_order base h law n o few) ∙ ap (λ t. cons_option t (filter_map (stop_at h) (flat_map (climb h) (onward h n)))) passes ∙ filter_map-flat_map (stop_at h) (climb h) (onward h n)
+stops_in_order base h law n o few passes =
+    ap (filter_map (stop_at h)) (climb_in_order base h law n o few) ∙
+    ap (λ t. cons_option t (filter_map (stop_at h) (flat_map (climb h) (onward h n)))) passes ∙
+    filter_map-flat_map (stop_at h) (climb h) (onward h n)
 
 -- counts ------------------------------------------------------------------------------------------
 
@@ -191,7 +205,9 @@ sum_by-by_number : (f : ℕ → ℕ) (n : ℕ) (xs : List ℕ) → AllByRecursio
 sum_by-by_number f n [] below = sym (sum_by_none (λ k. times k [] * f k) n (λ k l. omega arith))
 sum_by-by_number f n (x ∷ xs) below =
     let rest = sum_by-by_number f n xs below.1 in
-    let each : sum_by (λ k. times k (x ∷ xs) * f k) (range_with_len 0 n) ≡ sum_by (λ k. cond (x == k) (f k) 0 + times k xs * f k) (range_with_len 0 n) = sum_by-same (λ k. cond (x == k) (f k) 0 + times k xs * f k) (λ k. times k (x ∷ xs) * f k) n (λ k l. ap (λ t. t * f k) (sum_by-cons (λ m. cond (m == k) 1 0) x xs) ∙ split_off (x == k) (times k xs) (f k)) in
+    let each : sum_by (λ k. times k (x ∷ xs) * f k) (range_with_len 0 n) ≡ sum_by (λ k. cond (x == k) (f k) 0 + times k xs * f k) (range_with_len 0 n) =
+    sum_by-same (λ k. cond (x == k) (f k) 0 + times k xs * f k) (λ k. times k (x ∷ xs) * f k) n
+    (λ k l. ap (λ t. t * f k) (sum_by-cons (λ m. cond (m == k) 1 0) x xs) ∙ split_off (x == k) (times k xs) (f k)) in
     let split = sum_by-plus (λ k. cond (x == k) (f k) 0) (λ k. times k xs * f k) n in
     let one = sum_by_one f x n below.0 in
     let first = sum_by-cons f x xs in
@@ -222,4 +238,7 @@ length-sum_by (x ∷ xs) = let rest = length-sum_by xs in let first = sum_by-con
 
 -- all visits are those of the nodes together
 pub visits_all : (h : List Event) (n : ℕ) (vs : List ℕ) → is_open h n ≡ true → Visits h (n ∷ []) vs → length vs ≡ sum_by (λ k. times k vs) (places h)
-visits_all h n vs o v = length-sum_by vs ∙ sum_by-by_number (λ x. 1) (length h) vs (visits_in h n vs o v) ∙ sum_by-same (λ k. times k vs) (λ k. times k vs * 1) (length h) (λ k l. omega arith)
+visits_all h n vs o v =
+    length-sum_by vs ∙
+    sum_by-by_number (λ x. 1) (length h) vs (visits_in h n vs o v) ∙
+    sum_by-same (λ k. times k vs) (λ k. times k vs * 1) (length h) (λ k l. omega arith)

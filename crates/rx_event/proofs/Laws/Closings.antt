@@ -1,5 +1,6 @@
 -- Neither a closing nor what is forced opens a root or connects a hub that a caller connects, so what a caller holds open grows less.
-use Rattle.std.proofs.Common.{◌≡◌, ℕ, ◌+◌, ◌<◌, ◌≤◌, Bool, true, false, List, [], ◌∷◌, ◌++◌, length, Option, Some, None, cond, refl, sym, ap, ◌∙◌, arith, inl, inr, ◌⊎◌, slice_get, append_assoc, append-nil}
+use Rattle.std.proofs.Common.{◌≡◌, ℕ, ◌+◌, ◌<◌, ◌≤◌, Bool, true, false, List, [], ◌∷◌, ◌++◌, length, Option, Some, None}
+use Rattle.std.proofs.Common.{cond, refl, sym, ap, ◌∙◌, arith, inl, inr, ◌⊎◌, slice_get, append_assoc, append-nil}
 use Rattle.std.proofs.Math.Bool.{◌&&◌, not}
 use Rattle.std.specs.List.{count_by, list_all}
 use Rattle.std.specs.Option.{option_map_or}
@@ -13,7 +14,8 @@ use Rattle.rx_event.specs.Events.{makes_node, makes_hub, is_root, is_auto_hub, i
 use Rattle.rx_event.specs.Tree.{at, places, is_open, open_connections}
 use Rattle.rx_event.specs.Forced.{mirrored, fired, failed, completed, cut, left, connecting, due, IsDue, IsForced}
 use Rattle.rx_event.specs.Lawful.{stays, more, IsForcedOn, IsLawful}
-use Rattle.rx_event.specs.Claims.Closing.{is_open_root, is_manual_connect, is_manual_connection, open_root_count, manual_connection_count, IsLetGo, makes_neither, MakesNeither}
+use Rattle.rx_event.specs.Claims.Closing.{is_open_root, is_manual_connect, is_manual_connection, open_root_count}
+use Rattle.rx_event.specs.Claims.Closing.{manual_connection_count, IsLetGo, makes_neither, MakesNeither}
 use Rattle.rx_event.proofs.Laws.Places.{slice_get-append, cases_push}
 use Rattle.rx_event.proofs.Laws.Openness.{is_open_within, is_open_cut, is_open_outside-close}
 use Rattle.rx_event.proofs.Laws.Stands.{event_at}
@@ -171,7 +173,8 @@ kept_at (one_further {k = k} {e = e} rest opens) n x at_n =
     slice_get-append k (e ∷ []) n (slice_get_within k n x before) ∙ before
 
 -- so a hub that a caller connects, and that was not connected, is not connected
-pub stays_unconnected : {h k : List Event} → OpensNoneUpTo h k → (g : ℕ) → slice_get k g ≡ Some (Hub Manual) → open_connections h g ≡ [] → open_connections k g ≡ []
+pub stays_unconnected : {h k : List Event} → OpensNoneUpTo h k → (g : ℕ) → slice_get k g ≡ Some (Hub Manual) → open_connections h g ≡ [] →
+    open_connections k g ≡ []
 stays_unconnected {h = h} {k = k} on g manual none = by_list (open_connections k g) refl where
   by_list : (cs : List ℕ) → open_connections k g ≡ cs → cs ≡ []
   by_list [] found = refl
@@ -216,7 +219,8 @@ bit_le false true same = absurd (false≢true (same refl))
 
 -- the new place counts for nothing
 last_uncounted : (t : List Event → ℕ → Bool) (h : List Event) (e : Event) → IsKeptBack t → OpensNone h e → t (h ++ e ∷ []) (length h) ≡ false
-last_uncounted t h e kept opens = false_from_ne_true _ (λ found. let l = kept.within h (length h) (kept.before h e opens (length h) found) in absurd (omega arith))
+last_uncounted t h e kept opens =
+    false_from_ne_true _ (λ found. let l = kept.within h (length h) (kept.before h e opens (length h) found) in absurd (omega arith))
 
 count_after : (t : List Event → ℕ → Bool) (h : List Event) (e : Event) → IsKeptBack t → OpensNone h e →
     count_by (t (h ++ e ∷ [])) (places (h ++ e ∷ [])) ≡ count_by (t (h ++ e ∷ [])) (places h)
@@ -228,7 +232,9 @@ count_after t h e kept opens =
 count_no_more : (t : List Event → ℕ → Bool) → IsKeptBack t → {h k : List Event} → OpensNoneUpTo h k → count_by (t k) (places k) ≤ count_by (t h) (places h)
 count_no_more t kept stays_so = omega arith
 count_no_more t kept (one_further {k = k} {e = e} rest opens) =
-    let older = sum_by_no_rise (λ n. cond (t k n) 1 0) (λ n. cond (t (k ++ e ∷ []) n) 1 0) (length k) (λ n l. bit_le (t k n) (t (k ++ e ∷ []) n) (kept.before k e opens n)) in
+    let older =
+    sum_by_no_rise (λ n. cond (t k n) 1 0) (λ n. cond (t (k ++ e ∷ []) n) 1 0) (length k)
+    (λ n l. bit_le (t k n) (t (k ++ e ∷ []) n) (kept.before k e opens n)) in
     let same = count_after t k e kept opens in
     let first = count_no_more t kept rest in
     omega arith
@@ -239,7 +245,9 @@ count_less : (t : List Event → ℕ → Bool) (h : List Event) (e : Event) (c :
 count_less t h e c kept opens there gone =
     let one : cond {A = ℕ} (t h c) 1 0 ≡ 1 = ap (λ (b : Bool). cond {A = ℕ} b 1 0) there in
     let none : cond {A = ℕ} (t (h ++ e ∷ []) c) 1 0 ≡ 0 = ap (λ (b : Bool). cond {A = ℕ} b 1 0) gone in
-    let older = sum_by_falls (λ n. cond (t h n) 1 0) (λ n. cond (t (h ++ e ∷ []) n) 1 0) (length h) c (kept.within h c there) (λ n l. bit_le (t h n) (t (h ++ e ∷ []) n) (kept.before h e opens n)) (omega arith) in
+    let older =
+    sum_by_falls (λ n. cond (t h n) 1 0) (λ n. cond (t (h ++ e ∷ []) n) 1 0) (length h) c (kept.within h c there)
+    (λ n l. bit_le (t h n) (t (h ++ e ∷ []) n) (kept.before h e opens n)) (omega arith) in
     let same = count_after t h e kept opens in
     omega arith
 
@@ -262,7 +270,8 @@ closed_after h c = is_open_outside-close h c c ∙ rw (is_within_self h c) (no_l
   no_longer false = refl
 
 -- and a root or a connection less, whatever is forced then
-pub root_less : (base : Kept) → (h k : List Event) (n : ℕ) → is_open_root h n ≡ true → IsForcedOn base (h ++ Close n ∷ []) k → open_root_count k + 1 ≤ open_root_count h
+pub root_less : (base : Kept) → (h k : List Event) (n : ℕ) → is_open_root h n ≡ true → IsForcedOn base (h ++ Close n ∷ []) k →
+    open_root_count k + 1 ≤ open_root_count h
 root_less base h k n root f =
     let rest = roots_no_more (forced_on base f stays_so) in
     let less = count_less is_open_root h (Close n) n roots_kept_back (close_opens h n) root (and_left _ _ (closed_after h n)) in
@@ -276,32 +285,41 @@ connection_less base h k c connection f =
     omega arith
 
 -- the hub of a connection that is closed is not connected then
-pub hub_disconnected : (base : Kept) → (h k : List Event) (g c : ℕ) → IsLawful base h → at is_manual_hub h g ≡ true → is_open h c ≡ true → slice_get h c ≡ Some (Connect g) →
+pub hub_disconnected : (base : Kept) → (h k : List Event) (g c : ℕ) → IsLawful base h → at is_manual_hub h g ≡ true → is_open h c ≡ true →
+    slice_get h c ≡ Some (Connect g) →
     IsForcedOn base (h ++ Close c ∷ []) k → open_connections k g ≡ []
-hub_disconnected base h k g c law manual alive connects f = unconnected_after (forced_on base f stays_so) g here (by_list (open_connections (h ++ Close c ∷ []) g) refl) where
-  hub : slice_get h g ≡ Some (Hub Manual)
-  hub = manual_hub h g manual
+hub_disconnected base h k g c law manual alive connects f =
+    unconnected_after (forced_on base f stays_so) g here (by_list (open_connections (h ++ Close c ∷ []) g) refl)
+  where
+    hub : slice_get h g ≡ Some (Hub Manual)
+    hub = manual_hub h g manual
 
-  later : slice_get (h ++ Close c ∷ []) g ≡ Some (Hub Manual)
-  later = slice_get-append h (Close c ∷ []) g (slice_get_within h g (Hub Manual) hub) ∙ hub
+    later : slice_get (h ++ Close c ∷ []) g ≡ Some (Hub Manual)
+    later = slice_get-append h (Close c ∷ []) g (slice_get_within h g (Hub Manual) hub) ∙ hub
 
-  here : at is_manual_hub (h ++ Close c ∷ []) g ≡ true
-  here = rw later refl
+    here : at is_manual_hub (h ++ Close c ∷ []) g ≡ true
+    here = rw later refl
 
-  by_list : (cs : List ℕ) → open_connections (h ++ Close c ∷ []) g ≡ cs → cs ≡ []
-  by_list [] found = refl
-  by_list (d ∷ cs) found =
-      let first : (slice_get (h ++ Close c ∷ []) d ≡ Some (Connect g)) × (is_open (h ++ Close c ∷ []) d ≡ true) = first_connection (h ++ Close c ∷ []) g d cs found in
-      let before : IsManualConnection h g d = connection_before h (Close c) g d (close_opens h c) (record { connected = first.0; manual = later; alive = first.1 }) in
-      let same : c ≡ d = one_connection base h law g c d (record { one = rw connects (eq-eqb g g refl); one_open = alive; other = rw before.connected (eq-eqb g g refl); other_open = before.alive }) in
-      absurd (both_ways _ (closed_after h c) (ap (is_open (h ++ Close c ∷ [])) same ∙ first.1))
+    by_list : (cs : List ℕ) → open_connections (h ++ Close c ∷ []) g ≡ cs → cs ≡ []
+    by_list [] found = refl
+    by_list (d ∷ cs) found =
+        let first : (slice_get (h ++ Close c ∷ []) d ≡ Some (Connect g)) × (is_open (h ++ Close c ∷ []) d ≡ true) =
+        first_connection (h ++ Close c ∷ []) g d cs found in
+        let before : IsManualConnection h g d =
+        connection_before h (Close c) g d (close_opens h c) (record { connected = first.0; manual = later; alive = first.1 }) in
+        let same : c ≡ d =
+        one_connection base h law g c d
+        (record { one = rw connects (eq-eqb g g refl); one_open = alive; other = rw before.connected (eq-eqb g g refl); other_open = before.alive }) in
+        absurd (both_ways _ (closed_after h c) (ap (is_open (h ++ Close c ∷ [])) same ∙ first.1))
 
 -- a disconnection closes the one connection of its hub
-one_listed : (base : Kept) → (h : List Event) → IsLawful base h → (g c : ℕ) → slice_get h c ≡ Some (Connect g) → is_open h c ≡ true → open_connections h g ≡ c ∷ []
+one_listed : (base : Kept) → (h : List Event) → IsLawful base h → (g c : ℕ) → slice_get h c ≡ Some (Connect g) → is_open h c ≡ true →
+    open_connections h g ≡ c ∷ []
 one_listed base h law g c connects alive = by_list (open_connections h g) refl (one_open_connection base h law g) where
   by_list : (cs : List ℕ) → open_connections h g ≡ cs → length cs ≤ 1 → cs ≡ c ∷ []
   by_list [] found few = absurd (connection_listed h g c connects alive found)
   by_list (d ∷ []) found few =
       let first : (slice_get h d ≡ Some (Connect g)) × (is_open h d ≡ true) = first_connection h g d [] found in
-      ap (λ (n : ℕ). n ∷ []) (one_connection base h law g d c (record { one = rw first.0 (eq-eqb g g refl); one_open = first.1; other = rw connects (eq-eqb g g refl); other_open = alive }))
+      ap (λ (n : ℕ). n ∷ []) (one_connection base h law g d c
+      (record { one = rw first.0 (eq-eqb g g refl); one_open = first.1; other = rw connects (eq-eqb g g refl); other_open = alive }))
   by_list (d ∷ e ∷ cs) found few = absurd (omega arith)

@@ -1,5 +1,6 @@
 -- Connections, one event after the other: the last of a hub and its last end tell all others, and what each event changes.
-use Rattle.std.proofs.Common.{◌≡◌, ◌↔◌, ℕ, zero, suc, ◌+◌, ◌<◌, ◌≤◌, Bool, true, false, List, [], ◌∷◌, ◌++◌, length, Some, cond, refl, sym, ap, subst, ◌∙◌, inl, inr, ◌⊎◌, arith, slice_get, filter, append-nil, length-append}
+use Rattle.std.proofs.Common.{◌≡◌, ◌↔◌, ℕ, zero, suc, ◌+◌, ◌<◌, ◌≤◌, Bool, true, false, List, [], ◌∷◌, ◌++◌, length, Some, cond}
+use Rattle.std.proofs.Common.{refl, sym, ap, subst, ◌∙◌, inl, inr, ◌⊎◌, arith, slice_get, filter, append-nil, length-append}
 use Rattle.std.proofs.Math.Bool.{◌&&◌}
 use Rattle.std.specs.Option.{option_map_or}
 use Rattle.std.specs.List.{sum_by, range_with_len}
@@ -32,34 +33,43 @@ use Rattle.rx_event.proofs.Laws.Calm.{subscriber_listed}
 -- the last connection -------------------------------------------------------------------------------
 
 -- an open connection of a hub is the last one that was made
-pub last_connection : (base : Kept) → (h : List Event) → IsLawful base h → (g c d : ℕ) → at (is_connect_of g) h c ≡ true → is_open h c ≡ true → at (is_connect_of g) h d ≡ true → d ≤ c
-last_connection base = by_events base (λ h. (g c d : ℕ) → at (is_connect_of g) h c ≡ true → is_open h c ≡ true → at (is_connect_of g) h d ≡ true → d ≤ c) start after where
-  start : Started base → (g c d : ℕ) → at (is_connect_of g) (shown base) c ≡ true → is_open (shown base) c ≡ true → at (is_connect_of g) (shown base) d ≡ true → d ≤ c
-  start s g c d one alive other =
-      let same = s.one_connection g c d one alive other (s.alive d (Connect g) (at_connect (shown base) g d other) refl) in
-      omega arith
+pub last_connection : (base : Kept) → (h : List Event) → IsLawful base h → (g c d : ℕ) → at (is_connect_of g) h c ≡ true → is_open h c ≡ true →
+    at (is_connect_of g) h d ≡ true → d ≤ c
+last_connection base =
+    by_events base (λ h. (g c d : ℕ) → at (is_connect_of g) h c ≡ true → is_open h c ≡ true → at (is_connect_of g) h d ≡ true → d ≤ c) start after
+  where
+    start : Started base → (g c d : ℕ) → at (is_connect_of g) (shown base) c ≡ true → is_open (shown base) c ≡ true →
+        at (is_connect_of g) (shown base) d ≡ true → d ≤ c
+    start s g c d one alive other =
+        let same = s.one_connection g c d one alive other (s.alive d (Connect g) (at_connect (shown base) g d other) refl) in
+        omega arith
 
-  clash : (h : List Event) (e : Event) → MayFollow base h e → (g c d : ℕ) → c < length h → d ≡ length h → at (is_connect_of g) (h ++ e ∷ []) c ≡ true → is_open (h ++ e ∷ []) c ≡ true →
-      at (is_connect_of g) (h ++ e ∷ []) d ≡ true → ⊥
-  clash h e next g c d l last one alive other =
-      let new : is_connect_of g e ≡ true = sym (ap (λ o. option_map_or (is_connect_of g) o false) (ap (slice_get (h ++ e ∷ [])) last ∙ slice_get_last h e)) ∙ other in
-      let connects : at (is_connect_of g) h c ≡ true = sym (at-append (is_connect_of g) h (e ∷ []) c l) ∙ one in
-      filter_nonempty (λ n. at (is_connect_of g) h n && is_open h n) 0 (length h) c (omega arith) (omega arith) (and_from _ _ connects (open_old h e c l alive)) (connect_free base h e g next new)
+    clash : (h : List Event) (e : Event) → MayFollow base h e → (g c d : ℕ) → c < length h → d ≡ length h → at (is_connect_of g) (h ++ e ∷ []) c ≡ true →
+        is_open (h ++ e ∷ []) c ≡ true →
+        at (is_connect_of g) (h ++ e ∷ []) d ≡ true → ⊥
+    clash h e next g c d l last one alive other =
+        let new : is_connect_of g e ≡ true =
+        sym (ap (λ o. option_map_or (is_connect_of g) o false) (ap (slice_get (h ++ e ∷ [])) last ∙ slice_get_last h e)) ∙ other in
+        let connects : at (is_connect_of g) h c ≡ true = sym (at-append (is_connect_of g) h (e ∷ []) c l) ∙ one in
+        filter_nonempty (λ n. at (is_connect_of g) h n && is_open h n) 0 (length h) c (omega arith) (omega arith)
+        (and_from _ _ connects (open_old h e c l alive)) (connect_free base h e g next new)
 
-  after : (h : List Event) (e : Event) → IsLawful base h → MayFollow base h e →
-      ((g c d : ℕ) → at (is_connect_of g) h c ≡ true → is_open h c ≡ true → at (is_connect_of g) h d ≡ true → d ≤ c) → (g c d : ℕ) → at (is_connect_of g) (h ++ e ∷ []) c ≡ true →
-      is_open (h ++ e ∷ []) c ≡ true → at (is_connect_of g) (h ++ e ∷ []) d ≡ true → d ≤ c
-  after h e law next before g c d one alive other = by_place (cases_order c (length h)) (cases_order d (length h)) where
-    within : d < length h + 1
-    within = let l = at_within (is_connect_of g) (h ++ e ∷ []) d other in omega (arith, length-append h (e ∷ []))
+    after : (h : List Event) (e : Event) → IsLawful base h → MayFollow base h e →
+        ((g c d : ℕ) → at (is_connect_of g) h c ≡ true → is_open h c ≡ true → at (is_connect_of g) h d ≡ true → d ≤ c) → (g c d : ℕ) →
+        at (is_connect_of g) (h ++ e ∷ []) c ≡ true →
+        is_open (h ++ e ∷ []) c ≡ true → at (is_connect_of g) (h ++ e ∷ []) d ≡ true → d ≤ c
+    after h e law next before g c d one alive other = by_place (cases_order c (length h)) (cases_order d (length h)) where
+      within : d < length h + 1
+      within = let l = at_within (is_connect_of g) (h ++ e ∷ []) d other in omega (arith, length-append h (e ∷ []))
 
-    by_place : (c ≡ length h) ⊎ ((c < length h) ⊎ (length h < c)) → (d ≡ length h) ⊎ ((d < length h) ⊎ (length h < d)) → d ≤ c
-    by_place (inl p) q = let w = within in omega arith
-    by_place (inr (inr l)) q = let w = within in omega arith
-    by_place (inr (inl l)) (inl q) = absurd (clash h e next g c d l q one alive other)
-    by_place (inr (inl l)) (inr (inr m)) = absurd (let w = within in omega arith)
-    by_place (inr (inl l)) (inr (inl m)) =
-        before g c d (sym (at-append (is_connect_of g) h (e ∷ []) c l) ∙ one) (open_old h e c l alive) (sym (at-append (is_connect_of g) h (e ∷ []) d m) ∙ other)
+      by_place : (c ≡ length h) ⊎ ((c < length h) ⊎ (length h < c)) → (d ≡ length h) ⊎ ((d < length h) ⊎ (length h < d)) → d ≤ c
+      by_place (inl p) q = let w = within in omega arith
+      by_place (inr (inr l)) q = let w = within in omega arith
+      by_place (inr (inl l)) (inl q) = absurd (clash h e next g c d l q one alive other)
+      by_place (inr (inl l)) (inr (inr m)) = absurd (let w = within in omega arith)
+      by_place (inr (inl l)) (inr (inl m)) =
+          before g c d (sym (at-append (is_connect_of g) h (e ∷ []) c l) ∙ one) (open_old h e c l alive)
+          (sym (at-append (is_connect_of g) h (e ∷ []) d m) ∙ other)
 
 -- the last end ----------------------------------------------------------------------------------------
 
@@ -82,7 +92,8 @@ ends_of_source h g s t subscribes x = record {
 }
 
 -- and where that stands after it, it has
-pub source_ended_by : (h : List Event) (g s place : ℕ) (t : Terminal) → at (is_subscriber_of g) h s ≡ true → EndsConnection h g place t → s < place → SourceEnded h s t
+pub source_ended_by : (h : List Event) (g s place : ℕ) (t : Terminal) → at (is_subscriber_of g) h s ≡ true → EndsConnection h g place t → s < place →
+    SourceEnded h s t
 source_ended_by h g s place t subscribes x l = record {
   hub = g;
   connection = x.connection;
@@ -94,7 +105,8 @@ source_ended_by h g s place t subscribes x l = record {
 }
 
 -- an open subscriber is cut by the last end, where that stands after it, and by no other
-pub cut_by_last : (base : Kept) → (h : List Event) → IsLawful base h → (g s place : ℕ) (t u : Terminal) → EndsLast h g place t → at (is_subscriber_of g) h s ≡ true → is_open h s ≡ true →
+pub cut_by_last : (base : Kept) → (h : List Event) → IsLawful base h → (g s place : ℕ) (t u : Terminal) → EndsLast h g place t →
+    at (is_subscriber_of g) h s ≡ true → is_open h s ≡ true →
     SourceEnded h s u ↔ ((s < place) × (u ≡ t))
 cut_by_last base h law g s place t u x subscribes alive = (to, back) where
   to : SourceEnded h s u → (s < place) × (u ≡ t)
@@ -110,7 +122,8 @@ cut_by_last base h law g s place t u x subscribes alive = (to, back) where
 -- one event more --------------------------------------------------------------------------------------
 
 -- what has ended had ended, or the event ends a connection of its hub
-pub source_ended_or_now : (base : Kept) → (h : List Event) (e : Event) → IsLawful base h → MayFollow base h e → (s : ℕ) (t : Terminal) → SourceEnded (h ++ e ∷ []) s t →
+pub source_ended_or_now : (base : Kept) → (h : List Event) (e : Event) → IsLawful base h → MayFollow base h e → (s : ℕ) (t : Terminal) →
+    SourceEnded (h ++ e ∷ []) s t →
     SourceEnded h s t ⊎ EndsSource h e s t
 source_ended_or_now base h e law next s t x = by_place (cases_push h e (End x.connection t) x.place x.ended) where
   old : s < length h
@@ -178,7 +191,8 @@ waited_or_now base h e law next g d = by_test (is_subscriber_of g e) refl where
   by_test false out = inl (by_event e next out d)
 
 -- A connection that is due to be closed was so before, or a subscriber has gone, or it is new
-pub left_or_now : (base : Kept) → (h : List Event) (e : Event) → IsLawful base h → MayFollow base h e → (c : ℕ) → IsDue base (h ++ e ∷ []) (Close c) → HowLeft base h e c
+pub left_or_now : (base : Kept) → (h : List Event) (e : Event) → IsLawful base h → MayFollow base h e → (c : ℕ) → IsDue base (h ++ e ∷ []) (Close c) →
+    HowLeft base h e c
 left_or_now base h e law next c (left {g = g} alive connects auto none) = by_place (cases_order c (length h)) where
   before : c < length h → HowLeft base h e c
   before l = by_list (open_subscribers h g) refl where
@@ -196,7 +210,8 @@ left_or_now base h e law next c (left {g = g} alive connects auto none) = by_pla
     by_list : (ss : List ℕ) → open_subscribers h g ≡ ss → HowLeft base h e c
     by_list [] found = left_before (left (open_old h e c l alive) made (sym (at-append is_auto_hub h (e ∷ []) g older) ∙ auto) found)
     by_list (s ∷ ss) found =
-        let first : (at (is_subscriber_of g) h s && is_open h s) ≡ true = first_passes (λ n. at (is_subscriber_of g) h n && is_open h n) (places h) s ss found in
+        let first : (at (is_subscriber_of g) h s && is_open h s) ≡ true =
+        first_passes (λ n. at (is_subscriber_of g) h n && is_open h n) (places h) s ss found in
         let parts : (at (is_subscriber_of g) h s ≡ true) × (is_open h s ≡ true) = and_parts _ _ first in
         by_test s parts.0 parts.1 (is_open (h ++ e ∷ []) s) refl
 

@@ -13,11 +13,15 @@ use Rattle.rx_event.proofs.Laws.Lawful.{moments-push}
 pub notes-push : (h : List Event) (e : Event) → notes (h ++ e ∷ []) ≡ notes h ++ mail_of h e
 unfolding notes
 notes-push h e =
-    ap (flat_map (λ (m : Moment). mail_of m.before m.event)) (moments-push h e) ∙ flat_map-append (λ (m : Moment). mail_of m.before m.event) (moments h) ((record { before = h; event = e }) ∷ []) ∙ ap (λ (xs : List Mail). notes h ++ xs) (append-nil (mail_of h e))
+    ap (flat_map (λ (m : Moment). mail_of m.before m.event)) (moments-push h e) ∙
+    flat_map-append (λ (m : Moment). mail_of m.before m.event) (moments h) ((record { before = h; event = e }) ∷ []) ∙
+    ap (λ (xs : List Mail). notes h ++ xs) (append-nil (mail_of h e))
 
 -- so do its projections
 pub projections-push : (h : List Event) (e : Event) (f : ℕ) → projections (h ++ e ∷ []) f ≡ projections h f + count_by (is_projection_to f) (stops_of h e)
 unfolding projections
 projections-push h e f =
     let g : Moment → ℕ = λ m. count_by (is_projection_to f) (stops_of m.before m.event) in
-    ap (sum_by g) (moments-push h e) ∙ sum_by-append g (moments h) ((record { before = h; event = e }) ∷ []) ∙ ap (λ (k : ℕ). sum_by g (moments h) + k) (sum_by-cons g (record { before = h; event = e }) [] ∙ add-zero _)
+    ap (sum_by g) (moments-push h e) ∙
+    sum_by-append g (moments h) ((record { before = h; event = e }) ∷ []) ∙
+    ap (λ (k : ℕ). sum_by g (moments h) + k) (sum_by-cons g (record { before = h; event = e }) [] ∙ add-zero _)

@@ -1,5 +1,6 @@
 -- What one more event does to the debt.
-use Rattle.std.proofs.Common.{◌≡◌, ℕ, ℤ, ◌+◌, ◌*◌, ◌<◌, ◌≤◌, Bool, true, false, List, [], ◌∷◌, ◌++◌, length, Option, Some, None, cond, refl, ap, ◌∙◌, arith, ◌==◌}
+use Rattle.std.proofs.Common.{◌≡◌, ℕ, ℤ, ◌+◌, ◌*◌, ◌<◌, ◌≤◌, Bool, true, false, List, [], ◌∷◌, ◌++◌}
+use Rattle.std.proofs.Common.{length, Option, Some, None, cond, refl, ap, ◌∙◌, arith, ◌==◌}
 use Rattle.std.proofs.Math.Bool.{not, ◌&&◌, ◌||◌}
 use Rattle.std.specs.List.{sum_by, count_by}
 use Rattle.std.specs.Option.{option_map_or}
@@ -66,7 +67,8 @@ zero_or_zero false = refl
 owed_open_new : (base : Kept) → (h : List Event) → IsLawful base h → (e : Event) → owed_open base (h ++ e ∷ []) (length h) ≡ 0
 owed_open_new base h law e = rw (owed_new base h law e) (zero_or_zero (is_open (h ++ e ∷ []) (length h) && at is_merging (h ++ e ∷ []) (length h)))
 
-owed_count_older : (base : Kept) → (h : List Event) → IsLawful base h → (e : Event) → owed_count base (h ++ e ∷ []) ≡ sum_by (owed_open base (h ++ e ∷ [])) (places h)
+owed_count_older : (base : Kept) → (h : List Event) → IsLawful base h → (e : Event) →
+    owed_count base (h ++ e ∷ []) ≡ sum_by (owed_open base (h ++ e ∷ [])) (places h)
 owed_count_older base h law e = let last = sum_by-places-push (owed_open base (h ++ e ∷ [])) h e in let new = owed_open_new base h law e in omega arith
 
 -- how many open FlatMaps and Switches the event pays: one or none
@@ -78,8 +80,11 @@ pub owed_count-push : (base : Kept) → (h : List Event) (e : Event) → IsLawfu
     owed_count base (h ++ e ∷ []) + paid_count h e ≡ owed_count base h + sum_by (projected_open h (stops_of h e)) (places h)
 owed_count-push base h e law next whole =
     let older = owed_count_older base h law e in
-    let balance = sums_balance (owed_open base (h ++ e ∷ [])) (λ n. cond ((is_open h n && at is_merging h n) && pays n e) 1 0) (owed_open base h) (projected_open h (stops_of h e)) (length h) (λ n l.
-    rw (is_open_cut h e n l, whole n, at-append is_merging h (e ∷ []) n l) (shape (is_open h n) (at is_merging h n) (pays n e) _ _ _ (owed-push base h e law next n))) in
+    let balance =
+    sums_balance (owed_open base (h ++ e ∷ [])) (λ n. cond ((is_open h n && at is_merging h n) && pays n e) 1 0) (owed_open base h)
+    (projected_open h (stops_of h e)) (length h) (λ n l.
+    rw (is_open_cut h e n l, whole n, at-append is_merging h (e ∷ []) n l) (shape (is_open h n) (at is_merging h n) (pays n e) _ _ _
+    (owed-push base h e law next n))) in
     omega arith
   where
     inner : (b p : Bool) (x y z : ℕ) → x + cond p 1 0 ≡ y + z → cond b x 0 + cond (b && p) 1 0 ≡ cond b y 0 + cond b z 0
@@ -96,7 +101,8 @@ owed_open_no_rise : (base : Kept) → (h : List Event) (e : Event) → IsLawful 
 owed_open_no_rise base h e law next no_stops n l =
     let b = owed-push base h e law next n in
     let c : count_by (is_projection_to n) (stops_of h e) ≡ 0 = ap (λ ss. count_by (is_projection_to n) ss) no_stops in
-    rw (is_open_cut h e n l, at-append is_merging h (e ∷ []) n l) (shape (is_open h n) (is_cut h e n) (at is_merging h n) (owed base (h ++ e ∷ []) n) (owed base h n) (omega arith))
+    rw (is_open_cut h e n l, at-append is_merging h (e ∷ []) n l)
+    (shape (is_open h n) (is_cut h e n) (at is_merging h n) (owed base (h ++ e ∷ []) n) (owed base h n) (omega arith))
   where
     shape : (o c m : Bool) (x y : ℕ) → x ≤ y → cond ((o && not c) && m) x 0 ≤ cond (o && m) y 0
     shape true true m x y le = omega arith
@@ -105,7 +111,8 @@ owed_open_no_rise base h e law next no_stops n l =
     shape false c m x y le = omega arith
 
 -- an event that projects nothing raises nothing that is owed
-pub owed_count_no_rise : (base : Kept) → (h : List Event) (e : Event) → IsLawful base h → MayFollow base h e → stops_of h e ≡ [] → owed_count base (h ++ e ∷ []) ≤ owed_count base h
+pub owed_count_no_rise : (base : Kept) → (h : List Event) (e : Event) → IsLawful base h → MayFollow base h e → stops_of h e ≡ [] →
+    owed_count base (h ++ e ∷ []) ≤ owed_count base h
 owed_count_no_rise base h e law next no_stops =
     let older = owed_count_older base h law e in
     let b = sum_by_no_rise (owed_open base h) (owed_open base (h ++ e ∷ [])) (length h) (owed_open_no_rise base h e law next no_stops) in
@@ -116,7 +123,9 @@ pub owed_count_falls-inner : (base : Kept) → (h : List Event) (f : ℕ) (kind 
     owed_count base (h ++ Open (Inner f) kind ∷ []) + 1 ≤ owed_count base h
 owed_count_falls-inner base h f kind law next =
     let older = owed_count_older base h law (Open (Inner f) kind) in
-    let falls = sum_by_falls (owed_open base h) (owed_open base (h ++ Open (Inner f) kind ∷ [])) (length h) f l (owed_open_no_rise base h (Open (Inner f) kind) law next refl) at_f in
+    let falls =
+    sum_by_falls (owed_open base h) (owed_open base (h ++ Open (Inner f) kind ∷ [])) (length h) f l
+    (owed_open_no_rise base h (Open (Inner f) kind) law next refl) at_f in
     omega arith
   where
     l : f < length h
@@ -126,7 +135,13 @@ owed_count_falls-inner base h f kind law next =
     at_f =
         let b : owed base (h ++ Open (Inner f) kind ∷ []) f + cond (f == f) 1 0 ≡ owed base h f + 0 = owed-push base h (Open (Inner f) kind) law next f in
         let c : cond {A = ℕ} (f == f) 1 0 ≡ 1 = one_if (eq-eqb f f refl) in
-        rw (is_open_cut h (Open (Inner f) kind) f l, is_cut_inner h f kind f (omega arith), at-append is_merging h (Open (Inner f) kind ∷ []) f l, (may_open base next).0, (may_open base next).1) (omega arith)
+        rw (
+          is_open_cut h (Open (Inner f) kind) f l,
+          is_cut_inner h f kind f (omega arith),
+          at-append is_merging h (Open (Inner f) kind ∷ []) f l,
+          (may_open base next).0,
+          (may_open base next).1,
+        ) (omega arith)
 
 paid_none : (h : List Event) (e : Event) → ((n : ℕ) → pays n e ≡ false) → paid_count h e ≡ 0
 paid_none h e never = sum_by_none _ (length h) (λ n l. rw (never n) (shape (is_open h n && at is_merging h n))) where
@@ -135,16 +150,20 @@ paid_none h e never = sum_by_none _ (length h) (λ n l. rw (never n) (shape (is_
   shape false = refl
 
 paid_one : (h : List Event) (e : Event) (f : ℕ) → is_open h f ≡ true → at is_merging h f ≡ true → ((n : ℕ) → pays n e ≡ (f == n)) → paid_count h e ≡ 1
-paid_one h e f o m just = sum_by-same (λ n. cond (f == n) 1 0) (λ n. cond ((is_open h n && at is_merging h n) && pays n e) 1 0) (length h) (λ n l. rw (just n) (by_number n (f == n) refl)) ∙ count_by_one f (length h) (is_open_within h f o) where
-  by_number : (n : ℕ) (b : Bool) → (f == n) ≡ b → cond {A = ℕ} ((is_open h n && at is_merging h n) && b) 1 0 ≡ cond b 1 0
-  by_number n true same =
-      let p : is_open h n ≡ true = rw (← eqb-true f n same) o in
-      let q : at is_merging h n ≡ true = rw (← eqb-true f n same) m in
-      rw (p, q) refl
-  by_number n false apart = shape (is_open h n && at is_merging h n) where
-    shape : (b : Bool) → cond {A = ℕ} (b && false) 1 0 ≡ 0
-    shape true = refl
-    shape false = refl
+paid_one h e f o m just =
+    sum_by-same (λ n. cond (f == n) 1 0) (λ n. cond ((is_open h n && at is_merging h n) && pays n e) 1 0) (length h)
+    (λ n l. rw (just n) (by_number n (f == n) refl)) ∙
+    count_by_one f (length h) (is_open_within h f o)
+  where
+    by_number : (n : ℕ) (b : Bool) → (f == n) ≡ b → cond {A = ℕ} ((is_open h n && at is_merging h n) && b) 1 0 ≡ cond b 1 0
+    by_number n true same =
+        let p : is_open h n ≡ true = rw (← eqb-true f n same) o in
+        let q : at is_merging h n ≡ true = rw (← eqb-true f n same) m in
+        rw (p, q) refl
+    by_number n false apart = shape (is_open h n && at is_merging h n) where
+      shape : (b : Bool) → cond {A = ℕ} (b && false) 1 0 ≡ 0
+      shape true = refl
+      shape false = refl
 
 projects_nothing : (h : List Event) → sum_by (projected_open h []) (places h) ≡ 0
 projects_nothing h = sum_by_none (projected_open h []) (length h) (λ n l. zero_or_zero (is_open h n && at is_merging h n))
@@ -179,7 +198,8 @@ no_loss h e whole keeps = unowned_none h e (λ r. by_node (node_of h r) (keeps r
   by_node (Some n) none = rw (whole n) none
 
 -- an event that only makes a node or a lease, or nothing
-debt_made : (base : Kept) → (h : List Event) (e : Event) → IsLawful base h → MayFollow base h e → shuts_none e ≡ true → makes_resource e ≡ false → is_take e ≡ false →
+debt_made : (base : Kept) → (h : List Event) (e : Event) → IsLawful base h → MayFollow base h e → shuts_none e ≡ true → makes_resource e ≡ false →
+    is_take e ≡ false →
     is_return e ≡ false → ((r : ℕ) → is_remove_of r e ≡ false) → ((n : ℕ) → pays n e ≡ false) → stops_of h e ≡ [] →
     debt base (h ++ e ∷ []) ≡ debt base h + cond (makes_node e) 1 0 + cond (makes_lease e) 1 0
 debt_made base h e law next s no_accept no_take no_return no_remove no_pay no_stops =
@@ -196,10 +216,12 @@ debt_made base h e law next s no_accept no_take no_return no_remove no_pay no_st
     omega arith
 
 -- one more open node
-pub debt-root : (base : Kept) → (h : List Event) (kind : Kind) → IsLawful base h → MayFollow base h (Open Root kind) → debt base (h ++ Open Root kind ∷ []) ≡ debt base h + 1
+pub debt-root : (base : Kept) → (h : List Event) (kind : Kind) → IsLawful base h → MayFollow base h (Open Root kind) →
+    debt base (h ++ Open Root kind ∷ []) ≡ debt base h + 1
 debt-root base h kind law next = let b = debt_made base h (Open Root kind) law next refl refl refl refl (λ r. refl) (λ n. refl) refl in omega arith
 
-pub debt-source : (base : Kept) → (h : List Event) (p : ℕ) (kind : Kind) → IsLawful base h → MayFollow base h (Open (Source p) kind) → debt base (h ++ Open (Source p) kind ∷ []) ≡ debt base h + 1
+pub debt-source : (base : Kept) → (h : List Event) (p : ℕ) (kind : Kind) → IsLawful base h → MayFollow base h (Open (Source p) kind) →
+    debt base (h ++ Open (Source p) kind ∷ []) ≡ debt base h + 1
 debt-source base h p kind law next = let b = debt_made base h (Open (Source p) kind) law next refl refl refl refl (λ r. refl) (λ n. refl) refl in omega arith
 
 pub debt-notifier : (base : Kept) → (h : List Event) (p : ℕ) (kind : Kind) → IsLawful base h → MayFollow base h (Open (Notifier p) kind) →
@@ -222,7 +244,8 @@ pub debt-lease : (base : Kept) → (h : List Event) (r : ℕ) → IsLawful base 
 debt-lease base h r law next = let b = debt_made base h (Lease r) law next refl refl refl refl (λ q. refl) (λ n. refl) refl in omega arith
 
 -- a resource costs two: its removal and its taking
-pub debt-accept : (base : Kept) → (h : List Event) (n tag : ℕ) → IsLawful base h → MayFollow base h (Accept n tag) → debt base (h ++ Accept n tag ∷ []) ≡ debt base h + 2
+pub debt-accept : (base : Kept) → (h : List Event) (n tag : ℕ) → IsLawful base h → MayFollow base h (Accept n tag) →
+    debt base (h ++ Accept n tag ∷ []) ≡ debt base h + 2
 debt-accept base h n tag law next =
     let whole : (m : ℕ) → is_cut h (Accept n tag) m ≡ false = λ m. is_cut_none h (Accept n tag) m refl in
     let b = debt-push base h (Accept n tag) law next in
@@ -270,7 +293,8 @@ debt-return base h l law next =
     omega arith
 
 -- an item costs one for each of its projections
-pub debt-item : (base : Kept) → (h : List Event) (l : ℕ) (v : ℤ) → IsLawful base h → MayFollow base h (Item l v) → debt base (h ++ Item l v ∷ []) ≡ debt base h + count_by is_projection (stops h l)
+pub debt-item : (base : Kept) → (h : List Event) (l : ℕ) (v : ℤ) → IsLawful base h → MayFollow base h (Item l v) →
+    debt base (h ++ Item l v ∷ []) ≡ debt base h + count_by is_projection (stops h l)
 debt-item base h l v law next =
     let whole : (m : ℕ) → is_cut h (Item l v) m ≡ false = λ m. is_cut_none h (Item l v) m refl in
     let b = debt-push base h (Item l v) law next in
@@ -294,7 +318,8 @@ debt-decline base h f law next =
     omega arith
 
 -- an inner of a FlatMap costs what the projection cost that it pays
-pub debt-inner_flat : (base : Kept) → (h : List Event) (f : ℕ) (kind : Kind) → IsLawful base h → MayFollow base h (Open (Inner f) kind) → at is_switch h f ≡ false →
+pub debt-inner_flat : (base : Kept) → (h : List Event) (f : ℕ) (kind : Kind) → IsLawful base h → MayFollow base h (Open (Inner f) kind) →
+    at is_switch h f ≡ false →
     debt base (h ++ Open (Inner f) kind ∷ []) ≡ debt base h
 debt-inner_flat base h f kind law next flat =
     let whole : (m : ℕ) → is_cut h (Open (Inner f) kind) m ≡ false = is_cut_inner_flat h f kind flat in
@@ -307,14 +332,16 @@ debt-inner_flat base h f kind law next flat =
     omega arith
 
 -- an inner of a Switch costs no more
-pub debt_no_rise-inner : (base : Kept) → (h : List Event) (f : ℕ) (kind : Kind) → IsLawful base h → MayFollow base h (Open (Inner f) kind) → debt base (h ++ Open (Inner f) kind ∷ []) ≤ debt base h
+pub debt_no_rise-inner : (base : Kept) → (h : List Event) (f : ℕ) (kind : Kind) → IsLawful base h → MayFollow base h (Open (Inner f) kind) →
+    debt base (h ++ Open (Inner f) kind ∷ []) ≤ debt base h
 debt_no_rise-inner base h f kind law next =
     let b = debt-push base h (Open (Inner f) kind) law next in
     let w = owed_count_falls-inner base h f kind law next in
     omega arith
 
 -- an end and a closing pay at least one
-pub debt_falls-end : (base : Kept) → (h : List Event) (c : ℕ) (t : Terminal) → IsLawful base h → MayFollow base h (End c t) → debt base (h ++ End c t ∷ []) + 1 ≤ debt base h
+pub debt_falls-end : (base : Kept) → (h : List Event) (c : ℕ) (t : Terminal) → IsLawful base h → MayFollow base h (End c t) →
+    debt base (h ++ End c t ∷ []) + 1 ≤ debt base h
 debt_falls-end base h c t law next =
     let b = debt-push base h (End c t) law next in
     let s = within_some h c (may_end base next) in

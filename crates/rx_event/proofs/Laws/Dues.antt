@@ -1,5 +1,6 @@
 -- What is due, event after event: it ends and closes open nodes, all in one way, and leaves all else as it was.
-use Rattle.std.proofs.Common.{◌≡◌, ℕ, ◌+◌, ◌<◌, ◌≤◌, Bool, true, false, List, [], ◌∷◌, ◌++◌, length, Option, Some, None, cond, slice_get, refl, sym, ap, subst, ◌∙◌, inl, inr, ◌⊎◌, arith, length-append}
+use Rattle.std.proofs.Common.{◌≡◌, ℕ, ◌+◌, ◌<◌, ◌≤◌, Bool, true, false, List, [], ◌∷◌, ◌++◌, length, Option, Some, None}
+use Rattle.std.proofs.Common.{cond, slice_get, refl, sym, ap, subst, ◌∙◌, inl, inr, ◌⊎◌, arith, length-append}
 use Rattle.std.proofs.Math.Bool.{not, ◌&&◌, ◌||◌}
 use Rattle.std.specs.List.{list_any, count_by}
 use Rattle.std.specs.Option.{option_and_then, option_map_or}
@@ -75,7 +76,8 @@ unseen_closing : (base : Kept) → {X : Type 0} (f : Option Event → X) → See
 unseen_closing base f sees (by_end c {t = t} d o) = sees.no_end c t
 unseen_closing base f sees (by_close c g at_c none o) = sees.no_close c
 
-pub seen_on : (base : Kept) → {X : Type 0} (f : Option Event → X) → SeesNone f → {b k : List Event} → IsDueOn base b k → (n : ℕ) → f (slice_get k n) ≡ f (slice_get b n)
+pub seen_on : (base : Kept) → {X : Type 0} (f : Option Event → X) → SeesNone f → {b k : List Event} → IsDueOn base b k → (n : ℕ) →
+    f (slice_get k n) ≡ f (slice_get b n)
 seen_on base f sees none_more n = refl
 seen_on base f sees (one_more {k = k} {e = e} on d) n = seen_same f k e (unseen_closing base f sees (closing_of base d)) n ∙ seen_on base f sees on n
 
@@ -94,7 +96,10 @@ at_on base p fails on n = seen_on base (λ o. option_map_or p o false) (record {
 pub any_on : (base : Kept) → (p : Event → Bool) → Fails p → {b k : List Event} → IsDueOn base b k → list_any p k ≡ list_any p b
 any_on base p fails none_more = refl
 any_on base p fails (one_more {k = k} {e = e} on d) =
-    list_any-append p k (e ∷ []) ∙ ap (λ c. list_any p k || (c || false)) (fails_closing base p fails (closing_of base d)) ∙ or_false (list_any p k) ∙ any_on base p fails on
+    list_any-append p k (e ∷ []) ∙
+    ap (λ c. list_any p k || (c || false)) (fails_closing base p fails (closing_of base d)) ∙
+    or_false (list_any p k) ∙
+    any_on base p fails on
 
 pub count_on : (base : Kept) → (p : Event → Bool) → Fails p → {b k : List Event} → IsDueOn base b k → count_by p k ≡ count_by p b
 count_on base p fails none_more = refl
@@ -107,7 +112,8 @@ count_on base p fails {b = b} (one_more {k = k} {e = e} on d) =
 -- no parents
 pub parent_on : (base : Kept) → {b k : List Event} → IsDueOn base b k → (n : ℕ) → parent k n ≡ parent b n
 unfolding parent
-parent_on base on n = seen_on base (λ o. option_and_then (if_less n) (option_and_then parent_named o)) (record { no_end = λ c t. refl; no_close = λ c. refl }) on n
+parent_on base on n =
+    seen_on base (λ o. option_and_then (if_less n) (option_and_then parent_named o)) (record { no_end = λ c t. refl; no_close = λ c. refl }) on n
 
 pub longer_on : (base : Kept) → {b k : List Event} → IsDueOn base b k → length b ≤ length k
 longer_on base none_more = omega arith
@@ -147,7 +153,8 @@ was_open_on base (one_more {k = k} {e = e} on d) n o = was_open_on base on n (be
   before (by_end c {t = t} d o) now = open_before k (End c t) n refl now
   before (by_close c g at_c none o) now = open_before k (Close c) n refl now
 
-pub stays_closed_on : (base : Kept) → {b k : List Event} → IsDueOn base b k → {e : Event} → IsDue base k e → (n : ℕ) → is_open k n ≡ false → is_open (k ++ e ∷ []) n ≡ false
+pub stays_closed_on : (base : Kept) → {b k : List Event} → IsDueOn base b k → {e : Event} → IsDue base k e → (n : ℕ) → is_open k n ≡ false →
+    is_open (k ++ e ∷ []) n ≡ false
 stays_closed_on base {k = k} on {e = e} d n closed = by_test (is_open (k ++ e ∷ []) n) refl where
   by_test : (a : Bool) → is_open (k ++ e ∷ []) n ≡ a → a ≡ false
   by_test false now = refl
@@ -197,7 +204,8 @@ pub record EndsSo (base : Kept) (h : List Event) (t : Terminal) : Type 0 where
 pub ends_one : (base : Kept) → (b : List Event) → IsLawful base b → (t u : Terminal) → EndsSo base b t → EndsSo base b u → t ≡ u
 ends_one base b law t u a c = one_end base b law a.node c.node t u a.ends_due c.ends_due
 
-begun_step : (base : Kept) → (b k : List Event) (e : Event) → IsLawful base k → IsConnected k → IsDue base k e → ((n : ℕ) (t : Terminal) → IsDue base k (End n t) → EndsSo base b t) →
+begun_step : (base : Kept) → (b k : List Event) (e : Event) → IsLawful base k → IsConnected k → IsDue base k e →
+    ((n : ℕ) (t : Terminal) → IsDue base k (End n t) → EndsSo base b t) →
     (n : ℕ) (t : Terminal) → IsDue base (k ++ e ∷ []) (End n t) → EndsSo base b t
 begun_step base b k e law whole d before n t now = by_reason (due_before base k e law (forced (due whole d)) n t now) where
   by_end_of : {x : Event} → IsClosing base k x → ends_as x ≡ Some t → EndsSo base b t
@@ -220,7 +228,8 @@ begun_step base b k e law whole d before n t now = by_reason (due_before base k 
   by_reason (inr (fires_it fires is)) = absurd (both_ways (list_any (is_firing_of n) (stops_of k e)) (fires_none (closing_of base d)) fires)
 
 -- so does all that follows, since a due end is the reason of none but such ends
-pub begun_on : (base : Kept) → {b k : List Event} → IsDueOn base b k → IsLawful base b → IsConnected b → (n : ℕ) (t : Terminal) → IsDue base k (End n t) → EndsSo base b t
+pub begun_on : (base : Kept) → {b k : List Event} → IsDueOn base b k → IsLawful base b → IsConnected b → (n : ℕ) (t : Terminal) → IsDue base k (End n t) →
+    EndsSo base b t
 begun_on base none_more law whole = λ n t d. record { node = n; ends_due = d }
 begun_on base {b = b} (one_more {k = k} {e = e} on d) law whole =
     begun_step base b k e (lawful_on base on law whole) (connected_on base on whole) d (begun_on base on law whole)
@@ -233,19 +242,23 @@ pub data EndStands (base : Kept) (b k : List Event) (n : ℕ) (t : Terminal) (pl
 pub end_stands : (base : Kept) → {b k : List Event} → IsDueOn base b k → IsLawful base b → IsConnected b → (n : ℕ) (t : Terminal) (place : ℕ) →
     slice_get k place ≡ Some (End n t) → EndStands base b k n t place
 end_stands base none_more law whole n t place found = stood_before found
-end_stands base {b = b} (one_more {k = k} {e = e} on d) law whole n t place found = by_place (cases_push k e (End n t) place found) (end_stands base on law whole n t place) where
-  now : IsDue base k (End n t) → EndStands base b (k ++ End n t ∷ []) n t place
-  now x = came_after (was_open_on base on n (due_open base x)) (is_open_outside-end k n t n ∙ rw (is_within_self k n) (and_false (is_open k n))) (begun_on base on law whole n t x)
+end_stands base {b = b} (one_more {k = k} {e = e} on d) law whole n t place found =
+    by_place (cases_push k e (End n t) place found) (end_stands base on law whole n t place)
+  where
+    now : IsDue base k (End n t) → EndStands base b (k ++ End n t ∷ []) n t place
+    now x =
+        came_after (was_open_on base on n (due_open base x)) (is_open_outside-end k n t n ∙ rw (is_within_self k n) (and_false (is_open k n)))
+        (begun_on base on law whole n t x)
 
-  by_before : EndStands base b k n t place → EndStands base b (k ++ e ∷ []) n t place
-  by_before (stood_before at_place) = stood_before at_place
-  by_before (came_after was gone so) = came_after was (stays_closed_on base on d n gone) so
+    by_before : EndStands base b k n t place → EndStands base b (k ++ e ∷ []) n t place
+    by_before (stood_before at_place) = stood_before at_place
+    by_before (came_after was gone so) = came_after was (stays_closed_on base on d n gone) so
 
-  by_place : (slice_get k place ≡ Some (End n t)) ⊎ (e ≡ End n t) → (slice_get k place ≡ Some (End n t) → EndStands base b k n t place) →
-      EndStands base b (k ++ e ∷ []) n t place
-  by_place (inl at_place) rest = by_before (rest at_place)
-  by_place (inr same) rest =
-      subst (λ (x : Event). EndStands base b (k ++ x ∷ []) n t place) (sym same) (now (subst (λ (x : Event). IsDue base k x) same d))
+    by_place : (slice_get k place ≡ Some (End n t)) ⊎ (e ≡ End n t) → (slice_get k place ≡ Some (End n t) → EndStands base b k n t place) →
+        EndStands base b (k ++ e ∷ []) n t place
+    by_place (inl at_place) rest = by_before (rest at_place)
+    by_place (inr same) rest =
+        subst (λ (x : Event). EndStands base b (k ++ x ∷ []) n t place) (sym same) (now (subst (λ (x : Event). IsDue base k x) same d))
 
 -- how a node was closed ---------------------------------------------------------------------------------
 
@@ -263,7 +276,8 @@ pub unsubscribed_on : (base : Kept) → {b k : List Event} → IsDueOn base b k 
 unsubscribed_on base {b = b} {k = k} on g none = none_subscribed k g (λ s subscribes o.
     subscriber_listed b g s (sym (at_on base (is_subscriber_of g) (subscriber_fails g) on s) ∙ subscribes) (was_open_on base on s o) none)
 
-how_closed_push : (base : Kept) → {b k : List Event} → IsDueOn base b k → {e : Event} → IsDue base k e → (n : ℕ) → HowClosed base b k n → HowClosed base b (k ++ e ∷ []) n
+how_closed_push : (base : Kept) → {b k : List Event} → IsDueOn base b k → {e : Event} → IsDue base k e → (n : ℕ) → HowClosed base b k n →
+    HowClosed base b (k ++ e ∷ []) n
 how_closed_push base {k = k} on {e = e} d n (ended_so place far at_place so) =
     ended_so place far (kept_on base (one_more none_more d) place _ at_place) so
 how_closed_push base {k = k} on {e = e} d n (left_alone g at_n none) =
@@ -293,7 +307,8 @@ module _ (base : Kept) (b k : List Event) (on : IsDueOn base b k) (law : IsLawfu
     by_case (inr (p, below, within)) =
         closed_with p (parent_on base (one_more none_more d) n ∙ below) (is_open_outside-close k c p ∙ rw within (and_false (is_open k p)))
 
-pub how_closed : (base : Kept) → {b k : List Event} → IsDueOn base b k → IsLawful base b → IsConnected b → (n : ℕ) → is_open b n ≡ true → is_open k n ≡ false → HowClosed base b k n
+pub how_closed : (base : Kept) → {b k : List Event} → IsDueOn base b k → IsLawful base b → IsConnected b → (n : ℕ) → is_open b n ≡ true →
+    is_open k n ≡ false → HowClosed base b k n
 how_closed base none_more law whole n o gone = absurd (both_ways _ gone o)
 how_closed base {b = b} (one_more {k = k} {e = e} on d) law whole n o gone = by_test (is_open k n) refl (how_closed base on law whole n o) where
   by_test : (a : Bool) → is_open k n ≡ a → (is_open k n ≡ false → HowClosed base b k n) → HowClosed base b (k ++ e ∷ []) n

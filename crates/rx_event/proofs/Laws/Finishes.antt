@@ -57,7 +57,8 @@ ends_there base {k = k} {j = j} on none = by_first (first_of base on) where
   by_first (inr begun) = absurd (none-some begun.event (sym none ∙ begun.first))
 
 -- so both are the same where both are at their end
-pub one_finish : (base : Kept) → (b k j : List Event) → IsFirstOn base b k → first_forced base k ≡ None → IsFirstOn base b j → first_forced base j ≡ None → k ≡ j
+pub one_finish : (base : Kept) → (b k j : List Event) → IsFirstOn base b k → first_forced base k ≡ None → IsFirstOn base b j → first_forced base j ≡ None →
+    k ≡ j
 one_finish base b k j on_k none_k on_j none_j = by_way (one_goes_on base on_k on_j) where
   by_way : IsFirstOn base k j ⊎ IsFirstOn base j k → k ≡ j
   by_way (inl there) = sym (ends_there base there none_k)
@@ -71,7 +72,8 @@ pub record Finishes (base : Kept) (b : List Event) : Type 0 where
   pub over : first_forced base last ≡ None
   pub law : IsLawful base last
 
-before_first : (base : Kept) → {b : List Event} {e : Event} {k : List Event} → first_forced base b ≡ Some e → IsFirstOn base (b ++ e ∷ []) k → IsFirstOn base b k
+before_first : (base : Kept) → {b : List Event} {e : Event} {k : List Event} → first_forced base b ≡ Some e → IsFirstOn base (b ++ e ∷ []) k →
+    IsFirstOn base b k
 before_first base f nothing_yet = first_next nothing_yet f
 before_first base f (first_next on g) = first_next (before_first base f on) g
 
@@ -81,17 +83,24 @@ due_connects_none base (by_close c g at_c none o) = refl
 
 finish_due : (base : Kept) → (steps : ℕ) (b : List Event) → IsLawful base b → IsConnected b → open_count b < steps → Finishes base b
 finish_due base zero b law whole l = absurd (omega arith)
-finish_due base (suc steps) b law whole l = by_first (first_forced base b) refl (λ e next connected less. finish_due base steps (b ++ e ∷ []) next connected (let a = less in let k = l in omega arith)) where
-  by_first : (o : Option Event) → first_forced base b ≡ o →
-      ((e : Event) → IsLawful base (b ++ e ∷ []) → IsConnected (b ++ e ∷ []) → open_count (b ++ e ∷ []) + 1 ≤ open_count b → Finishes base (b ++ e ∷ [])) → Finishes base b
-  by_first None none rest = record { last = b; ordered = nothing_yet; over = none; law = law }
-  by_first (Some e) found rest = by_forced e found (first_is_forced base b e found) (rest e) where
-    by_forced : (x : Event) → first_forced base b ≡ Some x → IsForced base b x →
-        (IsLawful base (b ++ x ∷ []) → IsConnected (b ++ x ∷ []) → open_count (b ++ x ∷ []) + 1 ≤ open_count b → Finishes base (b ++ x ∷ [])) → Finishes base b
-    by_forced x found (connecting {g = g} d) rest = absurd (whole g d)
-    by_forced x found (due connected d) rest =
-        let f : Finishes base (b ++ x ∷ []) = rest (IsLawful-push base b x law (forced (due connected d))) (kept_due base b x connected d) (forced_closes base b x (due connected d) (due_connects_none base (closing_of base d))) in
-        record { last = f.last; ordered = before_first base found f.ordered; over = f.over; law = f.law }
+finish_due base (suc steps) b law whole l =
+    by_first (first_forced base b) refl
+    (λ e next connected less. finish_due base steps (b ++ e ∷ []) next connected (let a = less in let k = l in omega arith))
+  where
+    by_first : (o : Option Event) → first_forced base b ≡ o →
+        ((e : Event) → IsLawful base (b ++ e ∷ []) → IsConnected (b ++ e ∷ []) → open_count (b ++ e ∷ []) + 1 ≤ open_count b → Finishes base (b ++ e ∷ [])) →
+        Finishes base b
+    by_first None none rest = record { last = b; ordered = nothing_yet; over = none; law = law }
+    by_first (Some e) found rest = by_forced e found (first_is_forced base b e found) (rest e) where
+      by_forced : (x : Event) → first_forced base b ≡ Some x → IsForced base b x →
+          (IsLawful base (b ++ x ∷ []) → IsConnected (b ++ x ∷ []) → open_count (b ++ x ∷ []) + 1 ≤ open_count b → Finishes base (b ++ x ∷ [])) →
+          Finishes base b
+      by_forced x found (connecting {g = g} d) rest = absurd (whole g d)
+      by_forced x found (due connected d) rest =
+          let f : Finishes base (b ++ x ∷ []) =
+          rest (IsLawful-push base b x law (forced (due connected d))) (kept_due base b x connected d)
+          (forced_closes base b x (due connected d) (due_connects_none base (closing_of base d))) in
+          record { last = f.last; ordered = before_first base found f.ordered; over = f.over; law = f.law }
 
 pub finishes : (base : Kept) → (b : List Event) → IsLawful base b → Finishes base b
 finishes base b law = by_first (first_forced base b) refl where
@@ -99,7 +108,9 @@ finishes base b law = by_first (first_forced base b) refl where
   by_forced e found (due whole d) = finish_due base (suc (open_count b)) b law whole (omega arith)
   by_forced e found (connecting {g = g} d) =
       let whole : IsConnected (b ++ Connect g ∷ []) = connected_first base b g (λ k w. one_hub_waits base b law k g w d) in
-      let f : Finishes base (b ++ Connect g ∷ []) = finish_due base (suc (open_count (b ++ Connect g ∷ []))) (b ++ Connect g ∷ []) (IsLawful-push base b (Connect g) law (forced (connecting d))) whole (omega arith) in
+      let f : Finishes base (b ++ Connect g ∷ []) =
+      finish_due base (suc (open_count (b ++ Connect g ∷ []))) (b ++ Connect g ∷ []) (IsLawful-push base b (Connect g) law (forced (connecting d))) whole
+      (omega arith) in
       record { last = f.last; ordered = before_first base found f.ordered; over = f.over; law = f.law }
 
   by_first : (o : Option Event) → first_forced base b ≡ o → Finishes base b

@@ -62,7 +62,8 @@ ends b h e next n t same = may_end b (subst (λ x. MayFollow b h x) same next)
 pub emits : (b : Kept) (h : List Event) (e : Event) → MayFollow b h e → (l : ℕ) (v : ℤ) → e ≡ Item l v → is_open h l ≡ true
 emits b h e next l v same = may_emit b (subst (λ x. MayFollow b h x) same next)
 
-unnamed : (b : Kept) (h : List Event) → IsLawful b h → (t : ℕ → Event → Bool) → ((n : ℕ) (x : Event) → t n x ≡ true → parent_named x ≡ Some n) → (n : ℕ) → length h ≤ n → list_any (t n) h ≡ false
+unnamed : (b : Kept) (h : List Event) → IsLawful b h → (t : ℕ → Event → Bool) → ((n : ℕ) (x : Event) → t n x ≡ true → parent_named x ≡ Some n) → (n : ℕ) →
+    length h ≤ n → list_any (t n) h ≡ false
 unnamed b h law t says n past = never (list_any (t n) h) (λ some.
     let found = list_any_found (t n) h some in
     let l = named_below b h law found.0 n found.1 found.2 (says n found.1 found.3) in
@@ -73,7 +74,8 @@ pub source_past : (b : Kept) (h : List Event) → IsLawful b h → (n : ℕ) →
 source_past b h law n past = (λ i. option_map_or (λ k. k.source_opened) (unkept b h law n past i) false || unnamed b h law is_source_of source_names n past i)
 
 pub notifier_past : (b : Kept) (h : List Event) → IsLawful b h → (n : ℕ) → length h ≤ n → notifier_opened b h n ≡ false
-notifier_past b h law n past = (λ i. option_map_or (λ k. k.notifier_opened) (unkept b h law n past i) false || unnamed b h law is_notifier_of notifier_names n past i)
+notifier_past b h law n past =
+    (λ i. option_map_or (λ k. k.notifier_opened) (unkept b h law n past i) false || unnamed b h law is_notifier_of notifier_names n past i)
 
 pub completed_past : (b : Kept) (h : List Event) → IsLawful b h → (n : ℕ) → length h ≤ n → source_completed b h n ≡ false
 unfolding source_completed
@@ -96,13 +98,15 @@ completed_past b h law n past = (λ i. option_map_or (λ k. k.source_completed) 
 
 -- followed by one event -------------------------------------------------------------------------------
 
-completes_alike : (h k : List Event) → Alike h k → (n : ℕ) (e : Event) → ((c : ℕ) (t : Terminal) → e ≡ End c t → is_open h c ≡ true) → completes_source h n e ≡ completes_source k n e
+completes_alike : (h k : List Event) → Alike h k → (n : ℕ) (e : Event) → ((c : ℕ) (t : Terminal) → e ≡ End c t → is_open h c ≡ true) →
+    completes_source h n e ≡ completes_source k n e
 completes_alike h k a n (End c Completed) ends = at_alike h k a (is_source_of n) c (ends c Completed refl)
 completes_alike h k a n (End c (Error code)) ends = refl
 completes_alike h k a n (Open place kind) ends = refl
 completes_alike h k a n _ ends = refl
 
-module _ (b : Kept) (h : List Event) (c : Kept) (k : List Event) (e : Event) (law : IsLawful b h) (law_k : IsLawful c k) (next : MayFollow b h e) (next_k : MayFollow c k e) (a : Agree b h c k) where
+module _ (b : Kept) (h : List Event) (c : Kept) (k : List Event) (e : Event) (law : IsLawful b h) (law_k : IsLawful c k) (next : MayFollow b h e)
+    (next_k : MayFollow c k e) (a : Agree b h c k) where
   abbrev h2 : List Event
   h2 = h ++ e ∷ []
 
@@ -126,18 +130,23 @@ module _ (b : Kept) (h : List Event) (c : Kept) (k : List Event) (e : Event) (la
     before (inr (inr l)) = absurd (beyond n l o)
 
   notifiers_on : (n : ℕ) → is_open (h ++ e ∷ []) n ≡ true → notifier_opened b (h ++ e ∷ []) n ≡ notifier_opened c (k ++ e ∷ []) n
-  notifiers_on n o = notifier_opened-push b h e n ∙ ap (λ x. x || is_notifier_of n e) (before (cases_order n (length h))) ∙ sym (notifier_opened-push c k e n) where
-    before : (n ≡ length h) ⊎ ((n < length h) ⊎ (length h < n)) → notifier_opened b h n ≡ notifier_opened c k n
-    before (inl last) = notifier_past b h law n (omega arith) ∙ sym (notifier_past c k law_k n (let q = long_k n last in omega arith))
-    before (inr (inl l)) = a.notifiers n (open_old h e n l o)
-    before (inr (inr l)) = absurd (beyond n l o)
+  notifiers_on n o = notifier_opened-push b h e n ∙ ap (λ x. x || is_notifier_of n e) (before (cases_order n (length h))) ∙ sym (notifier_opened-push c k e n)
+    where
+      before : (n ≡ length h) ⊎ ((n < length h) ⊎ (length h < n)) → notifier_opened b h n ≡ notifier_opened c k n
+      before (inl last) = notifier_past b h law n (omega arith) ∙ sym (notifier_past c k law_k n (let q = long_k n last in omega arith))
+      before (inr (inl l)) = a.notifiers n (open_old h e n l o)
+      before (inr (inr l)) = absurd (beyond n l o)
 
   completions_on : (n : ℕ) → is_open (h ++ e ∷ []) n ≡ true → source_completed b (h ++ e ∷ []) n ≡ source_completed c (k ++ e ∷ []) n
-  completions_on n o = source_completed-push b h e law next n ∙ (λ i. before (cases_order n (length h)) i || completes_alike h k a.alike n e (ends b h e next) i) ∙ sym (source_completed-push c k e law_k next_k n) where
-    before : (n ≡ length h) ⊎ ((n < length h) ⊎ (length h < n)) → source_completed b h n ≡ source_completed c k n
-    before (inl last) = completed_past b h law n (omega arith) ∙ sym (completed_past c k law_k n (let q = long_k n last in omega arith))
-    before (inr (inl l)) = a.completions n (open_old h e n l o)
-    before (inr (inr l)) = absurd (beyond n l o)
+  completions_on n o =
+      source_completed-push b h e law next n ∙
+      (λ i. before (cases_order n (length h)) i || completes_alike h k a.alike n e (ends b h e next) i) ∙
+      sym (source_completed-push c k e law_k next_k n)
+    where
+      before : (n ≡ length h) ⊎ ((n < length h) ⊎ (length h < n)) → source_completed b h n ≡ source_completed c k n
+      before (inl last) = completed_past b h law n (omega arith) ∙ sym (completed_past c k law_k n (let q = long_k n last in omega arith))
+      before (inr (inl l)) = a.completions n (open_old h e n l o)
+      before (inr (inr l)) = absurd (beyond n l o)
 
   debts_on : (n : ℕ) → is_open (h ++ e ∷ []) n ≡ true → owed b (h ++ e ∷ []) n ≡ owed c (k ++ e ∷ []) n
   debts_on n o = by_place (cases_order n (length h)) where
@@ -146,7 +155,8 @@ module _ (b : Kept) (h : List Event) (c : Kept) (k : List Event) (e : Event) (la
         let one = owed-push b h e law next n in
         let two = owed-push c k e law_k next_k n in
         let same = a.debts n old in
-        let stops : count_by (is_projection_to n) (stops_of h e) ≡ count_by (is_projection_to n) (stops_of k e) = ap (count_by (is_projection_to n)) (stops_of_alike b h k e law (emits b h e next) a.alike) in
+        let stops : count_by (is_projection_to n) (stops_of h e) ≡ count_by (is_projection_to n) (stops_of k e) =
+        ap (count_by (is_projection_to n)) (stops_of_alike b h k e law (emits b h e next) a.alike) in
         omega arith
 
     by_place : (n ≡ length h) ⊎ ((n < length h) ⊎ (length h < n)) → owed b (h ++ e ∷ []) n ≡ owed c (k ++ e ∷ []) n
@@ -212,17 +222,23 @@ module _ (b : Kept) (h : List Event) (c : Kept) (k : List Event) (e : Event) (la
   waiting_on : (r : ℕ) → is_waiting (h ++ e ∷ []) r ≡ is_waiting (k ++ e ∷ []) r
   waiting_on r = by_place (cases_order r (length h)) where
     by_place : (r ≡ length h) ⊎ ((r < length h) ⊎ (length h < r)) → is_waiting (h ++ e ∷ []) r ≡ is_waiting (k ++ e ∷ []) r
-    by_place (inl last) = ap (is_waiting (h ++ e ∷ [])) last ∙ is_waiting_new b h e law next ∙ sym (ap (is_waiting (k ++ e ∷ [])) (long_k r last) ∙ is_waiting_new c k e law_k next_k)
+    by_place (inl last) =
+        ap (is_waiting (h ++ e ∷ [])) last ∙
+        is_waiting_new b h e law next ∙
+        sym (ap (is_waiting (k ++ e ∷ [])) (long_k r last) ∙ is_waiting_new c k e law_k next_k)
     by_place (inr (inl l)) = is_waiting-unheld b h e law next r l ∙ (λ i. (a.waiting r i || (a.held r i && not (held_on r i))) && not (is_take_of r e)) ∙
         sym (is_waiting-unheld c k e law_k next_k r (in_k r l))
-    by_place (inr (inr l)) = is_waiting_past (h ++ e ∷ []) r (omega (arith, length-append h (e ∷ []))) ∙ sym (is_waiting_past (k ++ e ∷ []) r (let q = a.alike.same_length in omega (arith, length-append k (e ∷ []))))
+    by_place (inr (inr l)) =
+        is_waiting_past (h ++ e ∷ []) r (omega (arith, length-append h (e ∷ []))) ∙
+        sym (is_waiting_past (k ++ e ∷ []) r (let q = a.alike.same_length in omega (arith, length-append k (e ∷ []))))
 
   untaken_old : (r : ℕ) → r < length h → is_untaken (h ++ e ∷ []) r ≡ true → is_untaken h r ≡ true
   untaken_old r l untaken =
       shape (is_held (h ++ e ∷ []) r) (is_waiting h r) (is_held h r) (is_take_of r e) (held_old b h e law next r l)
       (ap (λ x. is_held (h ++ e ∷ []) r || x) (sym (is_waiting-unheld b h e law next r l)) ∙ untaken)
     where
-      shape : (after waits held takes : Bool) → (after ≡ true → held ≡ true) → (after || ((waits || (held && not after)) && not takes)) ≡ true → (held || waits) ≡ true
+      shape : (after waits held takes : Bool) → (after ≡ true → held ≡ true) → (after || ((waits || (held && not after)) && not takes)) ≡ true →
+          (held || waits) ≡ true
       shape after waits true takes up some = refl
       shape after true false takes up some = refl
       shape true false false takes up some = up refl
@@ -234,15 +250,23 @@ module _ (b : Kept) (h : List Event) (c : Kept) (k : List Event) (e : Event) (la
     past one two = both_ways _ (λ i. one i || two i) untaken
 
     fresh : (d : Kept) (m : List Event) → IsLawful d m → r ≡ length m → accepted_by d (m ++ e ∷ []) r ≡ Some e
-    fresh d m s last = ap (λ x. option_map_or (λ y. Some (Rattle.rx_event.specs.declared.event.Event.TheVariants.Accept y.node y.tag)) x (slice_get (m ++ e ∷ []) r)) (s.started.unnumbered r (let w = shown_within d m s in omega arith)) ∙ ap (slice_get (m ++ e ∷ [])) last ∙ slice_get_last m e
+    fresh d m s last =
+        ap (λ x. option_map_or (λ y. Some (Rattle.rx_event.specs.declared.event.Event.TheVariants.Accept y.node y.tag)) x (slice_get (m ++ e ∷ []) r))
+        (s.started.unnumbered r (let w = shown_within d m s in omega arith)) ∙
+        ap (slice_get (m ++ e ∷ [])) last ∙
+        slice_get_last m e
 
     older : (d : Kept) (m : List Event) → r < length m → accepted_by d (m ++ e ∷ []) r ≡ accepted_by d m r
-    older d m l = ap (λ x. option_map_or (λ y. Some (Rattle.rx_event.specs.declared.event.Event.TheVariants.Accept y.node y.tag)) (resource_kept d r) x) (slice_get-append m (e ∷ []) r l)
+    older d m l =
+        ap (λ x. option_map_or (λ y. Some (Rattle.rx_event.specs.declared.event.Event.TheVariants.Accept y.node y.tag)) (resource_kept d r) x)
+        (slice_get-append m (e ∷ []) r l)
 
     by_place : (r ≡ length h) ⊎ ((r < length h) ⊎ (length h < r)) → accepted_by b (h ++ e ∷ []) r ≡ accepted_by c (k ++ e ∷ []) r
     by_place (inl last) = fresh b h law last ∙ sym (fresh c k law_k (long_k r last))
     by_place (inr (inl l)) = older b h l ∙ a.accepts r (untaken_old r l untaken) ∙ sym (older c k (in_k r l))
-    by_place (inr (inr l)) = absurd (past (is_held_past (h ++ e ∷ []) r (omega (arith, length-append h (e ∷ [])))) (is_waiting_past (h ++ e ∷ []) r (omega (arith, length-append h (e ∷ [])))))
+    by_place (inr (inr l)) =
+        absurd (past (is_held_past (h ++ e ∷ []) r (omega (arith, length-append h (e ∷ []))))
+        (is_waiting_past (h ++ e ∷ []) r (omega (arith, length-append h (e ∷ [])))))
 
   uses_on : (r : ℕ) → is_untaken (h ++ e ∷ []) r ≡ true → uses b (h ++ e ∷ []) r ≡ uses c (k ++ e ∷ []) r
   uses_on r untaken = uses-push b h e r ∙ ap (λ n. n + cond (is_use_of r e) 1 0) (before (cases_order r (length h))) ∙ sym (uses-push c k e r) where
@@ -252,7 +276,9 @@ module _ (b : Kept) (h : List Event) (c : Kept) (k : List Event) (e : Event) (la
     before : (r ≡ length h) ⊎ ((r < length h) ⊎ (length h < r)) → uses b h r ≡ uses c k r
     before (inl last) = uses_past b h law r (omega arith) ∙ sym (uses_past c k law_k r (let q = long_k r last in omega arith))
     before (inr (inl l)) = a.used r (untaken_old r l untaken)
-    before (inr (inr l)) = absurd (past (is_held_past (h ++ e ∷ []) r (omega (arith, length-append h (e ∷ [])))) (is_waiting_past (h ++ e ∷ []) r (omega (arith, length-append h (e ∷ [])))))
+    before (inr (inr l)) =
+        absurd (past (is_held_past (h ++ e ∷ []) r (omega (arith, length-append h (e ∷ []))))
+        (is_waiting_past (h ++ e ∷ []) r (omega (arith, length-append h (e ∷ [])))))
 
   pub agree-push : Agree b (h ++ e ∷ []) c (k ++ e ∷ [])
   agree-push =

@@ -1,5 +1,6 @@
 -- What the rules give after one more event, in two stored histories with the same hubs and open nodes.
-use Rattle.std.proofs.Common.{◌≡◌, ℕ, ◌<◌, ◌≤◌, Bool, true, false, List, [], ◌∷◌, ◌++◌, length, Some, refl, sym, ap, ◌∙◌, arith, inl, inr, ◌⊎◌, slice_get, length-append, ℤ}
+use Rattle.std.proofs.Common.{◌≡◌, ℕ, ◌<◌, ◌≤◌, Bool, true, false, List, [], ◌∷◌, ◌++◌, length, Some}
+use Rattle.std.proofs.Common.{refl, sym, ap, ◌∙◌, arith, inl, inr, ◌⊎◌, slice_get, length-append, ℤ}
 use Rattle.std.proofs.Math.Bool.{◌||◌}
 use Rattle.std.specs.List.{list_any}
 use Rattle.std.proofs.lemmas.Bool.{cases_order, both_ways}
@@ -31,12 +32,14 @@ or_right true c yes_c = refl
 or_right false c yes_c = yes_c
 
 -- an event's stops are the same
-pub stops_of_alike : (b : Kept) (h k : List Event) (e : Event) → IsLawful b h → ((l : ℕ) (v : ℤ) → e ≡ Item l v → is_open h l ≡ true) → Alike h k → stops_of h e ≡ stops_of k e
+pub stops_of_alike : (b : Kept) (h k : List Event) (e : Event) → IsLawful b h → ((l : ℕ) (v : ℤ) → e ≡ Item l v → is_open h l ≡ true) → Alike h k →
+    stops_of h e ≡ stops_of k e
 stops_of_alike b h k (Item l v) law emits a = stops_alike h k a (named_below b h law) l (emits l v refl)
 stops_of_alike b h k (Open place kind) law emits a = refl
 stops_of_alike b h k _ law emits a = refl
 
-fires_none : (b : Kept) (h : List Event) (e : Event) → IsLawful b h → ((l : ℕ) (v : ℤ) → e ≡ Item l v → is_open h l ≡ true) → (u : ℕ) → length h ≤ u → list_any (is_firing_of u) (stops_of h e) ≡ false
+fires_none : (b : Kept) (h : List Event) (e : Event) → IsLawful b h → ((l : ℕ) (v : ℤ) → e ≡ Item l v → is_open h l ≡ true) → (u : ℕ) → length h ≤ u →
+    list_any (is_firing_of u) (stops_of h e) ≡ false
 fires_none b h (Item l v) law emits u past = firing_old h (stops h l) (stops_open b h l law (emits l v refl)) u past
 fires_none b h (Open place kind) law emits u past = refl
 fires_none b h _ law emits u past = refl
@@ -46,7 +49,11 @@ child_on k e p t d =
     record {
       child = d.child;
       below = parent-append k (e ∷ []) d.child (parent_within k d.child p d.below) ∙ d.below;
-      ended = record { place = d.ended.place; found = slice_get-append k (e ∷ []) d.ended.place (slice_get_within k d.ended.place (End d.child t) d.ended.found) ∙ d.ended.found };
+      ended =
+          record {
+            place = d.ended.place;
+            found = slice_get-append k (e ∷ []) d.ended.place (slice_get_within k d.ended.place (End d.child t) d.ended.found) ∙ d.ended.found;
+          };
     }
 
 child_now : (k : List Event) (e : Event) (c p : ℕ) (t : Terminal) → e ≡ End c t → parent k c ≡ Some p → ChildEnded (k ++ e ∷ []) p t
@@ -57,7 +64,9 @@ child_now k e c p t ends below =
       ended = record { place = length k; found = slice_get_last k e ∙ ap Some ends };
     }
 
-module _ (b : Kept) (h : List Event) (c : Kept) (k : List Event) (e : Event) (law : IsLawful b h) (ends : (n : ℕ) (t : Terminal) → e ≡ End n t → is_open h n ≡ true) (emits : (l : ℕ) (v : ℤ) → e ≡ Item l v → is_open h l ≡ true) (alike : Alike h k) (gives : Gives h k) where
+module _ (b : Kept) (h : List Event) (c : Kept) (k : List Event) (e : Event) (law : IsLawful b h)
+    (ends : (n : ℕ) (t : Terminal) → e ≡ End n t → is_open h n ≡ true) (emits : (l : ℕ) (v : ℤ) → e ≡ Item l v → is_open h l ≡ true) (alike : Alike h k)
+    (gives : Gives h k) where
   ended_here : (n : ℕ) (t : Terminal) → (i : ℕ) → slice_get (h ++ e ∷ []) i ≡ Some (End n t) → n < length h
   ended_here n t i at_i = by_place (cases_push h e (End n t) i at_i) where
     by_place : (slice_get h i ≡ Some (End n t)) ⊎ (e ≡ End n t) → n < length h
@@ -97,21 +106,30 @@ module _ (b : Kept) (h : List Event) (c : Kept) (k : List Event) (e : Event) (la
       )
 
   fires_too : (u : ℕ) → Fires (h ++ e ∷ []) u → Fires (k ++ e ∷ []) u
-  fires_too u m = (sym (pushed.same_open u) ∙ m.0, sym (at_alike (h ++ e ∷ []) (k ++ e ∷ []) pushed is_until u m.0) ∙ m.1, is_fired-push k e u ∙ by_place (cases_order u (length h))) where
-    either : (is_fired h u || list_any (is_firing_of u) (stops_of h e)) ≡ true
-    either = sym (is_fired-push h e u) ∙ m.2
+  fires_too u m = (
+    sym (pushed.same_open u) ∙ m.0,
+    sym (at_alike (h ++ e ∷ []) (k ++ e ∷ []) pushed is_until u m.0) ∙ m.1,
+    is_fired-push k e u ∙ by_place (cases_order u (length h)),
+  )
+    where
+      either : (is_fired h u || list_any (is_firing_of u) (stops_of h e)) ≡ true
+      either = sym (is_fired-push h e u) ∙ m.2
 
-    by_test : u < length h → (x : Bool) → is_fired h u ≡ x → (x || list_any (is_firing_of u) (stops_of h e)) ≡ true → (is_fired k u || list_any (is_firing_of u) (stops_of k e)) ≡ true
-    by_test l true old one = ap (λ x. x || list_any (is_firing_of u) (stops_of k e)) (gives.fires u (open_old h e u l m.0, sym (at-append is_until h (e ∷ []) u l) ∙ m.1, old)).2
-    by_test l false old one = or_right (is_fired k u) (list_any (is_firing_of u) (stops_of k e)) (ap (list_any (is_firing_of u)) (sym (stops_of_alike b h k e law emits alike)) ∙ one)
+      by_test : u < length h → (x : Bool) → is_fired h u ≡ x → (x || list_any (is_firing_of u) (stops_of h e)) ≡ true →
+          (is_fired k u || list_any (is_firing_of u) (stops_of k e)) ≡ true
+      by_test l true old one =
+          ap (λ x. x || list_any (is_firing_of u) (stops_of k e)) (gives.fires u (open_old h e u l m.0, sym (at-append is_until h (e ∷ []) u l) ∙ m.1, old)).2
+      by_test l false old one =
+          or_right (is_fired k u) (list_any (is_firing_of u) (stops_of k e))
+          (ap (list_any (is_firing_of u)) (sym (stops_of_alike b h k e law emits alike)) ∙ one)
 
-    none : length h ≤ u → (is_fired h u || list_any (is_firing_of u) (stops_of h e)) ≡ false
-    none past = (λ i. fired_past b h law u past i || fires_none b h e law emits u past i)
+      none : length h ≤ u → (is_fired h u || list_any (is_firing_of u) (stops_of h e)) ≡ false
+      none past = (λ i. fired_past b h law u past i || fires_none b h e law emits u past i)
 
-    by_place : (u ≡ length h) ⊎ ((u < length h) ⊎ (length h < u)) → (is_fired k u || list_any (is_firing_of u) (stops_of k e)) ≡ true
-    by_place (inl last) = absurd (both_ways _ (none (omega arith)) either)
-    by_place (inr (inl l)) = by_test l (is_fired h u) refl either
-    by_place (inr (inr l)) = absurd (both_ways _ (none (omega arith)) either)
+      by_place : (u ≡ length h) ⊎ ((u < length h) ⊎ (length h < u)) → (is_fired k u || list_any (is_firing_of u) (stops_of k e)) ≡ true
+      by_place (inl last) = absurd (both_ways _ (none (omega arith)) either)
+      by_place (inr (inl l)) = by_test l (is_fired h u) refl either
+      by_place (inr (inr l)) = absurd (both_ways _ (none (omega arith)) either)
 
   cuts_too : (s : ℕ) (t : Terminal) → Cuts (h ++ e ∷ []) s t → Cuts (k ++ e ∷ []) s t
   cuts_too s t m = (sym (pushed.same_open s) ∙ m.0, by_place (cases_order m.1.place (length h))) where
@@ -124,7 +142,10 @@ module _ (b : Kept) (h : List Event) (c : Kept) (k : List Event) (e : Event) (la
           hub = d.hub;
           connection = d.connection;
           place = d.place;
-          subscribes = at-append (is_subscriber_of d.hub) k (e ∷ []) s (let l = slice_get_within k d.place (End d.connection t) d.ended in let m = d.later in omega arith) ∙ d.subscribes;
+          subscribes =
+              at-append (is_subscriber_of d.hub) k (e ∷ []) s
+              (let l = slice_get_within k d.place (End d.connection t) d.ended in let m = d.later in omega arith) ∙
+              d.subscribes;
           connects = slice_get-append k (e ∷ []) d.connection (slice_get_within k d.connection (Connect d.hub) d.connects) ∙ d.connects;
           later = d.later;
           ended = slice_get-append k (e ∷ []) d.place (slice_get_within k d.place (End d.connection t) d.ended) ∙ d.ended;
@@ -135,7 +156,8 @@ module _ (b : Kept) (h : List Event) (c : Kept) (k : List Event) (e : Event) (la
 
     by_place : (m.1.place ≡ length h) ⊎ ((m.1.place < length h) ⊎ (length h < m.1.place)) → SourceEnded (k ++ e ∷ []) s t
     by_place (inl last) =
-        let new : e ≡ End m.1.connection t = same_Some e (End m.1.connection t) (sym (slice_get_last h e) ∙ ap (slice_get (h ++ e ∷ [])) (sym last) ∙ m.1.ended) in
+        let new : e ≡ End m.1.connection t =
+        same_Some e (End m.1.connection t) (sym (slice_get_last h e) ∙ ap (slice_get (h ++ e ∷ [])) (sym last) ∙ m.1.ended) in
         let there : slice_get k m.1.connection ≡ Some (Connect m.1.hub) = sym (alike.same_made m.1.connection (ends m.1.connection t new)) ∙ connected in
         let long = alike.same_length in
         let later = m.1.later in
@@ -163,7 +185,8 @@ module _ (b : Kept) (h : List Event) (c : Kept) (k : List Event) (e : Event) (la
             ended = sym (slice_get-append h (e ∷ []) m.1.place l) ∙ m.1.ended;
           },
         )).1
-    by_place (inr (inr l)) = absurd (none-some (End m.1.connection t) (sym (slice_get_past (h ++ e ∷ []) m.1.place (omega (arith, length-append h (e ∷ [])))) ∙ m.1.ended))
+    by_place (inr (inr l)) =
+        absurd (none-some (End m.1.connection t) (sym (slice_get_past (h ++ e ∷ []) m.1.place (omega (arith, length-append h (e ∷ [])))) ∙ m.1.ended))
 
   pub gives-push : Gives (h ++ e ∷ []) (k ++ e ∷ [])
   gives-push = record { mirrors = mirrors_too; fires = fires_too; fails = fails_too; cuts = cuts_too }

@@ -1,5 +1,6 @@
 -- Hubs: at most one connection of each is open, and in a settled history a RefCount hub has one just where it has a subscriber.
-use Rattle.std.proofs.Common.{subst, ◌≡◌, ◌≢◌, ℕ, ◌+◌, ◌<◌, ◌≤◌, true, false, List, [], ◌∷◌, ◌++◌, length, Option, Some, None, refl, sym, ap, ◌∙◌, arith, inl, inr, ◌⊎◌, ◌==◌, take, drop, slice_get, length-append, take-append-drop}
+use Rattle.std.proofs.Common.{subst, ◌≡◌, ◌≢◌, ℕ, ◌+◌, ◌<◌, ◌≤◌, true, false, List, [], ◌∷◌, ◌++◌, length, Option, Some, None, refl}
+use Rattle.std.proofs.Common.{sym, ap, ◌∙◌, arith, inl, inr, ◌⊎◌, ◌==◌, take, drop, slice_get, length-append, take-append-drop}
 use Rattle.std.proofs.Math.Bool.{◌&&◌}
 use Rattle.std.specs.Option.{option_map_or}
 use Rattle.std.proofs.lemmas.Bool.{cases_order, false≢true, and_parts, and_from, eq-eqb, eqb-true}
@@ -67,37 +68,42 @@ pub record TwoConnections (h : List Event) (g a b : ℕ) : Type 0 where
 
 -- are the same
 pub one_connection : (base : Kept) → (h : List Event) → IsLawful base h → (g a b : ℕ) → TwoConnections h g a b → a ≡ b
-one_connection base = by_events base (λ h. (g a b : ℕ) → TwoConnections h g a b → a ≡ b) (λ s g a b two. s.one_connection g a b two.one two.one_open two.other two.other_open) after where
-  before_open : (h : List Event) (e : Event) (a : ℕ) → a < length h → is_open (h ++ e ∷ []) a ≡ true → is_open h a ≡ true
-  before_open h e a l o = (and_parts _ _ (sym (is_open_cut h e a l) ∙ o)).0
+one_connection base =
+    by_events base (λ h. (g a b : ℕ) → TwoConnections h g a b → a ≡ b) (λ s g a b two. s.one_connection g a b two.one two.one_open two.other two.other_open)
+    after
+  where
+    before_open : (h : List Event) (e : Event) (a : ℕ) → a < length h → is_open (h ++ e ∷ []) a ≡ true → is_open h a ≡ true
+    before_open h e a l o = (and_parts _ _ (sym (is_open_cut h e a l) ∙ o)).0
 
-  clash : (h : List Event) (e : Event) → MayFollow base h e → (g a b : ℕ) → a < length h → b ≡ length h → at (is_connect_of g) (h ++ e ∷ []) a ≡ true →
-      is_open (h ++ e ∷ []) a ≡ true → at (is_connect_of g) (h ++ e ∷ []) b ≡ true → ⊥
-  clash h e next g a b l last one one_open other =
-      let new : is_connect_of g e ≡ true = sym (ap (λ o. option_map_or (is_connect_of g) o false) (ap (slice_get (h ++ e ∷ [])) last ∙ slice_get_last h e)) ∙ other in
-      let connects : at (is_connect_of g) h a ≡ true = sym (at-append (is_connect_of g) h (e ∷ []) a l) ∙ one in
-      filter_nonempty (λ n. at (is_connect_of g) h n && is_open h n) 0 (length h) a (omega arith) (omega arith) (and_from _ _ connects (before_open h e a l one_open)) (connect_free base h e g next new)
+    clash : (h : List Event) (e : Event) → MayFollow base h e → (g a b : ℕ) → a < length h → b ≡ length h → at (is_connect_of g) (h ++ e ∷ []) a ≡ true →
+        is_open (h ++ e ∷ []) a ≡ true → at (is_connect_of g) (h ++ e ∷ []) b ≡ true → ⊥
+    clash h e next g a b l last one one_open other =
+        let new : is_connect_of g e ≡ true =
+        sym (ap (λ o. option_map_or (is_connect_of g) o false) (ap (slice_get (h ++ e ∷ [])) last ∙ slice_get_last h e)) ∙ other in
+        let connects : at (is_connect_of g) h a ≡ true = sym (at-append (is_connect_of g) h (e ∷ []) a l) ∙ one in
+        filter_nonempty (λ n. at (is_connect_of g) h n && is_open h n) 0 (length h) a (omega arith) (omega arith)
+        (and_from _ _ connects (before_open h e a l one_open)) (connect_free base h e g next new)
 
-  after : (h : List Event) (e : Event) → IsLawful base h → MayFollow base h e → ((g a b : ℕ) → TwoConnections h g a b → a ≡ b) → (g a b : ℕ) →
-      TwoConnections (h ++ e ∷ []) g a b → a ≡ b
-  after h e law next before g a b two = by_place (cases_order a (length h)) (cases_order b (length h)) where
-    within : (n : ℕ) → is_open (h ++ e ∷ []) n ≡ true → n < length h + 1
-    within n o = let l = is_open_within (h ++ e ∷ []) n o in omega (arith, length-append h (e ∷ []))
+    after : (h : List Event) (e : Event) → IsLawful base h → MayFollow base h e → ((g a b : ℕ) → TwoConnections h g a b → a ≡ b) → (g a b : ℕ) →
+        TwoConnections (h ++ e ∷ []) g a b → a ≡ b
+    after h e law next before g a b two = by_place (cases_order a (length h)) (cases_order b (length h)) where
+      within : (n : ℕ) → is_open (h ++ e ∷ []) n ≡ true → n < length h + 1
+      within n o = let l = is_open_within (h ++ e ∷ []) n o in omega (arith, length-append h (e ∷ []))
 
-    by_place : (a ≡ length h) ⊎ ((a < length h) ⊎ (length h < a)) → (b ≡ length h) ⊎ ((b < length h) ⊎ (length h < b)) → a ≡ b
-    by_place (inl p) (inl q) = p ∙ sym q
-    by_place (inr (inr l)) q = absurd (let w = within a two.one_open in omega arith)
-    by_place (inl p) (inr (inr l)) = absurd (let w = within b two.other_open in omega arith)
-    by_place (inr (inl l)) (inr (inr m)) = absurd (let w = within b two.other_open in omega arith)
-    by_place (inr (inl l)) (inl q) = absurd (clash h e next g a b l q two.one two.one_open two.other)
-    by_place (inl p) (inr (inl l)) = absurd (clash h e next g b a l p two.other two.other_open two.one)
-    by_place (inr (inl l)) (inr (inl m)) =
-        before g a b (record {
-          one = sym (at-append (is_connect_of g) h (e ∷ []) a l) ∙ two.one;
-          one_open = before_open h e a l two.one_open;
-          other = sym (at-append (is_connect_of g) h (e ∷ []) b m) ∙ two.other;
-          other_open = before_open h e b m two.other_open;
-        })
+      by_place : (a ≡ length h) ⊎ ((a < length h) ⊎ (length h < a)) → (b ≡ length h) ⊎ ((b < length h) ⊎ (length h < b)) → a ≡ b
+      by_place (inl p) (inl q) = p ∙ sym q
+      by_place (inr (inr l)) q = absurd (let w = within a two.one_open in omega arith)
+      by_place (inl p) (inr (inr l)) = absurd (let w = within b two.other_open in omega arith)
+      by_place (inr (inl l)) (inr (inr m)) = absurd (let w = within b two.other_open in omega arith)
+      by_place (inr (inl l)) (inl q) = absurd (clash h e next g a b l q two.one two.one_open two.other)
+      by_place (inl p) (inr (inl l)) = absurd (clash h e next g b a l p two.other two.other_open two.one)
+      by_place (inr (inl l)) (inr (inl m)) =
+          before g a b (record {
+            one = sym (at-append (is_connect_of g) h (e ∷ []) a l) ∙ two.one;
+            one_open = before_open h e a l two.one_open;
+            other = sym (at-append (is_connect_of g) h (e ∷ []) b m) ∙ two.other;
+            other_open = before_open h e b m two.other_open;
+          })
 
 -- so a hub has at most one
 pub one_open_connection : (base : Kept) → (h : List Event) → IsLawful base h → (g : ℕ) → length (open_connections h g) ≤ 1
@@ -149,13 +155,22 @@ connection_hub base h law g c at_c =
 -- settled histories -------------------------------------------------------------------------------
 
 -- in a settled history no RefCount hub has a subscriber and no connection
-pub subscribed_connected : (base : Kept) → (h : List Event) (g : ℕ) → IsSettled base h → at is_auto_hub h g ≡ true → open_connections h g ≡ [] → open_subscribers h g ≡ []
+pub subscribed_connected : (base : Kept) → (h : List Event) (g : ℕ) → IsSettled base h → at is_auto_hub h g ≡ true → open_connections h g ≡ [] →
+    open_subscribers h g ≡ []
 subscribed_connected base h g settled auto unconnected = by_list (open_subscribers h g) refl where
   none_due : (k : ℕ) → IsConnectDue h k → ⊥
   none_due k d = settled.none (Connect k) (connecting d)
 
   waiting : (s : ℕ) → at (is_subscriber_of g) h s ≡ true → is_open h s ≡ true → ⊥
-  waiting s subscribes subscribed = none_due g (record { auto = auto; subscriber = s; subscribes = subscribes; subscribed = subscribed; waits = λ t ended. settled.none _ (due none_due (cut subscribed ended)); unconnected = unconnected })
+  waiting s subscribes subscribed =
+      none_due g (record {
+        auto = auto;
+        subscriber = s;
+        subscribes = subscribes;
+        subscribed = subscribed;
+        waits = λ t ended. settled.none _ (due none_due (cut subscribed ended));
+        unconnected = unconnected;
+      })
 
   by_list : (ss : List ℕ) → open_subscribers h g ≡ ss → ss ≡ []
   by_list [] e = refl
@@ -165,7 +180,8 @@ subscribed_connected base h g settled auto unconnected = by_list (open_subscribe
       absurd (waiting s parts.0 parts.1)
 
 -- nor a connection and no subscriber
-pub unsubscribed_unconnected : (base : Kept) → (h : List Event) (g : ℕ) → IsSettled base h → at is_auto_hub h g ≡ true → open_subscribers h g ≡ [] → open_connections h g ≡ []
+pub unsubscribed_unconnected : (base : Kept) → (h : List Event) (g : ℕ) → IsSettled base h → at is_auto_hub h g ≡ true → open_subscribers h g ≡ [] →
+    open_connections h g ≡ []
 unsubscribed_unconnected base h g settled auto unsubscribed = by_list (open_connections h g) refl where
   none_due : (k : ℕ) → IsConnectDue h k → ⊥
   none_due k d = settled.none (Connect k) (connecting d)
@@ -178,7 +194,8 @@ unsubscribed_unconnected base h g settled auto unsubscribed = by_list (open_conn
       absurd (settled.none (Close c) (due none_due (left parts.1 (at_connect h g c parts.0) auto unsubscribed)))
 
 -- so it has one connection where it has a subscriber
-pub one_where_subscribed : (base : Kept) → (h : List Event) (g : ℕ) → IsLawful base h → IsSettled base h → at is_auto_hub h g ≡ true → open_subscribers h g ≢ [] →
+pub one_where_subscribed : (base : Kept) → (h : List Event) (g : ℕ) → IsLawful base h → IsSettled base h → at is_auto_hub h g ≡ true →
+    open_subscribers h g ≢ [] →
     length (open_connections h g) ≡ 1
 one_where_subscribed base h g law settled auto subscribed = by_list (open_connections h g) refl (one_open_connection base h law g) where
   by_list : (cs : List ℕ) → open_connections h g ≡ cs → length cs ≤ 1 → length cs ≡ 1
@@ -201,7 +218,8 @@ pub may_subscribe : (base : Kept) → {h : List Event} {place : Place} {kind : K
 may_subscribe base (forced f) = absurd (false≢true (forced_kind base f))
 may_subscribe base (allowed s a) = allowed_hubbed base a
 
-hubbed_before : (base : Kept) → (h : List Event) → IsLawful base h → (n : ℕ) (place : Place) (kind : Kind) → slice_get h n ≡ Some (Open place kind) → IsHubbed (take n h) place kind
+hubbed_before : (base : Kept) → (h : List Event) → IsLawful base h → (n : ℕ) (place : Place) (kind : Kind) → slice_get h n ≡ Some (Open place kind) →
+    IsHubbed (take n h) place kind
 hubbed_before base h law n place kind at_n = by_case (found_at base h law n (Open place kind) at_n) where
   by_case : FoundAt base h n (Open place kind) → IsHubbed (take n h) place kind
   by_case (in_base found same) = subst (λ k. IsHubbed k place kind) (sym same) (law.started.hubbed n place kind found)
@@ -229,24 +247,29 @@ older_order h g s q a k order l m within connects =
 -- every connection above a subscriber is of a later hub, so that no item goes round in a circle
 pub hubs_in_order : (base : Kept) → (h : List Event) → IsLawful base h → (g s a k : ℕ) → at (is_subscriber_of g) h s ≡ true → is_within h a s ≡ true →
     slice_get h a ≡ Some (Connect k) → g < k
-hubs_in_order base h law g s a k subscribes within connects = by_place found.0 found.1 (hubbed_before base h law s found.0 (Sub g) found.1).1 (within_cases h a s within) where
-  found : (place : Place) × (slice_get h s ≡ Some (Open place (Sub g)))
-  found = subscriber_found g (slice_get h s) subscribes
+hubs_in_order base h law g s a k subscribes within connects =
+    by_place found.0 found.1 (hubbed_before base h law s found.0 (Sub g) found.1).1 (within_cases h a s within)
+  where
+    found : (place : Place) × (slice_get h s ≡ Some (Open place (Sub g)))
+    found = subscriber_found g (slice_get h s) subscribes
 
-  itself : (place : Place) → slice_get h s ≡ Some (Open place (Sub g)) → a ≡ s → ⊥
-  itself place at_s same = false≢true (ap (is_connect_of k) (same_Some (Open place (Sub g)) (Connect k) (sym at_s ∙ ap (slice_get h) (sym same) ∙ connects)) ∙ eq-eqb k k refl)
+    itself : (place : Place) → slice_get h s ≡ Some (Open place (Sub g)) → a ≡ s → ⊥
+    itself place at_s same =
+        false≢true (ap (is_connect_of k) (same_Some (Open place (Sub g)) (Connect k) (sym at_s ∙ ap (slice_get h) (sym same) ∙ connects)) ∙ eq-eqb k k refl)
 
-  named : (place : Place) (q p : ℕ) → slice_get h s ≡ Some (Open place (Sub g)) → IsInOrderAt (take s h) g q → Some q ≡ Some p → parent h s ≡ Some p →
-      is_within h a p ≡ true → g < k
-  named place q p at_s order name below above =
-      let number : q ≡ p = same_Some q p name in
-      let l : p < s = parent-lt h s p below in
-      older_order h g s q a k order (omega arith) (slice_get_within h s (Open place (Sub g)) at_s) (ap (is_within h a) number ∙ above) connects
+    named : (place : Place) (q p : ℕ) → slice_get h s ≡ Some (Open place (Sub g)) → IsInOrderAt (take s h) g q → Some q ≡ Some p → parent h s ≡ Some p →
+        is_within h a p ≡ true → g < k
+    named place q p at_s order name below above =
+        let number : q ≡ p = same_Some q p name in
+        let l : p < s = parent-lt h s p below in
+        older_order h g s q a k order (omega arith) (slice_get_within h s (Open place (Sub g)) at_s) (ap (is_within h a) number ∙ above) connects
 
-  by_place : (place : Place) → slice_get h s ≡ Some (Open place (Sub g)) → IsInOrder (take s h) g place →
-      (a ≡ s) ⊎ ((p : ℕ) × (parent h s ≡ Some p) × (is_within h a p ≡ true)) → g < k
-  by_place place at_s order (inl same) = absurd (itself place at_s same)
-  by_place Root at_s order (inr (p, below, above)) = absurd (none-some p (parent_name h s p (Open Root (Sub g)) below at_s))
-  by_place (Source q) at_s order (inr (p, below, above)) = named (Source q) q p at_s order (parent_name h s p (Open (Source q) (Sub g)) below at_s) below above
-  by_place (Inner q) at_s order (inr (p, below, above)) = named (Inner q) q p at_s order (parent_name h s p (Open (Inner q) (Sub g)) below at_s) below above
-  by_place (Notifier q) at_s order (inr (p, below, above)) = named (Notifier q) q p at_s order (parent_name h s p (Open (Notifier q) (Sub g)) below at_s) below above
+    by_place : (place : Place) → slice_get h s ≡ Some (Open place (Sub g)) → IsInOrder (take s h) g place →
+        (a ≡ s) ⊎ ((p : ℕ) × (parent h s ≡ Some p) × (is_within h a p ≡ true)) → g < k
+    by_place place at_s order (inl same) = absurd (itself place at_s same)
+    by_place Root at_s order (inr (p, below, above)) = absurd (none-some p (parent_name h s p (Open Root (Sub g)) below at_s))
+    by_place (Source q) at_s order (inr (p, below, above)) =
+        named (Source q) q p at_s order (parent_name h s p (Open (Source q) (Sub g)) below at_s) below above
+    by_place (Inner q) at_s order (inr (p, below, above)) = named (Inner q) q p at_s order (parent_name h s p (Open (Inner q) (Sub g)) below at_s) below above
+    by_place (Notifier q) at_s order (inr (p, below, above)) =
+        named (Notifier q) q p at_s order (parent_name h s p (Open (Notifier q) (Sub g)) below at_s) below above

@@ -1,5 +1,6 @@
 -- One order of what is forced: there is always one next, where anything is forced, and so one end of a step.
-use Rattle.std.proofs.Common.{◌≡◌, ℕ, zero, suc, ◌+◌, ◌<◌, Bool, true, false, List, [], ◌∷◌, length, Option, Some, None, option_map, cond, slice_get, refl, sym, ap, subst, ◌∙◌, inl, inr, ◌⊎◌, nat_lt, arith}
+use Rattle.std.proofs.Common.{◌≡◌, ℕ, zero, suc, ◌+◌, ◌<◌, Bool, true, false, List, [], ◌∷◌, length, Option, Some, None}
+use Rattle.std.proofs.Common.{option_map, cond, slice_get, refl, sym, ap, subst, ◌∙◌, inl, inr, ◌⊎◌, nat_lt, arith}
 use Rattle.std.proofs.Math.Bool.{◌&&◌}
 use Rattle.std.specs.List.{list_any, range_with_len}
 use Rattle.std.specs.Option.{option_and_then, option_map_or, option_or}
@@ -16,7 +17,8 @@ use Rattle.rx_event.specs.Tree.{at, places, is_open, open_subscribers, open_conn
 use Rattle.rx_event.specs.Moments.{is_fired}
 use Rattle.rx_event.specs.Forced.{mirrored, fired, cut, left, connecting, due, SourceEnded, IsDue, IsForced, IsConnectDue, IsConnected, IsSettled}
 use Rattle.rx_event.specs.Marks.{first_some, child_terminal, marks_of, is_over, completed_if, terminal_due, due_at}
-use Rattle.rx_event.specs.Canonical.{ends_connection, ends_source_at, source_end, is_nothing, is_nil, waits_at, Joining, Mirroring, Firing, Failing, Completing, Cutting, Leaving, Rule, gives, first_forced}
+use Rattle.rx_event.specs.Canonical.{ends_connection, ends_source_at, source_end, is_nothing, is_nil, waits_at, Joining, Mirroring}
+use Rattle.rx_event.specs.Canonical.{Firing, Failing, Completing, Cutting, Leaving, Rule, gives, first_forced}
 use Rattle.rx_event.proofs.Laws.Openness.{is_open_within}
 use Rattle.rx_event.proofs.Laws.Places.{at_within}
 use Rattle.rx_event.proofs.Laws.Hubs.{at_connect, subscriber_found}
@@ -47,7 +49,8 @@ and_then_some : {X Y : Type 0} (f : X → Option Y) (o : Option X) (y : Y) → o
 and_then_some f None y found = absurd (none-some y found)
 and_then_some f (Some x) y found = (x, refl, found)
 
-connection_ends : (h : List Event) (g : ℕ) (e : Event) (t : Terminal) → ends_connection h g e ≡ Some t → (c : ℕ) × (e ≡ End c t) × (slice_get h c ≡ Some (Connect g))
+connection_ends : (h : List Event) (g : ℕ) (e : Event) (t : Terminal) → ends_connection h g e ≡ Some t →
+    (c : ℕ) × (e ≡ End c t) × (slice_get h c ≡ Some (Connect g))
 connection_ends h g (End c u) t found =
     let w : (at (is_connect_of g) h c ≡ true) × (u ≡ t) = cond_some (at (is_connect_of g) h c) u t found in
     (c, ap (λ v. End c v) w.1, at_connect h g c w.0)
@@ -86,7 +89,8 @@ unfolding source_end
 source_end_none h s t none x =
     let found = subscriber_found x.hub (slice_get h s) x.subscribes in
     let hub : option_and_then hub_subscribed (slice_get h s) ≡ Some x.hub = ap (option_and_then hub_subscribed) found.1 in
-    let rest : first_some (ends_source_at h s x.hub) (places h) ≡ None = sym (ap (option_and_then (λ g. first_some (ends_source_at h s g) (places h))) hub) ∙ none in
+    let rest : first_some (ends_source_at h s x.hub) (places h) ≡ None =
+    sym (ap (option_and_then (λ g. first_some (ends_source_at h s g) (places h))) hub) ∙ none in
     let l : x.place < length h = slice_get_within h x.place _ x.ended in
     let here : ends_source_at h s x.hub x.place ≡ None = none_given (ends_source_at h s x.hub) h rest x.place l in
     let is : ends_source_at h s x.hub x.place ≡ Some t = rw (lt-ltb s x.place x.later, x.ended, x.connects, eq-eqb x.hub x.hub refl) refl in
@@ -144,7 +148,8 @@ none_connecting base h none g d =
     let here : gives base h Joining g ≡ None = none_given (gives base h Joining) h none g l in
     let k : d.subscriber < length h = is_open_within h d.subscriber d.subscribed in
     let waits : waits_at h g d.subscriber ≡ true = and_from _ _ (and_from _ _ d.subscribes d.subscribed) (unended h d.subscriber d.waits) in
-    let any : list_any (waits_at h g) (places h) ≡ true = list_any_holds (waits_at h g) (places h) d.subscriber d.subscriber (place_get h d.subscriber k) waits in
+    let any : list_any (waits_at h g) (places h) ≡ true =
+    list_any_holds (waits_at h g) (places h) d.subscriber d.subscriber (place_get h d.subscriber k) waits in
     none-some (Connect g) (sym here ∙ rw (d.auto, any, d.unconnected) refl)
 
 -- the other rules ------------------------------------------------------------------------------------------------------------
@@ -172,7 +177,8 @@ failing_due : (base : Kept) → (h : List Event) (n : ℕ) (e : Event) → gives
 failing_due base h n e found =
     let w = ends_at h n (is_open h n && at is_merging h n) (child_terminal h n) e found in
     let parts = and_parts (is_open h n) (at is_merging h n) w.1 in
-    subst (λ (x : Event). IsDue base h x) w.3 (merging_due base h n w.0 parts.0 parts.1 (ap (λ (o : Option Terminal). option_or o (completed_if (is_over (marks_of base h n)))) w.2))
+    subst (λ (x : Event). IsDue base h x) w.3
+    (merging_due base h n w.0 parts.0 parts.1 (ap (λ (o : Option Terminal). option_or o (completed_if (is_over (marks_of base h n)))) w.2))
 
 completing_due : (base : Kept) → (h : List Event) (n : ℕ) (e : Event) → gives base h Completing n ≡ Some e → IsDue base h e
 completing_due base h n e found =
@@ -208,10 +214,12 @@ leaving_due base h n e found = by_hub (option_and_then hub_connected (slice_get 
   by_hub None at_n is = absurd (false≢true is)
   by_hub (Some g) at_n is =
       let both = and_parts (at is_auto_hub h g) (is_nil (open_subscribers h g)) is in
-      subst (λ (x : Event). IsDue base h x) (same_Some (Close n) e w.1) (left parts.0 (connection_made (slice_get h n) g at_n) both.0 (nil_none (open_subscribers h g) both.1))
+      subst (λ (x : Event). IsDue base h x) (same_Some (Close n) e w.1)
+      (left parts.0 (connection_made (slice_get h n) g at_n) both.0 (nil_none (open_subscribers h g) both.1))
 
 -- what is found for a rule is due
-found_due : (base : Kept) → (h : List Event) (rule : Rule) → ((n : ℕ) (e : Event) → gives base h rule n ≡ Some e → IsDue base h e) → (e : Event) → first_some (gives base h rule) (places h) ≡ Some e → IsDue base h e
+found_due : (base : Kept) → (h : List Event) (rule : Rule) → ((n : ℕ) (e : Event) → gives base h rule n ≡ Some e → IsDue base h e) → (e : Event) →
+    first_some (gives base h rule) (places h) ≡ Some e → IsDue base h e
 found_due base h rule sound e found = let r = first_found (gives base h rule) (places h) e found in sound r.1 e r.3
 
 -- the first of two answers
@@ -229,24 +237,33 @@ search_by base h rule = first_some (gives base h rule) (places h)
 -- what comes first is forced
 pub first_is_forced : (base : Kept) → (h : List Event) (e : Event) → first_forced base h ≡ Some e → IsForced base h e
 unfolding first_forced
-first_is_forced base h e found = by_connecting (or_some (first_some (gives base h Joining) (places h)) (first_some (λ rule. first_some (gives base h rule) (places h)) (Mirroring ∷ Firing ∷ Failing ∷ Completing ∷ Cutting ∷ Leaving ∷ [])) e found) where
-  by_leaving : option_or (first_some (gives base h Leaving) (places h)) None ≡ Some e → IsDue base h e
-  by_leaving rest = by_or (or_some (first_some (gives base h Leaving) (places h)) None e rest) where
-    by_or : (first_some (gives base h Leaving) (places h) ≡ Some e) ⊎ ((first_some (gives base h Leaving) (places h) ≡ None) × (None ≡ Some e)) → IsDue base h e
-    by_or (inl here) = found_due base h Leaving (leaving_due base h) e here
-    by_or (inr (none, no_more)) = absurd (none-some e no_more)
+first_is_forced base h e found =
+    by_connecting (or_some (first_some (gives base h Joining) (places h))
+    (first_some (λ rule. first_some (gives base h rule) (places h)) (Mirroring ∷ Firing ∷ Failing ∷ Completing ∷ Cutting ∷ Leaving ∷ [])) e found)
+  where
+    by_leaving : option_or (first_some (gives base h Leaving) (places h)) None ≡ Some e → IsDue base h e
+    by_leaving rest = by_or (or_some (first_some (gives base h Leaving) (places h)) None e rest) where
+      by_or : (first_some (gives base h Leaving) (places h) ≡ Some e) ⊎ ((first_some (gives base h Leaving) (places h) ≡ None) × (None ≡ Some e)) →
+          IsDue base h e
+      by_or (inl here) = found_due base h Leaving (leaving_due base h) e here
+      by_or (inr (none, no_more)) = absurd (none-some e no_more)
 
-  by_rule : (rule : Rule) → ((n : ℕ) (x : Event) → gives base h rule n ≡ Some x → IsDue base h x) → (rest : Option Event) → (rest ≡ Some e → IsDue base h e) →
-      option_or (first_some (gives base h rule) (places h)) rest ≡ Some e → IsDue base h e
-  by_rule rule sound rest later given = by_or (or_some (first_some (gives base h rule) (places h)) rest e given) where
-    by_or : (first_some (gives base h rule) (places h) ≡ Some e) ⊎ ((first_some (gives base h rule) (places h) ≡ None) × (rest ≡ Some e)) → IsDue base h e
-    by_or (inl here) = found_due base h rule sound e here
-    by_or (inr (none, more_here)) = later more_here
+    by_rule : (rule : Rule) → ((n : ℕ) (x : Event) → gives base h rule n ≡ Some x → IsDue base h x) → (rest : Option Event) → (rest ≡ Some e → IsDue base h e) →
+        option_or (first_some (gives base h rule) (places h)) rest ≡ Some e → IsDue base h e
+    by_rule rule sound rest later given = by_or (or_some (first_some (gives base h rule) (places h)) rest e given) where
+      by_or : (first_some (gives base h rule) (places h) ≡ Some e) ⊎ ((first_some (gives base h rule) (places h) ≡ None) × (rest ≡ Some e)) → IsDue base h e
+      by_or (inl here) = found_due base h rule sound e here
+      by_or (inr (none, more_here)) = later more_here
 
-  by_connecting : (first_some (gives base h Joining) (places h) ≡ Some e) ⊎ ((first_some (gives base h Joining) (places h) ≡ None) × (first_some (λ rule. first_some (gives base h rule) (places h)) (Mirroring ∷ Firing ∷ Failing ∷ Completing ∷ Cutting ∷ Leaving ∷ []) ≡ Some e)) → IsForced base h e
-  by_connecting (inl here) = let r = first_found (gives base h Joining) (places h) e here in connecting_due base h r.1 e r.3
-  by_connecting (inr (none, rest)) = due (none_connecting base h none)
-      (by_rule Mirroring (mirroring_due base h) _ (by_rule Firing (firing_due base h) _ (by_rule Failing (failing_due base h) _ (by_rule Completing (completing_due base h) _ (by_rule Cutting (cutting_due base h) _ by_leaving)))) rest)
+    by_connecting : (first_some (gives base h Joining) (places h) ≡ Some e) ⊎ ((first_some (gives base h Joining) (places h) ≡ None) ×
+        (first_some (λ rule. first_some (gives base h rule) (places h)) (Mirroring ∷ Firing ∷ Failing ∷ Completing ∷ Cutting ∷ Leaving ∷ []) ≡ Some e)) →
+        IsForced base h e
+    by_connecting (inl here) = let r = first_found (gives base h Joining) (places h) e here in connecting_due base h r.1 e r.3
+    by_connecting (inr (none, rest)) = due (none_connecting base h none)
+        (by_rule Mirroring (mirroring_due base h) _
+        (by_rule Firing (firing_due base h) _
+        (by_rule Failing (failing_due base h) _ (by_rule Completing (completing_due base h) _ (by_rule Cutting (cutting_due base h) _ by_leaving))))
+        rest)
 
 -- nothing is given, so nothing is forced -----------------------------------------------------------------------------------------
 
@@ -259,16 +276,22 @@ module _ (base : Kept) (h : List Event) (each : (rule : Rule) → first_some (gi
   at_node rule n o = none_given (gives base h rule) h (each rule) n (is_open_within h n o)
 
   no_source : (n : ℕ) (t : Terminal) → is_open h n ≡ true → ¬ SourceEnded h n t
-  no_source n t o = source_end_none h n t (no_end_at n (source_end h n) (sym (ap (λ b. cond {A = Option Event} b (option_map (λ v. End n v) (source_end h n)) None) o) ∙ at_node Cutting n o))
+  no_source n t o =
+      source_end_none h n t
+      (no_end_at n (source_end h n) (sym (ap (λ b. cond {A = Option Event} b (option_map (λ v. End n v) (source_end h n)) None) o) ∙ at_node Cutting n o))
 
   no_close : (c : ℕ) → ¬ IsDue base h (Close c)
   no_close c (left {g = g} o at_c auto none) = none-some (Close c) (sym (at_node Leaving c o) ∙ rw (o, at_c, auto, none) refl)
 
   no_mirrored : (n : ℕ) → is_open h n ≡ true → at is_mirroring h n ≡ true → child_terminal h n ≡ None
-  no_mirrored n o m = no_end_at n (child_terminal h n) (sym (ap (λ b. cond {A = Option Event} b (option_map (λ v. End n v) (child_terminal h n)) None) (and_from _ _ o m)) ∙ at_node Mirroring n o)
+  no_mirrored n o m =
+      no_end_at n (child_terminal h n)
+      (sym (ap (λ b. cond {A = Option Event} b (option_map (λ v. End n v) (child_terminal h n)) None) (and_from _ _ o m)) ∙ at_node Mirroring n o)
 
   no_failed : (n : ℕ) → is_open h n ≡ true → at is_merging h n ≡ true → child_terminal h n ≡ None
-  no_failed n o m = no_end_at n (child_terminal h n) (sym (ap (λ b. cond {A = Option Event} b (option_map (λ v. End n v) (child_terminal h n)) None) (and_from _ _ o m)) ∙ at_node Failing n o)
+  no_failed n o m =
+      no_end_at n (child_terminal h n)
+      (sym (ap (λ b. cond {A = Option Event} b (option_map (λ v. End n v) (child_terminal h n)) None) (and_from _ _ o m)) ∙ at_node Failing n o)
 
   no_fired : (n : ℕ) → is_open h n ≡ true → at is_until h n ≡ true → is_fired h n ≡ false
   no_fired n o u = by_test (is_fired h n) refl where
@@ -281,7 +304,8 @@ module _ (base : Kept) (h : List Event) (each : (rule : Rule) → first_some (gi
     by_test : (b : Bool) → is_over (marks_of base h n) ≡ b → b ≡ false
     by_test false is = refl
     by_test true is =
-        let all : (is_open h n && at is_merging h n && is_nothing (child_terminal h n) && is_over (marks_of base h n)) ≡ true = and_from _ _ (and_from _ _ (and_from _ _ o m) (ap is_nothing (no_failed n o m))) is in
+        let all : (is_open h n && at is_merging h n && is_nothing (child_terminal h n) && is_over (marks_of base h n)) ≡ true =
+        and_from _ _ (and_from _ _ (and_from _ _ o m) (ap is_nothing (no_failed n o m))) is in
         absurd (none-some (End n Completed) (sym (at_node Completing n o) ∙ ap (λ b. cond {A = Option Event} b (Some (End n Completed)) None) all))
 
   quiet : (n : ℕ) (made : Event) → is_open h n ≡ true → slice_get h n ≡ Some made → due_at made (marks_of base h n) n ≡ None
@@ -303,7 +327,8 @@ module _ (base : Kept) (h : List Event) (each : (rule : Rule) → first_some (gi
 pub settled_by_order : (base : Kept) → (h : List Event) → first_forced base h ≡ None → IsSettled base h
 unfolding first_forced
 settled_by_order base h none = settled_none base h each where
-  one : (first_some (gives base h Joining) (places h) ≡ None) × (first_some (search_by base h) (Mirroring ∷ Firing ∷ Failing ∷ Completing ∷ Cutting ∷ Leaving ∷ []) ≡ None)
+  one : (first_some (gives base h Joining) (places h) ≡ None) ×
+      (first_some (search_by base h) (Mirroring ∷ Firing ∷ Failing ∷ Completing ∷ Cutting ∷ Leaving ∷ []) ≡ None)
   one = or_nothing_left (search_by base h Joining) (first_some (search_by base h) (Mirroring ∷ Firing ∷ Failing ∷ Completing ∷ Cutting ∷ Leaving ∷ [])) none
 
   two : (search_by base h Mirroring ≡ None) × (first_some (search_by base h) (Firing ∷ Failing ∷ Completing ∷ Cutting ∷ Leaving ∷ []) ≡ None)

@@ -1,5 +1,6 @@
 -- Lawful histories, event by event.
-use Rattle.std.proofs.Common.{◌≡◌, ℕ, zero, suc, ◌<◌, ◌≤◌, inl, inr, ◌⊎◌, length, true, List, [], ◌∷◌, ◌++◌, take, Some, refl, sym, ap, subst, ◌∙◌, arith, slice_get, append_assoc, append-nil, length-append}
+use Rattle.std.proofs.Common.{◌≡◌, ℕ, zero, suc, ◌<◌, ◌≤◌, inl, inr, ◌⊎◌, length, true, List, [], ◌∷◌, ◌++◌, take, Some}
+use Rattle.std.proofs.Common.{refl, sym, ap, subst, ◌∙◌, arith, slice_get, append_assoc, append-nil, length-append}
 use Rattle.std.specs.List.{AllByRecursion}
 use Rattle.std.proofs.lemmas.Grind.{common_steps}
 use Rattle.std.proofs.lemmas.Option.{slice_get_within, same_Some, none-some}
@@ -20,7 +21,8 @@ use Rattle.std.proofs.lemmas.Bool.{false≢true}
 pub moments_after-push : (b h : List Event) (e : Event) → moments_after b (h ++ e ∷ []) ≡ moments_after b h ++ (record { before = b ++ h; event = e }) ∷ []
 moments_after-push b [] e = ap (λ c. (record { before = c; event = e }) ∷ []) (sym (append-nil b))
 moments_after-push b (x ∷ h) e =
-    ap (λ (ms : List Moment). (record { before = b; event = x }) ∷ ms) (moments_after-push (b ++ x ∷ []) h e ∙ ap (λ c. moments_after (b ++ x ∷ []) h ++ (record { before = c; event = e }) ∷ []) (append_assoc b (x ∷ []) h))
+    ap (λ (ms : List Moment). (record { before = b; event = x }) ∷ ms)
+    (moments_after-push (b ++ x ∷ []) h e ∙ ap (λ c. moments_after (b ++ x ∷ []) h ++ (record { before = c; event = e }) ∷ []) (append_assoc b (x ∷ []) h))
 
 -- the last moment
 pub moments-push : (h : List Event) (e : Event) → moments (h ++ e ∷ []) ≡ moments h ++ (record { before = h; event = e }) ∷ []
@@ -38,7 +40,10 @@ IsLawful-push base h e law next =
       started = law.started;
       since = law.since ++ e ∷ [];
       reads = ap (λ k. k ++ e ∷ []) law.reads ∙ append_assoc (shown base) law.since (e ∷ []);
-      each = rw (moments_after-push (shown base) law.since e) (AllByRecursion-push (λ (m : Moment). MayFollow base m.before m.event) (moments_after (shown base) law.since) (record { before = shown base ++ law.since; event = e }) law.each (subst (λ k. MayFollow base k e) law.reads next));
+      each =
+          rw (moments_after-push (shown base) law.since e)
+          (AllByRecursion-push (λ (m : Moment). MayFollow base m.before m.event) (moments_after (shown base) law.since)
+          (record { before = shown base ++ law.since; event = e }) law.each (subst (λ k. MayFollow base k e) law.reads next));
     }
 
 pub IsLawful_empty : (base : Kept) → Started base → IsLawful base (shown base)
@@ -65,21 +70,25 @@ take-front (x ∷ xs) ys zero l = refl
 take-front (x ∷ xs) ys (suc i) l = ap (λ k. x ∷ k) (take-front xs ys i (omega arith))
 
 -- past the front, what is taken goes on after it
-split_at : (base : Kept) → (front b h : List Event) → ((k : List Event) (e : Event) → MayFollow base (b ++ k) e → MayFollow base (b ++ k) e) → AllByRecursion (λ (m : Moment). MayFollow base m.before m.event) (moments_after (b ++ front) h) →
+split_at : (base : Kept) → (front b h : List Event) → ((k : List Event) (e : Event) → MayFollow base (b ++ k) e → MayFollow base (b ++ k) e) →
+    AllByRecursion (λ (m : Moment). MayFollow base m.before m.event) (moments_after (b ++ front) h) →
     (i : ℕ) (e : Event) → slice_get (front ++ h) i ≡ Some e → ((slice_get front i ≡ Some e) × (i < length front)) ⊎ MayFollow base (b ++ take i (front ++ h)) e
 split_at base [] b h same each i e at_i = inr (lawful_after base b h (rw (append-nil b) at each) i e at_i)
 split_at base (x ∷ front) b h same each zero e at_i = inl (at_i, omega arith)
-split_at base (x ∷ front) b h same each (suc i) e at_i = by_case (split_at base front (b ++ x ∷ []) h (λ k e f. f) (rw (append_assoc b (x ∷ []) front) each) i e at_i) where
-  by_case : ((slice_get front i ≡ Some e) × (i < length front)) ⊎ MayFollow base ((b ++ x ∷ []) ++ take i (front ++ h)) e →
-      ((slice_get front i ≡ Some e) × (suc i < length (x ∷ front))) ⊎ MayFollow base (b ++ x ∷ take i (front ++ h)) e
-  by_case (inl found) = inl (found.0, (let l = found.1 in omega arith))
-  by_case (inr next) = inr (subst (λ k. MayFollow base k e) (append_assoc b (x ∷ []) (take i (front ++ h))) next)
+split_at base (x ∷ front) b h same each (suc i) e at_i =
+    by_case (split_at base front (b ++ x ∷ []) h (λ k e f. f) (rw (append_assoc b (x ∷ []) front) each) i e at_i)
+  where
+    by_case : ((slice_get front i ≡ Some e) × (i < length front)) ⊎ MayFollow base ((b ++ x ∷ []) ++ take i (front ++ h)) e →
+        ((slice_get front i ≡ Some e) × (suc i < length (x ∷ front))) ⊎ MayFollow base (b ++ x ∷ take i (front ++ h)) e
+    by_case (inl found) = inl (found.0, (let l = found.1 in omega arith))
+    by_case (inr next) = inr (subst (λ k. MayFollow base k e) (append_assoc b (x ∷ []) (take i (front ++ h))) next)
 
 pub found_at : (base : Kept) → (h : List Event) → IsLawful base h → (i : ℕ) (e : Event) → slice_get h i ≡ Some e → FoundAt base h i e
-found_at base h law i e at_i = by_case (split_at base (shown base) [] law.since (λ k e f. f) law.each i e (ap (λ k. slice_get k i) (sym law.reads) ∙ at_i)) where
-  by_case : ((slice_get (shown base) i ≡ Some e) × (i < length (shown base))) ⊎ MayFollow base (take i (shown base ++ law.since)) e → FoundAt base h i e
-  by_case (inl found) = in_base found.0 (ap (take i) law.reads ∙ take-front (shown base) law.since i (let l = found.1 in omega arith))
-  by_case (inr next) = since_base (subst (λ k. MayFollow base (take i k) e) (sym law.reads) next)
+found_at base h law i e at_i = by_case (split_at base (shown base) [] law.since (λ k e f. f) law.each i e (ap (λ k. slice_get k i) (sym law.reads) ∙ at_i))
+  where
+    by_case : ((slice_get (shown base) i ≡ Some e) × (i < length (shown base))) ⊎ MayFollow base (take i (shown base ++ law.since)) e → FoundAt base h i e
+    by_case (inl found) = in_base found.0 (ap (take i) law.reads ∙ take-front (shown base) law.since i (let l = found.1 in omega arith))
+    by_case (inr next) = since_base (subst (λ k. MayFollow base (take i k) e) (sym law.reads) next)
 
 -- ends --------------------------------------------------------------------------------------------
 

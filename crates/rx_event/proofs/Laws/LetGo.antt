@@ -1,6 +1,7 @@
 -- Where a caller holds nothing open, nothing is open. What keeps a RefCount hub connected is a subscriber, which stands below a
 -- connection of a later hub; so were one connected, hubs would be endless.
-use Rattle.std.proofs.Common.{◌≡◌, ℕ, zero, suc, ◌+◌, ◌<◌, ◌≤◌, Bool, true, false, List, [], ◌∷◌, length, Option, Some, None, cond, refl, sym, ap, ◌∙◌, arith, inl, inr, ◌⊎◌, slice_get}
+use Rattle.std.proofs.Common.{◌≡◌, ℕ, zero, suc, ◌+◌, ◌<◌, ◌≤◌, Bool, true, false, List, [], ◌∷◌, length, Option}
+use Rattle.std.proofs.Common.{Some, None, cond, refl, sym, ap, ◌∙◌, arith, inl, inr, ◌⊎◌, slice_get}
 use Rattle.std.proofs.Math.Bool.{◌&&◌}
 use Rattle.std.specs.List.{count_by, range_with_len}
 use Rattle.std.specs.Option.{option_map_or}
@@ -65,7 +66,8 @@ topmost base h law n o = topmost_below base h law (suc n) n (omega arith) o
 pub connection_listed : (h : List Event) (g c : ℕ) → slice_get h c ≡ Some (Connect g) → is_open h c ≡ true → open_connections h g ≡ [] → ⊥
 connection_listed h g c connects alive none =
     let w = is_open_within h c alive in
-    filter_nonempty (λ n. at (is_connect_of g) h n && is_open h n) 0 (length h) c (omega arith) (omega arith) (and_from _ _ (rw connects (eq-eqb g g refl)) alive) none
+    filter_nonempty (λ n. at (is_connect_of g) h n && is_open h n) 0 (length h) c (omega arith) (omega arith)
+    (and_from _ _ (rw connects (eq-eqb g g refl)) alive) none
 
 -- and what is one of its hub's is an open connection
 pub first_connection : (h : List Event) (g c : ℕ) (cs : List ℕ) → open_connections h g ≡ c ∷ cs →
@@ -81,7 +83,8 @@ connected_hub base h law g c connects =
     sym (at-take makes_hub h c g (connection_hub base h law g c connects) (slice_get_within h c (Connect g) connects)) ∙ hub_before base h law c g connects
 
 -- where a caller holds nothing open, no hub is connected
-let_go_unconnected : (base : Kept) → (h : List Event) → IsLawful base h → IsSettled base h → IsLetGo h → (steps g c : ℕ) → length h ≤ g + steps → slice_get h c ≡ Some (Connect g) →
+let_go_unconnected : (base : Kept) → (h : List Event) → IsLawful base h → IsSettled base h → IsLetGo h → (steps g c : ℕ) → length h ≤ g + steps →
+    slice_get h c ≡ Some (Connect g) →
     is_open h c ≡ true → ⊥
 let_go_unconnected base h law settled free zero g c l connects alive =
     let s = connection_hub base h law g c connects in
@@ -101,7 +104,8 @@ let_go_unconnected base h law settled free (suc steps) g c l connects alive =
         at is_auto_hub h g ≡ true → (ss : List ℕ) → open_subscribers h g ≡ ss → ⊥
     by_subscribers rest auto [] none = connection_listed h g c connects alive (unsubscribed_unconnected base h g settled auto none)
     by_subscribers rest auto (s ∷ ss) found =
-        let first : (at (is_subscriber_of g) h s && is_open h s) ≡ true = first_passes (λ n. at (is_subscriber_of g) h n && is_open h n) (places h) s ss found in
+        let first : (at (is_subscriber_of g) h s && is_open h s) ≡ true =
+        first_passes (λ n. at (is_subscriber_of g) h n && is_open h n) (places h) s ss found in
         let parts : (at (is_subscriber_of g) h s ≡ true) × (is_open h s ≡ true) = and_parts _ _ first in
         let top : (a : ℕ) × IsTopOf h s a = topmost base h law s parts.1 in
         by_top rest s top.0 parts.0 top.1 top.1.sort
@@ -117,10 +121,12 @@ let_go_unconnected base h law settled free (suc steps) g c l connects alive =
 
 -- where a caller holds nothing open, nothing is open
 pub nothing_open : (base : Kept) → (h : List Event) → IsLawful base h → IsSettled base h → IsLetGo h → (n : ℕ) → is_open h n ≡ false
-nothing_open base h law settled free n = false_from_ne_true _ (λ o. let top : (a : ℕ) × IsTopOf h n a = topmost base h law n o in by_top top.0 top.1 top.1.sort) where
-  by_top : (a : ℕ) → IsTopOf h n a → (at is_root h a ≡ true) ⊎ ((g : ℕ) × (slice_get h a ≡ Some (Connect g))) → ⊥
-  by_top a top (inl root) = both_ways _ (free.unsubscribed a) (and_from _ _ top.alive root)
-  by_top a top (inr (g, at_a)) = let_go_unconnected base h law settled free (length h) g a (omega arith) at_a top.alive
+nothing_open base h law settled free n =
+    false_from_ne_true _ (λ o. let top : (a : ℕ) × IsTopOf h n a = topmost base h law n o in by_top top.0 top.1 top.1.sort)
+  where
+    by_top : (a : ℕ) → IsTopOf h n a → (at is_root h a ≡ true) ⊎ ((g : ℕ) × (slice_get h a ≡ Some (Connect g))) → ⊥
+    by_top a top (inl root) = both_ways _ (free.unsubscribed a) (and_from _ _ top.alive root)
+    by_top a top (inr (g, at_a)) = let_go_unconnected base h law settled free (length h) g a (omega arith) at_a top.alive
 
 pub nothing_open_counted : (base : Kept) → (h : List Event) → IsLawful base h → IsSettled base h → IsLetGo h → open_count h ≡ 0
 nothing_open_counted base h law settled free =
@@ -148,9 +154,11 @@ none_open_passes h q none n = false_from_ne_true _ (λ passes.
     both_ways _ (none_passes (λ k. is_open h k && at q h k) (length h) none n (open_passes_within h q n passes)) passes)
 
 pub let_go_counted : (h : List Event) → open_root_count h ≡ 0 → manual_connection_count h ≡ 0 → IsLetGo h
-let_go_counted h no_root no_connection = record { unsubscribed = none_open_passes h is_root no_root; disconnected = λ g manual. by_list g manual (open_connections h g) refl } where
-  by_list : (g : ℕ) → at is_manual_hub h g ≡ true → (cs : List ℕ) → open_connections h g ≡ cs → cs ≡ []
-  by_list g manual [] found = refl
-  by_list g manual (c ∷ cs) found =
-      let first = first_connection h g c cs found in
-      absurd (both_ways (is_manual_connection h c) (none_open_passes h _ no_connection c) (and_from _ _ first.1 (rw first.0 manual)))
+let_go_counted h no_root no_connection =
+    record { unsubscribed = none_open_passes h is_root no_root; disconnected = λ g manual. by_list g manual (open_connections h g) refl }
+  where
+    by_list : (g : ℕ) → at is_manual_hub h g ≡ true → (cs : List ℕ) → open_connections h g ≡ cs → cs ≡ []
+    by_list g manual [] found = refl
+    by_list g manual (c ∷ cs) found =
+        let first = first_connection h g c cs found in
+        absurd (both_ways (is_manual_connection h c) (none_open_passes h _ no_connection c) (and_from _ _ first.1 (rw first.0 manual)))

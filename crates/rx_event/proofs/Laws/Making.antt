@@ -46,7 +46,8 @@ no_stops before (Item l v) making = absurd (false≢true making)
 no_stops before (Open place kind) making = refl
 no_stops before _ making = refl
 
-unfired_after : (f : List Stop → Bool) → f [] ≡ false → (before xs : List Event) → AllMaking xs → list_any (λ (m : Moment). f (stops_of m.before m.event)) (moments_after before xs) ≡ false
+unfired_after : (f : List Stop → Bool) → f [] ≡ false → (before xs : List Event) → AllMaking xs →
+    list_any (λ (m : Moment). f (stops_of m.before m.event)) (moments_after before xs) ≡ false
 unfired_after f nothing before [] making = refl
 unfired_after f nothing before (x ∷ xs) making =
     (λ i. (ap f (no_stops before x (making 0 x refl)) ∙ nothing) i || unfired_after f nothing (before ++ x ∷ []) xs (λ j y at_j. making (suc j) y at_j) i)
@@ -63,7 +64,8 @@ tells_nothing before _ making = refl
 
 untold_after : (before xs : List Event) → AllMaking xs → flat_map (λ (m : Moment). mail_of m.before m.event) (moments_after before xs) ≡ []
 untold_after before [] making = refl
-untold_after before (x ∷ xs) making = (λ i. tells_nothing before x (making 0 x refl) i ++ untold_after (before ++ x ∷ []) xs (λ j y at_j. making (suc j) y at_j) i)
+untold_after before (x ∷ xs) making =
+    (λ i. tells_nothing before x (making 0 x refl) i ++ untold_after (before ++ x ∷ []) xs (λ j y at_j. making (suc j) y at_j) i)
 
 pub made_untold : (xs : List Event) → AllMaking xs → notes xs ≡ []
 unfolding notes moments

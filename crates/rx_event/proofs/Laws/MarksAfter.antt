@@ -1,5 +1,6 @@
 -- How one more event changes each mark of an older node.
-use Rattle.std.proofs.Common.{◌≡◌, ℕ, ℤ, ◌+◌, ◌-◌, ◌<◌, Bool, true, false, List, [], ◌∷◌, ◌++◌, length, Option, Some, None, cond, refl, sym, ap, ◌∙◌, arith, ◌==◌, slice_get}
+use Rattle.std.proofs.Common.{◌≡◌, ℕ, ℤ, ◌+◌, ◌-◌, ◌<◌, Bool, true, false, List, [], ◌∷◌, ◌++◌, length}
+use Rattle.std.proofs.Common.{Option, Some, None, cond, refl, sym, ap, ◌∙◌, arith, ◌==◌, slice_get}
 use Rattle.std.proofs.Math.Bool.{not, ◌&&◌, ◌||◌}
 use Rattle.std.specs.List.{list_any, count_by}
 use Rattle.std.specs.Option.{option_map_or, option_or}
@@ -36,7 +37,8 @@ use Rattle.rx_event.proofs.Laws.Searches.{or_false, list_any_push, list_any_same
 ended_old : (base : Kept) → (h : List Event) (e : Event) → MayFollow base h e → (c : ℕ) (u : Terminal) → e ≡ End c u → c < length h
 ended_old base h e next c u same = let now : MayFollow base h (End c u) = rw (← same) next in is_open_within h c (may_end base now)
 
-pub ended_older : (base : Kept) → (h : List Event) → IsLawful base h → (i : ℕ) (x : Event) → slice_get h i ≡ Some x → (c : ℕ) (u : Terminal) → x ≡ End c u → c < length h
+pub ended_older : (base : Kept) → (h : List Event) → IsLawful base h → (i : ℕ) (x : Event) → slice_get h i ≡ Some x → (c : ℕ) (u : Terminal) → x ≡ End c u →
+    c < length h
 ended_older base h law i x at_i c u same =
     let a : c < i = ended_after base h law i c u (at_i ∙ ap Some same) in
     let b : i < length h = slice_get_within h i x at_i in
@@ -58,25 +60,34 @@ pub child_terminal-push : (base : Kept) → (h : List Event) (e : Event) → IsL
 unfolding child_terminal
 child_terminal-push base h e law next n l =
     first_some_push (ends_by (h ++ e ∷ []) n) h e ∙
-    ap (λ o. option_or o (ends_by (h ++ e ∷ []) n e)) (first_some_same_at (ends_by (h ++ e ∷ []) n) (ends_by h n) h (λ i x at_i. ends_by_kept h (e ∷ []) n l x (ended_older base h law i x at_i))) ∙
+    ap (λ o. option_or o (ends_by (h ++ e ∷ []) n e))
+    (first_some_same_at (ends_by (h ++ e ∷ []) n) (ends_by h n) h (λ i x at_i. ends_by_kept h (e ∷ []) n l x (ended_older base h law i x at_i))) ∙
     ap (option_or (first_some (ends_by h n) h)) (ends_by_kept h (e ∷ []) n l e (ended_old base h e next))
 
 or_assoc : (a b c : Bool) → (a || (b || c)) ≡ ((a || b) || c)
 or_assoc true b c = refl
 or_assoc false b c = refl
 
-pub source_opened-push : (base : Kept) → (h : List Event) (e : Event) (n : ℕ) → source_opened base (h ++ e ∷ []) n ≡ (source_opened base h n || is_source_of n e)
-source_opened-push base h e n = ap (λ c. option_map_or (λ k. k.source_opened) (node_kept base n) false || c) (list_any_push (is_source_of n) h e) ∙ or_assoc (option_map_or (λ k. k.source_opened) (node_kept base n) false) (list_any (is_source_of n) h) (is_source_of n e)
+pub source_opened-push : (base : Kept) → (h : List Event) (e : Event) (n : ℕ) →
+    source_opened base (h ++ e ∷ []) n ≡ (source_opened base h n || is_source_of n e)
+source_opened-push base h e n =
+    ap (λ c. option_map_or (λ k. k.source_opened) (node_kept base n) false || c) (list_any_push (is_source_of n) h e) ∙
+    or_assoc (option_map_or (λ k. k.source_opened) (node_kept base n) false) (list_any (is_source_of n) h) (is_source_of n e)
 
-pub notifier_opened-push : (base : Kept) → (h : List Event) (e : Event) (n : ℕ) → notifier_opened base (h ++ e ∷ []) n ≡ (notifier_opened base h n || is_notifier_of n e)
-notifier_opened-push base h e n = ap (λ c. option_map_or (λ k. k.notifier_opened) (node_kept base n) false || c) (list_any_push (is_notifier_of n) h e) ∙ or_assoc (option_map_or (λ k. k.notifier_opened) (node_kept base n) false) (list_any (is_notifier_of n) h) (is_notifier_of n e)
+pub notifier_opened-push : (base : Kept) → (h : List Event) (e : Event) (n : ℕ) →
+    notifier_opened base (h ++ e ∷ []) n ≡ (notifier_opened base h n || is_notifier_of n e)
+notifier_opened-push base h e n =
+    ap (λ c. option_map_or (λ k. k.notifier_opened) (node_kept base n) false || c) (list_any_push (is_notifier_of n) h e) ∙
+    or_assoc (option_map_or (λ k. k.notifier_opened) (node_kept base n) false) (list_any (is_notifier_of n) h) (is_notifier_of n e)
 
 pub source_completed-push : (base : Kept) → (h : List Event) (e : Event) → IsLawful base h → MayFollow base h e → (n : ℕ) →
     source_completed base (h ++ e ∷ []) n ≡ (source_completed base h n || completes_source h n e)
 unfolding source_completed
 source_completed-push base h e law next n =
     ap (λ c. option_map_or (λ k. k.source_completed) (node_kept base n) false || c) (list_any_push (completes_source (h ++ e ∷ []) n) h e ∙
-    ap (λ b. b || completes_source (h ++ e ∷ []) n e) (list_any_same_at (completes_source (h ++ e ∷ []) n) (completes_source h n) h (λ i x at_i. completes_kept h (e ∷ []) n x (ended_older base h law i x at_i))) ∙
+    ap (λ b. b || completes_source (h ++ e ∷ []) n e)
+    (list_any_same_at (completes_source (h ++ e ∷ []) n) (completes_source h n) h
+    (λ i x at_i. completes_kept h (e ∷ []) n x (ended_older base h law i x at_i))) ∙
     ap (λ b. list_any (completes_source h n) h || b) (completes_kept h (e ∷ []) n e (ended_old base h e next))) ∙
     or_assoc (option_map_or (λ k. k.source_completed) (node_kept base n) false) (list_any (completes_source h n) h) (completes_source h n e)
 
@@ -102,7 +113,8 @@ parent_none : (h : List Event) (e : Event) → parent_named e ≡ None → paren
 unfolding parent
 parent_none h e named = rw (slice_get_last h e, named) refl
 
-pub child_new : (base : Kept) → (h : List Event) (e : Event) → IsLawful base h → MayFollow base h e → (n : ℕ) → is_open_child_of (h ++ e ∷ []) n (length h) ≡ adds_child n e
+pub child_new : (base : Kept) → (h : List Event) (e : Event) → IsLawful base h → MayFollow base h e → (n : ℕ) →
+    is_open_child_of (h ++ e ∷ []) n (length h) ≡ adds_child n e
 child_new base h e law next n = rw (is_open_new base h e next, parent_last (parent_named e) refl) (adds_made n e) where
   parent_last : (o : Option ℕ) → parent_named e ≡ o → parent (h ++ e ∷ []) (length h) ≡ parent_named e
   parent_last (Some p) named = parent-named base (h ++ e ∷ []) (IsLawful-push base h e law next) (length h) p e (slice_get_last h e) named ∙ sym named
@@ -113,8 +125,12 @@ pub open_children-push : (base : Kept) → (h : List Event) (e : Event) → IsLa
 unfolding open_children
 open_children-push base h e law next n =
     let more = sum_by-places-push (λ k. cond (is_open_child_of (h ++ e ∷ []) n k) 1 0) h e in
-    let new : cond {A = ℕ} (is_open_child_of (h ++ e ∷ []) n (length h)) 1 0 ≡ cond (adds_child n e) 1 0 = ap (λ b. cond {A = ℕ} b 1 0) (child_new base h e law next n) in
-    let rest = sums_balance (λ k. cond (is_open_child_of (h ++ e ∷ []) n k) 1 0) (λ k. cond (is_open_child_of h n k && is_cut h e k) 1 0) (λ k. cond (is_open_child_of h n k) 1 0) (λ k. 0) (length h) (λ k l. rw (is_open_cut h e k l, parent-append h (e ∷ []) k l) (shape (is_open h k) (is_cut h e k) (is_child_of h n k))) in
+    let new : cond {A = ℕ} (is_open_child_of (h ++ e ∷ []) n (length h)) 1 0 ≡ cond (adds_child n e) 1 0 =
+    ap (λ b. cond {A = ℕ} b 1 0) (child_new base h e law next n) in
+    let rest =
+    sums_balance (λ k. cond (is_open_child_of (h ++ e ∷ []) n k) 1 0) (λ k. cond (is_open_child_of h n k && is_cut h e k) 1 0)
+    (λ k. cond (is_open_child_of h n k) 1 0) (λ k. 0) (length h)
+    (λ k l. rw (is_open_cut h e k l, parent-append h (e ∷ []) k l) (shape (is_open h k) (is_cut h e k) (is_child_of h n k))) in
     let zeros = sum_by_none (λ k. 0) (length h) (λ k l. refl) in
     omega arith
   where
@@ -140,30 +156,45 @@ marks_after base h e n m =
       open_children = m.open_children + cond (adds_child n e) 1 0 - cut_children h e n;
     }
 
-pub same_marks : (base : Kept) → {a b : Bool} {c d : Bool} {i j : Bool} {k l : Bool} {t u : Option Terminal} {o p : ℕ} {q r : ℕ} → a ≡ b → c ≡ d → i ≡ j → k ≡ l → t ≡ u → o ≡ p → q ≡ r → (let x : Marks = record { source_opened = a; notifier_opened = c; fired = i; source_completed = k; child_terminal = t; owed = o; open_children = q } in x) ≡ (let y : Marks = record { source_opened = b; notifier_opened = d; fired = j; source_completed = l; child_terminal = u; owed = p; open_children = r } in y)
-same_marks base s n f c t o q = λ x. record { source_opened = s x; notifier_opened = n x; fired = f x; source_completed = c x; child_terminal = t x; owed = o x; open_children = q x }
+-- the marks of these seven
+abbrev pub marks_made : Bool → Bool → Bool → Bool → Option Terminal → ℕ → ℕ → Marks
+marks_made s n f c t o q =
+    record { source_opened = s; notifier_opened = n; fired = f; source_completed = c; child_terminal = t; owed = o; open_children = q }
+
+pub same_marks : (base : Kept) → {a b : Bool} {c d : Bool} {i j : Bool} {k l : Bool} {t u : Option Terminal} {o p : ℕ} {q r : ℕ} →
+    a ≡ b → c ≡ d → i ≡ j → k ≡ l → t ≡ u → o ≡ p → q ≡ r → marks_made a c i k t o q ≡ marks_made b d j l u p r
+same_marks base s n f c t o q = λ x. marks_made (s x) (n x) (f x) (c x) (t x) (o x) (q x)
 
 pub marks-push : (base : Kept) → (h : List Event) (e : Event) → IsLawful base h → MayFollow base h e → (n : ℕ) → n < length h →
     marks_of base (h ++ e ∷ []) n ≡ marks_after base h e n (marks_of base h n)
 marks-push base h e law next n l =
     let o = owed-push base h e law next n in
     let q = open_children-push base h e law next n in
-    same_marks base (source_opened-push base h e n) (notifier_opened-push base h e n) (is_fired-push h e n) (source_completed-push base h e law next n) (child_terminal-push base h e law next n l) (omega arith) (omega arith)
+    same_marks base (source_opened-push base h e n) (notifier_opened-push base h e n) (is_fired-push h e n) (source_completed-push base h e law next n)
+    (child_terminal-push base h e law next n l) (omega arith) (omega arith)
 
 pub cut_children_none : (h : List Event) (e : Event) (n : ℕ) → ((k : ℕ) → is_cut h e k ≡ false) → cut_children h e n ≡ 0
-cut_children_none h e n whole = sum_by_none (λ k. cond (is_open_child_of h n k && is_cut h e k) 1 0) (length h) (λ k l. rw (whole k) (shape (is_open_child_of h n k))) where
-  shape : (b : Bool) → cond {A = ℕ} (b && false) 1 0 ≡ 0
-  shape true = refl
-  shape false = refl
+cut_children_none h e n whole =
+    sum_by_none (λ k. cond (is_open_child_of h n k && is_cut h e k) 1 0) (length h) (λ k l. rw (whole k) (shape (is_open_child_of h n k)))
+  where
+    shape : (b : Bool) → cond {A = ℕ} (b && false) 1 0 ≡ 0
+    shape true = refl
+    shape false = refl
 
 -- an item sets what it fires and adds what it projects
-pub marks-item : (base : Kept) → (h : List Event) (leaf : ℕ) (v : ℤ) → IsLawful base h → MayFollow base h (Item leaf v) → (n : ℕ) → n < length h → marks_of base (h ++ Item leaf v ∷ []) n ≡ record (marks_of base h n) { fired = is_fired h n || list_any (is_firing_of n) (stops h leaf); owed = owed base h n + count_by (is_projection_to n) (stops h leaf) }
+pub marks-item : (base : Kept) → (h : List Event) (leaf : ℕ) (v : ℤ) → IsLawful base h → MayFollow base h (Item leaf v) → (n : ℕ) → n < length h →
+    marks_of base (h ++ Item leaf v ∷ []) n ≡
+    record (marks_of base h n) {
+      fired = is_fired h n || list_any (is_firing_of n) (stops h leaf);
+      owed = owed base h n + count_by (is_projection_to n) (stops h leaf);
+    }
 marks-item base h leaf v law next n l =
     let z = cut_children_none h (Item leaf v) n (λ k. is_cut_none h (Item leaf v) k refl) in
     marks-push base h (Item leaf v) law next n l ∙ same_marks base (or_false _) (or_false _) refl (or_false _) (or_nothing _) (omega arith) (omega arith)
 
 -- a declining pays one
-pub marks-decline : (base : Kept) → (h : List Event) (f : ℕ) → IsLawful base h → MayFollow base h (Decline f) → (n : ℕ) → n < length h → marks_of base (h ++ Decline f ∷ []) n ≡ record (marks_of base h n) { owed = owed base h n - cond (f == n) 1 0 }
+pub marks-decline : (base : Kept) → (h : List Event) (f : ℕ) → IsLawful base h → MayFollow base h (Decline f) → (n : ℕ) → n < length h →
+    marks_of base (h ++ Decline f ∷ []) n ≡ record (marks_of base h n) { owed = owed base h n - cond (f == n) 1 0 }
 marks-decline base h f law next n l =
     let z = cut_children_none h (Decline f) n (λ k. is_cut_none h (Decline f) k refl) in
     let p : count_by (is_projection_to n) [] ≡ 0 = refl in
@@ -182,7 +213,8 @@ is_still (Return l) = true
 is_still (Take r) = true
 is_still _ = false
 
-marks_still : (base : Kept) → (h : List Event) (e : Event) → IsLawful base h → MayFollow base h e → (n : ℕ) → n < length h → shuts_none e ≡ true → is_source_of n e ≡ false →
+marks_still : (base : Kept) → (h : List Event) (e : Event) → IsLawful base h → MayFollow base h e → (n : ℕ) → n < length h → shuts_none e ≡ true →
+    is_source_of n e ≡ false →
     is_notifier_of n e ≡ false → stops_of h e ≡ [] → completes_source h n e ≡ false → ends_by h n e ≡ None → pays n e ≡ false → adds_child n e ≡ false →
     marks_of base (h ++ e ∷ []) n ≡ marks_of base h n
 marks_still base h e law next n l s source notifier no_stops no_end no_terminal no_pay no_child =
@@ -191,7 +223,11 @@ marks_still base h e law next n l s source notifier no_stops no_end no_terminal 
     let w : cond {A = ℕ} (pays n e) 1 0 ≡ 0 = ap (λ b. cond {A = ℕ} b 1 0) no_pay in
     let y : cond {A = ℕ} (adds_child n e) 1 0 ≡ 0 = ap (λ b. cond {A = ℕ} b 1 0) no_child in
     marks-push base h e law next n l ∙
-    same_marks base (ap (λ b. source_opened base h n || b) source ∙ or_false (source_opened base h n)) (ap (λ b. notifier_opened base h n || b) notifier ∙ or_false (notifier_opened base h n)) (ap (λ ss. is_fired h n || list_any (is_firing_of n) ss) no_stops ∙ or_false (is_fired h n)) (ap (λ b. source_completed base h n || b) no_end ∙ or_false (source_completed base h n)) (ap (option_or (child_terminal h n)) no_terminal ∙ or_nothing (child_terminal h n)) (omega arith) (omega arith)
+    same_marks base (ap (λ b. source_opened base h n || b) source ∙ or_false (source_opened base h n))
+    (ap (λ b. notifier_opened base h n || b) notifier ∙ or_false (notifier_opened base h n))
+    (ap (λ ss. is_fired h n || list_any (is_firing_of n) ss) no_stops ∙ or_false (is_fired h n))
+    (ap (λ b. source_completed base h n || b) no_end ∙ or_false (source_completed base h n))
+    (ap (option_or (child_terminal h n)) no_terminal ∙ or_nothing (child_terminal h n)) (omega arith) (omega arith)
 
 pub marks_kept : (base : Kept) → (h : List Event) (e : Event) → IsLawful base h → MayFollow base h e → is_still e ≡ true → (n : ℕ) → n < length h →
     marks_of base (h ++ e ∷ []) n ≡ marks_of base h n
@@ -210,14 +246,22 @@ marks_kept base h (Open (Notifier p) kind) law next still n l = absurd (false≢
 marks_kept base h _ law next still n l = absurd (false≢true still)
 
 -- a source, a notifier
-pub marks-source : (base : Kept) → (h : List Event) (p : ℕ) (kind : Kind) → IsLawful base h → MayFollow base h (Open (Source p) kind) → (n : ℕ) → n < length h → marks_of base (h ++ Open (Source p) kind ∷ []) n ≡ record (marks_of base h n) { source_opened = source_opened base h n || (p == n); open_children = open_children h n + cond (p == n) 1 0 }
+pub marks-source : (base : Kept) → (h : List Event) (p : ℕ) (kind : Kind) → IsLawful base h → MayFollow base h (Open (Source p) kind) → (n : ℕ) →
+    n < length h →
+    marks_of base (h ++ Open (Source p) kind ∷ []) n ≡
+    record (marks_of base h n) { source_opened = source_opened base h n || (p == n); open_children = open_children h n + cond (p == n) 1 0 }
 marks-source base h p kind law next n l =
     let z = cut_children_none h (Open (Source p) kind) n (λ k. is_cut_none h (Open (Source p) kind) k refl) in
     let w : count_by (is_projection_to n) [] ≡ 0 = refl in
-    marks-push base h (Open (Source p) kind) law next n l ∙ same_marks base refl (or_false _) (or_false _) (or_false _) (or_nothing _) (omega arith) (omega arith)
+    marks-push base h (Open (Source p) kind) law next n l ∙
+    same_marks base refl (or_false _) (or_false _) (or_false _) (or_nothing _) (omega arith) (omega arith)
 
-pub marks-notifier : (base : Kept) → (h : List Event) (p : ℕ) (kind : Kind) → IsLawful base h → MayFollow base h (Open (Notifier p) kind) → (n : ℕ) → n < length h → marks_of base (h ++ Open (Notifier p) kind ∷ []) n ≡ record (marks_of base h n) { notifier_opened = notifier_opened base h n || (p == n); open_children = open_children h n + cond (p == n) 1 0 }
+pub marks-notifier : (base : Kept) → (h : List Event) (p : ℕ) (kind : Kind) → IsLawful base h → MayFollow base h (Open (Notifier p) kind) → (n : ℕ) →
+    n < length h →
+    marks_of base (h ++ Open (Notifier p) kind ∷ []) n ≡
+    record (marks_of base h n) { notifier_opened = notifier_opened base h n || (p == n); open_children = open_children h n + cond (p == n) 1 0 }
 marks-notifier base h p kind law next n l =
     let z = cut_children_none h (Open (Notifier p) kind) n (λ k. is_cut_none h (Open (Notifier p) kind) k refl) in
     let w : count_by (is_projection_to n) [] ≡ 0 = refl in
-    marks-push base h (Open (Notifier p) kind) law next n l ∙ same_marks base (or_false _) refl (or_false _) (or_false _) (or_nothing _) (omega arith) (omega arith)
+    marks-push base h (Open (Notifier p) kind) law next n l ∙
+    same_marks base (or_false _) refl (or_false _) (or_false _) (or_nothing _) (omega arith) (omega arith)

@@ -31,7 +31,8 @@ use Rattle.rx_event.proofs.Laws.MarksFound.{child_terminal_some, child_terminal_
 completed_if_some : (b : Bool) (t : Terminal) → completed_if b ≡ Some t → (b ≡ true) × (Completed ≡ t)
 completed_if_some b t found = cond_some b Completed t found
 
-over_parts : (base : Kept) → (h : List Event) (n : ℕ) → is_over (marks_of base h n) ≡ true → (source_completed base h n ≡ true) × (open_children h n ≡ 0) × (owed base h n ≡ 0)
+over_parts : (base : Kept) → (h : List Event) (n : ℕ) → is_over (marks_of base h n) ≡ true →
+    (source_completed base h n ≡ true) × (open_children h n ≡ 0) × (owed base h n ≡ 0)
 over_parts base h n over =
     let a = and_parts (source_completed base h n && (open_children h n == 0)) (owed base h n == 0) over in
     let b = and_parts (source_completed base h n) (open_children h n == 0) a.0 in
@@ -74,7 +75,8 @@ terminal_due_due base h n (Open place (Sub g)) t o at_n found = absurd (none-som
 terminal_due_due base h n _ t o at_n found = absurd (none-some t found)
 
 -- so is the event
-pub due_at_due : (base : Kept) → (h : List Event) (n : ℕ) (made e : Event) → is_open h n ≡ true → slice_get h n ≡ Some made → due_at made (marks_of base h n) n ≡ Some e → IsDue base h e
+pub due_at_due : (base : Kept) → (h : List Event) (n : ℕ) (made e : Event) → is_open h n ≡ true → slice_get h n ≡ Some made →
+    due_at made (marks_of base h n) n ≡ Some e → IsDue base h e
 due_at_due base h n made e o at_n found = by_terminal (terminal_due made (marks_of base h n)) refl found where
   by_terminal : (u : Option Terminal) → terminal_due made (marks_of base h n) ≡ u → option_map (λ t. End n t) u ≡ Some e → IsDue base h e
   by_terminal None none same = absurd (none-some e same)
@@ -126,20 +128,27 @@ pub made_passes : (q : Event → Bool) (h : List Event) (n : ℕ) (made : Event)
 made_passes q h n made at_n passes = sym (ap (λ o. option_map_or q o false) at_n) ∙ passes
 
 -- Where the marks of a node give none, only the end of a connection ends it
-pub none_due : (base : Kept) → (h : List Event) (n : ℕ) (made : Event) (t : Terminal) → slice_get h n ≡ Some made → terminal_due made (marks_of base h n) ≡ None →
+pub none_due : (base : Kept) → (h : List Event) (n : ℕ) (made : Event) (t : Terminal) → slice_get h n ≡ Some made →
+    terminal_due made (marks_of base h n) ≡ None →
     IsDue base h (End n t) → SourceEnded h n t
 none_due base h n made t at_n none (mirrored o m c) =
     let w = mirroring_none made (marks_of base h n) (made_passes is_mirroring h n made at_n m) none in
     absurd (child_terminal_none h n t w.0 (ap (λ b. passes_on b t) (ap (λ o. option_map_or is_merging o false) at_n ∙ w.1) ∙ any_passes t) c)
-none_due base h n made t at_n none (fired o u f) = absurd (both_ways (is_fired h n) (until_none made (marks_of base h n) (made_passes is_until h n made at_n u) none) f)
-none_due base h n made t at_n none (failed {c = code} o m c) = absurd (child_terminal_none h n (Error code) (merging_none made (marks_of base h n) (made_passes is_merging h n made at_n m) none).0 refl c)
+none_due base h n made t at_n none (fired o u f) =
+    absurd (both_ways (is_fired h n) (until_none made (marks_of base h n) (made_passes is_until h n made at_n u) none) f)
+none_due base h n made t at_n none (failed {c = code} o m c) =
+    absurd (child_terminal_none h n (Error code) (merging_none made (marks_of base h n) (made_passes is_merging h n made at_n m) none).0 refl c)
 none_due base h n made t at_n none (completed o m unfailed source closed paid) =
-    let over : is_over (marks_of base h n) ≡ true = and_from (source_completed base h n && (open_children h n == 0)) (owed base h n == 0) (and_from (source_completed base h n) (open_children h n == 0) source (eq-eqb (open_children h n) 0 (open_children_zero h n closed))) (eq-eqb (owed base h n) 0 paid) in
+    let over : is_over (marks_of base h n) ≡ true =
+    and_from (source_completed base h n && (open_children h n == 0)) (owed base h n == 0)
+    (and_from (source_completed base h n) (open_children h n == 0) source (eq-eqb (open_children h n) 0 (open_children_zero h n closed)))
+    (eq-eqb (owed base h n) 0 paid) in
     absurd (both_ways (is_over (marks_of base h n)) (merging_none made (marks_of base h n) (made_passes is_merging h n made at_n m) none).1 over)
 none_due base h n made t at_n none (cut o e) = e
 
 -- the same of the event
-pub due_at_none : (base : Kept) → (h : List Event) (n : ℕ) (made : Event) (t : Terminal) → slice_get h n ≡ Some made → due_at made (marks_of base h n) n ≡ None → IsDue base h (End n t) →
+pub due_at_none : (base : Kept) → (h : List Event) (n : ℕ) (made : Event) (t : Terminal) → slice_get h n ≡ Some made →
+    due_at made (marks_of base h n) n ≡ None → IsDue base h (End n t) →
     SourceEnded h n t
 due_at_none base h n made t at_n none d = by_terminal (terminal_due made (marks_of base h n)) refl none where
   by_terminal : (u : Option Terminal) → terminal_due made (marks_of base h n) ≡ u → option_map (λ v. End n v) u ≡ None → SourceEnded h n t
@@ -147,7 +156,8 @@ due_at_none base h n made t at_n none d = by_terminal (terminal_due made (marks_
   by_terminal (Some v) ended same = absurd (none-some (End n v) (sym same))
 
 -- what the marks of an open node give is forced, where no hub waits
-pub due_at_forced : (base : Kept) → (h : List Event) (n : ℕ) (made e : Event) → ((g : ℕ) → ¬ IsConnectDue h g) → is_open h n ≡ true → slice_get h n ≡ Some made →
+pub due_at_forced : (base : Kept) → (h : List Event) (n : ℕ) (made e : Event) → ((g : ℕ) → ¬ IsConnectDue h g) → is_open h n ≡ true →
+    slice_get h n ≡ Some made →
     due_at made (marks_of base h n) n ≡ Some e → IsForced base h e
 due_at_forced base h n made e none_waits o at_n found = due none_waits (due_at_due base h n made e o at_n found)
 
@@ -168,7 +178,8 @@ due_is_open base (cut o e) = o
 
 -- A history is settled where no marks of an open node give an event, and no hub's rule does
 pub settled_by_marks : (base : Kept) → (h : List Event) → ((g : ℕ) → ¬ IsConnectDue h g) → ((n : ℕ) (t : Terminal) → is_open h n ≡ true → ¬ SourceEnded h n t) →
-    ((c : ℕ) → ¬ IsDue base h (Close c)) → ((n : ℕ) (made : Event) → is_open h n ≡ true → slice_get h n ≡ Some made → due_at made (marks_of base h n) n ≡ None) →
+    ((c : ℕ) → ¬ IsDue base h (Close c)) →
+    ((n : ℕ) (made : Event) → is_open h n ≡ true → slice_get h n ≡ Some made → due_at made (marks_of base h n) n ≡ None) →
     IsSettled base h
 settled_by_marks base h none_waits whole kept quiet = record { none = none } where
   ended : (n : ℕ) (t : Terminal) → IsDue base h (End n t) → ⊥
@@ -233,7 +244,9 @@ due_close_auto base (left {g = g} o at_c a n) = (g, a)
 pub settled_hubless : (base : Kept) → (h : List Event) → IsLawful base h → list_any makes_hub h ≡ false →
     ((n : ℕ) (made : Event) → is_open h n ≡ true → slice_get h n ≡ Some made → due_at made (marks_of base h n) n ≡ None) → IsSettled base h
 settled_hubless base h law hubless quiet =
-    settled_by_marks base h (λ g d. hub_at h is_auto_hub auto_makes_hub hubless g d.auto) (λ n t o s. unconnected base h law hubless s.connection s.hub s.connects) (λ c d. let w = due_close_auto base d in hub_at h is_auto_hub auto_makes_hub hubless w.0 w.1) quiet
+    settled_by_marks base h (λ g d. hub_at h is_auto_hub auto_makes_hub hubless g d.auto)
+    (λ n t o s. unconnected base h law hubless s.connection s.hub s.connects)
+    (λ c d. let w = due_close_auto base d in hub_at h is_auto_hub auto_makes_hub hubless w.0 w.1) quiet
 
 -- settled and due ---------------------------------------------------------------------------------
 
@@ -246,7 +259,8 @@ settled_quiet base h settled n made o at_n = by_event (due_at made (marks_of bas
   by_event (Some e) found = absurd (settled.none e (due_at_forced base h n made e (λ g d. settled.none (Connect g) (connecting d)) o at_n found))
 
 -- what is due at a node, if not by the end of a connection, its marks give an end of it
-pub due_by_marks : (base : Kept) → (h : List Event) (n : ℕ) (made : Event) (t : Terminal) → slice_get h n ≡ Some made → ¬ SourceEnded h n t → IsDue base h (End n t) →
+pub due_by_marks : (base : Kept) → (h : List Event) (n : ℕ) (made : Event) (t : Terminal) → slice_get h n ≡ Some made → ¬ SourceEnded h n t →
+    IsDue base h (End n t) →
     (u : Terminal) × (due_at made (marks_of base h n) n ≡ Some (End n u))
 due_by_marks base h n made t at_n whole d = by_terminal (terminal_due made (marks_of base h n)) refl where
   by_terminal : (o : Option Terminal) → terminal_due made (marks_of base h n) ≡ o → (u : Terminal) × (option_map (λ v. End n v) o ≡ Some (End n u))

@@ -1,5 +1,6 @@
 -- The marks of what stays open after an end or a closing.
-use Rattle.std.proofs.Common.{◌≡◌, ℕ, ◌-◌, Bool, true, false, List, [], ◌∷◌, ◌++◌, length, Option, Some, None, cond, refl, sym, ap, ◌∙◌, arith, inl, inr, ◌⊎◌, ◌==◌, slice_get}
+use Rattle.std.proofs.Common.{◌≡◌, ℕ, ◌-◌, Bool, true, false, List, [], ◌∷◌, ◌++◌, length, Option, Some}
+use Rattle.std.proofs.Common.{None, cond, refl, sym, ap, ◌∙◌, arith, inl, inr, ◌⊎◌, ◌==◌, slice_get}
 use Rattle.std.proofs.Math.Bool.{not, ◌&&◌, ◌||◌}
 use Rattle.std.specs.Prelude.{if◌then◌else◌}
 use Rattle.std.specs.List.{count_by}
@@ -43,12 +44,15 @@ and_true_end false = refl
 -- what takes away just what is within c takes of the children of a node outside c just c
 closing_cut : (h : List Event) (e : Event) (c n : ℕ) → ((k : ℕ) → is_cut h e k ≡ is_within h c k) → is_open h c ≡ true → is_within h c n ≡ false →
     cut_children h e n ≡ cond (is_child_of h n c) 1 0
-closing_cut h e c n cuts o outside = sum_by-same (λ k. cond (c == k) (cond (is_child_of h n k) 1 0) 0) (λ k. cond (is_open_child_of h n k && is_cut h e k) 1 0) (length h) (λ k l. each k (c == k) refl) ∙
+closing_cut h e c n cuts o outside =
+    sum_by-same (λ k. cond (c == k) (cond (is_child_of h n k) 1 0) 0) (λ k. cond (is_open_child_of h n k && is_cut h e k) 1 0) (length h)
+    (λ k l. each k (c == k) refl) ∙
     sum_by_one (λ k. cond (is_child_of h n k) 1 0) c (length h) (is_open_within h c o) where
       self : (k : ℕ) → (c == k) ≡ true → is_within h c k ≡ true
       self k same = rw (ancestors_step h k, same) refl
 
-      apart : (k : ℕ) → (c == k) ≡ false → (b : Bool) → is_child_of h n k ≡ b → (w : Bool) → is_within h c k ≡ w → (p : Bool) → cond {A = ℕ} ((p && b) && w) 1 0 ≡ 0
+      apart : (k : ℕ) → (c == k) ≡ false → (b : Bool) → is_child_of h n k ≡ b → (w : Bool) → is_within h c k ≡ w → (p : Bool) →
+          cond {A = ℕ} ((p && b) && w) 1 0 ≡ 0
       apart k other b below false out true = elim b as (λ v. cond {A = ℕ} ((true && v) && false) 1 0 ≡ 0) [ true ↦ refl | false ↦ refl ]
       apart k other b below w out false = refl
       apart k other false below true out true = refl
@@ -66,15 +70,24 @@ closing_cut h e c n cuts o outside = sum_by-same (λ k. cond (c == k) (cond (is_
       each k false other = rw (cuts k) (apart k other (is_child_of h n k) refl (is_within h c k) refl (is_open h k))
 
 -- the marks of a node that the end of c leaves open
-pub marks-end : (base : Kept) → (h : List Event) (c : ℕ) (t : Terminal) → IsLawful base h → MayFollow base h (End c t) → (n : ℕ) → is_open (h ++ End c t ∷ []) n ≡ true → marks_of base (h ++ End c t ∷ []) n ≡ record (marks_of base h n) { source_completed = source_completed base h n || completes_source h n (End c t); child_terminal = option_or (child_terminal h n) (ends_by h n (End c t)); open_children = open_children h n - cond (is_child_of h n c) 1 0 }
+pub marks-end : (base : Kept) → (h : List Event) (c : ℕ) (t : Terminal) → IsLawful base h → MayFollow base h (End c t) → (n : ℕ) →
+    is_open (h ++ End c t ∷ []) n ≡ true →
+    marks_of base (h ++ End c t ∷ []) n ≡
+    record (marks_of base h n) {
+      source_completed = source_completed base h n || completes_source h n (End c t);
+      child_terminal = option_or (child_terminal h n) (ends_by h n (End c t));
+      open_children = open_children h n - cond (is_child_of h n c) 1 0;
+    }
 marks-end base h c t law next n o =
     let parts = and_parts (is_open h n) (not (is_within h c n)) (sym (is_open_outside-end h c t n) ∙ o) in
     let z = closing_cut h (End c t) c n (λ k. refl) (may_end base next) (not_false (is_within h c n) parts.1) in
     let w : count_by (is_projection_to n) [] ≡ 0 = refl in
-    marks-push base h (End c t) law next n (is_open_within h n parts.0) ∙ same_marks base (or_false _) (or_false _) (or_false _) refl refl (omega arith) (omega arith)
+    marks-push base h (End c t) law next n (is_open_within h n parts.0) ∙
+    same_marks base (or_false _) (or_false _) (or_false _) refl refl (omega arith) (omega arith)
 
 -- and of one that the closing of c leaves open
-pub marks-close : (base : Kept) → (h : List Event) (c : ℕ) → IsLawful base h → MayFollow base h (Close c) → (n : ℕ) → is_open (h ++ Close c ∷ []) n ≡ true → marks_of base (h ++ Close c ∷ []) n ≡ record (marks_of base h n) { open_children = open_children h n - cond (is_child_of h n c) 1 0 }
+pub marks-close : (base : Kept) → (h : List Event) (c : ℕ) → IsLawful base h → MayFollow base h (Close c) → (n : ℕ) → is_open (h ++ Close c ∷ []) n ≡ true →
+    marks_of base (h ++ Close c ∷ []) n ≡ record (marks_of base h n) { open_children = open_children h n - cond (is_child_of h n c) 1 0 }
 marks-close base h c law next n o =
     let parts = and_parts (is_open h n) (not (is_within h c n)) (sym (is_open_outside-close h c n) ∙ o) in
     let z = closing_cut h (Close c) c n (λ k. refl) (may_close base next) (not_false (is_within h c n) parts.1) in
@@ -83,12 +96,14 @@ marks-close base h c law next n o =
     same_marks base (or_false _) (or_false _) (or_false _) (or_false _) (or_nothing _) (omega arith) (omega arith)
 
 -- the marks of a node that is not above what ended stay, and of its parent alone do they change
-pub marks-end_other : (base : Kept) → (h : List Event) (c : ℕ) (t : Terminal) → IsLawful base h → MayFollow base h (End c t) → (n : ℕ) → is_open (h ++ End c t ∷ []) n ≡ true →
+pub marks-end_other : (base : Kept) → (h : List Event) (c : ℕ) (t : Terminal) → IsLawful base h → MayFollow base h (End c t) → (n : ℕ) →
+    is_open (h ++ End c t ∷ []) n ≡ true →
     is_child_of h n c ≡ false → marks_of base (h ++ End c t ∷ []) n ≡ marks_of base h n
 marks-end_other base h c t law next n o other =
     let z : cond {A = ℕ} (is_child_of h n c) 1 0 ≡ 0 = ap (λ b. cond {A = ℕ} b 1 0) other in
     marks-end base h c t law next n o ∙
-    same_marks base refl refl refl (ap (λ b. source_completed base h n || b) (no_source t) ∙ or_false (source_completed base h n)) (ap (option_or (child_terminal h n)) (rw other refl) ∙ or_nothing (child_terminal h n)) refl (omega arith)
+    same_marks base refl refl refl (ap (λ b. source_completed base h n || b) (no_source t) ∙ or_false (source_completed base h n))
+    (ap (option_or (child_terminal h n)) (rw other refl) ∙ or_nothing (child_terminal h n)) refl (omega arith)
   where
     source_named : (x : Option Event) → slice_get h c ≡ x → option_map_or (is_source_of n) x false ≡ true → parent h c ≡ Some n
     source_named None at_c source = absurd (false≢true source)
@@ -106,14 +121,21 @@ marks-end_other base h c t law next n o other =
     no_source Completed = by_test (cases_Bool (at (is_source_of n) h c))
     no_source (Error code) = refl
 
-pub marks-close_other : (base : Kept) → (h : List Event) (c : ℕ) → IsLawful base h → MayFollow base h (Close c) → (n : ℕ) → is_open (h ++ Close c ∷ []) n ≡ true →
+pub marks-close_other : (base : Kept) → (h : List Event) (c : ℕ) → IsLawful base h → MayFollow base h (Close c) → (n : ℕ) →
+    is_open (h ++ Close c ∷ []) n ≡ true →
     is_child_of h n c ≡ false → marks_of base (h ++ Close c ∷ []) n ≡ marks_of base h n
 marks-close_other base h c law next n o other =
     let z : cond {A = ℕ} (is_child_of h n c) 1 0 ≡ 0 = ap (λ b. cond {A = ℕ} b 1 0) other in
     marks-close base h c law next n o ∙ same_marks base refl refl refl refl refl refl (omega arith)
 
 -- the parent of what ended, by what the event of the child and its own say
-pub marks-end_parent : (base : Kept) → (h : List Event) (c p : ℕ) (t : Terminal) → IsLawful base h → MayFollow base h (End c t) → parent h c ≡ Some p → marks_of base (h ++ End c t ∷ []) p ≡ record (marks_of base h p) { source_completed = source_completed base h p || completes_source h p (End c t); child_terminal = option_or (child_terminal h p) (if passes_on (at is_merging h p) t then Some t else None); open_children = open_children h p - 1 }
+pub marks-end_parent : (base : Kept) → (h : List Event) (c p : ℕ) (t : Terminal) → IsLawful base h → MayFollow base h (End c t) → parent h c ≡ Some p →
+    marks_of base (h ++ End c t ∷ []) p ≡
+    record (marks_of base h p) {
+      source_completed = source_completed base h p || completes_source h p (End c t);
+      child_terminal = option_or (child_terminal h p) (if passes_on (at is_merging h p) t then Some t else None);
+      open_children = open_children h p - 1;
+    }
 marks-end_parent base h c p t law next below =
     let child : is_child_of h p c ≡ true = parent_is_child h p c below in
     let z : cond {A = ℕ} (is_child_of h p c) 1 0 ≡ 1 = ap (λ b. cond {A = ℕ} b 1 0) child in
@@ -130,9 +152,11 @@ marks-end_parent base h c p t law next below =
 
 closed_names_none : (base : Kept) → {h : List Event} {c : ℕ} → IsAllowed base h (Close c) → (e : Event) → slice_get h c ≡ Some e → parent_named e ≡ None
 closed_names_none base {h = h} {c = c} (root_closed o k) (Open Root kind) at_c = refl
-closed_names_none base {h = h} {c = c} (root_closed o k) (Open (Source p) kind) at_c = absurd (false≢true (made_passes is_root h c (Open (Source p) kind) at_c k))
+closed_names_none base {h = h} {c = c} (root_closed o k) (Open (Source p) kind) at_c =
+    absurd (false≢true (made_passes is_root h c (Open (Source p) kind) at_c k))
 closed_names_none base {h = h} {c = c} (root_closed o k) (Open (Inner p) kind) at_c = absurd (false≢true (made_passes is_root h c (Open (Inner p) kind) at_c k))
-closed_names_none base {h = h} {c = c} (root_closed o k) (Open (Notifier p) kind) at_c = absurd (false≢true (made_passes is_root h c (Open (Notifier p) kind) at_c k))
+closed_names_none base {h = h} {c = c} (root_closed o k) (Open (Notifier p) kind) at_c =
+    absurd (false≢true (made_passes is_root h c (Open (Notifier p) kind) at_c k))
 closed_names_none base (root_closed o k) _ at_c = refl
 closed_names_none base (disconnected {g = g} o at_g a) e at_c = rw (same_Some e (Connect g) (sym at_c ∙ at_g)) refl
 
@@ -149,7 +173,9 @@ may_close_none base (allowed s a) = closed_names_none base a
 -- what is closed has no parent, so no marks of what stays open change
 pub marks_closed : (base : Kept) → (h : List Event) (c : ℕ) → IsLawful base h → MayFollow base h (Close c) → (n : ℕ) → is_open (h ++ Close c ∷ []) n ≡ true →
     marks_of base (h ++ Close c ∷ []) n ≡ marks_of base h n
-marks_closed base h c law next n o = marks-close_other base h c law next n o (never (is_child_of h n c) (λ child. by_event (slice_get h c) refl (is_child_parent h n c child))) where
-  by_event : (x : Option Event) → slice_get h c ≡ x → parent h c ≡ Some n → ⊥
-  by_event None at_c below = absurd (let l = parent_within h c n below in let k = open_made h c (may_close base next) in none-some k.0 (sym at_c ∙ k.1))
-  by_event (Some e) at_c below = none-some n (sym (may_close_none base next e at_c) ∙ parent_name h c n e below at_c)
+marks_closed base h c law next n o =
+    marks-close_other base h c law next n o (never (is_child_of h n c) (λ child. by_event (slice_get h c) refl (is_child_parent h n c child)))
+  where
+    by_event : (x : Option Event) → slice_get h c ≡ x → parent h c ≡ Some n → ⊥
+    by_event None at_c below = absurd (let l = parent_within h c n below in let k = open_made h c (may_close base next) in none-some k.0 (sym at_c ∙ k.1))
+    by_event (Some e) at_c below = none-some n (sym (may_close_none base next e at_c) ∙ parent_name h c n e below at_c)

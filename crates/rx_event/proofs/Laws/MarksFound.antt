@@ -35,7 +35,8 @@ parent_is_child h p n below = rw below (eq-eqb p p refl)
 ends_by_end : (h : List Event) (p : ℕ) (e : Event) (t : Terminal) → ends_by h p e ≡ Some t →
     (c : ℕ) × (e ≡ End c t) × (parent h c ≡ Some p) × (passes_on (at is_merging h p) t ≡ true)
 ends_by_end h p (End c u) t found =
-    let w : (is_child_of h p c && passes_on (at is_merging h p) u ≡ true) × (u ≡ t) = cond_some (is_child_of h p c && passes_on (at is_merging h p) u) u t found in
+    let w : (is_child_of h p c && passes_on (at is_merging h p) u ≡ true) × (u ≡ t) =
+    cond_some (is_child_of h p c && passes_on (at is_merging h p) u) u t found in
     let parts = and_parts (is_child_of h p c) (passes_on (at is_merging h p) u) w.0 in
     (c, ap (λ v. End c v) w.1, is_child_parent h p c parts.0, ap (passes_on (at is_merging h p)) (sym w.1) ∙ parts.1)
 ends_by_end h p _ t found = absurd (none-some t found)
@@ -71,20 +72,25 @@ pub completed_by : (base : Kept) → (h : List Event) (n : ℕ) → source_compl
 unfolding source_completed
 completed_by base h n found = or_cases (option_map_or (λ k. k.source_completed) (node_kept base n) false) (list_any (completes_source h n) h) found
 
-pub completed_kept : (base : Kept) → (h : List Event) (n : ℕ) → option_map_or (λ k. k.source_completed) (node_kept base n) false ≡ true → source_completed base h n ≡ true
+pub completed_kept : (base : Kept) → (h : List Event) (n : ℕ) → option_map_or (λ k. k.source_completed) (node_kept base n) false ≡ true →
+    source_completed base h n ≡ true
 unfolding source_completed
 completed_kept base h n kept = ap (λ m. m || list_any (completes_source h n) h) kept
 
-pub source_completed_true : (base : Kept) → (h : List Event) (n : ℕ) → list_any (completes_source h n) h ≡ true → (s : ℕ) × (at (is_source_of n) h s ≡ true) × Has h (End s Completed)
+pub source_completed_true : (base : Kept) → (h : List Event) (n : ℕ) → list_any (completes_source h n) h ≡ true →
+    (s : ℕ) × (at (is_source_of n) h s ≡ true) × Has h (End s Completed)
 unfolding source_completed
 source_completed_true base h n found =
     let r = list_any_found (completes_source h n) h found in
     let w = completes_end h n r.1 r.3 in
     (w.0, w.2, record { place = r.0; found = r.2 ∙ ap Some w.1 })
 
-pub source_completed_has : (base : Kept) → (h : List Event) (n s : ℕ) → at (is_source_of n) h s ≡ true → Has h (End s Completed) → source_completed base h n ≡ true
+pub source_completed_has : (base : Kept) → (h : List Event) (n s : ℕ) → at (is_source_of n) h s ≡ true → Has h (End s Completed) →
+    source_completed base h n ≡ true
 unfolding source_completed
-source_completed_has base h n s source ended = or_yes (option_map_or (λ k. k.source_completed) (node_kept base n) false) (list_any (completes_source h n) h) (list_any_holds (completes_source h n) h ended.place (End s Completed) ended.found source)
+source_completed_has base h n s source ended =
+    or_yes (option_map_or (λ k. k.source_completed) (node_kept base n) false) (list_any (completes_source h n) h)
+    (list_any_holds (completes_source h n) h ended.place (End s Completed) ended.found source)
 
 pub open_children_none : (h : List Event) (n : ℕ) → open_children h n ≡ 0 → (c : ℕ) → parent h c ≡ Some n → is_open h c ≡ false
 unfolding open_children
@@ -105,11 +111,13 @@ open_children_none h n none c below = by_test (cases_Bool (is_open h c)) where
 
 pub open_children_zero : (h : List Event) (n : ℕ) → ((c : ℕ) → parent h c ≡ Some n → is_open h c ≡ false) → open_children h n ≡ 0
 unfolding open_children
-open_children_zero h n closed = sum_by_none (λ k. cond (is_open_child_of h n k) 1 0) (length h) (λ k l. ap (λ b. cond {A = ℕ} b 1 0) (by_test k (is_open h k) refl (parent h k) refl)) where
-  by_test : (k : ℕ) → (b : Bool) → is_open h k ≡ b → (o : Option ℕ) → parent h k ≡ o → (b && option_map_or (λ q. q == n) o false) ≡ false
-  by_test k false out o below = refl
-  by_test k true o None below = refl
-  by_test k true o (Some q) below = by_number (cases_Bool (q == n)) where
-    by_number : ((q == n) ≡ true) ⊎ ((q == n) ≡ false) → (q == n) ≡ false
-    by_number (inr apart) = apart
-    by_number (inl same) = absurd (both_ways (is_open h k) (closed k (below ∙ ap Some (eqb-true q n same))) o)
+open_children_zero h n closed =
+    sum_by_none (λ k. cond (is_open_child_of h n k) 1 0) (length h) (λ k l. ap (λ b. cond {A = ℕ} b 1 0) (by_test k (is_open h k) refl (parent h k) refl))
+  where
+    by_test : (k : ℕ) → (b : Bool) → is_open h k ≡ b → (o : Option ℕ) → parent h k ≡ o → (b && option_map_or (λ q. q == n) o false) ≡ false
+    by_test k false out o below = refl
+    by_test k true o None below = refl
+    by_test k true o (Some q) below = by_number (cases_Bool (q == n)) where
+      by_number : ((q == n) ≡ true) ⊎ ((q == n) ≡ false) → (q == n) ≡ false
+      by_number (inr apart) = apart
+      by_number (inl same) = absurd (both_ways (is_open h k) (closed k (below ∙ ap Some (eqb-true q n same))) o)

@@ -1,5 +1,6 @@
 -- The marks of a FlatMap or Switch after the opening of an inner.
-use Rattle.std.proofs.Common.{◌≡◌, ℕ, ◌+◌, ◌-◌, ◌<◌, Bool, true, false, List, [], ◌∷◌, ◌++◌, length, Option, Some, None, cond, refl, sym, ap, ◌∙◌, arith, inl, inr, ◌⊎◌, ◌==◌, nat_lt, slice_get}
+use Rattle.std.proofs.Common.{◌≡◌, ℕ, ◌+◌, ◌-◌, ◌<◌, Bool, true, false, List, [], ◌∷◌, ◌++◌, length, Option, Some}
+use Rattle.std.proofs.Common.{None, cond, refl, sym, ap, ◌∙◌, arith, inl, inr, ◌⊎◌, ◌==◌, nat_lt, slice_get}
 use Rattle.std.proofs.Math.Bool.{not, ◌&&◌, ◌||◌}
 use Rattle.std.specs.List.{count_by}
 use Rattle.std.specs.Option.{option_map_or}
@@ -28,42 +29,55 @@ use Rattle.rx_event.proofs.Laws.MarksEnds.{not_false}
 -- an inner ------------------------------------------------------------------------------------------
 
 -- the opening of an inner closes children of its own Switch alone
-inner_cut_none : (base : Kept) → (h : List Event) (f : ℕ) (kind : Kind) → IsLawful base h → (n : ℕ) → is_cut h (Open (Inner f) kind) n ≡ false → (f == n) ≡ false →
+inner_cut_none : (base : Kept) → (h : List Event) (f : ℕ) (kind : Kind) → IsLawful base h → (n : ℕ) → is_cut h (Open (Inner f) kind) n ≡ false →
+    (f == n) ≡ false →
     cut_children h (Open (Inner f) kind) n ≡ 0
-inner_cut_none base h f kind law n whole other = sum_by_none (λ k. cond (is_open_child_of h n k && is_cut h (Open (Inner f) kind) k) 1 0) (length h) (λ k l. by_test k (is_child_of h n k) refl (is_cut h (Open (Inner f) kind) k) refl (is_open h k)) where
-  shut_named : (k : ℕ) → shuts h k (Open (Inner f) kind) ≡ true → at (is_inner_of f) h k ≡ true
-  shut_named k shut = (and_parts (nat_lt f k && at is_switch h f) (at (is_inner_of f) h k) shut).1
+inner_cut_none base h f kind law n whole other =
+    sum_by_none (λ k. cond (is_open_child_of h n k && is_cut h (Open (Inner f) kind) k) 1 0) (length h)
+    (λ k l. by_test k (is_child_of h n k) refl (is_cut h (Open (Inner f) kind) k) refl (is_open h k))
+  where
+    shut_named : (k : ℕ) → shuts h k (Open (Inner f) kind) ≡ true → at (is_inner_of f) h k ≡ true
+    shut_named k shut = (and_parts (nat_lt f k && at is_switch h f) (at (is_inner_of f) h k) shut).1
 
-  inner_parent : (k : ℕ) (x : Option Event) → slice_get h k ≡ x → option_map_or (is_inner_of f) x false ≡ true → parent h k ≡ Some f
-  inner_parent k None at_k inner = absurd (false≢true inner)
-  inner_parent k (Some (Open (Inner q) kind)) at_k inner = parent-named base h law k f (Open (Inner q) kind) at_k (ap Some (eqb-true q f inner))
-  inner_parent k (Some (Open Root kind)) at_k inner = absurd (false≢true inner)
-  inner_parent k (Some (Open (Source q) kind)) at_k inner = absurd (false≢true inner)
-  inner_parent k (Some (Open (Notifier q) kind)) at_k inner = absurd (false≢true inner)
-  inner_parent k (Some _) at_k inner = absurd (false≢true inner)
+    inner_parent : (k : ℕ) (x : Option Event) → slice_get h k ≡ x → option_map_or (is_inner_of f) x false ≡ true → parent h k ≡ Some f
+    inner_parent k None at_k inner = absurd (false≢true inner)
+    inner_parent k (Some (Open (Inner q) kind)) at_k inner = parent-named base h law k f (Open (Inner q) kind) at_k (ap Some (eqb-true q f inner))
+    inner_parent k (Some (Open Root kind)) at_k inner = absurd (false≢true inner)
+    inner_parent k (Some (Open (Source q) kind)) at_k inner = absurd (false≢true inner)
+    inner_parent k (Some (Open (Notifier q) kind)) at_k inner = absurd (false≢true inner)
+    inner_parent k (Some _) at_k inner = absurd (false≢true inner)
 
-  cut_parts : (k : ℕ) → parent h k ≡ Some n → is_cut h (Open (Inner f) kind) k ≡ (shuts h k (Open (Inner f) kind) || is_cut h (Open (Inner f) kind) n)
-  cut_parts k below = rw (ancestors_step h k, below) refl
+    cut_parts : (k : ℕ) → parent h k ≡ Some n → is_cut h (Open (Inner f) kind) k ≡ (shuts h k (Open (Inner f) kind) || is_cut h (Open (Inner f) kind) n)
+    cut_parts k below = rw (ancestors_step h k, below) refl
 
-  clash : (k : ℕ) → parent h k ≡ Some n → (shuts h k (Open (Inner f) kind) ≡ true) ⊎ (is_cut h (Open (Inner f) kind) n ≡ true) → ⊥
-  clash k below (inr cut_above) = both_ways (is_cut h (Open (Inner f) kind) n) whole cut_above
-  clash k below (inl shut) =
-      let same : f ≡ n = same_Some f n (sym (inner_parent k (slice_get h k) refl (shut_named k shut)) ∙ below) in
-      both_ways (f == n) other (eq-eqb f n same)
+    clash : (k : ℕ) → parent h k ≡ Some n → (shuts h k (Open (Inner f) kind) ≡ true) ⊎ (is_cut h (Open (Inner f) kind) n ≡ true) → ⊥
+    clash k below (inr cut_above) = both_ways (is_cut h (Open (Inner f) kind) n) whole cut_above
+    clash k below (inl shut) =
+        let same : f ≡ n = same_Some f n (sym (inner_parent k (slice_get h k) refl (shut_named k shut)) ∙ below) in
+        both_ways (f == n) other (eq-eqb f n same)
 
-  by_test : (k : ℕ) → (b : Bool) → is_child_of h n k ≡ b → (w : Bool) → is_cut h (Open (Inner f) kind) k ≡ w → (p : Bool) → cond {A = ℕ} ((p && b) && w) 1 0 ≡ 0
-  by_test k b below w gone false = refl
-  by_test k false below w gone true = refl
-  by_test k true below false gone true = refl
-  by_test k true below true gone true = absurd (clash k (is_child_parent h n k below) (or_cases (shuts h k (Open (Inner f) kind)) (is_cut h (Open (Inner f) kind) n) (sym (cut_parts k (is_child_parent h n k below)) ∙ gone)))
+    by_test : (k : ℕ) → (b : Bool) → is_child_of h n k ≡ b → (w : Bool) → is_cut h (Open (Inner f) kind) k ≡ w → (p : Bool) →
+        cond {A = ℕ} ((p && b) && w) 1 0 ≡ 0
+    by_test k b below w gone false = refl
+    by_test k false below w gone true = refl
+    by_test k true below false gone true = refl
+    by_test k true below true gone true =
+        absurd (clash k (is_child_parent h n k below)
+        (or_cases (shuts h k (Open (Inner f) kind)) (is_cut h (Open (Inner f) kind) n) (sym (cut_parts k (is_child_parent h n k below)) ∙ gone)))
 
-marks_inner : (base : Kept) → (h : List Event) (f : ℕ) (kind : Kind) → IsLawful base h → MayFollow base h (Open (Inner f) kind) → (n : ℕ) → n < length h → marks_of base (h ++ Open (Inner f) kind ∷ []) n ≡ record (marks_of base h n) { owed = owed base h n - cond (f == n) 1 0; open_children = open_children h n + cond (f == n) 1 0 - cut_children h (Open (Inner f) kind) n }
+marks_inner : (base : Kept) → (h : List Event) (f : ℕ) (kind : Kind) → IsLawful base h → MayFollow base h (Open (Inner f) kind) → (n : ℕ) → n < length h →
+    marks_of base (h ++ Open (Inner f) kind ∷ []) n ≡
+    record (marks_of base h n) {
+      owed = owed base h n - cond (f == n) 1 0;
+      open_children = open_children h n + cond (f == n) 1 0 - cut_children h (Open (Inner f) kind) n;
+    }
 marks_inner base h f kind law next n l =
     let w : count_by (is_projection_to n) [] ≡ 0 = refl in
     marks-push base h (Open (Inner f) kind) law next n l ∙ same_marks base (or_false _) (or_false _) (or_false _) (or_false _) (or_nothing _) (omega arith) refl
 
 -- no other node that stays open changes
-pub marks-inner_other : (base : Kept) → (h : List Event) (f : ℕ) (kind : Kind) → IsLawful base h → MayFollow base h (Open (Inner f) kind) → (n : ℕ) → n < length h →
+pub marks-inner_other : (base : Kept) → (h : List Event) (f : ℕ) (kind : Kind) → IsLawful base h → MayFollow base h (Open (Inner f) kind) → (n : ℕ) →
+    n < length h →
     is_open (h ++ Open (Inner f) kind ∷ []) n ≡ true → (f == n) ≡ false → marks_of base (h ++ Open (Inner f) kind ∷ []) n ≡ marks_of base h n
 marks-inner_other base h f kind law next n l o other =
     let parts = and_parts (is_open h n) (not (is_cut h (Open (Inner f) kind) n)) (sym (is_open_cut h (Open (Inner f) kind) n l) ∙ o) in
@@ -72,7 +86,9 @@ marks-inner_other base h f kind law next n l o other =
     marks_inner base h f kind law next n l ∙ same_marks base refl refl refl refl refl (omega arith) (omega arith)
 
 -- a FlatMap has one more child, and owes one less
-pub marks-inner_flat : (base : Kept) → (h : List Event) (f : ℕ) (kind : Kind) → IsLawful base h → MayFollow base h (Open (Inner f) kind) → at is_switch h f ≡ false → marks_of base (h ++ Open (Inner f) kind ∷ []) f ≡ record (marks_of base h f) { owed = owed base h f - 1; open_children = open_children h f + 1 }
+pub marks-inner_flat : (base : Kept) → (h : List Event) (f : ℕ) (kind : Kind) → IsLawful base h → MayFollow base h (Open (Inner f) kind) →
+    at is_switch h f ≡ false →
+    marks_of base (h ++ Open (Inner f) kind ∷ []) f ≡ record (marks_of base h f) { owed = owed base h f - 1; open_children = open_children h f + 1 }
 marks-inner_flat base h f kind law next flat =
     let z = cut_children_none h (Open (Inner f) kind) f (is_cut_inner_flat h f kind flat) in
     let w : cond {A = ℕ} (f == f) 1 0 ≡ 1 = ap (λ b. cond {A = ℕ} b 1 0) (eq-eqb f f refl) in
@@ -101,9 +117,13 @@ cut_child_is_inner h f kind k both =
     (b.0, (and_parts (nat_lt f k && at is_switch h f) (at (is_inner_of f) h k) s).1)
 
 -- a Switch that had no open inner has one more child
-pub marks-inner_first : (base : Kept) → (h : List Event) (f : ℕ) (kind : Kind) → IsLawful base h → MayFollow base h (Open (Inner f) kind) → ((k : ℕ) → at (is_inner_of f) h k ≡ true → is_open h k ≡ false) → marks_of base (h ++ Open (Inner f) kind ∷ []) f ≡ record (marks_of base h f) { owed = owed base h f - 1; open_children = open_children h f + 1 }
+pub marks-inner_first : (base : Kept) → (h : List Event) (f : ℕ) (kind : Kind) → IsLawful base h → MayFollow base h (Open (Inner f) kind) →
+    ((k : ℕ) → at (is_inner_of f) h k ≡ true → is_open h k ≡ false) →
+    marks_of base (h ++ Open (Inner f) kind ∷ []) f ≡ record (marks_of base h f) { owed = owed base h f - 1; open_children = open_children h f + 1 }
 marks-inner_first base h f kind law next closed =
-    let z : cut_children h (Open (Inner f) kind) f ≡ 0 = sum_by_none (λ k. cond (is_open_child_of h f k && is_cut h (Open (Inner f) kind) k) 1 0) (length h) (λ k l. by_test k (is_open_child_of h f k && is_cut h (Open (Inner f) kind) k) refl) in
+    let z : cut_children h (Open (Inner f) kind) f ≡ 0 =
+    sum_by_none (λ k. cond (is_open_child_of h f k && is_cut h (Open (Inner f) kind) k) 1 0) (length h)
+    (λ k l. by_test k (is_open_child_of h f k && is_cut h (Open (Inner f) kind) k) refl) in
     let w : cond {A = ℕ} (f == f) 1 0 ≡ 1 = ap (λ b. cond {A = ℕ} b 1 0) (eq-eqb f f refl) in
     marks_inner base h f kind law next f (is_open_within h f (may_open base next).0) ∙ same_marks base refl refl refl refl refl (omega arith) (omega arith)
   where
@@ -112,9 +132,13 @@ marks-inner_first base h f kind law next closed =
     by_test k true both = absurd (let w = cut_child_is_inner h f kind k both in both_ways (is_open h k) (closed k w.1) w.0)
 
 -- of one that had an open inner another takes the place
-pub marks-inner_next : (base : Kept) → (h : List Event) (f old : ℕ) (kind : Kind) → IsLawful base h → MayFollow base h (Open (Inner f) kind) → at is_switch h f ≡ true → at (is_inner_of f) h old ≡ true → is_open h old ≡ true → marks_of base (h ++ Open (Inner f) kind ∷ []) f ≡ record (marks_of base h f) { owed = owed base h f - 1 }
+pub marks-inner_next : (base : Kept) → (h : List Event) (f old : ℕ) (kind : Kind) → IsLawful base h → MayFollow base h (Open (Inner f) kind) →
+    at is_switch h f ≡ true → at (is_inner_of f) h old ≡ true → is_open h old ≡ true →
+    marks_of base (h ++ Open (Inner f) kind ∷ []) f ≡ record (marks_of base h f) { owed = owed base h f - 1 }
 marks-inner_next base h f old kind law next switch inner o =
-    let z : cut_children h (Open (Inner f) kind) f ≡ 1 = sum_by-same (λ k. cond (old == k) 1 0) (λ k. cond (is_open_child_of h f k && is_cut h (Open (Inner f) kind) k) 1 0) (length h) (λ k l. each k (old == k) refl) ∙
+    let z : cut_children h (Open (Inner f) kind) f ≡ 1 =
+    sum_by-same (λ k. cond (old == k) 1 0) (λ k. cond (is_open_child_of h f k && is_cut h (Open (Inner f) kind) k) 1 0) (length h)
+    (λ k l. each k (old == k) refl) ∙
     count_by_one old (length h) (is_open_within h old o) in
     let w : cond {A = ℕ} (f == f) 1 0 ≡ 1 = ap (λ b. cond {A = ℕ} b 1 0) (eq-eqb f f refl) in
     marks_inner base h f kind law next f (is_open_within h f (may_open base next).0) ∙ same_marks base refl refl refl refl refl (omega arith) (omega arith)
@@ -124,16 +148,20 @@ marks-inner_next base h f old kind law next switch inner o =
 
     cut_old : is_cut h (Open (Inner f) kind) old ≡ true
     cut_old = switch_cut h f kind old below ∙
-        and_from (nat_lt f old && at is_switch h f) (at (is_inner_of f) h old) (and_from (nat_lt f old) (at is_switch h f) (lt-ltb f old (parent-lt h old f below)) switch) inner
+        and_from (nat_lt f old && at is_switch h f) (at (is_inner_of f) h old)
+        (and_from (nat_lt f old) (at is_switch h f) (lt-ltb f old (parent-lt h old f below)) switch) inner
 
     gone : (is_open_child_of h f old && is_cut h (Open (Inner f) kind) old) ≡ true
-    gone = and_from (is_open_child_of h f old) (is_cut h (Open (Inner f) kind) old) (and_from (is_open h old) (is_child_of h f old) o (parent_is_child h f old below)) cut_old
+    gone =
+        and_from (is_open_child_of h f old) (is_cut h (Open (Inner f) kind) old)
+        (and_from (is_open h old) (is_child_of h f old) o (parent_is_child h f old below)) cut_old
 
     apart : (k : ℕ) → (old == k) ≡ false → (b : Bool) → (is_open_child_of h f k && is_cut h (Open (Inner f) kind) k) ≡ b → cond {A = ℕ} b 1 0 ≡ 0
     apart k other false out = refl
     apart k other true both =
         let w = cut_child_is_inner h f kind k both in
-        absurd (both_ways (old == k) other (eq-eqb old k (one_inner base h law f old k (record { switch = switch; one = inner; one_open = o; other = w.1; other_open = w.0 }))))
+        absurd (both_ways (old == k) other
+        (eq-eqb old k (one_inner base h law f old k (record { switch = switch; one = inner; one_open = o; other = w.1; other_open = w.0 }))))
 
     each : (k : ℕ) (b : Bool) → (old == k) ≡ b → cond {A = ℕ} (is_open_child_of h f k && is_cut h (Open (Inner f) kind) k) 1 0 ≡ cond b 1 0
     each k true same = ap (λ b. cond {A = ℕ} b 1 0) (ap (λ q. is_open_child_of h f q && is_cut h (Open (Inner f) kind) q) (sym (eqb-true old k same)) ∙ gone)

@@ -1,5 +1,6 @@
 -- A new node has blank marks.
-use Rattle.std.proofs.Common.{◌≡◌, ℕ, ◌<◌, ◌≤◌, Bool, true, false, List, [], ◌∷◌, ◌++◌, length, Option, Some, None, refl, ap, ◌∙◌, arith, slice_get, length-append}
+use Rattle.std.proofs.Common.{◌≡◌, ℕ, ◌<◌, ◌≤◌, Bool, true, false, List, [], ◌∷◌, ◌++◌, length, Option}
+use Rattle.std.proofs.Common.{Some, None, refl, ap, ◌∙◌, arith, slice_get, length-append}
 use Rattle.std.specs.List.{AllByRecursion, list_any}
 use Rattle.std.specs.Option.{option_map_or}
 use Rattle.std.proofs.lemmas.Bool.{false≢true, eqb-true, ne_eqb}
@@ -64,13 +65,15 @@ firing_old h (Firing v ∷ ss) well u past =
 firing_old h (Delivery m ∷ ss) well u past = firing_old h ss well.1 u past
 firing_old h (Projection m ∷ ss) well u past = firing_old h ss well.1 u past
 
-fires_old : (base : Kept) → (h : List Event) (e : Event) → IsLawful base h → MayFollow base h e → (u : ℕ) → length h ≤ u → list_any (is_firing_of u) (stops_of h e) ≡ false
+fires_old : (base : Kept) → (h : List Event) (e : Event) → IsLawful base h → MayFollow base h e → (u : ℕ) → length h ≤ u →
+    list_any (is_firing_of u) (stops_of h e) ≡ false
 fires_old base h (Item leaf v) law next u past = firing_old h (stops h leaf) (stops_open base h leaf law (may_emit base next)) u past
 fires_old base h _ law next u past = refl
 
 pub fired_past : (base : Kept) → (h : List Event) → IsLawful base h → (u : ℕ) → length h ≤ u → is_fired h u ≡ false
 unfolding is_fired moments
-fired_past base = by_events base (λ h. (u : ℕ) → length h ≤ u → is_fired h u ≡ false) (λ s u l. made_unfired (shown base) s.making u) (λ h e law next before u past.
+fired_past base =
+    by_events base (λ h. (u : ℕ) → length h ≤ u → is_fired h u ≡ false) (λ s u l. made_unfired (shown base) s.making u) (λ h e law next before u past.
     let b : length h ≤ u = omega (arith, length-append h (e ∷ [])) in
     is_fired-push h e u ∙ rw (before u b, fires_old base h e law next u b) refl)
 
@@ -80,15 +83,20 @@ child_new_none h e c below =
     let b : c < length (h ++ e ∷ []) = parent_within (h ++ e ∷ []) c (length h) below in
     absurd (omega (arith, length-append h (e ∷ [])))
 
-pub source_completed_is : (base : Kept) → (h : List Event) (n : ℕ) → source_completed base h n ≡ (option_map_or (λ k. k.source_completed) (node_kept base n) false || list_any (completes_source h n) h)
+pub source_completed_is : (base : Kept) → (h : List Event) (n : ℕ) →
+    source_completed base h n ≡ (option_map_or (λ k. k.source_completed) (node_kept base n) false || list_any (completes_source h n) h)
 unfolding source_completed
 source_completed_is base h n = refl
 
 pub marks-new : (base : Kept) → (h : List Event) (e : Event) → IsLawful base h → MayFollow base h e → marks_of base (h ++ e ∷ []) (length h) ≡ blank_marks
 marks-new base h e law next =
     same_marks base
-    (λ i. option_map_or (λ k. k.source_opened) (unkept i) false || never _ (λ s. let r = list_any_found (is_source_of (length h)) (h ++ e ∷ []) s in names_new base h e law next r.0 r.1 r.2 (source_names (length h) r.1 r.3)) i)
-    (λ i. option_map_or (λ k. k.notifier_opened) (unkept i) false || never _ (λ s. let r = list_any_found (is_notifier_of (length h)) (h ++ e ∷ []) s in names_new base h e law next r.0 r.1 r.2 (notifier_names (length h) r.1 r.3)) i)
+    (λ i. option_map_or (λ k. k.source_opened) (unkept i) false ||
+    never _ (λ s. let r = list_any_found (is_source_of (length h)) (h ++ e ∷ []) s in
+    names_new base h e law next r.0 r.1 r.2 (source_names (length h) r.1 r.3)) i)
+    (λ i. option_map_or (λ k. k.notifier_opened) (unkept i) false ||
+    never _ (λ s. let r = list_any_found (is_notifier_of (length h)) (h ++ e ∷ []) s in
+    names_new base h e law next r.0 r.1 r.2 (notifier_names (length h) r.1 r.3)) i)
     (is_fired-push h e (length h) ∙ rw (fired_past base h law (length h) (omega arith), fires_old base h e law next (length h) (omega arith)) refl)
     completed_new
     (terminal_new (child_terminal (h ++ e ∷ []) (length h)) refl)
@@ -103,7 +111,10 @@ marks-new base h e law next =
     source_new s (Some x) at_s source = names_new base h e law next s x at_s (source_names (length h) x source)
 
     completed_new : source_completed base (h ++ e ∷ []) (length h) ≡ false
-    completed_new = (source_completed_is base (h ++ e ∷ []) (length h)) ∙ (λ i. option_map_or (λ k. k.source_completed) (unkept i) false || never _ (λ s. let r = source_completed_true base (h ++ e ∷ []) (length h) s in source_new r.0 (slice_get (h ++ e ∷ []) r.0) refl r.1) i)
+    completed_new =
+        (source_completed_is base (h ++ e ∷ []) (length h)) ∙
+        (λ i. option_map_or (λ k. k.source_completed) (unkept i) false ||
+        never _ (λ s. let r = source_completed_true base (h ++ e ∷ []) (length h) s in source_new r.0 (slice_get (h ++ e ∷ []) r.0) refl r.1) i)
 
     terminal_new : (o : Option Terminal) → child_terminal (h ++ e ∷ []) (length h) ≡ o → o ≡ None
     terminal_new None ended = refl

@@ -1,5 +1,6 @@
 -- An event changes the marks of one node at most, but for an item.
-use Rattle.std.proofs.Common.{◌≡◌, ℕ, ℤ, ◌+◌, ◌-◌, ◌<◌, Bool, true, false, List, [], ◌∷◌, ◌++◌, length, Some, None, cond, refl, sym, ap, ◌∙◌, arith, inl, inr, ◌⊎◌, ◌==◌, slice_get}
+use Rattle.std.proofs.Common.{◌≡◌, ℕ, ℤ, ◌+◌, ◌-◌, ◌<◌, Bool, true, false, List, [], ◌∷◌, ◌++◌, length, Some}
+use Rattle.std.proofs.Common.{None, cond, refl, sym, ap, ◌∙◌, arith, inl, inr, ◌⊎◌, ◌==◌, slice_get}
 use Rattle.std.proofs.Math.Bool.{not, ◌&&◌, ◌||◌}
 use Rattle.std.specs.Prelude.{if◌then◌else◌}
 use Rattle.std.specs.List.{list_any, count_by}
@@ -20,7 +21,8 @@ use Rattle.rx_event.specs.Events.{is_merging, is_source_of, is_inner_of, is_swit
 use Rattle.rx_event.specs.Tree.{at, parent, is_open}
 use Rattle.rx_event.specs.Climb.{Stop, Delivery, Projection, Firing, stops}
 use Rattle.rx_event.specs.Moments.{is_fired, is_firing_of, is_projection_to}
-use Rattle.rx_event.specs.Marks.{touches, after_source, after_notifier, after_inner, after_decline, after_child, after_stops, blank_marks, completes_source, passes_on, child_terminal, source_completed, open_children, marks_of, due_at}
+use Rattle.rx_event.specs.Marks.{touches, after_source, after_notifier, after_inner, after_decline, after_child, after_stops, blank_marks}
+use Rattle.rx_event.specs.Marks.{completes_source, passes_on, child_terminal, source_completed, open_children, marks_of, due_at}
 use Rattle.rx_event.specs.Lawful.{MayFollow, IsLawful}
 use Rattle.rx_event.proofs.Laws.Openness.{is_open_within}
 use Rattle.rx_event.proofs.Laws.Steps.{may_open, may_decline}
@@ -48,7 +50,8 @@ stops_apart n (s ∷ ss) apart =
     (rw (b.0, rest.0) refl, sum_by-cons (λ x. cond (is_projection_to n x) 1 0) s ss ∙ rw (b.1, rest.1) refl)
 
 -- All marks of a node that stays open, and that the event does not touch, stay
-pub marks_untouched : (base : Kept) → (h : List Event) (e : Event) → IsLawful base h → MayFollow base h e → (n : ℕ) → n < length h → is_open (h ++ e ∷ []) n ≡ true →
+pub marks_untouched : (base : Kept) → (h : List Event) (e : Event) → IsLawful base h → MayFollow base h e → (n : ℕ) → n < length h →
+    is_open (h ++ e ∷ []) n ≡ true →
     touches h n e ≡ false → marks_of base (h ++ e ∷ []) n ≡ marks_of base h n
 marks_untouched base h (Open (Source p) kind) law next n l o apart =
     let w : cond {A = ℕ} (p == n) 1 0 ≡ 0 = ap (λ b. cond {A = ℕ} b 1 0) apart in
@@ -79,10 +82,18 @@ marks_untouched base h (Return m) law next n l o apart = marks_kept base h (Retu
 marks_untouched base h (Take r) law next n l o apart = marks_kept base h (Take r) law next refl n l
 
 -- of the parent of what ended, by the events of both
-pub marks-end_parent_at : (base : Kept) → (h : List Event) (c p : ℕ) (made above : Event) (t : Terminal) → IsLawful base h → MayFollow base h (End c t) → parent h c ≡ Some p → slice_get h c ≡ Some made → slice_get h p ≡ Some above → marks_of base (h ++ End c t ∷ []) p ≡ record (marks_of base h p) { source_completed = source_completed base h p || (is_source_of p made && not (passes_on true t)); child_terminal = option_or (child_terminal h p) (if passes_on (is_merging above) t then Some t else None); open_children = open_children h p - 1 }
+pub marks-end_parent_at : (base : Kept) → (h : List Event) (c p : ℕ) (made above : Event) (t : Terminal) → IsLawful base h → MayFollow base h (End c t) →
+    parent h c ≡ Some p → slice_get h c ≡ Some made → slice_get h p ≡ Some above →
+    marks_of base (h ++ End c t ∷ []) p ≡
+    record (marks_of base h p) {
+      source_completed = source_completed base h p || (is_source_of p made && not (passes_on true t));
+      child_terminal = option_or (child_terminal h p) (if passes_on (is_merging above) t then Some t else None);
+      open_children = open_children h p - 1;
+    }
 marks-end_parent_at base h c p made above t law next below at_c at_p =
     marks-end_parent base h c p t law next below ∙
-    same_marks base refl refl refl (ap (λ b. source_completed base h p || b) (source_is t)) (ap (λ o. option_or (child_terminal h p) (if passes_on (option_map_or is_merging o false) t then Some t else None)) at_p) refl refl
+    same_marks base refl refl refl (ap (λ b. source_completed base h p || b) (source_is t))
+    (ap (λ o. option_or (child_terminal h p) (if passes_on (option_map_or is_merging o false) t then Some t else None)) at_p) refl refl
   where
     and_yes : (b : Bool) → b ≡ (b && true)
     and_yes true = refl
@@ -118,30 +129,43 @@ marks-notifier_at base h p kind law next =
     marks-notifier base h p kind law next p (is_open_within h p (may_open base next).0) ∙
     same_marks base refl (ap (λ b. notifier_opened base h p || b) same ∙ or_true (notifier_opened base h p)) refl refl refl refl (omega arith)
 
-pub marks-decline_at : (base : Kept) → (h : List Event) (f : ℕ) → IsLawful base h → MayFollow base h (Decline f) → marks_of base (h ++ Decline f ∷ []) f ≡ after_decline (marks_of base h f)
+pub marks-decline_at : (base : Kept) → (h : List Event) (f : ℕ) → IsLawful base h → MayFollow base h (Decline f) →
+    marks_of base (h ++ Decline f ∷ []) f ≡ after_decline (marks_of base h f)
 marks-decline_at base h f law next =
     let w : cond {A = ℕ} (f == f) 1 0 ≡ 1 = ap (λ b. cond {A = ℕ} b 1 0) (eq-eqb f f refl) in
     marks-decline base h f law next f (is_open_within h f (may_decline base next).0) ∙ same_marks base refl refl refl refl refl (omega arith) refl
 
-pub marks-end_at : (base : Kept) → (h : List Event) (c p : ℕ) (made above : Event) (t : Terminal) → IsLawful base h → MayFollow base h (End c t) → parent h c ≡ Some p →
+pub marks-end_at : (base : Kept) → (h : List Event) (c p : ℕ) (made above : Event) (t : Terminal) → IsLawful base h → MayFollow base h (End c t) →
+    parent h c ≡ Some p →
     slice_get h c ≡ Some made → slice_get h p ≡ Some above →
     marks_of base (h ++ End c t ∷ []) p ≡ after_child (is_source_of p made) (is_merging above) t (marks_of base h p)
 marks-end_at base h c p made above t law next below at_c at_p = marks-end_parent_at base h c p made above t law next below at_c at_p
 
 -- stops one at a time say what all together do
-stops_together : (base : Kept) → (n : ℕ) (ss : List Stop) (m : Marks) → after_stops n ss m ≡ record m { fired = m.fired || list_any (is_firing_of n) ss; owed = m.owed + count_by (is_projection_to n) ss }
+stops_together : (base : Kept) → (n : ℕ) (ss : List Stop) (m : Marks) →
+    after_stops n ss m ≡ record m { fired = m.fired || list_any (is_firing_of n) ss; owed = m.owed + count_by (is_projection_to n) ss }
 stops_together base n [] m = sym (same_marks base refl refl (or_false m.fired) refl refl (omega arith) refl)
 stops_together base n (Delivery r ∷ ss) m =
     let k = sum_by-cons (λ s. cond (is_projection_to n s) 1 0) (Delivery r) ss in
     stops_together base n ss m ∙ same_marks base refl refl refl refl refl (omega arith) refl
-stops_together base n (Projection f ∷ ss) m = by_test (f == n) (sum_by-cons (λ s. cond (is_projection_to n s) 1 0) (Projection f) ss) (λ x. stops_together base n ss x) where
-  by_test : (b : Bool) → count_by (is_projection_to n) (Projection f ∷ ss) ≡ cond b 1 0 + count_by (is_projection_to n) ss → ((x : Marks) → after_stops n ss x ≡ record x { fired = x.fired || list_any (is_firing_of n) ss; owed = x.owed + count_by (is_projection_to n) ss }) → after_stops n ss (cond b (record m { owed = m.owed + 1 }) m) ≡ record m { fired = m.fired || list_any (is_firing_of n) ss; owed = m.owed + count_by (is_projection_to n) (Projection f ∷ ss) }
-  by_test true k rest = rest (record m { owed = m.owed + 1 }) ∙ same_marks base refl refl refl refl refl (omega arith) refl
-  by_test false k rest = rest m ∙ same_marks base refl refl refl refl refl (omega arith) refl
-stops_together base n (Firing u ∷ ss) m = by_test (u == n) (sum_by-cons (λ s. cond (is_projection_to n s) 1 0) (Firing u) ss) (λ x. stops_together base n ss x) where
-  by_test : (b : Bool) → count_by (is_projection_to n) (Firing u ∷ ss) ≡ 0 + count_by (is_projection_to n) ss → ((x : Marks) → after_stops n ss x ≡ record x { fired = x.fired || list_any (is_firing_of n) ss; owed = x.owed + count_by (is_projection_to n) ss }) → after_stops n ss (cond b (record m { fired = true }) m) ≡ record m { fired = m.fired || (b || list_any (is_firing_of n) ss); owed = m.owed + count_by (is_projection_to n) (Firing u ∷ ss) }
-  by_test true k rest = rest (record m { fired = true }) ∙ same_marks base refl refl (sym (or_true m.fired)) refl refl (omega arith) refl
-  by_test false k rest = rest m ∙ same_marks base refl refl refl refl refl (omega arith) refl
+stops_together base n (Projection f ∷ ss) m =
+    by_test (f == n) (sum_by-cons (λ s. cond (is_projection_to n s) 1 0) (Projection f) ss) (λ x. stops_together base n ss x)
+  where
+    by_test : (b : Bool) → count_by (is_projection_to n) (Projection f ∷ ss) ≡ cond b 1 0 + count_by (is_projection_to n) ss →
+        ((x : Marks) → after_stops n ss x ≡ record x { fired = x.fired || list_any (is_firing_of n) ss; owed = x.owed + count_by (is_projection_to n) ss }) →
+        after_stops n ss (cond b (record m { owed = m.owed + 1 }) m) ≡
+        record m { fired = m.fired || list_any (is_firing_of n) ss; owed = m.owed + count_by (is_projection_to n) (Projection f ∷ ss) }
+    by_test true k rest = rest (record m { owed = m.owed + 1 }) ∙ same_marks base refl refl refl refl refl (omega arith) refl
+    by_test false k rest = rest m ∙ same_marks base refl refl refl refl refl (omega arith) refl
+stops_together base n (Firing u ∷ ss) m =
+    by_test (u == n) (sum_by-cons (λ s. cond (is_projection_to n s) 1 0) (Firing u) ss) (λ x. stops_together base n ss x)
+  where
+    by_test : (b : Bool) → count_by (is_projection_to n) (Firing u ∷ ss) ≡ 0 + count_by (is_projection_to n) ss →
+        ((x : Marks) → after_stops n ss x ≡ record x { fired = x.fired || list_any (is_firing_of n) ss; owed = x.owed + count_by (is_projection_to n) ss }) →
+        after_stops n ss (cond b (record m { fired = true }) m) ≡
+        record m { fired = m.fired || (b || list_any (is_firing_of n) ss); owed = m.owed + count_by (is_projection_to n) (Firing u ∷ ss) }
+    by_test true k rest = rest (record m { fired = true }) ∙ same_marks base refl refl (sym (or_true m.fired)) refl refl (omega arith) refl
+    by_test false k rest = rest m ∙ same_marks base refl refl refl refl refl (omega arith) refl
 
 pub marks-item_at : (base : Kept) → (h : List Event) (leaf : ℕ) (v : ℤ) → IsLawful base h → MayFollow base h (Item leaf v) → (n : ℕ) → n < length h →
     marks_of base (h ++ Item leaf v ∷ []) n ≡ after_stops n (stops h leaf) (marks_of base h n)
@@ -155,7 +179,8 @@ child_counted h c p o below = by_count (cases_order (open_children h p) 0) where
   by_count (inr (inl less)) = absurd (omega arith)
   by_count (inr (inr some)) = some
 
-pub marks-inner_at_flat : (base : Kept) → (h : List Event) (f : ℕ) (kind : Kind) → IsLawful base h → MayFollow base h (Open (Inner f) kind) → at is_switch h f ≡ false →
+pub marks-inner_at_flat : (base : Kept) → (h : List Event) (f : ℕ) (kind : Kind) → IsLawful base h → MayFollow base h (Open (Inner f) kind) →
+    at is_switch h f ≡ false →
     marks_of base (h ++ Open (Inner f) kind ∷ []) f ≡ after_inner false (marks_of base h f)
 marks-inner_at_flat base h f kind law next flat = marks-inner_flat base h f kind law next flat
 
@@ -163,7 +188,8 @@ pub marks-inner_at_first : (base : Kept) → (h : List Event) (f : ℕ) (kind : 
     ((k : ℕ) → at (is_inner_of f) h k ≡ true → is_open h k ≡ false) → marks_of base (h ++ Open (Inner f) kind ∷ []) f ≡ after_inner false (marks_of base h f)
 marks-inner_at_first base h f kind law next closed = marks-inner_first base h f kind law next closed
 
-pub marks-inner_at_next : (base : Kept) → (h : List Event) (f old : ℕ) (kind : Kind) → IsLawful base h → MayFollow base h (Open (Inner f) kind) → at is_switch h f ≡ true →
+pub marks-inner_at_next : (base : Kept) → (h : List Event) (f old : ℕ) (kind : Kind) → IsLawful base h → MayFollow base h (Open (Inner f) kind) →
+    at is_switch h f ≡ true →
     at (is_inner_of f) h old ≡ true → is_open h old ≡ true → marks_of base (h ++ Open (Inner f) kind ∷ []) f ≡ after_inner true (marks_of base h f)
 marks-inner_at_next base h f old kind law next switch inner o = marks-inner_next base h f old kind law next switch inner o
 
@@ -178,5 +204,6 @@ blank_quiet (Open place (Sub g)) n = refl
 blank_quiet (Connect g) n = refl
 blank_quiet _ n = refl
 
-pub quiet_new : (base : Kept) → (h : List Event) (e : Event) → IsLawful base h → MayFollow base h e → due_at e (marks_of base (h ++ e ∷ []) (length h)) (length h) ≡ None
+pub quiet_new : (base : Kept) → (h : List Event) (e : Event) → IsLawful base h → MayFollow base h e →
+    due_at e (marks_of base (h ++ e ∷ []) (length h)) (length h) ≡ None
 quiet_new base h e law next = ap (λ m. due_at e m (length h)) (marks-new base h e law next) ∙ blank_quiet e (length h)

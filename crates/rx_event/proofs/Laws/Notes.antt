@@ -1,5 +1,6 @@
 -- What each node is told: items, then at most one end, then nothing.
-use Rattle.std.proofs.Common.{◌≡◌, ℕ, ℤ, ◌<◌, ◌≤◌, Bool, true, false, List, [], ◌∷◌, ◌++◌, length, Some, None, cond, refl, sym, ap, ◌∙◌, arith, inl, inr, ◌⊎◌, ◌==◌, append-nil, filter, map, length-append}
+use Rattle.std.proofs.Common.{◌≡◌, ℕ, ℤ, ◌<◌, ◌≤◌, Bool, true, false, List, [], ◌∷◌, ◌++◌, length, Some, None, cond, refl}
+use Rattle.std.proofs.Common.{sym, ap, ◌∙◌, arith, inl, inr, ◌⊎◌, ◌==◌, append-nil, filter, map, length-append}
 use Rattle.std.proofs.Math.Bool.{not}
 use Rattle.std.specs.List.{AllByRecursion, list_all, filter_map}
 use Rattle.std.proofs.lemmas.Bool.{cases_Bool, cases_lt, both_ways, and_from, eqb-true}
@@ -38,7 +39,9 @@ notes_in n mail = map (λ m. m.note) (filter (λ m. m.to == n) mail)
 -- what n is told by one more event comes last
 pub notes_to-push : (h : List Event) (e : Event) (n : ℕ) → notes_to (h ++ e ∷ []) n ≡ notes_to h n ++ notes_in n (mail_of h e)
 notes_to-push h e n =
-    ap (notes_in n) (notes-push h e) ∙ ap (map (λ (m : Mail). m.note)) (filter-append (λ (m : Mail). m.to == n) (notes h) (mail_of h e)) ∙ map-append (λ (m : Mail). m.note) (filter (λ (m : Mail). m.to == n) (notes h)) (filter (λ (m : Mail). m.to == n) (mail_of h e))
+    ap (notes_in n) (notes-push h e) ∙
+    ap (map (λ (m : Mail). m.note)) (filter-append (λ (m : Mail). m.to == n) (notes h) (mail_of h e)) ∙
+    map-append (λ (m : Mail). m.note) (filter (λ (m : Mail). m.to == n) (notes h)) (filter (λ (m : Mail). m.to == n) (mail_of h e))
 
 -- one item ----------------------------------------------------------------------------------------
 
@@ -55,9 +58,12 @@ item_notes n place value ss = notes_in n (filter_map (told place value) ss)
 abbrev pub noted : Bool → Note → List Note → List Note
 noted b note rest = cond b (note ∷ rest) rest
 
-pub noted_to : (n to place : ℕ) (note : Note) (rest : List Mail) → notes_in n ((record { place = place; to = to; note = note }) ∷ rest) ≡ noted (to == n) note (notes_in n rest)
+pub noted_to : (n to place : ℕ) (note : Note) (rest : List Mail) →
+    notes_in n ((record { place = place; to = to; note = note }) ∷ rest) ≡ noted (to == n) note (notes_in n rest)
 noted_to n to place note rest = by_number (to == n) where
-  by_number : (b : Bool) → map (λ (m : Mail). m.note) (cond b ((record { place = place; to = to; note = note }) ∷ filter (λ m. m.to == n) rest) (filter (λ m. m.to == n) rest)) ≡ noted b note (notes_in n rest)
+  by_number : (b : Bool) →
+      map (λ (m : Mail). m.note) (cond b ((record { place = place; to = to; note = note }) ∷ filter (λ m. m.to == n) rest) (filter (λ m. m.to == n) rest)) ≡
+      noted b note (notes_in n rest)
   by_number true = refl
   by_number false = refl
 
@@ -69,8 +75,12 @@ noted_items false note rest item items = items
 item_notes_items : (n place : ℕ) (value : ℤ) (ss : List Stop) → list_all is_item_note (item_notes n place value ss) ≡ true
 item_notes_items n place value [] = refl
 item_notes_items n place value (Firing u ∷ ss) = item_notes_items n place value ss
-item_notes_items n place value (Delivery m ∷ ss) = rw (noted_to n m place (Next value) (filter_map (told place value) ss)) (noted_items (m == n) (Next value) (item_notes n place value ss) refl (item_notes_items n place value ss))
-item_notes_items n place value (Projection f ∷ ss) = rw (noted_to n f place (Project value) (filter_map (told place value) ss)) (noted_items (f == n) (Project value) (item_notes n place value ss) refl (item_notes_items n place value ss))
+item_notes_items n place value (Delivery m ∷ ss) =
+    rw (noted_to n m place (Next value) (filter_map (told place value) ss))
+    (noted_items (m == n) (Next value) (item_notes n place value ss) refl (item_notes_items n place value ss))
+item_notes_items n place value (Projection f ∷ ss) =
+    rw (noted_to n f place (Project value) (filter_map (told place value) ss))
+    (noted_items (f == n) (Project value) (item_notes n place value ss) refl (item_notes_items n place value ss))
 
 -- numbers that a test tells apart differ
 differ : (p : ℕ → Bool) (n m : ℕ) → p n ≡ false → p m ≡ true → (m == n) ≡ false
@@ -84,25 +94,34 @@ item_notes_closed : (h : List Event) (n place : ℕ) (value : ℤ) → is_open h
     item_notes n place value ss ≡ []
 item_notes_closed h n place value closed [] open_all = refl
 item_notes_closed h n place value closed (Firing u ∷ ss) open_all = item_notes_closed h n place value closed ss open_all.1
-item_notes_closed h n place value closed (Delivery m ∷ ss) open_all = rw (noted_to n m place (Next value) (filter_map (told place value) ss), differ (is_open h) n m closed open_all.0.0) (item_notes_closed h n place value closed ss open_all.1)
-item_notes_closed h n place value closed (Projection f ∷ ss) open_all = rw (noted_to n f place (Project value) (filter_map (told place value) ss), differ (is_open h) n f closed open_all.0.0) (item_notes_closed h n place value closed ss open_all.1)
+item_notes_closed h n place value closed (Delivery m ∷ ss) open_all =
+    rw (noted_to n m place (Next value) (filter_map (told place value) ss), differ (is_open h) n m closed open_all.0.0)
+    (item_notes_closed h n place value closed ss open_all.1)
+item_notes_closed h n place value closed (Projection f ∷ ss) open_all =
+    rw (noted_to n f place (Project value) (filter_map (told place value) ss), differ (is_open h) n f closed open_all.0.0)
+    (item_notes_closed h n place value closed ss open_all.1)
 
 -- and what is no root has it projected to it alone
 item_notes_projected : (h : List Event) (n place : ℕ) (value : ℤ) → at is_root h n ≡ false → (ss : List Stop) → AllByRecursion (StopsAtOpen h) ss →
     AllByRecursion IsProjected (item_notes n place value ss)
 item_notes_projected h n place value plain [] open_all = tt
 item_notes_projected h n place value plain (Firing u ∷ ss) open_all = item_notes_projected h n place value plain ss open_all.1
-item_notes_projected h n place value plain (Delivery m ∷ ss) open_all = rw (noted_to n m place (Next value) (filter_map (told place value) ss), differ (at is_root h) n m plain open_all.0.1) (item_notes_projected h n place value plain ss open_all.1)
-item_notes_projected h n place value plain (Projection f ∷ ss) open_all = rw (noted_to n f place (Project value) (filter_map (told place value) ss)) (by_number (f == n) (item_notes_projected h n place value plain ss open_all.1)) where
-  by_number : (b : Bool) → AllByRecursion IsProjected (item_notes n place value ss) →
-      AllByRecursion IsProjected (noted b (Project value) (item_notes n place value ss))
-  by_number true rest = ((value, refl), rest)
-  by_number false rest = rest
+item_notes_projected h n place value plain (Delivery m ∷ ss) open_all =
+    rw (noted_to n m place (Next value) (filter_map (told place value) ss), differ (at is_root h) n m plain open_all.0.1)
+    (item_notes_projected h n place value plain ss open_all.1)
+item_notes_projected h n place value plain (Projection f ∷ ss) open_all =
+    rw (noted_to n f place (Project value) (filter_map (told place value) ss)) (by_number (f == n) (item_notes_projected h n place value plain ss open_all.1))
+  where
+    by_number : (b : Bool) → AllByRecursion IsProjected (item_notes n place value ss) →
+        AllByRecursion IsProjected (noted b (Project value) (item_notes n place value ss))
+    by_number true rest = ((value, refl), rest)
+    by_number false rest = rest
 
 -- one event ---------------------------------------------------------------------------------------
 
 -- what is not open is told nothing
-pub mail_silent : (base : Kept) → (h : List Event) (e : Event) → IsLawful base h → MayFollow base h e → (n : ℕ) → is_open h n ≡ false → notes_in n (mail_of h e) ≡ []
+pub mail_silent : (base : Kept) → (h : List Event) (e : Event) → IsLawful base h → MayFollow base h e → (n : ℕ) → is_open h n ≡ false →
+    notes_in n (mail_of h e) ≡ []
 mail_silent base h (Item l value) law next n closed = item_notes_closed h n (length h) value closed (stops h l) (stops_open base h l law (may_emit base next))
 mail_silent base h (End m t) law next n closed = by_root (at is_root h m) where
   by_root : (b : Bool) → notes_in n (cond b ((record { place = length h; to = m; note = EndNote t }) ∷ []) []) ≡ []
@@ -113,7 +132,8 @@ mail_silent base h _ law next n closed = refl
 -- what is no root is told projected items alone
 mail_projected : (base : Kept) → (h : List Event) (e : Event) → IsLawful base h → MayFollow base h e → (n : ℕ) → at is_root h n ≡ false →
     AllByRecursion IsProjected (notes_in n (mail_of h e))
-mail_projected base h (Item l value) law next n plain = item_notes_projected h n (length h) value plain (stops h l) (stops_open base h l law (may_emit base next))
+mail_projected base h (Item l value) law next n plain =
+    item_notes_projected h n (length h) value plain (stops h l) (stops_open base h l law (may_emit base next))
 mail_projected base h (End m t) law next n plain = by_root (at is_root h m) refl where
   by_root : (b : Bool) → at is_root h m ≡ b → AllByRecursion IsProjected (notes_in n (cond b ((record { place = length h; to = m; note = EndNote t }) ∷ []) []))
   by_root true root = rw (noted_to n m (length h) (EndNote t) [], differ (at is_root h) n m plain root) tt
@@ -121,8 +141,10 @@ mail_projected base h (End m t) law next n plain = by_root (at is_root h m) refl
 mail_projected base h _ law next n plain = tt
 
 -- what is not open is told nothing more
-pub notes_silent : (base : Kept) → (h : List Event) (e : Event) → IsLawful base h → MayFollow base h e → (n : ℕ) → is_open h n ≡ false → notes_to (h ++ e ∷ []) n ≡ notes_to h n
-notes_silent base h e law next n closed = notes_to-push h e n ∙ ap (λ (ns : List Note). notes_to h n ++ ns) (mail_silent base h e law next n closed) ∙ append-nil (notes_to h n)
+pub notes_silent : (base : Kept) → (h : List Event) (e : Event) → IsLawful base h → MayFollow base h e → (n : ℕ) → is_open h n ≡ false →
+    notes_to (h ++ e ∷ []) n ≡ notes_to h n
+notes_silent base h e law next n closed =
+    notes_to-push h e n ∙ ap (λ (ns : List Note). notes_to h n ++ ns) (mail_silent base h e law next n closed) ∙ append-nil (notes_to h n)
 
 -- whole histories ---------------------------------------------------------------------------------
 
@@ -163,19 +185,24 @@ told_open base h (Item l value) next n items = told_more h (Item l value) n item
 told_open base h (End m t) next n items = told_end h m n t (may_end base next) items
 told_open base h e next n items = told_more h e n items refl
 
-told_closed : (base : Kept) → (h : List Event) (e : Event) → IsLawful base h → MayFollow base h e → (n : ℕ) → is_open h n ≡ false → Told h n → Told (h ++ e ∷ []) n
+told_closed : (base : Kept) → (h : List Event) (e : Event) → IsLawful base h → MayFollow base h e → (n : ℕ) → is_open h n ≡ false → Told h n →
+    Told (h ++ e ∷ []) n
 told_closed base h e law next n closed (going items) = going (rw (notes_silent base h e law next n closed) items)
-told_closed base h e law next n closed (over g l c) = over (rw (notes_silent base h e law next n closed) g) (omega (arith, length-append {A = Event})) (stays_closed h e n l c)
+told_closed base h e law next n closed (over g l c) =
+    over (rw (notes_silent base h e law next n closed) g) (omega (arith, length-append {A = Event})) (stays_closed h e n l c)
 
 told_none : (h : List Event) → notes h ≡ [] → (n : ℕ) → notes_to h n ≡ []
 told_none h none n = ap (λ (ms : List Mail). Rattle.std.specs.Prelude.map (λ m. m.note) (Rattle.std.specs.Prelude.filter (λ m. m.to == n) ms)) none
 
 told_always : (base : Kept) → (h : List Event) → IsLawful base h → (n : ℕ) → Told h n
-told_always base = by_events base (λ h. (n : ℕ) → Told h n) (λ s n. going (rw (told_none _ (made_untold (shown base) s.making) n) refl)) (λ h e law next before n. by_test h e law next n (before n) (is_open h n) refl) where
-  by_test : (h : List Event) (e : Event) → IsLawful base h → MayFollow base h e → (n : ℕ) → Told h n → (b : Bool) → is_open h n ≡ b → Told (h ++ e ∷ []) n
-  by_test h e law next n before false closed = told_closed base h e law next n closed before
-  by_test h e law next n (going items) true o = told_open base h e next n items
-  by_test h e law next n (over g l c) true o = absurd (both_ways _ c o)
+told_always base =
+    by_events base (λ h. (n : ℕ) → Told h n) (λ s n. going (rw (told_none _ (made_untold (shown base) s.making) n) refl))
+    (λ h e law next before n. by_test h e law next n (before n) (is_open h n) refl)
+  where
+    by_test : (h : List Event) (e : Event) → IsLawful base h → MayFollow base h e → (n : ℕ) → Told h n → (b : Bool) → is_open h n ≡ b → Told (h ++ e ∷ []) n
+    by_test h e law next n before false closed = told_closed base h e law next n closed before
+    by_test h e law next n (going items) true o = told_open base h e next n items
+    by_test h e law next n (over g l c) true o = absurd (both_ways _ c o)
 
 -- what each node is told obeys the grammar
 pub notes_grammatical : (base : Kept) → (h : List Event) → IsLawful base h → (n : ℕ) → IsGrammatical (notes_to h n)
@@ -186,9 +213,12 @@ notes_grammatical base h law n = by_told (told_always base h law n) where
 
 -- and of what is no root it is projected items
 pub notes_projected : (base : Kept) → (h : List Event) → IsLawful base h → (n : ℕ) → at is_root h n ≡ false → AllByRecursion IsProjected (notes_to h n)
-notes_projected base = by_events base (λ h. (n : ℕ) → at is_root h n ≡ false → AllByRecursion IsProjected (notes_to h n)) (λ s n plain. rw (told_none _ (made_untold (shown base) s.making) n) tt) (λ h e law next before n plain.
+notes_projected base =
+    by_events base (λ h. (n : ℕ) → at is_root h n ≡ false → AllByRecursion IsProjected (notes_to h n))
+    (λ s n plain. rw (told_none _ (made_untold (shown base) s.making) n) tt) (λ h e law next before n plain.
     let old : at is_root h n ≡ false = plain_before h e n plain (cases_lt n (length h)) in
-    rw (notes_to-push h e n) (AllByRecursion-both IsProjected (notes_to h n) (notes_in n (mail_of h e)) (before n old) (mail_projected base h e law next n old)))
+    rw (notes_to-push h e n) (AllByRecursion-both IsProjected (notes_to h n) (notes_in n (mail_of h e)) (before n old)
+    (mail_projected base h e law next n old)))
   where
     plain_before : (h : List Event) (e : Event) (n : ℕ) → at is_root (h ++ e ∷ []) n ≡ false → (n < length h) ⊎ (length h ≤ n) → at is_root h n ≡ false
     plain_before h e n plain (inl l) = sym (at-append is_root h (e ∷ []) n l) ∙ plain

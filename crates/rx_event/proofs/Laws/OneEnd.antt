@@ -1,5 +1,6 @@
 -- All that is due in a lawful history ends in one way: as what was ended in this step did, or by a completion.
-use Rattle.std.proofs.Common.{◌≡◌, ℕ, ◌<◌, ◌≤◌, Bool, true, false, List, [], ◌∷◌, ◌++◌, length, Option, Some, None, cond, refl, sym, ap, ◌∙◌, arith, inl, inr, ◌⊎◌, ◌==◌, slice_get}
+use Rattle.std.proofs.Common.{◌≡◌, ℕ, ◌<◌, ◌≤◌, Bool, true, false, List, [], ◌∷◌, ◌++◌, length, Option, Some}
+use Rattle.std.proofs.Common.{None, cond, refl, sym, ap, ◌∙◌, arith, inl, inr, ◌⊎◌, ◌==◌, slice_get}
 use Rattle.std.proofs.Math.Bool.{not, ◌&&◌}
 use Rattle.std.specs.List.{list_any}
 use Rattle.std.specs.Option.{option_map_or}
@@ -76,7 +77,10 @@ child_ended_before base h e law n u c = by_place (cases_push h e (End c.child u)
   by_place (inl found) =
       let l : c.child < length h = ended_older base h law c.ended.place (End c.child u) found c.child u refl in
       let below : parent h c.child ≡ Some n = sym (parent-append h (e ∷ []) c.child l) ∙ c.below in
-      inl (record { child = c.child; below = below; ended = record { place = c.ended.place; found = found } }, (let p = parent-lt h c.child n below in omega arith))
+      inl (
+        record { child = c.child; below = below; ended = record { place = c.ended.place; found = found } },
+        (let p = parent-lt h c.child n below in omega arith),
+      )
 
 pub source_ended_before : (base : Kept) → (h : List Event) (e : Event) → IsLawful base h → (n : ℕ) (u : Terminal) → SourceEnded (h ++ e ∷ []) n u →
     (SourceEnded h n u × (n < length h)) ⊎ (ends_as e ≡ Some u)
@@ -164,7 +168,8 @@ not_completing h n (Open place kind) silent = refl
 not_completing h n _ silent = refl
 
 -- a completion that is due without such an event was due before
-completed_before : (base : Kept) → (h : List Event) (e : Event) → IsLawful base h → MayFollow base h e → (n : ℕ) → completes e ≡ false → is_open (h ++ e ∷ []) n ≡ true →
+completed_before : (base : Kept) → (h : List Event) (e : Event) → IsLawful base h → MayFollow base h e → (n : ℕ) → completes e ≡ false →
+    is_open (h ++ e ∷ []) n ≡ true →
     at is_merging (h ++ e ∷ []) n ≡ true → ((code : ℕ) → ¬ ChildEnded (h ++ e ∷ []) n (Error code)) → source_completed base (h ++ e ∷ []) n ≡ true →
     ((c : ℕ) → parent (h ++ e ∷ []) c ≡ Some n → is_open (h ++ e ∷ []) c ≡ false) → owed base (h ++ e ∷ []) n ≡ 0 →
     IsDue base h (End n Completed)
@@ -179,7 +184,11 @@ completed_before base h e law next n silent o merging unfailed source closed pai
   failed_after code c = unfailed code (record {
     child = c.child;
     below = from_child c.child (parent_within h c.child n c.below) c.below;
-    ended = record { place = c.ended.place; found = slice_get-append h (e ∷ []) c.ended.place (slice_get_within h c.ended.place _ c.ended.found) ∙ c.ended.found };
+    ended =
+        record {
+          place = c.ended.place;
+          found = slice_get-append h (e ∷ []) c.ended.place (slice_get_within h c.ended.place _ c.ended.found) ∙ c.ended.found;
+        };
   })
 
   shut_apart : (k : ℕ) → parent h k ≡ Some n → shuts h k e ≡ true → ⊥
@@ -199,15 +208,27 @@ completed_before base h e law next n silent o merging unfailed source closed pai
   not_now = not_completing h n e silent
 
   source_old : source_completed base h n ≡ true
-  source_old = sym (or_false (source_completed base h n)) ∙ ap (λ x. source_completed base h n || x) (sym not_now) ∙ sym (source_completed-push base h e law next n) ∙ source
+  source_old =
+      sym (or_false (source_completed base h n)) ∙
+      ap (λ x. source_completed base h n || x) (sym not_now) ∙
+      sym (source_completed-push base h e law next n) ∙
+      source
 
   whole_case : (n < length h) ⊎ (length h ≤ n) → IsDue base h (End n Completed)
   whole_case (inr past) = absurd (by_child (source_completed_is base h n)) where
     child : list_any (completes_source h n) h ≡ true → ⊥
-    child some = let r = source_completed_true base h n some in let below = parent-lt h r.0 n (source_parent base h law n r.0 r.1) in let w = parent_within h r.0 n (source_parent base h law n r.0 r.1) in absurd (omega arith)
+    child some =
+        let r = source_completed_true base h n some in
+        let below = parent-lt h r.0 n (source_parent base h law n r.0 r.1) in
+        let w = parent_within h r.0 n (source_parent base h law n r.0 r.1) in
+        absurd (omega arith)
 
     by_child : source_completed base h n ≡ (option_map_or (λ k. k.source_completed) (node_kept base n) false || list_any (completes_source h n) h) → ⊥
-    by_child split = child (sym (ap (λ k. option_map_or (λ x. x.source_completed) k false || list_any (completes_source h n) h) (law.started.unkept n (let w = shown_within base h law in omega arith))) ∙ sym split ∙ source_old)
+    by_child split =
+        child (sym (ap (λ k. option_map_or (λ x. x.source_completed) k false || list_any (completes_source h n) h)
+        (law.started.unkept n (let w = shown_within base h law in omega arith))) ∙
+        sym split ∙
+        source_old)
   whole_case (inl n_old) =
       let stays = and_parts (is_open h n) (not (is_cut h e n)) (sym (is_open_cut h e n n_old) ∙ o) in
       let whole : is_cut h e n ≡ false = not_false (is_cut h e n) stays.1 in
@@ -219,7 +240,8 @@ completed_before base h e law next n silent o merging unfailed source closed pai
       now_closed (is_open h k) (is_cut h e k) (sym (is_open_cut h e k k_old) ∙ gone) (cut_apart k below whole (shuts h k e) refl)) (omega arith)
 
 -- what is due after the event was due before, or the event is its reason
-pub due_before : (base : Kept) → (h : List Event) (e : Event) → IsLawful base h → MayFollow base h e → (n : ℕ) (u : Terminal) → IsDue base (h ++ e ∷ []) (End n u) →
+pub due_before : (base : Kept) → (h : List Event) (e : Event) → IsLawful base h → MayFollow base h e → (n : ℕ) (u : Terminal) →
+    IsDue base (h ++ e ∷ []) (End n u) →
     IsDue base h (End n u) ⊎ IsReason h e n u
 due_before base h e law next n u (mirrored o m c) = by_case (child_ended_before base h e law n u c) where
   by_case : (ChildEnded h n u × (n < length h)) ⊎ (ends_as e ≡ Some u) → IsDue base h (End n u) ⊎ IsReason h e n u
@@ -229,14 +251,15 @@ due_before base h e law next n u (failed {c = code} o m c) = by_case (child_ende
   by_case : (ChildEnded h n (Error code) × (n < length h)) ⊎ (ends_as e ≡ Some (Error code)) → IsDue base h (End n (Error code)) ⊎ IsReason h e n (Error code)
   by_case (inr now) = inr (ends_so now)
   by_case (inl old) = inl (failed (open_old h e n old.1 o) (sym (at-append is_merging h (e ∷ []) n old.1) ∙ m) old.0)
-due_before base h e law next n u (fired o m f) = by_fired (or_cases (is_fired h n) (list_any (is_firing_of n) (stops_of h e)) (sym (is_fired-push h e n) ∙ f)) where
-  by_old : is_fired h n ≡ true → (n < length h) ⊎ (length h ≤ n) → IsDue base h (End n Completed) ⊎ IsReason h e n Completed
-  by_old before (inl l) = inl (fired (open_old h e n l o) (sym (at-append is_until h (e ∷ []) n l) ∙ m) before)
-  by_old before (inr past) = absurd (both_ways (is_fired h n) (fired_past base h law n past) before)
+due_before base h e law next n u (fired o m f) = by_fired (or_cases (is_fired h n) (list_any (is_firing_of n) (stops_of h e)) (sym (is_fired-push h e n) ∙ f))
+  where
+    by_old : is_fired h n ≡ true → (n < length h) ⊎ (length h ≤ n) → IsDue base h (End n Completed) ⊎ IsReason h e n Completed
+    by_old before (inl l) = inl (fired (open_old h e n l o) (sym (at-append is_until h (e ∷ []) n l) ∙ m) before)
+    by_old before (inr past) = absurd (both_ways (is_fired h n) (fired_past base h law n past) before)
 
-  by_fired : (is_fired h n ≡ true) ⊎ (list_any (is_firing_of n) (stops_of h e) ≡ true) → IsDue base h (End n Completed) ⊎ IsReason h e n Completed
-  by_fired (inr now) = inr (fires_it now refl)
-  by_fired (inl before) = by_old before (cases_lt n (length h))
+    by_fired : (is_fired h n ≡ true) ⊎ (list_any (is_firing_of n) (stops_of h e) ≡ true) → IsDue base h (End n Completed) ⊎ IsReason h e n Completed
+    by_fired (inr now) = inr (fires_it now refl)
+    by_fired (inl before) = by_old before (cases_lt n (length h))
 due_before base h e law next n u (completed o m unfailed source closed paid) = by_test (completes e) refl where
   by_test : (b : Bool) → completes e ≡ b → IsDue base h (End n Completed) ⊎ IsReason h e n Completed
   by_test true now = inr (completes_one now refl)
@@ -263,7 +286,8 @@ reason_end h e n u (fires_it now whole) = by_event e now ∙ ap (λ t. Some t) (
   by_event (Item leaf v) fires = refl
   by_event _ fires = absurd (false≢true fires)
 
-due_or_now : (base : Kept) → (h : List Event) (e : Event) (n : ℕ) (u : Terminal) → IsDue base h (End n u) ⊎ IsReason h e n u → IsDue base h (End n u) ⊎ (end_by e ≡ Some u)
+due_or_now : (base : Kept) → (h : List Event) (e : Event) (n : ℕ) (u : Terminal) → IsDue base h (End n u) ⊎ IsReason h e n u →
+    IsDue base h (End n u) ⊎ (end_by e ≡ Some u)
 due_or_now base h e n u (inl before) = inl before
 due_or_now base h e n u (inr now) = inr (reason_end h e n u now)
 
@@ -271,7 +295,8 @@ none_due : (base : Kept) → (h : List Event) (e : Event) → IsSettled base h �
 none_due base h e settled d = settled.none e (due (settled_connected base h settled) d)
 
 -- what an event makes due ends as what was due before it
-end_alike : (base : Kept) → (h : List Event) (e : Event) → MayFollow base h e → ((n m : ℕ) (t u : Terminal) → IsDue base h (End n t) → IsDue base h (End m u) → t ≡ u) →
+end_alike : (base : Kept) → (h : List Event) (e : Event) → MayFollow base h e →
+    ((n m : ℕ) (t u : Terminal) → IsDue base h (End n t) → IsDue base h (End m u) → t ≡ u) →
     (n : ℕ) (t u : Terminal) → IsDue base h (End n t) → end_by e ≡ Some u → u ≡ t
 end_alike base h e (allowed settled a) before n t u d now = absurd (none_due base h (End n t) settled d)
 end_alike base h e (opened_with at_n l o) before n t u d now = absurd (none-some u now)
@@ -286,7 +311,8 @@ nothing_due : (base : Kept) → (n : ℕ) (t : Terminal) → IsDue base [] (End 
 nothing_due base n t d = let l = is_open_within [] n (due_open base d) in omega arith
 
 -- the ways in which two that are due now came to be so
-same_end : (base : Kept) → (h : List Event) (e : Event) → MayFollow base h e → ((n m : ℕ) (t u : Terminal) → IsDue base h (End n t) → IsDue base h (End m u) → t ≡ u) →
+same_end : (base : Kept) → (h : List Event) (e : Event) → MayFollow base h e →
+    ((n m : ℕ) (t u : Terminal) → IsDue base h (End n t) → IsDue base h (End m u) → t ≡ u) →
     (n m : ℕ) (t u : Terminal) → IsDue base h (End n t) ⊎ (end_by e ≡ Some t) → IsDue base h (End m u) ⊎ (end_by e ≡ Some u) → t ≡ u
 same_end base h e next before n m t u (inl a) (inl b) = before n m t u a b
 same_end base h e next before n m t u (inr a) (inr b) = same_Some t u (sym a ∙ b)
@@ -295,10 +321,14 @@ same_end base h e next before n m t u (inr a) (inl b) = end_alike base h e next 
 
 -- two ends that are due in a lawful history are alike
 pub one_end : (base : Kept) → (h : List Event) → IsLawful base h → (n m : ℕ) (t u : Terminal) → IsDue base h (End n t) → IsDue base h (End m u) → t ≡ u
-one_end base = by_events base (λ h. (n m : ℕ) (t u : Terminal) → IsDue base h (End n t) → IsDue base h (End m u) → t ≡ u) (λ s n m t u a c. absurd (s.undue n t a)) (λ h e law next before n m t u a b. same_end base h e next before n m t u (due_or_now base h e n t (due_before base h e law next n t a)) (due_or_now base h e m u (due_before base h e law next m u b)))
+one_end base =
+    by_events base (λ h. (n m : ℕ) (t u : Terminal) → IsDue base h (End n t) → IsDue base h (End m u) → t ≡ u) (λ s n m t u a c. absurd (s.undue n t a))
+    (λ h e law next before n m t u a b. same_end base h e next before n m t u (due_or_now base h e n t (due_before base h e law next n t a))
+    (due_or_now base h e m u (due_before base h e law next m u b)))
 
 -- what is due to end a node in a lawful history, but for the end of a connection, is what its marks say
-pub due_by_marks_alone : (base : Kept) → (h : List Event) → IsLawful base h → (n : ℕ) (made : Event) (t : Terminal) → is_open h n ≡ true → slice_get h n ≡ Some made →
+pub due_by_marks_alone : (base : Kept) → (h : List Event) → IsLawful base h → (n : ℕ) (made : Event) (t : Terminal) → is_open h n ≡ true →
+    slice_get h n ≡ Some made →
     ¬ SourceEnded h n t → IsDue base h (End n t) → due_at made (marks_of base h n) n ≡ Some (End n t)
 due_by_marks_alone base h law n made t o at_n whole d =
     let w = due_by_marks base h n made t at_n whole d in

@@ -1,5 +1,6 @@
 -- Which nodes are open after one more event.
-use Rattle.std.proofs.Common.{◌≡◌, ℕ, zero, suc, ◌<◌, ◌≤◌, Bool, true, false, List, [], ◌∷◌, ◌++◌, length, drop, Option, Some, None, refl, sym, ap, ◌∙◌, arith, inl, inr, ◌⊎◌, nat_lt, length-append, append-nil, append_assoc}
+use Rattle.std.proofs.Common.{◌≡◌, ℕ, zero, suc, ◌<◌, ◌≤◌, Bool, true, false, List, [], ◌∷◌, ◌++◌, length, drop, Option, Some}
+use Rattle.std.proofs.Common.{None, refl, sym, ap, ◌∙◌, arith, inl, inr, ◌⊎◌, nat_lt, length-append, append-nil, append_assoc}
 use Rattle.std.proofs.Math.Bool.{not, ◌&&◌, ◌||◌}
 use Rattle.std.specs.List.{list_any, list_all, AllByRecursion}
 use Rattle.std.specs.Option.{option_and_then, option_map_or}
@@ -50,7 +51,11 @@ shuts-append h t n l (Take r) = refl
 pub is_shut-push : (h : List Event) (e : Event) (n : ℕ) → n < length h → is_shut (h ++ e ∷ []) n ≡ (is_shut h n || shuts h n e)
 unfolding is_shut
 is_shut-push h e n l =
-    rw (drop-append-le (suc n) h (e ∷ []) (omega arith), list_any-same (shuts (h ++ e ∷ []) n) (shuts h n) (shuts-append h (e ∷ []) n l) (drop (suc n) h ++ e ∷ []), list_any-append (shuts h n) (drop (suc n) h) (e ∷ []))
+    rw (
+      drop-append-le (suc n) h (e ∷ []) (omega arith),
+      list_any-same (shuts (h ++ e ∷ []) n) (shuts h n) (shuts-append h (e ∷ []) n l) (drop (suc n) h ++ e ∷ []),
+      list_any-append (shuts h n) (drop (suc n) h) (e ∷ []),
+    )
     (ap (λ b. list_any (shuts h n) (drop (suc n) h) || b) (or_false (shuts h n e)))
   where
     or_false : (b : Bool) → (b || false) ≡ b
@@ -91,7 +96,11 @@ pub is_open-push : (h : List Event) (e : Event) (n : ℕ) → n < length h →
     is_open (h ++ e ∷ []) n ≡ (is_open h n && list_all (λ a. not (shuts h a e)) (ancestors h n))
 unfolding is_open
 is_open-push h e n l =
-    rw (ancestors-append h (e ∷ []) n l, list_all-same (λ a. a ≤ n) (is_standing (h ++ e ∷ [])) (λ a. is_standing h a && not (shuts h a e)) (λ a b. standing-push h e a (omega arith)) (ancestors h n) (ancestors-le h n))
+    rw (
+      ancestors-append h (e ∷ []) n l,
+      list_all-same (λ a. a ≤ n) (is_standing (h ++ e ∷ [])) (λ a. is_standing h a && not (shuts h a e)) (λ a b. standing-push h e a (omega arith))
+          (ancestors h n) (ancestors-le h n),
+    )
     (list_all-and (is_standing h) (λ a. not (shuts h a e)) (ancestors h n))
 
 -- a node is open where it stands and its parent is open
@@ -137,7 +146,8 @@ and_true false = refl
 
 -- an item, an acceptance and the like leave each node as it was
 pub is_open_kept : (h : List Event) (e : Event) (n : ℕ) → n < length h → shuts_none e ≡ true → is_open (h ++ e ∷ []) n ≡ is_open h n
-is_open_kept h e n l s = rw (is_open-push h e n l, list_all_yes (λ a. not (shuts h a e)) (λ a. ap not (not_shut h a e s)) (ancestors h n)) (and_true (is_open h n))
+is_open_kept h e n l s =
+    rw (is_open-push h e n l, list_all_yes (λ a. not (shuts h a e)) (λ a. ap not (not_shut h a e s)) (ancestors h n)) (and_true (is_open h n))
 
 -- the event takes away n, or a node above it
 abbrev pub is_cut : List Event → Event → ℕ → Bool
@@ -175,14 +185,17 @@ pub is_open_last : (h : List Event) (e : Event) → shuts_none e ≡ true →
 unfolding parent
 is_open_last h e s =
     rw (is_open_step (h ++ e ∷ []) (length h), is_shut_last h e, slice_get_last h e)
-    (and_same (makes_node e) _ _ (option_map_or-same (is_open (h ++ e ∷ [])) (is_open h) (option_and_then (if_less (length h)) (parent_named e)) true (λ p o. is_open_kept h e p (less (parent_named e) p o) s)))
+    (and_same (makes_node e) _ _
+    (option_map_or-same (is_open (h ++ e ∷ [])) (is_open h) (option_and_then (if_less (length h)) (parent_named e)) true
+    (λ p o. is_open_kept h e p (less (parent_named e) p o) s)))
   where
     and_same : (a b c : Bool) → b ≡ c → ((a && true) && b) ≡ (a && c)
     and_same true b c e = e
     and_same false b c e = refl
 
     less : (o : Option ℕ) (p : ℕ) → option_and_then (if_less (length h)) o ≡ Some p → p < length h
-    less o p e = option_and_then_some (if_less (length h)) o p e (λ x a b. let w = cond_some (nat_lt x (length h)) x p b in rw (← w.1) (ltb-true x (length h) w.0))
+    less o p e =
+        option_and_then_some (if_less (length h)) o p e (λ x a b. let w = cond_some (nat_lt x (length h)) x p b in rw (← w.1) (ltb-true x (length h) w.0))
 
 -- an open node is in the history
 pub is_open_within : (h : List Event) (n : ℕ) → is_open h n ≡ true → n < length h
@@ -196,7 +209,8 @@ pub open_before : (h : List Event) (e : Event) (p : ℕ) → makes_node e ≡ fa
 open_before h e p no_node o = by_place (cases_order p (length h)) where
   by_place : (p ≡ length h) ⊎ ((p < length h) ⊎ (length h < p)) → is_open h p ≡ true
   by_place (inr (inl l)) = (and_parts _ _ (sym (is_open-push h e p l) ∙ o)).0
-  by_place (inl same) = absurd (both_ways _ (is_open_step (h ++ e ∷ []) (length h) ∙ rw (slice_get_last h e, no_node) refl) (ap (is_open (h ++ e ∷ [])) (sym same) ∙ o))
+  by_place (inl same) =
+      absurd (both_ways _ (is_open_step (h ++ e ∷ []) (length h) ∙ rw (slice_get_last h e, no_node) refl) (ap (is_open (h ++ e ∷ [])) (sym same) ∙ o))
   by_place (inr (inr g)) = let l = is_open_within (h ++ e ∷ []) p o in absurd (omega (arith, length-append {A = Event}))
 
 -- an event that neither shuts nor makes a node leaves each number as it was
@@ -204,7 +218,8 @@ pub is_open_unchanged : (h : List Event) (e : Event) → shuts_none e ≡ true �
 is_open_unchanged h e s no_node n = by_place (cases_order n (length h)) where
   by_place : (n ≡ length h) ⊎ ((n < length h) ⊎ (length h < n)) → is_open (h ++ e ∷ []) n ≡ is_open h n
   by_place (inr (inl l)) = is_open_kept h e n l s
-  by_place (inl same) = ap (is_open (h ++ e ∷ [])) same ∙ (is_open_step (h ++ e ∷ []) (length h) ∙ rw (slice_get_last h e, no_node) refl) ∙ sym (is_open_past h n (omega arith))
+  by_place (inl same) =
+      ap (is_open (h ++ e ∷ [])) same ∙ (is_open_step (h ++ e ∷ []) (length h) ∙ rw (slice_get_last h e, no_node) refl) ∙ sym (is_open_past h n (omega arith))
   by_place (inr (inr g)) = is_open_past (h ++ e ∷ []) n (omega (arith, length-append {A = Event})) ∙ sym (is_open_past h n (omega arith))
 
 list_any_never : {X : Type 0} (P : X → Type 0) (p : X → Bool) → ((x : X) → P x → p x ≡ false) → (xs : List X) → AllByRecursion P xs → list_any p xs ≡ false
@@ -213,9 +228,12 @@ list_any_never P p never (x ∷ xs) a = rw (never x a.0) (list_any_never P p nev
 
 -- the opening of an inner cuts nothing at or above its parent
 pub is_cut_inner : (h : List Event) (f : ℕ) (kind : Kind) (n : ℕ) → n ≤ f → is_cut h (Open (Inner f) kind) n ≡ false
-is_cut_inner h f kind n l = list_any_never (λ a. a ≤ n) (λ a. is_switched_inner h f a) (λ a b. let above : nat_lt f a ≡ false = ltb_not f a (omega arith) in rw above refl) (ancestors h n) (ancestors-le h n) where
-  ltb_not : (m n : ℕ) → n ≤ m → nat_lt m n ≡ false
-  ltb_not m n le = le-ltb m n le
+is_cut_inner h f kind n l =
+    list_any_never (λ a. a ≤ n) (λ a. is_switched_inner h f a) (λ a b. let above : nat_lt f a ≡ false = ltb_not f a (omega arith) in rw above refl)
+    (ancestors h n) (ancestors-le h n)
+  where
+    ltb_not : (m n : ℕ) → n ≤ m → nat_lt m n ≡ false
+    ltb_not m n le = le-ltb m n le
 
 -- nor does that of a FlatMap cut anything
 pub is_cut_inner_flat : (h : List Event) (f : ℕ) (kind : Kind) → at is_switch h f ≡ false → (n : ℕ) → is_cut h (Open (Inner f) kind) n ≡ false
@@ -232,9 +250,12 @@ is_cut_inner_flat h f kind flat n = none (ancestors h n) where
 pub is_open_made : (h : List Event) (e : Event) (p : ℕ) → makes_node e ≡ true → parent_named e ≡ Some p → is_open h p ≡ true → is_cut h e p ≡ false →
     is_open (h ++ e ∷ []) (length h) ≡ true
 unfolding parent
-is_open_made h e p node named o kept = is_open_step (h ++ e ∷ []) (length h) ∙ rw (is_shut_last h e, slice_get_last h e, node, named, lt-ltb p (length h) l) (is_open_cut h e p l ∙ rw (o, kept) refl) where
-  l : p < length h
-  l = is_open_within h p o
+is_open_made h e p node named o kept =
+    is_open_step (h ++ e ∷ []) (length h) ∙
+    rw (is_shut_last h e, slice_get_last h e, node, named, lt-ltb p (length h) l) (is_open_cut h e p l ∙ rw (o, kept) refl)
+  where
+    l : p < length h
+    l = is_open_within h p o
 
 -- an event that makes no node opens none
 pub is_open_last_none : (h : List Event) (e : Event) → makes_node e ≡ false → is_open (h ++ e ∷ []) (length h) ≡ false
@@ -248,10 +269,15 @@ parent_open h n p o below = (and_parts _ _ (sym (is_open_step h n ∙ ap (λ q. 
 
 -- a node whose parent is not open is not open
 pub closed_below : (h : List Event) (n p : ℕ) → parent h n ≡ Some p → is_open h p ≡ false → is_open h n ≡ false
-closed_below h n p below closed = is_open_step h n ∙ ap (λ q. is_standing h n && option_map_or (is_open h) q true) below ∙ ap (λ b. is_standing h n && b) closed ∙ and_false (is_standing h n) where
-  and_false : (b : Bool) → (b && false) ≡ false
-  and_false true = refl
-  and_false false = refl
+closed_below h n p below closed =
+    is_open_step h n ∙
+    ap (λ q. is_standing h n && option_map_or (is_open h) q true) below ∙
+    ap (λ b. is_standing h n && b) closed ∙
+    and_false (is_standing h n)
+  where
+    and_false : (b : Bool) → (b && false) ≡ false
+    and_false true = refl
+    and_false false = refl
 
 -- what is not open stays so, whatever comes
 pub stays_closed : (h : List Event) (e : Event) (n : ℕ) → n < length h → is_open h n ≡ false → is_open (h ++ e ∷ []) n ≡ false
@@ -259,7 +285,8 @@ stays_closed h e n l closed = is_open_cut h e n l ∙ ap (λ b. b && not (is_cut
 
 pub stays_closed_after : (h t : List Event) (n : ℕ) → n < length h → is_open h n ≡ false → is_open (h ++ t) n ≡ false
 stays_closed_after h [] n l closed = rw (append-nil h) closed
-stays_closed_after h (e ∷ t) n l closed = rw (← append_assoc h (e ∷ []) t) (stays_closed_after (h ++ e ∷ []) t n (omega (arith, length-append {A = Event})) (stays_closed h e n l closed))
+stays_closed_after h (e ∷ t) n l closed =
+    rw (← append_assoc h (e ∷ []) t) (stays_closed_after (h ++ e ∷ []) t n (omega (arith, length-append {A = Event})) (stays_closed h e n l closed))
 
 -- what an end and a closing close ------------------------------------------------------------------
 

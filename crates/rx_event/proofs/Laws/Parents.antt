@@ -1,5 +1,6 @@
 -- Parents and ancestors in a longer history.
-use Rattle.std.proofs.Common.{◌≡◌, ℕ, zero, suc, ◌<◌, ◌≤◌, true, false, List, [], ◌∷◌, ◌++◌, length, Option, Some, None, refl, sym, ap, ◌∙◌, arith, inl, inr, ◌⊎◌, nat_lt, ◌==◌, slice_get}
+use Rattle.std.proofs.Common.{◌≡◌, ℕ, zero, suc, ◌<◌, ◌≤◌, true, false, List, [], ◌∷◌, ◌++◌, length, Option}
+use Rattle.std.proofs.Common.{Some, None, refl, sym, ap, ◌∙◌, arith, inl, inr, ◌⊎◌, nat_lt, ◌==◌, slice_get}
 use Rattle.std.specs.List.{AllByRecursion, list_any}
 use Rattle.std.specs.Option.{option_and_then, option_map_or}
 use Rattle.std.proofs.lemmas.Bool.{ltb-true, eqb-true, or_cases, or_right, false≢true}
@@ -13,7 +14,9 @@ use Rattle.rx_event.proofs.Laws.Places.{slice_get-append}
 -- parents have smaller numbers
 pub parent-lt : (h : List Event) (n p : ℕ) → parent h n ≡ Some p → p < n
 unfolding parent
-parent-lt h n p e = option_and_then_some (if_less n) (option_and_then parent_named (slice_get h n)) p e (λ x a b. let w = cond_some (nat_lt x n) x p b in rw (← w.1) (ltb-true x n w.0))
+parent-lt h n p e =
+    option_and_then_some (if_less n) (option_and_then parent_named (slice_get h n)) p e
+    (λ x a b. let w = cond_some (nat_lt x n) x p b in rw (← w.1) (ltb-true x n w.0))
 
 pub parent-append : (h t : List Event) (n : ℕ) → n < length h → parent (h ++ t) n ≡ parent h n
 unfolding parent
@@ -40,18 +43,26 @@ ancestors_enough (suc k) zero h n a b =
     let e : parent h n ≡ None = rw z (no_parent_of_zero h (parent h 0) refl) in
     rw e refl
 ancestors_enough (suc k) (suc j) h n a b =
-    ap (λ (xs : List ℕ). n ∷ xs) (option_map_or-same (ancestors_within k h) (ancestors_within j h) (parent h n) [] (λ p e. let l : p < n = parent-lt h n p e in ancestors_enough k j h p (omega arith) (omega arith)))
+    ap (λ (xs : List ℕ). n ∷ xs)
+    (option_map_or-same (ancestors_within k h) (ancestors_within j h) (parent h n) []
+    (λ p e. let l : p < n = parent-lt h n p e in ancestors_enough k j h p (omega arith) (omega arith)))
 
 -- n, and then the ancestors of its parent
 pub ancestors_step : (h : List Event) (n : ℕ) → ancestors h n ≡ n ∷ option_map_or (ancestors h) (parent h n) []
 unfolding ancestors
 ancestors_step h n =
-    ancestors_enough n (suc n) h n (omega arith) (omega arith) ∙ ap (λ (xs : List ℕ). n ∷ xs) (option_map_or-same (ancestors_within n h) (λ p. ancestors_within p h p) (parent h n) [] (λ p e. let l : p < n = parent-lt h n p e in ancestors_enough n p h p (omega arith) (omega arith)))
+    ancestors_enough n (suc n) h n (omega arith) (omega arith) ∙
+    ap (λ (xs : List ℕ). n ∷ xs)
+    (option_map_or-same (ancestors_within n h) (λ p. ancestors_within p h p) (parent h n) []
+    (λ p e. let l : p < n = parent-lt h n p e in ancestors_enough n p h p (omega arith) (omega arith)))
 
 ancestors_within-append : (k : ℕ) (h t : List Event) (n : ℕ) → n < length h → ancestors_within k (h ++ t) n ≡ ancestors_within k h n
 ancestors_within-append zero h t n l = refl
 ancestors_within-append (suc k) h t n l =
-    rw (parent-append h t n l) (ap (λ (xs : List ℕ). n ∷ xs) (option_map_or-same (ancestors_within k (h ++ t)) (ancestors_within k h) (parent h n) [] (λ p e. let s : p < n = parent-lt h n p e in ancestors_within-append k h t p (omega arith))))
+    rw (parent-append h t n l)
+    (ap (λ (xs : List ℕ). n ∷ xs)
+    (option_map_or-same (ancestors_within k (h ++ t)) (ancestors_within k h) (parent h n) []
+    (λ p e. let s : p < n = parent-lt h n p e in ancestors_within-append k h t p (omega arith))))
 
 -- ancestors stay as they were
 pub ancestors-append : (h t : List Event) (n : ℕ) → n < length h → ancestors (h ++ t) n ≡ ancestors h n
@@ -74,13 +85,15 @@ ancestors-le h n = ancestors_within-le n h n n (omega arith)
 pub parent_within : (h : List Event) (c p : ℕ) → parent h c ≡ Some p → c < length h
 unfolding parent
 parent_within h c p below =
-    option_and_then_some (if_less c) (option_and_then parent_named (slice_get h c)) p below (λ x a b. option_and_then_some parent_named (slice_get h c) x a (λ e at_c named. slice_get_within h c e at_c))
+    option_and_then_some (if_less c) (option_and_then parent_named (slice_get h c)) p below
+    (λ x a b. option_and_then_some parent_named (slice_get h c) x a (λ e at_c named. slice_get_within h c e at_c))
 
 -- a node with a parent names it
 pub parent_name : (h : List Event) (n p : ℕ) (e : Event) → parent h n ≡ Some p → slice_get h n ≡ Some e → parent_named e ≡ Some p
 unfolding parent
 parent_name h n p e below at_n =
-    option_and_then_some (if_less n) (option_and_then parent_named (slice_get h n)) p below (λ x a b. sym (ap (option_and_then parent_named) at_n) ∙ a ∙ ap Some (cond_some (nat_lt x n) x p b).1)
+    option_and_then_some (if_less n) (option_and_then parent_named (slice_get h n)) p below
+    (λ x a b. sym (ap (option_and_then parent_named) at_n) ∙ a ∙ ap Some (cond_some (nat_lt x n) x p b).1)
 
 names_no_parent : (e : Event) → makes_node e ≡ false → parent_named e ≡ None
 names_no_parent (Open place kind) n = cc
@@ -90,16 +103,19 @@ names_no_parent _ n = refl
 
 -- n is within c where it is c, or its parent is within c
 pub within_cases : (h : List Event) (c n : ℕ) → is_within h c n ≡ true → (c ≡ n) ⊎ ((p : ℕ) × (parent h n ≡ Some p) × (is_within h c p ≡ true))
-within_cases h c n within = by_number (or_cases (c == n) (list_any (λ a. c == a) (option_map_or (ancestors h) (parent h n) [])) (ap (list_any (λ a. c == a)) (sym (ancestors_step h n)) ∙ within)) where
-  by_parent : (o : Option ℕ) → parent h n ≡ o → list_any (λ a. c == a) (option_map_or (ancestors h) o []) ≡ true →
-      (c ≡ n) ⊎ ((p : ℕ) × (parent h n ≡ Some p) × (is_within h c p ≡ true))
-  by_parent None below above = absurd (false≢true above)
-  by_parent (Some p) below above = inr (p, below, above)
+within_cases h c n within =
+    by_number (or_cases (c == n) (list_any (λ a. c == a) (option_map_or (ancestors h) (parent h n) []))
+    (ap (list_any (λ a. c == a)) (sym (ancestors_step h n)) ∙ within))
+  where
+    by_parent : (o : Option ℕ) → parent h n ≡ o → list_any (λ a. c == a) (option_map_or (ancestors h) o []) ≡ true →
+        (c ≡ n) ⊎ ((p : ℕ) × (parent h n ≡ Some p) × (is_within h c p ≡ true))
+    by_parent None below above = absurd (false≢true above)
+    by_parent (Some p) below above = inr (p, below, above)
 
-  by_number : ((c == n) ≡ true) ⊎ (list_any (λ a. c == a) (option_map_or (ancestors h) (parent h n) []) ≡ true) →
-      (c ≡ n) ⊎ ((p : ℕ) × (parent h n ≡ Some p) × (is_within h c p ≡ true))
-  by_number (inl same) = inl (eqb-true c n same)
-  by_number (inr above) = by_parent (parent h n) refl above
+    by_number : ((c == n) ≡ true) ⊎ (list_any (λ a. c == a) (option_map_or (ancestors h) (parent h n) []) ≡ true) →
+        (c ≡ n) ⊎ ((p : ℕ) × (parent h n ≡ Some p) × (is_within h c p ≡ true))
+    by_number (inl same) = inl (eqb-true c n same)
+    by_number (inr above) = by_parent (parent h n) refl above
 
 pub within_parent : (h : List Event) (c n p : ℕ) → parent h n ≡ Some p → is_within h c p ≡ true → is_within h c n ≡ true
 within_parent h c n p below above = ap (list_any (λ a. c == a)) (ancestors_step h n) ∙ rw below (or_right (c == n) (is_within h c p) above)

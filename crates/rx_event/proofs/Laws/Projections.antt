@@ -1,5 +1,6 @@
 -- Projected items: where they go, and what each FlatMap and Switch owes after one more event.
-use Rattle.std.proofs.Common.{take, ◌≡◌, ℕ, zero, suc, ◌+◌, ◌-◌, ◌<◌, ◌≤◌, Bool, true, false, List, [], ◌∷◌, ◌++◌, length, Option, Some, None, cond, refl, sym, ap, ◌∙◌, arith, inl, inr, ◌⊎◌, ◌==◌, slice_get, length-append}
+use Rattle.std.proofs.Common.{take, ◌≡◌, ℕ, zero, suc, ◌+◌, ◌-◌, ◌<◌, ◌≤◌, Bool, true, false, List, [], ◌∷◌, ◌++◌, length, Option}
+use Rattle.std.proofs.Common.{Some, None, cond, refl, sym, ap, ◌∙◌, arith, inl, inr, ◌⊎◌, ◌==◌, slice_get, length-append}
 use Rattle.std.proofs.Math.Bool.{◌&&◌}
 use Rattle.std.specs.List.{AllByRecursion, sum_by, count_by, filter_map}
 use Rattle.std.specs.Option.{option_and_then, option_map_or, option_to_list}
@@ -77,7 +78,11 @@ owed_new base h law e =
     let p = projections_past h (length h) (omega arith) in
     let q = projects_none h e (length h) (rw (slice_get_past h (length h) (omega arith)) refl) in
     let r = projections-push h e (length h) in
-    ap (λ k. option_map_or (λ (x : BaseNode). x.owed + count_by (pays (length h)) (shown base) + projections (h ++ e ∷ []) (length h)) k (projections (h ++ e ∷ []) (length h)) - count_by (pays (length h)) (h ++ e ∷ [])) (law.started.unkept (length h) (shown_within base h law)) ∙ (omega arith)
+    let shows = projections (h ++ e ∷ []) (length h) in
+    let paid = count_by (pays (length h)) in
+    ap (λ k. option_map_or (λ (x : BaseNode). x.owed + paid (shown base) + shows) k shows - paid (h ++ e ∷ []))
+    (law.started.unkept (length h) (shown_within base h law)) ∙
+    omega arith
 
 pays_owed : (base : Kept) → (h : List Event) (e : Event) → MayFollow base h e → (f : ℕ) → pays f e ≡ true → 0 < owed base h f
 pays_owed base h (Open (Inner g) kind) next f same = rw (← eqb-true g f same) (may_open base next).2
@@ -87,7 +92,8 @@ pays_owed base h (Open (Source g) kind) next f same = absurd (false≢true same)
 pays_owed base h (Open (Notifier g) kind) next f same = absurd (false≢true same)
 pays_owed base h _ next f same = absurd (false≢true same)
 
-projected-push : (base : Kept) → (h : List Event) (e : Event) (f : ℕ) → projected_by base (h ++ e ∷ []) f ≡ projected_by base h f + count_by (is_projection_to f) (stops_of h e)
+projected-push : (base : Kept) → (h : List Event) (e : Event) (f : ℕ) →
+    projected_by base (h ++ e ∷ []) f ≡ projected_by base h f + count_by (is_projection_to f) (stops_of h e)
 projected-push base h e f = by_record (node_kept base f) where
   by_record : (o : Option BaseNode) →
       option_map_or (λ k. k.owed + count_by (pays f) (shown base) + projections (h ++ e ∷ []) f) o (projections (h ++ e ∷ []) f) ≡
@@ -98,35 +104,46 @@ projected-push base h e f = by_record (node_kept base f) where
 -- no more was paid than was projected
 pub paid-le : (base : Kept) → (h : List Event) → IsLawful base h → (f : ℕ) → count_by (pays f) h ≤ projected_by base h f
 unfolding owed
-paid-le base = by_events base (λ h. (f : ℕ) → count_by (pays f) h ≤ projected_by base h f) (λ s f. s.paid f) (λ h e law next before f. by_payment h e f (pays f e) (before f) (projected-push base h e f) (sum_by_push (λ (x : Event). cond (pays f x) 1 0) h e) (pays_owed base h e next f)) where
-  by_payment : (h : List Event) (e : Event) (f : ℕ) (b : Bool) → count_by (pays f) h ≤ projected_by base h f →
-      projected_by base (h ++ e ∷ []) f ≡ projected_by base h f + count_by (is_projection_to f) (stops_of h e) →
-      count_by (pays f) (h ++ e ∷ []) ≡ count_by (pays f) h + cond b 1 0 → (b ≡ true → 0 < projected_by base h f - count_by (pays f) h) →
-      count_by (pays f) (h ++ e ∷ []) ≤ projected_by base (h ++ e ∷ []) f
-  by_payment h e f true before more one some = let k = some refl in omega arith
-  by_payment h e f false before more one some = omega arith
+paid-le base =
+    by_events base (λ h. (f : ℕ) → count_by (pays f) h ≤ projected_by base h f) (λ s f. s.paid f)
+    (λ h e law next before f. by_payment h e f (pays f e) (before f) (projected-push base h e f) (sum_by_push (λ (x : Event). cond (pays f x) 1 0) h e)
+    (pays_owed base h e next f))
+  where
+    by_payment : (h : List Event) (e : Event) (f : ℕ) (b : Bool) → count_by (pays f) h ≤ projected_by base h f →
+        projected_by base (h ++ e ∷ []) f ≡ projected_by base h f + count_by (is_projection_to f) (stops_of h e) →
+        count_by (pays f) (h ++ e ∷ []) ≡ count_by (pays f) h + cond b 1 0 → (b ≡ true → 0 < projected_by base h f - count_by (pays f) h) →
+        count_by (pays f) (h ++ e ∷ []) ≤ projected_by base (h ++ e ∷ []) f
+    by_payment h e f true before more one some = let k = some refl in omega arith
+    by_payment h e f false before more one some = omega arith
 
 -- what f owes after the event, and what it pays by it, it owed before, or was projected to it
 pub owed-push : (base : Kept) → (h : List Event) (e : Event) → IsLawful base h → MayFollow base h e → (f : ℕ) →
     owed base (h ++ e ∷ []) f + cond (pays f e) 1 0 ≡ owed base h f + count_by (is_projection_to f) (stops_of h e)
 unfolding owed
-owed-push base h e law next f = by_payment (pays f e) (paid-le base h law f) (projected-push base h e f) (sum_by_push (λ (x : Event). cond (pays f x) 1 0) h e) (pays_owed base h e next f) where
-  by_payment : (b : Bool) → count_by (pays f) h ≤ projected_by base h f →
-      projected_by base (h ++ e ∷ []) f ≡ projected_by base h f + count_by (is_projection_to f) (stops_of h e) →
-      count_by (pays f) (h ++ e ∷ []) ≡ count_by (pays f) h + cond b 1 0 → (b ≡ true → 0 < projected_by base h f - count_by (pays f) h) →
-      projected_by base (h ++ e ∷ []) f - count_by (pays f) (h ++ e ∷ []) + cond b 1 0 ≡ (projected_by base h f - count_by (pays f) h) + count_by (is_projection_to f) (stops_of h e)
-  by_payment true before more one some = let k = some refl in omega arith
-  by_payment false before more one some = omega arith
+owed-push base h e law next f =
+    by_payment (pays f e) (paid-le base h law f) (projected-push base h e f) (sum_by_push (λ (x : Event). cond (pays f x) 1 0) h e)
+    (pays_owed base h e next f)
+  where
+    by_payment : (b : Bool) → count_by (pays f) h ≤ projected_by base h f →
+        projected_by base (h ++ e ∷ []) f ≡ projected_by base h f + count_by (is_projection_to f) (stops_of h e) →
+        count_by (pays f) (h ++ e ∷ []) ≡ count_by (pays f) h + cond b 1 0 → (b ≡ true → 0 < projected_by base h f - count_by (pays f) h) →
+        projected_by base (h ++ e ∷ []) f - count_by (pays f) (h ++ e ∷ []) + cond b 1 0 ≡
+        (projected_by base h f - count_by (pays f) h) + count_by (is_projection_to f) (stops_of h e)
+    by_payment true before more one some = let k = some refl in omega arith
+    by_payment false before more one some = omega arith
 
 -- an event that neither projects nor pays
 pub owed_kept : (base : Kept) → (h : List Event) (e : Event) (f : ℕ) → stops_of h e ≡ [] → pays f e ≡ false → owed base (h ++ e ∷ []) f ≡ owed base h f
 unfolding owed
 owed_kept base h e f no_stops pays_none =
-    let same : projected_by base (h ++ e ∷ []) f ≡ projected_by base h f + 0 = projected-push base h e f ∙ ap (λ (ss : List Stop). projected_by base h f + count_by (is_projection_to f) ss) no_stops in
-    let paid : count_by (pays f) (h ++ e ∷ []) ≡ count_by (pays f) h + 0 = sum_by_push (λ (x : Event). cond (pays f x) 1 0) h e ∙ ap (λ (b : Bool). count_by (pays f) h + cond b 1 0) pays_none in
+    let same : projected_by base (h ++ e ∷ []) f ≡ projected_by base h f + 0 =
+    projected-push base h e f ∙ ap (λ (ss : List Stop). projected_by base h f + count_by (is_projection_to f) ss) no_stops in
+    let paid : count_by (pays f) (h ++ e ∷ []) ≡ count_by (pays f) h + 0 =
+    sum_by_push (λ (x : Event). cond (pays f x) 1 0) h e ∙ ap (λ (b : Bool). count_by (pays f) h + cond b 1 0) pays_none in
     omega arith
 
-notified : (base : Kept) → (h : List Event) → IsLawful base h → (n u : ℕ) (kind : Kind) → slice_get h n ≡ Some (Open (Notifier u) kind) → at is_until (take n h) u ≡ true
+notified : (base : Kept) → (h : List Event) → IsLawful base h → (n u : ℕ) (kind : Kind) → slice_get h n ≡ Some (Open (Notifier u) kind) →
+    at is_until (take n h) u ≡ true
 notified base h law n u kind at_n = by_case (found_at base h law n (Open (Notifier u) kind) at_n) where
   by_case : FoundAt base h n (Open (Notifier u) kind) → at is_until (take n h) u ≡ true
   by_case (in_base found same) = ap (λ k. at is_until k u) same ∙ law.started.placed n (Notifier u) kind found
@@ -154,7 +171,10 @@ visited_open : (k : ℕ) (h : List Event) (todo : List ℕ) → AllByRecursion (
     AllByRecursion (λ m. is_open h m ≡ true) (visited k h todo)
 visited_open zero h todo open_all = tt
 visited_open (suc k) h [] open_all = tt
-visited_open (suc k) h (n ∷ todo) open_all = (open_all.0, visited_open k h (onward h n ++ todo) (AllByRecursion-both (λ m. is_open h m ≡ true) (onward h n) todo (onward_open h n open_all.0) open_all.1))
+visited_open (suc k) h (n ∷ todo) open_all = (
+  open_all.0,
+  visited_open k h (onward h n ++ todo) (AllByRecursion-both (λ m. is_open h m ≡ true) (onward h n) todo (onward_open h n open_all.0) open_all.1),
+)
 
 -- what an open leaf's item reaches is open
 pub climb_open : (h : List Event) (l : ℕ) → is_open h l ≡ true → AllByRecursion (λ m. is_open h m ≡ true) (climb h l)
@@ -213,7 +233,10 @@ pub projected_count : (h : List Event) (ss : List Stop) → AllByRecursion (Stop
     sum_by (projected_open h ss) (places h) ≡ count_by is_projection ss
 projected_count h [] well = sum_by_none (projected_open h []) (length h) (λ n l. zero_or_zero (is_open h n && at is_merging h n))
 projected_count h (s ∷ ss) well =
-    let each : sum_by (projected_open h (s ∷ ss)) (places h) ≡ sum_by (λ n. cond (is_open h n && at is_merging h n) (cond (is_projection_to n s) 1 0) 0 + projected_open h ss n) (places h) = sum_by-same (λ n. cond (is_open h n && at is_merging h n) (cond (is_projection_to n s) 1 0) 0 + projected_open h ss n) (projected_open h (s ∷ ss)) (length h) (λ n l. shape (is_open h n && at is_merging h n) _ _ _ (sum_by-cons (λ t. cond (is_projection_to n t) 1 0) s ss)) in
+    let each : sum_by (projected_open h (s ∷ ss)) (places h) ≡
+    sum_by (λ n. cond (is_open h n && at is_merging h n) (cond (is_projection_to n s) 1 0) 0 + projected_open h ss n) (places h) =
+    sum_by-same (λ n. cond (is_open h n && at is_merging h n) (cond (is_projection_to n s) 1 0) 0 + projected_open h ss n) (projected_open h (s ∷ ss))
+    (length h) (λ n l. shape (is_open h n && at is_merging h n) _ _ _ (sum_by-cons (λ t. cond (is_projection_to n t) 1 0) s ss)) in
     let split = sum_by-plus (λ n. cond (is_open h n && at is_merging h n) (cond (is_projection_to n s) 1 0) 0) (projected_open h ss) (length h) in
     let rest = projected_count h ss well.1 in
     let first = by_stop s well.0 in
@@ -224,14 +247,19 @@ projected_count h (s ∷ ss) well =
     shape true x y z same = same
     shape false x y z same = refl
 
-    to_one : (f n : ℕ) → (is_open h f ≡ true) × (at is_merging h f ≡ true) → (b : Bool) → (f == n) ≡ b → cond (is_open h n && at is_merging h n) (cond b 1 0) 0 ≡ cond {A = ℕ} b 1 0
+    to_one : (f n : ℕ) → (is_open h f ≡ true) × (at is_merging h f ≡ true) → (b : Bool) → (f == n) ≡ b →
+        cond (is_open h n && at is_merging h n) (cond b 1 0) 0 ≡ cond {A = ℕ} b 1 0
     to_one f n well true same =
         let o : is_open h n ≡ true = rw (← eqb-true f n same) well.0 in
         let m : at is_merging h n ≡ true = rw (← eqb-true f n same) well.1 in
         rw (o, m) refl
     to_one f n well false apart = zero_or_zero (is_open h n && at is_merging h n)
 
-    by_stop : (s : Stop) → StopsAtOpen h s → sum_by (λ n. cond (is_open h n && at is_merging h n) (cond (is_projection_to n s) 1 0) 0) (places h) ≡ cond {A = ℕ} (is_projection s) 1 0
-    by_stop (Projection f) well = sum_by-same (λ n. cond (f == n) 1 0) (λ n. cond (is_open h n && at is_merging h n) (cond (f == n) 1 0) 0) (length h) (λ n l. to_one f n well (f == n) refl) ∙ count_by_one f (length h) (is_open_within h f well.0)
+    by_stop : (s : Stop) → StopsAtOpen h s →
+        sum_by (λ n. cond (is_open h n && at is_merging h n) (cond (is_projection_to n s) 1 0) 0) (places h) ≡ cond {A = ℕ} (is_projection s) 1 0
+    by_stop (Projection f) well =
+        sum_by-same (λ n. cond (f == n) 1 0) (λ n. cond (is_open h n && at is_merging h n) (cond (f == n) 1 0) 0) (length h)
+        (λ n l. to_one f n well (f == n) refl) ∙
+        count_by_one f (length h) (is_open_within h f well.0)
     by_stop (Delivery m) well = sum_by_none _ (length h) (λ n l. zero_or_zero (is_open h n && at is_merging h n))
     by_stop (Firing u) well = sum_by_none _ (length h) (λ n l. zero_or_zero (is_open h n && at is_merging h n))

@@ -1,5 +1,6 @@
 -- What callers may do in a settled history they may do in one that is the same but for its numbers.
-use Rattle.std.proofs.Common.{◌≡◌, ℕ, ◌+◌, ◌<◌, Bool, true, false, List, [], ◌∷◌, ◌++◌, length, Option, Some, None, map, filter, slice_get, refl, sym, ap, subst, ◌∙◌, inl, inr, ◌⊎◌, arith}
+use Rattle.std.proofs.Common.{◌≡◌, ℕ, ◌+◌, ◌<◌, Bool, true, false, List, [], ◌∷◌, ◌++◌, length, Option, Some}
+use Rattle.std.proofs.Common.{None, map, filter, slice_get, refl, sym, ap, subst, ◌∙◌, inl, inr, ◌⊎◌, arith}
 use Rattle.std.proofs.Math.Bool.{not}
 use Rattle.std.specs.List.{range_with_len}
 use Rattle.std.specs.Option.{option_map_or}
@@ -89,7 +90,8 @@ pub same_list : (r s : ℕ → ℕ) (p q : ℕ → Bool) (m n : ℕ) → ((k : �
     ((j k : ℕ) → p j ≡ true → p k ≡ true → j < k → r j < r k) → filter q (range_with_len 0 n) ≡ map r (filter p (range_with_len 0 m))
 same_list r s p q m n within_p within_q there back grows = rising_same (filter q (range_with_len 0 n)) (map r (filter p (range_with_len 0 m)))
     (filter_rises q (range_with_len 0 n) (range_rises 0 n))
-    (map_rises r (filter p (range_with_len 0 m)) (λ j k i l. grows j k (filter_in p (range_with_len 0 m) j i).1 (filter_in p (range_with_len 0 m) k l).1) (filter_rises p (range_with_len 0 m) (range_rises 0 m)))
+    (map_rises r (filter p (range_with_len 0 m)) (λ j k i l. grows j k (filter_in p (range_with_len 0 m) j i).1 (filter_in p (range_with_len 0 m) k l).1)
+    (filter_rises p (range_with_len 0 m) (range_rises 0 m)))
     onwards backwards
   where
     onwards : (k : ℕ) → In k (filter q (range_with_len 0 n)) → In k (map r (filter p (range_with_len 0 m)))
@@ -105,7 +107,8 @@ same_list r s p q m n within_p within_q there back grows = rising_same (filter q
         let w = map_in r (filter p (range_with_len 0 m)) k i in
         let holds : q (r w.0) ≡ true = there w.0 (filter_in p (range_with_len 0 m) w.0 w.1).1 in
         let l : r w.0 < n = within_q (r w.0) holds in
-        subst (λ (j : ℕ). In j (filter q (range_with_len 0 n))) w.2 (in_filter q (range_with_len 0 n) (r w.0) (in_range 0 n (r w.0) (omega arith) (omega arith)) holds)
+        subst (λ (j : ℕ). In j (filter q (range_with_len 0 n))) w.2
+        (in_filter q (range_with_len 0 n) (r w.0) (in_range 0 n (r w.0) (omega arith) (omega arith)) holds)
 
 hub_named : (e : Event) → makes_hub e ≡ true → is_named e ≡ true
 hub_named (Hub mode) made = refl
@@ -172,12 +175,15 @@ module _ (base : Kept) (r s : ℕ → ℕ) (h c : List Event) (a : AreSameBy bas
   pub in_order_read : (g p : ℕ) → at makes_hub h g ≡ true → is_open h p ≡ true → IsInOrderAt h g p → IsInOrderAt c (r g) (r p)
   in_order_read g p hub o ordered b k inside connects =
       let alive : is_open c b ≡ true = open_above c b (r p) (a.numbers.there.alive p o) inside in
-      let back : is_within h (s b) (s (r p)) ≡ true = within_read base s r c h a.numbers.other_law a.numbers.law a.numbers.back a.numbers.there (suc_of (r p)) b (r p) (omega arith) (a.numbers.there.alive p o) inside in
+      let back : is_within h (s b) (s (r p)) ≡ true =
+      within_read base s r c h a.numbers.other_law a.numbers.law a.numbers.back a.numbers.there (suc_of (r p)) b (r p) (omega arith)
+      (a.numbers.there.alive p o) inside in
       let here : is_within h (s b) p ≡ true = ap (is_within h (s b)) (sym (a.numbers.there.undone p o)) ∙ back in
       let made : slice_get h (s b) ≡ Some (Connect (s k)) = a.numbers.back.made b (Connect k) alive connects in
       let less : g < s k = ordered (s b) (s k) here made in
       let other = hub_back k (connected_hub base c a.numbers.other_law k b connects) in
-      let grows : r g < r (s k) = a.shown.in_order g (s k) (made_at makes_hub is_named hub_named h g hub) (made_at makes_hub is_named hub_named h (s k) other.0) less in
+      let grows : r g < r (s k) =
+      a.shown.in_order g (s k) (made_at makes_hub is_named hub_named h g hub) (made_at makes_hub is_named hub_named h (s k) other.0) less in
       let same : r (s k) ≡ k = other.1 in
       omega arith
     where
@@ -226,11 +232,16 @@ still_unconnected base r s h c a place g none = by_list (open_connections (h ++ 
       let was : is_open h m ≡ true = open_old h (Open place (Sub g)) m (slice_get_within h m _ old) first.1 in
       let there : slice_get c (r m) ≡ Some (Connect (r g)) = a.numbers.there.made m (Connect g) was old in
       let alive : is_open c (r m) ≡ true = a.numbers.there.alive m was in
-      let uncut : is_cut c (Open (place_by r place) (Sub (r g))) (r m) ≡ false = false_from_ne_true _ (λ cuts. spares base c (Open (place_by r place) (Sub (r g))) (r m) (r g) refl there (sym (cut_alone c (Open (place_by r place) (Sub (r g))) (r m) (r g) there) ∙ cuts)) in
-      let stays_open : is_open (c ++ Open (place_by r place) (Sub (r g)) ∷ []) (r m) ≡ true = is_open_cut c (Open (place_by r place) (Sub (r g))) (r m) (is_open_within c (r m) alive) ∙ and_from _ _ alive (ap not uncut) in
-      absurd (connection_listed (c ++ Open (place_by r place) (Sub (r g)) ∷ []) (r g) (r m) (slice_get-append c (Open (place_by r place) (Sub (r g)) ∷ []) (r m) (slice_get_within c (r m) _ there) ∙ there) stays_open none)
+      let uncut : is_cut c (Open (place_by r place) (Sub (r g))) (r m) ≡ false =
+      false_from_ne_true _ (λ cuts. spares base c (Open (place_by r place) (Sub (r g))) (r m) (r g) refl there
+      (sym (cut_alone c (Open (place_by r place) (Sub (r g))) (r m) (r g) there) ∙ cuts)) in
+      let stays_open : is_open (c ++ Open (place_by r place) (Sub (r g)) ∷ []) (r m) ≡ true =
+      is_open_cut c (Open (place_by r place) (Sub (r g))) (r m) (is_open_within c (r m) alive) ∙ and_from _ _ alive (ap not uncut) in
+      absurd (connection_listed (c ++ Open (place_by r place) (Sub (r g)) ∷ []) (r g) (r m)
+      (slice_get-append c (Open (place_by r place) (Sub (r g)) ∷ []) (r m) (slice_get_within c (r m) _ there) ∙ there) stays_open none)
 
-waits_here : (base : Kept) → (r s : ℕ → ℕ) (h c : List Event) (a : AreSameBy base r s h c) → IsConnected c → (place : Place) (kind : Kind) → MayFollow base h (Open place kind) → (k : ℕ) →
+waits_here : (base : Kept) → (r s : ℕ → ℕ) (h c : List Event) (a : AreSameBy base r s h c) → IsConnected c → (place : Place) (kind : Kind) →
+    MayFollow base h (Open place kind) → (k : ℕ) →
     IsConnectDue (c ++ Open (place_by r place) (kind_by r kind) ∷ []) k → (g : ℕ) × IsConnectDue (h ++ Open place kind ∷ []) g
 waits_here base r s h c a whole place (Sub g) next k d = (g, due_here same d) where
   same : k ≡ r g
@@ -259,7 +270,8 @@ waits_here base r s h c a whole place (Sub g) next k d = (g, due_here same d) wh
 waits_here base r s h c a whole place Leaf next k d = absurd (kept_unsubscribed base c (Open (place_by r place) Leaf) a.numbers.other_law whole refl refl k d)
 waits_here base r s h c a whole place Pass next k d = absurd (kept_unsubscribed base c (Open (place_by r place) Pass) a.numbers.other_law whole refl refl k d)
 waits_here base r s h c a whole place Flat next k d = absurd (kept_unsubscribed base c (Open (place_by r place) Flat) a.numbers.other_law whole refl refl k d)
-waits_here base r s h c a whole place Switch next k d = absurd (kept_unsubscribed base c (Open (place_by r place) Switch) a.numbers.other_law whole refl refl k d)
+waits_here base r s h c a whole place Switch next k d =
+    absurd (kept_unsubscribed base c (Open (place_by r place) Switch) a.numbers.other_law whole refl refl k d)
 waits_here base r s h c a whole place Until next k d = absurd (kept_unsubscribed base c (Open (place_by r place) Until) a.numbers.other_law whole refl refl k d)
 
 manual_made : (h : List Event) (g : ℕ) → at is_manual_hub h g ≡ true → slice_get h g ≡ Some (Hub Manual)
@@ -284,7 +296,8 @@ module _ (base : Kept) (r s : ℕ → ℕ) (h c : List Event) (a : AreSameBy bas
 
   childless : (n : ℕ) → is_open h n ≡ true → ((d : ℕ) → parent h d ≡ Some n → is_open h d ≡ false) → (d : ℕ) → parent c d ≡ Some (r n) → is_open c d ≡ false
   childless n o none d below = false_from_ne_true (is_open c d) (λ alive.
-      let back : parent h (s d) ≡ Some (s (r n)) = parent_read base s r c h a.numbers.other_law a.numbers.law a.numbers.back a.numbers.there d (r n) alive below in
+      let back : parent h (s d) ≡ Some (s (r n)) =
+      parent_read base s r c h a.numbers.other_law a.numbers.law a.numbers.back a.numbers.there d (r n) alive below in
       both_ways (is_open h (s d)) (none (s d) (back ∙ ap (λ k. Some k) (a.numbers.there.undone n o))) (a.numbers.back.alive d alive))
 
   -- what is allowed there
@@ -292,11 +305,15 @@ module _ (base : Kept) (r s : ℕ → ℕ) (h c : List Event) (a : AreSameBy bas
   allowed_read settled settled_there (opened {place = place} {kind = kind} free hubbed few room) =
       opened (free_read base r s h c a place free) (hubbed_read base r s h c a place kind free hubbed)
       (let same = open_count_read base r s h c a in let l = few in omega arith)
-      (λ k d. let w = waits_here base r s h c a (settled_connected base c settled_there) place kind (allowed settled (opened free hubbed few room)) k d in let l = room w.0 w.1 in let same = open_count_read base r s h c a in omega arith)
+      (λ k d. let w = waits_here base r s h c a (settled_connected base c settled_there) place kind (allowed settled (opened free hubbed few room)) k d in
+      let l = room w.0 w.1 in
+      let same = open_count_read base r s h c a in
+      omega arith)
   allowed_read settled settled_there (published few) = published (let same = hub_count_read base r s h c a in let l = few in omega arith)
   allowed_read settled settled_there (connected {g = g} manual unconnected few) =
       connected (manual_read g manual)
-      (unconnected_read base r s h c a.numbers.law a.numbers.other_law a.numbers.there a.numbers.back g (a.numbers.there.hub_undone g Manual (manual_made h g manual)) unconnected)
+      (unconnected_read base r s h c a.numbers.law a.numbers.other_law a.numbers.there a.numbers.back g
+      (a.numbers.there.hub_undone g Manual (manual_made h g manual)) unconnected)
       (let same = open_count_read base r s h c a in let l = few in omega arith)
   allowed_read settled settled_there (accepted {n = n} o) = accepted (alive_there n o)
   allowed_read settled settled_there (used {r = q} held) = used (held_there q held)
@@ -304,12 +321,17 @@ module _ (base : Kept) (r s : ℕ → ℕ) (h c : List Event) (a : AreSameBy bas
   allowed_read settled settled_there (leased {r = q} owned) = leased (owned_there q owned)
   allowed_read settled settled_there (returned {l = l} out) = returned (a.shown.out l (out_lease h l out) ∙ out)
   allowed_read settled settled_there (emitted {l = l} o leaf few) =
-      emitted (alive_there l o) (at_read base a.numbers.there is_leaf is_leaf (leaf_by r) l o leaf) (let same = visits_read base r s h c a.numbers l o in let k = few in omega arith)
+      emitted (alive_there l o) (at_read base a.numbers.there is_leaf is_leaf (leaf_by r) l o leaf)
+      (let same = visits_read base r s h c a.numbers l o in let k = few in omega arith)
   allowed_read settled settled_there (declined {f = f} o m some) = declined (alive_there f o) (merges base r s h c a f o m) (owes base r s h c a f o some)
-  allowed_read settled settled_there (leaf_ended {l = l} o leaf) = leaf_ended (alive_there l o) (at_read base a.numbers.there is_leaf is_leaf (leaf_by r) l o leaf)
-  allowed_read settled settled_there (aborted {n = n} o m none) = aborted (alive_there n o) (at_read base a.numbers.there may_abort may_abort (abort_by r) n o m) (childless n o none)
-  allowed_read settled settled_there (projection_failed {f = f} o m some) = projection_failed (alive_there f o) (merges base r s h c a f o m) (owes base r s h c a f o some)
-  allowed_read settled settled_there (root_closed {n = n} o root) = root_closed (alive_there n o) (at_read base a.numbers.there is_root is_root (root_by r) n o root)
+  allowed_read settled settled_there (leaf_ended {l = l} o leaf) =
+      leaf_ended (alive_there l o) (at_read base a.numbers.there is_leaf is_leaf (leaf_by r) l o leaf)
+  allowed_read settled settled_there (aborted {n = n} o m none) =
+      aborted (alive_there n o) (at_read base a.numbers.there may_abort may_abort (abort_by r) n o m) (childless n o none)
+  allowed_read settled settled_there (projection_failed {f = f} o m some) =
+      projection_failed (alive_there f o) (merges base r s h c a f o m) (owes base r s h c a f o some)
+  allowed_read settled settled_there (root_closed {n = n} o root) =
+      root_closed (alive_there n o) (at_read base a.numbers.there is_root is_root (root_by r) n o root)
   allowed_read settled settled_there (disconnected {c = d} {g = g} o at_d manual) =
       disconnected (alive_there d o) (a.numbers.there.made d (Connect g) o at_d) (manual_read g manual)
   allowed_read settled settled_there (taken {r = q} waits) = taken (waits_read base r s h c a q waits)

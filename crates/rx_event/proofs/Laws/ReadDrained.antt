@@ -1,5 +1,6 @@
 -- Taking all that waits, in whatever order, leaves two histories the same that were the same but for their numbers.
-use Rattle.std.proofs.Common.{◌≡◌, ℕ, ◌+◌, ◌<◌, Bool, true, false, List, [], ◌∷◌, ◌++◌, length, Option, Some, cond, map, slice_get, refl, sym, ap, ◌∙◌, inl, inr, ◌⊎◌, arith, append-nil, ◌-◌}
+use Rattle.std.proofs.Common.{◌≡◌, ℕ, ◌+◌, ◌<◌, Bool, true, false, List, [], ◌∷◌, ◌++◌, length, Option, Some, cond}
+use Rattle.std.proofs.Common.{map, slice_get, refl, sym, ap, ◌∙◌, inl, inr, ◌⊎◌, arith, append-nil, ◌-◌}
 use Rattle.std.proofs.Math.Bool.{not, ◌&&◌}
 use Rattle.std.specs.List.{count_by}
 use Rattle.std.specs.Option.{option_map_or}
@@ -203,18 +204,22 @@ none_waiting h none p = false_from_ne_true (is_waiting h p) (λ waits.
     filter_nonempty (is_waiting h) 0 (length h) p (omega arith) (omega arith) waits none)
 
 -- what is not held was taken
-taken_where : (base : Kept) → (h : List Event) → IsLawful base h → (p : ℕ) → at makes_resource h p ≡ true → is_waiting h p ≡ false → is_taken h p ≡ not (is_held h p)
+taken_where : (base : Kept) → (h : List Event) → IsLawful base h → (p : ℕ) → at makes_resource h p ≡ true → is_waiting h p ≡ false →
+    is_taken h p ≡ not (is_held h p)
 unfolding is_waiting
 taken_where base h law p made waits = by_test (is_held h p) refl (is_taken h p) refl (λ i. made i && not (is_held h p) && not (is_taken h p)) where
-  by_test : (held : Bool) → is_held h p ≡ held → (taken : Bool) → is_taken h p ≡ taken → (at makes_resource h p && not (is_held h p) && not (is_taken h p)) ≡ (true && not (is_held h p) && not (is_taken h p)) → taken ≡ not held
+  by_test : (held : Bool) → is_held h p ≡ held → (taken : Bool) → is_taken h p ≡ taken →
+      (at makes_resource h p && not (is_held h p) && not (is_taken h p)) ≡ (true && not (is_held h p) && not (is_taken h p)) → taken ≡ not held
   by_test true holds true is same = absurd (both_ways (is_taken h p) (held_not_taken base h law p holds) is)
   by_test true holds false is same = refl
   by_test false holds true is same = refl
   by_test false holds false is same = absurd (false≢true (sym waits ∙ same ∙ (λ i. true && not (holds i) && not (is i))))
 
-module _ (base : Kept) (r s : ℕ → ℕ) (k j : List Event) (b : SameBut base r s k j) (none : waiting_resources k ≡ []) (none_there : waiting_resources j ≡ []) where
+module _ (base : Kept) (r s : ℕ → ℕ) (k j : List Event) (b : SameBut base r s k j) (none : waiting_resources k ≡ [])
+    (none_there : waiting_resources j ≡ []) where
   made_there : (p : ℕ) → at makes_resource k p ≡ true → at makes_resource j (r p) ≡ true
-  made_there p made = let w = resource_made k p made in ap (λ (x : Option Event). option_map_or makes_resource x false) (b.shown.kept p (Accept w.0 w.1) refl w.2)
+  made_there p made =
+      let w = resource_made k p made in ap (λ (x : Option Event). option_map_or makes_resource x false) (b.shown.kept p (Accept w.0 w.1) refl w.2)
 
   taken_same : (p : ℕ) → at makes_resource k p ≡ true → is_taken j (r p) ≡ is_taken k p
   taken_same p made =
@@ -229,11 +234,17 @@ held_back base r s k j b p held =
 held_lists : (base : Kept) → (r s : ℕ → ℕ) (k j : List Event) (b : SameBut base r s k j) → held_resources j ≡ map r (held_resources k)
 held_lists base r s k j b = same_list r s (is_held k) (is_held j) (length k) (length j) (is_held_within k) (is_held_within j)
     (λ p held. b.shown.held p (held_resource k p held) ∙ held) (held_back base r s k j b)
-    (λ m n held also l. b.shown.in_order m n (made_at makes_resource is_named resource_named k m (held_resource k m held)) (made_at makes_resource is_named resource_named k n (held_resource k n also)) l)
+    (λ m n held also l. b.shown.in_order m n (made_at makes_resource is_named resource_named k m (held_resource k m held))
+    (made_at makes_resource is_named resource_named k n (held_resource k n also)) l)
 
-taken_totals : (base : Kept) → (r s : ℕ → ℕ) (k j : List Event) (b : SameBut base r s k j) → waiting_resources k ≡ [] → waiting_resources j ≡ [] → taken_count base j ≡ taken_count base k
+taken_totals : (base : Kept) → (r s : ℕ → ℕ) (k j : List Event) (b : SameBut base r s k j) → waiting_resources k ≡ [] → waiting_resources j ≡ [] →
+    taken_count base j ≡ taken_count base k
 taken_totals base r s k j b none none_there =
-    let held : held_count j ≡ held_count k = sym (length-filter (is_held j) (places j)) ∙ ap length (held_lists base r s k j b) ∙ length-map (held_resources k) r ∙ length-filter (is_held k) (places k) in
+    let held : held_count j ≡ held_count k =
+    sym (length-filter (is_held j) (places j)) ∙
+    ap length (held_lists base r s k j b) ∙
+    length-map (held_resources k) r ∙
+    length-filter (is_held k) (places k) in
     let one : waiting_count k ≡ 0 = sym (length-filter (is_waiting k) (places k)) ∙ ap length none in
     let other : waiting_count j ≡ 0 = sym (length-filter (is_waiting j) (places j)) ∙ ap length none_there in
     let parts = accepted_count-parts base k b.numbers.law in
@@ -241,7 +252,8 @@ taken_totals base r s k j b none none_there =
     let total = b.shown.accepted_total in
     omega arith
 
-shown_again : (base : Kept) → (r s : ℕ → ℕ) (k j : List Event) (b : SameBut base r s k j) → waiting_resources k ≡ [] → waiting_resources j ≡ [] → IsShown base r s k j
+shown_again : (base : Kept) → (r s : ℕ → ℕ) (k j : List Event) (b : SameBut base r s k j) → waiting_resources k ≡ [] → waiting_resources j ≡ [] →
+    IsShown base r s k j
 shown_again base r s k j b none none_there = record {
   kept = b.shown.kept;
   apart = b.shown.apart;
@@ -274,8 +286,13 @@ but base shown = record {
 }
 
 -- Two drains, in whatever orders
-pub drained_same : (base : Kept) → (r s : ℕ → ℕ) (h c k j : List Event) → AreSameBy base r s h c → TakesOn base h k → waiting_resources k ≡ [] → TakesOn base c j → waiting_resources j ≡ [] →
+pub drained_same : (base : Kept) → (r s : ℕ → ℕ) (h c k j : List Event) → AreSameBy base r s h c → TakesOn base h k → waiting_resources k ≡ [] →
+    TakesOn base c j → waiting_resources j ≡ [] →
     AreSameBy base r s k j
-drained_same base r s h c k j a on_k none on_j none_there = record { numbers = b.numbers; shown = shown_again base r s k j b none none_there; shown_back = shown_again base s r j k (swapped base b) none_there none } where
-  b : SameBut base r s k j
-  b = swapped base (takes_left base on_j (swapped base (takes_left base on_k (record { numbers = a.numbers; shown = but base a.shown; shown_back = but base a.shown_back }))))
+drained_same base r s h c k j a on_k none on_j none_there =
+    record { numbers = b.numbers; shown = shown_again base r s k j b none none_there; shown_back = shown_again base s r j k (swapped base b) none_there none }
+  where
+    b : SameBut base r s k j
+    b =
+        swapped base (takes_left base on_j
+        (swapped base (takes_left base on_k (record { numbers = a.numbers; shown = but base a.shown; shown_back = but base a.shown_back }))))

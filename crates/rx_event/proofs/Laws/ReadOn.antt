@@ -57,7 +57,8 @@ module _ (base : Kept) (r s : ℕ → ℕ) (h c : List Event) (there : IsRead ba
   -- so what is left to show is what stays open, what it remembers, and which sources ended
   pub read_on : ((m : ℕ) → is_open (h ++ e ∷ []) m ≡ true → is_open (c ++ x ∷ []) (r m) ≡ true) →
       ((m : ℕ) → is_open (h ++ e ∷ []) m ≡ true → marks_of base (c ++ x ∷ []) (r m) ≡ marks_of base (h ++ e ∷ []) m) →
-      ((m : ℕ) (t : Terminal) → is_open h m ≡ true → SourceEnded (h ++ e ∷ []) m t → SourceEnded (c ++ x ∷ []) (r m) t) → IsRead base r s (h ++ e ∷ []) (c ++ x ∷ [])
+      ((m : ℕ) (t : Terminal) → is_open h m ≡ true → SourceEnded (h ++ e ∷ []) m t → SourceEnded (c ++ x ∷ []) (r m) t) →
+      IsRead base r s (h ++ e ∷ []) (c ++ x ∷ [])
   read_on alive_on marks_on ended_on = record {
     alive = alive_on;
     undone = λ m o. there.undone m (open_before h e m none.node o);
@@ -113,13 +114,15 @@ module _ (base : Kept) (r s : ℕ → ℕ) (h c : List Event) (a : AreRenumbered
   -- what is not within n is not within it by its other number
   not_within_read : (m : ℕ) → is_open h m ≡ true → not (is_within h n m) ≡ true → not (is_within c (r n) (r m)) ≡ true
   not_within_read m p apart = ap not (false_from_ne_true (is_within c (r n) (r m)) (λ inside.
-      let back : is_within h (s (r n)) (s (r m)) ≡ true = within_read base s r c h a.other_law a.law a.back a.there (suc (r m)) (r n) (r m) (omega arith) (a.there.alive m p) inside in
+      let back : is_within h (s (r n)) (s (r m)) ≡ true =
+      within_read base s r c h a.other_law a.law a.back a.there (suc (r m)) (r n) (r m) (omega arith) (a.there.alive m p) inside in
       let here : is_within h n m ≡ true = (λ i. is_within h (sym (a.there.undone n o) i) (sym (a.there.undone m p) i)) ∙ back in
       both_ways (is_within h n m) (not_false (is_within h n m) apart) here))
 
   not_child_read : (m : ℕ) → is_open h m ≡ true → is_child_of h m n ≡ false → is_child_of c (r m) (r n) ≡ false
   not_child_read m p apart = false_from_ne_true (is_child_of c (r m) (r n)) (λ child.
-      let back : parent h (s (r n)) ≡ Some (s (r m)) = parent_read base s r c h a.other_law a.law a.back a.there (r n) (r m) (a.there.alive n o) (is_child_parent c (r m) (r n) child) in
+      let back : parent h (s (r n)) ≡ Some (s (r m)) =
+      parent_read base s r c h a.other_law a.law a.back a.there (r n) (r m) (a.there.alive n o) (is_child_parent c (r m) (r n) child) in
       let here : parent h n ≡ Some m = ap (parent h) (sym (a.there.undone n o)) ∙ back ∙ ap (λ k. Some k) (a.there.undone m p) in
       both_ways (is_child_of h m n) apart (parent_is_child h m n here))
 
@@ -139,15 +142,21 @@ module _ (base : Kept) (r s : ℕ → ℕ) (h c : List Event) (a : AreRenumbered
 
       by_child : (is_child_of h m n ≡ true) ⊎ (is_child_of h m n ≡ false) → marks_of base (c ++ End (r n) t ∷ []) (r m) ≡ marks_of base (h ++ End n t ∷ []) m
       by_child (inr apart) =
-          marks_untouched base c (End (r n) t) a.other_law other (r m) (is_open_within c (r m) (a.there.alive m was)) (alive_end m p) (not_child_read m was apart) ∙
+          marks_untouched base c (End (r n) t) a.other_law other (r m) (is_open_within c (r m) (a.there.alive m was)) (alive_end m p)
+          (not_child_read m was apart) ∙
           a.there.marks m was ∙ sym (marks_untouched base h (End n t) a.law next m (is_open_within h m was) p apart)
       by_child (inl child) =
           let below : parent h n ≡ Some m = is_child_parent h m n child in
           let made : (e : Event) × (slice_get h n ≡ Some e) = event_at h n (is_open_within h n o) in
           let above : (e : Event) × (slice_get h m ≡ Some e) = event_at h m (is_open_within h m was) in
           let one = marks-end_at base h n m made.0 above.0 t a.law next below made.1 above.1 in
-          let also = marks-end_at base c (r n) (r m) (event_by r made.0) (event_by r above.0) t a.other_law other (parent_read base r s h c a.law a.other_law a.there a.back n m o below) (a.there.made n made.0 o made.1) (a.there.made m above.0 was above.1) in
-          also ∙ (λ i. after_child (source_by r made.0 m (parent_name h n m made.0 below made.1) i) (merging_by r above.0 i) t (a.there.marks m was i)) ∙ sym one
+          let also =
+          marks-end_at base c (r n) (r m) (event_by r made.0) (event_by r above.0) t a.other_law other
+          (parent_read base r s h c a.law a.other_law a.there a.back n m o below) (a.there.made n made.0 o made.1)
+          (a.there.made m above.0 was above.1) in
+          also ∙
+          (λ i. after_child (source_by r made.0 m (parent_name h n m made.0 below made.1) i) (merging_by r above.0 i) t (a.there.marks m was i)) ∙
+          sym one
 
     ended_end : (m : ℕ) (u : Terminal) → is_open h m ≡ true → SourceEnded (h ++ End n t ∷ []) m u → SourceEnded (c ++ End (r n) t ∷ []) (r m) u
     ended_end m u p x = by_place (cases_push h (End n t) (End x.connection u) x.place x.ended) where
@@ -157,9 +166,11 @@ module _ (base : Kept) (r s : ℕ → ℕ) (h c : List Event) (a : AreRenumbered
         connection = r n;
         place = length c;
         subscribes = at-append (is_subscriber_of (r x.hub)) c (End (r n) t ∷ []) (r m) (is_open_within c (r m) (a.there.alive m p)) ∙
-            subscriber_read base r s h c a.law a.other_law a.there a.back x.hub m p (sym (at-append (is_subscriber_of x.hub) h (End n t ∷ []) m (is_open_within h m p)) ∙ x.subscribes);
+            subscriber_read base r s h c a.law a.other_law a.there a.back x.hub m p
+            (sym (at-append (is_subscriber_of x.hub) h (End n t ∷ []) m (is_open_within h m p)) ∙ x.subscribes);
         connects = slice_get-append c (End (r n) t ∷ []) (r n) (is_open_within c (r n) (a.there.alive n o)) ∙
-            a.there.made n (Connect x.hub) o (sym (slice_get-append h (End n t ∷ []) n (is_open_within h n o)) ∙ ap (slice_get (h ++ End n t ∷ [])) same.0 ∙ x.connects);
+            a.there.made n (Connect x.hub) o
+            (sym (slice_get-append h (End n t ∷ []) n (is_open_within h n o)) ∙ ap (slice_get (h ++ End n t ∷ [])) same.0 ∙ x.connects);
         later = is_open_within c (r m) (a.there.alive m p);
         ended = slice_get_last c (End (r n) t) ∙ ap (λ v. Some (End (r n) v)) same.1;
       }
@@ -189,11 +200,14 @@ module _ (base : Kept) (r s : ℕ → ℕ) (h c : List Event) (a : AreRenumbered
 
     pub is_read_close : IsRead base r s (h ++ Close n ∷ []) (c ++ Close (r n) ∷ [])
     is_read_close = read_on base r s h c a.there (Close n) (Close (r n)) (record { node = refl; hub = refl }) alive_close
-        (λ m p. marks_closed base c (r n) a.other_law other (r m) (alive_close m p) ∙ a.there.marks m (close_parts m p).0 ∙ sym (marks_closed base h n a.law next m p)) ended_close
+        (λ m p. marks_closed base c (r n) a.other_law other (r m) (alive_close m p) ∙
+        a.there.marks m (close_parts m p).0 ∙
+        sym (marks_closed base h n a.law next m p)) ended_close
 
 -- both ways -----------------------------------------------------------------------------------------------------
 
-pub renumbered_end : (base : Kept) → {r s : ℕ → ℕ} {h c : List Event} → AreRenumbered base r s h c → (n : ℕ) (t : Terminal) → MayFollow base h (End n t) → MayFollow base c (End (r n) t) →
+pub renumbered_end : (base : Kept) → {r s : ℕ → ℕ} {h c : List Event} → AreRenumbered base r s h c → (n : ℕ) (t : Terminal) → MayFollow base h (End n t) →
+    MayFollow base c (End (r n) t) →
     AreRenumbered base r s (h ++ End n t ∷ []) (c ++ End (r n) t ∷ [])
 renumbered_end base {r = r} {s = s} {h = h} {c = c} a n t next other = record {
   law = IsLawful-push base h (End n t) a.law next;
@@ -208,7 +222,8 @@ renumbered_end base {r = r} {s = s} {h = h} {c = c} a n t next other = record {
   same : s (r n) ≡ n
   same = a.there.undone n o
 
-pub renumbered_close : (base : Kept) → {r s : ℕ → ℕ} {h c : List Event} → AreRenumbered base r s h c → (n : ℕ) → MayFollow base h (Close n) → MayFollow base c (Close (r n)) →
+pub renumbered_close : (base : Kept) → {r s : ℕ → ℕ} {h c : List Event} → AreRenumbered base r s h c → (n : ℕ) → MayFollow base h (Close n) →
+    MayFollow base c (Close (r n)) →
     AreRenumbered base r s (h ++ Close n ∷ []) (c ++ Close (r n) ∷ [])
 renumbered_close base {r = r} {s = s} {h = h} {c = c} a n next other = record {
   law = IsLawful-push base h (Close n) a.law next;

@@ -25,7 +25,8 @@ use Rattle.rx_event.proofs.Laws.Reading.{parent_read, renumbered_back}
 use Rattle.rx_event.proofs.Laws.ReadOpened.{at_read, hub_made, merging_read}
 use Rattle.rx_event.proofs.Laws.ReadStops.{subscribers_read, visits_read}
 use Rattle.rx_event.proofs.Laws.ReadShown.{made_at, node_named, resource_made, root_by}
-use Rattle.rx_event.proofs.Laws.ReadAllowed.{leaf_by, sourced_by, abort_by, until_by, open_nodes_read, hubs_read, hub_read, owed_read, sourced_read, notified_read, in_order_read}
+use Rattle.rx_event.proofs.Laws.ReadAllowed.{leaf_by, sourced_by, abort_by, until_by, open_nodes_read, hubs_read}
+use Rattle.rx_event.proofs.Laws.ReadAllowed.{hub_read, owed_read, sourced_read, notified_read, in_order_read}
 use Rattle.rx_event.proofs.Laws.ReadSteps.{connections_read}
 
 pub same_back : (base : Kept) → {r s : ℕ → ℕ} {h c : List Event} → AreSameBy base r s h c → AreSameBy base s r c h
@@ -47,8 +48,10 @@ module _ (base : Kept) (r s : ℕ → ℕ) (h c : List Event) (a : AreSameBy bas
       let w = list_any_found (is_open_child_of h n) (places h) found in
       let parts = and_parts (is_open h w.1) (is_child_of h n w.1) w.3 in
       let alive : is_open c (r w.1) ≡ true = a.numbers.there.alive w.1 parts.0 in
-      let below : parent c (r w.1) ≡ Some (r n) = parent_read base r s h c a.numbers.law a.numbers.other_law a.numbers.there a.numbers.back w.1 n parts.0 (is_child_parent h n w.1 parts.1) in
-      list_any_holds (is_open_child_of c (r n)) (places c) (r w.1) (r w.1) (place_get c (r w.1) (is_open_within c (r w.1) alive)) (and_from _ _ alive (parent_is_child c (r n) (r w.1) below))
+      let below : parent c (r w.1) ≡ Some (r n) =
+      parent_read base r s h c a.numbers.law a.numbers.other_law a.numbers.there a.numbers.back w.1 n parts.0 (is_child_parent h n w.1 parts.1) in
+      list_any_holds (is_open_child_of c (r n)) (places c) (r w.1) (r w.1) (place_get c (r w.1) (is_open_within c (r w.1) alive))
+      (and_from _ _ alive (parent_is_child c (r n) (r w.1) below))
 
   hub_test : (q : Event → Bool) → (g : ℕ) → at makes_hub h g ≡ true → at q c (r g) ≡ at q h g
   hub_test q g hub =
@@ -62,14 +65,18 @@ module _ (base : Kept) (r s : ℕ → ℕ) (h c : List Event) (a : AreSameBy bas
   unfolding is_waiting
   waiting_same q made =
       let w = resource_made h q made in
-      let there : at makes_resource c (r q) ≡ at makes_resource h q = ap (λ (x : Option Event). option_map_or makes_resource x false) (a.shown.kept q (Accept w.0 w.1) refl w.2) ∙ sym made in
+      let there : at makes_resource c (r q) ≡ at makes_resource h q =
+      ap (λ (x : Option Event). option_map_or makes_resource x false) (a.shown.kept q (Accept w.0 w.1) refl w.2) ∙ sym made in
       (λ i. there i && not (a.shown.held q made i) && not (a.shown.taken q made i))
 
-children_same : (base : Kept) → (r s : ℕ → ℕ) (h c : List Event) (a : AreSameBy base r s h c) (n : ℕ) → is_open h n ≡ true → has_open_child c (r n) ≡ has_open_child h n
+children_same : (base : Kept) → (r s : ℕ → ℕ) (h c : List Event) (a : AreSameBy base r s h c) (n : ℕ) → is_open h n ≡ true →
+    has_open_child c (r n) ≡ has_open_child h n
 children_same base r s h c a n o = same_test (has_open_child c (r n)) (has_open_child h n)
-    (λ found. ap (has_open_child h) (sym (a.numbers.there.undone n o)) ∙ children_there base s r c h (same_back base a) (r n) (a.numbers.there.alive n o) found) (children_there base r s h c a n o)
+    (λ found. ap (has_open_child h) (sym (a.numbers.there.undone n o)) ∙
+    children_there base s r c h (same_back base a) (r n) (a.numbers.there.alive n o) found) (children_there base r s h c a n o)
 
-ordered_back : (base : Kept) → (r s : ℕ → ℕ) (h c : List Event) (a : AreSameBy base r s h c) (g p : ℕ) → at makes_hub h g ≡ true → is_open h p ≡ true → IsInOrderAt c (r g) (r p) → IsInOrderAt h g p
+ordered_back : (base : Kept) → (r s : ℕ → ℕ) (h c : List Event) (a : AreSameBy base r s h c) (g p : ℕ) → at makes_hub h g ≡ true → is_open h p ≡ true →
+    IsInOrderAt c (r g) (r p) → IsInOrderAt h g p
 ordered_back base r s h c a g p hub o ordered =
     subst (λ (i : ℕ). IsInOrderAt h i p) (undone_hub base r s h c a g hub)
     (subst (λ (n : ℕ). IsInOrderAt h (s (r g)) n) (a.numbers.there.undone p o)
@@ -104,6 +111,10 @@ callers_see base r s h c a = record {
   waiting = waiting_same base r s h c a;
   nodes = open_nodes_read base r s h c a;
   all_hubs = hubs_read base r s h c a;
-  open_total = sym (length-filter (is_open c) (places c)) ∙ ap length (open_nodes_read base r s h c a) ∙ length-map (open_nodes h) r ∙ length-filter (is_open h) (places h);
+  open_total =
+      sym (length-filter (is_open c) (places c)) ∙
+      ap length (open_nodes_read base r s h c a) ∙
+      length-map (open_nodes h) r ∙
+      length-filter (is_open h) (places h);
   hub_total = ap length (hubs_read base r s h c a) ∙ length-map (hubs h) r;
 }

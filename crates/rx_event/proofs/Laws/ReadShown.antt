@@ -41,13 +41,16 @@ use Rattle.rx_event.proofs.Laws.Making.{made_untold}
 -- no number past the end was told anything ------------------------------------------------------------------------------------
 
 notes_past : (base : Kept) → (h : List Event) → IsLawful base h → (n : ℕ) → length h ≤ n → notes_to h n ≡ []
-notes_past base = by_events base (λ h. (n : ℕ) → length h ≤ n → notes_to h n ≡ []) (λ started n l. ap (notes_in n) (made_untold (shown base) started.making)) (λ h e law next before n l.
+notes_past base =
+    by_events base (λ h. (n : ℕ) → length h ≤ n → notes_to h n ≡ []) (λ started n l. ap (notes_in n) (made_untold (shown base) started.making))
+    (λ h e law next before n l.
     let past : length h ≤ n = omega (arith, length-append h (e ∷ [])) in
     notes_to-push h e n ∙ (λ i. before n past i ++ (mail_silent base) h e law next n (is_open_past h n past) i))
 
 notes_new : (base : Kept) → (h : List Event) (e : Event) → IsLawful base h → MayFollow base h e → notes_to (h ++ e ∷ []) (length h) ≡ []
 notes_new base h e law next =
-    notes_to-push h e (length h) ∙ (λ i. notes_past base h law (length h) (omega arith) i ++ (mail_silent base) h e law next (length h) (is_open_past h (length h) (omega arith)) i)
+    notes_to-push h e (length h) ∙
+    (λ i. notes_past base h law (length h) (omega arith) i ++ (mail_silent base) h e law next (length h) (is_open_past h (length h) (omega arith)) i)
 
 pub root_by : (r : ℕ → ℕ) (e : Event) → is_root e ≡ true → is_root (event_by r e) ≡ true
 root_by r (Open Root kind) holds = refl
@@ -117,13 +120,15 @@ named_by_below base r q h (Lease m) same next named = ap Lease (same m (at_withi
 named_by_below base r q h _ same next named = absurd (false≢true named)
 
 -- and so does an event that stands in a lawful history
-stands_below : (base : Kept) → (r q : ℕ → ℕ) (h : List Event) (n : ℕ) (e : Event) → IsLawful base h → ((k : ℕ) → k < length h → q k ≡ r k) → slice_get h n ≡ Some e → is_named e ≡ true →
+stands_below : (base : Kept) → (r q : ℕ → ℕ) (h : List Event) (n : ℕ) (e : Event) → IsLawful base h → ((k : ℕ) → k < length h → q k ≡ r k) →
+    slice_get h n ≡ Some e → is_named e ≡ true →
     event_by q e ≡ event_by r e
 stands_below base r q h n (Open place kind) law same at_n named = names_below base r q h n (Open place kind) law same at_n refl
 stands_below base r q h n (Connect g) law same at_n named = names_below base r q h n (Connect g) law same at_n refl
 stands_below base r q h n (Hub mode) law same at_n named = refl
 stands_below base r q h n (Accept m tag) law same at_n named =
-    ap (λ k. Accept k tag) (same m (let w = node_of-lt base h law n m (ap (option_and_then node_of_accept) at_n) in let l = slice_get_within h n _ at_n in omega arith))
+    ap (λ k. Accept k tag)
+    (same m (let w = node_of-lt base h law n m (ap (option_and_then node_of_accept) at_n) in let l = slice_get_within h n _ at_n in omega arith))
 stands_below base r q h n (Lease m) law same at_n named =
     ap Lease (same m (let w = lease_older base h law n m at_n in let l = slice_get_within h n _ at_n in omega arith))
 stands_below base r q h n _ law same at_n named = absurd (false≢true named)
@@ -159,12 +164,14 @@ module _ (base : Kept) (r s : ℕ → ℕ) (h c : List Event) (a : AreRenumbered
       ap (λ (ss : List Stop). notes_in (r n) (filter_map (told (length c) v) ss)) (stops_read base r s h c a l (may_emit base next)) ∙
       items_told (length h) (length c) v n named (stops h l) (stops_open base h l a.law (may_emit base next))
   mail_same (End m t) next n named =
-      ap (λ b. notes_in (r n) (cond b ((record { place = length c; to = r m; note = EndNote t }) ∷ []) [])) (root_read base a m (may_end base next)) ∙ by_root (at is_root h m)
+      ap (λ b. notes_in (r n) (cond b ((record { place = length c; to = r m; note = EndNote t }) ∷ []) [])) (root_read base a m (may_end base next)) ∙
+      by_root (at is_root h m)
     where
       by_root : (b : Bool) → notes_in (r n) (cond b ((record { place = length c; to = r m; note = EndNote t }) ∷ []) []) ≡
           notes_in n (cond b ((record { place = length h; to = m; note = EndNote t }) ∷ []) [])
       by_root false = refl
-      by_root true = noted_to (r n) (r m) (length c) (EndNote t) [] ∙ ap (λ b. noted b (EndNote t) []) (apart_named m n (open_named m (may_end base next)) named) ∙
+      by_root true =
+          noted_to (r n) (r m) (length c) (EndNote t) [] ∙ ap (λ b. noted b (EndNote t) []) (apart_named m n (open_named m (may_end base next)) named) ∙
           sym (noted_to n m (length h) (EndNote t) [])
   mail_same (Open place kind) next n named = refl
   mail_same (Hub mode) next n named = refl
@@ -212,7 +219,8 @@ take_by r _ = refl
 
 -- one event more -----------------------------------------------------------------------------------------------------------------
 
-module _ (base : Kept) (r s q t : ℕ → ℕ) (h c : List Event) (e : Event) (a : AreRenumbered base r s h c) (after : AreRenumbered base q t (h ++ e ∷ []) (c ++ event_by r e ∷ []))
+module _ (base : Kept) (r s q t : ℕ → ℕ) (h c : List Event) (e : Event) (a : AreRenumbered base r s h c)
+    (after : AreRenumbered base q t (h ++ e ∷ []) (c ++ event_by r e ∷ []))
     (sh : IsShown base r s h c) (next : MayFollow base h e) (other : MayFollow base c (event_by r e)) (older : (k : ℕ) → k < length h → q k ≡ r k)
     (older_back : (k : ℕ) → k < length c → t k ≡ s k) (newest : is_named e ≡ true → (q (length h) ≡ length c) × (t (length c) ≡ length h)) where
   abbrev H : List Event
@@ -361,13 +369,17 @@ module _ (base : Kept) (r s q t : ℕ → ℕ) (h c : List Event) (e : Event) (a
 
   -- a resource is no node
   not_open : (k : List Event) (p m tag : ℕ) → slice_get k p ≡ Some (Accept m tag) → is_open k p ≡ false
-  not_open k p m tag at_p = false_from_ne_true (is_open k p) (λ o. false≢true (sym (ap (λ (x : Option Event). option_map_or makes_node x false) at_p) ∙ open_node k p o))
+  not_open k p m tag at_p =
+      false_from_ne_true (is_open k p) (λ o. false≢true (sym (ap (λ (x : Option Event). option_map_or makes_node x false) at_p) ∙ open_node k p o))
 
   open_there : (p n tag : ℕ) → p < length h → slice_get h p ≡ Some (Accept n tag) → (n ≡ p) ⊎ (at makes_node h n ≡ true) → is_open C (q n) ≡ is_open H n
   open_there p n tag l at_p (inr node) = open_both n (at-append makes_node h (e ∷ []) n (at_within makes_node h n node) ∙ node)
   open_there p n tag l at_p (inl same) =
       let here : slice_get H p ≡ Some (Accept n tag) = slice_get-append h (e ∷ []) p l ∙ at_p in
-      ap (λ k. is_open C (q k)) same ∙ not_open C (q p) (q n) tag (kept_old p (Accept n tag) refl at_p) ∙ sym (not_open H p n tag here) ∙ ap (is_open H) (sym same)
+      ap (λ k. is_open C (q k)) same ∙
+      not_open C (q p) (q n) tag (kept_old p (Accept n tag) refl at_p) ∙
+      sym (not_open H p n tag here) ∙
+      ap (is_open H) (sym same)
 
   owned_on : (p : ℕ) → at makes_resource H p ≡ true → is_owned C (q p) ≡ is_owned H p
   owned_on p made = by_where (where_stands makes_resource p made) where
@@ -455,7 +467,8 @@ module _ (base : Kept) (r s q t : ℕ → ℕ) (h c : List Event) (e : Event) (a
     by_where : WhereStands makes_resource p → uses base C (q p) ≡ uses base H p
     by_where (stands_last same is) =
         let one : uses base H (length h) ≡ uses base h (length h) + cond (is_use_of (length h) e) 1 0 = uses-push base h e (length h) in
-        let two : uses base C (length c) ≡ uses base c (length c) + cond (is_use_of (length c) (event_by r e)) 1 0 = uses-push base c (event_by r e) (length c) in
+        let two : uses base C (length c) ≡ uses base c (length c) + cond (is_use_of (length c) (event_by r e)) 1 0 =
+        uses-push base c (event_by r e) (length c) in
         let none : uses base h (length h) ≡ 0 = uses_past base h a.law (length h) (omega arith) in
         let none_there : uses base c (length c) ≡ 0 = uses_past base c a.other_law (length c) (omega arith) in
         let zero_here : cond {A = ℕ} (is_use_of (length h) e) 1 0 ≡ 0 = uses_none e (length h) is in
@@ -463,11 +476,17 @@ module _ (base : Kept) (r s q t : ℕ → ℕ) (h c : List Event) (e : Event) (a
         let both : uses base C (length c) ≡ uses base H (length h) = omega arith in
         ap (λ k. uses base C (q k)) same ∙ ap (uses base C) (newest (resource_named e is)).0 ∙ both ∙ ap (uses base H) (sym same)
     by_where (stood l was) =
-        ap (uses base C) (older p l) ∙ uses-push base c (event_by r e) (r p) ∙ (λ i. sh.used p was i + cond (uses_same p was i) 1 0) ∙ sym (uses-push base h e p)
+        ap (uses base C) (older p l) ∙
+        uses-push base c (event_by r e) (r p) ∙
+        (λ i. sh.used p was i + cond (uses_same p was i) 1 0) ∙
+        sym (uses-push base h e p)
 
   -- a test that sees no number counts as much more
   counts_on : (p : Event → Bool) → p (event_by r e) ≡ p e → count_by p c ≡ count_by p h → count_by p C ≡ count_by p H
-  counts_on p same before = sum_by_push (λ (x : Event). cond (p x) 1 0) c (event_by r e) ∙ (λ i. before i + cond (same i) 1 0) ∙ sym (sum_by_push (λ (x : Event). cond (p x) 1 0) h e)
+  counts_on p same before =
+      sum_by_push (λ (x : Event). cond (p x) 1 0) c (event_by r e) ∙
+      (λ i. before i + cond (same i) 1 0) ∙
+      sym (sum_by_push (λ (x : Event). cond (p x) 1 0) h e)
 
   totals_on : (n : ℕ) (p : Event → Bool) → p (event_by r e) ≡ p e → n + count_by p c ≡ n + count_by p h → n + count_by p C ≡ n + count_by p H
   totals_on n p same before = let less : count_by p c ≡ count_by p h = omega arith in ap (λ x. n + x) (counts_on p same less)

@@ -1,5 +1,6 @@
 -- One call on two histories that are the same but for their numbers leaves them so, whatever the order of what is forced in each.
-use Rattle.std.proofs.Common.{◌≡◌, ℕ, ◌+◌, ◌≤◌, true, false, List, [], ◌∷◌, ◌++◌, length, Option, Some, map, slice_get, refl, sym, ap, subst, ◌∙◌, arith, append_assoc, append-nil, length-append}
+use Rattle.std.proofs.Common.{◌≡◌, ℕ, ◌+◌, ◌≤◌, true, false, List, [], ◌∷◌, ◌++◌, length, Option, Some, map, slice_get}
+use Rattle.std.proofs.Common.{refl, sym, ap, subst, ◌∙◌, arith, append_assoc, append-nil, length-append}
 use Rattle.std.proofs.Math.Bool.{◌&&◌}
 use Rattle.std.specs.Option.{option_map_or}
 use Rattle.std.proofs.lemmas.Bool.{and_parts, and_from, eq-eqb}
@@ -25,23 +26,30 @@ use Rattle.rx_event.proofs.Laws.ReadWhole.{GoesAlike, goes_nowhere, goes_one_on,
 use Rattle.rx_event.proofs.Laws.ReadAllowed.{same_list}
 
 -- a call of one event
-single : (base : Kept) → {r s : ℕ → ℕ} {h c : List Event} → AreSameBy base r s h c → (e : Event) (k j : List Event) → IsStep base h (e ∷ []) k → IsStep base c (event_by r e ∷ []) j →
+single : (base : Kept) → {r s : ℕ → ℕ} {h c : List Event} → AreSameBy base r s h c → (e : Event) (k j : List Event) → IsStep base h (e ∷ []) k →
+    IsStep base c (event_by r e ∷ []) j →
     AreSameSince base r h c k j
 single base {r = r} {h = h} {c = c} a e k j one other =
     let long = shown_within base h a.numbers.law in
     let long_there = shown_within base c a.numbers.other_law in
     let next = lawful_last base h e long (lawful_begun base one.forced (omega (arith, length-append h (e ∷ []))) one.lawful) in
-    let also = lawful_last base c (event_by r e) long_there (lawful_begun base other.forced (omega (arith, length-append c (event_by r e ∷ []))) other.lawful) in
-    courses_since base r h c (h ++ e ∷ []) (c ++ event_by r e ∷ []) k j (goes_one_on base (goes_nowhere base a) e next also) one.forced one.settled other.forced other.settled other.lawful
+    let also =
+    lawful_last base c (event_by r e) long_there (lawful_begun base other.forced (omega (arith, length-append c (event_by r e ∷ []))) other.lawful) in
+    courses_since base r h c (h ++ e ∷ []) (c ++ event_by r e ∷ []) k j (goes_one_on base (goes_nowhere base a) e next also) one.forced one.settled
+    other.forced other.settled other.lawful
 
 -- a node with its resource
-using : (base : Kept) → {r s : ℕ → ℕ} {h c : List Event} → AreSameBy base r s h c → (place : Place) (tag : ℕ) (k j : List Event) → IsStep base h (Open place Pass ∷ Accept (length h) tag ∷ []) k →
+using : (base : Kept) → {r s : ℕ → ℕ} {h c : List Event} → AreSameBy base r s h c → (place : Place) (tag : ℕ) (k j : List Event) →
+    IsStep base h (Open place Pass ∷ Accept (length h) tag ∷ []) k →
     IsStep base c (Open (place_by r place) Pass ∷ Accept (length c) tag ∷ []) j → AreSameSince base r h c k j
 using base {r = r} {s = s} {h = h} {c = c} a place tag k j one other =
-    courses_since base r h c ((h ++ Open place Pass ∷ []) ++ Accept (length h) tag ∷ []) ((c ++ Open (place_by r place) Pass ∷ []) ++ Accept (length c) tag ∷ []) k j
-    (subst (λ (m : ℕ). GoesAlike base r h c ((h ++ Open place Pass ∷ []) ++ Accept (length h) tag ∷ []) ((c ++ Open (place_by r place) Pass ∷ []) ++ Accept m tag ∷ [])) number
+    courses_since base r h c ((h ++ Open place Pass ∷ []) ++ Accept (length h) tag ∷ [])
+    ((c ++ Open (place_by r place) Pass ∷ []) ++ Accept (length c) tag ∷ []) k j
+    (subst (λ (m : ℕ). GoesAlike base r h c ((h ++ Open place Pass ∷ []) ++ Accept (length h) tag ∷ [])
+    ((c ++ Open (place_by r place) Pass ∷ []) ++ Accept m tag ∷ [])) number
     (goes_one_on base opened (Accept (length h) tag) (lawful_last base (h ++ Open place Pass ∷ []) (Accept (length h) tag) longer law)
-    (subst (λ (m : ℕ). MayFollow base (c ++ Open (place_by r place) Pass ∷ []) (Accept m tag)) (sym number) (lawful_last base (c ++ Open (place_by r place) Pass ∷ []) (Accept (length c) tag) longer_there law_there))))
+    (subst (λ (m : ℕ). MayFollow base (c ++ Open (place_by r place) Pass ∷ []) (Accept m tag)) (sym number)
+    (lawful_last base (c ++ Open (place_by r place) Pass ∷ []) (Accept (length c) tag) longer_there law_there))))
     course one.settled course_there other.settled other.lawful
   where
     longer : length (shown base) ≤ length (h ++ Open place Pass ∷ [])
@@ -54,17 +62,24 @@ using base {r = r} {s = s} {h = h} {c = c} a place tag k j one other =
     course = subst (λ (q : List Event). IsForcedOn base q k) (sym (append_assoc h (Open place Pass ∷ []) (Accept (length h) tag ∷ []))) one.forced
 
     course_there : IsForcedOn base ((c ++ Open (place_by r place) Pass ∷ []) ++ Accept (length c) tag ∷ []) j
-    course_there = subst (λ (q : List Event). IsForcedOn base q j) (sym (append_assoc c (Open (place_by r place) Pass ∷ []) (Accept (length c) tag ∷ []))) other.forced
+    course_there =
+        subst (λ (q : List Event). IsForcedOn base q j) (sym (append_assoc c (Open (place_by r place) Pass ∷ []) (Accept (length c) tag ∷ []))) other.forced
 
     law : IsLawful base ((h ++ Open place Pass ∷ []) ++ Accept (length h) tag ∷ [])
     law = lawful_begun base course (omega (arith, longer, length-append (h ++ Open place Pass ∷ []) (Accept (length h) tag ∷ []))) one.lawful
 
     law_there : IsLawful base ((c ++ Open (place_by r place) Pass ∷ []) ++ Accept (length c) tag ∷ [])
-    law_there = lawful_begun base course_there (omega (arith, longer_there, length-append (c ++ Open (place_by r place) Pass ∷ []) (Accept (length c) tag ∷ []))) other.lawful
+    law_there =
+        lawful_begun base course_there (omega (arith, longer_there, length-append (c ++ Open (place_by r place) Pass ∷ []) (Accept (length c) tag ∷ [])))
+        other.lawful
 
     opened : GoesAlike base r h c (h ++ Open place Pass ∷ []) (c ++ Open (place_by r place) Pass ∷ [])
-    opened = goes_one_on base (goes_nowhere base a) (Open place Pass) (lawful_last base h (Open place Pass) (shown_within base h a.numbers.law) (lawful_front base (h ++ Open place Pass ∷ []) (Accept (length h) tag) longer law))
-        (lawful_last base c (Open (place_by r place) Pass) (shown_within base c a.numbers.other_law) (lawful_front base (c ++ Open (place_by r place) Pass ∷ []) (Accept (length c) tag) longer_there law_there))
+    opened =
+        goes_one_on base (goes_nowhere base a) (Open place Pass)
+        (lawful_last base h (Open place Pass) (shown_within base h a.numbers.law)
+        (lawful_front base (h ++ Open place Pass ∷ []) (Accept (length h) tag) longer law))
+        (lawful_last base c (Open (place_by r place) Pass) (shown_within base c a.numbers.other_law)
+        (lawful_front base (c ++ Open (place_by r place) Pass ∷ []) (Accept (length c) tag) longer_there law_there))
 
     same_place : length h + 0 ≡ length h
     same_place = omega arith
@@ -78,10 +93,14 @@ using base {r = r} {s = s} {h = h} {c = c} a place tag k j one other =
         ap (λ (x : Option Event). option_map_or is_named x false) (slice_get_last h (Open place Pass))) ∙ same_there
 
 -- the connections of a hub
-pub connections_read : (base : Kept) → (r s : ℕ → ℕ) (h c : List Event) (a : AreSameBy base r s h c) (g : ℕ) → s (r g) ≡ g → open_connections c (r g) ≡ map r (open_connections h g)
-connections_read base r s h c a g undone = same_list r s (λ n. at (is_connect_of g) h n && is_open h n) (λ n. at (is_connect_of (r g)) c n && is_open c n) (length h) (length c)
-    (λ n holds. is_open_within h n (and_parts (at (is_connect_of g) h n) (is_open h n) holds).1) (λ n holds. is_open_within c n (and_parts (at (is_connect_of (r g)) c n) (is_open c n) holds).1)
-    there back (λ m n holds also l. a.numbers.there.order m n (and_parts (at (is_connect_of g) h m) (is_open h m) holds).1 (and_parts (at (is_connect_of g) h n) (is_open h n) also).1 l)
+pub connections_read : (base : Kept) → (r s : ℕ → ℕ) (h c : List Event) (a : AreSameBy base r s h c) (g : ℕ) → s (r g) ≡ g →
+    open_connections c (r g) ≡ map r (open_connections h g)
+connections_read base r s h c a g undone =
+    same_list r s (λ n. at (is_connect_of g) h n && is_open h n) (λ n. at (is_connect_of (r g)) c n && is_open c n) (length h) (length c)
+    (λ n holds. is_open_within h n (and_parts (at (is_connect_of g) h n) (is_open h n) holds).1)
+    (λ n holds. is_open_within c n (and_parts (at (is_connect_of (r g)) c n) (is_open c n) holds).1)
+    there back (λ m n holds also l. a.numbers.there.order m n (and_parts (at (is_connect_of g) h m) (is_open h m) holds).1
+    (and_parts (at (is_connect_of g) h n) (is_open h n) also).1 l)
   where
     there : (n : ℕ) → (at (is_connect_of g) h n && is_open h n) ≡ true → (at (is_connect_of (r g)) c (r n) && is_open c (r n)) ≡ true
     there n holds =
@@ -95,15 +114,18 @@ connections_read base r s h c a g undone = same_list r s (λ n. at (is_connect_o
         let made : slice_get h (s n) ≡ Some (Connect (s (r g))) = a.numbers.back.made n (Connect (r g)) parts.1 (at_connect c (r g) n parts.0) in
         (and_from _ _ (rw made (eq-eqb (s (r g)) g undone)) (a.numbers.back.alive n parts.1), a.numbers.back.undone n parts.1)
 
-disconnecting : (base : Kept) → {r s : ℕ → ℕ} {h c : List Event} → AreSameBy base r s h c → (g : ℕ) → at makes_hub h g ≡ true → (k j : List Event) → IsStep base h (map (λ n. Close n) (open_connections h g)) k →
+disconnecting : (base : Kept) → {r s : ℕ → ℕ} {h c : List Event} → AreSameBy base r s h c → (g : ℕ) → at makes_hub h g ≡ true → (k j : List Event) →
+    IsStep base h (map (λ n. Close n) (open_connections h g)) k →
     IsStep base c (map (λ n. Close n) (open_connections c (r g))) j → AreSameSince base r h c k j
 disconnecting base {r = r} {s = s} {h = h} {c = c} a g hub k j one other =
-    by_list (open_connections h g) (one_open_connection base h a.numbers.law g) one (subst (λ (ms : List ℕ). IsStep base c (map (λ n. Close n) ms) j) (connections_read base r s h c a g undone) other)
+    by_list (open_connections h g) (one_open_connection base h a.numbers.law g) one
+    (subst (λ (ms : List ℕ). IsStep base c (map (λ n. Close n) ms) j) (connections_read base r s h c a g undone) other)
   where
     undone : s (r g) ≡ g
     undone = let w = hub_made h g hub in a.numbers.there.hub_undone g w.0 w.1
 
-    by_list : (ns : List ℕ) → length ns ≤ 1 → IsStep base h (map (λ n. Close n) ns) k → IsStep base c (map (λ n. Close n) (map r ns)) j → AreSameSince base r h c k j
+    by_list : (ns : List ℕ) → length ns ≤ 1 → IsStep base h (map (λ n. Close n) ns) k → IsStep base c (map (λ n. Close n) (map r ns)) j →
+        AreSameSince base r h c k j
     by_list [] few one other =
         courses_same base r s h c k j a (subst (λ (q : List Event). IsForcedOn base q k) (append-nil h) one.forced) one.settled
         (subst (λ (q : List Event). IsForcedOn base q j) (append-nil c) other.forced) other.settled other.lawful
@@ -111,7 +133,8 @@ disconnecting base {r = r} {s = s} {h = h} {c = c} a g hub k j one other =
     by_list (n ∷ m ∷ ns) few one other = absurd (omega arith)
 
 -- One step after another stays the same but for numbers
-pub steps_same : (base : Kept) → (r s : ℕ → ℕ) (h c k j : List Event) (call : Call) → AreSameBy base r s h c → IsKnown h call → IsStepOf base h call k → IsStepOf base c (call_by r call) j → AreSameSince base r h c k j
+pub steps_same : (base : Kept) → (r s : ℕ → ℕ) (h c k j : List Event) (call : Call) → AreSameBy base r s h c → IsKnown h call → IsStepOf base h call k →
+    IsStepOf base c (call_by r call) j → AreSameSince base r h c k j
 steps_same base r s h c k j (Opening place kind) a known one other = single base a (Open place kind) k j one other
 steps_same base r s h c k j (OpeningUsing place tag) a known one other = using base a place tag k j one other
 steps_same base r s h c k j (Holding n tag) a known one other = single base a (Accept n tag) k j one other

@@ -1,5 +1,6 @@
 -- An item has the same stops in two histories that are the same but for their numbers.
-use Rattle.std.proofs.Common.{◌≡◌, ℕ, zero, suc, ◌<◌, Bool, true, false, List, [], ◌∷◌, ◌++◌, length, Option, Some, None, option_map, cond, slice_get, refl, sym, ap, subst, ◌∙◌, inl, inr, ◌⊎◌, ◌==◌, arith, map}
+use Rattle.std.proofs.Common.{◌≡◌, ℕ, zero, suc, ◌<◌, Bool, true, false, List, [], ◌∷◌, ◌++◌, length, Option, Some, None}
+use Rattle.std.proofs.Common.{option_map, cond, slice_get, refl, sym, ap, subst, ◌∙◌, inl, inr, ◌⊎◌, ◌==◌, arith, map}
 use Rattle.std.proofs.Math.Bool.{◌&&◌}
 use Rattle.std.specs.List.{AllByRecursion, filter_map, cons_option}
 use Rattle.std.specs.Option.{option_and_then, option_map_or, option_to_list}
@@ -13,7 +14,8 @@ use Rattle.rx_event.specs.declared.event.Event.TheVariants.{Open, Connect}
 use Rattle.rx_event.specs.declared.marks.Marks.{Marks}
 use Rattle.rx_event.specs.Events.{is_merging, is_subscriber_of}
 use Rattle.rx_event.specs.Tree.{at, places, parent, is_open, open_subscribers}
-use Rattle.rx_event.specs.Climb.{Stop, Delivery, Projection, Firing, stop_made, stop_at, onward_from, onward_unless, onward, visited, climb, stops, visits, most_visits}
+use Rattle.rx_event.specs.Climb.{Stop, Delivery, Projection, Firing, stop_made, stop_at, onward_from}
+use Rattle.rx_event.specs.Climb.{onward_unless, onward, visited, climb, stops, visits, most_visits}
 use Rattle.rx_event.specs.Marks.{after_stop, after_stops, after_projection, after_firing}
 use Rattle.rx_event.specs.Claims.Climbs.{StopsAtOpen}
 use Rattle.rx_event.specs.Renumbered.{event_by, AreRenumbered}
@@ -46,7 +48,9 @@ module _ (base : Kept) (r s : ℕ → ℕ) (h c : List Event) (a : AreRenumbered
       let alive : is_open h (s m) ≡ true = a.back.alive m parts.1 in
       let l : s m < length h = is_open_within h (s m) alive in
       subst (λ (k : ℕ). In k (map r (open_subscribers h g))) (a.back.undone m parts.1)
-      (in_map r (open_subscribers h g) (s m) (in_filter (λ n. at (is_subscriber_of g) h n && is_open h n) (places h) (s m) (in_range 0 (length h) (s m) (omega arith) (omega arith)) (and_from _ _ here alive)))
+      (in_map r (open_subscribers h g) (s m)
+      (in_filter (λ n. at (is_subscriber_of g) h n && is_open h n) (places h) (s m) (in_range 0 (length h) (s m) (omega arith) (omega arith))
+      (and_from _ _ here alive)))
 
   in_subscribers : (g m : ℕ) → In m (map r (open_subscribers h g)) → In m (open_subscribers c (r g))
   in_subscribers g m i =
@@ -56,7 +60,8 @@ module _ (base : Kept) (r s : ℕ → ℕ) (h c : List Event) (a : AreRenumbered
       let alive : is_open c (r w.0) ≡ true = a.there.alive w.0 parts.1 in
       let l : r w.0 < length c = is_open_within c (r w.0) alive in
       subst (λ (k : ℕ). In k (open_subscribers c (r g))) w.2
-      (in_filter (λ n. at (is_subscriber_of (r g)) c n && is_open c n) (places c) (r w.0) (in_range 0 (length c) (r w.0) (omega arith) (omega arith)) (and_from _ _ (subscriber_read base r s h c a.law a.other_law a.there a.back g w.0 parts.1 parts.0) alive))
+      (in_filter (λ n. at (is_subscriber_of (r g)) c n && is_open c n) (places c) (r w.0) (in_range 0 (length c) (r w.0) (omega arith) (omega arith))
+      (and_from _ _ (subscriber_read base r s h c a.law a.other_law a.there a.back g w.0 parts.1 parts.0) alive))
 
   pub subscribers_read : (g : ℕ) → s (r g) ≡ g → open_subscribers c (r g) ≡ map r (open_subscribers h g)
   subscribers_read g undone = rising_same (open_subscribers c (r g)) (map r (open_subscribers h g))
@@ -90,7 +95,10 @@ module _ (base : Kept) (r s : ℕ → ℕ) (h c : List Event) (a : AreRenumbered
     by_made _ at_n = refl
 
     by_event : (e : Event) → slice_get h n ≡ Some e → stop_at c (r n) ≡ option_map (stop_by r) (stop_at h n)
-    by_event e at_n = ap (option_and_then (stop_made c (r n))) (a.there.made n e o at_n) ∙ by_made e at_n ∙ sym (ap (λ (x : Option Event). option_map (stop_by r) (option_and_then (stop_made h n) x)) at_n)
+    by_event e at_n =
+        ap (option_and_then (stop_made c (r n))) (a.there.made n e o at_n) ∙
+        by_made e at_n ∙
+        sym (ap (λ (x : Option Event). option_map (stop_by r) (option_and_then (stop_made h n) x)) at_n)
 
   -- where the climb goes on
   onward_read : (n : ℕ) → is_open h n ≡ true → onward c (r n) ≡ map r (onward h n)
@@ -106,7 +114,9 @@ module _ (base : Kept) (r s : ℕ → ℕ) (h c : List Event) (a : AreRenumbered
     above (Some p) below y found = sym found ∙ parent_read base r s h c a.law a.other_law a.there a.back n p o below
     above None below None found = refl
     above None below (Some q) found =
-        absurd (none-some (s q) (sym below ∙ ap (parent h) (sym (a.there.undone n o)) ∙ parent_read base s r c h a.other_law a.law a.back a.there (r n) q (a.there.alive n o) found))
+        absurd (none-some (s q) (sym below ∙
+        ap (parent h) (sym (a.there.undone n o)) ∙
+        parent_read base s r c h a.other_law a.law a.back a.there (r n) q (a.there.alive n o) found))
 
     parents : option_to_list (parent c (r n)) ≡ map r (option_to_list (parent h n))
     parents = ap option_to_list (above (parent h n) refl (parent c (r n)) refl) ∙ to_list (parent h n)
@@ -124,10 +134,13 @@ module _ (base : Kept) (r s : ℕ → ℕ) (h c : List Event) (a : AreRenumbered
 
     by_stop : (x : Option Stop) → stop_at h n ≡ x → onward c (r n) ≡ map r (onward h n)
     by_stop None stop =
-        ap (λ (x : Option Stop). onward_unless x (option_map_or (onward_from c (r n)) (slice_get c (r n)) [])) (stop_read n o ∙ ap (option_map (stop_by r)) stop) ∙ whole ∙
+        ap (λ (x : Option Stop). onward_unless x (option_map_or (onward_from c (r n)) (slice_get c (r n)) []))
+        (stop_read n o ∙ ap (option_map (stop_by r)) stop) ∙
+        whole ∙
         sym (ap (λ (x : Option Stop). map r (onward_unless x (option_map_or (onward_from h n) (slice_get h n) []))) stop)
     by_stop (Some t) stop =
-        ap (λ (x : Option Stop). onward_unless x (option_map_or (onward_from c (r n)) (slice_get c (r n)) [])) (stop_read n o ∙ ap (option_map (stop_by r)) stop) ∙
+        ap (λ (x : Option Stop). onward_unless x (option_map_or (onward_from c (r n)) (slice_get c (r n)) []))
+        (stop_read n o ∙ ap (option_map (stop_by r)) stop) ∙
         sym (ap (λ (x : Option Stop). map r (onward_unless x (option_map_or (onward_from h n) (slice_get h n) []))) stop)
 
   -- so the same nodes are visited
@@ -135,7 +148,8 @@ module _ (base : Kept) (r s : ℕ → ℕ) (h c : List Event) (a : AreRenumbered
   visited_read zero todo all = refl
   visited_read (suc left) [] all = refl
   visited_read (suc left) (n ∷ todo) all =
-      let next : onward c (r n) ++ map r todo ≡ map r (onward h n ++ todo) = ap (λ (xs : List ℕ). xs ++ map r todo) (onward_read n all.0) ∙ sym (map-append r (onward h n) todo) in
+      let next : onward c (r n) ++ map r todo ≡ map r (onward h n ++ todo) =
+      ap (λ (xs : List ℕ). xs ++ map r todo) (onward_read n all.0) ∙ sym (map-append r (onward h n) todo) in
       ap (λ (xs : List ℕ). r n ∷ xs) (ap (visited left c) next ∙
       visited_read left (onward h n ++ todo) (AllByRecursion-both (λ m. is_open h m ≡ true) (onward h n) todo (onward_open h n all.0) all.1))
 
@@ -150,7 +164,8 @@ module _ (base : Kept) (r s : ℕ → ℕ) (h c : List Event) (a : AreRenumbered
   stops_all : (ns : List ℕ) → Open_all h ns → filter_map (stop_at c) (map r ns) ≡ map (stop_by r) (filter_map (stop_at h) ns)
   stops_all [] all = refl
   stops_all (n ∷ ns) all = (λ i. cons_option (stop_read n all.0 i) (stops_all ns all.1 i)) ∙ by_stop (stop_at h n) where
-    by_stop : (x : Option Stop) → cons_option (option_map (stop_by r) x) (map (stop_by r) (filter_map (stop_at h) ns)) ≡ map (stop_by r) (cons_option x (filter_map (stop_at h) ns))
+    by_stop : (x : Option Stop) →
+        cons_option (option_map (stop_by r) x) (map (stop_by r) (filter_map (stop_at h) ns)) ≡ map (stop_by r) (cons_option x (filter_map (stop_at h) ns))
     by_stop None = refl
     by_stop (Some t) = refl
 
@@ -170,6 +185,8 @@ module _ (base : Kept) (r s : ℕ → ℕ) (h c : List Event) (a : AreRenumbered
   after_stops_read n o [] all m = refl
   after_stops_read n o (Delivery q ∷ ss) all m = after_stops_read n o ss all.1 m
   after_stops_read n o (Projection f ∷ ss) all m =
-      ap (λ b. after_stops (r n) (map (stop_by r) ss) (cond b (after_projection m) m)) (number_read f n all.0.0 o) ∙ after_stops_read n o ss all.1 (after_stop n (Projection f) m)
+      ap (λ b. after_stops (r n) (map (stop_by r) ss) (cond b (after_projection m) m)) (number_read f n all.0.0 o) ∙
+      after_stops_read n o ss all.1 (after_stop n (Projection f) m)
   after_stops_read n o (Firing u ∷ ss) all m =
-      ap (λ b. after_stops (r n) (map (stop_by r) ss) (cond b (after_firing m) m)) (number_read u n all.0.0 o) ∙ after_stops_read n o ss all.1 (after_stop n (Firing u) m)
+      ap (λ b. after_stops (r n) (map (stop_by r) ss) (cond b (after_firing m) m)) (number_read u n all.0.0 o) ∙
+      after_stops_read n o ss all.1 (after_stop n (Firing u) m)

@@ -1,6 +1,7 @@
 -- Histories that are the same but for their numbers stay so through each event that may come next in both, and through whole courses
 -- of what is forced, in whatever order it comes in each.
-use Rattle.std.proofs.Common.{◌≡◌, ℕ, ◌+◌, ◌-◌, ◌<◌, ◌≤◌, Bool, true, false, List, [], ◌∷◌, ◌++◌, length, Option, Some, slice_get, refl, sym, ap, subst, ◌∙◌, inl, inr, ◌⊎◌, arith, length-append, append_assoc, append-nil}
+use Rattle.std.proofs.Common.{◌≡◌, ℕ, ◌+◌, ◌-◌, ◌<◌, ◌≤◌, Bool, true, false, List, [], ◌∷◌, ◌++◌, length, Option, Some, slice_get}
+use Rattle.std.proofs.Common.{refl, sym, ap, subst, ◌∙◌, inl, inr, ◌⊎◌, arith, length-append, append_assoc, append-nil}
 use Rattle.std.specs.Option.{option_map_or}
 use Rattle.std.proofs.lemmas.Bool.{false≢true, cases_lt}
 use Rattle.rx_note.specs.declared.note.Terminal.{Terminal}
@@ -51,8 +52,10 @@ undone base a (Decline f) next = ap Decline (a.numbers.there.undone f (may_decli
 undone base a (End n t) next = ap (λ k. End k t) (a.numbers.there.undone n (may_end base next))
 undone base a (Close n) next = ap Close (a.numbers.there.undone n (may_close base next))
 
-module _ (base : Kept) (r s q t : ℕ → ℕ) (h c : List Event) (e : Event) (a : AreSameBy base r s h c) (next : MayFollow base h e) (other : MayFollow base c (event_by r e))
-    (after : AreRenumbered base q t (h ++ e ∷ []) (c ++ event_by r e ∷ [])) (older : (k : ℕ) → k < length h → q k ≡ r k) (older_back : (k : ℕ) → k < length c → t k ≡ s k)
+module _ (base : Kept) (r s q t : ℕ → ℕ) (h c : List Event) (e : Event) (a : AreSameBy base r s h c) (next : MayFollow base h e)
+    (other : MayFollow base c (event_by r e))
+    (after : AreRenumbered base q t (h ++ e ∷ []) (c ++ event_by r e ∷ [])) (older : (k : ℕ) → k < length h → q k ≡ r k)
+    (older_back : (k : ℕ) → k < length c → t k ≡ s k)
     (newest : is_named e ≡ true → (q (length h) ≡ length c) × (t (length c) ≡ length h))
     (newest_back : is_named (event_by r e) ≡ true → (t (length c) ≡ length h) × (q (length h) ≡ length c)) where
   same_on : AreSameBy base q t (h ++ e ∷ []) (c ++ event_by r e ∷ [])
@@ -84,7 +87,8 @@ same_made base {r = r} {s = s} {h = h} {c = c} a e next other after = record {
   reads_back = with_number (length c) (length h) s;
   same = same_on base r s (with_number (length h) (length c) r) (with_number (length c) (length h) s) h c e a next other after
       (number_old (length h) (length c) r) (number_old (length c) (length h) s)
-      (λ named. (number_new (length h) (length c) r, number_new (length c) (length h) s)) (λ named. (number_new (length c) (length h) s, number_new (length h) (length c) r));
+      (λ named. (number_new (length h) (length c) r, number_new (length c) (length h) s))
+      (λ named. (number_new (length c) (length h) s, number_new (length h) (length c) r));
   older = number_old (length h) (length c) r;
   newest = λ i named.
       let last = named_last h e i named in
@@ -94,18 +98,23 @@ same_made base {r = r} {s = s} {h = h} {c = c} a e next other after = record {
 }
 
 -- what makes nothing
-same_kept : (base : Kept) → {r s : ℕ → ℕ} {h c : List Event} → AreSameBy base r s h c → (e : Event) → is_named e ≡ false → is_named (event_by r e) ≡ false → MayFollow base h e →
-    MayFollow base c (event_by r e) → AreRenumbered base r s (h ++ e ∷ []) (c ++ event_by r e ∷ []) → AreSameSince base r h c (h ++ e ∷ []) (c ++ event_by r e ∷ [])
+same_kept : (base : Kept) → {r s : ℕ → ℕ} {h c : List Event} → AreSameBy base r s h c → (e : Event) → is_named e ≡ false → is_named (event_by r e) ≡ false →
+    MayFollow base h e →
+    MayFollow base c (event_by r e) → AreRenumbered base r s (h ++ e ∷ []) (c ++ event_by r e ∷ []) →
+    AreSameSince base r h c (h ++ e ∷ []) (c ++ event_by r e ∷ [])
 same_kept base {r = r} {s = s} {h = h} {c = c} a e nameless also next other after = record {
   reads = r;
   reads_back = s;
-  same = same_on base r s r s h c e a next other after (λ k l. refl) (λ k l. refl) (λ named. absurd (false≢true (sym nameless ∙ named))) (λ named. absurd (false≢true (sym also ∙ named)));
+  same =
+      same_on base r s r s h c e a next other after (λ k l. refl) (λ k l. refl) (λ named. absurd (false≢true (sym nameless ∙ named)))
+      (λ named. absurd (false≢true (sym also ∙ named)));
   older = λ n l. refl;
   newest = λ i named. absurd (false≢true (sym nameless ∙ (named_last h e i named).1));
 }
 
 -- An event that may come next in both leaves both the same
-pub same_event_on : (base : Kept) → {r s : ℕ → ℕ} {h c : List Event} → AreSameBy base r s h c → (e : Event) → MayFollow base h e → MayFollow base c (event_by r e) →
+pub same_event_on : (base : Kept) → {r s : ℕ → ℕ} {h c : List Event} → AreSameBy base r s h c → (e : Event) → MayFollow base h e →
+    MayFollow base c (event_by r e) →
     AreSameSince base r h c (h ++ e ∷ []) (c ++ event_by r e ∷ [])
 same_event_on base a (Open place kind) next other = same_made base a (Open place kind) next other (renumbered_open base a.numbers place kind next other)
 same_event_on base a (Hub mode) next other = same_made base a (Hub mode) next other (renumbered_hub base a.numbers mode next other)
@@ -124,7 +133,8 @@ same_event_on base a (End n t) next other = same_kept base a (End n t) refl refl
 same_event_on base a (Close n) next other = same_kept base a (Close n) refl refl next other (renumbered_close base a.numbers n next other)
 
 -- a forced one may come next in both
-same_forced_on : (base : Kept) → {r s : ℕ → ℕ} {h c : List Event} → AreSameBy base r s h c → (e : Event) → IsForced base h e → AreSameSince base r h c (h ++ e ∷ []) (c ++ event_by r e ∷ [])
+same_forced_on : (base : Kept) → {r s : ℕ → ℕ} {h c : List Event} → AreSameBy base r s h c → (e : Event) → IsForced base h e →
+    AreSameSince base r h c (h ++ e ∷ []) (c ++ event_by r e ∷ [])
 same_forced_on base a e f = same_event_on base a e (forced f) (forced (forced_read base a.numbers f))
 
 -- courses ---------------------------------------------------------------------------------------------------------------------------
@@ -150,7 +160,8 @@ goes_nowhere base {r = r} {s = s} {h = h} {c = c} a = record {
   };
 }
 
-pub goes_one_on : (base : Kept) → {r : ℕ → ℕ} {h c k last : List Event} (g : GoesAlike base r h c k last) (e : Event) → MayFollow base k e → MayFollow base last (event_by g.since.reads e) →
+pub goes_one_on : (base : Kept) → {r : ℕ → ℕ} {h c k last : List Event} (g : GoesAlike base r h c k last) (e : Event) → MayFollow base k e →
+    MayFollow base last (event_by g.since.reads e) →
     GoesAlike base r h c (k ++ e ∷ []) (last ++ event_by g.since.reads e ∷ [])
 goes_one_on base {r = r} {h = h} {c = c} {k = k} {last = last} g e next other = record {
   added = g.added ++ e ∷ [];
@@ -260,7 +271,8 @@ alike_shown base {r = r} shown alike = record {
 }
 
 -- a test that fails on ends and closings
-at_alike : (base : Kept) → {j k : List Event} → AreAlike base j k → (q : Event → Bool) → ((e : Event) → q e ≡ true → is_closing e ≡ false) → (n : ℕ) → at q j n ≡ true → at q k n ≡ true
+at_alike : (base : Kept) → {j k : List Event} → AreAlike base j k → (q : Event → Bool) → ((e : Event) → q e ≡ true → is_closing e ≡ false) → (n : ℕ) →
+    at q j n ≡ true → at q k n ≡ true
 at_alike base {j = j} {k = k} alike q plain n holds = by_event (slice_get j n) refl holds where
   by_event : (o : Option Event) → slice_get j n ≡ o → option_map_or q o false ≡ true → at q k n ≡ true
   by_event (Some e) at_n is = ap (λ (x : Option Event). option_map_or q x false) (alike.stands n e (plain e is) at_n) ∙ is
@@ -293,7 +305,8 @@ shown_alike base {r = r} {s = s} shown alike = record {
 }
 
 -- Two courses of what is forced, after two histories that are the same but for numbers, come to the same but for numbers
-pub courses_since : (base : Kept) → (r : ℕ → ℕ) (h c b d k j : List Event) → GoesAlike base r h c b d → IsForcedOn base b k → IsSettled base k → IsForcedOn base d j → IsSettled base j → IsLawful base j →
+pub courses_since : (base : Kept) → (r : ℕ → ℕ) (h c b d k j : List Event) → GoesAlike base r h c b d → IsForcedOn base b k → IsSettled base k →
+    IsForcedOn base d j → IsSettled base j → IsLawful base j →
     AreSameSince base r h c k j
 courses_since base r h c b d k j start on_k settled_k on_j settled_j law = record {
   reads = since.reads;
@@ -326,7 +339,8 @@ courses_since base r h c b d k j start on_k settled_k on_j settled_j law = recor
   other : AreAlike base j w.last
   other = courses_alike base d j w.last start.since.same.numbers.other_law on_j settled_j w.course settled_last
 
-pub courses_same : (base : Kept) → (r s : ℕ → ℕ) (h c k j : List Event) → AreSameBy base r s h c → IsForcedOn base h k → IsSettled base k → IsForcedOn base c j → IsSettled base j → IsLawful base j →
+pub courses_same : (base : Kept) → (r s : ℕ → ℕ) (h c k j : List Event) → AreSameBy base r s h c → IsForcedOn base h k → IsSettled base k →
+    IsForcedOn base c j → IsSettled base j → IsLawful base j →
     AreSameSince base r h c k j
 courses_same base r s h c k j a on_k settled_k on_j settled_j law = courses_since base r h c h c k j (goes_nowhere base a) on_k settled_k on_j settled_j law
 

@@ -1,5 +1,6 @@
 -- What is due in a history is due in one that is the same but for its numbers.
-use Rattle.std.proofs.Common.{◌≡◌, ℕ, zero, suc, ◌<◌, Bool, true, false, List, [], ◌∷◌, Option, Some, None, option_map, slice_get, refl, sym, ap, subst, ◌∙◌, inl, inr, ◌⊎◌, arith}
+use Rattle.std.proofs.Common.{◌≡◌, ℕ, zero, suc, ◌<◌, Bool, true, false, List, [], ◌∷◌, Option, Some, None}
+use Rattle.std.proofs.Common.{option_map, slice_get, refl, sym, ap, subst, ◌∙◌, inl, inr, ◌⊎◌, arith}
 use Rattle.std.specs.Option.{option_map_or}
 use Rattle.std.proofs.lemmas.Bool.{false≢true, eq-eqb}
 use Rattle.std.proofs.lemmas.Option.{same_Some, none-some}
@@ -15,7 +16,8 @@ use Rattle.rx_event.specs.declared.event.Event.TheVariants.{Open, Hub, Connect, 
 use Rattle.rx_event.specs.declared.marks.Marks.{Marks}
 use Rattle.rx_event.specs.Events.{parent_named, is_mirroring, is_merging, is_until, is_auto_hub, is_subscriber_of}
 use Rattle.rx_event.specs.Tree.{at, parent, is_open, is_within, open_subscribers, open_connections}
-use Rattle.rx_event.specs.Forced.{mirrored, fired, failed, completed, cut, left, connecting, due, SourceEnded, IsDue, IsForced, IsConnectDue, IsConnected, IsSettled}
+use Rattle.rx_event.specs.Forced.{mirrored, fired, failed, completed, cut, left, connecting, due, SourceEnded}
+use Rattle.rx_event.specs.Forced.{IsDue, IsForced, IsConnectDue, IsConnected, IsSettled}
 use Rattle.rx_event.specs.Marks.{marks_of, terminal_due}
 use Rattle.rx_event.specs.Lawful.{IsLawful}
 use Rattle.rx_event.specs.Renumbered.{place_by, event_by, IsRead, AreRenumbered}
@@ -69,7 +71,8 @@ auto_hub h g = by_event (slice_get h g) where
   by_event (Some (Hub Auto)) auto = refl
   by_event (Some _) auto = absurd (false≢true auto)
 
-module _ (base : Kept) (r s : ℕ → ℕ) (h c : List Event) (law : IsLawful base h) (other_law : IsLawful base c) (there : IsRead base r s h c) (back : IsRead base s r c h) where
+module _ (base : Kept) (r s : ℕ → ℕ) (h c : List Event) (law : IsLawful base h) (other_law : IsLawful base c) (there : IsRead base r s h c)
+    (back : IsRead base s r c h) where
   -- where nodes stand
   pub parent_read : (n p : ℕ) → is_open h n ≡ true → parent h n ≡ Some p → parent c (r n) ≡ Some (r p)
   parent_read n p o below =
@@ -79,12 +82,14 @@ module _ (base : Kept) (r s : ℕ → ℕ) (h c : List Event) (law : IsLawful ba
 
   pub within_read : (steps n m : ℕ) → m < steps → is_open h m ≡ true → is_within h n m ≡ true → is_within c (r n) (r m) ≡ true
   within_read zero n m l o inside = absurd (omega arith)
-  within_read (suc steps) n m l o inside = by_case (within_cases h n m inside) (λ p less op above. within_read steps n p (let k = l in let j = less in omega arith) op above) where
-    by_case : (n ≡ m) ⊎ ((p : ℕ) × (parent h m ≡ Some p) × (is_within h n p ≡ true)) →
-        ((p : ℕ) → p < m → is_open h p ≡ true → is_within h n p ≡ true → is_within c (r n) (r p) ≡ true) → is_within c (r n) (r m) ≡ true
-    by_case (inl same) rest = ap (λ q. is_within c (r n) (r q)) (sym same) ∙ is_within_self c (r n)
-    by_case (inr (p, below, above)) rest =
-        within_parent c (r n) (r m) (r p) (parent_read m p o below) (rest p (parent-lt h m p below) (parent_open h m p o below) above)
+  within_read (suc steps) n m l o inside =
+      by_case (within_cases h n m inside) (λ p less op above. within_read steps n p (let k = l in let j = less in omega arith) op above)
+    where
+      by_case : (n ≡ m) ⊎ ((p : ℕ) × (parent h m ≡ Some p) × (is_within h n p ≡ true)) →
+          ((p : ℕ) → p < m → is_open h p ≡ true → is_within h n p ≡ true → is_within c (r n) (r p) ≡ true) → is_within c (r n) (r m) ≡ true
+      by_case (inl same) rest = ap (λ q. is_within c (r n) (r q)) (sym same) ∙ is_within_self c (r n)
+      by_case (inr (p, below, above)) rest =
+          within_parent c (r n) (r m) (r p) (parent_read m p o below) (rest p (parent-lt h m p below) (parent_open h m p o below) above)
 
   -- hubs
   pub unsubscribed_read : (g : ℕ) → s (r g) ≡ g → open_subscribers h g ≡ [] → open_subscribers c (r g) ≡ []
@@ -139,7 +144,8 @@ module _ (base : Kept) (r s : ℕ → ℕ) (h c : List Event) (law : IsLawful ba
     subscribes = subscriber_read g d.subscriber d.subscribed d.subscribes;
     subscribed = there.alive d.subscriber d.subscribed;
     waits = λ t ended.
-        d.waits t (subst (λ (n : ℕ). SourceEnded h n t) (there.undone d.subscriber d.subscribed) (back.ended (r d.subscriber) t (there.alive d.subscriber d.subscribed) ended));
+        d.waits t (subst (λ (n : ℕ). SourceEnded h n t) (there.undone d.subscriber d.subscribed)
+        (back.ended (r d.subscriber) t (there.alive d.subscriber d.subscribed) ended));
     unconnected = unconnected_read g (auto_undone g d.auto) d.unconnected;
   }
 
@@ -151,7 +157,8 @@ renumbered_back base a = record { law = a.other_law; other_law = a.law; there = 
 pub connected_read : (base : Kept) → {r s : ℕ → ℕ} {h c : List Event} → AreRenumbered base r s h c → IsConnected h → IsConnected c
 connected_read base {r = r} {s = s} {h = h} {c = c} a whole g d = whole (s g) (connect_due_read base s r c h a.other_law a.law a.back a.there g d)
 
-pub forced_read : (base : Kept) → {r s : ℕ → ℕ} {h c : List Event} → AreRenumbered base r s h c → {e : Event} → IsForced base h e → IsForced base c (event_by r e)
+pub forced_read : (base : Kept) → {r s : ℕ → ℕ} {h c : List Event} → AreRenumbered base r s h c → {e : Event} → IsForced base h e →
+    IsForced base c (event_by r e)
 forced_read base {r = r} {s = s} {h = h} {c = c} a (connecting {g = g} d) = connecting (connect_due_read base r s h c a.law a.other_law a.there a.back g d)
 forced_read base {r = r} {s = s} {h = h} {c = c} a (due whole d) = due (connected_read base a whole) (due_read base r s h c a.law a.other_law a.there a.back d)
 

@@ -70,7 +70,8 @@ is_owned-push base h e law r l =
     shape true false false false = refl
 
     by_node : (o : Option ℕ) → node_of h r ≡ o →
-        (option_map_or (is_open (h ++ e ∷ [])) o false && not (list_any (is_remove_of r) h || (is_remove_of r e || false))) ≡ ((option_map_or (is_open h) o false && not (list_any (is_remove_of r) h)) && not (option_map_or (is_cut h e) o false || is_remove_of r e))
+        (option_map_or (is_open (h ++ e ∷ [])) o false && not (list_any (is_remove_of r) h || (is_remove_of r e || false))) ≡
+        ((option_map_or (is_open h) o false && not (list_any (is_remove_of r) h)) && not (option_map_or (is_cut h e) o false || is_remove_of r e))
     by_node None at_r = refl
     by_node (Some n) at_r =
         let s : n ≤ r = node_of-lt base h law r n at_r in
@@ -87,7 +88,9 @@ removes_none base h _ next r l = refl
 
 -- only older resources are removed
 pub no_remove : (base : Kept) → (h : List Event) → IsLawful base h → (r : ℕ) → length h ≤ r → list_any (is_remove_of r) h ≡ false
-no_remove base = by_events base (λ h. (r : ℕ) → length h ≤ r → list_any (is_remove_of r) h ≡ false) (λ s r l. made_unremoved (shown base) s.making r) (λ h e law next before r l.
+no_remove base =
+    by_events base (λ h. (r : ℕ) → length h ≤ r → list_any (is_remove_of r) h ≡ false) (λ s r l. made_unremoved (shown base) s.making r)
+    (λ h e law next before r l.
     let b : length h ≤ r = omega (arith, length-append h (e ∷ [])) in
     list_any-append (is_remove_of r) h (e ∷ []) ∙ or_from _ _ (before r b) (or_from _ _ (removes_none base h e next r b) refl))
 
@@ -101,8 +104,12 @@ is_owned_last base h e law = rw (slice_get_last h e) (by_event e) where
   and_yes false c gone = refl
 
   by_event : (e : Event) →
-      (option_map_or (is_open (h ++ e ∷ [])) (node_of_accept e) false && not (list_any (is_remove_of (length h)) (h ++ e ∷ []))) ≡ option_map_or (is_open h) (node_of_accept e) false
-  by_event (Accept n tag) = rw (is_open_unchanged h (Accept n tag) refl refl n) (and_yes (is_open h n) _ (list_any-append (is_remove_of (length h)) h (Accept n tag ∷ []) ∙ or_from _ _ (no_remove base h law (length h) (omega arith)) refl))
+      (option_map_or (is_open (h ++ e ∷ [])) (node_of_accept e) false && not (list_any (is_remove_of (length h)) (h ++ e ∷ []))) ≡
+      option_map_or (is_open h) (node_of_accept e) false
+  by_event (Accept n tag) =
+      rw (is_open_unchanged h (Accept n tag) refl refl n)
+      (and_yes (is_open h n) _
+      (list_any-append (is_remove_of (length h)) h (Accept n tag ∷ []) ∙ or_from _ _ (no_remove base h law (length h) (omega arith)) refl))
   by_event _ = refl
 
 keeps_none : (h : List Event) (e : Event) (r : ℕ) → shuts_none e ≡ true → is_remove_of r e ≡ false → loses h e r ≡ false
@@ -268,12 +275,15 @@ owned_return base h l law r less = is_owned_kept base h (Return l) law r less re
 -- an older resource is taken if it was, or if the event takes it
 pub is_taken-push : (h : List Event) (e : Event) (r : ℕ) → r < length h → is_taken (h ++ e ∷ []) r ≡ (is_taken h r || (at makes_resource h r && is_take_of r e))
 unfolding is_taken
-is_taken-push h e r l = rw (at-append makes_resource h (e ∷ []) r l, list_any-append (is_take_of r) h (e ∷ [])) (shape (at makes_resource h r) (list_any (is_take_of r) h) (is_take_of r e)) where
-  shape : (a b c : Bool) → (a && (b || (c || false))) ≡ ((a && b) || (a && c))
-  shape false b c = refl
-  shape true true c = refl
-  shape true false true = refl
-  shape true false false = refl
+is_taken-push h e r l =
+    rw (at-append makes_resource h (e ∷ []) r l, list_any-append (is_take_of r) h (e ∷ []))
+    (shape (at makes_resource h r) (list_any (is_take_of r) h) (is_take_of r e))
+  where
+    shape : (a b c : Bool) → (a && (b || (c || false))) ≡ ((a && b) || (a && c))
+    shape false b c = refl
+    shape true true c = refl
+    shape true false true = refl
+    shape true false false = refl
 
 -- what is taken is a resource
 pub taken_resource : (h : List Event) (r : ℕ) → is_taken h r ≡ true → at makes_resource h r ≡ true
@@ -314,7 +324,9 @@ takes_none base h _ next r l = refl
 
 -- only older resources are taken
 pub no_take : (base : Kept) → (h : List Event) → IsLawful base h → (r : ℕ) → length h ≤ r → list_any (is_take_of r) h ≡ false
-no_take base = by_events base (λ h. (r : ℕ) → length h ≤ r → list_any (is_take_of r) h ≡ false) (λ s r l. made_untaken (shown base) s.making r) (λ h e law next before r l.
+no_take base =
+    by_events base (λ h. (r : ℕ) → length h ≤ r → list_any (is_take_of r) h ≡ false) (λ s r l. made_untaken (shown base) s.making r)
+    (λ h e law next before r l.
     let b : length h ≤ r = omega (arith, length-append h (e ∷ [])) in
     list_any-append (is_take_of r) h (e ∷ []) ∙ or_from _ _ (before r b) (or_from _ _ (takes_none base h e next r b) refl))
 
@@ -346,16 +358,19 @@ untaken_there h r none = ap (λ c. at makes_resource h r && c) none ∙ and_no (
 
 -- what is held was not taken
 pub held_not_taken : (base : Kept) → (h : List Event) → IsLawful base h → (r : ℕ) → is_held h r ≡ true → is_taken h r ≡ false
-held_not_taken base = by_events base (λ h. (r : ℕ) → is_held h r ≡ true → is_taken h r ≡ false) (λ s r held. untaken_there (shown base) r (made_untaken (shown base) s.making r)) after where
-  after : (h : List Event) (e : Event) → IsLawful base h → MayFollow base h e → ((r : ℕ) → is_held h r ≡ true → is_taken h r ≡ false) → (r : ℕ) →
-      is_held (h ++ e ∷ []) r ≡ true → is_taken (h ++ e ∷ []) r ≡ false
-  after h e law next before r held = by_place (cases_order r (length h)) where
-    by_place : (r ≡ length h) ⊎ ((r < length h) ⊎ (length h < r)) → is_taken (h ++ e ∷ []) r ≡ false
-    by_place (inr (inl l)) =
-        let was : is_held h r ≡ true = held_old base h e law next r l held in
-        is_taken-push h e r l ∙ or_from _ _ (before r was) (and_right _ _ (held_untaken base h e next r was))
-    by_place (inl same) = ap (is_taken (h ++ e ∷ [])) same ∙ is_taken_last base h e law
-    by_place (inr (inr g)) = is_taken_past (h ++ e ∷ []) r (omega (arith, length-append {A = Event}))
+held_not_taken base =
+    by_events base (λ h. (r : ℕ) → is_held h r ≡ true → is_taken h r ≡ false)
+    (λ s r held. untaken_there (shown base) r (made_untaken (shown base) s.making r)) after
+  where
+    after : (h : List Event) (e : Event) → IsLawful base h → MayFollow base h e → ((r : ℕ) → is_held h r ≡ true → is_taken h r ≡ false) → (r : ℕ) →
+        is_held (h ++ e ∷ []) r ≡ true → is_taken (h ++ e ∷ []) r ≡ false
+    after h e law next before r held = by_place (cases_order r (length h)) where
+      by_place : (r ≡ length h) ⊎ ((r < length h) ⊎ (length h < r)) → is_taken (h ++ e ∷ []) r ≡ false
+      by_place (inr (inl l)) =
+          let was : is_held h r ≡ true = held_old base h e law next r l held in
+          is_taken-push h e r l ∙ or_from _ _ (before r was) (and_right _ _ (held_untaken base h e next r was))
+      by_place (inl same) = ap (is_taken (h ++ e ∷ [])) same ∙ is_taken_last base h e law
+      by_place (inr (inr g)) = is_taken_past (h ++ e ∷ []) r (omega (arith, length-append {A = Event}))
 
 -- an older resource waits if it did, or is held no more, and the event does not take it
 waiting-held : (base : Kept) → (h : List Event) (e : Event) → IsLawful base h → (r : ℕ) → r < length h → (is_lease_of r e ≡ true → is_owned h r ≡ true) →
@@ -481,16 +496,17 @@ is_waiting-return base h l q law next at_l r = by_place (cases_order r (length h
 pub in_one_place : (base : Kept) → (h : List Event) → IsLawful base h → (r : ℕ) →
     cond (is_held h r) 1 0 + cond (is_waiting h r) 1 0 + cond (is_taken h r) 1 0 ≡ cond (at makes_resource h r) 1 0
 unfolding is_waiting
-in_one_place base h law r = shape (at makes_resource h r) (is_held h r) (is_taken h r) (held_resource h r) (held_not_taken base h law r) (taken_resource h r) where
-  shape : (a held taken : Bool) → (held ≡ true → a ≡ true) → (held ≡ true → taken ≡ false) → (taken ≡ true → a ≡ true) →
-      cond held 1 0 + cond ((a && not held) && not taken) 1 0 + cond taken 1 0 ≡ cond a 1 0
-  shape true true true made untaken given = absurd (both_ways _ (untaken refl) refl)
-  shape true true false made untaken given = refl
-  shape true false true made untaken given = refl
-  shape true false false made untaken given = refl
-  shape false true taken made untaken given = absurd (false≢true (made refl))
-  shape false false true made untaken given = absurd (false≢true (given refl))
-  shape false false false made untaken given = refl
+in_one_place base h law r = shape (at makes_resource h r) (is_held h r) (is_taken h r) (held_resource h r) (held_not_taken base h law r) (taken_resource h r)
+  where
+    shape : (a held taken : Bool) → (held ≡ true → a ≡ true) → (held ≡ true → taken ≡ false) → (taken ≡ true → a ≡ true) →
+        cond held 1 0 + cond ((a && not held) && not taken) 1 0 + cond taken 1 0 ≡ cond a 1 0
+    shape true true true made untaken given = absurd (both_ways _ (untaken refl) refl)
+    shape true true false made untaken given = refl
+    shape true false true made untaken given = refl
+    shape true false false made untaken given = refl
+    shape false true taken made untaken given = absurd (false≢true (made refl))
+    shape false false true made untaken given = absurd (false≢true (given refl))
+    shape false false false made untaken given = refl
 
 -- what neither shuts a node nor moves a resource --------------------------------------------------
 
@@ -578,5 +594,6 @@ accepted_by-push base h e r l = ap (λ x. option_map_or (λ k. Some (Accept k.no
 -- of a new one no record is kept
 pub accepted_by_new : (base : Kept) → (h : List Event) (e : Event) → IsLawful base h → accepted_by base (h ++ e ∷ []) (length h) ≡ Some e
 accepted_by_new base h e law =
-    ap (λ x. option_map_or (λ k. Some (Accept k.node k.tag)) x (slice_get (h ++ e ∷ []) (length h))) (law.started.unnumbered (length h) (shown_within base h law)) ∙
+    ap (λ x. option_map_or (λ k. Some (Accept k.node k.tag)) x (slice_get (h ++ e ∷ []) (length h)))
+    (law.started.unnumbered (length h) (shown_within base h law)) ∙
     slice_get_last h e

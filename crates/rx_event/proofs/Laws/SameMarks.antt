@@ -56,9 +56,11 @@ parent_sort base h law d n below = by_event made.0 made.1 (parent_name h d n mad
   named p same = cc
 
   by_event : (e : Event) → slice_get h d ≡ Some e → parent_named e ≡ Some n → IsParent h n
-  by_event (Open (Source p) kind) at_d name = by_source (slice_get h n) refl (sym (ap (at has_source h) (named p name)) ∙ source_stands base h law d p kind at_d)
+  by_event (Open (Source p) kind) at_d name =
+      by_source (slice_get h n) refl (sym (ap (at has_source h) (named p name)) ∙ source_stands base h law d p kind at_d)
   by_event (Open (Inner p) kind) at_d name = merges (sym (ap (at is_merging h) (named p name)) ∙ inner_stands base h law d p kind at_d)
-  by_event (Open (Notifier p) kind) at_d name = by_notifier (slice_get h n) refl (sym (ap (at is_until h) (named p name)) ∙ notifier_stands base h law d p kind at_d)
+  by_event (Open (Notifier p) kind) at_d name =
+      by_notifier (slice_get h n) refl (sym (ap (at is_until h) (named p name)) ∙ notifier_stands base h law d p kind at_d)
   by_event (Open Root kind) at_d name = absurd (cc)
   by_event _ at_d name = absurd (cc)
 
@@ -82,7 +84,8 @@ settled_no_terminal base h law settled n o = by_terminal (child_terminal h n) re
       let w = child_terminal_some h n t found in
       absurd (by_sort t w.0 w.1 (parent_sort base h law w.0.child n w.0.below))
 
-module _ (base : Kept) (b k j : List Event) (law : IsLawful base b) (whole : IsConnected b) (on_k : IsDueOn base b k) (settled_k : IsSettled base k) (on_j : IsDueOn base b j)
+module _ (base : Kept) (b k j : List Event) (law : IsLawful base b) (whole : IsConnected b) (on_k : IsDueOn base b k) (settled_k : IsSettled base k)
+    (on_j : IsDueOn base b j)
     (settled_j : IsSettled base j) where
   opens : (n : ℕ) → is_open k n ≡ is_open j n
   opens n = same_open base law whole on_k settled_k on_j settled_j n
@@ -97,7 +100,8 @@ module _ (base : Kept) (b k j : List Event) (law : IsLawful base b) (whole : IsC
         (λ c l. ap (λ a. a && option_map_or (λ q. q == n) (parent j c) false) (is_open_past j c l))
 
   -- what completed in one completed in the other
-  completed_in : (p q : List Event) → IsDueOn base b p → IsSettled base p → IsDueOn base b q → IsSettled base q → (n : ℕ) → is_open q n ≡ true → source_completed base p n ≡ true →
+  completed_in : (p q : List Event) → IsDueOn base b p → IsSettled base p → IsDueOn base b q → IsSettled base q → (n : ℕ) → is_open q n ≡ true →
+      source_completed base p n ≡ true →
       source_completed base q n ≡ true
   completed_in p q on_p settled_p on_q settled_q n o found =
       completed_in_k base b p q law whole on_p on_q settled_q (spared base on_p q law whole on_q settled_q) n o found
@@ -110,9 +114,12 @@ module _ (base : Kept) (b k j : List Event) (law : IsLawful base b) (whole : IsC
       let also : is_open j n ≡ true = sym (opens n) ∙ o in
       same_marks base
       (ap (λ x. option_map_or (λ r. r.source_opened) (node_kept base n) false || x) (any_both (is_source_of n) (source_fails n)))
-      (ap (λ x. option_map_or (λ r. r.notifier_opened) (node_kept base n) false || x) (any_both (is_notifier_of n) (record { at_end = λ c t. refl; at_close = λ c. refl })))
+      (ap (λ x. option_map_or (λ r. r.notifier_opened) (node_kept base n) false || x)
+      (any_both (is_notifier_of n) (record { at_end = λ c t. refl; at_close = λ c. refl })))
       (fired_on base on_k n ∙ sym (fired_on base on_j n))
-      (same_test (source_completed base k n) (source_completed base j n) (completed_in k j on_k settled_k on_j settled_j n also) (completed_in j k on_j settled_j on_k settled_k n o))
-      (settled_no_terminal base k (lawful_on base on_k law whole) settled_k n o ∙ sym (settled_no_terminal base j (lawful_on base on_j law whole) settled_j n also))
+      (same_test (source_completed base k n) (source_completed base j n) (completed_in k j on_k settled_k on_j settled_j n also)
+      (completed_in j k on_j settled_j on_k settled_k n o))
+      (settled_no_terminal base k (lawful_on base on_k law whole) settled_k n o ∙
+      sym (settled_no_terminal base j (lawful_on base on_j law whole) settled_j n also))
       (owed_on base on_k n ∙ sym (owed_on base on_j n))
       (children n)

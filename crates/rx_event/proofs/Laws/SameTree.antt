@@ -1,5 +1,6 @@
 -- What is the same in two histories with the same hubs and open nodes.
-use Rattle.std.proofs.Common.{◌≡◌, ℕ, zero, suc, ◌+◌, ◌<◌, Bool, true, false, List, [], ◌∷◌, ◌++◌, length, cond, Option, Some, None, refl, sym, ap, ◌∙◌, arith, inl, inr, ◌⊎◌, nat_lt, ◌==◌, slice_get, filter, length-append, append_assoc, append-nil}
+use Rattle.std.proofs.Common.{◌≡◌, ℕ, zero, suc, ◌+◌, ◌<◌, Bool, true, false, List, [], ◌∷◌, ◌++◌, length, cond, Option, Some, None, refl, sym}
+use Rattle.std.proofs.Common.{ap, ◌∙◌, arith, inl, inr, ◌⊎◌, nat_lt, ◌==◌, slice_get, filter, length-append, append_assoc, append-nil}
 use Rattle.std.proofs.Math.Bool.{not, ◌&&◌}
 use Rattle.std.specs.List.{list_any, list_all, AllByRecursion, range_with_len, filter_map}
 use Rattle.std.specs.Option.{option_and_then, option_map_or, option_to_list}
@@ -10,7 +11,8 @@ use Rattle.rx_event.specs.declared.event.Place.TheVariants.{Root, Source, Inner,
 use Rattle.rx_event.specs.declared.event.Event.{Event}
 use Rattle.rx_event.specs.declared.event.Event.TheVariants.{Open, Hub, Connect, End, Close}
 use Rattle.rx_event.specs.Events.{makes_node, parent_named, is_switch, is_inner_of, is_merging, is_subscriber_of, is_connect_of}
-use Rattle.rx_event.specs.Tree.{at, places, parent, if_less, ancestors, shuts, is_open, is_within, is_switched_inner, open_nodes, open_subscribers, open_connections}
+use Rattle.rx_event.specs.Tree.{at, places, parent, if_less, ancestors, shuts, is_open, is_within}
+use Rattle.rx_event.specs.Tree.{is_switched_inner, open_nodes, open_subscribers, open_connections}
 use Rattle.rx_event.specs.Climb.{Projection, stop_made, stop_at, onward_from, onward_unless, onward, visited, most_visits, climb, stops, visits}
 use Rattle.rx_event.specs.Bases.{Alike}
 use Rattle.rx_event.proofs.Laws.Lists.{AllByRecursion-both}
@@ -30,16 +32,6 @@ alike_back p q a =
       same_made = λ n o. sym (a.same_made n (a.same_open n ∙ o));
       same_hub = a.same_hub_back;
       same_hub_back = a.same_hub;
-    }
-
-pub alike_on : (p q r : List Event) → Alike p q → Alike q r → Alike p r
-alike_on p q r a b =
-    record {
-      same_length = a.same_length ∙ b.same_length;
-      same_open = λ n. a.same_open n ∙ b.same_open n;
-      same_made = λ n o. a.same_made n o ∙ b.same_made n (sym (a.same_open n) ∙ o);
-      same_hub = λ n m x. b.same_hub n m (a.same_hub n m x);
-      same_hub_back = λ n m x. a.same_hub_back n m (b.same_hub_back n m x);
     }
 
 -- a test of an open node
@@ -79,9 +71,13 @@ parent_alike p q a n o = ap (λ x. option_and_then (if_less n) (option_and_then 
 ancestors_below : (k : ℕ) (p q : List Event) → Alike p q → (n : ℕ) → n < k → is_open p n ≡ true → ancestors p n ≡ ancestors q n
 ancestors_below zero p q a n l o = absurd (omega arith)
 ancestors_below (suc k) p q a n l o =
-    ancestors_step p n ∙ ap (λ ns. n ∷ ns) (above (λ m less m_open. ancestors_below k p q a m (omega arith) m_open) (parent p n) refl) ∙ ap (λ x. n ∷ option_map_or (ancestors q) x []) (parent_alike p q a n o) ∙ sym (ancestors_step q n)
+    ancestors_step p n ∙
+    ap (λ ns. n ∷ ns) (above (λ m less m_open. ancestors_below k p q a m (omega arith) m_open) (parent p n) refl) ∙
+    ap (λ x. n ∷ option_map_or (ancestors q) x []) (parent_alike p q a n o) ∙
+    sym (ancestors_step q n)
   where
-    above : ((m : ℕ) → m < n → is_open p m ≡ true → ancestors p m ≡ ancestors q m) → (x : Option ℕ) → parent p n ≡ x → option_map_or (ancestors p) x [] ≡ option_map_or (ancestors q) x []
+    above : ((m : ℕ) → m < n → is_open p m ≡ true → ancestors p m ≡ ancestors q m) → (x : Option ℕ) → parent p n ≡ x →
+        option_map_or (ancestors p) x [] ≡ option_map_or (ancestors q) x []
     above further None below = refl
     above further (Some m) below = further m (parent-lt p n m below) (parent_open p n m o below)
 
@@ -121,13 +117,17 @@ NamesBelow p = (n m : ℕ) (e : Event) → slice_get p n ≡ Some e → parent_n
 
 pub named_parent : (p : List Event) (n m : ℕ) (e : Event) → slice_get p n ≡ Some e → parent_named e ≡ Some m → m < n → parent p n ≡ Some m
 unfolding parent
-named_parent p n m e at_n named l = ap (λ o. option_and_then (if_less n) (option_and_then parent_named o)) at_n ∙ ap (option_and_then (if_less n)) named ∙ ap (λ b. cond b (Some m) None) (lt-ltb m n l)
+named_parent p n m e at_n named l =
+    ap (λ o. option_and_then (if_less n) (option_and_then parent_named o)) at_n ∙
+    ap (option_and_then (if_less n)) named ∙
+    ap (λ b. cond b (Some m) None) (lt-ltb m n l)
 
 pub stop_alike : (p q : List Event) → Alike p q → NamesBelow p → (n : ℕ) → is_open p n ≡ true → stop_at p n ≡ stop_at q n
 stop_alike p q a below n o = by_event (slice_get p n) refl ∙ ap (option_and_then (stop_made q n)) (a.same_made n o) where
   by_event : (x : Option Event) → slice_get p n ≡ x → option_and_then (stop_made p n) x ≡ option_and_then (stop_made q n) x
   by_event None at_n = refl
-  by_event (Some e) at_n = stop_made_alike p q a n e (λ m named. at_alike p q a is_merging m (parent_open p n m o (named_parent p n m e at_n named (below n m e at_n named))))
+  by_event (Some e) at_n =
+      stop_made_alike p q a n e (λ m named. at_alike p q a is_merging m (parent_open p n m o (named_parent p n m e at_n named (below n m e at_n named))))
 
 onward_from_alike : (p q : List Event) → Alike p q → (n : ℕ) → is_open p n ≡ true → (e : Event) → onward_from p n e ≡ onward_from q n e
 onward_from_alike p q a n o (Connect g) = subscribers_alike p q a g
@@ -149,7 +149,8 @@ visited_alike : (k : ℕ) (p q : List Event) → Alike p q → NamesBelow p → 
 visited_alike zero p q a below todo open_all = refl
 visited_alike (suc k) p q a below [] open_all = refl
 visited_alike (suc k) p q a below (n ∷ todo) open_all =
-    ap (λ ns. n ∷ ns) (visited_alike k p q a below (onward p n ++ todo) (AllByRecursion-both (λ m. is_open p m ≡ true) (onward p n) todo (onward_open p n open_all.0) open_all.1)) ∙
+    ap (λ ns. n ∷ ns) (visited_alike k p q a below (onward p n ++ todo)
+    (AllByRecursion-both (λ m. is_open p m ≡ true) (onward p n) todo (onward_open p n open_all.0) open_all.1)) ∙
     ap (λ ns. n ∷ visited k q (ns ++ todo)) (onward_alike p q a below n open_all.0)
 
 pub climb_alike : (p q : List Event) → Alike p q → NamesBelow p → (n : ℕ) → is_open p n ≡ true → climb p n ≡ climb q n
@@ -160,7 +161,8 @@ pub visits_alike : (p q : List Event) → Alike p q → NamesBelow p → (n : �
 unfolding visits
 visits_alike p q a below n o = ap length (climb_alike p q a below n o)
 
-stops_on : (p q : List Event) → Alike p q → NamesBelow p → (ns : List ℕ) → AllByRecursion (λ m. is_open p m ≡ true) ns → filter_map (stop_at p) ns ≡ filter_map (stop_at q) ns
+stops_on : (p q : List Event) → Alike p q → NamesBelow p → (ns : List ℕ) → AllByRecursion (λ m. is_open p m ≡ true) ns →
+    filter_map (stop_at p) ns ≡ filter_map (stop_at q) ns
 stops_on p q a below [] open_all = refl
 stops_on p q a below (n ∷ ns) open_all = (λ i. Rattle.std.specs.List.cons_option (stop_alike p q a below n open_all.0 i) (stops_on p q a below ns open_all.1 i))
 
@@ -214,7 +216,8 @@ shuts_alike p q a n o (Open (Source f) kind) = refl
 shuts_alike p q a n o (Open (Notifier f) kind) = refl
 shuts_alike p q a n o _ = refl
 
-list_all-alike : (p : List Event) (s t : ℕ → Bool) → ((n : ℕ) → is_open p n ≡ true → s n ≡ t n) → (ns : List ℕ) → AllByRecursion (λ m. is_open p m ≡ true) ns → list_all s ns ≡ list_all t ns
+list_all-alike : (p : List Event) (s t : ℕ → Bool) → ((n : ℕ) → is_open p n ≡ true → s n ≡ t n) → (ns : List ℕ) →
+    AllByRecursion (λ m. is_open p m ≡ true) ns → list_all s ns ≡ list_all t ns
 list_all-alike p s t same [] open_all = refl
 list_all-alike p s t same (n ∷ ns) open_all = (λ i. same n open_all.0 i && list_all-alike p s t same ns open_all.1 i)
 
@@ -228,7 +231,8 @@ open_alike_push p q a e n l =
     by_test : (b : Bool) → is_open p n ≡ b → (b && kept_in p) ≡ (is_open q n && kept_in q)
     by_test false o = ap (λ x. x && kept_in q) (sym o ∙ a.same_open n)
     by_test true o =
-        list_all-alike p (λ m. not (shuts p m e)) (λ m. not (shuts q m e)) (λ m m_open. ap not (shuts_alike p q a m m_open e)) (ancestors p n) (ancestors_open p n o) ∙
+        list_all-alike p (λ m. not (shuts p m e)) (λ m. not (shuts q m e)) (λ m m_open. ap not (shuts_alike p q a m m_open e)) (ancestors p n)
+        (ancestors_open p n o) ∙
         ap (list_all (λ m. not (shuts q m e))) (ancestors_alike p q a n o) ∙ ap (λ x. x && kept_in q) (sym o ∙ a.same_open n)
 
 parent_new : (p q : List Event) → length p ≡ length q → (e : Event) → parent (p ++ e ∷ []) (length p) ≡ parent (q ++ e ∷ []) (length q)
@@ -247,14 +251,18 @@ open_alike_new p q a e = is_open_step (p ++ e ∷ []) (length p) ∙ both ∙ sy
   shut : Rattle.rx_event.specs.Tree.is_shut (p ++ e ∷ []) (length p) ≡ Rattle.rx_event.specs.Tree.is_shut (q ++ e ∷ []) (length q)
   shut = is_shut_last p e ∙ sym (is_shut_last q e)
 
-  parents : option_map_or (is_open (p ++ e ∷ [])) (parent (p ++ e ∷ []) (length p)) true ≡ option_map_or (is_open (q ++ e ∷ [])) (parent (q ++ e ∷ []) (length q)) true
+  parents : option_map_or (is_open (p ++ e ∷ [])) (parent (p ++ e ∷ []) (length p)) true ≡
+      option_map_or (is_open (q ++ e ∷ [])) (parent (q ++ e ∷ []) (length q)) true
   parents = above (parent (p ++ e ∷ []) (length p)) refl ∙ ap (λ x. option_map_or (is_open (q ++ e ∷ [])) x true) (parent_new p q a.same_length e)
 
-  both : ((at makes_node (p ++ e ∷ []) (length p) && not (Rattle.rx_event.specs.Tree.is_shut (p ++ e ∷ []) (length p))) && option_map_or (is_open (p ++ e ∷ [])) (parent (p ++ e ∷ []) (length p)) true) ≡
-      ((at makes_node (q ++ e ∷ []) (length q) && not (Rattle.rx_event.specs.Tree.is_shut (q ++ e ∷ []) (length q))) && option_map_or (is_open (q ++ e ∷ [])) (parent (q ++ e ∷ []) (length q)) true)
+  both : ((at makes_node (p ++ e ∷ []) (length p) && not (Rattle.rx_event.specs.Tree.is_shut (p ++ e ∷ []) (length p))) &&
+      option_map_or (is_open (p ++ e ∷ [])) (parent (p ++ e ∷ []) (length p)) true) ≡
+      ((at makes_node (q ++ e ∷ []) (length q) && not (Rattle.rx_event.specs.Tree.is_shut (q ++ e ∷ []) (length q))) &&
+      option_map_or (is_open (q ++ e ∷ [])) (parent (q ++ e ∷ []) (length q)) true)
   both = (λ i. (stands i && not (shut i)) && parents i)
 
-hub_push : (p q : List Event) → length p ≡ length q → ((n : ℕ) (mode : Mode) → slice_get p n ≡ Some (Hub mode) → slice_get q n ≡ Some (Hub mode)) → (e : Event) (n : ℕ) (mode : Mode) →
+hub_push : (p q : List Event) → length p ≡ length q → ((n : ℕ) (mode : Mode) → slice_get p n ≡ Some (Hub mode) → slice_get q n ≡ Some (Hub mode)) →
+    (e : Event) (n : ℕ) (mode : Mode) →
     slice_get (p ++ e ∷ []) n ≡ Some (Hub mode) → slice_get (q ++ e ∷ []) n ≡ Some (Hub mode)
 hub_push p q same hubs e n mode at_n = by_place (cases_order n (length p)) where
   by_place : (n ≡ length p) ⊎ ((n < length p) ⊎ (length p < n)) → slice_get (q ++ e ∷ []) n ≡ Some (Hub mode)
@@ -283,7 +291,8 @@ alike_push p q a e =
         is_open_past (p ++ e ∷ []) n (omega (arith, length-append p (e ∷ []))) ∙ sym (is_open_past (q ++ e ∷ []) n (omega (arith, length-append q (e ∷ []))))
 
     made : (n : ℕ) → is_open (p ++ e ∷ []) n ≡ true → (n ≡ length p) ⊎ ((n < length p) ⊎ (length p < n)) → slice_get (p ++ e ∷ []) n ≡ slice_get (q ++ e ∷ []) n
-    made n o (inl last) = ap (slice_get (p ++ e ∷ [])) last ∙ slice_get_last p e ∙ sym (slice_get_last q e) ∙ ap (slice_get (q ++ e ∷ [])) (sym (last ∙ a.same_length))
+    made n o (inl last) =
+        ap (slice_get (p ++ e ∷ [])) last ∙ slice_get_last p e ∙ sym (slice_get_last q e) ∙ ap (slice_get (q ++ e ∷ [])) (sym (last ∙ a.same_length))
     made n o (inr (inl l)) = slice_get-append p (e ∷ []) n l ∙ a.same_made n (was_open n l o) ∙ sym (slice_get-append q (e ∷ []) n (rw (← a.same_length) l))
       where
         was_open : (n : ℕ) → n < length p → is_open (p ++ e ∷ []) n ≡ true → is_open p n ≡ true

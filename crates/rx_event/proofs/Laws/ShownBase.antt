@@ -37,7 +37,8 @@ base_one_connection b h sound one g x y two =
 pub base_undue : (b : Kept) (h : List Event) → Sound b h → IsSettled b h → (n : ℕ) (t : Terminal) → IsDue (base_of b h) (shown (base_of b h)) (End n t) → ⊥
 base_undue b h sound settled n t d =
     let a : Agree b h (base_of b h) (shown (base_of b h)) = base_agrees b h sound settled in
-    settled.none (End n t) (due (λ g waits. settled.none (Connect g) (connecting waits)) (due_too (base_of b h) (shown (base_of b h)) b h (agree_back b h (base_of b h) (shown (base_of b h)) a) d))
+    settled.none (End n t) (due (λ g waits. settled.none (Connect g) (connecting waits))
+    (due_too (base_of b h) (shown (base_of b h)) b h (agree_back b h (base_of b h) (shown (base_of b h)) a) d))
 
 -- and what was accepted is held, waits or was taken -----------------------------------------------------
 

@@ -1,5 +1,6 @@
 -- What is known of a lawful stored history, in the words that its base needs.
-use Rattle.std.proofs.Common.{subst, ◌≡◌, ℕ, suc, ◌<◌, ◌≤◌, Bool, true, false, List, [], ◌∷◌, ◌++◌, length, cond, Option, Some, None, refl, sym, ap, ◌∙◌, arith, inl, inr, ◌⊎◌, ◌==◌, slice_get, count_by, length-append, take, drop}
+use Rattle.std.proofs.Common.{subst, ◌≡◌, ℕ, suc, ◌<◌, ◌≤◌, Bool, true, false, List, [], ◌∷◌, ◌++◌, length, cond, Option, Some, None}
+use Rattle.std.proofs.Common.{refl, sym, ap, ◌∙◌, arith, inl, inr, ◌⊎◌, ◌==◌, slice_get, count_by, length-append, take, drop}
 use Rattle.std.proofs.Math.Bool.{not, ◌&&◌, ◌||◌}
 use Rattle.std.specs.List.{list_any}
 use Rattle.std.specs.Option.{option_and_then, option_map_or}
@@ -48,7 +49,8 @@ order_over h t g p l ordered a k within connects =
 
 pub order_older : (h : List Event) (n g p : ℕ) → n ≤ length h → p < n → IsInOrderAt (take n h) g p → IsInOrderAt h g p
 order_older h n g p l less ordered =
-    subst (λ (k : List Event). IsInOrderAt k g p) (take-append-drop n h) (order_over (take n h) (drop n h) g p (let s = length-take-le n h l in omega arith) ordered)
+    subst (λ (k : List Event). IsInOrderAt k g p) (take-append-drop n h)
+    (order_over (take n h) (drop n h) g p (let s = length-take-le n h l in omega arith) ordered)
 
 pub hub_before : (b : Kept) (h : List Event) → IsLawful b h → (c g : ℕ) → slice_get h c ≡ Some (Connect g) → at makes_hub (take c h) g ≡ true
 hub_before b h law c g at_c = by_case (found_at b h law c (Connect g) at_c) where
@@ -56,7 +58,8 @@ hub_before b h law c g at_c = by_case (found_at b h law c (Connect g) at_c) wher
   by_case (in_base found same) = ap (λ k. at makes_hub k g) same ∙ law.started.connects c g found
   by_case (since_base next) = may_connect_hub b next
 
-pub hubbed_before : (b : Kept) (h : List Event) → IsLawful b h → (n : ℕ) (place : Place) (kind : Kind) → slice_get h n ≡ Some (Open place kind) → IsHubbed (take n h) place kind
+pub hubbed_before : (b : Kept) (h : List Event) → IsLawful b h → (n : ℕ) (place : Place) (kind : Kind) → slice_get h n ≡ Some (Open place kind) →
+    IsHubbed (take n h) place kind
 hubbed_before b h law n place kind at_n = by_case (found_at b h law n (Open place kind) at_n) where
   by_case : FoundAt b h n (Open place kind) → IsHubbed (take n h) place kind
   by_case (in_base found same) = subst (λ k. IsHubbed k place kind) (sym same) (law.started.hubbed n place kind found)
@@ -72,7 +75,9 @@ pub owned-push : (b : Kept) (h : List Event) (e : Event) → IsLawful b h → (r
     is_owned (h ++ e ∷ []) r ≡ (is_owned h r && (node_open (h ++ e ∷ []) h r && not (is_remove_of r e)))
 unfolding is_owned
 owned-push b h e law r l =
-    (λ i. option_map_or (is_open (h ++ e ∷ [])) (option_and_then node_of_accept (slice_get-append h (e ∷ []) r l i)) false && not (list_any_push (is_remove_of r) h e i)) ∙ by_node (node_of h r) refl
+    (λ i. option_map_or (is_open (h ++ e ∷ [])) (option_and_then node_of_accept (slice_get-append h (e ∷ []) r l i)) false &&
+    not (list_any_push (is_remove_of r) h e i)) ∙
+    by_node (node_of h r) refl
   where
     shape : (o n s c : Bool) → (n ≡ true → o ≡ true) → (n && not (s || c)) ≡ ((o && not s) && (n && not c))
     shape true n true true up = elim n as (λ v. (v && false) ≡ (false && (v && false))) [ true ↦ refl | false ↦ refl ]
@@ -85,7 +90,9 @@ owned-push b h e law r l =
         (option_map_or (is_open (h ++ e ∷ [])) o false && not (list_any (is_remove_of r) h || is_remove_of r e)) ≡
         ((option_map_or (is_open h) o false && not (list_any (is_remove_of r) h)) && (option_map_or (is_open (h ++ e ∷ [])) o false && not (is_remove_of r e)))
     by_node None at_r = refl
-    by_node (Some n) at_r = shape (is_open h n) (is_open (h ++ e ∷ []) n) (list_any (is_remove_of r) h) (is_remove_of r e) (open_old h e n (let s = node_of-lt b h law r n at_r in omega arith))
+    by_node (Some n) at_r =
+        shape (is_open h n) (is_open (h ++ e ∷ []) n) (list_any (is_remove_of r) h) (is_remove_of r e)
+        (open_old h e n (let s = node_of-lt b h law r n at_r in omega arith))
 
 -- an owned resource reads as what accepted it
 pub reads_owned : (b : Kept) (h : List Event) → IsLawful b h → (r : ℕ) → is_owned h r ≡ true → accepted_by b h r ≡ slice_get h r
@@ -138,6 +145,8 @@ sound_of b h law =
       below = named_below b h law;
       stands = stands_of b h law;
       subscribes = subscribes_of b h law;
-      one_inner = λ f x y two. one_inner b h law f x y (record { switch = two.switch; one = two.one; one_open = two.one_open; other = two.other; other_open = two.other_open });
+      one_inner =
+          λ f x y two. one_inner b h law f x y
+          (record { switch = two.switch; one = two.one; one_open = two.one_open; other = two.other; other_open = two.other_open });
       accepted = reads_owned b h law;
     }

@@ -1,5 +1,6 @@
 -- A node has one source at most.
-use Rattle.std.proofs.Common.{◌≡◌, ℕ, zero, suc, ◌<◌, Bool, true, false, List, [], ◌∷◌, Option, Some, None, refl, sym, ap, ◌∙◌, arith, inl, inr, ◌⊎◌, slice_get, take}
+use Rattle.std.proofs.Common.{◌≡◌, ℕ, zero, suc, ◌<◌, Bool, true, false, List, [], ◌∷◌, Option, Some}
+use Rattle.std.proofs.Common.{None, refl, sym, ap, ◌∙◌, arith, inl, inr, ◌⊎◌, slice_get, take}
 use Rattle.std.proofs.Math.Bool.{◌||◌}
 use Rattle.std.specs.List.{list_any}
 use Rattle.std.specs.Option.{option_map_or}
@@ -41,7 +42,8 @@ no_later base h law f a b l one other = by_event (slice_get h b) refl other wher
     by_case (since_base next) =
         let free = (may_open base next).2 in
         let none : source_opened base (take b h) f ≡ false = ap (source_opened base (take b h)) (sym (eqb-true q f source)) ∙ free in
-        both_ways (list_any (is_source_of f) (take b h)) (or_parts _ (list_any (is_source_of f) (take b h)) none).1 (at_any (is_source_of f) (take b h) a before)
+        both_ways (list_any (is_source_of f) (take b h)) (or_parts _ (list_any (is_source_of f) (take b h)) none).1
+        (at_any (is_source_of f) (take b h) a before)
   by_event (Some (Open Root kind)) at_b source = false≢true source
   by_event (Some (Open (Inner q) kind)) at_b source = false≢true source
   by_event (Some (Open (Notifier q) kind)) at_b source = false≢true source

@@ -1,5 +1,6 @@
 -- Whatever one course of what is due closes, another closes too, once nothing is left to be done in it.
-use Rattle.std.proofs.Common.{◌≡◌, ℕ, ◌<◌, Bool, true, false, List, [], ◌∷◌, ◌++◌, length, Some, slice_get, refl, sym, ap, subst, ◌∙◌, inl, inr, ◌⊎◌, ◌==◌, arith}
+use Rattle.std.proofs.Common.{◌≡◌, ℕ, ◌<◌, Bool, true, false, List, [], ◌∷◌, ◌++◌, length, Some}
+use Rattle.std.proofs.Common.{slice_get, refl, sym, ap, subst, ◌∙◌, inl, inr, ◌⊎◌, ◌==◌, arith}
 use Rattle.std.proofs.Math.Bool.{not}
 use Rattle.std.specs.List.{AllByRecursion, list_any}
 use Rattle.std.specs.Cmp.{both_ways as same_test}
@@ -21,7 +22,9 @@ use Rattle.rx_event.proofs.Laws.Stands.{connection_parent}
 use Rattle.rx_event.proofs.Laws.Calm.{subscriber_listed, none_subscribed}
 use Rattle.rx_event.proofs.Laws.MarksFound.{completed_by, completed_kept, source_completed_true, source_completed_has}
 use Rattle.rx_event.proofs.Laws.OneEnd.{source_parent}
-use Rattle.rx_event.proofs.Laws.Dues.{IsDueOn, none_more, one_more, Fails, at_on, parent_on, ancestors_on, kept_on, connect_on, was_open_on, owed_on, fired_on, connected_on, lawful_on, EndsSo, ends_one, EndStands, stood_before, came_after, end_stands, HowClosed, ended_so, left_alone, closed_with, how_closed, IsClosing, by_end, by_close, closing_of}
+use Rattle.rx_event.proofs.Laws.Dues.{IsDueOn, none_more, one_more, Fails, at_on, parent_on, ancestors_on, kept_on, connect_on, was_open_on, owed_on}
+use Rattle.rx_event.proofs.Laws.Dues.{fired_on, connected_on, lawful_on, EndsSo, ends_one, EndStands, stood_before, came_after, end_stands, HowClosed}
+use Rattle.rx_event.proofs.Laws.Dues.{ended_so, left_alone, closed_with, how_closed, IsClosing, by_end, by_close, closing_of}
 
 -- the node that the event takes away
 abbrev pub taken_away : Event → ℕ
@@ -48,7 +51,8 @@ subscriber_fails : (g : ℕ) → Fails (is_subscriber_of g)
 subscriber_fails g = record { at_end = λ c t. refl; at_close = λ c. refl }
 
 -- Two courses of what is due after b: p, which may go on, and k, after which nothing is forced. What k leaves open p has not closed so far
-module _ (base : Kept) (b p k : List Event) (law : IsLawful base b) (whole : IsConnected b) (on_p : IsDueOn base b p) (on_k : IsDueOn base b k) (settled : IsSettled base k)
+module _ (base : Kept) (b p k : List Event) (law : IsLawful base b) (whole : IsConnected b) (on_p : IsDueOn base b p) (on_k : IsDueOn base b k)
+    (settled : IsSettled base k)
     (spares : (n : ℕ) → is_open k n ≡ true → is_open p n ≡ true) where
   closed_in_k : (n : ℕ) → is_open p n ≡ false → is_open k n ≡ false
   closed_in_k n closed = false_from_ne_true (is_open k n) (λ o. both_ways (is_open p n) closed (spares n o))
@@ -125,7 +129,8 @@ module _ (base : Kept) (b p k : List Event) (law : IsLawful base b) (whole : IsC
   -- what completed a source in p did so in k
   pub completed_in_k : (n : ℕ) → is_open k n ≡ true → source_completed base p n ≡ true → source_completed base k n ≡ true
   completed_in_k n alive found = by_case (completed_by base p n found) where
-    by_case : (option_map_or (λ r. r.source_completed) (node_kept base n) false ≡ true) ⊎ (list_any (completes_source p n) p ≡ true) → source_completed base k n ≡ true
+    by_case : (option_map_or (λ r. r.source_completed) (node_kept base n) false ≡ true) ⊎ (list_any (completes_source p n) p ≡ true) →
+        source_completed base k n ≡ true
     by_case (inl kept) = completed_kept base k n kept
     by_case (inr listed) =
         let w = source_completed_true base p n listed in
@@ -146,7 +151,9 @@ module _ (base : Kept) (b p k : List Event) (law : IsLawful base b) (whole : IsC
   due_in_k (cut {s = s} {t = t} o x) alive = cut alive (source_in_k s t alive x)
   due_in_k (left {c = c} {g = g} o at_c auto none) alive =
       left alive (kept_on base on_k c _ (connect_on base on_p c g at_c)) (same_at is_auto_hub auto_fails g auto)
-      (none_subscribed k g (λ s subscribes still. subscriber_listed p g s (at_on base (is_subscriber_of g) (subscriber_fails g) on_p s ∙ sym (at_on base (is_subscriber_of g) (subscriber_fails g) on_k s) ∙ subscribes) (spares s still) none))
+      (none_subscribed k g (λ s subscribes still. subscriber_listed p g s
+      (at_on base (is_subscriber_of g) (subscriber_fails g) on_p s ∙ sym (at_on base (is_subscriber_of g) (subscriber_fails g) on_k s) ∙ subscribes)
+      (spares s still) none))
 
   -- and since nothing is, k leaves no such node open
   closes_in_k : {e : Event} → IsDue base p e → is_open k (taken_away e) ≡ true → ⊥
@@ -181,18 +188,22 @@ spared_step base b p k law whole on_p on_k settled spares d closing n o = by_clo
 
   by_closing : {x : Event} → IsClosing base p x → IsDue base p x → is_open (p ++ x ∷ []) n ≡ true
   by_closing (by_end c {t = t} y alive) d =
-      is_open_outside-end p c t n ∙ and_from _ _ (spares n o) (not_within (is_within p c n) (λ inside. closes_in_k base b p k law whole on_p on_k settled spares d (above c inside)))
+      is_open_outside-end p c t n ∙
+      and_from _ _ (spares n o) (not_within (is_within p c n) (λ inside. closes_in_k base b p k law whole on_p on_k settled spares d (above c inside)))
   by_closing (by_close c g at_c none alive) d =
-      is_open_outside-close p c n ∙ and_from _ _ (spares n o) (not_within (is_within p c n) (λ inside. closes_in_k base b p k law whole on_p on_k settled spares d (above c inside)))
+      is_open_outside-close p c n ∙
+      and_from _ _ (spares n o) (not_within (is_within p c n) (λ inside. closes_in_k base b p k law whole on_p on_k settled spares d (above c inside)))
 
 -- what k leaves open no course has closed
-pub spared : (base : Kept) → {b p : List Event} → IsDueOn base b p → (k : List Event) → IsLawful base b → IsConnected b → IsDueOn base b k → IsSettled base k → (n : ℕ) →
+pub spared : (base : Kept) → {b p : List Event} → IsDueOn base b p → (k : List Event) → IsLawful base b → IsConnected b → IsDueOn base b k →
+    IsSettled base k → (n : ℕ) →
     is_open k n ≡ true → is_open p n ≡ true
 spared base none_more k law whole on_k settled = λ n o. was_open_on base on_k n o
 spared base {b = b} (one_more {k = p} on d) k law whole on_k settled =
     spared_step base b p k law whole on on_k settled (spared base on k law whole on_k settled) d (closing_of base d)
 
 -- so two that leave nothing to be done leave the same open
-pub same_open : (base : Kept) → {b k j : List Event} → IsLawful base b → IsConnected b → IsDueOn base b k → IsSettled base k → IsDueOn base b j → IsSettled base j → (n : ℕ) → is_open k n ≡ is_open j n
+pub same_open : (base : Kept) → {b k j : List Event} → IsLawful base b → IsConnected b → IsDueOn base b k → IsSettled base k → IsDueOn base b j →
+    IsSettled base j → (n : ℕ) → is_open k n ≡ is_open j n
 same_open base {k = k} {j = j} law whole on_k settled_k on_j settled_j n =
     same_test (is_open k n) (is_open j n) (spared base on_j k law whole on_k settled_k n) (spared base on_k j law whole on_j settled_j n)

@@ -1,5 +1,6 @@
 -- Where nodes stand in a lawful history: below nodes, each place below what has such a place, connections topmost.
-use Rattle.std.proofs.Common.{subst, ◌≡◌, ℕ, ◌<◌, Bool, true, List, [], ◌∷◌, length, Some, None, refl, sym, ap, ◌∙◌, arith, zero, suc, inl, inr, ◌⊎◌, take, slice_get}
+use Rattle.std.proofs.Common.{subst, ◌≡◌, ℕ, ◌<◌, Bool, true, List, [], ◌∷◌, length, Some, None, refl}
+use Rattle.std.proofs.Common.{sym, ap, ◌∙◌, arith, zero, suc, inl, inr, ◌⊎◌, take, slice_get}
 use Rattle.std.specs.Option.{option_map_or}
 use Rattle.std.proofs.lemmas.Bool.{and_parts}
 use Rattle.std.proofs.lemmas.List.{length-take-le}
@@ -47,7 +48,8 @@ parent_node base h law n p below =
     at_older makes_node h n p l (open_node (take n h) p (named_open base h law n p e.0 e.1 (parent_name h n p e.0 below e.1)))
 
 -- what was opened was opened at a free place
-pub opened_free : (base : Kept) → (h : List Event) → IsLawful base h → (n : ℕ) (place : Place) (kind : Kind) → slice_get h n ≡ Some (Open place kind) → HasPlace (take n h) place
+pub opened_free : (base : Kept) → (h : List Event) → IsLawful base h → (n : ℕ) (place : Place) (kind : Kind) → slice_get h n ≡ Some (Open place kind) →
+    HasPlace (take n h) place
 opened_free base h law n place kind at_n = by_case (found_at base h law n (Open place kind) at_n) where
   has_place : (place : Place) → IsFree base (take n h) place → HasPlace (take n h) place
   has_place Root free = tt
@@ -60,15 +62,18 @@ opened_free base h law n place kind at_n = by_case (found_at base h law n (Open 
   by_case (since_base next) = has_place place (may_open base next)
 
 -- a source stands below what has a place for one
-pub source_stands : (base : Kept) → (h : List Event) → IsLawful base h → (n p : ℕ) (kind : Kind) → slice_get h n ≡ Some (Open (Source p) kind) → at has_source h p ≡ true
+pub source_stands : (base : Kept) → (h : List Event) → IsLawful base h → (n p : ℕ) (kind : Kind) → slice_get h n ≡ Some (Open (Source p) kind) →
+    at has_source h p ≡ true
 source_stands base h law n p kind at_n = at_older has_source h n p (slice_get_within h n _ at_n) (opened_free base h law n (Source p) kind at_n)
 
 -- an inner observable stands below a FlatMap or a Switch
-pub inner_stands : (base : Kept) → (h : List Event) → IsLawful base h → (n p : ℕ) (kind : Kind) → slice_get h n ≡ Some (Open (Inner p) kind) → at is_merging h p ≡ true
+pub inner_stands : (base : Kept) → (h : List Event) → IsLawful base h → (n p : ℕ) (kind : Kind) → slice_get h n ≡ Some (Open (Inner p) kind) →
+    at is_merging h p ≡ true
 inner_stands base h law n p kind at_n = at_older is_merging h n p (slice_get_within h n _ at_n) (opened_free base h law n (Inner p) kind at_n)
 
 -- a notifier stands below a TakeUntil
-pub notifier_stands : (base : Kept) → (h : List Event) → IsLawful base h → (n p : ℕ) (kind : Kind) → slice_get h n ≡ Some (Open (Notifier p) kind) → at is_until h p ≡ true
+pub notifier_stands : (base : Kept) → (h : List Event) → IsLawful base h → (n p : ℕ) (kind : Kind) → slice_get h n ≡ Some (Open (Notifier p) kind) →
+    at is_until h p ≡ true
 notifier_stands base h law n p kind at_n = at_older is_until h n p (slice_get_within h n _ at_n) (opened_free base h law n (Notifier p) kind at_n)
 
 -- a connection stands below no node
@@ -79,13 +84,16 @@ connection_parent h c g at_c = rw at_c refl
 topmost_after : (steps : ℕ) (h : List Event) (a b g n : ℕ) → n < steps → slice_get h a ≡ Some (Connect g) → is_within h a n ≡ true → is_within h b n ≡ true →
     is_within h a b ≡ true
 topmost_after zero h a b g n l at_a above other = absurd (omega arith)
-topmost_after (suc steps) h a b g n l at_a above other = by_case (within_cases h a n above) (within_cases h b n other) (λ p less one two. topmost_after steps h a b g p (let m = l in let k = less in omega arith) at_a one two) where
-  by_case : (a ≡ n) ⊎ ((p : ℕ) × (parent h n ≡ Some p) × (is_within h a p ≡ true)) → (b ≡ n) ⊎ ((p : ℕ) × (parent h n ≡ Some p) × (is_within h b p ≡ true)) →
-      ((p : ℕ) → p < n → is_within h a p ≡ true → is_within h b p ≡ true → is_within h a b ≡ true) → is_within h a b ≡ true
-  by_case one (inl same) rest = ap (is_within h a) same ∙ above
-  by_case (inl same) (inr (p, below, within)) rest = absurd (none-some p (sym (connection_parent h n g (ap (slice_get h) (sym same) ∙ at_a)) ∙ below))
-  by_case (inr (p, below, within)) (inr (q, other_below, other_within)) rest =
-      rest p (parent-lt h n p below) within (ap (is_within h b) (same_Some p q (sym below ∙ other_below)) ∙ other_within)
+topmost_after (suc steps) h a b g n l at_a above other =
+    by_case (within_cases h a n above) (within_cases h b n other)
+    (λ p less one two. topmost_after steps h a b g p (let m = l in let k = less in omega arith) at_a one two)
+  where
+    by_case : (a ≡ n) ⊎ ((p : ℕ) × (parent h n ≡ Some p) × (is_within h a p ≡ true)) → (b ≡ n) ⊎ ((p : ℕ) × (parent h n ≡ Some p) × (is_within h b p ≡ true)) →
+        ((p : ℕ) → p < n → is_within h a p ≡ true → is_within h b p ≡ true → is_within h a b ≡ true) → is_within h a b ≡ true
+    by_case one (inl same) rest = ap (is_within h a) same ∙ above
+    by_case (inl same) (inr (p, below, within)) rest = absurd (none-some p (sym (connection_parent h n g (ap (slice_get h) (sym same) ∙ at_a)) ∙ below))
+    by_case (inr (p, below, within)) (inr (q, other_below, other_within)) rest =
+        rest p (parent-lt h n p below) within (ap (is_within h b) (same_Some p q (sym below ∙ other_below)) ∙ other_within)
 
 -- among the ancestors of a node a connection is the topmost: the others stand below it
 pub connection_topmost : (h : List Event) (a b g n : ℕ) → slice_get h a ≡ Some (Connect g) → is_within h a n ≡ true → is_within h b n ≡ true →

@@ -1,5 +1,6 @@
 -- Where two courses of what is forced after one history begin alike: at the connection of the hub that waits, or at once.
-use Rattle.std.proofs.Common.{◌≡◌, ℕ, ◌≤◌, List, [], ◌∷◌, ◌++◌, length, take, slice_get, refl, sym, ap, subst, ◌∙◌, inl, inr, ◌⊎◌, arith, append_assoc, append-nil, length-append}
+use Rattle.std.proofs.Common.{◌≡◌, ℕ, ◌≤◌, List, [], ◌∷◌, ◌++◌, length, take, slice_get, refl, sym, ap, subst}
+use Rattle.std.proofs.Common.{◌∙◌, inl, inr, ◌⊎◌, arith, append_assoc, append-nil, length-append}
 use Rattle.std.proofs.Math.Seq.{take-append_seam}
 use Rattle.std.proofs.lemmas.Option.{same_Some}
 use Rattle.std.specs.List.{AllByRecursion}
@@ -38,7 +39,8 @@ same_push xs ys x y same =
     let front : xs ≡ ys = sym (take-append_seam xs (x ∷ [])) ∙ (λ i. take (long i) (same i)) ∙ take-append_seam ys (y ∷ []) in
     (front, same_Some x y (sym (slice_get_last xs x) ∙ (λ i. slice_get (same i) (long i)) ∙ slice_get_last ys y))
 
-lawful_parts : (base : Kept) → (h : List Event) (e : Event) → length (shown base) ≤ length h → IsLawful base (h ++ e ∷ []) → IsLawful base h × MayFollow base h e
+lawful_parts : (base : Kept) → (h : List Event) (e : Event) → length (shown base) ≤ length h → IsLawful base (h ++ e ∷ []) →
+    IsLawful base h × MayFollow base h e
 lawful_parts base h e long law = by_case (split_last law.since) where
   by_case : (law.since ≡ []) ⊎ ((ys : List Event) × (y : Event) × (law.since ≡ ys ++ y ∷ [])) → IsLawful base h × MayFollow base h e
   by_case (inl none) =
@@ -47,15 +49,22 @@ lawful_parts base h e long law = by_case (split_last law.since) where
   by_case (inr (xs, x, ends)) =
       let same : h ++ e ∷ [] ≡ (shown base ++ xs) ++ x ∷ [] = law.reads ∙ ap (λ k. shown base ++ k) ends ∙ sym (append_assoc (shown base) xs (x ∷ [])) in
       let parts = same_push h (shown base ++ xs) e x same in
-      let each : AllByRecursion (λ (m : Moment). MayFollow base m.before m.event) (moments_after (shown base) xs ++ (record { before = shown base ++ xs; event = x }) ∷ []) =
-      subst (λ ms. AllByRecursion (λ (m : Moment). MayFollow base m.before m.event) ms) (ap (moments_after (shown base)) ends ∙ moments_after-push (shown base) xs x) law.each in (
+      let each : AllByRecursion (λ (m : Moment). MayFollow base m.before m.event)
+      (moments_after (shown base) xs ++ (record { before = shown base ++ xs; event = x }) ∷ []) =
+      subst (λ ms. AllByRecursion (λ (m : Moment). MayFollow base m.before m.event) ms)
+      (ap (moments_after (shown base)) ends ∙ moments_after-push (shown base) xs x) law.each in (
         record {
           started = law.started;
           since = xs;
           reads = parts.0;
-          each = all_front (λ (m : Moment). MayFollow base m.before m.event) (moments_after (shown base) xs) (record { before = shown base ++ xs; event = x }) each;
+          each =
+              all_front (λ (m : Moment). MayFollow base m.before m.event) (moments_after (shown base) xs) (record { before = shown base ++ xs; event = x })
+              each;
         },
-        subst (λ k. MayFollow base k e) (sym parts.0) (subst (λ z. MayFollow base (shown base ++ xs) z) (sym parts.1) (all_last (λ (m : Moment). MayFollow base m.before m.event) (moments_after (shown base) xs) (record { before = shown base ++ xs; event = x }) each)),
+        subst (λ k. MayFollow base k e) (sym parts.0)
+            (subst (λ z. MayFollow base (shown base ++ xs) z) (sym parts.1)
+            (all_last (λ (m : Moment). MayFollow base m.before m.event) (moments_after (shown base) xs) (record { before = shown base ++ xs; event = x })
+            each)),
       )
 
 -- what a lawful history began with is lawful, where it has all that the base shows
@@ -132,7 +141,8 @@ starts_at : (base : Kept) → {b k j : List Event} → IsLawful base b → IsCon
 starts_at base {b = b} law whole on_k on_j =
     record { start = b; begun = inl refl; law = law; whole = whole; one = forced_due_on base on_k whole; other = forced_due_on base on_j whole }
 
-pub starts_with : (base : Kept) → {b k j : List Event} → IsLawful base b → IsForcedOn base b k → IsForcedOn base b j → {e x : Event} → IsForced base b e → IsForcedOn base (b ++ e ∷ []) k → IsForced base b x →
+pub starts_with : (base : Kept) → {b k j : List Event} → IsLawful base b → IsForcedOn base b k → IsForcedOn base b j → {e x : Event} → IsForced base b e →
+    IsForcedOn base (b ++ e ∷ []) k → IsForced base b x →
     IsForcedOn base (b ++ x ∷ []) j → StartAlike base b k j
 starts_with base law on_k on_j (due whole d) rest_k f rest_j = starts_at base law whole on_k on_j
 starts_with base law on_k on_j (connecting {g = g} d) rest_k (due whole x) rest_j = absurd (whole g d)
@@ -149,7 +159,8 @@ starts_with base {b = b} {j = j} law on_k on_j (connecting {g = g} d) rest_k (co
     }
 
 -- two courses after which nothing is forced
-pub start_alike : (base : Kept) → {b k j : List Event} → IsLawful base b → IsForcedOn base b k → IsSettled base k → IsForcedOn base b j → IsSettled base j → StartAlike base b k j
+pub start_alike : (base : Kept) → {b k j : List Event} → IsLawful base b → IsForcedOn base b k → IsSettled base k → IsForcedOn base b j → IsSettled base j →
+    StartAlike base b k j
 start_alike base {b = b} {k = k} {j = j} law on_k settled_k on_j settled_j = by_first (begins_with base on_k) (begins_with base on_j) where
   settled_first : (q : List Event) → IsSettled base q → q ≡ b → StartAlike base b k j
   settled_first q settled same = starts_at base law (subst (λ (p : List Event). IsConnected p) same (settled_connected base q settled)) on_k on_j

@@ -1,5 +1,6 @@
 -- What a caller opens stays open through all that is forced after it, and so does the node at which it hands in a resource.
-use Rattle.std.proofs.Common.{◌≡◌, ℕ, zero, suc, ◌+◌, ◌<◌, ◌≤◌, Bool, true, false, List, [], ◌∷◌, ◌++◌, length, Option, Some, None, slice_get, refl, sym, ap, subst, ◌∙◌, inl, inr, ◌⊎◌, ◌==◌, arith, length-append, append_assoc, append-nil}
+use Rattle.std.proofs.Common.{◌≡◌, ℕ, zero, suc, ◌+◌, ◌<◌, ◌≤◌, Bool, true, false, List, [], ◌∷◌, ◌++◌, length, Option, Some, None, slice_get}
+use Rattle.std.proofs.Common.{refl, sym, ap, subst, ◌∙◌, inl, inr, ◌⊎◌, ◌==◌, arith, length-append, append_assoc, append-nil}
 use Rattle.std.proofs.Math.Bool.{not, ◌&&◌}
 use Rattle.std.specs.List.{list_any}
 use Rattle.std.specs.Option.{option_map_or}
@@ -27,7 +28,8 @@ use Rattle.rx_event.proofs.Laws.Steps.{by_events, forced_kind, may_accept}
 use Rattle.rx_event.proofs.Laws.Totals.{is_open_new}
 use Rattle.rx_event.proofs.Laws.Hubs.{hubs_in_order}
 use Rattle.rx_event.proofs.Laws.MarksInner.{switched_parent}
-use Rattle.rx_event.proofs.Laws.Calm.{EndsNone, IsUnused, KeepsSubscribers, ends_none_on, settled_ends_none, settled_used, unused_older, opened_settled, closes_none_kept, settled_on, unforced}
+use Rattle.rx_event.proofs.Laws.Calm.{EndsNone, IsUnused, KeepsSubscribers, ends_none_on, settled_ends_none, settled_used}
+use Rattle.rx_event.proofs.Laws.Calm.{unused_older, opened_settled, closes_none_kept, settled_on, unforced}
 
 -- what a step may not harm --------------------------------------------------------------------------
 
@@ -198,7 +200,8 @@ module _ (base : Kept) (h : List Event) (place : Place) (kind : Kind) (law : IsL
         let named = parent_name opened_on (length h) p (Open place kind) below (slice_get_last h (Open place kind)) in
         let stays_above = ancestors-append h (Open place kind ∷ []) p (parent-lt opened_on (length h) p below) in
         let above : is_within h c p ≡ true = sym (ap (list_any (λ a. c == a)) stays_above) ∙ inside in
-        cut_within (suc s) h (Open place kind) c s (omega arith) (λ a shut. within_parent h c a p (shut_beside base h law place kind p a named shut) above) cut_off
+        cut_within (suc s) h (Open place kind) c s (omega arith) (λ a shut. within_parent h c a p (shut_beside base h law place kind p a named shut) above)
+        cut_off
 
   -- so it takes away no subscriber of the hub of that connection, or of a later one
   keeps_later : (c g j : ℕ) → IsUnder opened_on (length h) c g → g ≤ j → KeepsSubscribers h opened_on j
@@ -228,24 +231,31 @@ record IsBegun (base : Kept) (k : List Event) (n : ℕ) : Type 0 where
   pub before : List Event
   pub unharmed : IsUnharmed base before k n
 
-begun_opened : (base : Kept) → (h : List Event) → IsLawful base h → (n : ℕ) (place : Place) → slice_get h n ≡ Some (Open place Pass) → length h ≡ n + 1 → IsBegun base h n
+begun_opened : (base : Kept) → (h : List Event) → IsLawful base h → (n : ℕ) (place : Place) → slice_get h n ≡ Some (Open place Pass) → length h ≡ n + 1 →
+    IsBegun base h n
 begun_opened base = by_events base (λ h. (n : ℕ) (place : Place) → slice_get h n ≡ Some (Open place Pass) → length h ≡ n + 1 → IsBegun base h n)
-    (λ s n place at_n long. record { before = shown base; unharmed = unharmed_settled base (shown base) n (IsLawful_empty base s) s.settled (s.alive n (Open place Pass) at_n refl) }) after where
-      opened : (h : List Event) (place : Place) → IsLawful base h → MayFollow base h (Open place Pass) → (n : ℕ) → length h ≡ n → IsBegun base (h ++ Open place Pass ∷ []) n
-      opened h place law next n same =
-          subst (λ (m : ℕ). IsBegun base (h ++ Open place Pass ∷ []) m) same (record { before = h; unharmed = unharmed_opened base h place Pass law next })
+    (λ s n place at_n long. record {
+      before = shown base;
+      unharmed = unharmed_settled base (shown base) n (IsLawful_empty base s) s.settled (s.alive n (Open place Pass) at_n refl);
+    }) after
+  where
+    opened : (h : List Event) (place : Place) → IsLawful base h → MayFollow base h (Open place Pass) → (n : ℕ) → length h ≡ n →
+        IsBegun base (h ++ Open place Pass ∷ []) n
+    opened h place law next n same =
+        subst (λ (m : ℕ). IsBegun base (h ++ Open place Pass ∷ []) m) same (record { before = h; unharmed = unharmed_opened base h place Pass law next })
 
-      after : (h : List Event) (e : Event) → IsLawful base h → MayFollow base h e →
-          ((n : ℕ) (place : Place) → slice_get h n ≡ Some (Open place Pass) → length h ≡ n + 1 → IsBegun base h n) → (n : ℕ) (place : Place) →
-          slice_get (h ++ e ∷ []) n ≡ Some (Open place Pass) → length (h ++ e ∷ []) ≡ n + 1 → IsBegun base (h ++ e ∷ []) n
-      after h e law next rest n place at_n long =
-          let same : length h ≡ n = omega (arith, length-append h (e ∷ [])) in
-          let is : e ≡ Open place Pass = same_Some e (Open place Pass) (sym (slice_get_last h e) ∙ ap (slice_get (h ++ e ∷ [])) same ∙ at_n) in
-          subst (λ (x : Event). IsBegun base (h ++ x ∷ []) n) (sym is) (opened h place law (subst (λ (x : Event). MayFollow base h x) is next) n same)
+    after : (h : List Event) (e : Event) → IsLawful base h → MayFollow base h e →
+        ((n : ℕ) (place : Place) → slice_get h n ≡ Some (Open place Pass) → length h ≡ n + 1 → IsBegun base h n) → (n : ℕ) (place : Place) →
+        slice_get (h ++ e ∷ []) n ≡ Some (Open place Pass) → length (h ++ e ∷ []) ≡ n + 1 → IsBegun base (h ++ e ∷ []) n
+    after h e law next rest n place at_n long =
+        let same : length h ≡ n = omega (arith, length-append h (e ∷ [])) in
+        let is : e ≡ Open place Pass = same_Some e (Open place Pass) (sym (slice_get_last h e) ∙ ap (slice_get (h ++ e ∷ [])) same ∙ at_n) in
+        subst (λ (x : Event). IsBegun base (h ++ x ∷ []) n) (sym is) (opened h place law (subst (λ (x : Event). MayFollow base h x) is next) n same)
 
 accepted_begun : (base : Kept) → (h : List Event) (n tag : ℕ) → IsLawful base h → MayFollow base h (Accept n tag) → IsBegun base h n
 accepted_begun base h n tag law (forced f) = absurd (false≢true (forced_kind base f))
-accepted_begun base h n tag law (allowed settled a) = record { before = h; unharmed = unharmed_settled base h n law settled (may_accept base (allowed settled a)) }
+accepted_begun base h n tag law (allowed settled a) =
+    record { before = h; unharmed = unharmed_settled base h n law settled (may_accept base (allowed settled a)) }
 accepted_begun base h n tag law (opened_with {place = place} at_n long o) = begun_opened base h law n place at_n long
 
 -- what stays open -----------------------------------------------------------------------------------
@@ -256,7 +266,8 @@ pub opened_stays : (base : Kept) → (h k : List Event) (place : Place) (kind : 
 opened_stays base h k place kind law next on = (unharmed_on base on h (length h) (unharmed_opened base h place kind law next)).alive
 
 -- So does the node at which a resource is accepted
-pub accepted_stays : (base : Kept) → (h k : List Event) (n tag : ℕ) → IsLawful base h → MayFollow base h (Accept n tag) → IsForcedOn base (h ++ Accept n tag ∷ []) k →
+pub accepted_stays : (base : Kept) → (h k : List Event) (n tag : ℕ) → IsLawful base h → MayFollow base h (Accept n tag) →
+    IsForcedOn base (h ++ Accept n tag ∷ []) k →
     is_open k n ≡ true
 accepted_stays base h k n tag law next on =
     let b = accepted_begun base h n tag law next in
@@ -271,7 +282,8 @@ opened_using_stays base h k place tag law next on =
     (subst (λ (q : List Event). IsForcedOn base q k) (sym (append_assoc h (Open place Pass ∷ []) (Accept (length h) tag ∷ []))) on)
 
 -- What a caller connects stays open
-pub connected_stays : (base : Kept) → (h k : List Event) (g : ℕ) → IsLawful base h → IsSettled base h → MayFollow base h (Connect g) → IsForcedOn base (h ++ Connect g ∷ []) k →
+pub connected_stays : (base : Kept) → (h k : List Event) (g : ℕ) → IsLawful base h → IsSettled base h → MayFollow base h (Connect g) →
+    IsForcedOn base (h ++ Connect g ∷ []) k →
     is_open k (length h) ≡ true
 connected_stays base h k g law settled next on =
     let settled_after = settled_on base h (Connect g) law next settled refl (λ m. refl) (closes_none_kept h (Connect g) refl) refl in

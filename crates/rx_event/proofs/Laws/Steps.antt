@@ -1,5 +1,6 @@
 -- Histories, one event more at a time: proofs by their events, and what stands where an event may follow.
-use Rattle.std.proofs.Common.{◌≡◌, ℕ, ℤ, ◌<◌, Bool, true, false, List, [], ◌∷◌, ◌++◌, take, Some, refl, sym, ap, ◌∙◌, subst, arith, slice_get, append_assoc, append-nil}
+use Rattle.std.proofs.Common.{◌≡◌, ℕ, ℤ, ◌<◌, Bool, true, false, List, [], ◌∷◌, ◌++◌, take, Some, refl}
+use Rattle.std.proofs.Common.{sym, ap, ◌∙◌, subst, arith, slice_get, append_assoc, append-nil}
 use Rattle.std.specs.List.{AllByRecursion}
 use Rattle.std.proofs.lemmas.Grind.{common_steps}
 use Rattle.std.proofs.lemmas.Bool.{false≢true, lt-ltb}
@@ -28,15 +29,19 @@ by_pushes_after P step b (x ∷ h) p = rw (← append_assoc b (x ∷ []) h) (by_
 pub by_pushes : (P : List Event → Type 0) → P [] → ((h : List Event) (e : Event) → P h → P (h ++ e ∷ [])) → (h : List Event) → P h
 by_pushes P start step h = by_pushes_after P step [] h start
 
-by_events_after : (base : Kept) → (P : List Event → Type 0) → ((h : List Event) (e : Event) → IsLawful base h → MayFollow base h e → P h → P (h ++ e ∷ [])) → (b h : List Event) →
+by_events_after : (base : Kept) → (P : List Event → Type 0) → ((h : List Event) (e : Event) → IsLawful base h → MayFollow base h e → P h → P (h ++ e ∷ [])) →
+    (b h : List Event) →
     IsLawful base b → P b → AllByRecursion (λ (m : Moment). MayFollow base m.before m.event) (moments_after b h) → P (b ++ h)
 by_events_after base P step b [] law p each = rw (append-nil b) p
-by_events_after base P step b (x ∷ h) law p each = rw (← append_assoc b (x ∷ []) h) (by_events_after base P step (b ++ x ∷ []) h (IsLawful-push base b x law each.0) (step b x law each.0 p) each.1)
+by_events_after base P step b (x ∷ h) law p each =
+    rw (← append_assoc b (x ∷ []) h) (by_events_after base P step (b ++ x ∷ []) h (IsLawful-push base b x law each.0) (step b x law each.0 p) each.1)
 
 -- what holds of what the base shows, and after each event that may follow, holds of each lawful history
-pub by_events : (base : Kept) → (P : List Event → Type 0) → (Started base → P (shown base)) → ((h : List Event) (e : Event) → IsLawful base h → MayFollow base h e → P h → P (h ++ e ∷ [])) → (h : List Event) →
+pub by_events : (base : Kept) → (P : List Event → Type 0) → (Started base → P (shown base)) →
+    ((h : List Event) (e : Event) → IsLawful base h → MayFollow base h e → P h → P (h ++ e ∷ [])) → (h : List Event) →
     IsLawful base h → P h
-by_events base P start step h law = subst P (sym law.reads) (by_events_after base P step (shown base) law.since (IsLawful_empty base law.started) (start law.started) law.each)
+by_events base P start step h law =
+    subst P (sym law.reads) (by_events_after base P step (shown base) law.since (IsLawful_empty base law.started) (start law.started) law.each)
 
 -- what operators may have to do: a connection, an end or a closing
 abbrev pub may_be_forced : Event → Bool
@@ -137,11 +142,13 @@ pub may_emit : (base : Kept) → {h : List Event} {l : ℕ} {value : ℤ} → Ma
 may_emit base (forced f) = absurd (false≢true (forced_kind base f))
 may_emit base (allowed s a) = allowed_item base a
 
-allowed_decline : (base : Kept) → {h : List Event} {f : ℕ} → IsAllowed base h (Decline f) → (is_open h f ≡ true) × (at is_merging h f ≡ true) × (0 < owed base h f)
+allowed_decline : (base : Kept) → {h : List Event} {f : ℕ} → IsAllowed base h (Decline f) →
+    (is_open h f ≡ true) × (at is_merging h f ≡ true) × (0 < owed base h f)
 allowed_decline base (declined o m some) = (o, m, some)
 
 -- what declines is an open FlatMap or Switch that owes
-pub may_decline : (base : Kept) → {h : List Event} {f : ℕ} → MayFollow base h (Decline f) → (is_open h f ≡ true) × (at is_merging h f ≡ true) × (0 < owed base h f)
+pub may_decline : (base : Kept) → {h : List Event} {f : ℕ} → MayFollow base h (Decline f) →
+    (is_open h f ≡ true) × (at is_merging h f ≡ true) × (0 < owed base h f)
 may_decline base (forced f) = absurd (false≢true (forced_kind base f))
 may_decline base (allowed s a) = allowed_decline base a
 
@@ -153,7 +160,8 @@ may_name base {h = h} {e = Open (Notifier q) kind} {p = p} next named = rw (← 
 may_name base {e = Open Root kind} {p = p} next named = absurd (none-some p named)
 may_name base {p = p} next named = absurd (none-some p named)
 
-pub named_open : (base : Kept) → (h : List Event) → IsLawful base h → (n p : ℕ) (e : Event) → slice_get h n ≡ Some e → parent_named e ≡ Some p → is_open (take n h) p ≡ true
+pub named_open : (base : Kept) → (h : List Event) → IsLawful base h → (n p : ℕ) (e : Event) → slice_get h n ≡ Some e → parent_named e ≡ Some p →
+    is_open (take n h) p ≡ true
 named_open base h law n p e at_n named = by_case (found_at base h law n e at_n) where
   by_case : FoundAt base h n e → is_open (take n h) p ≡ true
   by_case (in_base found same) = ap (λ k. is_open k p) same ∙ law.started.names n p e found named
@@ -167,6 +175,7 @@ named_below base h law n p e at_n named =
     grind (arith, common_steps)
 
 -- and stands below the node that it names
-pub parent-named : (base : Kept) → (h : List Event) → IsLawful base h → (n p : ℕ) (e : Event) → slice_get h n ≡ Some e → parent_named e ≡ Some p → parent h n ≡ Some p
+pub parent-named : (base : Kept) → (h : List Event) → IsLawful base h → (n p : ℕ) (e : Event) → slice_get h n ≡ Some e → parent_named e ≡ Some p →
+    parent h n ≡ Some p
 unfolding parent
 parent-named base h law n p e at_n named = rw (at_n, named, lt-ltb p n (named_below base h law n p e at_n named)) refl

@@ -14,7 +14,8 @@ stored_nothing b = append-nil (shown b)
 slice_get-after : {X : Type 0} (xs ys : List X) (n : ℕ) → length xs ≤ n → slice_get (xs ++ ys) n ≡ slice_get ys (n - length xs)
 slice_get-after [] ys n past = ap (slice_get ys) (let e : n ≡ n - 0 = omega arith in e)
 slice_get-after (x ∷ xs) ys zero past = absurd (omega arith)
-slice_get-after (x ∷ xs) ys (suc n) past = slice_get-after xs ys n (omega arith) ∙ ap (slice_get ys) (let e : n - length xs ≡ suc n - length (x ∷ xs) = omega arith in e)
+slice_get-after (x ∷ xs) ys (suc n) past =
+    slice_get-after xs ys n (omega arith) ∙ ap (slice_get ys) (let e : n - length xs ≡ suc n - length (x ∷ xs) = omega arith in e)
 
 pub get_stored : (b : Kept) (es : List Event) (n : ℕ) → b.at_length ≤ n → slice_get (shown b ++ es) n ≡ slice_get es (n - b.at_length)
 get_stored b es n past = let l = length-shown b in slice_get-after (shown b) es n (omega arith) ∙ ap (λ m. slice_get es (n - m)) l

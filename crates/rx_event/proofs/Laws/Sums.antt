@@ -1,5 +1,6 @@
 -- Sums over the places of a history.
-use Rattle.std.proofs.Common.{◌≡◌, ℕ, zero, suc, ◌+◌, ◌<◌, ◌≤◌, Bool, true, false, List, [], ◌∷◌, ◌++◌, length, cond, refl, sym, ap, ◌∙◌, arith, inl, inr, ◌⊎◌, ◌==◌, add-zero, length-append}
+use Rattle.std.proofs.Common.{◌≡◌, ℕ, zero, suc, ◌+◌, ◌<◌, ◌≤◌, Bool, true, false, List, [], ◌∷◌, ◌++◌, length}
+use Rattle.std.proofs.Common.{cond, refl, sym, ap, ◌∙◌, arith, inl, inr, ◌⊎◌, ◌==◌, add-zero, length-append}
 use Rattle.std.specs.List.{sum_by, count_by, range_with_len}
 use Rattle.std.proofs.lemmas.Bool.{cases_order, eq-eqb, ne_eqb}
 use Rattle.std.proofs.lemmas.List.Sums.{sum_by_push}
@@ -12,7 +13,9 @@ use Rattle.rx_event.proofs.Laws.Steps.{by_pushes}
 
 range_push : (a n : ℕ) → range_with_len a (suc n) ≡ range_with_len a n ++ (a + n) ∷ []
 range_push a zero = ap (λ (k : ℕ). k ∷ []) (sym (add-zero a))
-range_push a (suc n) = let same : (a + 1) + n ≡ a + suc n = omega arith in ap (λ (ks : List ℕ). a ∷ ks) (range_push (a + 1) n ∙ ap (λ (k : ℕ). range_with_len (a + 1) n ++ k ∷ []) same)
+range_push a (suc n) =
+    let same : (a + 1) + n ≡ a + suc n = omega arith in
+    ap (λ (ks : List ℕ). a ∷ ks) (range_push (a + 1) n ∙ ap (λ (k : ℕ). range_with_len (a + 1) n ++ k ∷ []) same)
 
 -- the last number comes last
 pub below_push : (n : ℕ) → range_with_len 0 (suc n) ≡ range_with_len 0 n ++ n ∷ []
@@ -20,7 +23,8 @@ below_push n = let same : 0 + n ≡ n = omega arith in range_push 0 n ∙ ap (λ
 
 -- the last place comes last
 pub places-push : (h : List Event) (e : Event) → places (h ++ e ∷ []) ≡ places h ++ length h ∷ []
-places-push h e = let same : length (h ++ e ∷ []) ≡ suc (length h) = omega (arith, length-append h (e ∷ [])) in ap (range_with_len 0) same ∙ below_push (length h)
+places-push h e =
+    let same : length (h ++ e ∷ []) ≡ suc (length h) = omega (arith, length-append h (e ∷ [])) in ap (range_with_len 0) same ∙ below_push (length h)
 
 pub sum_by-places-push : (f : ℕ → ℕ) (h : List Event) (e : Event) → sum_by f (places (h ++ e ∷ [])) ≡ sum_by f (places h) + f (length h)
 sum_by-places-push f h e = ap (sum_by f) (places-push h e) ∙ sum_by_push f (places h) (length h)
@@ -88,7 +92,9 @@ sum_by_one f c zero l = absurd (omega arith)
 sum_by_one f c (suc n) l = sum_below-suc (λ k. cond (c == k) (f k) 0) n ∙ by_place (sum_by_one f c n) (cases_order c n) where
   by_place : (c < n → sum_by (λ k. cond (c == k) (f k) 0) (range_with_len 0 n) ≡ f c) → (c ≡ n) ⊎ ((c < n) ⊎ (n < c)) →
       sum_by (λ k. cond (c == k) (f k) 0) (range_with_len 0 n) + cond (c == n) (f n) 0 ≡ f c
-  by_place before (inl same) = rw (eq-eqb c n same) (let r = sum_by_none (λ k. cond (c == k) (f k) 0) n (λ k m. rw (ne_eqb c k (omega arith)) refl) in let e : f c ≡ f n = ap f same in omega arith)
+  by_place before (inl same) =
+      rw (eq-eqb c n same)
+      (let r = sum_by_none (λ k. cond (c == k) (f k) 0) n (λ k m. rw (ne_eqb c k (omega arith)) refl) in let e : f c ≡ f n = ap f same in omega arith)
   by_place before (inr (inl m)) = rw (ne_eqb c n (omega arith)) (let r = before m in omega arith)
   by_place before (inr (inr m)) = absurd (omega arith)
 
@@ -114,5 +120,7 @@ count_by-places p = by_pushes (λ h. count_by p h ≡ count_by (at p h) (places 
   where
     longer : (h : List Event) (e : Event) → count_by (at p (h ++ e ∷ [])) (places (h ++ e ∷ [])) ≡ count_by (at p h) (places h) + cond (p e) 1 0
     longer h e =
-        let rest : count_by (at p (h ++ e ∷ [])) (places h) ≡ count_by (at p h) (places h) = sum_by-same (λ k. cond (at p h k) 1 0) (λ k. cond (at p (h ++ e ∷ []) k) 1 0) (length h) (λ k l. ap (λ b. cond b 1 0) (at-append p h (e ∷ []) k l)) in
+        let rest : count_by (at p (h ++ e ∷ [])) (places h) ≡ count_by (at p h) (places h) =
+        sum_by-same (λ k. cond (at p h k) 1 0) (λ k. cond (at p (h ++ e ∷ []) k) 1 0) (length h)
+        (λ k l. ap (λ b. cond b 1 0) (at-append p h (e ∷ []) k l)) in
         sum_by-places-push (λ k. cond (at p (h ++ e ∷ []) k) 1 0) h e ∙ rw (rest, slice_get_last h e) refl

@@ -1,5 +1,6 @@
 -- The inners of a Switch: at most one is open, and the opening of another closes it with all below it.
-use Rattle.std.proofs.Common.{◌≡◌, ℕ, ◌+◌, ◌<◌, Bool, true, false, List, [], ◌∷◌, ◌++◌, length, Option, Some, None, refl, sym, ap, ◌∙◌, arith, inl, inr, ◌⊎◌, ◌==◌, slice_get, length-append}
+use Rattle.std.proofs.Common.{◌≡◌, ℕ, ◌+◌, ◌<◌, Bool, true, false, List, [], ◌∷◌, ◌++◌, length, Option, Some}
+use Rattle.std.proofs.Common.{None, refl, sym, ap, ◌∙◌, arith, inl, inr, ◌⊎◌, ◌==◌, slice_get, length-append}
 use Rattle.std.proofs.Math.Bool.{not, ◌&&◌}
 use Rattle.std.specs.List.{AllByRecursion, list_any}
 use Rattle.std.specs.Option.{option_map_or}
@@ -31,13 +32,16 @@ inner_named f (Some _) inner P then = absurd (false≢true inner)
 pub inner_above : (base : Kept) → (h : List Event) → IsLawful base h → (f n : ℕ) → at (is_inner_of f) h n ≡ true → f < n
 inner_above base h law f n inner = inner_named f (slice_get h n) inner (f < n) (λ e at_n named. named_below base h law n f e at_n named)
 
-switched : (base : Kept) → (h : List Event) → IsLawful base h → (f n : ℕ) → at is_switch h f ≡ true → at (is_inner_of f) h n ≡ true → is_switched_inner h f n ≡ true
+switched : (base : Kept) → (h : List Event) → IsLawful base h → (f n : ℕ) → at is_switch h f ≡ true → at (is_inner_of f) h n ≡ true →
+    is_switched_inner h f n ≡ true
 switched base h law f n switch inner = and_from _ _ (and_from _ _ (lt-ltb f n (inner_above base h law f n inner)) switch) inner
 
 -- the new inner cuts the older ones
-older_cut : (base : Kept) → (h : List Event) (e : Event) → IsLawful base h → (f a : ℕ) → at is_switch h f ≡ true → at (is_inner_of f) h a ≡ true → is_inner_of f e ≡ true →
+older_cut : (base : Kept) → (h : List Event) (e : Event) → IsLawful base h → (f a : ℕ) → at is_switch h f ≡ true → at (is_inner_of f) h a ≡ true →
+    is_inner_of f e ≡ true →
     is_cut h e a ≡ true
-older_cut base h (Open (Inner g) kind) law f a switch inner new = self_cut h (Open (Inner g) kind) a (ap (λ q. is_switched_inner h q a) (eqb-true g f new) ∙ switched base h law f a switch inner)
+older_cut base h (Open (Inner g) kind) law f a switch inner new =
+    self_cut h (Open (Inner g) kind) a (ap (λ q. is_switched_inner h q a) (eqb-true g f new) ∙ switched base h law f a switch inner)
 older_cut base h (Open Root kind) law f a switch inner new = absurd (false≢true new)
 older_cut base h (Open (Source g) kind) law f a switch inner new = absurd (false≢true new)
 older_cut base h (Open (Notifier g) kind) law f a switch inner new = absurd (false≢true new)
@@ -53,40 +57,45 @@ pub record TwoInners (h : List Event) (f a b : ℕ) : Type 0 where
 
 -- are the same
 pub one_inner : (base : Kept) → (h : List Event) → IsLawful base h → (f a b : ℕ) → TwoInners h f a b → a ≡ b
-one_inner base = by_events base (λ h. (f a b : ℕ) → TwoInners h f a b → a ≡ b) (λ s f a b two. s.one_inner f a b two.switch two.one two.one_open two.other two.other_open) after where
-  clash : (h : List Event) (e : Event) → IsLawful base h → (f a b : ℕ) → a < length h → b ≡ length h → at is_switch (h ++ e ∷ []) f ≡ true →
-      at (is_inner_of f) (h ++ e ∷ []) a ≡ true → is_open (h ++ e ∷ []) a ≡ true → at (is_inner_of f) (h ++ e ∷ []) b ≡ true → ⊥
-  clash h e law f a b l last switch one one_open other =
-      let inner : at (is_inner_of f) h a ≡ true = sym (at-append (is_inner_of f) h (e ∷ []) a l) ∙ one in
-      let below : f < a = inner_above base h law f a inner in
-      let switch_before : at is_switch h f ≡ true = sym (at-append is_switch h (e ∷ []) f (omega arith)) ∙ switch in
-      let new : is_inner_of f e ≡ true = sym (ap (λ o. option_map_or (is_inner_of f) o false) (ap (slice_get (h ++ e ∷ [])) last ∙ slice_get_last h e)) ∙ other in
-      let cut = older_cut base h e law f a switch_before inner new in
-      both_ways (not (is_cut h e a)) (ap not cut) (and_parts (is_open h a) (not (is_cut h e a)) (sym (is_open_cut h e a l) ∙ one_open)).1
-
-  after : (h : List Event) (e : Event) → IsLawful base h → MayFollow base h e → ((f a b : ℕ) → TwoInners h f a b → a ≡ b) → (f a b : ℕ) → TwoInners (h ++ e ∷ []) f a b →
-      a ≡ b
-  after h e law next before f a b two = by_place (cases_order a (length h)) (cases_order b (length h)) where
-    within : (n : ℕ) → is_open (h ++ e ∷ []) n ≡ true → n < length h + 1
-    within n o = let l = is_open_within (h ++ e ∷ []) n o in omega (arith, length-append h (e ∷ []))
-
-    by_place : (a ≡ length h) ⊎ ((a < length h) ⊎ (length h < a)) → (b ≡ length h) ⊎ ((b < length h) ⊎ (length h < b)) → a ≡ b
-    by_place (inl p) (inl q) = p ∙ sym q
-    by_place (inr (inr g)) q = absurd (let l = within a two.one_open in omega arith)
-    by_place (inl p) (inr (inr g)) = absurd (let l = within b two.other_open in omega arith)
-    by_place (inr (inl l)) (inr (inr g)) = absurd (let m = within b two.other_open in omega arith)
-    by_place (inr (inl l)) (inl q) = absurd (clash h e law f a b l q two.switch two.one two.one_open two.other)
-    by_place (inl p) (inr (inl l)) = absurd (clash h e law f b a l p two.switch two.other two.other_open two.one)
-    by_place (inr (inl l)) (inr (inl m)) =
-        let inner : at (is_inner_of f) h a ≡ true = sym (at-append (is_inner_of f) h (e ∷ []) a l) ∙ two.one in
+one_inner base =
+    by_events base (λ h. (f a b : ℕ) → TwoInners h f a b → a ≡ b) (λ s f a b two. s.one_inner f a b two.switch two.one two.one_open two.other two.other_open)
+    after
+  where
+    clash : (h : List Event) (e : Event) → IsLawful base h → (f a b : ℕ) → a < length h → b ≡ length h → at is_switch (h ++ e ∷ []) f ≡ true →
+        at (is_inner_of f) (h ++ e ∷ []) a ≡ true → is_open (h ++ e ∷ []) a ≡ true → at (is_inner_of f) (h ++ e ∷ []) b ≡ true → ⊥
+    clash h e law f a b l last switch one one_open other =
+        let inner : at (is_inner_of f) h a ≡ true = sym (at-append (is_inner_of f) h (e ∷ []) a l) ∙ one in
         let below : f < a = inner_above base h law f a inner in
-        before f a b (record {
-          switch = sym (at-append is_switch h (e ∷ []) f (omega arith)) ∙ two.switch;
-          one = inner;
-          one_open = (and_parts _ _ (sym (is_open_cut h e a l) ∙ two.one_open)).0;
-          other = sym (at-append (is_inner_of f) h (e ∷ []) b m) ∙ two.other;
-          other_open = (and_parts _ _ (sym (is_open_cut h e b m) ∙ two.other_open)).0;
-        })
+        let switch_before : at is_switch h f ≡ true = sym (at-append is_switch h (e ∷ []) f (omega arith)) ∙ switch in
+        let new : is_inner_of f e ≡ true =
+        sym (ap (λ o. option_map_or (is_inner_of f) o false) (ap (slice_get (h ++ e ∷ [])) last ∙ slice_get_last h e)) ∙ other in
+        let cut = older_cut base h e law f a switch_before inner new in
+        both_ways (not (is_cut h e a)) (ap not cut) (and_parts (is_open h a) (not (is_cut h e a)) (sym (is_open_cut h e a l) ∙ one_open)).1
+
+    after : (h : List Event) (e : Event) → IsLawful base h → MayFollow base h e → ((f a b : ℕ) → TwoInners h f a b → a ≡ b) → (f a b : ℕ) →
+        TwoInners (h ++ e ∷ []) f a b →
+        a ≡ b
+    after h e law next before f a b two = by_place (cases_order a (length h)) (cases_order b (length h)) where
+      within : (n : ℕ) → is_open (h ++ e ∷ []) n ≡ true → n < length h + 1
+      within n o = let l = is_open_within (h ++ e ∷ []) n o in omega (arith, length-append h (e ∷ []))
+
+      by_place : (a ≡ length h) ⊎ ((a < length h) ⊎ (length h < a)) → (b ≡ length h) ⊎ ((b < length h) ⊎ (length h < b)) → a ≡ b
+      by_place (inl p) (inl q) = p ∙ sym q
+      by_place (inr (inr g)) q = absurd (let l = within a two.one_open in omega arith)
+      by_place (inl p) (inr (inr g)) = absurd (let l = within b two.other_open in omega arith)
+      by_place (inr (inl l)) (inr (inr g)) = absurd (let m = within b two.other_open in omega arith)
+      by_place (inr (inl l)) (inl q) = absurd (clash h e law f a b l q two.switch two.one two.one_open two.other)
+      by_place (inl p) (inr (inl l)) = absurd (clash h e law f b a l p two.switch two.other two.other_open two.one)
+      by_place (inr (inl l)) (inr (inl m)) =
+          let inner : at (is_inner_of f) h a ≡ true = sym (at-append (is_inner_of f) h (e ∷ []) a l) ∙ two.one in
+          let below : f < a = inner_above base h law f a inner in
+          before f a b (record {
+            switch = sym (at-append is_switch h (e ∷ []) f (omega arith)) ∙ two.switch;
+            one = inner;
+            one_open = (and_parts _ _ (sym (is_open_cut h e a l) ∙ two.one_open)).0;
+            other = sym (at-append (is_inner_of f) h (e ∷ []) b m) ∙ two.other;
+            other_open = (and_parts _ _ (sym (is_open_cut h e b m) ∙ two.other_open)).0;
+          })
 
 -- the exchange ------------------------------------------------------------------------------------
 
@@ -104,32 +113,44 @@ and_yes true b none = ap not (none refl)
 and_yes false b none = refl
 
 -- the open inner of a Switch is the only one
-same_inner : (base : Kept) → (h : List Event) (f c : ℕ) → IsLawful base h → at is_switch h f ≡ true → at (is_inner_of f) h c ≡ true → is_open h c ≡ true → (a : ℕ) →
+same_inner : (base : Kept) → (h : List Event) (f c : ℕ) → IsLawful base h → at is_switch h f ≡ true → at (is_inner_of f) h c ≡ true → is_open h c ≡ true →
+    (a : ℕ) →
     is_open h a ≡ true → is_switched_inner h f a ≡ (c == a)
 same_inner base h f c law switch inner o a there = by_test (is_switched_inner h f a) refl (cases_Bool (c == a)) where
   by_test : (b : Bool) → is_switched_inner h f a ≡ b → ((c == a) ≡ true) ⊎ ((c == a) ≡ false) → b ≡ (c == a)
-  by_test true s e = sym (eq-eqb c a (one_inner base h law f c a (record { switch = switch; one = inner; one_open = o; other = (and_parts _ _ s).1; other_open = there })))
+  by_test true s e =
+      sym (eq-eqb c a (one_inner base h law f c a (record { switch = switch; one = inner; one_open = o; other = (and_parts _ _ s).1; other_open = there })))
   by_test false s (inl e) = absurd (both_ways _ s (ap (is_switched_inner h f) (sym (eqb-true c a e)) ∙ switched base h law f c switch inner))
   by_test false s (inr e) = sym e
 
 -- the opening of another inner of a Switch closes the open inner c, and what is below it
-pub is_open-inner_switch : (base : Kept) → (h : List Event) (f c : ℕ) (kind : Kind) → IsLawful base h → at is_switch h f ≡ true → at (is_inner_of f) h c ≡ true →
+pub is_open-inner_switch : (base : Kept) → (h : List Event) (f c : ℕ) (kind : Kind) → IsLawful base h → at is_switch h f ≡ true →
+    at (is_inner_of f) h c ≡ true →
     is_open h c ≡ true → (n : ℕ) → n < length h → is_open (h ++ Open (Inner f) kind ∷ []) n ≡ (is_open h n && not (is_within h c n))
-is_open-inner_switch base h f c kind law switch inner o n l = is_open_cut h (Open (Inner f) kind) n l ∙ and_same (is_open h n) _ _ (λ here. list_any-agree (λ a. is_open h a ≡ true) (λ a. is_switched_inner h f a) (λ a. c == a) (same_inner base h f c law switch inner o) (ancestors h n) (ancestors_open h n here))
+is_open-inner_switch base h f c kind law switch inner o n l =
+    is_open_cut h (Open (Inner f) kind) n l ∙
+    and_same (is_open h n) _ _
+    (λ here. list_any-agree (λ a. is_open h a ≡ true) (λ a. is_switched_inner h f a) (λ a. c == a) (same_inner base h f c law switch inner o)
+    (ancestors h n) (ancestors_open h n here))
 
 -- where no inner is open, it closes nothing
 pub is_open-inner_first : (h : List Event) (f : ℕ) (kind : Kind) → ((c : ℕ) → at (is_inner_of f) h c ≡ true → is_open h c ≡ false) → (n : ℕ) → n < length h →
     is_open (h ++ Open (Inner f) kind ∷ []) n ≡ is_open h n
-is_open-inner_first h f kind none n l = is_open_cut h (Open (Inner f) kind) n l ∙ and_yes (is_open h n) _ (λ here. list_any-agree (λ a. is_open h a ≡ true) (λ a. is_switched_inner h f a) (λ a. false) same (ancestors h n) (ancestors_open h n here) ∙ never (ancestors h n)) where
-  never : (xs : List ℕ) → list_any (λ (a : ℕ). false) xs ≡ false
-  never [] = refl
-  never (x ∷ xs) = never xs
+is_open-inner_first h f kind none n l =
+    is_open_cut h (Open (Inner f) kind) n l ∙
+    and_yes (is_open h n) _ (λ here. list_any-agree (λ a. is_open h a ≡ true) (λ a. is_switched_inner h f a) (λ a. false) same (ancestors h n)
+    (ancestors_open h n here) ∙
+    never (ancestors h n))
+  where
+    never : (xs : List ℕ) → list_any (λ (a : ℕ). false) xs ≡ false
+    never [] = refl
+    never (x ∷ xs) = never xs
 
-  same : (a : ℕ) → is_open h a ≡ true → is_switched_inner h f a ≡ false
-  same a there = by_test (cases_Bool (is_switched_inner h f a)) where
-    by_test : (is_switched_inner h f a ≡ true) ⊎ (is_switched_inner h f a ≡ false) → is_switched_inner h f a ≡ false
-    by_test (inl s) = absurd (both_ways _ (none a (and_parts _ _ s).1) there)
-    by_test (inr s) = s
+    same : (a : ℕ) → is_open h a ≡ true → is_switched_inner h f a ≡ false
+    same a there = by_test (cases_Bool (is_switched_inner h f a)) where
+      by_test : (is_switched_inner h f a ≡ true) ⊎ (is_switched_inner h f a ≡ false) → is_switched_inner h f a ≡ false
+      by_test (inl s) = absurd (both_ways _ (none a (and_parts _ _ s).1) there)
+      by_test (inr s) = s
 
 -- the opening of an inner of a FlatMap closes nothing
 pub is_open-inner_flat : (h : List Event) (f : ℕ) (kind : Kind) → at is_switch h f ≡ false → (n : ℕ) → n < length h →
@@ -137,9 +158,14 @@ pub is_open-inner_flat : (h : List Event) (f : ℕ) (kind : Kind) → at is_swit
 is_open-inner_flat h f kind flat n l = is_open_cut h (Open (Inner f) kind) n l ∙ and_yes (is_open h n) _ (λ here. is_cut_inner_flat h f kind flat n)
 
 -- of the open nodes, it cuts those within c
-pub is_cut-inner_switch : (base : Kept) → (h : List Event) (f c : ℕ) (kind : Kind) → IsLawful base h → at is_switch h f ≡ true → at (is_inner_of f) h c ≡ true → is_open h c ≡ true →
+pub is_cut-inner_switch : (base : Kept) → (h : List Event) (f c : ℕ) (kind : Kind) → IsLawful base h → at is_switch h f ≡ true →
+    at (is_inner_of f) h c ≡ true → is_open h c ≡ true →
     (n : ℕ) → (is_open h n && is_cut h (Open (Inner f) kind) n) ≡ (is_open h n && is_within h c n)
-is_cut-inner_switch base h f c kind law switch inner o n = cut_same (is_open h n) _ _ (λ here. list_any-agree (λ a. is_open h a ≡ true) (λ a. is_switched_inner h f a) (λ a. c == a) (same_inner base h f c law switch inner o) (ancestors h n) (ancestors_open h n here)) where
-  cut_same : (a b c : Bool) → (a ≡ true → b ≡ c) → (a && b) ≡ (a && c)
-  cut_same true b c same = same refl
-  cut_same false b c same = refl
+is_cut-inner_switch base h f c kind law switch inner o n =
+    cut_same (is_open h n) _ _
+    (λ here. list_any-agree (λ a. is_open h a ≡ true) (λ a. is_switched_inner h f a) (λ a. c == a) (same_inner base h f c law switch inner o)
+    (ancestors h n) (ancestors_open h n here))
+  where
+    cut_same : (a b c : Bool) → (a ≡ true → b ≡ c) → (a && b) ≡ (a && c)
+    cut_same true b c same = same refl
+    cut_same false b c same = refl

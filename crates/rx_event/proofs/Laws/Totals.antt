@@ -19,7 +19,8 @@ use Rattle.rx_event.specs.Resources.{is_owned, is_leased, is_held, is_waiting, u
 use Rattle.rx_event.specs.Totals.{item_count, accepted_count, taken_count, owned_count, held_count, waiting_count, open_count}
 use Rattle.rx_event.specs.Lawful.{MayFollow, IsLawful}
 use Rattle.rx_event.proofs.Laws.Parents.{ancestors_step}
-use Rattle.rx_event.proofs.Laws.Openness.{is_cut, is_cut_none, is_cut_inner, is_open_cut, is_open_last, is_open_made, is_open_within, is_open_last_none, shuts_none}
+use Rattle.rx_event.proofs.Laws.Openness.{is_cut, is_cut_none, is_cut_inner, is_open_cut, is_open_last}
+use Rattle.rx_event.proofs.Laws.Openness.{is_open_made, is_open_within, is_open_last_none, shuts_none}
 use Rattle.rx_event.proofs.Laws.Steps.{by_events, may_open, may_accept, may_use, may_remove, may_take}
 use Rattle.rx_event.proofs.Laws.Sums.{sum_by-places-push, sums_balance, sum_by-same, sum_by_no_rise, sum_by_falls, sum_by_none, sum_by_one, count_by_one}
 use Rattle.rx_event.proofs.Laws.Switches.{is_cut-inner_switch}
@@ -45,7 +46,9 @@ taken_count-push base h e = let s = sum_by_push (λ (x : Event). cond (is_take x
 pub uses-push : (base : Kept) → (h : List Event) (e : Event) (r : ℕ) → uses base (h ++ e ∷ []) r ≡ uses base h r + cond (is_use_of r e) 1 0
 unfolding uses
 uses-push base h e r = by_record (resource_kept base r) where
-  by_record : (o : Option BaseResource) → option_map_or (λ k. k.uses + count_by (is_use_of r) (h ++ e ∷ [])) o (count_by (is_use_of r) (h ++ e ∷ [])) ≡ option_map_or (λ k. k.uses + count_by (is_use_of r) h) o (count_by (is_use_of r) h) + cond (is_use_of r e) 1 0
+  by_record : (o : Option BaseResource) →
+      option_map_or (λ k. k.uses + count_by (is_use_of r) (h ++ e ∷ [])) o (count_by (is_use_of r) (h ++ e ∷ [])) ≡
+      option_map_or (λ k. k.uses + count_by (is_use_of r) h) o (count_by (is_use_of r) h) + cond (is_use_of r e) 1 0
   by_record None = sum_by_push (λ (x : Event). cond (is_use_of r x) 1 0) h e
   by_record (Some k) = let s = sum_by_push (λ (x : Event). cond (is_use_of r x) 1 0) h e in omega arith
 
@@ -159,7 +162,8 @@ accepts_open base h _ next = refl
 
 -- each accepted resource is held, waits, or was taken, and once
 pub accepted_count-parts : (base : Kept) → (h : List Event) → IsLawful base h → accepted_count base h ≡ held_count h + waiting_count h + taken_count base h
-accepted_count-parts base = by_events base (λ h. accepted_count base h ≡ held_count h + waiting_count h + taken_count base h) (λ s. s.parts) (λ h e law next before.
+accepted_count-parts base =
+    by_events base (λ h. accepted_count base h ≡ held_count h + waiting_count h + taken_count base h) (λ s. s.parts) (λ h e law next before.
     let a = accepted_count-push base h e in
     let b = held_count-push base h e law next in
     let c = waiting_count-push base h e law next in
@@ -225,13 +229,15 @@ held_count-kept base h e law keeps =
     let new = one_if (is_held_last base h e law) in
     omega arith
 
-pub held_count-accept : (base : Kept) → (h : List Event) (n tag : ℕ) → IsLawful base h → is_open h n ≡ true → held_count (h ++ Accept n tag ∷ []) ≡ held_count h + 1
+pub held_count-accept : (base : Kept) → (h : List Event) (n tag : ℕ) → IsLawful base h → is_open h n ≡ true →
+    held_count (h ++ Accept n tag ∷ []) ≡ held_count h + 1
 held_count-accept base h n tag law o =
     let b = held_count-kept base h (Accept n tag) law (λ r l. is_held_kept base h (Accept n tag) law r l refl refl refl refl) in
     let c = one_if o in
     omega arith
 
-pub waiting_count-take : (base : Kept) → (h : List Event) (q : ℕ) → IsLawful base h → MayFollow base h (Take q) → waiting_count (h ++ Take q ∷ []) + 1 ≡ waiting_count h
+pub waiting_count-take : (base : Kept) → (h : List Event) (q : ℕ) → IsLawful base h → MayFollow base h (Take q) →
+    waiting_count (h ++ Take q ∷ []) + 1 ≡ waiting_count h
 waiting_count-take base h q law next =
     let b = waiting_count-push base h (Take q) law next in
     let k = lost_none h (Take q) (λ r l. is_held_kept base h (Take q) law r l refl refl refl refl) in
@@ -309,7 +315,8 @@ cut_count h e = count_by (λ n. is_open h n && is_cut h e n) (places h)
 pub open_count-push : (h : List Event) (e : Event) → open_count (h ++ e ∷ []) + cut_count h e ≡ open_count h + cond (is_open (h ++ e ∷ []) (length h)) 1 0
 open_count-push h e =
     let older : count_by (is_open (h ++ e ∷ [])) (places h) + cut_count h e ≡ open_count h + sum_by (λ (n : ℕ). 0) (places h) =
-    sums_balance (λ n. cond (is_open (h ++ e ∷ []) n) 1 0) (λ n. cond (is_open h n && is_cut h e n) 1 0) (λ n. cond (is_open h n) 1 0) (λ n. 0) (length h) (λ n l. rw (is_open_cut h e n l) (shape (is_open h n) (is_cut h e n))) in
+    sums_balance (λ n. cond (is_open (h ++ e ∷ []) n) 1 0) (λ n. cond (is_open h n && is_cut h e n) 1 0) (λ n. cond (is_open h n) 1 0) (λ n. 0) (length h)
+    (λ n l. rw (is_open_cut h e n l) (shape (is_open h n) (is_cut h e n))) in
     let none = sum_by_none (λ n. 0) (length h) (λ n l. refl) in
     let last = sum_by-places-push (λ n. cond (is_open (h ++ e ∷ []) n) 1 0) h e in
     omega arith
@@ -322,9 +329,11 @@ open_count-push h e =
 -- what is made is open
 pub is_open_new : (base : Kept) → (h : List Event) (e : Event) → MayFollow base h e → is_open (h ++ e ∷ []) (length h) ≡ makes_node e
 is_open_new base h (Open Root kind) next = is_open_last h (Open Root kind) refl
-is_open_new base h (Open (Source p) kind) next = is_open_made h (Open (Source p) kind) p refl refl (may_open base next).0 (is_cut_none h (Open (Source p) kind) p refl)
+is_open_new base h (Open (Source p) kind) next =
+    is_open_made h (Open (Source p) kind) p refl refl (may_open base next).0 (is_cut_none h (Open (Source p) kind) p refl)
 is_open_new base h (Open (Inner p) kind) next = is_open_made h (Open (Inner p) kind) p refl refl (may_open base next).0 (is_cut_inner h p kind p (omega arith))
-is_open_new base h (Open (Notifier p) kind) next = is_open_made h (Open (Notifier p) kind) p refl refl (may_open base next).0 (is_cut_none h (Open (Notifier p) kind) p refl)
+is_open_new base h (Open (Notifier p) kind) next =
+    is_open_made h (Open (Notifier p) kind) p refl refl (may_open base next).0 (is_cut_none h (Open (Notifier p) kind) p refl)
 is_open_new base h (Connect g) next = is_open_last h (Connect g) refl
 is_open_new base h (Hub mode) next = is_open_last h (Hub mode) refl
 is_open_new base h (Accept n tag) next = is_open_last h (Accept n tag) refl
@@ -351,7 +360,8 @@ open_count_uncut base h e next whole =
     shape true = refl
     shape false = refl
 
-pub open_count_made : (base : Kept) → (h : List Event) (e : Event) → MayFollow base h e → shuts_none e ≡ true → open_count (h ++ e ∷ []) ≡ open_count h + cond (makes_node e) 1 0
+pub open_count_made : (base : Kept) → (h : List Event) (e : Event) → MayFollow base h e → shuts_none e ≡ true →
+    open_count (h ++ e ∷ []) ≡ open_count h + cond (makes_node e) 1 0
 open_count_made base h e next s = open_count_uncut base h e next (λ n. is_cut_none h e n s)
 
 -- c is within itself
@@ -387,11 +397,14 @@ pub open_count_falls-close : (h : List Event) (c : ℕ) → is_open h c ≡ true
 open_count_falls-close h c o = let b = open_count-close h c in let s = within_some h c o in omega arith
 
 -- an inner of a Switch comes in place of the open inner c, and of what is open below it
-pub open_count-inner_switch : (base : Kept) → (h : List Event) (f c : ℕ) (kind : Kind) → IsLawful base h → MayFollow base h (Open (Inner f) kind) → at is_switch h f ≡ true →
+pub open_count-inner_switch : (base : Kept) → (h : List Event) (f c : ℕ) (kind : Kind) → IsLawful base h → MayFollow base h (Open (Inner f) kind) →
+    at is_switch h f ≡ true →
     at (is_inner_of f) h c ≡ true → is_open h c ≡ true →
     open_count (h ++ Open (Inner f) kind ∷ []) + count_by (λ n. is_open h n && is_within h c n) (places h) ≡ open_count h + 1
 open_count-inner_switch base h f c kind law next switch inner o =
     let b = open_count-push h (Open (Inner f) kind) in
     let n = one_if (is_open_new base h (Open (Inner f) kind) next) in
-    let k = sum_by-same (λ n. cond (is_open h n && is_within h c n) 1 0) (λ n. cond (is_open h n && is_cut h (Open (Inner f) kind) n) 1 0) (length h) (λ n l. one_if (is_cut-inner_switch base h f c kind law switch inner o n)) in
+    let k =
+    sum_by-same (λ n. cond (is_open h n && is_within h c n) 1 0) (λ n. cond (is_open h n && is_cut h (Open (Inner f) kind) n) 1 0) (length h)
+    (λ n l. one_if (is_cut-inner_switch base h f c kind law switch inner o n)) in
     omega arith

@@ -1,5 +1,6 @@
 -- Which hubs wait for a connection after one more event, and that one step connects one hub at most.
-use Rattle.std.proofs.Common.{◌≡◌, ℕ, ◌+◌, ◌<◌, ◌≤◌, Bool, true, false, List, [], ◌∷◌, ◌++◌, length, Option, Some, None, cond, refl, sym, ap, ◌∙◌, arith, inl, inr, ◌⊎◌, ◌==◌, slice_get, length-append}
+use Rattle.std.proofs.Common.{◌≡◌, ℕ, ◌+◌, ◌<◌, ◌≤◌, Bool, true, false, List, [], ◌∷◌, ◌++◌, length, Option, Some, None}
+use Rattle.std.proofs.Common.{cond, refl, sym, ap, ◌∙◌, arith, inl, inr, ◌⊎◌, ◌==◌, slice_get, length-append}
 use Rattle.std.proofs.Math.Bool.{◌&&◌, not}
 use Rattle.std.specs.Option.{option_map_or}
 use Rattle.std.proofs.lemmas.Bool.{cases_Bool, cases_order, both_ways, false≢true, and_parts, and_from, eq-eqb, eqb-true}
@@ -16,7 +17,8 @@ use Rattle.rx_event.specs.declared.event.Event.TheVariants.{Open, Hub, Connect, 
 use Rattle.rx_event.specs.Events.{is_root, is_manual_hub, is_auto_hub, is_connect_of, is_subscriber_of, is_inner_of, hub_subscribed, is_connect}
 use Rattle.rx_event.specs.Tree.{at, places, parent, ancestors, is_open, shuts, open_subscribers, open_connections}
 use Rattle.rx_event.specs.Totals.{connect_count, open_count}
-use Rattle.rx_event.specs.Forced.{mirrored, fired, failed, completed, cut, left, connecting, due, none_waits, one_waits, IsDue, IsForced, IsConnectDue, IsConnected, IsSettled, MayWait, SourceEnded}
+use Rattle.rx_event.specs.Forced.{mirrored, fired, failed, completed, cut, left, connecting, due, none_waits, one_waits}
+use Rattle.rx_event.specs.Forced.{IsDue, IsForced, IsConnectDue, IsConnected, IsSettled, MayWait, SourceEnded}
 use Rattle.rx_event.specs.Allowed.{root_closed, disconnected, IsAllowed}
 use Rattle.rx_event.specs.Lawful.{stays, more, forced, IsForcedOn, IsLawful}
 use Rattle.rx_event.proofs.Laws.Lists.{first_passes, filter_nonempty}
@@ -82,7 +84,8 @@ subscribed_before h e g out d =
     let now = sym (is_open_cut h e d.subscriber (at_within (is_subscriber_of g) h d.subscriber old)) ∙ d.subscribed in
     (old, (and_parts (is_open h d.subscriber) (not (is_cut h e d.subscriber)) now).0)
 
-how_waits : (base : Kept) → (h : List Event) (e : Event) (g : ℕ) → is_subscriber_of g e ≡ false → at is_auto_hub h g ≡ true → IsConnectDue (h ++ e ∷ []) g → HowWaits base h e g
+how_waits : (base : Kept) → (h : List Event) (e : Event) (g : ℕ) → is_subscriber_of g e ≡ false → at is_auto_hub h g ≡ true → IsConnectDue (h ++ e ∷ []) g →
+    HowWaits base h e g
 how_waits base h e g out auto d = by_list (open_connections h g) refl where
   before : (at (is_subscriber_of g) h d.subscriber ≡ true) × (is_open h d.subscriber ≡ true)
   before = subscribed_before h e g out d
@@ -91,7 +94,8 @@ how_waits base h e g out auto d = by_list (open_connections h g) refl where
   by_cut c x true o =
       let within = is_open_within h c x.is_alive in
       let later : at (is_connect_of g) (h ++ e ∷ []) c ≡ true = at-append (is_connect_of g) h (e ∷ []) c within ∙ rw x.connects (eq-eqb g g refl) in
-      absurd (filter_nonempty (λ n. at (is_connect_of g) (h ++ e ∷ []) n && is_open (h ++ e ∷ []) n) 0 (length (h ++ e ∷ [])) c (omega arith) (let n = length-append h (e ∷ []) in omega arith) (and_from _ _ later o) d.unconnected)
+      absurd (filter_nonempty (λ n. at (is_connect_of g) (h ++ e ∷ []) n && is_open (h ++ e ∷ []) n) 0 (length (h ++ e ∷ [])) c (omega arith)
+      (let n = length-append h (e ∷ []) in omega arith) (and_from _ _ later o) d.unconnected)
   by_cut c x false gone =
       let now : (is_open h c && not (is_cut h e c)) ≡ false = sym (is_open_cut h e c (is_open_within h c x.is_alive)) ∙ gone in
       lost {c = c} x (sym (cut_alone h e c g x.connects) ∙ not_false (is_cut h e c) (rw x.is_alive at now))
@@ -136,7 +140,8 @@ same_hub : (g k : ℕ) → Connect g ≡ Connect k → g ≡ k
 same_hub g k e = cc
 
 closed_unsubscribed : (base : Kept) → {h : List Event} {c g : ℕ} → IsDue base h (Close c) → slice_get h c ≡ Some (Connect g) → open_subscribers h g ≡ []
-closed_unsubscribed base {h = h} {c = c} {g = g} (left {g = k} o at_c a no_subscriber) connects = rw (same_hub g k (same_Some _ _ (sym connects ∙ at_c))) no_subscriber
+closed_unsubscribed base {h = h} {c = c} {g = g} (left {g = k} o at_c a no_subscriber) connects =
+    rw (same_hub g k (same_Some _ _ (sym connects ∙ at_c))) no_subscriber
 
 -- a connection is closed where it has no subscriber
 pub waited_close : (base : Kept) → (h : List Event) (n g : ℕ) → IsDue base h (Close n) → IsConnectDue (h ++ Close n ∷ []) g → IsConnectDue h g
@@ -148,7 +153,8 @@ waited_close base h n g f d = by_way (how_waits base h (Close n) g refl (at_befo
   by_way (waited w) = w
   by_way (lost {c = c} x shut) =
       let empty = closed_unsubscribed base f (ap (slice_get h) (eqb-true n c shut) ∙ x.connects) in
-      absurd (filter_nonempty (λ m. at (is_subscriber_of g) h m && is_open h m) 0 (length h) d.subscriber (omega arith) (let w = is_open_within h d.subscriber before.1 in omega arith) (and_from _ _ before.0 before.1) empty)
+      absurd (filter_nonempty (λ m. at (is_subscriber_of g) h m && is_open h m) 0 (length h) d.subscriber (omega arith)
+      (let w = is_open_within h d.subscriber before.1 in omega arith) (and_from _ _ before.0 before.1) empty)
 
 kept_close : (base : Kept) → (h : List Event) (n : ℕ) → IsConnected h → IsDue base h (Close n) → IsConnected (h ++ Close n ∷ [])
 kept_close base h n none f g d = none g (waited_close base h n g f d)
@@ -172,16 +178,19 @@ is_both (Some _) m a = false≢true m
 root_connects : (g : ℕ) (o : Option Event) → option_map_or is_root o false ≡ true → o ≡ Some (Connect g) → ⊥
 root_connects g o root is = false≢true (sym (ap (λ (x : Option Event). option_map_or is_root x false) is) ∙ root)
 
-allowed_unsubscribed : (base : Kept) → {h : List Event} {c g : ℕ} → IsAllowed base h (Close c) → slice_get h c ≡ Some (Connect g) → at is_auto_hub h g ≡ true → ⊥
+allowed_unsubscribed : (base : Kept) → {h : List Event} {c g : ℕ} → IsAllowed base h (Close c) → slice_get h c ≡ Some (Connect g) →
+    at is_auto_hub h g ≡ true → ⊥
 allowed_unsubscribed base {h = h} {c = c} {g = g} (root_closed o root) connects auto = root_connects g (slice_get h c) root connects
-allowed_unsubscribed base {h = h} {c = c} {g = g} (disconnected {g = k} o at_c manual) connects auto = is_both (slice_get h g) (rw (same_hub g k (same_Some _ _ (sym connects ∙ at_c))) manual) auto
+allowed_unsubscribed base {h = h} {c = c} {g = g} (disconnected {g = k} o at_c manual) connects auto =
+    is_both (slice_get h g) (rw (same_hub g k (same_Some _ _ (sym connects ∙ at_c))) manual) auto
 
 -- a caller closes no connection of a RefCount hub
 pub waited_close_allowed : (base : Kept) → (h : List Event) (n g : ℕ) → IsAllowed base h (Close n) → IsConnectDue (h ++ Close n ∷ []) g → IsConnectDue h g
 waited_close_allowed base h n g f d = by_way (how_waits base h (Close n) g refl (at_before is_auto_hub h (Close n) g refl d.auto) d) where
   by_way : HowWaits base h (Close n) g → IsConnectDue h g
   by_way (waited w) = w
-  by_way (lost {c = c} x shut) = absurd (allowed_unsubscribed base f (ap (slice_get h) (eqb-true n c shut) ∙ x.connects) (at_before is_auto_hub h (Close n) g refl d.auto))
+  by_way (lost {c = c} x shut) =
+      absurd (allowed_unsubscribed base f (ap (slice_get h) (eqb-true n c shut) ∙ x.connects) (at_before is_auto_hub h (Close n) g refl d.auto))
 
 pub kept_close_allowed : (base : Kept) → (h : List Event) (n : ℕ) → IsConnected h → IsAllowed base h (Close n) → IsConnected (h ++ Close n ∷ [])
 kept_close_allowed base h n none f g d = none g (waited_close_allowed base h n g f d)
@@ -215,25 +224,30 @@ waited_before base h e g none out auto d = by_way (how_waits base h e g out auto
   by_way (lost {c = c} x shut) = absurd (spares base h e c g none x.connects shut)
 
 -- a RefCount hub with a subscriber is older than its subscriber
-pub auto_before : (base : Kept) → (h : List Event) (e : Event) (g : ℕ) → IsLawful base h → is_subscriber_of g e ≡ false → IsConnectDue (h ++ e ∷ []) g → at is_auto_hub h g ≡ true
+pub auto_before : (base : Kept) → (h : List Event) (e : Event) (g : ℕ) → IsLawful base h → is_subscriber_of g e ≡ false → IsConnectDue (h ++ e ∷ []) g →
+    at is_auto_hub h g ≡ true
 auto_before base h e g law out d =
     let old : g < length h = subscriber_hub base h law g d.subscriber (at_before (is_subscriber_of g) h e d.subscriber out d.subscribes) in
     sym (at-append is_auto_hub h (e ∷ []) g old) ∙ d.auto
 
 -- what is no end, no closing and no subscriber makes no hub wait
-pub kept_unsubscribed : (base : Kept) → (h : List Event) (e : Event) → IsLawful base h → IsConnected h → closes_none e ≡ true → hub_subscribed e ≡ None → IsConnected (h ++ e ∷ [])
-kept_unsubscribed base h e law none keeps out g d = none g (waited_before base h e g keeps (no_subscriber e out) (auto_before base h e g law (no_subscriber e out) d) d) where
-  no_subscriber : (x : Event) → hub_subscribed x ≡ None → is_subscriber_of g x ≡ false
-  no_subscriber (Open place (Sub k)) is = absurd (none-some k (sym is))
-  no_subscriber (Open place Leaf) is = refl
-  no_subscriber (Open place Pass) is = refl
-  no_subscriber (Open place Flat) is = refl
-  no_subscriber (Open place Switch) is = refl
-  no_subscriber (Open place Until) is = refl
-  no_subscriber _ is = refl
+pub kept_unsubscribed : (base : Kept) → (h : List Event) (e : Event) → IsLawful base h → IsConnected h → closes_none e ≡ true → hub_subscribed e ≡ None →
+    IsConnected (h ++ e ∷ [])
+kept_unsubscribed base h e law none keeps out g d =
+    none g (waited_before base h e g keeps (no_subscriber e out) (auto_before base h e g law (no_subscriber e out) d) d)
+  where
+    no_subscriber : (x : Event) → hub_subscribed x ≡ None → is_subscriber_of g x ≡ false
+    no_subscriber (Open place (Sub k)) is = absurd (none-some k (sym is))
+    no_subscriber (Open place Leaf) is = refl
+    no_subscriber (Open place Pass) is = refl
+    no_subscriber (Open place Flat) is = refl
+    no_subscriber (Open place Switch) is = refl
+    no_subscriber (Open place Until) is = refl
+    no_subscriber _ is = refl
 
 -- a subscriber makes its own hub wait at most
-pub kept_subscribed : (base : Kept) → (h : List Event) (place : Place) (g : ℕ) → IsLawful base h → IsConnected h → (k : ℕ) → IsConnectDue (h ++ Open place (Sub g) ∷ []) k → k ≡ g
+pub kept_subscribed : (base : Kept) → (h : List Event) (place : Place) (g : ℕ) → IsLawful base h → IsConnected h → (k : ℕ) →
+    IsConnectDue (h ++ Open place (Sub g) ∷ []) k → k ≡ g
 kept_subscribed base h place g law none k d = by_hub (cases_Bool (g == k)) where
   by_hub : ((g == k) ≡ true) ⊎ ((g == k) ≡ false) → k ≡ g
   by_hub (inl same) = sym (eqb-true g k same)
@@ -269,12 +283,15 @@ settled_connected base h settled g d = settled.none (Connect g) (connecting d)
 
 -- after the connection of the one hub that waits, none waits
 pub connected_first : (base : Kept) → (h : List Event) (g : ℕ) → ((k : ℕ) → IsConnectDue h k → k ≡ g) → IsConnected (h ++ Connect g ∷ [])
-connected_first base h g only k d = filter_nonempty (λ n. at (is_connect_of k) (h ++ Connect g ∷ []) n && is_open (h ++ Connect g ∷ []) n) 0 (length (h ++ Connect g ∷ [])) (length h) (omega arith) (let n = length-append h (Connect g ∷ []) in omega arith) (and_from _ _ connects (is_open_last h (Connect g) refl)) d.unconnected where
-  same : k ≡ g
-  same = only k (waited_before base h (Connect g) k refl refl (at_before is_auto_hub h (Connect g) k refl d.auto) d)
+connected_first base h g only k d =
+    filter_nonempty (λ n. at (is_connect_of k) (h ++ Connect g ∷ []) n && is_open (h ++ Connect g ∷ []) n) 0 (length (h ++ Connect g ∷ [])) (length h)
+    (omega arith) (let n = length-append h (Connect g ∷ []) in omega arith) (and_from _ _ connects (is_open_last h (Connect g) refl)) d.unconnected
+  where
+    same : k ≡ g
+    same = only k (waited_before base h (Connect g) k refl refl (at_before is_auto_hub h (Connect g) k refl d.auto) d)
 
-  connects : at (is_connect_of k) (h ++ Connect g ∷ []) (length h) ≡ true
-  connects = rw (slice_get_last h (Connect g)) (eq-eqb g k (sym same))
+    connects : at (is_connect_of k) (h ++ Connect g ∷ []) (length h) ≡ true
+    connects = rw (slice_get_last h (Connect g)) (eq-eqb g k (sym same))
 
 count_push : (h : List Event) (e : Event) → connect_count (h ++ e ∷ []) ≡ connect_count h + cond (is_connect e) 1 0
 count_push h e = sum_by_push (λ (x : Event). cond (is_connect x) 1 0) h e
@@ -298,7 +315,11 @@ connects_after base h k e most s (due none d) =
     record {
       waiting = 0;
       may_wait = none_waits (kept_due base k e none d);
-      counted = let n = count_push k e in let z : cond {A = ℕ} (is_connect e) 1 0 ≡ 0 = ap (λ b. cond {A = ℕ} b 1 0) (due_connects base d) in let b = s.counted in omega arith;
+      counted =
+          let n = count_push k e in
+          let z : cond {A = ℕ} (is_connect e) 1 0 ≡ 0 = ap (λ b. cond {A = ℕ} b 1 0) (due_connects base d) in
+          let b = s.counted in
+          omega arith;
     }
 connects_after base h k e most s (connecting {g = g} d) = by_waiting s.may_wait s.counted where
   by_waiting : {w : ℕ} → MayWait k w → connect_count k + w ≤ connect_count h + most → StepConnects h (k ++ Connect g ∷ []) most

@@ -26,7 +26,8 @@ pub record TotalChanges (base : Kept) : Type 0 where
       owed base (h ++ e ∷ []) f + (if pays f e then 1 else 0) ≡ owed base h f + count_by (is_projection_to f) (stops_of h e)
   -- an end or another closing takes resources from those that are held to those that wait, and loses none
   pub unreleased : (h : List Event) (e : Event) → IsLawful base h → MayFollow base h e →
-      held_count (h ++ e ∷ []) + waiting_count (h ++ e ∷ []) + (if is_take e then 1 else 0) ≡ held_count h + waiting_count h + (if makes_resource e then 1 else 0)
+      held_count (h ++ e ∷ []) + waiting_count (h ++ e ∷ []) + (if is_take e then 1 else 0) ≡
+      held_count h + waiting_count h + (if makes_resource e then 1 else 0)
   -- a lease is one more that is out until it is returned
   pub leases : (h : List Event) (e : Event) → IsLawful base h → MayFollow base h e →
       lease_count (h ++ e ∷ []) + (if is_return e then 1 else 0) ≡ lease_count h + (if makes_lease e then 1 else 0)

@@ -1,5 +1,6 @@
 -- What is due at hubs is forced in every history whose hubs they are.
-use Rattle.std.proofs.Common.{◌≡◌, ℕ, zero, suc, ◌<◌, ◌≤◌, ◌+◌, ◌==◌, ◌&&◌, ◌||◌, cond, Bool, true, false, List, [], ◌∷◌, length, slice_get, filter, Option, Some, None}
+use Rattle.std.proofs.Common.{◌≡◌, ℕ, zero, suc, ◌<◌, ◌≤◌, ◌+◌, ◌==◌, ◌&&◌, ◌||◌, cond, Bool, true}
+use Rattle.std.proofs.Common.{false, List, [], ◌∷◌, length, slice_get, filter, Option, Some, None}
 use Rattle.std.proofs.Common.{is_none, IfSome, refl, sym, ap, subst, ◌∙◌, inl, inr, ◌⊎◌, arith, true≢false}
 use Rattle.std.specs.Prelude.{nat_lt, if◌then◌else◌}
 use Rattle.std.specs.List.{list_any, range_with_len, AllByRecursion}
@@ -32,7 +33,8 @@ use Rattle.rx_flow.proofs.Laws.Dues.{quiet_settled}
 use Rattle.rx_hub.specs.declared.hub.HubDue.{HubDue}
 use Rattle.rx_hub.specs.declared.hub.HubDue.TheVariants.{Connect as ConnectDue, End as EndDue, Close as CloseDue}
 use Rattle.rx_hub.specs.declared.hub.LastEnd.{LastEnd}
-use Rattle.rx_hub.specs.Due.{event_of, IsOf, ConcernsHub, IsDueIn, connects, acts, IsQuiet, NoneWaits, is_auto, is_cut, waits, connect_of, cut_of, left_of, due_of}
+use Rattle.rx_hub.specs.Due.{event_of, IsOf, ConcernsHub, IsDueIn, connects, acts, IsQuiet, NoneWaits}
+use Rattle.rx_hub.specs.Due.{is_auto, is_cut, waits, connect_of, cut_of, left_of, due_of}
 use Rattle.rx_hub.specs.Hubs.{Hub, Hubs, IsPromised}
 use Rattle.rx_hub.specs.Records.{numbers, EndsConnection, IsUpTo, IsHubOf, AreHubsOf}
 use Rattle.rx_hub.proofs.Found.{find_at}
@@ -156,11 +158,20 @@ stays_uncut h hub is s subscribes stays t ended =
           false≢true (ap not (sym older) ∙ st)
 
 -- an older one is
-old_cut : (h : List Event) (hub : Hub) → IsHubOf h hub → (s : ℕ) (e : LastEnd) → at (is_subscriber_of hub.number) h s ≡ true → hub.last_end ≡ Some e → s < e.place →
+old_cut : (h : List Event) (hub : Hub) → IsHubOf h hub → (s : ℕ) (e : LastEnd) → at (is_subscriber_of hub.number) h s ≡ true → hub.last_end ≡ Some e →
+    s < e.place →
     SourceEnded h s e.terminal
 old_cut h hub is s e subscribes last older =
     let end = subst (λ (o : Option LastEnd). IfSome o (EndsConnection h hub.number)) last is.ended in
-    record { hub = hub.number; connection = end.connection; place = e.place; subscribes = subscribes; connects = end.connects; later = older; ended = end.ended }
+    record {
+      hub = hub.number;
+      connection = end.connection;
+      place = e.place;
+      subscribes = subscribes;
+      connects = end.connects;
+      later = older;
+      ended = end.ended;
+    }
 
 no_connection : (o : Option Key) → numbers (option_to_list o) ≡ [] → is_none o ≡ true
 no_connection None e = refl
@@ -221,7 +232,8 @@ connect_due h hub is waiting =
 
 hub_due : (base : Kept) → (h : List Event) (hub : Hub) → IsHubOf h hub → (d : HubDue) → due_of hub ≡ Some d → IsDue base h (event_of d)
 hub_due base h hub is d gives = by_lists hub.subscribers refl hub.last_end refl gives where
-  by_left : (auto : Bool) → is_auto hub.mode ≡ auto → (c : Option Key) → hub.connection ≡ c → numbers hub.subscribers ≡ [] → left_of auto c [] ≡ Some d → IsDue base h (event_of d)
+  by_left : (auto : Bool) → is_auto hub.mode ≡ auto → (c : Option Key) → hub.connection ≡ c → numbers hub.subscribers ≡ [] → left_of auto c [] ≡ Some d →
+      IsDue base h (event_of d)
   by_left true auto (Some c) has empty is_due =
       let listed : open_connections h hub.number ≡ c.number ∷ [] = sym is.connection ∙ ap (λ (o : Option Key). numbers (option_to_list o)) has in
       let first = first_passes (λ n. at (is_connect_of hub.number) h n && is_open h n) (places h) c.number [] listed in
@@ -231,12 +243,15 @@ hub_due base h hub is d gives = by_lists hub.subscribers refl hub.last_end refl 
   by_left true auto None has empty is_due = absurd (none-some d is_due)
   by_left false auto c has empty is_due = absurd (none-some d is_due)
 
-  by_lists : (ks : List Key) → hub.subscribers ≡ ks → (last : Option LastEnd) → hub.last_end ≡ last → option_or (cut_of last ks) (left_of (is_auto hub.mode) hub.connection ks) ≡ Some d → IsDue base h (event_of d)
+  by_lists : (ks : List Key) → hub.subscribers ≡ ks → (last : Option LastEnd) → hub.last_end ≡ last →
+      option_or (cut_of last ks) (left_of (is_auto hub.mode) hub.connection ks) ≡ Some d → IsDue base h (event_of d)
   by_lists [] empty None l is_due = by_left (is_auto hub.mode) refl hub.connection refl (ap numbers empty) is_due
   by_lists [] empty (Some x) l is_due = by_left (is_auto hub.mode) refl hub.connection refl (ap numbers empty) is_due
   by_lists (k ∷ ks) some None l is_due = absurd (none-some d is_due)
   by_lists (k ∷ ks) some (Some x) l is_due =
-      let told = if_some (nat_lt k.number x.place) (EndDue k x.terminal) d (sym (or_none (if nat_lt k.number x.place then Some (EndDue k x.terminal) else None)) ∙ is_due) in
+      let told =
+      if_some (nat_lt k.number x.place) (EndDue k x.terminal) d
+      (sym (or_none (if nat_lt k.number x.place then Some (EndDue k x.terminal) else None)) ∙ is_due) in
       let first = first_passes (opens h hub.number) (places h) k.number (numbers ks) (sym is.subscribers ∙ ap numbers some) in
       let parts = both_parts (at (is_subscriber_of hub.number) h k.number) (is_open h k.number) first in
       subst (λ y. IsDue base h (event_of y)) told.1 (cut parts.1 (old_cut h hub is k.number x parts.0 l (lt_of k.number x.place told.0)))
@@ -276,12 +291,15 @@ due_own hub d gives = by_lists hub.subscribers refl hub.last_end gives where
   by_left true None has is_due = absurd (none-some d is_due)
   by_left false c has is_due = absurd (none-some d is_due)
 
-  by_lists : (ks : List Key) → hub.subscribers ≡ ks → (last : Option LastEnd) → option_or (cut_of last ks) (left_of (is_auto hub.mode) hub.connection ks) ≡ Some d → IsOf hub d
+  by_lists : (ks : List Key) → hub.subscribers ≡ ks → (last : Option LastEnd) →
+      option_or (cut_of last ks) (left_of (is_auto hub.mode) hub.connection ks) ≡ Some d → IsOf hub d
   by_lists [] some None is_due = by_left (is_auto hub.mode) hub.connection refl is_due
   by_lists [] some (Some x) is_due = by_left (is_auto hub.mode) hub.connection refl is_due
   by_lists (k ∷ ks) some None is_due = absurd (none-some d is_due)
   by_lists (k ∷ ks) some (Some x) is_due =
-      let told = if_some (nat_lt k.number x.place) (EndDue k x.terminal) d (sym (or_none (if nat_lt k.number x.place then Some (EndDue k x.terminal) else None)) ∙ is_due) in
+      let told =
+      if_some (nat_lt k.number x.place) (EndDue k x.terminal) d
+      (sym (or_none (if nat_lt k.number x.place then Some (EndDue k x.terminal) else None)) ∙ is_due) in
       subst (λ y. IsOf hub y) told.1 (subst (λ (zs : List Key). is_on k zs ≡ true) (sym some) (on_first k ks))
 
 concerns_one : (s : Hubs) → IsPromised s → (d : HubDue) → IsDueIn s.hubs d → ConcernsHub s.hubs d
@@ -295,7 +313,8 @@ concerns_hub s promised (Some d) is_due = concerns_one s promised d is_due
 -- where nothing is due ----------------------------------------------------------------------------
 
 -- the oldest subscriber is not older than the last end
-quiet_first : (hub : Hub) (k : Key) (ks : List Key) (x : LastEnd) → hub.subscribers ≡ k ∷ ks → hub.last_end ≡ Some x → due_of hub ≡ None → nat_lt k.number x.place ≡ false
+quiet_first : (hub : Hub) (k : Key) (ks : List Key) (x : LastEnd) → hub.subscribers ≡ k ∷ ks → hub.last_end ≡ Some x → due_of hub ≡ None →
+    nat_lt k.number x.place ≡ false
 quiet_first hub k ks x some last none = if_none (nat_lt k.number x.place) (EndDue k x.terminal)
     (sym (or_none (if nat_lt k.number x.place then Some (EndDue k x.terminal) else None)) ∙
     (λ i. option_or (cut_of (sym last i) (sym some i)) (left_of (is_auto hub.mode) hub.connection (sym some i))) ∙ none)
@@ -316,7 +335,9 @@ none_cut h hubs are quiet n t o ended =
     by_lists hub is subscribes passes inside none [] some (Some x) l up =
         filter_nonempty (opens h hub.number) 0 (length h) n (omega arith) (omega (arith, inside)) passes (sym is.subscribers ∙ ap numbers some)
     by_lists hub is subscribes passes inside none (k ∷ ks) some (Some x) l up =
-        let least = first_least (opens h hub.number) 0 (length h) n k.number (numbers ks) (omega arith) (omega (arith, inside)) passes (sym is.subscribers ∙ ap numbers some) in
+        let least =
+        first_least (opens h hub.number) 0 (length h) n k.number (numbers ks) (omega arith) (omega (arith, inside)) passes
+        (sym is.subscribers ∙ ap numbers some) in
         let later = ended.later in
         true≢false (sym (of_lt k.number x.place (omega (arith, least, later, up))) ∙ quiet_first hub k ks x some l none)
 
@@ -327,7 +348,8 @@ none_left base h hubs are quiet c (left {g = g} o at_c auto none) =
     let is = are.each has.index hub has.there in
     let empty : numbers hub.subscribers ≡ [] = is.subscribers ∙ ap (open_subscribers h) has.numbered ∙ none in
     let is_auto_mode : is_auto hub.mode ≡ true = sym (auto_same h hub is) ∙ ap (at is_auto_hub h) has.numbered ∙ auto in
-    let at_own : at (is_connect_of hub.number) h c ≡ true = ap (λ (o : Option Event). option_map_or (is_connect_of hub.number) o false) (at_c ∙ ap (λ k. Some (Connect k)) (sym has.numbered)) ∙ own hub.number in
+    let at_own : at (is_connect_of hub.number) h c ≡ true =
+    ap (λ (o : Option Event). option_map_or (is_connect_of hub.number) o false) (at_c ∙ ap (λ k. Some (Connect k)) (sym has.numbered)) ∙ own hub.number in
     let passes : (at (is_connect_of hub.number) h c && is_open h c) ≡ true = both_hold (at (is_connect_of hub.number) h c) (is_open h c) at_own o in
     by_connection hub is (is_open_within h c o) passes is_auto_mode hub.subscribers refl empty hub.connection refl (quiet.quiet has.index hub has.there)
   where
@@ -336,16 +358,21 @@ none_left base h hubs are quiet c (left {g = g} o at_c auto none) =
 
     by_connection : (hub : Hub) → IsHubOf h hub → c < length h → (at (is_connect_of hub.number) h c && is_open h c) ≡ true → is_auto hub.mode ≡ true →
         (ks : List Key) → hub.subscribers ≡ ks → numbers ks ≡ [] → (o : Option Key) → hub.connection ≡ o → due_of hub ≡ None → ⊥
-    by_connection hub is inside passes auto_mode (k ∷ ks) some empty connection has quiet_hub = let long : suc (length (numbers ks)) ≡ 0 = ap length empty in omega (arith, long)
+    by_connection hub is inside passes auto_mode (k ∷ ks) some empty connection has quiet_hub =
+        let long : suc (length (numbers ks)) ≡ 0 = ap length empty in omega (arith, long)
     by_connection hub is inside passes auto_mode [] some empty None has quiet_hub =
         filter_nonempty (λ n. at (is_connect_of hub.number) h n && is_open h n) 0 (length h) c (omega arith) (omega (arith, inside)) passes
         (sym is.connection ∙ ap (λ (x : Option Key). numbers (option_to_list x)) has)
     by_connection hub is inside passes auto_mode [] some empty (Some k) has quiet_hub =
-        none-some (CloseDue k) (sym (sym (no_cut hub.last_end) ∙ (λ i. option_or (cut_of hub.last_end (sym some i)) (left_of (sym auto_mode i) (sym has i) (sym some i))) ∙ quiet_hub)) where
-          no_cut : (last : Option LastEnd) → option_or (cut_of last []) (left_of true (Some k) []) ≡ Some (CloseDue k)
-          no_cut None = refl
-          no_cut (Some x) = refl
+        none-some (CloseDue k) (sym (sym (no_cut hub.last_end) ∙
+        (λ i. option_or (cut_of hub.last_end (sym some i)) (left_of (sym auto_mode i) (sym has i) (sym some i))) ∙
+        quiet_hub))
+      where
+        no_cut : (last : Option LastEnd) → option_or (cut_of last []) (left_of true (Some k) []) ≡ Some (CloseDue k)
+        no_cut None = refl
+        no_cut (Some x) = refl
 
-pub quiet_settles : (base : Kept) → (h : List Event) (nodes : Slots Node) (hubs : List Hub) → AreRecordsOf base h nodes → AreHubsOf h hubs → IsQuietTree nodes → IsQuiet hubs → IsSettled base h
+pub quiet_settles : (base : Kept) → (h : List Event) (nodes : Slots Node) (hubs : List Hub) → AreRecordsOf base h nodes → AreHubsOf h hubs →
+    IsQuietTree nodes → IsQuiet hubs → IsSettled base h
 quiet_settles base h nodes hubs records are quiet_tree quiet =
     quiet_settled base h nodes records quiet_tree (none_waits h hubs are quiet.connected) (none_cut h hubs are quiet) (none_left base h hubs are quiet)

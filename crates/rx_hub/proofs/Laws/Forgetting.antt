@@ -15,7 +15,8 @@ use Rattle.rx_hub.specs.Hubs.{Hub, without_end}
 use Rattle.rx_hub.specs.Records.{IsHubOf, HasHub, AreHubsOf}
 
 -- the hubs one by one
-pub forgot_get : (hubs : List Hub) (i : ℕ) (hub : Hub) → slice_get (map without_end hubs) i ≡ Some hub → (before : Hub) × (slice_get hubs i ≡ Some before) × (hub ≡ without_end before)
+pub forgot_get : (hubs : List Hub) (i : ℕ) (hub : Hub) → slice_get (map without_end hubs) i ≡ Some hub →
+    (before : Hub) × (slice_get hubs i ≡ Some before) × (hub ≡ without_end before)
 forgot_get [] zero hub at_i = absurd (none-some hub at_i)
 forgot_get [] (suc i) hub at_i = absurd (none-some hub at_i)
 forgot_get (h ∷ hubs) zero hub at_i = (h, refl, sym (same_Some (without_end h) hub at_i))
@@ -33,7 +34,8 @@ subscriber_makes g (Open place kind) is = refl
 subscriber_makes g _ is = absurd (false≢true is)
 
 -- in k each node is open, and nothing ended
-pub forgotten_hubs : (h k : List Event) (hubs : List Hub) → Alike h k → ((n : ℕ) (e : Event) → slice_get k n ≡ Some e → makes_node e ≡ true → is_open k n ≡ true) →
+pub forgotten_hubs : (h k : List Event) (hubs : List Hub) → Alike h k →
+    ((n : ℕ) (e : Event) → slice_get k n ≡ Some e → makes_node e ≡ true → is_open k n ≡ true) →
     ((i n : ℕ) (t : Terminal) → slice_get k i ≡ Some (End n t) → ⊥) → AreHubsOf h hubs → AreHubsOf k (map without_end hubs)
 forgotten_hubs h k hubs a alive endless are =
     record {

@@ -1,5 +1,6 @@
 -- Where an item goes over a tree and its hubs is its climb in every history that they are of.
-use Rattle.std.proofs.Common.{◌≡◌, ℕ, zero, suc, ◌==◌, ◌&&◌, cond, Bool, true, false, List, [], ◌∷◌, ◌++◌, length, slice_get, Option, Some, None, IsSome, option_map}
+use Rattle.std.proofs.Common.{◌≡◌, ℕ, zero, suc, ◌==◌, ◌&&◌, cond, Bool, true, false, List, [], ◌∷◌}
+use Rattle.std.proofs.Common.{◌++◌, length, slice_get, Option, Some, None, IsSome, option_map}
 use Rattle.std.proofs.Common.{refl, sym, ap, subst, ◌∙◌, arith}
 use Rattle.std.specs.List.{AllByRecursion, filter_map, cons_option}
 use Rattle.std.specs.Option.{option_and_then, option_map_or, option_to_list}
@@ -59,7 +60,8 @@ and_first true b e = refl
 and_first false b e = absurd (false≢true e)
 
 -- the subscribers of a hub are those of the history
-subscribers_told : (base : Kept) → (h : List Event) (nodes : Slots Node) (hubs : List Hub) → IsWalk base h nodes hubs → (g : ℕ) → numbers (subscribers_of hubs (Some (Connect g))) ≡ open_subscribers h g
+subscribers_told : (base : Kept) → (h : List Event) (nodes : Slots Node) (hubs : List Hub) → IsWalk base h nodes hubs → (g : ℕ) →
+    numbers (subscribers_of hubs (Some (Connect g))) ≡ open_subscribers h g
 subscribers_told base h nodes hubs w g = of (find_hub hubs g) refl where
   none_open : find_hub hubs g ≡ None → (ns : List ℕ) → open_subscribers h g ≡ ns → [] ≡ ns
   none_open none [] is = refl
@@ -74,7 +76,8 @@ subscribers_told base h nodes hubs w g = of (find_hub hubs g) refl where
       let r = found_hub hubs g hub found in
       (w.published.each r.0 hub r.1.0).subscribers ∙ ap (open_subscribers h) r.1.1
 
-subscribers_found : (base : Kept) → (h : List Event) (nodes : Slots Node) (hubs : List Hub) → IsWalk base h nodes hubs → (g : ℕ) → AreFound nodes (subscribers_of hubs (Some (Connect g)))
+subscribers_found : (base : Kept) → (h : List Event) (nodes : Slots Node) (hubs : List Hub) → IsWalk base h nodes hubs → (g : ℕ) →
+    AreFound nodes (subscribers_of hubs (Some (Connect g)))
 subscribers_found base h nodes hubs w g = of (find_hub hubs g) refl where
   of : (o : Option Hub) → find_hub hubs g ≡ o → AreFound nodes (option_map_or (λ (hub : Hub). hub.subscribers) o [])
   of None found = tt
@@ -87,7 +90,8 @@ record IsOnward (h : List Event) (nodes : Slots Node) (key : Key) (keys : List K
   goes : onward h key.number ≡ numbers keys
   found : AreFound nodes keys
 
-onward_told : (base : Kept) → (h : List Event) (nodes : Slots Node) (hubs : List Hub) → IsWalk base h nodes hubs → (key : Key) → IsSome (find nodes key) → IsOnward h nodes key (onward_over nodes hubs key)
+onward_told : (base : Kept) → (h : List Event) (nodes : Slots Node) (hubs : List Hub) → IsWalk base h nodes hubs → (key : Key) → IsSome (find nodes key) →
+    IsOnward h nodes key (onward_over nodes hubs key)
 onward_told base h nodes hubs w key there = by_stop (stop_of nodes key) refl where
   own : (x : Node) × (find nodes key ≡ Some x)
   own = some_of (find nodes key) there
@@ -106,7 +110,10 @@ onward_told base h nodes hubs w key there = by_stop (stop_of nodes key) refl whe
 
   by_stop : (s : Option Stop) → stop_of nodes key ≡ s → IsOnward h nodes key (onward_by nodes hubs key s)
   by_stop None free = record {
-    goes = onward_seen base h nodes (told base w) key own.0 own.1 free ∙ numbers_option own.0.above ∙ ap (λ (o : Option Key). numbers (option_to_list o)) (sym (ap (option_and_then (λ (n : Node). n.above)) own.1));
+    goes =
+        onward_seen base h nodes (told base w) key own.0 own.1 free ∙
+        numbers_option own.0.above ∙
+        ap (λ (o : Option Key). numbers (option_to_list o)) (sym (ap (option_and_then (λ (n : Node). n.above)) own.1));
     found = to_parent (above_of nodes key) refl;
   }
   by_stop (Some (Delivery c)) stop = record { goes = at_stop (Delivery c) stop; found = tt }
@@ -115,7 +122,8 @@ onward_told base h nodes hubs w key there = by_stop (stop_of nodes key) refl whe
   by_stop (Some (Connection c)) stop =
       let here : stop_made nodes key own.0.above own.0.made ≡ Some (Connection c) = sym (stop_of-found nodes key own.0 own.1) ∙ stop in
       let c_is = connection_made nodes key c own.0.above own.0.made here in
-      let made_is : made_of nodes c ≡ Some (Connect c_is.0) = ap (made_of nodes) (sym c_is.2) ∙ ap (option_map (λ (n : Node). n.made)) own.1 ∙ ap (λ e. Some e) c_is.1 in
+      let made_is : made_of nodes c ≡ Some (Connect c_is.0) =
+      ap (made_of nodes) (sym c_is.2) ∙ ap (option_map (λ (n : Node). n.made)) own.1 ∙ ap (λ e. Some e) c_is.1 in
       record {
         goes = at_stop (Connection c) stop ∙
             ap (λ (o : Option Event). option_map_or (onward_from h key.number) o []) ((w.records.each key own.0 own.1).made ∙ ap (λ e. Some e) c_is.1) ∙
@@ -136,7 +144,8 @@ visited_told base h nodes hubs w zero keys found = refl
 visited_told base h nodes hubs w (suc left) [] found = refl
 visited_told base h nodes hubs w (suc left) (key ∷ keys) found =
     let on = onward_told base h nodes hubs w key found.0 in
-    ap (λ (ns : List ℕ). key.number ∷ visited left h ns) (ap (λ (ns : List ℕ). ns ++ numbers keys) on.goes ∙ sym (numbers_both (onward_over nodes hubs key) keys)) ∙
+    ap (λ (ns : List ℕ). key.number ∷ visited left h ns)
+    (ap (λ (ns : List ℕ). ns ++ numbers keys) on.goes ∙ sym (numbers_both (onward_over nodes hubs key) keys)) ∙
     ap (λ (ns : List ℕ). key.number ∷ ns) (visited_told base h nodes hubs w left (onward_over nodes hubs key ++ keys)
     (AllByRecursion-both (λ k. IsSome (find nodes k)) (onward_over nodes hubs key) keys on.found found.1))
 
@@ -160,14 +169,16 @@ stops_told base h nodes t (key ∷ keys) found =
     of (stop_of nodes key) (stop_at h key.number) (stop_seen base h nodes t key own.0 own.1) (stops_told base h nodes t keys found.1) where
       of : (s : Option Stop) (o : Option NumberedStop) → o ≡ option_and_then numbered s →
           filter_map (stop_at h) (numbers keys) ≡ filter_map numbered (filter_map (arrival_at nodes) keys) →
-          cons_option o (filter_map (stop_at h) (numbers keys)) ≡ filter_map numbered (cons_option (option_and_then arrival s) (filter_map (arrival_at nodes) keys))
+          cons_option o (filter_map (stop_at h) (numbers keys)) ≡
+          filter_map numbered (cons_option (option_and_then arrival s) (filter_map (arrival_at nodes) keys))
       of None o is rest = ap (λ x. cons_option x (filter_map (stop_at h) (numbers keys))) is ∙ rest
       of (Some (Delivery c)) o is rest = (λ i. cons_option (is i) (rest i))
       of (Some (Projection c)) o is rest = (λ i. cons_option (is i) (rest i))
       of (Some (Firing c)) o is rest = (λ i. cons_option (is i) (rest i))
       of (Some (Connection c)) o is rest = (λ i. cons_option (is i) (rest i))
 
-pub climbs_told : (base : Kept) → (h : List Event) (nodes : Slots Node) (hubs : List Hub) (key : Key) → IsWalk base h nodes hubs → IsSome (find nodes key) → climb h key.number ≡ numbers (climb_over nodes hubs key)
+pub climbs_told : (base : Kept) → (h : List Event) (nodes : Slots Node) (hubs : List Hub) (key : Key) → IsWalk base h nodes hubs → IsSome (find nodes key) →
+    climb h key.number ≡ numbers (climb_over nodes hubs key)
 unfolding climb
 climbs_told base h nodes hubs key w found = visited_told base h nodes hubs w (suc most_visits) (key ∷ []) (found, tt)
 
@@ -182,6 +193,7 @@ length_numbers : (keys : List Key) → length (numbers keys) ≡ length keys
 length_numbers [] = refl
 length_numbers (k ∷ keys) = ap suc (length_numbers keys)
 
-pub visits_told : (base : Kept) → (h : List Event) (nodes : Slots Node) (hubs : List Hub) (key : Key) → IsWalk base h nodes hubs → IsSome (find nodes key) → visits h key.number ≡ length (climb_over nodes hubs key)
+pub visits_told : (base : Kept) → (h : List Event) (nodes : Slots Node) (hubs : List Hub) (key : Key) → IsWalk base h nodes hubs → IsSome (find nodes key) →
+    visits h key.number ≡ length (climb_over nodes hubs key)
 unfolding visits
 visits_told base h nodes hubs key w found = ap length (climbs_told base h nodes hubs key w found) ∙ length_numbers (climb_over nodes hubs key)

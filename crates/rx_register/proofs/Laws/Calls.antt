@@ -16,7 +16,8 @@ use Rattle.rx_register.proofs.Laws.Follow.{opening_follows, using_follows, accep
 use Rattle.rx_register.proofs.Laws.Follow.{leasing_follows, returning_follows, emitting_follows, ending_follows, aborting_follows, declining_follows}
 use Rattle.rx_register.proofs.Laws.Follow.{failing_follows, disposing_follows, publishing_follows, connecting_follows, disconnecting_one}
 use Rattle.rx_register.proofs.Laws.Follow.{disconnecting_follows, taking_follows}
-use Rattle.rx_register.proofs.Laws.Fits.{opening_fits, using_fits, holding_fits, applying_fits, removing_fits, leasing_fits, returning_fits, emitting_fits, ending_fits, declining_fits, closing_fits, publishing_fits, connecting_fits, taking_fits}
+use Rattle.rx_register.proofs.Laws.Fits.{opening_fits, using_fits, holding_fits, applying_fits, removing_fits, leasing_fits, returning_fits, emitting_fits}
+use Rattle.rx_register.proofs.Laws.Fits.{ending_fits, declining_fits, closing_fits, publishing_fits, connecting_fits, taking_fits}
 use Rattle.rx_register.proofs.Laws.Paid.{call_pays}
 
 pub call_follows : (base : Kept) → (h : List Event) (limit : ℕ) (fresh : Bool) (call : Call) → MayCall base h limit fresh call →
@@ -43,8 +44,10 @@ call_follows base h limit fresh (Disconnecting g) m =
     subst (λ (cs : List ℕ). MayFollowInTurn base h (map (λ c. Close c) cs)) (sym one.1) (disconnecting_follows base h g one.0 m.settled m.no_cause one.1, tt)
 call_follows base h limit fresh (Taking r) m = (taking_follows base h r m.settled m.ready, tt)
 
-pub call_fits : (base : Kept) → (h : List Event) (limit : ℕ) (fresh : Bool) (call : Call) → MayCall base h limit fresh call → Fits base h (h ++ outside_of h call) (added_by h call) (notes_added h call)
-call_fits base h limit fresh (Opening place kind) m = opening_fits base h place kind m.lawful m.settled (call_follows base h limit fresh (Opening place kind) m).0
+pub call_fits : (base : Kept) → (h : List Event) (limit : ℕ) (fresh : Bool) (call : Call) → MayCall base h limit fresh call →
+    Fits base h (h ++ outside_of h call) (added_by h call) (notes_added h call)
+call_fits base h limit fresh (Opening place kind) m =
+    opening_fits base h place kind m.lawful m.settled (call_follows base h limit fresh (Opening place kind) m).0
 call_fits base h limit fresh (OpeningUsing place tag) m =
     let next = call_follows base h limit fresh (OpeningUsing place tag) m in
     using_fits base h place tag m.lawful m.settled next.0 next.1.0
@@ -68,5 +71,6 @@ call_fits base h limit fresh (Disconnecting g) m =
 call_fits base h limit fresh (Taking r) m = taking_fits base h r m.lawful m.settled (call_follows base h limit fresh (Taking r) m).0
 
 -- room for a call is room for what it forces
-pub called_paid : (s t : State) (limit : ℕ) (fresh : Bool) (call : Call) → MayCall s.base s.history limit fresh call → HasRoomFor s call → Writes s (outside_of s.history call) t → IsPaid t
+pub called_paid : (s t : State) (limit : ℕ) (fresh : Bool) (call : Call) → MayCall s.base s.history limit fresh call → HasRoomFor s call →
+    Writes s (outside_of s.history call) t → IsPaid t
 called_paid s t limit fresh call m has w = call_pays s t call (outside_of s.history call) has (call_fits s.base s.history limit fresh call m) w

@@ -1,5 +1,6 @@
 -- Which openings force a connection: just those of a subscriber of a RefCount hub that has none.
-use Rattle.std.proofs.Common.{◌≡◌, ℕ, Bool, true, false, List, [], ◌∷◌, ◌++◌, length, Option, cond, refl, sym, ap, subst, ◌∙◌, arith, inl, inr, ◌⊎◌, length-append, nat_lt}
+use Rattle.std.proofs.Common.{◌≡◌, ℕ, Bool, true, false, List, [], ◌∷◌, ◌++◌, length, Option, cond, refl}
+use Rattle.std.proofs.Common.{sym, ap, subst, ◌∙◌, arith, inl, inr, ◌⊎◌, length-append, nat_lt}
 use Rattle.std.proofs.Math.Bool.{◌&&◌}
 use Rattle.std.specs.Option.{option_map_or}
 use Rattle.std.proofs.lemmas.Bool.{cases_Bool, not_from_false, false≢true, and_parts, and_from, ltb-false}
@@ -49,8 +50,11 @@ spared h Root kind c g connects = refl
 spared h (Source p) kind c g connects = refl
 spared h (Notifier p) kind c g connects = refl
 
-still_open : (h : List Event) (place : Place) (kind : Kind) (c g : ℕ) → at (is_connect_of g) h c ≡ true → is_open h c ≡ true → is_open (h ++ Open place kind ∷ []) c ≡ true
-still_open h place kind c g connects alive = is_open-push h (Open place kind) c (at_within (is_connect_of g) h c connects) ∙ rw (alive, alone h c g (at_connect h g c connects), spared h place kind c g connects) refl
+still_open : (h : List Event) (place : Place) (kind : Kind) (c g : ℕ) → at (is_connect_of g) h c ≡ true → is_open h c ≡ true →
+    is_open (h ++ Open place kind ∷ []) c ≡ true
+still_open h place kind c g connects alive =
+    is_open-push h (Open place kind) c (at_within (is_connect_of g) h c connects) ∙
+    rw (alive, alone h c g (at_connect h g c connects), spared h place kind c g connects) refl
 
 still_connected : (h : List Event) (place : Place) (kind : Kind) (g : ℕ) → open_connections (h ++ Open place kind ∷ []) g ≡ [] → has_connection h g ≡ false
 still_connected h place kind g none = by_test (cases_Bool (has_connection h g)) where
@@ -63,24 +67,34 @@ still_connected h place kind g none = by_test (cases_Bool (has_connection h g)) 
       let parts : (at (is_connect_of g) h c ≡ true) × (is_open h c ≡ true) = and_parts _ _ first in
       let within = at_within (is_connect_of g) h c parts.0 in
       let later : at (is_connect_of g) (h ++ Open place kind ∷ []) c ≡ true = at-append (is_connect_of g) h (Open place kind ∷ []) c within ∙ parts.0 in
-      absurd (filter_nonempty (λ n. at (is_connect_of g) (h ++ Open place kind ∷ []) n && is_open (h ++ Open place kind ∷ []) n) 0 (length (h ++ Open place kind ∷ [])) c (omega arith) (let n = length-append h (Open place kind ∷ []) in omega arith) (and_from _ _ later (still_open h place kind c g parts.0 parts.1)) none)
+      absurd (filter_nonempty (λ n. at (is_connect_of g) (h ++ Open place kind ∷ []) n && is_open (h ++ Open place kind ∷ []) n) 0
+      (length (h ++ Open place kind ∷ [])) c (omega arith) (let n = length-append h (Open place kind ∷ []) in omega arith)
+      (and_from _ _ later (still_open h place kind c g parts.0 parts.1)) none)
 
 -- an opening after which a hub waits is one that forces a connection
-pub opening_connects : (base : Kept) → (h : List Event) (place : Place) (kind : Kind) (g : ℕ) → IsLawful base h → IsSettled base h → IsHubbed h place kind → IsConnectDue (h ++ Open place kind ∷ []) g → forces_connect h kind ≡ true
+pub opening_connects : (base : Kept) → (h : List Event) (place : Place) (kind : Kind) (g : ℕ) → IsLawful base h → IsSettled base h → IsHubbed h place kind →
+    IsConnectDue (h ++ Open place kind ∷ []) g → forces_connect h kind ≡ true
 opening_connects base h place (Sub k) g law settled hubbed d =
     let same : g ≡ k = kept_subscribed base h place k law (settled_connected base h settled) g d in
     let later : at is_auto_hub (h ++ Open place (Sub k) ∷ []) k ≡ true = ap (at is_auto_hub (h ++ Open place (Sub k) ∷ [])) (sym same) ∙ d.auto in
     let auto : at is_auto_hub h k ≡ true = sym (at-append is_auto_hub h (Open place (Sub k) ∷ []) k (at_within makes_hub h k hubbed.0)) ∙ later in
-    let unconnected : open_connections (h ++ Open place (Sub k) ∷ []) k ≡ [] = ap (open_connections (h ++ Open place (Sub k) ∷ [])) (sym same) ∙ d.unconnected in
+    let unconnected : open_connections (h ++ Open place (Sub k) ∷ []) k ≡ [] =
+    ap (open_connections (h ++ Open place (Sub k) ∷ [])) (sym same) ∙ d.unconnected in
     and_from _ _ auto (not_from_false (has_connection h k) (still_connected h place (Sub k) k unconnected))
-opening_connects base h place Leaf g law settled hubbed d = absurd (kept_unsubscribed base h (Open place Leaf) law (settled_connected base h settled) refl refl g d)
-opening_connects base h place Pass g law settled hubbed d = absurd (kept_unsubscribed base h (Open place Pass) law (settled_connected base h settled) refl refl g d)
-opening_connects base h place Flat g law settled hubbed d = absurd (kept_unsubscribed base h (Open place Flat) law (settled_connected base h settled) refl refl g d)
-opening_connects base h place Switch g law settled hubbed d = absurd (kept_unsubscribed base h (Open place Switch) law (settled_connected base h settled) refl refl g d)
-opening_connects base h place Until g law settled hubbed d = absurd (kept_unsubscribed base h (Open place Until) law (settled_connected base h settled) refl refl g d)
+opening_connects base h place Leaf g law settled hubbed d =
+    absurd (kept_unsubscribed base h (Open place Leaf) law (settled_connected base h settled) refl refl g d)
+opening_connects base h place Pass g law settled hubbed d =
+    absurd (kept_unsubscribed base h (Open place Pass) law (settled_connected base h settled) refl refl g d)
+opening_connects base h place Flat g law settled hubbed d =
+    absurd (kept_unsubscribed base h (Open place Flat) law (settled_connected base h settled) refl refl g d)
+opening_connects base h place Switch g law settled hubbed d =
+    absurd (kept_unsubscribed base h (Open place Switch) law (settled_connected base h settled) refl refl g d)
+opening_connects base h place Until g law settled hubbed d =
+    absurd (kept_unsubscribed base h (Open place Until) law (settled_connected base h settled) refl refl g d)
 
 -- so many hubs wait after an opening: one where it forces a connection, else none
-pub opening_waits : (base : Kept) → (h : List Event) (place : Place) (kind : Kind) → IsLawful base h → IsSettled base h → IsHubbed h place kind → MayWait (h ++ Open place kind ∷ []) (cond (forces_connect h kind) 1 0)
+pub opening_waits : (base : Kept) → (h : List Event) (place : Place) (kind : Kind) → IsLawful base h → IsSettled base h → IsHubbed h place kind →
+    MayWait (h ++ Open place kind ∷ []) (cond (forces_connect h kind) 1 0)
 opening_waits base h place kind law settled hubbed = by_test (forces_connect h kind) refl where
   only : (k g : ℕ) → kind ≡ Sub k → IsConnectDue (h ++ Open place kind ∷ []) g → g ≡ k
   only k g is d = kept_subscribed base h place k law (settled_connected base h settled) g (subst (λ x. IsConnectDue (h ++ Open place x ∷ []) g) is d)

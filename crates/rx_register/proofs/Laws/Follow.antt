@@ -1,5 +1,6 @@
 -- Where no cause stands against a call in a settled history, the call's events may follow.
-use Rattle.std.proofs.Common.{◌≡◌, ℕ, ℤ, zero, suc, ◌+◌, ◌<◌, ◌≤◌, Bool, true, false, List, [], ◌∷◌, ◌++◌, length, Option, Some, None, cond, refl, sym, ap, subst, ◌∙◌, arith, inl, inr, ◌⊎◌, ◌==◌, nat_lt, length-append, get_or}
+use Rattle.std.proofs.Common.{◌≡◌, ℕ, ℤ, zero, suc, ◌+◌, ◌<◌, ◌≤◌, Bool, true, false, List, [], ◌∷◌, ◌++◌, length, Option, Some}
+use Rattle.std.proofs.Common.{None, cond, refl, sym, ap, subst, ◌∙◌, arith, inl, inr, ◌⊎◌, ◌==◌, nat_lt, length-append, get_or}
 use Rattle.std.proofs.Math.Bool.{◌&&◌, ◌||◌}
 use Rattle.std.specs.List.{list_any}
 use Rattle.std.specs.Option.{option_map_or}
@@ -30,14 +31,16 @@ use Rattle.rx_event.specs.Forced.{IsConnectDue, IsSettled}
 use Rattle.rx_event.specs.Allowed.{IsFree, IsHubbed, IsInOrder, IsInOrderAt, most_nodes, most_hubs, opened, published, connected, accepted, used, removed}
 use Rattle.rx_event.specs.Allowed.{leased, returned, emitted, declined, leaf_ended, aborted, projection_failed, root_closed, disconnected, taken}
 use Rattle.rx_event.specs.Lawful.{MayFollow, IsLawful, allowed, opened_with}
-use Rattle.rx_event.specs.Calls.{Opening, OpeningUsing, Holding, Applying, Removing, Leasing, GivingBack, Emitting, Ending, Aborting, Declining, Failing, Disposing, Publishing, Connecting}
+use Rattle.rx_event.specs.Calls.{Opening, OpeningUsing, Holding, Applying, Removing, Leasing, GivingBack, Emitting}
+use Rattle.rx_event.specs.Calls.{Ending, Aborting, Declining, Failing, Disposing, Publishing, Connecting}
 use Rattle.rx_event.specs.Refusals.{first_cause}
 use Rattle.rx_event.proofs.Laws.Lists.{first_passes}
 use Rattle.rx_event.proofs.Laws.Places.{slice_get_last}
 use Rattle.rx_event.proofs.Laws.Hubs.{at_connect, one_open_connection}
 use Rattle.rx_event.proofs.Laws.Openness.{is_open_within}
 use Rattle.rx_event.proofs.Laws.Totals.{is_open_new}
-use Rattle.rx_register.specs.Causes.{causes, is_gone, is_wrong_place, is_taken_place, is_unowed_place, is_without_hub, is_out_of_order, connects_up_to, nodes_opened, is_crowded, opening_causes, using_causes, disconnecting_causes}
+use Rattle.rx_register.specs.Causes.{causes, is_gone, is_wrong_place, is_taken_place, is_unowed_place, is_without_hub, is_out_of_order}
+use Rattle.rx_register.specs.Causes.{connects_up_to, nodes_opened, is_crowded, opening_causes, using_causes, disconnecting_causes}
 use Rattle.rx_register.proofs.Laws.NoCause.{no_cause}
 use Rattle.rx_register.proofs.Laws.Connecting.{opening_connects, connects_none, connects_one}
 
@@ -48,7 +51,8 @@ some_owed zero none = absurd (false≢true (sym none))
 some_owed (suc n) some = omega arith
 
 -- a place that is there, not taken, and owed where it is an inner's, is free
-pub free_where : (base : Kept) → (h : List Event) (place : Place) → is_gone h place ≡ false → is_wrong_place h place ≡ false → is_taken_place base h place ≡ false → is_unowed_place base h place ≡ false → IsFree base h place
+pub free_where : (base : Kept) → (h : List Event) (place : Place) → is_gone h place ≡ false → is_wrong_place h place ≡ false →
+    is_taken_place base h place ≡ false → is_unowed_place base h place ≡ false → IsFree base h place
 free_where base h Root gone wrong first unowed = tt
 free_where base h (Source p) gone wrong first unowed = (not-false (is_open h p) gone, not-false (at has_source h p) wrong, first)
 free_where base h (Inner p) gone wrong first unowed = (not-false (is_open h p) gone, not-false (at is_merging h p) wrong, some_owed (owed base h p) unowed)
@@ -58,7 +62,8 @@ free_where base h (Notifier p) gone wrong first unowed = (not-false (is_open h p
 none_has : (q : ℕ → Bool) (xs : List ℕ) (a : ℕ) → list_any (λ b. a == b) xs ≡ true → list_any q xs ≡ false → q a ≡ false
 none_has q [] a found none = absurd (false≢true found)
 none_has q (x ∷ xs) a found none = by_test (none_has q xs a) (a == x) refl (q x) refl found none where
-  by_test : (list_any (λ b. a == b) xs ≡ true → list_any q xs ≡ false → q a ≡ false) → (same : Bool) → (a == x) ≡ same → (here : Bool) → q x ≡ here → (same || list_any (λ b. a == b) xs) ≡ true → (here || list_any q xs) ≡ false → q a ≡ false
+  by_test : (list_any (λ b. a == b) xs ≡ true → list_any q xs ≡ false → q a ≡ false) → (same : Bool) → (a == x) ≡ same → (here : Bool) → q x ≡ here →
+      (same || list_any (λ b. a == b) xs) ≡ true → (here || list_any q xs) ≡ false → q a ≡ false
   by_test below same is true here found none = absurd (false≢true (sym none))
   by_test below true is false here found none = ap q (eqb-true a x is) ∙ here
   by_test below false is false here found none = below found none
@@ -111,7 +116,8 @@ may_open base h place kind m = allowed m.settled (opened m.free m.hubbed few als
       let f = m.few in
       omega (arith, count)
 
-pub opening_follows : (base : Kept) → (h : List Event) (limit : ℕ) (is_fresh : Bool) (place : Place) (kind : Kind) → IsLawful base h → IsSettled base h → first_cause (causes base h limit is_fresh (Opening place kind)) ≡ None → MayFollow base h (Open place kind)
+pub opening_follows : (base : Kept) → (h : List Event) (limit : ℕ) (is_fresh : Bool) (place : Place) (kind : Kind) → IsLawful base h → IsSettled base h →
+    first_cause (causes base h limit is_fresh (Opening place kind)) ≡ None → MayFollow base h (Open place kind)
 opening_follows base h limit is_fresh place kind law settled none = may_open base h place kind (record {
   lawful = law;
   settled = settled;
@@ -123,7 +129,8 @@ opening_follows base h limit is_fresh place kind law settled none = may_open bas
     clear : (why : Refusal) → opening_causes base h limit place kind why ≡ false
     clear why = no_cause (opening_causes base h limit place kind) none why
 
-pub using_follows : (base : Kept) → (h : List Event) (limit : ℕ) (is_fresh : Bool) (place : Place) (tag : ℕ) → IsLawful base h → IsSettled base h → first_cause (causes base h limit is_fresh (OpeningUsing place tag)) ≡ None → MayFollow base h (Open place Pass)
+pub using_follows : (base : Kept) → (h : List Event) (limit : ℕ) (is_fresh : Bool) (place : Place) (tag : ℕ) → IsLawful base h → IsSettled base h →
+    first_cause (causes base h limit is_fresh (OpeningUsing place tag)) ≡ None → MayFollow base h (Open place Pass)
 using_follows base h limit is_fresh place tag law settled none = may_open base h place Pass (record {
   lawful = law;
   settled = settled;
@@ -136,19 +143,26 @@ using_follows base h limit is_fresh place tag law settled none = may_open base h
     clear why = no_cause (using_causes base h limit is_fresh place tag) none why
 
 -- and the acceptance of its resource directly after it
-pub accepting_follows : (base : Kept) → (h : List Event) (place : Place) (tag : ℕ) → MayFollow base h (Open place Pass) → MayFollow base (h ++ Open place Pass ∷ []) (Accept (length h) tag)
-accepting_follows base h place tag next = opened_with (slice_get_last h (Open place Pass)) (length-append h (Open place Pass ∷ [])) (is_open_new base h (Open place Pass) next)
+pub accepting_follows : (base : Kept) → (h : List Event) (place : Place) (tag : ℕ) → MayFollow base h (Open place Pass) →
+    MayFollow base (h ++ Open place Pass ∷ []) (Accept (length h) tag)
+accepting_follows base h place tag next =
+    opened_with (slice_get_last h (Open place Pass)) (length-append h (Open place Pass ∷ [])) (is_open_new base h (Open place Pass) next)
 
 -- resources ---------------------------------------------------------------------------------------
 
-pub holding_follows : (base : Kept) → (h : List Event) (limit : ℕ) (is_fresh : Bool) (node tag : ℕ) → IsSettled base h → first_cause (causes base h limit is_fresh (Holding node tag)) ≡ None → MayFollow base h (Accept node tag)
-holding_follows base h limit is_fresh node tag settled none = allowed settled (accepted (not-false _ (no_cause (causes base h limit is_fresh (Holding node tag)) none Gone)))
+pub holding_follows : (base : Kept) → (h : List Event) (limit : ℕ) (is_fresh : Bool) (node tag : ℕ) → IsSettled base h →
+    first_cause (causes base h limit is_fresh (Holding node tag)) ≡ None → MayFollow base h (Accept node tag)
+holding_follows base h limit is_fresh node tag settled none =
+    allowed settled (accepted (not-false _ (no_cause (causes base h limit is_fresh (Holding node tag)) none Gone)))
 
-pub applying_follows : (base : Kept) → (h : List Event) (limit : ℕ) (is_fresh : Bool) (r : ℕ) → IsSettled base h → first_cause (causes base h limit is_fresh (Applying r)) ≡ None → MayFollow base h (Use r)
+pub applying_follows : (base : Kept) → (h : List Event) (limit : ℕ) (is_fresh : Bool) (r : ℕ) → IsSettled base h →
+    first_cause (causes base h limit is_fresh (Applying r)) ≡ None → MayFollow base h (Use r)
 applying_follows base h limit is_fresh r settled none = allowed settled (used (not-false _ (no_cause (causes base h limit is_fresh (Applying r)) none NotHeld)))
 
-pub removing_follows : (base : Kept) → (h : List Event) (limit : ℕ) (is_fresh : Bool) (r : ℕ) → IsSettled base h → first_cause (causes base h limit is_fresh (Removing r)) ≡ None → MayFollow base h (Remove r)
-removing_follows base h limit is_fresh r settled none = allowed settled (removed (not-false _ (no_cause (causes base h limit is_fresh (Removing r)) none Leased)))
+pub removing_follows : (base : Kept) → (h : List Event) (limit : ℕ) (is_fresh : Bool) (r : ℕ) → IsSettled base h →
+    first_cause (causes base h limit is_fresh (Removing r)) ≡ None → MayFollow base h (Remove r)
+removing_follows base h limit is_fresh r settled none =
+    allowed settled (removed (not-false _ (no_cause (causes base h limit is_fresh (Removing r)) none Leased)))
 
 pub leasing_follows : (base : Kept) → (h : List Event) (limit : ℕ) (is_fresh : Bool) (r : ℕ) → IsSettled base h →
     first_cause (causes base h limit is_fresh (Leasing r)) ≡ None → MayFollow base h (Lease r)
@@ -164,12 +178,14 @@ taking_follows base h r settled waits = allowed settled (taken waits)
 
 -- items and ends ----------------------------------------------------------------------------------
 
-pub emitting_follows : (base : Kept) → (h : List Event) (limit : ℕ) (is_fresh : Bool) (leaf : ℕ) (value : ℤ) → IsSettled base h → first_cause (causes base h limit is_fresh (Emitting leaf value)) ≡ None → MayFollow base h (Item leaf value)
+pub emitting_follows : (base : Kept) → (h : List Event) (limit : ℕ) (is_fresh : Bool) (leaf : ℕ) (value : ℤ) → IsSettled base h →
+    first_cause (causes base h limit is_fresh (Emitting leaf value)) ≡ None → MayFollow base h (Item leaf value)
 emitting_follows base h limit is_fresh leaf value settled none =
     let clear = no_cause (causes base h limit is_fresh (Emitting leaf value)) none in
     allowed settled (emitted (not-false _ (clear Gone)) (not-false _ (clear WrongKind)) (ltb-false most_visits (visits h leaf) (clear TooMany)))
 
-pub ending_follows : (base : Kept) → (h : List Event) (limit : ℕ) (is_fresh : Bool) (leaf : ℕ) (t : Terminal) → IsSettled base h → first_cause (causes base h limit is_fresh (Ending leaf t)) ≡ None → MayFollow base h (End leaf t)
+pub ending_follows : (base : Kept) → (h : List Event) (limit : ℕ) (is_fresh : Bool) (leaf : ℕ) (t : Terminal) → IsSettled base h →
+    first_cause (causes base h limit is_fresh (Ending leaf t)) ≡ None → MayFollow base h (End leaf t)
 ending_follows base h limit is_fresh leaf t settled none =
     let clear = no_cause (causes base h limit is_fresh (Ending leaf t)) none in
     allowed settled (leaf_ended (not-false _ (clear Gone)) (not-false _ (clear WrongKind)))
@@ -183,36 +199,43 @@ no_child h n none d below = by_test (cases_Bool (is_open h d)) where
       let l = is_open_within h d alive in
       let here : get_or (places h) d 0 ≡ d = get_or-range_with_len 0 (length h) d 0 l ∙ omega arith in
       let child : is_open_child_of h n d ≡ true = rw (alive, below) (eq-eqb n n refl) in
-      absurd (both_ways _ none (list_any_at (is_open_child_of h n) (places h) d 0 (omega (arith, length-range_with_len 0 (length h))) (ap (is_open_child_of h n) here ∙ child)))
+      absurd (both_ways _ none
+      (list_any_at (is_open_child_of h n) (places h) d 0 (omega (arith, length-range_with_len 0 (length h))) (ap (is_open_child_of h n) here ∙ child)))
 
-pub aborting_follows : (base : Kept) → (h : List Event) (limit : ℕ) (is_fresh : Bool) (n code : ℕ) → IsSettled base h → first_cause (causes base h limit is_fresh (Aborting n code)) ≡ None → MayFollow base h (End n (Error code))
+pub aborting_follows : (base : Kept) → (h : List Event) (limit : ℕ) (is_fresh : Bool) (n code : ℕ) → IsSettled base h →
+    first_cause (causes base h limit is_fresh (Aborting n code)) ≡ None → MayFollow base h (End n (Error code))
 aborting_follows base h limit is_fresh n code settled none =
     let clear = no_cause (causes base h limit is_fresh (Aborting n code)) none in
     allowed settled (aborted (not-false _ (clear Gone)) (not-false _ (clear WrongKind)) (no_child h n (clear HasChild)))
 
-pub declining_follows : (base : Kept) → (h : List Event) (limit : ℕ) (is_fresh : Bool) (f : ℕ) → IsSettled base h → first_cause (causes base h limit is_fresh (Declining f)) ≡ None → MayFollow base h (Decline f)
+pub declining_follows : (base : Kept) → (h : List Event) (limit : ℕ) (is_fresh : Bool) (f : ℕ) → IsSettled base h →
+    first_cause (causes base h limit is_fresh (Declining f)) ≡ None → MayFollow base h (Decline f)
 declining_follows base h limit is_fresh f settled none =
     let clear = no_cause (causes base h limit is_fresh (Declining f)) none in
     allowed settled (declined (not-false _ (clear Gone)) (not-false _ (clear WrongKind)) (some_owed (owed base h f) (clear NothingOwed)))
 
-pub failing_follows : (base : Kept) → (h : List Event) (limit : ℕ) (is_fresh : Bool) (f code : ℕ) → IsSettled base h → first_cause (causes base h limit is_fresh (Failing f code)) ≡ None → MayFollow base h (End f (Error code))
+pub failing_follows : (base : Kept) → (h : List Event) (limit : ℕ) (is_fresh : Bool) (f code : ℕ) → IsSettled base h →
+    first_cause (causes base h limit is_fresh (Failing f code)) ≡ None → MayFollow base h (End f (Error code))
 failing_follows base h limit is_fresh f code settled none =
     let clear = no_cause (causes base h limit is_fresh (Failing f code)) none in
     allowed settled (projection_failed (not-false _ (clear Gone)) (not-false _ (clear WrongKind)) (some_owed (owed base h f) (clear NothingOwed)))
 
-pub disposing_follows : (base : Kept) → (h : List Event) (limit : ℕ) (is_fresh : Bool) (n : ℕ) → IsSettled base h → first_cause (causes base h limit is_fresh (Disposing n)) ≡ None → MayFollow base h (Close n)
+pub disposing_follows : (base : Kept) → (h : List Event) (limit : ℕ) (is_fresh : Bool) (n : ℕ) → IsSettled base h →
+    first_cause (causes base h limit is_fresh (Disposing n)) ≡ None → MayFollow base h (Close n)
 disposing_follows base h limit is_fresh n settled none =
     let clear = no_cause (causes base h limit is_fresh (Disposing n)) none in
     allowed settled (root_closed (not-false _ (clear Gone)) (not-false _ (clear NotRoot)))
 
 -- hubs --------------------------------------------------------------------------------------------
 
-pub publishing_follows : (base : Kept) → (h : List Event) (limit : ℕ) (is_fresh : Bool) (mode : Mode) → IsSettled base h → first_cause (causes base h limit is_fresh (Publishing mode)) ≡ None → MayFollow base h (Hub mode)
+pub publishing_follows : (base : Kept) → (h : List Event) (limit : ℕ) (is_fresh : Bool) (mode : Mode) → IsSettled base h →
+    first_cause (causes base h limit is_fresh (Publishing mode)) ≡ None → MayFollow base h (Hub mode)
 publishing_follows base h limit is_fresh mode settled none =
     let few = ltb-false most_hubs _ (no_cause (causes base h limit is_fresh (Publishing mode)) none TooMany) in
     allowed settled (published (omega arith))
 
-pub connecting_follows : (base : Kept) → (h : List Event) (limit : ℕ) (is_fresh : Bool) (g : ℕ) → IsSettled base h → first_cause (causes base h limit is_fresh (Connecting g)) ≡ None → MayFollow base h (Connect g)
+pub connecting_follows : (base : Kept) → (h : List Event) (limit : ℕ) (is_fresh : Bool) (g : ℕ) → IsSettled base h →
+    first_cause (causes base h limit is_fresh (Connecting g)) ≡ None → MayFollow base h (Connect g)
 connecting_follows base h limit is_fresh g settled none =
     let clear = no_cause (causes base h limit is_fresh (Connecting g)) none in
     let few = few_where h 1 (clear TooMany) in

@@ -10,7 +10,8 @@ use Rattle.rx_event.specs.Refusals.{first_of_these, first_cause, refusal_order}
 none_of : (stands : Refusal → Bool) (whys : List Refusal) → first_of_these stands whys ≡ None → AllByRecursion (λ why. stands why ≡ false) whys
 none_of stands [] none = tt
 none_of stands (why ∷ whys) none = by_test (none_of stands whys) (stands why) refl none where
-  by_test : (first_of_these stands whys ≡ None → AllByRecursion (λ w. stands w ≡ false) whys) → (b : Bool) → stands why ≡ b → cond b (Some why) (first_of_these stands whys) ≡ None → (stands why ≡ false) × AllByRecursion (λ w. stands w ≡ false) whys
+  by_test : (first_of_these stands whys ≡ None → AllByRecursion (λ w. stands w ≡ false) whys) → (b : Bool) → stands why ≡ b →
+      cond b (Some why) (first_of_these stands whys) ≡ None → (stands why ≡ false) × AllByRecursion (λ w. stands w ≡ false) whys
   by_test below true stood none = absurd (none-some why (sym none))
   by_test below false cleared none = (cleared, below none)
 

@@ -104,7 +104,8 @@ forced_pays s t e law f p w = record {
 
     notes_left : HowPaid s e → open_count (s.history ++ e ∷ []) + 0 ≤ t.mail_room
     notes_left (connects {g = g} is b n) = rw is (let o = open_count_made s.base s.history (Connect g) (connect g is) refl in let r = told g is in omega arith)
-    notes_left (lowers other b n) = let o = forced_closes s.base s.history e f other in let m = told_by_forced s.base s.history e f in let r = notes_added-push s t e w in omega arith
+    notes_left (lowers other b n) =
+        let o = forced_closes s.base s.history e f other in let m = told_by_forced s.base s.history e f in let r = notes_added-push s t e w in omega arith
 
 -- and there is room for it, and for its note
 pub forced_room : (s : State) (e : Event) → IsLawful s.base s.history → IsForced s.base s.history e → IsPaid s → 0 < s.room
@@ -124,15 +125,19 @@ pub within_limit : (base : Kept) → (h : List Event) (limit more : ℕ) → is_
 within_limit base h limit more fits = let l = ltb-false (base.at_length + limit) (length h + debt base h + more) fits in omega arith
 
 -- there is room for a call's events
-pub call_room : (s : State) (call : Call) (es : List Event) → HasRoomFor s call → Fits s.base s.history (s.history ++ es) (added_by s.history call) (notes_added s.history call) → length es ≤ s.room
+pub call_room : (s : State) (call : Call) (es : List Event) → HasRoomFor s call →
+    Fits s.base s.history (s.history ++ es) (added_by s.history call) (notes_added s.history call) → length es ≤ s.room
 call_room s call es has fits = let b = has.events in let f = fits.events in omega (arith, length-append s.history es)
 
 -- and for their notes
-pub call_mail_room : (s : State) (call : Call) (es : List Event) → HasRoomFor s call → Fits s.base s.history (s.history ++ es) (added_by s.history call) (notes_added s.history call) → length (notes (s.history ++ es)) ≤ length (notes s.history) + s.mail_room
+pub call_mail_room : (s : State) (call : Call) (es : List Event) → HasRoomFor s call →
+    Fits s.base s.history (s.history ++ es) (added_by s.history call) (notes_added s.history call) →
+    length (notes (s.history ++ es)) ≤ length (notes s.history) + s.mail_room
 call_mail_room s call es has fits = let b = has.notes in let f = fits.told in omega arith
 
 -- and after them for what they force, and for closing everything
-pub call_pays : (s t : State) (call : Call) (es : List Event) → HasRoomFor s call → Fits s.base s.history (s.history ++ es) (added_by s.history call) (notes_added s.history call) → Writes s es t → IsPaid t
+pub call_pays : (s t : State) (call : Call) (es : List Event) → HasRoomFor s call →
+    Fits s.base s.history (s.history ++ es) (added_by s.history call) (notes_added s.history call) → Writes s es t → IsPaid t
 call_pays s t call es has fits w = record {
   waits = fits.waits;
   may_wait = rw w.history fits.may_wait;

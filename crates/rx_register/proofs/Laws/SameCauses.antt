@@ -1,5 +1,6 @@
 -- The same causes stand against a call in two histories that are the same but for their numbers, but for the limit of events.
-use Rattle.std.proofs.Common.{◌≡◌, ℕ, ◌+◌, Bool, true, false, List, [], ◌∷◌, length, Option, Some, None, cond, slice_get, refl, sym, ap, ◌∙◌, inl, inr, ◌⊎◌, ◌==◌, nat_lt}
+use Rattle.std.proofs.Common.{◌≡◌, ℕ, ◌+◌, Bool, true, false, List, [], ◌∷◌, length, Option, Some, None}
+use Rattle.std.proofs.Common.{cond, slice_get, refl, sym, ap, ◌∙◌, inl, inr, ◌⊎◌, ◌==◌, nat_lt}
 use Rattle.std.proofs.Math.Bool.{not, ◌&&◌}
 use Rattle.std.specs.List.{list_any}
 use Rattle.std.specs.Option.{option_map_or}
@@ -13,7 +14,8 @@ use Rattle.rx_event.specs.declared.event.Kind.TheVariants.{Leaf, Pass, Flat, Swi
 use Rattle.rx_event.specs.declared.event.Event.{Event}
 use Rattle.rx_event.specs.declared.event.Event.TheVariants.{Connect}
 use Rattle.rx_event.specs.declared.refusal.Refusal.{Refusal}
-use Rattle.rx_event.specs.declared.refusal.Refusal.TheVariants.{Full, Gone, WrongKind, PlaceTaken, NothingOwed, NotRoot, NoHub, HubOrder, Connected, NotConnected}
+use Rattle.rx_event.specs.declared.refusal.Refusal.TheVariants.{Full, Gone, WrongKind, PlaceTaken, NothingOwed, NotRoot}
+use Rattle.rx_event.specs.declared.refusal.Refusal.TheVariants.{NoHub, HubOrder, Connected, NotConnected}
 use Rattle.rx_event.specs.declared.refusal.Refusal.TheVariants.{NoLease, NotHeld, Leased, HasChild, TooMany}
 use Rattle.rx_event.specs.Events.{makes_node, makes_hub, makes_resource, makes_lease}
 use Rattle.rx_event.specs.Tree.{at, ancestors, is_open, is_within, open_connections}
@@ -26,7 +28,8 @@ use Rattle.rx_event.specs.Renumbered.{place_by, kind_by, call_by, AreSameBy}
 use Rattle.rx_event.specs.Claims.Seen.{CallersSeeTheSame}
 use Rattle.rx_event.proofs.Laws.Searches.{list_any_found, list_any_holds}
 use Rattle.rx_event.proofs.Laws.ReadSeen.{callers_see}
-use Rattle.rx_register.specs.Causes.{has_connection, is_without_hub, forces_connect, connects_up_to, is_out_of_order, is_gone, is_wrong_place, is_taken_place, is_unowed_place, is_crowded, nodes_opened, opening_causes, using_causes, causes, unlimited}
+use Rattle.rx_register.specs.Causes.{has_connection, is_without_hub, forces_connect, connects_up_to, is_out_of_order, is_gone, is_wrong_place, is_taken_place}
+use Rattle.rx_register.specs.Causes.{is_unowed_place, is_crowded, nodes_opened, opening_causes, using_causes, causes, unlimited}
 use Rattle.rx_register.proofs.Laws.Follow.{in_order}
 
 -- the numbers that a call names are of what they have to be

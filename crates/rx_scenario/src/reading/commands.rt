@@ -3,7 +3,9 @@
 ghost use Rattle.serde_json.specs.View.{view};
 ghost use Rattle.rx_scenario.specs.Scenario.{command_of as command_meant, action_of as action_meant};
 ghost use Rattle.rx_device.specs.Gives.{Gives};
-ghost use Rattle.rx_scenario.specs.Reading.{using_of, open_of, hold_of, apply_of, remove_of, lease_of, return_of, next_of, end_of, abort_of, decline_of, fail_of, dispose_of, hub_of, connect_of, disconnect_of, drain_of, checkpoint_of, command_by, cancel_of, action_by, action_in};
+ghost use Rattle.rx_scenario.specs.Reading.{using_of, open_of, hold_of, apply_of, remove_of, lease_of, return_of};
+ghost use Rattle.rx_scenario.specs.Reading.{next_of, end_of, abort_of, decline_of, fail_of, dispose_of, hub_of};
+ghost use Rattle.rx_scenario.specs.Reading.{connect_of, disconnect_of, drain_of, checkpoint_of, command_by, cancel_of, action_by, action_in};
 
 use super::members::{
     code_in, is_step_of, kind_in, mode_in, name_in, optional_name_in, site_in, terminal_in,

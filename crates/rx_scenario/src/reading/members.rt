@@ -6,7 +6,9 @@ ghost use Rattle.std.specs.Map.{keys_of};
 ghost use Rattle.serde_json.specs.View.{view, members_view};
 ghost use Rattle.rx_scenario.specs.Scenario.{site_of, sort_of};
 ghost use Rattle.rx_device.specs.Gives.{Gives};
-ghost use Rattle.rx_scenario.specs.Reading.{is_one_of, has_only, is_object_of, is_of_steps, has_only_steps, is_step_of, is_name_byte, is_name, name_in, optional_name_in, value_in, word_in, code_in, terminal_in, site_by, site_in, plain_by, sub_in, kind_by, kind_in, mode_by, mode_in, events_in, until_in, time_in, delay_in};
+ghost use Rattle.rx_scenario.specs.Reading.{is_one_of, has_only, is_object_of, is_of_steps, has_only_steps, is_step_of, is_name_byte};
+ghost use Rattle.rx_scenario.specs.Reading.{is_name, name_in, optional_name_in, value_in, word_in, code_in, terminal_in, site_by};
+ghost use Rattle.rx_scenario.specs.Reading.{site_in, plain_by, sub_in, kind_by, kind_in, mode_by, mode_in, events_in, until_in, time_in, delay_in};
 
 use crate::scenario::{Site, Sort, Ticks};
 use rx_device::ShapeError;
@@ -46,7 +48,7 @@ pub fn is_object_of(value: &Value, names: &[&str]) -> bool
 fn is_of_steps(key: &str) -> bool
     ensures { result ≡ is_of_steps key.now }
 {
-    is_one_of(key, &["do", "label", "at", "after", "then"])
+    matches!(key, "do" | "label" | "at" | "after" | "then")
 }
 
 fn are_all_of_steps(members: &Map<String, Value>, names: &[&str]) -> bool

@@ -108,6 +108,7 @@ fn each_step(
         ≡ labels_meant labels.old.items ++ labels_in (steps_of (map step_meant v.items))) }
 {
     let mut steps = Vec::new(alloc);
+    steps.reserve(values.len())?;
     for value in values {
         steps.push(step_in(alloc, value, follows, depth, labels)?)?;
     }

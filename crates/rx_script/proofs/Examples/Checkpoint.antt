@@ -1,5 +1,5 @@
 -- The definitions at a worked example: a scenario of six events at most, of which the second word for a resource is refused, since the
--- history is full, and is taken behind a checkpoint.
+-- history is full, and is taken behind a checkpoint. Nothing cites `full_before`, which shows it.
 use Rattle.std.proofs.Common.{◌≡◌, ℕ, true, List, [], ◌∷◌, ◌++◌, Some, refl}
 use Rattle.rx_event.specs.Kept.{nothing_kept}
 use Rattle.rx_event.specs.declared.event.Place.TheVariants.{Root}
@@ -56,15 +56,18 @@ abbrev three : List Event
 three = two ++ Use 1 ∷ []
 
 to_one : IsStepOf nothing_kept [] (OpeningUsing Root 5) one
-unfolding first_forced source_end child_terminal source_completed open_children is_fired owed projections moments stops climb most_visits most_nodes is_open is_shut ancestors parent
+unfolding first_forced source_end child_terminal source_completed open_children is_fired owed projections moments stops climb most_visits most_nodes is_open
+    is_shut ancestors parent
 to_one = plain_step [] true (OpeningUsing Root 5) IsLawful_nothing (settled_empty nothing_kept) tt refl refl
 
 to_two : IsStepOf nothing_kept one (Applying 1) two
-unfolding first_forced source_end child_terminal source_completed open_children is_fired owed projections moments stops climb most_visits is_owned leases_of is_held is_taken is_waiting is_open is_shut ancestors parent
+unfolding first_forced source_end child_terminal source_completed open_children is_fired owed projections moments stops climb most_visits is_owned leases_of
+    is_held is_taken is_waiting is_open is_shut ancestors parent
 to_two = plain_step one true (Applying 1) to_one.lawful to_one.settled tt refl refl
 
 to_three : IsStepOf nothing_kept two (Applying 1) three
-unfolding first_forced source_end child_terminal source_completed open_children is_fired owed projections moments stops climb most_visits is_owned leases_of is_held is_taken is_waiting is_open is_shut ancestors parent
+unfolding first_forced source_end child_terminal source_completed open_children is_fired owed projections moments stops climb most_visits is_owned leases_of
+    is_held is_taken is_waiting is_open is_shut ancestors parent
 to_three = plain_step two true (Applying 1) to_two.lawful to_two.settled tt refl refl
 
 -- its course -------------------------------------------------------------------------------------------------------------------------
@@ -103,7 +106,8 @@ course = record { answers = Accepted ∷ Accepted ∷ Refused (Book Full) ∷ Ac
 
 -- So the same call is refused before the checkpoint and accepted behind it
 pub full_before : IsCourseOf script stock course
-unfolding bound debt is_out owed projections moments stops climb most_visits most_nodes is_owned leases_of is_held is_taken is_waiting is_open is_shut ancestors parent
+unfolding bound debt is_out owed projections moments stops climb most_visits most_nodes is_owned leases_of is_held is_taken is_waiting is_open is_shut ancestors
+    parent
 full_before =
     let first = led_on (using a root a) (turn_of (doing (apply a 7) ∷ doing (apply a 8) ∷ doing checkpoint ∷ doing (apply a 9) ∷ []))
     Accepted (at one 0) refl refl (accepted one refl refl refl to_one) not_begun in

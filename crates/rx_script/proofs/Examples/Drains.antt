@@ -1,5 +1,5 @@
 -- The definitions at a worked example: a scenario that drains two resources, which may be taken in two orders. Its dumps may differ,
--- and a report of that order would.
+-- and a report of that order would. Nothing cites `no_order_is_shown`, which says so.
 use Rattle.std.proofs.Common.{◌≡◌, ℕ, ◌≤◌, true, List, [], ◌∷◌, ◌++◌, slice_get, get_or, refl, ap, arith}
 use Rattle.std.specs.Prelude.{flat_map}
 use Rattle.std.specs.Option.{option_and_then, option_to_list}
@@ -61,24 +61,29 @@ abbrev four : List Event
 four = three ++ Close 2 ∷ []
 
 to_one : IsStepOf nothing_kept [] (OpeningUsing Root 5) one
-unfolding first_forced source_end child_terminal source_completed open_children is_fired owed projections moments stops climb most_visits most_nodes is_open is_shut ancestors parent
+unfolding first_forced source_end child_terminal source_completed open_children is_fired owed projections moments stops climb most_visits most_nodes is_open
+    is_shut ancestors parent
 to_one = plain_step [] true (OpeningUsing Root 5) IsLawful_nothing (settled_empty nothing_kept) tt refl refl
 
 to_two : IsStepOf nothing_kept one (OpeningUsing Root 6) two
-unfolding first_forced source_end child_terminal source_completed open_children is_fired owed projections moments stops climb most_visits most_nodes is_open is_shut ancestors parent
+unfolding first_forced source_end child_terminal source_completed open_children is_fired owed projections moments stops climb most_visits most_nodes is_open
+    is_shut ancestors parent
 to_two = plain_step one true (OpeningUsing Root 6) to_one.lawful to_one.settled tt refl refl
 
 to_three : IsStepOf nothing_kept two (Disposing 0) three
-unfolding first_forced source_end child_terminal source_completed open_children is_fired owed projections moments stops climb most_visits is_open is_shut ancestors parent
+unfolding first_forced source_end child_terminal source_completed open_children is_fired owed projections moments stops climb most_visits is_open is_shut
+    ancestors parent
 to_three = plain_step two true (Disposing 0) to_two.lawful to_two.settled tt refl refl
 
 to_four : IsStepOf nothing_kept three (Disposing 2) four
-unfolding first_forced source_end child_terminal source_completed open_children is_fired owed projections moments stops climb most_visits is_open is_shut ancestors parent
+unfolding first_forced source_end child_terminal source_completed open_children is_fired owed projections moments stops climb most_visits is_open is_shut
+    ancestors parent
 to_four = plain_step three true (Disposing 2) to_three.lawful to_three.settled tt refl refl
 
 -- by rising number, and by falling
 rising : Drains nothing_kept four (four ++ Take 1 ∷ Take 3 ∷ [])
-unfolding first_forced source_end child_terminal source_completed open_children is_fired owed projections moments stops climb most_visits is_owned leases_of is_held is_taken is_waiting is_open is_shut ancestors parent
+unfolding first_forced source_end child_terminal source_completed open_children is_fired owed projections moments stops climb most_visits is_owned leases_of
+    is_held is_taken is_waiting is_open is_shut ancestors parent
 rising =
     let first : IsStepOf nothing_kept four (Taking 1) (four ++ Take 1 ∷ []) = plain_step four true (Taking 1) to_four.lawful to_four.settled refl refl refl in
     let second : IsStepOf nothing_kept (four ++ Take 1 ∷ []) (Taking 3) (four ++ Take 1 ∷ Take 3 ∷ []) = plain_step (four ++ Take 1 ∷ []) true
@@ -86,7 +91,8 @@ rising =
     record { takes = next_taken (next_taken none_taken first) second; none_waits = refl }
 
 falling : Drains nothing_kept four (four ++ Take 3 ∷ Take 1 ∷ [])
-unfolding first_forced source_end child_terminal source_completed open_children is_fired owed projections moments stops climb most_visits is_owned leases_of is_held is_taken is_waiting is_open is_shut ancestors parent
+unfolding first_forced source_end child_terminal source_completed open_children is_fired owed projections moments stops climb most_visits is_owned leases_of
+    is_held is_taken is_waiting is_open is_shut ancestors parent
 falling =
     let first : IsStepOf nothing_kept four (Taking 3) (four ++ Take 3 ∷ []) = plain_step four true (Taking 3) to_four.lawful to_four.settled refl refl refl in
     let second : IsStepOf nothing_kept (four ++ Take 3 ∷ []) (Taking 1) (four ++ Take 3 ∷ Take 1 ∷ []) = plain_step (four ++ Take 3 ∷ []) true

@@ -34,13 +34,15 @@ lawful_through (more {k = k} {e = e} on f) law = IsLawful-push nothing_kept k e 
 
 -- a call against which no cause stands, and what it forces, after which nothing comes first
 pub step_to : (h : List Event) (fresh : Bool) (call : Call) (k : List Event) → IsLawful nothing_kept h → IsSettled nothing_kept h → IsReady h call
-    → first_cause (unlimited (causes nothing_kept h 0 fresh call)) ≡ None → IsForcedOn nothing_kept (h ++ outside_of h call) k → first_forced nothing_kept k ≡ None → IsStepOf nothing_kept h call k
+    → first_cause (unlimited (causes nothing_kept h 0 fresh call)) ≡ None
+    → IsForcedOn nothing_kept (h ++ outside_of h call) k → first_forced nothing_kept k ≡ None → IsStepOf nothing_kept h call k
 step_to h fresh call k law settled ready none on over =
     record { forced = on; lawful = lawful_through on (outside_lawful h fresh call law settled ready none); settled = settled_by_order nothing_kept k over }
 
 -- a call that forces nothing
 pub plain_step : (h : List Event) (fresh : Bool) (call : Call) → IsLawful nothing_kept h → IsSettled nothing_kept h → IsReady h call
-    → first_cause (unlimited (causes nothing_kept h 0 fresh call)) ≡ None → first_forced nothing_kept (h ++ outside_of h call) ≡ None → IsStepOf nothing_kept h call (h ++ outside_of h call)
+    → first_cause (unlimited (causes nothing_kept h 0 fresh call)) ≡ None
+    → first_forced nothing_kept (h ++ outside_of h call) ≡ None → IsStepOf nothing_kept h call (h ++ outside_of h call)
 plain_step h fresh call law settled ready none over = step_to h fresh call (h ++ outside_of h call) law settled ready none stays over
 
 -- with so much room, and with more, the steps so far lead here

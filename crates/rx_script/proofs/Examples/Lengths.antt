@@ -1,5 +1,6 @@
 -- The definitions at a worked example: a scenario whose courses are of two lengths, so that a node has one number in the one and
--- another in the other. A report of numbers would show which it was.
+-- another in the other. A report of numbers would show which it was. Nothing cites `no_number_is_shown` and
+-- `no_length_is_shown`, which say so.
 use Rattle.std.proofs.Common.{◌≡◌, ℕ, ◌+◌, true, List, [], ◌∷◌, ◌++◌, Some, None, length, map, get_or, refl, ap, arith}
 use Rattle.rx_event.specs.Kept.{nothing_kept}
 use Rattle.rx_note.specs.declared.note.Terminal.TheVariants.{Completed}
@@ -105,34 +106,41 @@ abbrev long : List Event
 long = halfway ++ End 4 Completed ∷ End 1 Completed ∷ []
 
 to_hub : IsStepOf nothing_kept [] (Publishing Auto) hub_made
-unfolding first_forced source_end child_terminal source_completed open_children is_fired owed projections moments stops climb most_visits most_nodes is_open is_shut ancestors parent most_hubs
+unfolding first_forced source_end child_terminal source_completed open_children is_fired owed projections moments stops climb most_visits most_nodes is_open
+    is_shut ancestors parent most_hubs
 to_hub = plain_step [] true (Publishing Auto) IsLawful_nothing (settled_empty nothing_kept) tt refl refl
 
 to_until : IsStepOf nothing_kept hub_made (Opening Root Until) until_made
-unfolding first_forced source_end child_terminal source_completed open_children is_fired owed projections moments stops climb most_visits most_nodes is_open is_shut ancestors parent
+unfolding first_forced source_end child_terminal source_completed open_children is_fired owed projections moments stops climb most_visits most_nodes is_open
+    is_shut ancestors parent
 to_until = plain_step hub_made true (Opening Root Until) to_hub.lawful to_hub.settled tt refl refl
 
 to_source : IsStepOf nothing_kept until_made (Opening (Source 1) (Sub 0)) source_made
-unfolding first_forced source_end child_terminal source_completed open_children is_fired owed projections moments stops climb most_visits most_nodes is_open is_shut ancestors parent
+unfolding first_forced source_end child_terminal source_completed open_children is_fired owed projections moments stops climb most_visits most_nodes is_open
+    is_shut ancestors parent
 to_source = step_to until_made true (Opening (Source 1) (Sub 0)) source_made to_until.lawful to_until.settled tt refl
     (more stays (first_is_forced nothing_kept (until_made ++ Open (Source 1) (Sub 0) ∷ []) (Connect 0) refl)) refl
 
 to_notifier : IsStepOf nothing_kept source_made (Opening (Notifier 1) (Sub 0)) notifier_made
-unfolding first_forced source_end child_terminal source_completed open_children is_fired owed projections moments stops climb most_visits most_nodes is_open is_shut ancestors parent
+unfolding first_forced source_end child_terminal source_completed open_children is_fired owed projections moments stops climb most_visits most_nodes is_open
+    is_shut ancestors parent
 to_notifier = plain_step source_made true (Opening (Notifier 1) (Sub 0)) to_source.lawful to_source.settled tt refl refl
 
 to_leaf : IsStepOf nothing_kept notifier_made (Opening (Source 3) Leaf) leaf_made
-unfolding first_forced source_end child_terminal source_completed open_children is_fired owed projections moments stops climb most_visits most_nodes is_open is_shut ancestors parent
+unfolding first_forced source_end child_terminal source_completed open_children is_fired owed projections moments stops climb most_visits most_nodes is_open
+    is_shut ancestors parent
 to_leaf = plain_step notifier_made true (Opening (Source 3) Leaf) to_notifier.lawful to_notifier.settled tt refl refl
 
 to_halfway : IsForcedOn nothing_kept (leaf_made ++ End 5 Completed ∷ []) halfway
-unfolding first_forced source_end child_terminal source_completed open_children is_fired owed projections moments stops climb most_visits most_nodes is_open is_shut ancestors parent
+unfolding first_forced source_end child_terminal source_completed open_children is_fired owed projections moments stops climb most_visits most_nodes is_open
+    is_shut ancestors parent
 to_halfway =
     more (more stays (first_is_forced nothing_kept (leaf_made ++ End 5 Completed ∷ []) (End 3 Completed) refl))
     (first_is_forced nothing_kept (leaf_made ++ End 5 Completed ∷ End 3 Completed ∷ []) (End 2 Completed) refl)
 
 to_short : IsStepOf nothing_kept leaf_made (Ending 5 Completed) short
-unfolding first_forced source_end child_terminal source_completed open_children is_fired owed projections moments stops climb most_visits most_nodes is_open is_shut ancestors parent
+unfolding first_forced source_end child_terminal source_completed open_children is_fired owed projections moments stops climb most_visits most_nodes is_open
+    is_shut ancestors parent
 to_short = step_to leaf_made true (Ending 5 Completed) short to_leaf.lawful to_leaf.settled tt refl
     (more to_halfway (first_is_forced nothing_kept halfway (End 1 Completed) refl)) refl
 
@@ -141,16 +149,20 @@ unfolding is_open is_shut ancestors parent
 notifier_due = cut refl (record { hub = 0; connection = 3; place = 7; subscribes = refl; connects = refl; later = omega arith; ended = refl })
 
 to_long : IsStepOf nothing_kept leaf_made (Ending 5 Completed) long
-unfolding first_forced source_end child_terminal source_completed open_children is_fired owed projections moments stops climb most_visits most_nodes is_open is_shut ancestors parent
+unfolding first_forced source_end child_terminal source_completed open_children is_fired owed projections moments stops climb most_visits most_nodes is_open
+    is_shut ancestors parent
 to_long = step_to leaf_made true (Ending 5 Completed) long to_leaf.lawful to_leaf.settled tt refl
-    (more (more to_halfway (due (none_connecting nothing_kept halfway refl) notifier_due)) (first_is_forced nothing_kept (halfway ++ End 4 Completed ∷ []) (End 1 Completed) refl)) refl
+    (more (more to_halfway (due (none_connecting nothing_kept halfway refl) notifier_due))
+    (first_is_forced nothing_kept (halfway ++ End 4 Completed ∷ []) (End 1 Completed) refl)) refl
 
 short_on : IsStepOf nothing_kept short (Opening Root Leaf) (short ++ Open Root Leaf ∷ [])
-unfolding first_forced source_end child_terminal source_completed open_children is_fired owed projections moments stops climb most_visits most_nodes is_open is_shut ancestors parent
+unfolding first_forced source_end child_terminal source_completed open_children is_fired owed projections moments stops climb most_visits most_nodes is_open
+    is_shut ancestors parent
 short_on = plain_step short true (Opening Root Leaf) to_short.lawful to_short.settled tt refl refl
 
 long_on : IsStepOf nothing_kept long (Opening Root Leaf) (long ++ Open Root Leaf ∷ [])
-unfolding first_forced source_end child_terminal source_completed open_children is_fired owed projections moments stops climb most_visits most_nodes is_open is_shut ancestors parent
+unfolding first_forced source_end child_terminal source_completed open_children is_fired owed projections moments stops climb most_visits most_nodes is_open
+    is_shut ancestors parent
 long_on = plain_step long true (Opening Root Leaf) to_long.lawful to_long.settled tt refl refl
 
 -- its courses ------------------------------------------------------------------------------------------------------------------------
@@ -197,13 +209,15 @@ course k number =
 
 led_short : Led [] steps (course (short ++ Open Root Leaf ∷ []) 10).answers
     (record { stage = last_stage (short ++ Open Root Leaf ∷ []) 10; agenda = turn_of [] })
-unfolding first_forced source_end child_terminal source_completed open_children is_fired owed projections moments stops climb most_visits most_nodes is_open is_shut ancestors parent bound
+unfolding first_forced source_end child_terminal source_completed open_children is_fired owed projections moments stops climb most_visits most_nodes is_open
+    is_shut ancestors parent bound
 led_short =
     let ended = led_on (end l Completed) (turn_of last_one) (Ending 5 Completed) short refl refl refl refl to_short led_to_leaf in
     led_on (open_node x root leaf) (turn_of []) (Opening Root Leaf) (short ++ Open Root Leaf ∷ []) refl refl refl refl short_on ended
 
 led_long : Led [] steps (course (long ++ Open Root Leaf ∷ []) 11).answers (record { stage = last_stage (long ++ Open Root Leaf ∷ []) 11; agenda = turn_of [] })
-unfolding first_forced source_end child_terminal source_completed open_children is_fired owed projections moments stops climb most_visits most_nodes is_open is_shut ancestors parent bound
+unfolding first_forced source_end child_terminal source_completed open_children is_fired owed projections moments stops climb most_visits most_nodes is_open
+    is_shut ancestors parent bound
 led_long =
     let ended = led_on (end l Completed) (turn_of last_one) (Ending 5 Completed) long refl refl refl refl to_long led_to_leaf in
     led_on (open_node x root leaf) (turn_of []) (Opening Root Leaf) (long ++ Open Root Leaf ∷ []) refl refl refl refl long_on ended

@@ -1,5 +1,5 @@
 -- A worked canonical course in virtual time: a step that follows another after a delay, and two of one moment, of which the first closes
--- what the second would call.
+-- what the second would call. Nothing cites `time_course` and `time_report`, which show it.
 use Rattle.std.proofs.Common.{◌≡◌, ℕ, List, [], ◌∷◌, ◌++◌, Some, None, true, refl}
 use Rattle.std.specs.Prelude.{codes, pos, negsuc}
 use Rattle.rx_event.specs.Kept.{nothing_kept, shown}
@@ -74,23 +74,28 @@ abbrev disposed : List Event
 disposed = told ++ Close 1 ∷ Close 2 ∷ []
 
 to_hub : IsFirstStep nothing_kept [] (Hub Auto ∷ []) hub_made
-unfolding first_forced source_end child_terminal source_completed open_children is_fired owed projections moments stops climb most_visits most_nodes is_open is_shut ancestors parent most_hubs
+unfolding first_forced source_end child_terminal source_completed open_children is_fired owed projections moments stops climb most_visits most_nodes is_open
+    is_shut ancestors parent most_hubs
 to_hub = ordered_to [] true (Publishing Auto) hub_made nothing_stands tt refl nothing_yet refl
 
 to_subscriber : IsFirstStep nothing_kept hub_made (Open Root (Sub 0) ∷ []) subscribed
-unfolding first_forced source_end child_terminal source_completed open_children is_fired owed projections moments stops climb most_visits most_nodes is_open is_shut ancestors parent
+unfolding first_forced source_end child_terminal source_completed open_children is_fired owed projections moments stops climb most_visits most_nodes is_open
+    is_shut ancestors parent
 to_subscriber = ordered_to hub_made true (Opening Root (Sub 0)) subscribed (stands_after (Publishing Auto) to_hub) tt refl (first_next nothing_yet refl) refl
 
 to_leaf : IsFirstStep nothing_kept subscribed (Open (Source 2) Leaf ∷ []) leaf_made
-unfolding first_forced source_end child_terminal source_completed open_children is_fired owed projections moments stops climb most_visits most_nodes is_open is_shut ancestors parent
+unfolding first_forced source_end child_terminal source_completed open_children is_fired owed projections moments stops climb most_visits most_nodes is_open
+    is_shut ancestors parent
 to_leaf = ordered_to subscribed true (Opening (Source 2) Leaf) leaf_made (stands_after (Opening Root (Sub 0)) to_subscriber) tt refl nothing_yet refl
 
 to_item : IsFirstStep nothing_kept leaf_made (Item 3 (negsuc 0) ∷ []) told
-unfolding first_forced source_end child_terminal source_completed open_children is_fired owed projections moments stops climb most_visits visits most_nodes is_open is_shut ancestors parent
+unfolding first_forced source_end child_terminal source_completed open_children is_fired owed projections moments stops climb most_visits visits most_nodes
+    is_open is_shut ancestors parent
 to_item = ordered_to leaf_made true (Emitting 3 (negsuc 0)) told (stands_after (Opening (Source 2) Leaf) to_leaf) tt refl nothing_yet refl
 
 to_disposal : IsFirstStep nothing_kept told (Close 1 ∷ []) disposed
-unfolding first_forced source_end child_terminal source_completed open_children is_fired owed projections moments stops climb most_visits most_nodes is_open is_shut ancestors parent
+unfolding first_forced source_end child_terminal source_completed open_children is_fired owed projections moments stops climb most_visits most_nodes is_open
+    is_shut ancestors parent
 to_disposal = ordered_to told true (Disposing 1) disposed (stands_after (Emitting 3 (negsuc 0)) to_item) tt refl (first_next nothing_yet refl) refl
 
 -- its course -------------------------------------------------------------------------------------------------------------------------
@@ -124,5 +129,6 @@ time_course events =
 
 pub time_report : report course 0
     ≡ codes "refused 5 Gone\nnode s closed: next=-1\ntotals nodes=3 open=0 accepted=0 held=0 waiting=0 taken=0\nclosed 0 faults 0\n"
-unfolding report unclosed_report refused_line node_line note_text totals_line closed_line notes shown digits is_owned is_held is_waiting is_open is_shut ancestors parent stops climb most_visits moments projections owed
+unfolding report unclosed_report refused_line node_line note_text totals_line closed_line notes shown digits is_owned is_held is_waiting is_open is_shut
+    ancestors parent stops climb most_visits moments projections owed
 time_report = refl

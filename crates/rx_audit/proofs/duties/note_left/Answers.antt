@@ -20,7 +20,8 @@ returns-clause-keeps c = rw c.in_ok-push.ensures.items
 pub returns-clause-lost : goal.returns-clause-lost
 returns-clause-lost c = rw c.in_ok-push.ensures.items
     (λ s g i noted hub word. keeps_more c.loop-s.due.items (length c.args.past.now) i
-    (lost_all c.args.past.now c.args.closed.now c.args.hubs.now.connection.items c.loop-s.due.items c.loop-s.s-index (omega arith) c.loop-s.invariant.lost s g i noted hub word))
+    (lost_all c.args.past.now c.args.closed.now c.args.hubs.now.connection.items c.loop-s.due.items c.loop-s.s-index
+    (omega arith) c.loop-s.invariant.lost s g i noted hub word))
 
 pub returns-clause-new : goal.returns-clause-new
 returns-clause-new c = rw c.in_ok-push.ensures.items (noted_last 0 c.loop-s.due.items (length c.args.past.now) (omega arith))

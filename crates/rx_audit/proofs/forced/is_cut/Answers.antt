@@ -7,7 +7,8 @@ pub returns-in-Some : goal.returns-in-Some
 returns-in-Some c =
     let h = c.args.past.now in
     let k = c.requires in
-    c.leads_past.ensures ∙ past_word c.args.s c.value_at.result ∙ cut_word h c.args.s c.in-Some.g c.value_at.result (sym c.hub_subscribed_at.ensures ∙ c.in-Some.is)
+    c.leads_past.ensures ∙ past_word c.args.s c.value_at.result
+    ∙ cut_word h c.args.s c.in-Some.g c.value_at.result (sym c.hub_subscribed_at.ensures ∙ c.in-Some.is)
     (ended_word h k.lawful (length c.args.live.now) c.args.nodes.now.hubs k.followed.hubs k.room c.in-Some.g c.value_at.result c.value_at.ensures)
 
 pub returns-in-None : goal.returns-in-None

@@ -21,4 +21,5 @@ returns c =
     hubs_more h c.args.event (length old.connection.items) old _ c.requires.lawful c.requires.next c.requires.known
     (c.put.ensures ∙ ap (λ o. table_with old.connection.items o c.one_more-next.result) c.connects.ensures ∙ ap (table_with old.connection.items _) next)
     (c.put-2.ensures ∙ ap (λ o. table_with old.ended.items o c.one_more-next.result) c.hub_ended.ensures ∙ ap (table_with old.ended.items _) next)
-    (c.or-known.ensures ∙ ap (λ o. option_or o old.waiting) c.subscribes_to.ensures) (ap (λ (k : ℕ). old.count + k) (c.one_if.ensures ∙ ap (λ b. cond {A = ℕ} b 1 0) c.makes_hub.ensures))
+    (c.or-known.ensures ∙ ap (λ o. option_or o old.waiting) c.subscribes_to.ensures)
+    (ap (λ (k : ℕ). old.count + k) (c.one_if.ensures ∙ ap (λ b. cond {A = ℕ} b 1 0) c.makes_hub.ensures))

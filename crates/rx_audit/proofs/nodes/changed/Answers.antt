@@ -6,7 +6,8 @@ use Rattle.rx_event.specs.Marks.{marks_of, open_children, after_source, after_no
 use Rattle.rx_event.specs.Moments.{owed}
 use Rattle.rx_event.specs.Events.{is_source_of}
 use Rattle.rx_event.specs.Tree.{at}
-use Rattle.rx_audit.proofs.Marking.{source_changes, notifier_changes, inner_changes, decline_changes, end_changes, children_few, inner_owes, decline_owes, end_counted}
+use Rattle.rx_audit.proofs.Marking.{source_changes, notifier_changes, inner_changes, decline_changes}
+use Rattle.rx_audit.proofs.Marking.{end_changes, children_few, inner_owes, decline_owes, end_counted}
 use Rattle.rx_audit.proofs.nodes.changed.Goals as goal
 
 pub after_source-requires : goal.after_source-requires

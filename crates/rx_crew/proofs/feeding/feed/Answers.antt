@@ -4,7 +4,8 @@ use Rattle.rx_crew.proofs.feeding.feed.Given as given
 use Rattle.rx_crew.proofs.feeding.feed.Goals as goal
 
 stops : (g : given.Over) (c : goal.In-Some g)
-    → Stops c.args.leaf.number c.in-Some.stop c.args.turns (g.S.Source.pulls c.args.source.now) (g.S.Source.pulls c.turn.new.source) c.args.seat c.turn.new.seat c.turn.new.receipts.items
+    → Stops c.args.leaf.number c.in-Some.stop c.args.turns (g.S.Source.pulls c.args.source.now)
+    (g.S.Source.pulls c.turn.new.source) c.args.seat c.turn.new.seat c.turn.new.receipts.items
 stops g c =
     let counted = c.loop-turn.invariant.counted in
     let test = c.loop-turn-test.true in

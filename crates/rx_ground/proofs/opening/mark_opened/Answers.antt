@@ -4,7 +4,7 @@ use Rattle.rx_slots.specs.Slots.{find}
 use Rattle.rx_tree.specs.declared.node.Node.{Node}
 use Rattle.rx_event.specs.declared.marks.Marks.{Marks}
 use Rattle.rx_ground.proofs.Owing.{owed_marks-le}
-use Rattle.rx_ground.proofs.Exchanged.{opened_owes}
+use Rattle.rx_ground.proofs.ReadyToOpen.{opened_owes}
 use Rattle.rx_ground.proofs.opening.mark_opened.Goals as goal
 
 -- a node that is found has marks

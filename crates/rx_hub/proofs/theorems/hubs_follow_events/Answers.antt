@@ -1,5 +1,6 @@
 use Rattle.rx_hub.proofs.Laws.AfterAll.{hubs_follow}
-use Rattle.rx_hub.proofs.Laws.AfterCases.{hubs_same, hubs_stay, hubs_published, hubs_subscribed, hubs_connected, hubs_ended, hubs_closed, hubs_exchanged, tests_agree}
+use Rattle.rx_hub.proofs.Laws.AfterCases.{hubs_same, hubs_stay, hubs_published, hubs_subscribed, hubs_connected}
+use Rattle.rx_hub.proofs.Laws.AfterCases.{hubs_ended, hubs_closed, hubs_exchanged, tests_agree}
 use Rattle.rx_hub.proofs.Laws.AfterReady.{hubs_older, ready_to_subscribe, ready_to_exchange, ready_to_connect}
 use Rattle.rx_hub.proofs.theorems.hubs_follow_events.Goals as goal
 

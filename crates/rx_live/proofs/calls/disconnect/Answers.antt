@@ -1,5 +1,5 @@
-use Rattle.std.proofs.Common.{◌≡◌, Some, sym, ◌∙◌, refl, ℕ}
-use Rattle.rx_book.specs.Requests.{disconnect_request}
+use Rattle.std.proofs.Common.{◌≡◌, Some, ℕ, refl, sym, ◌∙◌}
+use Rattle.rx_book.specs.Requests.{Request, disconnect_request}
 use Rattle.rx_live.specs.Session.{session_of, hub_of}
 use Rattle.rx_live.proofs.Soundness.{call_ok, of_cause}
 use Rattle.rx_live.proofs.calls.disconnect.Goals as goal
@@ -7,6 +7,14 @@ use Rattle.rx_live.proofs.calls.disconnect.Goals as goal
 pub returns-clause-ok : goal.returns-clause-ok
 returns-clause-ok c =
     let s = session_of c.args.engine.now in
+    let ask : ℕ → Request = λ k. disconnect_request k in
     let found : hub_of s c.args.hub.now ≡ Some c.in-Some.number = sym c.hub_of.ensures ∙ c.in-Some.is in
-    call_ok s (λ (k : ℕ). disconnect_request k) c.in-Some.number (hub_of s c.args.hub.now) found c.disconnect-answer.new.self c.disconnect-answer.result c.answered.result
-    c.requires c.promise.ensures refl refl c.disconnect-answer.ensures.accepted (of_cause s.book (disconnect_request c.in-Some.number) c.disconnect-answer.result c.disconnect-answer.ensures.refused) c.disconnect-answer.ensures.kept c.answered.ensures.ok
+    call_ok s ask c.in-Some.number (hub_of s c.args.hub.now) found c.disconnect-answer.new.self c.disconnect-answer.result c.answered.result c.requires
+    (record {
+      kept = c.promise.ensures;
+      resources = refl;
+      leases = refl;
+      accepts = c.disconnect-answer.ensures.accepted;
+      refuses = of_cause s.book (ask c.in-Some.number) c.disconnect-answer.result c.disconnect-answer.ensures.refused;
+      same = c.disconnect-answer.ensures.kept;
+    }) c.answered.ensures.ok

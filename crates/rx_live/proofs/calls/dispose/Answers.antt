@@ -1,6 +1,6 @@
-use Rattle.std.proofs.Common.{◌≡◌, Some, sym, ◌∙◌, refl}
+use Rattle.std.proofs.Common.{◌≡◌, Some, refl, sym, ◌∙◌}
 use Rattle.rx_book.specs.declared.key.Key.{Key}
-use Rattle.rx_book.specs.Requests.{dispose_request}
+use Rattle.rx_book.specs.Requests.{Request, dispose_request}
 use Rattle.rx_live.specs.Session.{session_of, node_of}
 use Rattle.rx_live.proofs.Soundness.{call_ok, of_cause}
 use Rattle.rx_live.proofs.calls.dispose.Goals as goal
@@ -8,6 +8,13 @@ use Rattle.rx_live.proofs.calls.dispose.Goals as goal
 pub returns-clause-ok : goal.returns-clause-ok
 returns-clause-ok c =
     let s = session_of c.args.engine.now in
+    let ask : Key → Request = λ k. dispose_request s.book k in
     let found : node_of s c.args.node.now ≡ Some c.in-Some.root = sym c.node.ensures ∙ c.in-Some.is in
-    call_ok s (λ (k : Key). dispose_request c.args.engine.now.book k) c.in-Some.root (node_of s c.args.node.now) found c.dispose-answer.new.self c.dispose-answer.result c.answered.result
-    c.requires c.promise.ensures refl refl c.dispose-answer.ensures.accepted (of_cause s.book (dispose_request c.args.engine.now.book c.in-Some.root) c.dispose-answer.result c.dispose-answer.ensures.refused) c.dispose-answer.ensures.kept c.answered.ensures.ok
+    call_ok s ask c.in-Some.root (node_of s c.args.node.now) found c.dispose-answer.new.self c.dispose-answer.result c.answered.result c.requires (record {
+      kept = c.promise.ensures;
+      resources = refl;
+      leases = refl;
+      accepts = c.dispose-answer.ensures.accepted;
+      refuses = of_cause s.book (ask c.in-Some.root) c.dispose-answer.result c.dispose-answer.ensures.refused;
+      same = c.dispose-answer.ensures.kept;
+    }) c.answered.ensures.ok

@@ -8,4 +8,5 @@ loop-place-init c = rw c.in_ok-table.ensures (turns_none c.args.events.now was_r
 
 pub loop-place-preserved : goal.loop-place-preserved
 loop-place-preserved c =
-    rw (c.note.ensures, c.returned_at-key.ensures) (returned_step c.args.events.now c.loop-place.place c.loop-place.table.items (omega arith) c.loop-place.invariant)
+    rw (c.note.ensures, c.returned_at-key.ensures)
+    (returned_step c.args.events.now c.loop-place.place c.loop-place.table.items (omega arith) c.loop-place.invariant)

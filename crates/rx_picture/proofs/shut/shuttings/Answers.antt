@@ -14,7 +14,8 @@ pub loop-place-preserved : goal.loop-place-preserved
 loop-place-preserved c = record {
   shut =
       rw (c.note.ensures, c.shut_by-shut.ensures)
-      (shut_step c.args.events.now c.loop-place.place c.loop-place.table.items c.loop-place.inner.items (omega arith) c.loop-place.invariant.inner c.loop-place.invariant.shut);
+      (shut_step c.args.events.now c.loop-place.place c.loop-place.table.items c.loop-place.inner.items
+      (omega arith) c.loop-place.invariant.inner c.loop-place.invariant.shut);
   inner =
       rw (c.set_inner.ensures, c.switch_of-opened.ensures)
       (inners_step c.args.events.now c.loop-place.place c.loop-place.inner.items (omega arith) c.loop-place.invariant.inner);

@@ -18,4 +18,5 @@ returns c =
     let is = c.value_at.ensures in
     let out = c.value_at-2.ensures in
     c.is_resource_at.ensures
-    ∙ sym (left_untaken c.args.events.now c.args.ends.now c.args.taken.now c.args.n c.requires.ends c.requires.taken c.requires.within (omega arith) (omega arith))
+    ∙ sym (left_untaken c.args.events.now c.args.ends.now c.args.taken.now c.args.n c.requires.ends c.requires.taken c.requires.within
+    (omega arith) (omega arith))

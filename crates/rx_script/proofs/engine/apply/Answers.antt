@@ -16,4 +16,5 @@ returns-in-Ok g c =
 pub returns-in-Err : goal.returns-in-Err
 returns-in-Err g c =
     let bound : key_of c.args.engine.now.resources c.args.res.now ≡ Some c.in-Some.key = cc in
-    answered _ _ _ c.refused.ensures.ok (λ other. res_refused c.args.engine.now (apply_step c.args.res.now c.args.word) c.requires c.in-Some.key bound _ c.in-Err.why c.in-Err.ensures.kept c.in-Err.ensures.refused other)
+    answered _ _ _ c.refused.ensures.ok (λ other. res_refused c.args.engine.now
+    (apply_step c.args.res.now c.args.word) c.requires c.in-Some.key bound _ c.in-Err.why c.in-Err.ensures.kept c.in-Err.ensures.refused other)

@@ -16,4 +16,5 @@ returns-in-Ok g c =
 pub returns-in-Err : goal.returns-in-Err
 returns-in-Err g c =
     let bound : key_of c.args.engine.now.nodes c.args.node.now ≡ Some c.in-Some.root = cc in
-    answered _ _ _ c.refused.ensures.ok (λ other. node_refused c.args.engine.now (dispose_step c.args.node.now) c.requires c.in-Some.root bound c.dispose.new.self c.in-Err.why c.in-Err.ensures.kept (inl c.in-Err.ensures.refused) other)
+    answered _ _ _ c.refused.ensures.ok (λ other. node_refused c.args.engine.now
+    (dispose_step c.args.node.now) c.requires c.in-Some.root bound c.dispose.new.self c.in-Err.why c.in-Err.ensures.kept (inl c.in-Err.ensures.refused) other)

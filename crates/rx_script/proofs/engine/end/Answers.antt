@@ -11,9 +11,11 @@ returns-in_default g c =
 pub returns-in-Ok : goal.returns-in-Ok
 returns-in-Ok g c =
     let bound : key_of c.args.engine.now.nodes c.args.node.now ≡ Some c.in-Some.leaf = cc in
-    node_accepted c.args.engine.now (end_step c.args.node.now c.args.terminal) c.requires c.in-Some.leaf bound c.end.new.self c.promise.ensures c.in-Ok.ensures.accepted
+    node_accepted c.args.engine.now (end_step c.args.node.now c.args.terminal) c.requires
+    c.in-Some.leaf bound c.end.new.self c.promise.ensures c.in-Ok.ensures.accepted
 
 pub returns-in-Err : goal.returns-in-Err
 returns-in-Err g c =
     let bound : key_of c.args.engine.now.nodes c.args.node.now ≡ Some c.in-Some.leaf = cc in
-    answered _ _ _ c.refused.ensures.ok (λ other. node_refused c.args.engine.now (end_step c.args.node.now c.args.terminal) c.requires c.in-Some.leaf bound c.end.new.self c.in-Err.why c.in-Err.ensures.kept (inl c.in-Err.ensures.refused) other)
+    answered _ _ _ c.refused.ensures.ok (λ other. node_refused c.args.engine.now (end_step c.args.node.now c.args.terminal)
+    c.requires c.in-Some.leaf bound c.end.new.self c.in-Err.why c.in-Err.ensures.kept (inl c.in-Err.ensures.refused) other)

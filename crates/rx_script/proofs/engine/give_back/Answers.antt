@@ -17,4 +17,5 @@ returns-in-Ok g c =
 pub returns-in-Err : goal.returns-in-Err
 returns-in-Err g c =
     let bound : key_of c.args.engine.now.leases c.args.lease.now ≡ Some c.in-Some.key = cc in
-    answered _ _ _ c.refused.ensures.ok (λ other. return_refused c.args.engine.now c.args.lease.now c.requires c.in-Some.key bound _ c.in-Err.why c.in-Err.ensures.kept (inl c.in-Err.ensures.refused) other)
+    answered _ _ _ c.refused.ensures.ok (λ other. return_refused c.args.engine.now c.args.lease.now
+    c.requires c.in-Some.key bound _ c.in-Err.why c.in-Err.ensures.kept (inl c.in-Err.ensures.refused) other)

@@ -21,21 +21,26 @@ pub returns-in_default-take : goal.returns-in_default-take
 returns-in_default-take g c =
     let at : key_of c.args.engine.now.nodes c.args.node.now ≡ Some c.in-Some.key = cc in
     let free : is_some (key_of c.args.engine.now.resources (string_bytes c.args.res)) ≡ false = cc in
-    hold_stockless c.args.engine.now c.args.node.now (string_bytes c.args.res) c.requires c.in-Some.key at free c.take.new.self c.in_default-take.ensures.none.0 c.in_default-take.ensures.none.1
+    hold_stockless c.args.engine.now c.args.node.now (string_bytes c.args.res) c.requires c.in-Some.key
+    at free c.take.new.self c.in_default-take.ensures.none.0 c.in_default-take.ensures.none.1
 
 pub returns-in_ok-bind-in-Ok : goal.returns-in_ok-bind-in-Ok
 returns-in_ok-bind-in-Ok g c =
     let at : key_of c.args.engine.now.nodes c.args.node.now ≡ Some c.in-Some.key = cc in
     let free : is_some (key_of c.args.engine.now.resources (string_bytes c.args.res)) ≡ false = cc in
     let pushed : c.bind.new.self ≡ c.args.engine.now.resources ++ record { name = c.args.res; key = c.in-Ok.held } ∷ [] = c.in_ok-bind-in-Ok.ensures in
-    hold_accepted c.args.engine.now c.args.node.now (string_bytes c.args.res) c.requires c.in-Some.key at free _ c.take.new.self.wares c.in-Some-take.ensures.some
-    _ (record { name = c.args.res; key = c.in-Ok.held }) c.promise.ensures c.in-Ok.ensures.accepted c.in-Ok.ensures.ok.number c.in-Ok.ensures.ok.listed refl refl refl pushed refl refl (refl, refl)
+    hold_accepted c.args.engine.now c.args.node.now (string_bytes c.args.res)
+    c.requires c.in-Some.key at free _ c.take.new.self.wares c.in-Some-take.ensures.some
+    _ (record { name = c.args.res; key = c.in-Ok.held }) c.promise.ensures c.in-Ok.ensures.accepted
+    c.in-Ok.ensures.ok.number c.in-Ok.ensures.ok.listed refl refl refl pushed refl refl (refl, refl)
 
 pub returns-in-Err : goal.returns-in-Err
 returns-in-Err g c =
     let at : key_of c.args.engine.now.nodes c.args.node.now ≡ Some c.in-Some.key = cc in
     let free : is_some (key_of c.args.engine.now.resources (string_bytes c.args.res)) ≡ false = cc in
     let ware : g.row.R.Denot → Ware = λ r. ware_of g.R.Resource r in
-    let same = put_back ware c.args.engine.now.stock.wares c.take.new.self.wares c.put_back.new.self.wares c.in-Some-take.resource c.in-Err.unheld.back c.in-Some-take.ensures.some c.in-Err.ensures.refused.back c.put_back.ensures in
-    answered _ _ _ c.refused.ensures.ok (λ other. hold_refused c.args.engine.now c.args.node.now (string_bytes c.args.res) c.requires c.in-Some.key at free (ware c.in-Some-take.resource) c.take.new.self.wares c.in-Some-take.ensures.some
+    let same = put_back ware c.args.engine.now.stock.wares c.take.new.self.wares c.put_back.new.self.wares
+    c.in-Some-take.resource c.in-Err.unheld.back c.in-Some-take.ensures.some c.in-Err.ensures.refused.back c.put_back.ensures in
+    answered _ _ _ c.refused.ensures.ok (λ other. hold_refused c.args.engine.now c.args.node.now
+    (string_bytes c.args.res) c.requires c.in-Some.key at free (ware c.in-Some-take.resource) c.take.new.self.wares c.in-Some-take.ensures.some
     c.hold.new.self c.put_back.new.self c.in-Err.unheld.why c.in-Err.ensures.kept same c.in-Err.ensures.refused.why other)

@@ -29,5 +29,6 @@ pub returns-in-Err : goal.returns-in-Err
 returns-in-Err g c =
     let at : key_of c.args.engine.now.resources c.args.res.now ≡ Some c.in-Some.key = cc in
     let free : is_some (key_of c.args.engine.now.leases (string_bytes c.args.name)) ≡ false = cc in
-    answered _ _ _ c.refused.ensures.ok (λ other. lease_refused c.args.engine.now c.args.res.now (string_bytes c.args.name) c.requires c.in-Some.key at free _ c.in-Err.why
+    answered _ _ _ c.refused.ensures.ok
+    (λ other. lease_refused c.args.engine.now c.args.res.now (string_bytes c.args.name) c.requires c.in-Some.key at free _ c.in-Err.why
     c.in-Err.ensures.kept c.in-Err.ensures.refused other)

@@ -13,10 +13,12 @@ pub returns-in-Ok : goal.returns-in-Ok
 returns-in-Ok g c =
     let bound : key_of c.args.engine.now.nodes c.args.node.now ≡ Some c.in-Some.leaf = cc in
     let value = to_z-of_z w64 c.args.value c.ranges.value in
-    node_accepted c.args.engine.now (next_step c.args.node.now c.args.value) c.requires c.in-Some.leaf bound c.next.new.self c.promise.ensures (rw value at c.in-Ok.ensures.accepted)
+    node_accepted c.args.engine.now (next_step c.args.node.now c.args.value) c.requires c.in-Some.leaf bound c.next.new.self c.promise.ensures
+    (rw value at c.in-Ok.ensures.accepted)
 
 pub returns-in-Err : goal.returns-in-Err
 returns-in-Err g c =
     let bound : key_of c.args.engine.now.nodes c.args.node.now ≡ Some c.in-Some.leaf = cc in
     let value = to_z-of_z w64 c.args.value c.ranges.value in
-    answered _ _ _ c.refused.ensures.ok (λ other. node_refused c.args.engine.now (next_step c.args.node.now c.args.value) c.requires c.in-Some.leaf bound c.next.new.self c.in-Err.why c.in-Err.ensures.kept (rw value at c.in-Err.ensures.refused) other)
+    answered _ _ _ c.refused.ensures.ok (λ other. node_refused c.args.engine.now (next_step c.args.node.now c.args.value)
+    c.requires c.in-Some.leaf bound c.next.new.self c.in-Err.why c.in-Err.ensures.kept (rw value at c.in-Err.ensures.refused) other)

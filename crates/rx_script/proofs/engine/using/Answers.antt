@@ -18,20 +18,23 @@ pub returns-then-is_bound : goal.returns-then-is_bound
 returns-then-is_bound g c =
     let at : at_of c.args.engine.now.nodes (site_of c.args.site.now) ≡ Some c.in-Some.place = cc in
     let node_taken : is_some (key_of c.args.engine.now.nodes (string_bytes c.args.name)) ≡ true = cc in
-    using_taken c.args.engine.now (string_bytes c.args.name) (site_of c.args.site.now) (string_bytes c.args.res) c.requires c.in-Some.place at (or_left _ _ node_taken)
+    using_taken c.args.engine.now (string_bytes c.args.name) (site_of c.args.site.now)
+    (string_bytes c.args.res) c.requires c.in-Some.place at (or_left _ _ node_taken)
 
 pub returns-then-is_bound-2 : goal.returns-then-is_bound-2
 returns-then-is_bound-2 g c =
     let at : at_of c.args.engine.now.nodes (site_of c.args.site.now) ≡ Some c.in-Some.place = cc in
     let res_taken : is_some (key_of c.args.engine.now.resources (string_bytes c.args.res)) ≡ true = cc in
-    using_taken c.args.engine.now (string_bytes c.args.name) (site_of c.args.site.now) (string_bytes c.args.res) c.requires c.in-Some.place at (or_right _ _ res_taken)
+    using_taken c.args.engine.now (string_bytes c.args.name) (site_of c.args.site.now)
+    (string_bytes c.args.res) c.requires c.in-Some.place at (or_right _ _ res_taken)
 
 pub returns-in_default-take : goal.returns-in_default-take
 returns-in_default-take g c =
     let at : at_of c.args.engine.now.nodes (site_of c.args.site.now) ≡ Some c.in-Some.place = cc in
     let node_free : is_some (key_of c.args.engine.now.nodes (string_bytes c.args.name)) ≡ false = cc in
     let res_free : is_some (key_of c.args.engine.now.resources (string_bytes c.args.res)) ≡ false = cc in
-    using_stockless c.args.engine.now (string_bytes c.args.name) (site_of c.args.site.now) (string_bytes c.args.res) c.requires c.in-Some.place at (or_from _ _ node_free res_free) c.take.new.self
+    using_stockless c.args.engine.now (string_bytes c.args.name) (site_of c.args.site.now)
+    (string_bytes c.args.res) c.requires c.in-Some.place at (or_from _ _ node_free res_free) c.take.new.self
     c.in_default-take.ensures.none.0 c.in_default-take.ensures.none.1
 
 pub returns-in_ok-bind-in-Ok-2 : goal.returns-in_ok-bind-in-Ok-2
@@ -40,10 +43,14 @@ returns-in_ok-bind-in-Ok-2 g c =
     let node_free : is_some (key_of c.args.engine.now.nodes (string_bytes c.args.name)) ≡ false = cc in
     let res_free : is_some (key_of c.args.engine.now.resources (string_bytes c.args.res)) ≡ false = cc in
     let pushed : c.bind.new.self ≡ c.args.engine.now.nodes ++ record { name = c.args.name; key = c.in-Ok.opened.key } ∷ [] = c.in_ok-bind-in-Ok.ensures in
-    let res_pushed : c.bind-in-Ok.new.self ≡ c.args.engine.now.resources ++ record { name = c.args.res; key = c.in-Ok.opened.res } ∷ [] = c.in_ok-bind-in-Ok-2.ensures in
-    using_accepted c.args.engine.now (string_bytes c.args.name) (site_of c.args.site.now) (string_bytes c.args.res) c.requires c.in-Some.place at (or_from _ _ node_free res_free) _ c.take.new.self.wares c.in-Some-take.ensures.some
-    _ (record { name = c.args.name; key = c.in-Ok.opened.key }) (record { name = c.args.res; key = c.in-Ok.opened.res }) c.promise.ensures c.in-Ok.ensures.accepted
-    c.in-Ok.ensures.ok.key.number c.in-Ok.ensures.ok.key.listed refl c.in-Ok.ensures.ok.res.number c.in-Ok.ensures.ok.res.listed refl pushed refl res_pushed refl refl (refl, refl)
+    let res_pushed : c.bind-in-Ok.new.self ≡ c.args.engine.now.resources ++ record { name = c.args.res; key = c.in-Ok.opened.res } ∷ [] =
+    c.in_ok-bind-in-Ok-2.ensures in
+    using_accepted c.args.engine.now (string_bytes c.args.name) (site_of c.args.site.now)
+    (string_bytes c.args.res) c.requires c.in-Some.place at (or_from _ _ node_free res_free) _ c.take.new.self.wares c.in-Some-take.ensures.some
+    _ (record { name = c.args.name; key = c.in-Ok.opened.key })
+    (record { name = c.args.res; key = c.in-Ok.opened.res }) c.promise.ensures c.in-Ok.ensures.accepted
+    c.in-Ok.ensures.ok.key.number c.in-Ok.ensures.ok.key.listed refl c.in-Ok.ensures.ok.res.number
+    c.in-Ok.ensures.ok.res.listed refl pushed refl res_pushed refl refl (refl, refl)
 
 pub returns-in-Err : goal.returns-in-Err
 returns-in-Err g c =
@@ -51,6 +58,8 @@ returns-in-Err g c =
     let node_free : is_some (key_of c.args.engine.now.nodes (string_bytes c.args.name)) ≡ false = cc in
     let res_free : is_some (key_of c.args.engine.now.resources (string_bytes c.args.res)) ≡ false = cc in
     let ware : g.row.R.Denot → Ware = λ r. ware_of g.R.Resource r in
-    let same = put_back ware c.args.engine.now.stock.wares c.take.new.self.wares c.put_back.new.self.wares c.in-Some-take.resource c.in-Err.unheld.back c.in-Some-take.ensures.some c.in-Err.ensures.refused.back c.put_back.ensures in
-    answered _ _ _ c.refused.ensures.ok (λ other. using_refused c.args.engine.now (string_bytes c.args.name) (site_of c.args.site.now) (string_bytes c.args.res) c.requires c.in-Some.place at (or_from _ _ node_free res_free) (ware c.in-Some-take.resource) c.take.new.self.wares c.in-Some-take.ensures.some
+    let same = put_back ware c.args.engine.now.stock.wares c.take.new.self.wares c.put_back.new.self.wares
+    c.in-Some-take.resource c.in-Err.unheld.back c.in-Some-take.ensures.some c.in-Err.ensures.refused.back c.put_back.ensures in
+    answered _ _ _ c.refused.ensures.ok (λ other. using_refused c.args.engine.now (string_bytes c.args.name) (site_of c.args.site.now) (string_bytes c.args.res)
+    c.requires c.in-Some.place at (or_from _ _ node_free res_free) (ware c.in-Some-take.resource) c.take.new.self.wares c.in-Some-take.ensures.some
     c.open_using.new.self c.put_back.new.self c.in-Err.unheld.why c.in-Err.ensures.kept same c.in-Err.ensures.refused.why other)

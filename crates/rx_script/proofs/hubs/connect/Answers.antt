@@ -21,7 +21,8 @@ pub returns-in_ok-bind_connection-in-Ok : goal.returns-in_ok-bind_connection-in-
 returns-in_ok-bind_connection-in-Ok g c =
     let at : key_of c.args.engine.now.hubs c.args.hub.now ≡ Some c.in-Some.number = cc in
     let free : is_taken c.args.engine.now.nodes (option_map string_bytes c.args.name) ≡ false = cc in
-    let named_on : c.bind_connection.new.nodes ≡ with_named c.args.engine.now.nodes c.args.name (Some c.in-Ok.connection) = c.in_ok-bind_connection-in-Ok.ensures in
+    let named_on : c.bind_connection.new.nodes ≡ with_named c.args.engine.now.nodes c.args.name (Some c.in-Ok.connection) =
+    c.in_ok-bind_connection-in-Ok.ensures in
     connect_accepted c.args.engine.now c.args.hub.now c.args.name c.requires c.in-Some.number at free
     _ c.in-Ok.connection c.promise.ensures c.in-Ok.ensures.accepted c.in-Ok.ensures.ok named_on refl refl refl refl (refl, refl)
 
@@ -29,4 +30,5 @@ pub returns-in-Err : goal.returns-in-Err
 returns-in-Err g c =
     let at : key_of c.args.engine.now.hubs c.args.hub.now ≡ Some c.in-Some.number = cc in
     let free : is_taken c.args.engine.now.nodes (option_map string_bytes c.args.name) ≡ false = cc in
-    answered _ _ _ c.refused.ensures.ok (λ other. connect_refused c.args.engine.now c.args.hub.now c.args.name c.requires c.in-Some.number at free _ c.in-Err.why c.in-Err.ensures.kept c.in-Err.ensures.refused other)
+    answered _ _ _ c.refused.ensures.ok (λ other. connect_refused c.args.engine.now c.args.hub.now c.args.name
+    c.requires c.in-Some.number at free _ c.in-Err.why c.in-Err.ensures.kept c.in-Err.ensures.refused other)

@@ -17,4 +17,5 @@ returns-in-Ok g c =
 pub returns-in-Err : goal.returns-in-Err
 returns-in-Err g c =
     let bound : key_of c.args.engine.now.hubs c.args.hub.now ≡ Some c.in-Some.number = cc in
-    answered _ _ _ c.refused.ensures.ok (λ other. disconnect_refused c.args.engine.now c.args.hub.now c.requires c.in-Some.number bound _ c.in-Err.why c.in-Err.ensures.kept (inl c.in-Err.ensures.refused) other)
+    answered _ _ _ c.refused.ensures.ok (λ other. disconnect_refused c.args.engine.now c.args.hub.now
+    c.requires c.in-Some.number bound _ c.in-Err.why c.in-Err.ensures.kept (inl c.in-Err.ensures.refused) other)

@@ -15,9 +15,11 @@ returns-in_ok-bind-in-Ok g c =
     let free : is_some (key_of c.args.engine.now.hubs (string_bytes c.args.name)) ≡ false = cc in
     let pushed : c.bind.new.self ≡ c.args.engine.now.hubs ++ record { name = c.args.name; key = c.in-Ok.number } ∷ [] = c.in_ok-bind-in-Ok.ensures in
     hub_accepted c.args.engine.now (string_bytes c.args.name) c.args.mode c.requires free
-    _ (record { name = c.args.name; key = c.in-Ok.number }) c.promise.ensures c.in-Ok.ensures.accepted c.in-Ok.ensures.ok refl refl pushed refl refl refl (refl, refl)
+    _ (record { name = c.args.name; key = c.in-Ok.number }) c.promise.ensures
+    c.in-Ok.ensures.accepted c.in-Ok.ensures.ok refl refl pushed refl refl refl (refl, refl)
 
 pub returns-in-Err : goal.returns-in-Err
 returns-in-Err g c =
     let free : is_some (key_of c.args.engine.now.hubs (string_bytes c.args.name)) ≡ false = cc in
-    answered _ _ _ c.refused.ensures.ok (λ other. hub_refused c.args.engine.now (string_bytes c.args.name) c.args.mode c.requires free _ c.in-Err.why c.in-Err.ensures.kept c.in-Err.ensures.refused other)
+    answered _ _ _ c.refused.ensures.ok (λ other.
+    hub_refused c.args.engine.now (string_bytes c.args.name) c.args.mode c.requires free _ c.in-Err.why c.in-Err.ensures.kept c.in-Err.ensures.refused other)

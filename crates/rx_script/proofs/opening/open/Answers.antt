@@ -25,7 +25,8 @@ returns-then-is_bound g c =
     let at : at_of c.args.engine.now.nodes (site_of c.args.site.now) ≡ Some c.in-Some.place = cc in
     let is : kind_of c.args.engine.now.hubs (sort_of c.args.sort) ≡ Some c.in-Some-kind_of.kind = cc in
     let taken : is_some (key_of c.args.engine.now.nodes (string_bytes c.args.name)) ≡ true = cc in
-    open_taken c.args.engine.now (string_bytes c.args.name) (site_of c.args.site.now) (sort_of c.args.sort) c.requires c.in-Some.place at c.in-Some-kind_of.kind is taken
+    open_taken c.args.engine.now (string_bytes c.args.name) (site_of c.args.site.now)
+    (sort_of c.args.sort) c.requires c.in-Some.place at c.in-Some-kind_of.kind is taken
 
 pub returns-then-is_taken_beside : goal.returns-then-is_taken_beside
 returns-then-is_taken_beside g c =
@@ -33,14 +34,17 @@ returns-then-is_taken_beside g c =
     let is : kind_of c.args.engine.now.hubs (sort_of c.args.sort) ≡ Some c.in-Some-kind_of.kind = cc in
     let free : is_some (key_of c.args.engine.now.nodes (string_bytes c.args.name)) ≡ false = cc in
     let taken : is_taken_beside c.args.engine.now.nodes (string_bytes c.args.name) (connection_name (sort_of c.args.sort)) ≡ true = cc in
-    open_taken_beside c.args.engine.now (string_bytes c.args.name) (site_of c.args.site.now) (sort_of c.args.sort) c.requires c.in-Some.place at c.in-Some-kind_of.kind is free taken
+    open_taken_beside c.args.engine.now (string_bytes c.args.name) (site_of c.args.site.now)
+    (sort_of c.args.sort) c.requires c.in-Some.place at c.in-Some-kind_of.kind is free taken
 
 pub bind_connection-requires : goal.bind_connection-requires
 bind_connection-requires g c =
     let free : is_some (key_of c.args.engine.now.nodes (string_bytes c.args.name)) ≡ false = cc in
-    let beside : is_taken_beside c.args.engine.now.nodes (string_bytes c.args.name) (option_map string_bytes c.connection_name-connection.result) ≡ false = cc in
+    let beside : is_taken_beside c.args.engine.now.nodes (string_bytes c.args.name)
+    (option_map string_bytes c.connection_name-connection.result) ≡ false = cc in
     let pushed : c.bind.new.self ≡ c.args.engine.now.nodes ++ record { name = c.args.name; key = c.in-Ok.opened.key } ∷ [] = c.in_ok-bind-in-Ok.ensures in
-    free_behind c.args.engine.now.nodes c.bind.new.self (record { name = c.args.name; key = c.in-Ok.opened.key }) (option_map string_bytes c.connection_name-connection.result) pushed free beside
+    free_behind c.args.engine.now.nodes c.bind.new.self (record { name = c.args.name; key = c.in-Ok.opened.key })
+    (option_map string_bytes c.connection_name-connection.result) pushed free beside
 
 pub returns-in_ok-bind_connection-in-Ok : goal.returns-in_ok-bind_connection-in-Ok
 returns-in_ok-bind_connection-in-Ok g c =
@@ -49,8 +53,10 @@ returns-in_ok-bind_connection-in-Ok g c =
     let free : is_some (key_of c.args.engine.now.nodes (string_bytes c.args.name)) ≡ false = cc in
     let beside : is_taken_beside c.args.engine.now.nodes (string_bytes c.args.name) (connection_name (sort_of c.args.sort)) ≡ false = cc in
     let pushed : c.bind.new.self ≡ c.args.engine.now.nodes ++ record { name = c.args.name; key = c.in-Ok.opened.key } ∷ [] = c.in_ok-bind-in-Ok.ensures in
-    let named_on : c.bind_connection.new.nodes ≡ with_named c.bind.new.self c.connection_name-connection.result c.in-Ok.opened.connected = c.in_ok-bind_connection-in-Ok.ensures in
-    open_accepted c.args.engine.now (string_bytes c.args.name) (site_of c.args.site.now) (sort_of c.args.sort) c.requires c.in-Some.place at c.in-Some-kind_of.kind is free beside
+    let named_on : c.bind_connection.new.nodes ≡ with_named c.bind.new.self c.connection_name-connection.result c.in-Ok.opened.connected =
+    c.in_ok-bind_connection-in-Ok.ensures in
+    open_accepted c.args.engine.now (string_bytes c.args.name) (site_of c.args.site.now)
+    (sort_of c.args.sort) c.requires c.in-Some.place at c.in-Some-kind_of.kind is free beside
     _ (record { name = c.args.name; key = c.in-Ok.opened.key }) c.bind.new.self c.connection_name-connection.result c.in-Ok.opened.connected
     pushed named_on refl c.connection_name-connection.ensures c.in-Ok.ensures.ok
     c.promise.ensures c.in-Ok.ensures.accepted refl refl refl refl (refl, refl)
@@ -62,5 +68,6 @@ returns-in-Err g c =
     let free : is_some (key_of c.args.engine.now.nodes (string_bytes c.args.name)) ≡ false = cc in
     let beside : is_taken_beside c.args.engine.now.nodes (string_bytes c.args.name) (connection_name (sort_of c.args.sort)) ≡ false = cc in
     answered _ _ _ c.refused.ensures.ok
-    (λ other. open_refused c.args.engine.now (string_bytes c.args.name) (site_of c.args.site.now) (sort_of c.args.sort) c.requires c.in-Some.place at c.in-Some-kind_of.kind is free beside
+    (λ other. open_refused c.args.engine.now (string_bytes c.args.name) (site_of c.args.site.now)
+    (sort_of c.args.sort) c.requires c.in-Some.place at c.in-Some-kind_of.kind is free beside
     c.open.new.self c.in-Err.why c.in-Err.ensures.kept c.in-Err.ensures.refused other)

@@ -21,6 +21,7 @@ returns-then-contains g c =
     let found = c.contains.ensures.0 c.if-contains.true in
     let number = stored_number cells count key entry kept found read in
     rw (← c.self.view_is) (
-      same_loan _ (λ w. shown (lent cells key.slot (record entry { value = w })) count) (λ w. with_value (shown cells count) key w) (λ w. shown-with_value cells count key entry w kept read number),
+      same_loan _ (λ w. shown (lent cells key.slot (record entry { value = w })) count) (λ w. with_value (shown cells count) key w)
+          (λ w. shown-with_value cells count key entry w kept read number),
       record { writes_back = tt; value = sym (find-stored cells count key entry kept found read) },
     )

@@ -12,7 +12,9 @@ use Rattle.rx_slots.proofs.Slots.insert.Goals as goal
 pub returns-clause-was_free : goal.returns-clause-was_free
 returns-clause-was_free g c =
     let slot = c.insert_reserved-slot.result in
-    rw (← c.self.view_is) (get_or-table c.self.inside.cells c.self.inside.slot_count slot c.self.invariant ∙ sym (ap (λ s. get s slot) c.reserve.ensures.rest_kept) ∙ c.insert_reserved-slot.ensures.was_vacant)
+    rw (← c.self.view_is) (get_or-table c.self.inside.cells c.self.inside.slot_count slot c.self.invariant ∙
+    sym (ap (λ s. get s slot) c.reserve.ensures.rest_kept) ∙
+    c.insert_reserved-slot.ensures.was_vacant)
 
 pub returns-clause-placed : goal.returns-clause-placed
 returns-clause-placed g c =

@@ -13,14 +13,17 @@ remove-value-requires g c =
 pub returns-clause-value : goal.returns-clause-value
 returns-clause-value g c =
     let found = rw (← c.self.view_is) at (c.contains.ensures.0 c.if-not-contains.false) in
-    rw (← c.self.view_is) (sym (find-stored c.self.inside.cells c.self.inside.slot_count c.args.key c.remove-value.result c.self.invariant found c.remove-value.ensures.value))
+    rw (← c.self.view_is)
+    (sym (find-stored c.self.inside.cells c.self.inside.slot_count c.args.key c.remove-value.result c.self.invariant found c.remove-value.ensures.value))
 
 pub returns-clause-removed : goal.returns-clause-removed
 returns-clause-removed g c =
     let at = found_entry c.args.self.now c.args.key (c.contains.ensures.0 c.if-not-contains.false) in
     let is = ap (λ s. s.entries) c.self.view_is in
-    let within : c.args.key.slot < c.self.inside.slot_count = rw (← length-table c.self.inside.cells c.self.inside.slot_count, is) (within_count c.args.self.now c.args.key.slot at.0 at.1) in
-    table-update _ _ c.self.inside.slot_count c.args.key.slot None c.self.invariant c.remove-value.ensures.updates within ∙ ap (λ es. set es c.args.key.slot None) is
+    let within : c.args.key.slot < c.self.inside.slot_count =
+    rw (← length-table c.self.inside.cells c.self.inside.slot_count, is) (within_count c.args.self.now c.args.key.slot at.0 at.1) in
+    table-update _ _ c.self.inside.slot_count c.args.key.slot None c.self.invariant c.remove-value.ensures.updates within ∙
+    ap (λ es. set es c.args.key.slot None) is
 
 pub returns-clause-changes : goal.returns-clause-changes
 returns-clause-changes g c =

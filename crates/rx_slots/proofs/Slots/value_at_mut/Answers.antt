@@ -24,6 +24,7 @@ returns-then-is_some g c =
     let read = c.index_mut.ensures.value in
     let seen = entry_at-stored cells count slot entry kept read in
     rw (← c.self.view_is) (
-      same_loan _ (λ w. shown (lent cells slot (record entry { value = w })) count) (λ w. with_value_at (shown cells count) slot w) (λ w. shown-with_value_at cells count slot entry w kept read),
+      same_loan _ (λ w. shown (lent cells slot (record entry { value = w })) count) (λ w. with_value_at (shown cells count) slot w)
+          (λ w. shown-with_value_at cells count slot entry w kept read),
       record { writes_back = tt; value = rw seen refl },
     )

@@ -32,11 +32,16 @@ pub returns-clause-none_out : goal.returns-clause-none_out
 returns-clause-none_out g c = (closed g (goal.at.returns-clause-none_out g c).After-promise-2).2
 
 pub returns-clause-accepted : goal.returns-clause-accepted
-returns-clause-accepted g c = ap (λ (b : Kept). accepted_count b c.release_waiting-closed.new.self.history) c.release_waiting-closed.ensures.continues.base ∙ takes_accepted _ c.release_waiting-closed.ensures.drains.takes ∙ c.disconnect_hubs.ensures.accepted ∙ c.dispose_roots.ensures.accepted ∙ c.return_leases.ensures.accepted
+returns-clause-accepted g c =
+    let d = c.release_waiting-closed.ensures in
+    ap (λ (b : Kept). accepted_count b c.release_waiting-closed.new.self.history) d.continues.base ∙ takes_accepted _ d.drains.takes ∙
+    c.disconnect_hubs.ensures.accepted ∙ c.dispose_roots.ensures.accepted ∙ c.return_leases.ensures.accepted
 
 pub returns-clause-released : goal.returns-clause-released
 returns-clause-released g c =
     let held = (closed g (goal.at.returns-clause-released g c).After-promise-2).1 in
-    closed_released c.args.self.now c.disconnect_hubs.new.self c.release_waiting-closed.new.self c.release_waiting-closed.result.released c.release_waiting-closed.ensures.continues.base c.promise.ensures
-    (c.disconnect_hubs.ensures.accepted ∙ c.dispose_roots.ensures.accepted ∙ c.return_leases.ensures.accepted) (c.disconnect_hubs.ensures.taken ∙ c.dispose_roots.ensures.taken ∙ c.return_leases.ensures.taken)
-    c.release_waiting-closed.ensures.drains.takes c.promise-2.ensures held c.release_waiting-closed.ensures.none_waits c.release_waiting-closed.ensures.released
+    let d = c.release_waiting-closed.ensures in
+    let accepted = c.disconnect_hubs.ensures.accepted ∙ c.dispose_roots.ensures.accepted ∙ c.return_leases.ensures.accepted in
+    let taken = c.disconnect_hubs.ensures.taken ∙ c.dispose_roots.ensures.taken ∙ c.return_leases.ensures.taken in
+    closed_released c.args.self.now c.disconnect_hubs.new.self c.release_waiting-closed.new.self c.release_waiting-closed.result.released d.continues.base
+    c.promise.ensures accepted taken d.drains.takes c.promise-2.ensures held d.none_waits d.released

@@ -1,11 +1,8 @@
-use Rattle.std.proofs.Common.{◌≡◌, ◌==◌, ◌+◌, List, ◌∷◌, [], ◌++◌, length, is_some, refl, sym, ap, subst, ◌∙◌, arith, length-append}
+use Rattle.std.proofs.Common.{◌≡◌, ◌+◌, List, ◌∷◌, [], ◌++◌, length, is_some, refl, sym, ap, subst, ◌∙◌, arith, length-append}
 use Rattle.std.specs.Prelude.{Ok}
-use Rattle.std.proofs.lemmas.Bool.{not-false, and_parts, eqb-true}
-use Rattle.rx_event.specs.declared.refusal.Refusal.TheVariants.{NotFresh}
 use Rattle.rx_event.specs.declared.event.Kind.TheVariants.{Pass}
 use Rattle.rx_event.specs.declared.event.Event.{Event}
 use Rattle.rx_event.specs.declared.event.Event.TheVariants.{Open, Accept}
-use Rattle.rx_event.specs.Calls.{OpeningUsing}
 use Rattle.rx_event.specs.Kept.{Kept}
 use Rattle.rx_event.specs.Resources.{accepted_by}
 use Rattle.rx_event.proofs.Laws.Lawful.{IsLawful-push}
@@ -13,130 +10,86 @@ use Rattle.rx_event.proofs.Laws.Resources.{accepted_by_new}
 use Rattle.rx_event.proofs.Laws.StaysOpen.{opened_using_stays}
 use Rattle.rx_slots.specs.Slots.{Slots, find}
 use Rattle.rx_tree.specs.declared.node.Node.{Node}
-use Rattle.rx_register.specs.Causes.{causes, end_at}
 use Rattle.rx_register.specs.State.{State as Register, Writes}
 use Rattle.rx_register.proofs.Laws.Paid.{Writes-append}
-use Rattle.rx_register.proofs.Laws.NoCause.{no_cause}
 use Rattle.rx_ground.specs.Ties.{IsReady}
 use Rattle.rx_ground.proofs.Laws.KeysKept.{leases_stay, keeps_on, keeps_held, keeps_opened}
 use Rattle.rx_book.specs.State.{State}
-use Rattle.rx_book.specs.Requests.{using_request, stands, place_of, is_fresh_in, is_live}
+use Rattle.rx_book.specs.Requests.{using_request, place_of}
 use Rattle.rx_book.specs.Answers.{AnswersOpenedUsing}
 use Rattle.rx_book.specs.Shown.{state_of}
+use Rattle.rx_book.specs.Steps.{IsLetIn}
 use Rattle.rx_book.proofs.ShownKeys.{is_known_place_is}
 use Rattle.rx_book.proofs.Answered.{answers_ok, answers_err}
-use Rattle.rx_book.proofs.CausesByKey.{first_by_place, refused_for}
-use Rattle.rx_book.proofs.Called.{IsLetIn, within_full, let_in_roomy, state_roomier, known, first_ready, second_ready, pays, connects_none, accepts}
+use Rattle.rx_book.proofs.Called.{known, first_ready, second_ready, fresh_asked, live_fresh, unused_fresh, pays, connects_none, accepts}
 use Rattle.rx_book.proofs.Openings.{placed_at}
 use Rattle.rx_book.proofs.Listed.{key_listed, res_key_listed}
 use Rattle.rx_book.proofs.book.Book.open_using.Given as given
 use Rattle.rx_book.proofs.book.Book.open_using.Goals as goal
-use Rattle.rx_book.proofs.book.Book.open_using.Goals.{After-promise}
+use Rattle.rx_book.proofs.book.Book.open_using.Goals.{In_default}
 
 pub returns-in-Err : goal.returns-in-Err
 returns-in-Err g c =
-    let b = c.self.inside.ground in
-    let s = state_of g.R.Resource b in
-    let asked = using_request g.R.Resource s c.args.at c.args.resource in
-    let stand = causes b.register.base b.register.history b.register.limit asked.is_fresh asked.call in
-    let cause = c.using_cause-cause.result in
-    let first = first_by_place b.tree stand cause c.args.at
-    (rw (c.spot_of-spot.ensures.place, c.spot_of-spot.ensures.above, c.tag-tag.ensures, c.is_fresh-fresh.ensures) at c.using_cause-cause.ensures) in
-    let why = refused_for (stands s asked) cause c.in-Err.why first c.in-Err.ensures.err in
-    rw (← c.self.view_is) (answers_err (record { why = why; back = refl }) (state_roomier g.R.Resource b c.admit.new.ground c.in-Err.ensures.kept))
+    let why = rw (c.tag-tag.ensures, c.is_fresh-fresh.ensures) at c.in-Err.ensures.err in
+    rw (← c.self.view_is) (answers_err (record { why = why; back = refl }) c.in-Err.ensures.same)
 
-pub admit-requires-clause-within : goal.admit-requires-clause-within
-admit-requires-clause-within g c κs within = λ none.
-    let b = c.self.inside.ground in
-    let asked = using_request g.R.Resource (state_of g.R.Resource b) c.args.at c.args.resource in
-    let stand = causes b.register.base b.register.history b.register.limit asked.is_fresh asked.call in
-    let first = first_by_place b.tree stand c.using_cause-cause.result c.args.at
-    (rw (c.spot_of-spot.ensures.place, c.spot_of-spot.ensures.above, c.tag-tag.ensures, c.is_fresh-fresh.ensures) at c.using_cause-cause.ensures) in
-    let within = within_full b.register.base asked.call _ asked.is_fresh b.register.history b.register.limit refl (first ∙ none) in
-    let end = c.end_at-end.ensures ∙ ap end_at c.spot_of-spot.ensures.place in
-    omega arith
-
-called : (g : given.Over) (c : After-promise g) → (let b = c.admit.new.ground in IsLetIn g.R.Resource b (using_request g.R.Resource (state_of g.R.Resource b) c.args.at c.args.resource))
-called g c =
-    let R = g.R.Resource in
-    let old = c.self.inside.ground in
-    let b = c.admit.new.ground in
-    let asked = λ (s : State). using_request R s c.args.at c.args.resource in
-    let stand = causes old.register.base old.register.history old.register.limit (asked (state_of R old)).is_fresh
-    (OpeningUsing (place_of c.args.at) (R.tag_of c.args.resource)) in
-    let cause = c.using_cause-cause.result in
-    let first = first_by_place old.tree stand cause c.args.at
-    (rw (c.spot_of-spot.ensures.place, c.spot_of-spot.ensures.above, c.tag-tag.ensures, c.is_fresh-fresh.ensures) at c.using_cause-cause.ensures) in
-    let a = c.in_default.ensures in
-    let end = c.end_at-end.ensures ∙ ap end_at c.spot_of-spot.ensures.place in
-    let_in_roomy R old b asked _ a.kept a.standing c.promise.ensures.register (first ∙ a.none) tt a.ok (omega arith) (omega arith)
+called : (g : given.Over) (c : In_default g) → (let b = c.admit.new.ground in IsLetIn g.R.Resource b (using_request g.R.Resource (state_of g.R.Resource b) c.args.at c.args.resource))
+called g c = rw (c.tag-tag.ensures, c.is_fresh-fresh.ensures) at c.in_default.ensures.ok.let_in
 
 -- the opening may be written
-opens : (g : given.Over) (c : After-promise g) → (let b = c.admit.new.ground in IsReady b.register (Open (place_of c.args.at) Pass))
+opens : (g : given.Over) (c : In_default g) → (let b = c.admit.new.ground in IsReady b.register (Open (place_of c.args.at) Pass))
 opens g c =
-    let R = g.R.Resource in
     let b = c.admit.new.ground in
-    let l = called g c in
-    first_ready R b _ l (Open (place_of c.args.at) Pass) (Accept (length b.register.history) (R.tag_of c.args.resource)) refl refl
-
-pub write_open-node-requires-clause-ready : goal.write_open-node-requires-clause-ready
-write_open-node-requires-clause-ready g c κs within = rw c.spot_of-spot.ensures.place
-    (opens g (goal.at.write_open-node-requires-clause-ready g c).After-promise)
-
-pub write_open-node-requires-clause-placed : goal.write_open-node-requires-clause-placed
-write_open-node-requires-clause-placed g c κs within =
-    let b = c.admit.new.ground in
-    let l = called g (goal.at.write_open-node-requires-clause-placed g c).After-promise in
-    let there = sym (is_known_place_is b.tree c.args.at) ∙ known g.R.Resource b _ l in
-    rw (c.spot_of-spot.ensures.place, c.spot_of-spot.ensures.above) (placed_at b.register.base g.R.Resource b.register.history b.tree l.standing.tied.of_tree Pass c.args.at there)
+    first_ready g.R.Resource b _ (called g c) (Open (place_of c.args.at) Pass) (Accept (length b.register.history) (g.R.Resource.tag_of c.args.resource)) refl refl
 
 -- and then the acceptance
-holds : (g : given.Over) (c : After-promise g) (mid : Register) → (let b = c.admit.new.ground in Writes b.register (Open (place_of c.args.at) Pass ∷ []) mid →
+holds : (g : given.Over) (c : In_default g) (mid : Register) → (let b = c.admit.new.ground in Writes b.register (Open (place_of c.args.at) Pass ∷ []) mid →
     IsReady mid (Accept (length b.register.history) (g.R.Resource.tag_of c.args.resource)))
 holds g c mid w =
     let b = c.admit.new.ground in
     second_ready g.R.Resource b _ (called g c) (Open (place_of c.args.at) Pass) (Accept (length b.register.history) (g.R.Resource.tag_of c.args.resource)) mid
     refl w refl
 
+pub write_open-node-requires-clause-ready : goal.write_open-node-requires-clause-ready
+write_open-node-requires-clause-ready g c κs within = rw c.spot_of-spot.ensures.place (opens g (goal.at.write_open-node-requires-clause-ready g c).In_default)
+
+pub write_open-node-requires-clause-placed : goal.write_open-node-requires-clause-placed
+write_open-node-requires-clause-placed g c κs within =
+    let b = c.admit.new.ground in
+    let l = called g (goal.at.write_open-node-requires-clause-placed g c).In_default in
+    let there = sym (is_known_place_is b.tree c.args.at) ∙ known g.R.Resource b _ l in
+    rw (c.spot_of-spot.ensures.place, c.spot_of-spot.ensures.above) (placed_at b.register.base g.R.Resource b.register.history b.tree l.standing.tied.of_tree Pass c.args.at there)
+
+pub write_accept-res-requires-clause-live : goal.write_accept-res-requires-clause-live
+write_accept-res-requires-clause-live g c κs within =
+    let l = called g (goal.at.write_accept-res-requires-clause-live g c).In_default in
+    live_fresh g.R.Resource c.args.resource (fresh_asked g.R.Resource c.admit.new.ground _ l refl)
+
 pub write_accept-res-requires-clause-unused : goal.write_accept-res-requires-clause-unused
 write_accept-res-requires-clause-unused g c κs within =
-    let R = g.R.Resource in
-    let l = called g (goal.at.write_accept-res-requires-clause-unused g c).After-promise in
-    let b = c.admit.new.ground in
-    let stand = causes b.register.base b.register.history b.register.limit (is_fresh_in R c.args.resource)
-    (OpeningUsing (place_of c.args.at) (R.tag_of c.args.resource)) in
-    let stale = no_cause stand l.may.no_cause NotFresh in
-    let fresh = not-false (is_fresh_in R c.args.resource) stale in
-    eqb-true (R.uses_of c.args.resource) 0 (and_parts (is_live (R.life_of c.args.resource)) (R.uses_of c.args.resource == 0) fresh).1
+    let l = called g (goal.at.write_accept-res-requires-clause-unused g c).In_default in
+    unused_fresh g.R.Resource c.args.resource (fresh_asked g.R.Resource c.admit.new.ground _ l refl)
 
 pub write_accept-res-requires-clause-ready : goal.write_accept-res-requires-clause-ready
 write_accept-res-requires-clause-ready g c κs within =
-    rw c.write_open-node.ensures.new.numbered (holds g (goal.at.write_accept-res-requires-clause-ready g c).After-promise c.write_open-node.new.self.register
+    rw c.write_open-node.ensures.new.numbered (holds g (goal.at.write_accept-res-requires-clause-ready g c).In_default c.write_open-node.new.self.register
     (rw c.spot_of-spot.ensures.place at c.write_open-node.ensures.written))
 
 pub settle-requires-clause-paid : goal.settle-requires-clause-paid
 settle-requires-clause-paid g c κs within =
     let b = c.admit.new.ground in
-    let mid = c.write_open-node.new.self.register in
-    let last = c.write_accept-res.new.self.register in
-    let e = Open (place_of c.args.at) Pass in
-    let f = Accept (length b.register.history) (g.R.Resource.tag_of c.args.resource) in
+    let l = called g (goal.at.settle-requires-clause-paid g c).In_default in
     let w = rw c.spot_of-spot.ensures.place at c.write_open-node.ensures.written in
     let v = rw c.write_open-node.ensures.new.numbered at c.write_accept-res.ensures.written in
-    let l = called g (goal.at.settle-requires-clause-paid g c).After-promise in
-    pays g.R.Resource b _ l last (Writes-append b.register mid last (e ∷ []) (f ∷ []) w v)
+    pays g.R.Resource b _ l c.write_accept-res.new.self.register (Writes-append b.register c.write_open-node.new.self.register _ _ _ w v)
 
 pub settle-requires-clause-room : goal.settle-requires-clause-room
 settle-requires-clause-room g c κs within =
     let b = c.admit.new.ground in
-    let mid = c.write_open-node.new.self.register in
-    let last = c.write_accept-res.new.self.register in
-    let e = Open (place_of c.args.at) Pass in
-    let f = Accept (length b.register.history) (g.R.Resource.tag_of c.args.resource) in
+    let l = called g (goal.at.settle-requires-clause-room g c).In_default in
     let w = rw c.spot_of-spot.ensures.place at c.write_open-node.ensures.written in
     let v = rw c.write_open-node.ensures.new.numbered at c.write_accept-res.ensures.written in
-    let l = called g (goal.at.settle-requires-clause-room g c).After-promise in
-    connects_none g.R.Resource b _ l last (Writes-append b.register mid last (e ∷ []) (f ∷ []) w v) refl
+    connects_none g.R.Resource b _ l c.write_accept-res.new.self.register (Writes-append b.register c.write_open-node.new.self.register _ _ _ w v) refl
 
 pub returns : goal.returns
 returns g c =
@@ -153,7 +106,7 @@ returns g c =
     let s = c.settle.ensures in
     let w = rw c.spot_of-spot.ensures.place at o.written in
     let v = rw o.new.numbered at a.written in
-    let p = (goal.at.returns g c).After-promise in
+    let p = (goal.at.returns g c).In_default in
     let l = called g p in
     let longer : length mid.register.history ≡ length h + 1 = ap (λ (k : List Event). length k) w.history ∙ length-append h (e ∷ []) in
     let opened = keeps_opened b.register.base R h b.tree mid.tree c.write_open-node.result l.may.lawful l.standing.tied.of_tree o.new o.resources in
@@ -171,7 +124,6 @@ returns g c =
     ap (λ (k : List Event). accepted_by b.register.base k (length h + 1)) grown ∙ at_last in
     let res = res_key_listed R last new s.nodes (length h + 1) a.tied.of_tree c.write_accept-res.result c.shown_res_key.result c.shown_res_key.ensures
     s.resources (a.number ∙ longer) a.held (length h) (R.tag_of c.args.resource) accepted alive in
-    let same = state_roomier R c.self.inside.ground b c.admit.ensures.kept in
     subst (λ (x : State). AnswersOpenedUsing x (using_request R x c.args.at c.args.resource) c.args.resource (state_of R new)
-    (Ok (record { key = c.shown_key.result; res = c.shown_res_key.result }))) (same ∙ c.self.view_is)
+    (Ok (record { key = c.shown_key.result; res = c.shown_res_key.result }))) (c.admit.ensures.same ∙ c.self.view_is)
     (answers_ok (record { key = key; res = res }) done)

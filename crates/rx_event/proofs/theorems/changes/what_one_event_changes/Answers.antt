@@ -18,7 +18,8 @@ use Rattle.rx_event.proofs.Laws.Debt.{debt-accept, debt-use, debt-remove, debt-l
 use Rattle.rx_event.proofs.Laws.Debt.{debt_falls-close, debt-take}
 use Rattle.rx_event.proofs.Laws.MarksNew.{marks-new}
 use Rattle.rx_event.proofs.Laws.MarksEnds.{marks_closed}
-use Rattle.rx_event.proofs.Laws.MarksTouched.{marks_untouched, marks-source_at, marks-notifier_at, marks-inner_at_flat, marks-inner_at_first, marks-inner_at_next, marks-item_at, marks-decline_at, marks-end_at}
+use Rattle.rx_event.proofs.Laws.MarksTouched.{marks_untouched, marks-source_at, marks-notifier_at, marks-inner_at_flat, marks-inner_at_first}
+use Rattle.rx_event.proofs.Laws.MarksTouched.{marks-inner_at_next, marks-item_at, marks-decline_at, marks-end_at}
 use Rattle.rx_event.proofs.theorems.changes.what_one_event_changes.Goals as goal
 
 pub returns-clause-nodes : goal.returns-clause-nodes

@@ -37,7 +37,10 @@ returns-clause-some g c =
     let switches : at is_switch h c.args.switch.number ≡ true = rw (← c.self.view_is) at c.requires.switches in
     let x = made_found (find tree.nodes c.in_ok-first.first) c.in_ok-made.made (sym c.made.ensures ∙ c.in_ok-made.was) in
     let not_inner = ap (λ (e : Event). is_some (inner_named e)) x.2 ∙ ap is_some (sym c.inner_of.ensures) ∙ sym c.is_some.ensures ∙ c.if-is_some.false in
-    rw (← c.self.view_is) (if_some_by c.next_sibling.result _ (IsInner h tree.nodes c.args.switch.number) (λ next younger. inner_next c.self.inside.register.base h c.promise.ensures.lawful tree.nodes tree.chain tied.records c.args.switch there switches c.in_ok-first.first x.0 c.in_ok-first.ensures.some x.1 not_inner next (younger c.args.switch c.in_ok-first.ensures.some.one)) c.next_sibling.ensures.some)
+    rw (← c.self.view_is) (if_some_by c.next_sibling.result _ (IsInner h tree.nodes c.args.switch.number)
+    (λ next younger. inner_next c.self.inside.register.base h c.promise.ensures.lawful tree.nodes tree.chain tied.records c.args.switch there
+    switches c.in_ok-first.first x.0 c.in_ok-first.ensures.some x.1 not_inner next
+    (younger c.args.switch c.in_ok-first.ensures.some.one)) c.next_sibling.ensures.some)
 
 pub returns-clause-none : goal.returns-clause-none
 returns-clause-none g c =
@@ -48,4 +51,6 @@ returns-clause-none g c =
     let switches : at is_switch h c.args.switch.number ≡ true = rw (← c.self.view_is) at c.requires.switches in
     let x = made_found (find tree.nodes c.in_ok-first.first) c.in_ok-made.made (sym c.made.ensures ∙ c.in_ok-made.was) in
     let not_inner = ap (λ (e : Event). is_some (inner_named e)) x.2 ∙ ap is_some (sym c.inner_of.ensures) ∙ sym c.is_some.ensures ∙ c.if-is_some.false in
-    rw (← c.self.view_is) (if_none_by c.next_sibling.result _ (HasNoInner h c.args.switch.number) (λ none. no_next c.self.inside.register.base h c.promise.ensures.lawful tree.nodes tree.chain tied.records c.args.switch there switches c.in_ok-first.first x.0 c.in_ok-first.ensures.some x.1 not_inner (none c.args.switch c.in_ok-first.ensures.some.one)) c.next_sibling.ensures.none)
+    rw (← c.self.view_is) (if_none_by c.next_sibling.result _ (HasNoInner h c.args.switch.number)
+    (λ none. no_next c.self.inside.register.base h c.promise.ensures.lawful tree.nodes tree.chain tied.records c.args.switch there switches
+    c.in_ok-first.first x.0 c.in_ok-first.ensures.some x.1 not_inner (none c.args.switch c.in_ok-first.ensures.some.one)) c.next_sibling.ensures.none)

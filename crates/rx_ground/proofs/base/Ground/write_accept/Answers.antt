@@ -19,10 +19,13 @@ use Rattle.rx_tree.proofs.Laws.Keys.{none_not_some}
 use Rattle.rx_ground.proofs.base.Ground.write_accept.Goals as goal
 
 pub hold-requires-clause-newest : goal.hold-requires-clause-newest
-hold-requires-clause-newest g c κs within = past_resources c.self.inside.register.base g.R.Resource c.self.inside.register.history c.self.inside.tree (rw (← c.self.view_is) at c.requires.tied.of_tree) c.promise.ensures.lawful c.len-number.result c.len-number.ensures
+hold-requires-clause-newest g c κs within = past_resources c.self.inside.register.base g.R.Resource c.self.inside.register.history c.self.inside.tree
+    (rw (← c.self.view_is) at c.requires.tied.of_tree) c.promise.ensures.lawful c.len-number.result c.len-number.ensures
 
 pub returns-clause-written : goal.returns-clause-written
-returns-clause-written g c = rw (← c.self.view_is) (writes_silent c.self.inside.register c.write.new.self (Accept c.args.node.number (g.R.Resource.tag_of c.args.resource)) refl c.write.ensures.base (rw c.tag-tag.ensures at c.write.ensures.events) c.write.ensures.pending c.write.ensures.room c.write.ensures.limit c.write.ensures.given c.write.ensures.mail_room)
+returns-clause-written g c = rw (← c.self.view_is) (writes_silent c.self.inside.register c.write.new.self
+    (Accept c.args.node.number (g.R.Resource.tag_of c.args.resource)) refl c.write.ensures.base (rw c.tag-tag.ensures at c.write.ensures.events)
+    c.write.ensures.pending c.write.ensures.room c.write.ensures.limit c.write.ensures.given c.write.ensures.mail_room)
 
 pub returns-clause-tied : goal.returns-clause-tied
 returns-clause-tied g c =
@@ -35,10 +38,16 @@ returns-clause-tied g c =
     let held = c.in-Ok.ensures in
     let was : AreTied c.self.inside.register.base g.R.Resource c.self.inside.register.history c.self.inside.tree c.self.inside.hubs = rw (← c.self.view_is) at c.requires.tied in
     rebased g.R.Resource (c.write.ensures.base) (tied_on_same g.R.Resource c.self.inside.register.base e c.promise.ensures.lawful next was grown refl refl held.nodes
-    (subst (λ (k : List Event). IsTied c.self.inside.register.base g.R.Resource k c.hold.new.self) (sym grown) (tied_still c.self.inside.register.base g.R.Resource h e c.promise.ensures.lawful next c.self.inside.tree tied c.hold.new.self refl refl (λ n. refl) held.nodes held.chain (stored_accepted c.self.inside.register.base g.R.Resource h c.promise.ensures.lawful c.self.inside.tree c.hold.new.self tied.stored c.promise-2.ensures.resources_apart held.nodes c.args.node (store_key c.in-Ok.res) c.args.resource there (may_accept c.self.inside.register.base next) c.requires.live c.requires.unused (held.numbered ∙ c.len-number.ensures) held.was_free held.held held.kept))))
+    (subst (λ (k : List Event). IsTied c.self.inside.register.base g.R.Resource k c.hold.new.self) (sym grown)
+    (tied_still c.self.inside.register.base g.R.Resource h e c.promise.ensures.lawful next c.self.inside.tree tied c.hold.new.self refl refl
+    (λ n. refl) held.nodes held.chain (stored_accepted c.self.inside.register.base g.R.Resource h c.promise.ensures.lawful c.self.inside.tree
+    c.hold.new.self tied.stored c.promise-2.ensures.resources_apart held.nodes c.args.node (store_key c.in-Ok.res) c.args.resource there
+    (may_accept c.self.inside.register.base next) c.requires.live c.requires.unused (held.numbered ∙
+    c.len-number.ensures) held.was_free held.held held.kept))))
 
 pub returns-clause-kept : goal.returns-clause-kept
-returns-clause-kept g c = rw (← c.self.view_is) (held_new c.self.inside.tree c.hold.new.self (length c.self.inside.register.history) (store_key c.in-Ok.res) c.in-Ok.ensures.nodes c.in-Ok.ensures.kept (c.in-Ok.ensures.numbered ∙ c.len-number.ensures))
+returns-clause-kept g c = rw (← c.self.view_is) (held_new c.self.inside.tree c.hold.new.self (length c.self.inside.register.history)
+    (store_key c.in-Ok.res) c.in-Ok.ensures.nodes c.in-Ok.ensures.kept (c.in-Ok.ensures.numbered ∙ c.len-number.ensures))
 
 pub returns-clause-memory : goal.returns-clause-memory
 returns-clause-memory g c =
@@ -46,7 +55,9 @@ returns-clause-memory g c =
     let more = c.in-Ok.ensures.count in
     let less = c.in-Ok.ensures.had_room room in
     let nodes = c.in-Ok.ensures.nodes in
-    written_memory (Accept c.args.node.number (g.R.Resource.tag_of c.args.resource) ∷ []) (returns-clause-written g c) (rw (← c.self.view_is) (ap (λ (s : Slots Node). s.count + s.room) nodes)) (rw (← c.self.view_is) (omega arith)) (rw (← c.self.view_is) (ap (λ (s : Slots Node). s.count + (vec_capacity c.self.inside.closed - s.count)) nodes)) (rw (← c.self.view_is) refl)
+    written_memory (Accept c.args.node.number (g.R.Resource.tag_of c.args.resource) ∷ []) (returns-clause-written g c)
+    (rw (← c.self.view_is) (ap (λ (s : Slots Node). s.count + s.room) nodes)) (rw (← c.self.view_is) (omega arith))
+    (rw (← c.self.view_is) (ap (λ (s : Slots Node). s.count + (vec_capacity c.self.inside.closed - s.count)) nodes)) (rw (← c.self.view_is) refl)
     (rw (← c.self.view_is) refl)
 
 pub returns-clause-leased : goal.returns-clause-leased
@@ -54,4 +65,7 @@ returns-clause-leased g c =
     let h = c.self.inside.register.history in
     let was : AreLeased h c.self.inside.tree.resources c.self.inside.leases = rw (← c.self.view_is) at c.requires.leased in
     let held = c.in-Ok.ensures in
-    leased_kept c.self.inside.register.base h _ (Accept c.args.node.number (g.R.Resource.tag_of c.args.resource)) c.self.inside.tree.resources _ c.self.inside.leases _ c.promise.ensures.lawful was refl refl (rw c.tag-tag.ensures at c.write.ensures.events) (refl) (λ l res is. ap is_some (held.kept (store_key res) (λ same. none_not_some _ (ap (find c.self.inside.tree.resources) same ∙ ap (with_number c.in-Ok.res.number) held.was_free) is.stored)) ∙ is.stored)
+    leased_kept c.self.inside.register.base h _ (Accept c.args.node.number (g.R.Resource.tag_of c.args.resource)) c.self.inside.tree.resources _
+    c.self.inside.leases _ c.promise.ensures.lawful was refl refl (rw c.tag-tag.ensures at c.write.ensures.events) (refl)
+    (λ l res is. ap is_some (held.kept (store_key res) (λ same. none_not_some _ (ap (find c.self.inside.tree.resources) same ∙
+    ap (with_number c.in-Ok.res.number) held.was_free) is.stored)) ∙ is.stored)

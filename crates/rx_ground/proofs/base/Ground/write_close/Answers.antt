@@ -101,7 +101,9 @@ pub returns-clause-leased : goal.returns-clause-leased
 returns-clause-leased g c =
     let h = c.self.inside.register.history in
     let was : AreLeased h c.self.inside.tree.resources c.self.inside.leases = rw (← c.self.view_is) at c.requires.leased in
-    leased_quiet c.self.inside.register.base h _ (Close c.args.node.number) c.self.inside.tree.resources _ c.self.inside.leases _ c.promise.ensures.lawful was refl refl (grown g c) (ap (λ (b : Ground g.row.R.Denot). b.leases) c.self-2.view_is ∙ (rw (← c.self.view_is) at c.cut.ensures.leases)) (cut_tree g c).resources
+    leased_quiet c.self.inside.register.base h _ (Close c.args.node.number) c.self.inside.tree.resources _ c.self.inside.leases _
+    c.promise.ensures.lawful was refl refl (grown g c) (ap (λ (b : Ground g.row.R.Denot). b.leases) c.self-2.view_is ∙
+    (rw (← c.self.view_is) at c.cut.ensures.leases)) (cut_tree g c).resources
 
 pub returns-clause-leases : goal.returns-clause-leases
 returns-clause-leases g c = rw (← c.self.view_is) (ap (λ (b : Ground g.row.R.Denot). b.leases) c.self-2.view_is ∙ (rw (← c.self.view_is) at c.cut.ensures.leases))

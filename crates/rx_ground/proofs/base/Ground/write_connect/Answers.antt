@@ -73,7 +73,8 @@ returns-clause-tied g c =
     λ k some. ap is_some (found_still c.self.inside.register.base g.R.Resource h law old old c.open.new.self was.of_tree c.in-Ok.key e None opened k some) ∙
     some in
     let made = ap (λ (hs : Hubs). hs.hubs) c.connect.ensures in
-    rebased g.R.Resource (c.write.ensures.base) (rw c.write.ensures.events (tied_connected g.R.Resource c.self.inside.register.base {later = c.connect.new.self} c.args.hub c.in-Ok.key law next was opened.numbered made still (ap is_some opened.found) tied))
+    rebased g.R.Resource (c.write.ensures.base) (rw c.write.ensures.events (tied_connected g.R.Resource c.self.inside.register.base
+    {later = c.connect.new.self} c.args.hub c.in-Ok.key law next was opened.numbered made still (ap is_some opened.found) tied))
 
 -- nodes that are older were there
 before : (g : Over) (c : goal.After-write g) → (k : Key) → IsSome (find c.open.new.self.nodes k) → k.number < length c.self.inside.register.history →

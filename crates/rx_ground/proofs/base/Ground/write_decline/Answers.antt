@@ -50,18 +50,25 @@ returns-clause-tied g c =
     let there : IsSome (find c.self.inside.tree.nodes c.args.merging) = rw (← c.self.view_is) at c.requires.open in
     let was : AreTied c.self.inside.register.base g.R.Resource c.self.inside.register.history c.self.inside.tree c.self.inside.hubs = rw (← c.self.view_is) at c.requires.tied in
     rebased g.R.Resource (c.write.ensures.base) (tied_on_marked g.R.Resource c.self.inside.register.base e c.promise.ensures.lawful next was c.write.ensures.events refl refl c.args.merging after_decline (marked g c)
-    (subst (λ (k : List Event). IsTied c.self.inside.register.base g.R.Resource k c.set_marks.new.self) (sym c.write.ensures.events) (tied_decline c.self.inside.register.base g.R.Resource h c.promise.ensures.lawful c.self.inside.tree c.set_marks.new.self tied c.promise-2.ensures.sound c.args.merging there next (marked g c))))
+    (subst (λ (k : List Event). IsTied c.self.inside.register.base g.R.Resource k c.set_marks.new.self) (sym c.write.ensures.events)
+    (tied_decline c.self.inside.register.base g.R.Resource h c.promise.ensures.lawful c.self.inside.tree c.set_marks.new.self tied
+    c.promise-2.ensures.sound c.args.merging there next (marked g c))))
 
 pub returns-clause-kept : goal.returns-clause-kept
 returns-clause-kept g c = rw (← c.self.view_is) (remarked_keeps c.write.new.self.history c.self.inside.tree c.set_marks.new.self c.args.merging after_decline (marked g c))
 
 pub returns-clause-written : goal.returns-clause-written
-returns-clause-written g c = rw (← c.self.view_is) (writes_silent c.self.inside.register c.write.new.self (Decline c.args.merging.number) refl c.write.ensures.base c.write.ensures.events c.write.ensures.pending c.write.ensures.room c.write.ensures.limit c.write.ensures.given c.write.ensures.mail_room)
+returns-clause-written g c = rw (← c.self.view_is) (writes_silent c.self.inside.register c.write.new.self (Decline c.args.merging.number) refl
+    c.write.ensures.base c.write.ensures.events c.write.ensures.pending c.write.ensures.room c.write.ensures.limit
+    c.write.ensures.given c.write.ensures.mail_room)
 
 pub returns-clause-memory : goal.returns-clause-memory
 returns-clause-memory g c =
     let rest = (marked g c).nodes.rest in
-    written_memory (Decline c.args.merging.number ∷ []) (returns-clause-written g c) (rw (← c.self.view_is) (same_places c.self.inside.tree.nodes c.set_marks.new.self.nodes rest)) (rw (← c.self.view_is) (ap (λ (s : Slots (Stowed g.row.R.Denot)). s.count + s.room) (marked g c).resources)) (rw (← c.self.view_is) (ap (λ (s : Slots Node). s.count + (vec_capacity c.self.inside.closed - s.count)) rest)) (rw (← c.self.view_is) refl)
+    written_memory (Decline c.args.merging.number ∷ []) (returns-clause-written g c)
+    (rw (← c.self.view_is) (same_places c.self.inside.tree.nodes c.set_marks.new.self.nodes rest))
+    (rw (← c.self.view_is) (ap (λ (s : Slots (Stowed g.row.R.Denot)). s.count + s.room) (marked g c).resources))
+    (rw (← c.self.view_is) (ap (λ (s : Slots Node). s.count + (vec_capacity c.self.inside.closed - s.count)) rest)) (rw (← c.self.view_is) refl)
     (rw (← c.self.view_is) refl)
 
 pub returns-clause-leased : goal.returns-clause-leased

@@ -57,4 +57,6 @@ returns-clause-leased g c =
     let was : AreLeased h c.self.inside.tree.resources c.self.inside.leases = rw (← c.self.view_is) at c.requires.leased in
     let passed = rw (to_z-of_z w64 c.args.value c.ranges.value) at c.pass.ensures.passed in
     let events = rw (to_z-of_z w64 c.args.value c.ranges.value) at c.write.ensures.events in
-    leased_quiet c.self.inside.register.base h _ (Item c.args.leaf.number c.args.value) c.self.inside.tree.resources _ c.self.inside.leases _ c.promise.ensures.lawful was refl refl (events ∙ ap (λ (r : Register). r.history ++ Item c.args.leaf.number c.args.value ∷ []) passed.same) refl passed.resources
+    leased_quiet c.self.inside.register.base h _ (Item c.args.leaf.number c.args.value) c.self.inside.tree.resources _ c.self.inside.leases _
+    c.promise.ensures.lawful was refl refl (events ∙ ap (λ (r : Register). r.history ++ Item c.args.leaf.number c.args.value ∷ [])
+    passed.same) refl passed.resources

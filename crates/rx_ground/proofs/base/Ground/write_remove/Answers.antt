@@ -17,7 +17,9 @@ use Rattle.rx_ground.proofs.Leases.{leased_found}
 use Rattle.rx_ground.proofs.base.Ground.write_remove.Goals as goal
 
 pub returns-clause-written : goal.returns-clause-written
-returns-clause-written g c = rw (← c.self.view_is) (writes_silent c.self.inside.register c.write.new.self (Remove c.args.res.number) refl c.write.ensures.base c.write.ensures.events c.write.ensures.pending c.write.ensures.room c.write.ensures.limit c.write.ensures.given c.write.ensures.mail_room)
+returns-clause-written g c = rw (← c.self.view_is) (writes_silent c.self.inside.register c.write.new.self (Remove c.args.res.number) refl
+    c.write.ensures.base c.write.ensures.events c.write.ensures.pending c.write.ensures.room c.write.ensures.limit
+    c.write.ensures.given c.write.ensures.mail_room)
 
 pub returns-clause-tied : goal.returns-clause-tied
 returns-clause-tied g c =
@@ -31,19 +33,27 @@ returns-clause-tied g c =
     let f = owned_found old c.args.res owned in
     let was : AreTied c.self.inside.register.base g.R.Resource c.self.inside.register.history c.self.inside.tree c.self.inside.hubs = rw (← c.self.view_is) at c.requires.tied in
     rebased g.R.Resource (c.write.ensures.base) (tied_on_same g.R.Resource c.self.inside.register.base e c.promise.ensures.lawful next was c.write.ensures.events refl refl c.unhold.ensures.nodes
-    (subst (λ (k : List Event). IsTied c.self.inside.register.base g.R.Resource k new) (sym c.write.ensures.events) (tied_still c.self.inside.register.base g.R.Resource h e c.promise.ensures.lawful next old tied new refl refl (λ n. refl) c.unhold.ensures.nodes c.unhold.ensures.chain (stored_removed c.self.inside.register.base g.R.Resource h c.promise.ensures.lawful old new tied.stored c.promise-2.ensures.resources_apart c.unhold.ensures.nodes (store_key c.args.res) f.stowed f.found c.unhold.ensures.resources))))
+    (subst (λ (k : List Event). IsTied c.self.inside.register.base g.R.Resource k new) (sym c.write.ensures.events)
+    (tied_still c.self.inside.register.base g.R.Resource h e c.promise.ensures.lawful next old tied new refl refl (λ n. refl)
+    c.unhold.ensures.nodes c.unhold.ensures.chain (stored_removed c.self.inside.register.base g.R.Resource h c.promise.ensures.lawful old new
+    tied.stored c.promise-2.ensures.resources_apart c.unhold.ensures.nodes (store_key c.args.res) f.stowed f.found c.unhold.ensures.resources))))
 
 pub returns-clause-kept : goal.returns-clause-kept
-returns-clause-kept g c = rw (← c.self.view_is) (held_rewritten c.self.inside.tree c.unhold.new.self (length c.self.inside.register.history) (store_key c.args.res) removed c.unhold.ensures.nodes c.unhold.ensures.resources (removed_held c.self.inside.tree.nodes))
+returns-clause-kept g c = rw (← c.self.view_is) (held_rewritten c.self.inside.tree c.unhold.new.self (length c.self.inside.register.history)
+    (store_key c.args.res) removed c.unhold.ensures.nodes c.unhold.ensures.resources (removed_held c.self.inside.tree.nodes))
 
 pub returns-clause-memory : goal.returns-clause-memory
 returns-clause-memory g c =
     let nodes = c.unhold.ensures.nodes in
-    written_memory (Remove c.args.res.number ∷ []) (returns-clause-written g c) (rw (← c.self.view_is) (ap (λ (s : Slots Node). s.count + s.room) nodes)) (rw (← c.self.view_is) (same_places c.self.inside.tree.resources c.unhold.new.self.resources c.unhold.ensures.resources.rest)) (rw (← c.self.view_is) (ap (λ (s : Slots Node). s.count + (vec_capacity c.self.inside.closed - s.count)) nodes)) (rw (← c.self.view_is) refl)
+    written_memory (Remove c.args.res.number ∷ []) (returns-clause-written g c)
+    (rw (← c.self.view_is) (ap (λ (s : Slots Node). s.count + s.room) nodes))
+    (rw (← c.self.view_is) (same_places c.self.inside.tree.resources c.unhold.new.self.resources c.unhold.ensures.resources.rest))
+    (rw (← c.self.view_is) (ap (λ (s : Slots Node). s.count + (vec_capacity c.self.inside.closed - s.count)) nodes)) (rw (← c.self.view_is) refl)
     (rw (← c.self.view_is) refl)
 
 pub returns-clause-leased : goal.returns-clause-leased
 returns-clause-leased g c =
     let h = c.self.inside.register.history in
     let was : AreLeased h c.self.inside.tree.resources c.self.inside.leases = rw (← c.self.view_is) at c.requires.leased in
-    leased_found c.self.inside.register.base h _ (Remove c.args.res.number) c.self.inside.tree.resources _ c.self.inside.leases _ c.promise.ensures.lawful was refl refl (c.write.ensures.events) (refl) (still_there (store_key c.args.res) c.unhold.ensures.resources)
+    leased_found c.self.inside.register.base h _ (Remove c.args.res.number) c.self.inside.tree.resources _ c.self.inside.leases _
+    c.promise.ensures.lawful was refl refl (c.write.ensures.events) (refl) (still_there (store_key c.args.res) c.unhold.ensures.resources)

@@ -1,4 +1,4 @@
-use Rattle.std.proofs.Common.{◌∷◌, ◌++◌, [], List, length, is_some, Some, refl, sym, ap, subst, ◌∙◌, ◌+◌, ◌-◌, vec_capacity}
+use Rattle.std.proofs.Common.{◌∷◌, ◌++◌, [], List, length, is_some, refl, sym, ap, subst, ◌∙◌, ◌+◌, ◌-◌, vec_capacity}
 use Rattle.rx_event.specs.declared.event.Event.{Event}
 use Rattle.rx_event.specs.declared.event.Event.TheVariants.{Return}
 use Rattle.rx_event.specs.Lawful.{MayFollow}

@@ -31,7 +31,8 @@ write-requires-clause-next g c =
 ready : (g : Over) (c : goal.After-write-arg-1 g) → IsReady c.self.inside.register (Take c.in_ok-number.number)
 ready g c =
     let tied : IsTied c.self.inside.register.base g.R.Resource c.self.inside.register.history c.self.inside.tree = rw (← c.self.view_is) at c.requires.tied.of_tree in
-    (rw (← c.self.view_is) at c.requires.room) c.in_ok-number.number (takes_waiting g.R.Resource c.self.inside.register.history c.self.inside.tree c.take_waiting.new.self c.in_ok-number.number c.in_ok-number.resource c.self.inside.register.base tied c.in_ok-number.ensures.some)
+    (rw (← c.self.view_is) at c.requires.room) c.in_ok-number.number (takes_waiting g.R.Resource c.self.inside.register.history c.self.inside.tree
+    c.take_waiting.new.self c.in_ok-number.number c.in_ok-number.resource c.self.inside.register.base tied c.in_ok-number.ensures.some)
 
 pub write-requires-clause-room : goal.write-requires-clause-room
 write-requires-clause-room g c = (ready g c).room
@@ -45,7 +46,9 @@ new-requires-clause-live g c κs within =
     takes_live g.R.Resource c.self.inside.register.history c.self.inside.tree c.take_waiting.new.self c.in_ok-number.number c.in_ok-number.resource c.self.inside.register.base tied c.in_ok-number.ensures.some
 
 pub returns-clause-written : goal.returns-clause-written
-returns-clause-written g c = rw (c.new.ensures, ← c.self.view_is) (writes_silent c.self.inside.register c.write.new.self (Take c.in_ok-number.number) refl c.write.ensures.base c.write.ensures.events c.write.ensures.pending c.write.ensures.room c.write.ensures.limit c.write.ensures.given c.write.ensures.mail_room)
+returns-clause-written g c = rw (c.new.ensures, ← c.self.view_is) (writes_silent c.self.inside.register c.write.new.self (Take c.in_ok-number.number)
+    refl c.write.ensures.base c.write.ensures.events c.write.ensures.pending c.write.ensures.room c.write.ensures.limit
+    c.write.ensures.given c.write.ensures.mail_room)
 
 pub returns-clause-tied : goal.returns-clause-tied
 returns-clause-tied g c =
@@ -55,10 +58,17 @@ returns-clause-tied g c =
     let tied : IsTied c.self.inside.register.base g.R.Resource h old = rw (← c.self.view_is) at c.requires.tied.of_tree in
     let settled : IsSettled c.self.inside.register.base h = rw (← c.self.view_is) at c.requires.settled in
     let t = c.in_ok-number.ensures.some in
-    let next : MayFollow c.self.inside.register.base h (Take t.key.number) = allowed settled (taken (subst (λ n. is_waiting h n ≡ true) (sym t.numbered) (takes_waiting g.R.Resource h old new c.in_ok-number.number c.in_ok-number.resource c.self.inside.register.base tied t))) in
+    let next : MayFollow c.self.inside.register.base h (Take t.key.number) =
+    allowed settled (taken (subst (λ n. is_waiting h n ≡ true) (sym t.numbered)
+    (takes_waiting g.R.Resource h old new c.in_ok-number.number c.in_ok-number.resource c.self.inside.register.base tied t))) in
     let was : AreTied c.self.inside.register.base g.R.Resource c.self.inside.register.history c.self.inside.tree c.self.inside.hubs = rw (← c.self.view_is) at c.requires.tied in
-    rebased g.R.Resource (c.write.ensures.base) (tied_on_same g.R.Resource c.self.inside.register.base (Take t.key.number) c.promise.ensures.lawful next was (sym (ap (λ n. h ++ Take n ∷ []) t.numbered ∙ sym c.write.ensures.events)) refl refl c.in_ok-number.ensures.nodes
-    (subst (λ (k : List Event). IsTied c.self.inside.register.base g.R.Resource k new) (ap (λ n. h ++ Take n ∷ []) t.numbered ∙ sym c.write.ensures.events) (tied_still c.self.inside.register.base g.R.Resource h (Take t.key.number) c.promise.ensures.lawful next old tied new refl refl (λ n. refl) c.in_ok-number.ensures.nodes c.in_ok-number.ensures.chain (stored_taken c.self.inside.register.base g.R.Resource h c.promise.ensures.lawful old new tied.stored c.promise-2.ensures.resources_apart c.in_ok-number.ensures.nodes t.key (ap is_some t.found) t.gone t.others))))
+    rebased g.R.Resource (c.write.ensures.base) (tied_on_same g.R.Resource c.self.inside.register.base (Take t.key.number) c.promise.ensures.lawful
+    next was (sym (ap (λ n. h ++ Take n ∷ []) t.numbered ∙ sym c.write.ensures.events)) refl refl c.in_ok-number.ensures.nodes
+    (subst (λ (k : List Event). IsTied c.self.inside.register.base g.R.Resource k new) (ap (λ n. h ++ Take n ∷ []) t.numbered ∙
+    sym c.write.ensures.events) (tied_still c.self.inside.register.base g.R.Resource h (Take t.key.number) c.promise.ensures.lawful next old tied
+    new refl refl (λ n. refl) c.in_ok-number.ensures.nodes c.in_ok-number.ensures.chain
+    (stored_taken c.self.inside.register.base g.R.Resource h c.promise.ensures.lawful old new tied.stored c.promise-2.ensures.resources_apart
+    c.in_ok-number.ensures.nodes t.key (ap is_some t.found) t.gone t.others))))
 
 pub returns-clause-kept : goal.returns-clause-kept
 returns-clause-kept g c = rw (← c.self.view_is) (let t = c.in_ok-number.ensures.some in held_gone c.self.inside.tree c.take_waiting.new.self (length c.self.inside.register.history) t.key c.in_ok-number.ensures.nodes t.others t.gone)
@@ -71,7 +81,9 @@ returns-clause-memory g c =
     let nodes = c.in_ok-number.ensures.nodes in
     let fewer = c.in_ok-number.ensures.some.count in
     let more = c.in_ok-number.ensures.some.room in
-    written_memory (Take c.in_ok-number.number ∷ []) (rw c.new.ensures at (returns-clause-written g c)) (rw (← c.self.view_is) (ap (λ (s : Slots Node). s.count + s.room) nodes)) (rw (← c.self.view_is) (omega arith)) (rw (← c.self.view_is) (ap (λ (s : Slots Node). s.count + (vec_capacity c.self.inside.closed - s.count)) nodes)) (rw (← c.self.view_is) refl)
+    written_memory (Take c.in_ok-number.number ∷ []) (rw c.new.ensures at (returns-clause-written g c))
+    (rw (← c.self.view_is) (ap (λ (s : Slots Node). s.count + s.room) nodes)) (rw (← c.self.view_is) (omega arith))
+    (rw (← c.self.view_is) (ap (λ (s : Slots Node). s.count + (vec_capacity c.self.inside.closed - s.count)) nodes)) (rw (← c.self.view_is) refl)
     (rw (← c.self.view_is) refl)
 
 pub returns-clause-leased : goal.returns-clause-leased
@@ -80,4 +92,7 @@ returns-clause-leased g c =
     let was : AreLeased h c.self.inside.tree.resources c.self.inside.leases = rw (← c.self.view_is) at c.requires.leased in
     let tied : IsTied c.self.inside.register.base g.R.Resource h c.self.inside.tree = rw (← c.self.view_is) at c.requires.tied.of_tree in
     let t = c.in_ok-number.ensures.some in
-    leased_taken c.self.inside.register.base h _ (Take c.in_ok-number.number) c.self.inside.tree.resources _ c.self.inside.leases _ c.promise.ensures.lawful was refl refl (c.write.ensures.events) (refl) t.key (subst (λ n. is_waiting h n ≡ true) (sym t.numbered) (takes_waiting g.R.Resource h c.self.inside.tree c.take_waiting.new.self c.in_ok-number.number c.in_ok-number.resource c.self.inside.register.base tied t)) t.others
+    leased_taken c.self.inside.register.base h _ (Take c.in_ok-number.number) c.self.inside.tree.resources _ c.self.inside.leases _
+    c.promise.ensures.lawful was refl refl (c.write.ensures.events) (refl) t.key
+    (subst (λ n. is_waiting h n ≡ true) (sym t.numbered) (takes_waiting g.R.Resource h c.self.inside.tree c.take_waiting.new.self
+    c.in_ok-number.number c.in_ok-number.resource c.self.inside.register.base tied t)) t.others

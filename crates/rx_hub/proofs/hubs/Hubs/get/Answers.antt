@@ -4,7 +4,9 @@ use Rattle.rx_hub.proofs.Found.{find_index, find_none}
 use Rattle.rx_hub.proofs.hubs.Hubs.get.Goals as goal
 
 pub returns-in_err-index_of : goal.returns-in_err-index_of
-returns-in_err-index_of c = rw (← c.self.view_is) (c.from_residual.ensures ∙ sym (ap (option_map published_of) (find_none c.self.inside.store.hubs c.args.hub c.in_err-index_of.ensures.none)))
+returns-in_err-index_of c =
+    rw (← c.self.view_is)
+    (c.from_residual.ensures ∙ sym (ap (option_map published_of) (find_none c.self.inside.store.hubs c.args.hub c.in_err-index_of.ensures.none)))
 
 pub returns : goal.returns
 returns c = let s = c.self.inside.store in

@@ -11,7 +11,8 @@ unreachable-requires c = not_found c.self.inside.store.hubs c.args.hub c.in_defa
 pub unsubscribe-requires-clause-there : goal.unsubscribe-requires-clause-there
 unsubscribe-requires-clause-there c =
     let s = c.self.inside.store in
-    subst (λ (o : Option Hub). IfSome o (λ hub. is_on c.args.key hub.subscribers ≡ true)) (find_index s c.promise.ensures c.in-Some.index c.args.hub c.in-Some.ensures.some)
+    subst (λ (o : Option Hub). IfSome o (λ hub. is_on c.args.key hub.subscribers ≡ true))
+    (find_index s c.promise.ensures c.in-Some.index c.args.hub c.in-Some.ensures.some)
     (subst (λ (v : Hubs). IfSome (find_hub v.hubs c.args.hub) (λ hub. is_on c.args.key hub.subscribers ≡ true)) (sym c.self.view_is) c.requires.subscribes)
 
 pub note-requires-clause-index : goal.note-requires-clause-index

@@ -17,7 +17,8 @@ returns-clause-due c =
 pub returns-then-is_some-clause-concerns : goal.returns-then-is_some-clause-concerns
 returns-then-is_some-clause-concerns c =
     let s = c.self.inside.store in
-    rw (← c.self.view_is) (concerns_hub s c.promise.ensures c.next_at-connect.result (connects_if s.hubs c.next_at-connect.result c.next_at-connect.ensures.some))
+    rw (← c.self.view_is)
+    (concerns_hub s c.promise.ensures c.next_at-connect.result (connects_if s.hubs c.next_at-connect.result c.next_at-connect.ensures.some))
 
 pub returns-clause-concerns : goal.returns-clause-concerns
 returns-clause-concerns c =

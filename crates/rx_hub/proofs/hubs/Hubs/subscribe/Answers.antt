@@ -10,7 +10,8 @@ unreachable-requires c = not_found c.self.inside.store.hubs c.args.hub c.in_defa
 pub subscribe-requires-clause-newest : goal.subscribe-requires-clause-newest
 subscribe-requires-clause-newest c =
     let s = c.self.inside.store in
-    subst (λ (o : Option Hub). IfSome o (λ hub. AreBelow c.args.key.number hub.subscribers)) (find_index s c.promise.ensures c.in-Some.index c.args.hub c.in-Some.ensures.some)
+    subst (λ (o : Option Hub). IfSome o (λ hub. AreBelow c.args.key.number hub.subscribers))
+    (find_index s c.promise.ensures c.in-Some.index c.args.hub c.in-Some.ensures.some)
     (subst (λ (v : Hubs). IfSome (find_hub v.hubs c.args.hub) (λ hub. AreBelow c.args.key.number hub.subscribers)) (sym c.self.view_is) c.requires.newest)
 
 pub note-requires-clause-index : goal.note-requires-clause-index

@@ -17,6 +17,7 @@ returns-then-reached-self g c =
 pub returns : goal.returns
 returns g c =
     climbs_seen c.args.tree.now.nodes c.args.hubs.now.hubs _ c.args.self.now _ c.args.node c.climb-reached.result.visits c.climb-reached.result.stop
-    c.arrival.result c.climb-reached.result.hub c.first_beyond-first.result c.self.view_is c.requires.ordered c.requires.under_way c.requires.at c.requires.visits c.climb-reached.ensures.visits
+    c.arrival.result c.climb-reached.result.hub c.first_beyond-first.result c.self.view_is c.requires.ordered c.requires.under_way c.requires.at
+    c.requires.visits c.climb-reached.ensures.visits
     c.climb-reached.ensures.stop c.if-reached-self.false refl c.climb-reached.ensures.hub c.first_beyond-first.ensures.keys c.go_on-self-inside.ensures.goes_on
     c.go_on-self-inside.ensures.room c.arrival.ensures

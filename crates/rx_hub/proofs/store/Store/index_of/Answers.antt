@@ -11,7 +11,8 @@ returns-then-found-number-clause-some c =
     let test = c.loop-low-test.true in
     let inside = c.loop-low.invariant.inside in
     let below : middle < length s.records.items = omega (arith, test, inside) in
-    let found = ap (λ (r : Published). r.number) (get_same s.records.items middle no_hub c.index.result.now below ∙ sym c.index.ensures) ∙ c.if-found-number.true in
+    let found =
+    ap (λ (r : Published). r.number) (get_same s.records.items middle no_hub c.index.result.now below ∙ sym c.index.ensures) ∙ c.if-found-number.true in
     rw (← c.self.view_is) (number_at s.records.items s.subscribers s.numbers.items c.self.invariant middle below ∙ ap (λ (n : ℕ). Some n) found)
 
 pub loop-low-preserved-then-found-number-2 : goal.loop-low-preserved-then-found-number-2

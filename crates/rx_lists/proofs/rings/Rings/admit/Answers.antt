@@ -14,7 +14,8 @@ pub invariant_of-self-2 : goal.invariant_of-self-2
 invariant_of-self-2 c =
     let s = c.self.inside.links in
     let ends = ap (λ v. v.items) c.grow.ensures.ends in
-    let more : length s.members.items ≤ length c.grow.new.self.members.items = subst (λ (xs : List Link). length xs ≤ length c.grow.new.self.members.items) c.reserve.ensures.items c.grow.ensures.more in
+    let more : length s.members.items ≤ length c.grow.new.self.members.items =
+    subst (λ (xs : List Link). length xs ≤ length c.grow.new.self.members.items) c.reserve.ensures.items c.grow.ensures.more in
     subst (λ (xs : List Link). IsTiedIn xs c.grow.new.self.members.items) (sym ends)
     (tied_more s.ends.items s.members.items 0 c.self.invariant c.grow.new.self.members.items
     (moved s.ends.items s.members.items c.grow.new.self.ends.items c.grow.new.self.members.items c.reserve.new.self.items ends c.reserve.ensures.items
@@ -24,7 +25,8 @@ pub returns-clause-kept : goal.returns-clause-kept
 returns-clause-kept c =
     let s = c.self.inside.links in
     let ends = ap (λ v. v.items) c.grow.ensures.ends in
-    let more : length s.members.items ≤ length c.grow.new.self.members.items = subst (λ (xs : List Link). length xs ≤ length c.grow.new.self.members.items) c.reserve.ensures.items c.grow.ensures.more in
+    let more : length s.members.items ≤ length c.grow.new.self.members.items =
+    subst (λ (xs : List Link). length xs ≤ length c.grow.new.self.members.items) c.reserve.ensures.items c.grow.ensures.more in
     let lists = lists_more s.ends.items s.members.items 0 c.self.invariant c.grow.new.self.members.items
     (moved s.ends.items s.members.items c.grow.new.self.ends.items c.grow.new.self.members.items c.reserve.new.self.items ends c.reserve.ensures.items
     c.grow.ensures.links) more in

@@ -6,7 +6,8 @@ use Rattle.rx_lists.proofs.rings.Rings.join.Goals as goal
 
 pub join-requires-clause-end : goal.join-requires-clause-end
 join-requires-clause-end c = let s = c.self.inside.links in
-    of_lt c.args.list (length s.ends.items) (within_ends s.ends.items s.members.items 0 c.args.list (subst (λ (v : Lists). c.args.list < length v.lists) (sym c.self.view_is) c.requires.list))
+    of_lt c.args.list (length s.ends.items)
+    (within_ends s.ends.items s.members.items 0 c.args.list (subst (λ (v : Lists). c.args.list < length v.lists) (sym c.self.view_is) c.requires.list))
 
 pub join-requires-clause-last : goal.join-requires-clause-last
 join-requires-clause-last c = let s = c.self.inside.links in

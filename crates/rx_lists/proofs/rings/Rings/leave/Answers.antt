@@ -6,11 +6,13 @@ use Rattle.rx_lists.proofs.rings.Rings.leave.Goals as goal
 
 pub leave-requires-clause-before : goal.leave-requires-clause-before
 leave-requires-clause-before c = let s = c.self.inside.links in
-    previous_there s.ends.items s.members.items 0 c.self.invariant c.args.member (subst (λ (v : Lists). c.args.member < v.members) (sym c.self.view_is) c.requires.member)
+    previous_there s.ends.items s.members.items 0 c.self.invariant c.args.member
+    (subst (λ (v : Lists). c.args.member < v.members) (sym c.self.view_is) c.requires.member)
 
 pub leave-requires-clause-after : goal.leave-requires-clause-after
 leave-requires-clause-after c = let s = c.self.inside.links in
-    next_there s.ends.items s.members.items 0 c.self.invariant c.args.member (subst (λ (v : Lists). c.args.member < v.members) (sym c.self.view_is) c.requires.member)
+    next_there s.ends.items s.members.items 0 c.self.invariant c.args.member
+    (subst (λ (v : Lists). c.args.member < v.members) (sym c.self.view_is) c.requires.member)
 
 pub invariant_of-self : goal.invariant_of-self
 invariant_of-self c = let s = c.self.inside.links in let t = c.leave.new.self in

@@ -8,12 +8,15 @@ more_alone : (most alive more : ℕ) → most < more → nat_lt most more ≡ na
 more_alone most alive more over = lt-ltb most more over ∙ sym (lt-ltb most (alive + more) (omega arith))
 
 more_with : (most alive more : ℕ) → more ≤ most → nat_lt (most - more) alive ≡ nat_lt most (alive + more)
-more_with most alive more few = ltb_from_iff (λ over. let l = ltb-true (most - more) alive over in omega arith, λ over. lt-ltb (most - more) alive (omega arith))
+more_with most alive more few =
+    ltb_from_iff (λ over. let l = ltb-true (most - more) alive over in omega arith, λ over. lt-ltb (most - more) alive (omega arith))
 
 pub returns-then-more-gt-MOST_NODES : goal.returns-then-more-gt-MOST_NODES
 unfolding most_nodes
-returns-then-more-gt-MOST_NODES c = more_alone 1048576 c.args.load.open c.args.more c.if-more-gt-MOST_NODES.true ∙ ap (λ (k : ℕ). nat_lt 1048576 (k + c.args.more)) c.requires.open_count
+returns-then-more-gt-MOST_NODES c =
+    more_alone 1048576 c.args.load.open c.args.more c.if-more-gt-MOST_NODES.true ∙ ap (λ (k : ℕ). nat_lt 1048576 (k + c.args.more)) c.requires.open_count
 
 pub returns-else-more-gt-MOST_NODES : goal.returns-else-more-gt-MOST_NODES
 unfolding most_nodes
-returns-else-more-gt-MOST_NODES c = more_with 1048576 c.args.load.open c.args.more c.if-more-gt-MOST_NODES.false ∙ ap (λ (k : ℕ). nat_lt 1048576 (k + c.args.more)) c.requires.open_count
+returns-else-more-gt-MOST_NODES c =
+    more_with 1048576 c.args.load.open c.args.more c.if-more-gt-MOST_NODES.false ∙ ap (λ (k : ℕ). nat_lt 1048576 (k + c.args.more)) c.requires.open_count

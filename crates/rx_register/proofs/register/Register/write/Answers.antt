@@ -10,7 +10,8 @@ use Rattle.rx_register.proofs.register.Register.write.Goals as goal
 pub invariant_of-self : goal.invariant_of-self
 invariant_of-self c =
     let next : MayFollow c.self.inside.history.base c.self.inside.history.events c.args.event = rw (← c.self.view_is) at c.requires.next in
-    let told : drop c.self.inside.told c.self.inside.mail.items ≡ mail_of c.self.inside.history.events c.args.event = rw (← c.self.view_is) at c.requires.told in
+    let told : drop c.self.inside.told c.self.inside.mail.items ≡ mail_of c.self.inside.history.events c.args.event =
+    rw (← c.self.view_is) at c.requires.told in
     written c.self.inside _ c.args.event c.self.invariant (record {
       next = next;
       told = told;
@@ -34,4 +35,6 @@ returns-clause-given c =
     let count = told_length c.self.inside.mail.items c.self.inside.told (mail_of h c.args.event) r.queued told in
     let all = c.len-self-inside.ensures ∙ c.self.inside.mail.ok.0 in
     let shown : (state_of c.self.inside).given ≡ c.args.self.now.given = ap (λ (s : State). s.given) c.self.view_is in
-    rw (c.push_reserved.ensures.events, notes-push h c.args.event, all) (given_after (notes h) (mail_of h c.args.event) c.self.inside.told (length c.self.inside.mail.items) r.some_told count) ∙ shown
+    rw (c.push_reserved.ensures.events, notes-push h c.args.event, all)
+    (given_after (notes h) (mail_of h c.args.event) c.self.inside.told (length c.self.inside.mail.items) r.some_told count) ∙
+    shown

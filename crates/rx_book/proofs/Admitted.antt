@@ -1,0 +1,110 @@
+-- A call that may take memory is let in: nothing stands against it, and its cost is room that was gotten.
+use Rattle.std.proofs.Common.{◌≡◌, ℕ, ◌+◌, ◌≤◌, length, cond, List, Bool, true, false, Option, Some, None, refl, sym, ap, subst, ◌∙◌, arith}
+use Rattle.std.specs.Prelude.{ℤ, Result, Ok, Err, IsErrAnd}
+use Rattle.rx_resource.specs.declared.Resource.{Ghosts}
+use Rattle.rx_event.specs.declared.refusal.Refusal.{Refusal}
+use Rattle.rx_event.specs.declared.refusal.Refusal.TheVariants.{Full}
+use Rattle.rx_event.specs.declared.event.Kind.{Kind}
+use Rattle.rx_event.specs.declared.event.Event.{Event}
+use Rattle.rx_event.specs.Kept.{Kept}
+use Rattle.rx_event.specs.Totals.{debt}
+use Rattle.rx_event.specs.Calls.{Emitting}
+use Rattle.rx_event.specs.Refusals.{first_cause}
+use Rattle.rx_slots.specs.declared.Key.{Key}
+use Rattle.rx_slots.specs.Slots.{Slots}
+use Rattle.rx_tree.specs.declared.node.Node.{Node}
+use Rattle.rx_register.specs.Causes.{causes, added_by, is_over, forces_connect, nodes_opened}
+use Rattle.rx_register.specs.Claims.{IsReady as IsReadyFor}
+use Rattle.rx_register.specs.State.{IsPromised}
+use Rattle.rx_ground.specs.declared.base.Wanted.{Wanted}
+use Rattle.rx_ground.specs.declared.route.Reach.{Reach}
+use Rattle.rx_ground.specs.Costs.{cost_of}
+use Rattle.rx_ground.specs.Reached.{IsReach}
+use Rattle.rx_ground.specs.Shown.{Ground}
+use Rattle.rx_ground.specs.Ties.{IsStanding, IsRoomier, HasRoomBeside}
+use Rattle.rx_book.specs.declared.admit.Wish.{Wish}
+use Rattle.rx_book.specs.declared.admit.Wish.TheVariants.{Open, OpenUsing, Hold, Apply, Lease, Emit, Publish, Connect}
+use Rattle.rx_book.specs.State.{State}
+use Rattle.rx_book.specs.Requests.{Request, stands}
+use Rattle.rx_book.specs.Asked.{request_for}
+use Rattle.rx_book.specs.Shown.{state_of}
+use Rattle.rx_book.specs.Steps.{IsLetIn, IsAdmitted, IsDecided, unless_caused}
+use Rattle.rx_book.proofs.Called.{let_in, within_full, state_roomier}
+
+-- what is decided by the first cause and the cost
+pub decided : (s : State) (asked : Request) (cause : Option Refusal) (cost : Wanted) → first_cause (stands s asked) ≡ cause → cost ≡ cost_of s.history asked.call →
+    cost.notes ≤ 4294967295 → IsDecided s asked (unless_caused cause cost)
+decided s asked None cost none is few = record { ok = is; few = few; none = none; err = tt }
+decided s asked (Some why) cost first is few = record { ok = tt; few = tt; none = tt; err = first }
+
+-- an opening makes two nodes at most
+pub few_opened : (h : List Event) (kind : Kind) → nodes_opened h kind ≤ 2
+few_opened h kind = by_test (forces_connect h kind) where
+  by_test : (b : Bool) → 1 + cond b 1 0 ≤ 2
+  by_test true = omega arith
+  by_test false = omega arith
+
+-- where one is refused `Full` is told by what it adds
+counted : (base : Kept) (s : State) (wish : Wish) (limit : ℕ) → (let asked = request_for s wish in
+    causes base s.history limit asked.is_fresh asked.call Full ≡ is_over base s.history limit (added_by s.history asked.call))
+counted base s (Open at kind) limit = refl
+counted base s (OpenUsing at tag is_fresh) limit = refl
+counted base s (Hold node tag is_fresh) limit = refl
+counted base s (Apply res) limit = refl
+counted base s (Lease res) limit = refl
+counted base s (Emit leaf value) limit = refl
+counted base s (Publish mode) limit = refl
+counted base s (Connect hub) limit = refl
+
+-- and no more has to be known of it
+ready : (s : State) (wish : Wish) → IsReadyFor s.history (request_for s wish).call
+ready s (Open at kind) = tt
+ready s (OpenUsing at tag is_fresh) = tt
+ready s (Hold node tag is_fresh) = tt
+ready s (Apply res) = tt
+ready s (Lease res) = tt
+ready s (Emit leaf value) = tt
+ready s (Publish mode) = tt
+ready s (Connect hub) = tt
+
+-- the cost is within the limit
+pub cost_within : (s : State) (wish : Wish) (cost : Wanted) → first_cause (stands s (request_for s wish)) ≡ None → cost ≡ cost_of s.history (request_for s wish).call →
+    length s.history + debt s.base s.history + cost.events ≤ s.base.at_length + s.limit
+cost_within s wish cost none is =
+    let asked = request_for s wish in
+    let within = within_full s.base asked.call asked.is_known asked.is_fresh s.history s.limit (counted s.base s wish s.limit) none in
+    let added = ap (λ (w : Wanted). w.events) is in
+    omega arith
+
+-- with the room for it, it is admitted
+pub admitted : {T : Type 0} (g : Ghosts T) (old b : Ground T) (wish : Wish) (cost : Wanted) → IsRoomier old b → IsStanding g b → IsPromised b.register →
+    first_cause (stands (state_of g old) (request_for (state_of g old) wish)) ≡ None → cost ≡ cost_of old.register.history (request_for (state_of g old) wish).call →
+    HasRoomBeside b cost → IsAdmitted g b (request_for (state_of g b) wish)
+admitted g old b wish cost roomier standing promised none is has =
+    let same = sym (state_roomier g old b roomier) in
+    let none_now = subst (λ (s : State). first_cause (stands s (request_for s wish)) ≡ None) same none in
+    let is_now = subst (λ (s : State). cost ≡ cost_of s.history (request_for s wish).call) same is in
+    let events = ap (λ (w : Wanted). w.events) is_now in
+    let notes = ap (λ (w : Wanted). w.notes) is_now in
+    record {
+      let_in = let_in g b (request_for (state_of g b) wish) standing promised none_now (ready (state_of g b) wish) (record {
+        events = let e = has.events in omega arith;
+        notes = let n = has.notes in omega arith;
+      });
+      room = subst (λ (w : Wanted). HasRoomBeside b w) is_now has;
+    }
+
+-- and room may come after a call that changes nothing
+pub roomier_after : {T : Type 0} (old mid new : Ground T) → mid ≡ old → IsRoomier mid new → IsRoomier old new
+roomier_after {T = T} old mid new same kept = subst (λ (b : Ground T). IsRoomier b new) same kept
+
+-- what is passed on of an item that goes nowhere
+pub decided_none : (s : State) (asked : Request) (answer : Result Wanted Refusal) (why : Refusal) → IsErrAnd answer (λ e. e ≡ why) →
+    first_cause (stands s asked) ≡ Some why → IsDecided s asked answer
+decided_none s asked (Ok cost) why is first = absurd is
+decided_none s asked (Err e) why is first = record { ok = tt; few = tt; none = tt; err = first ∙ ap (λ (w : Refusal). Some w) (sym is) }
+
+-- the cost of an item, by what it reaches
+pub item_cost : (h : List Event) (nodes : Slots Node) (leaf : Key) (value : ℤ) (reach : Reach) → IsReach h nodes leaf reach →
+    record { events = reach.events; notes = reach.notes; nodes = 0; resources = 0; hubs = 0; leases = 0 } ≡ cost_of h (Emitting leaf.number value)
+item_cost h nodes leaf value reach is = λ i. record { events = is.events i; notes = sym (is.notes value) i; nodes = 0; resources = 0; hubs = 0; leases = 0 }

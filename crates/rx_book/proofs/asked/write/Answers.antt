@@ -1,0 +1,110 @@
+use Rattle.std.proofs.Common.{◌≡◌, true, List, [], ◌∷◌, map, refl, sym, ap, subst}
+use Rattle.std.proofs.lemmas.Bool.{not-false}
+use Rattle.rx_event.specs.declared.event.Event.{Event}
+use Rattle.rx_event.specs.declared.event.Event.TheVariants.{Close}
+use Rattle.rx_event.specs.declared.refusal.Refusal.TheVariants.{Leased}
+use Rattle.rx_event.specs.Calls.{Removing, Disconnecting, outside_of}
+use Rattle.rx_register.specs.Causes.{causes}
+use Rattle.rx_register.specs.State.{Writes}
+use Rattle.rx_register.proofs.Laws.NoCause.{no_cause}
+use Rattle.rx_ground.proofs.Laws.KeysKept.{leases_stay}
+use Rattle.rx_book.proofs.Called.{one_ready, open_asked, owned_asked, out_asked, written_closed, written_held}
+use Rattle.rx_book.proofs.asked.write.Goals as goal
+
+pub write_end-requires-clause-ready : goal.write_end-requires-clause-ready
+write_end-requires-clause-ready g c κs within = rw c.tree_key.ensures (one_ready g.R.Resource c.args.ground.now _ (rw c.in-End.is at c.requires.let_in) _ refl)
+
+pub write_end-requires-clause-open : goal.write_end-requires-clause-open
+write_end-requires-clause-open g c κs within = rw c.tree_key.ensures (open_asked g.R.Resource c.args.ground.now _ (rw c.in-End.is at c.requires.let_in) c.in-End.leaf refl)
+
+pub returns-in-End : goal.returns-in-End
+returns-in-End g c =
+    let u = c.write_end.ensures in
+    rw c.in-End.is (written_closed g.R.Resource c.args.ground.now c.write_end.new.self _ (rw c.tree_key.ensures at u.written) u.tied u.leased u.kept u.resources u.leases)
+
+pub write_end-requires-in-Abort-clause-ready : goal.write_end-requires-in-Abort-clause-ready
+write_end-requires-in-Abort-clause-ready g c κs within = rw c.tree_key-in-Abort.ensures (one_ready g.R.Resource c.args.ground.now _ (rw c.in-Abort.is at c.requires.let_in) _ refl)
+
+pub write_end-requires-in-Abort-clause-open : goal.write_end-requires-in-Abort-clause-open
+write_end-requires-in-Abort-clause-open g c κs within = rw c.tree_key-in-Abort.ensures (open_asked g.R.Resource c.args.ground.now _ (rw c.in-Abort.is at c.requires.let_in) c.in-Abort.node refl)
+
+pub returns-in-Abort : goal.returns-in-Abort
+returns-in-Abort g c =
+    let u = c.write_end-in-Abort.ensures in
+    rw c.in-Abort.is (written_closed g.R.Resource c.args.ground.now c.write_end-in-Abort.new.self _ (rw c.tree_key-in-Abort.ensures at u.written) u.tied u.leased u.kept u.resources u.leases)
+
+pub write_decline-requires-clause-ready : goal.write_decline-requires-clause-ready
+write_decline-requires-clause-ready g c κs within = rw c.tree_key-in-Decline.ensures (one_ready g.R.Resource c.args.ground.now _ (rw c.in-Decline.is at c.requires.let_in) _ refl)
+
+pub write_decline-requires-clause-open : goal.write_decline-requires-clause-open
+write_decline-requires-clause-open g c κs within = rw c.tree_key-in-Decline.ensures (open_asked g.R.Resource c.args.ground.now _ (rw c.in-Decline.is at c.requires.let_in) c.in-Decline.merging refl)
+
+pub returns-in-Decline : goal.returns-in-Decline
+returns-in-Decline g c =
+    let u = c.write_decline.ensures in
+    rw c.in-Decline.is (written_closed g.R.Resource c.args.ground.now c.write_decline.new.self _ (rw c.tree_key-in-Decline.ensures at u.written) u.tied u.leased u.kept u.resources u.leases)
+
+pub write_end-requires-in-Fail-clause-ready : goal.write_end-requires-in-Fail-clause-ready
+write_end-requires-in-Fail-clause-ready g c κs within = rw c.tree_key-in-Fail.ensures (one_ready g.R.Resource c.args.ground.now _ (rw c.in-Fail.is at c.requires.let_in) _ refl)
+
+pub write_end-requires-in-Fail-clause-open : goal.write_end-requires-in-Fail-clause-open
+write_end-requires-in-Fail-clause-open g c κs within = rw c.tree_key-in-Fail.ensures (open_asked g.R.Resource c.args.ground.now _ (rw c.in-Fail.is at c.requires.let_in) c.in-Fail.merging refl)
+
+pub returns-in-Fail : goal.returns-in-Fail
+returns-in-Fail g c =
+    let u = c.write_end-in-Fail.ensures in
+    rw c.in-Fail.is (written_closed g.R.Resource c.args.ground.now c.write_end-in-Fail.new.self _ (rw c.tree_key-in-Fail.ensures at u.written) u.tied u.leased u.kept u.resources u.leases)
+
+pub write_close-requires-clause-ready : goal.write_close-requires-clause-ready
+write_close-requires-clause-ready g c κs within = rw c.tree_key-in-Dispose.ensures (one_ready g.R.Resource c.args.ground.now _ (rw c.in-Dispose.is at c.requires.let_in) _ refl)
+
+pub write_close-requires-clause-open : goal.write_close-requires-clause-open
+write_close-requires-clause-open g c κs within = rw c.tree_key-in-Dispose.ensures (open_asked g.R.Resource c.args.ground.now _ (rw c.in-Dispose.is at c.requires.let_in) c.in-Dispose.root refl)
+
+pub returns-in-Dispose : goal.returns-in-Dispose
+returns-in-Dispose g c =
+    let u = c.write_close.ensures in
+    rw c.in-Dispose.is (written_closed g.R.Resource c.args.ground.now c.write_close.new.self _ (rw c.tree_key-in-Dispose.ensures at u.written) u.tied u.leased u.kept u.resources u.leases)
+
+-- the hub's open connection is closed, and nothing else
+pub write_close-requires-in-Some-clause-ready : goal.write_close-requires-in-Some-clause-ready
+write_close-requires-in-Some-clause-ready g c κs within =
+    one_ready g.R.Resource c.args.ground.now _ (rw c.in-Disconnect.is at c.requires.let_in) _ (ap (map (λ n. Close n)) (sym c.in-Some.ensures.number))
+
+pub returns-in-Some : goal.returns-in-Some
+returns-in-Some g c =
+    let b = c.args.ground.now in
+    let u = c.write_close-in-Some.ensures in
+    let closes : outside_of b.register.history (Disconnecting c.in-Disconnect.hub) ≡ Close c.in-Some.connection.number ∷ [] =
+    ap (map (λ n. Close n)) (sym c.in-Some.ensures.number) in
+    let mid = c.write_close-in-Some.new.self in
+    let w = subst (λ (es : List Event). Writes b.register es mid.register) (sym closes) u.written in
+    rw c.in-Disconnect.is (written_closed g.R.Resource b mid _ w u.tied u.leased u.kept u.resources u.leases)
+
+pub write_remove-requires-clause-ready : goal.write_remove-requires-clause-ready
+write_remove-requires-clause-ready g c κs within = rw c.tree_res_key.ensures (one_ready g.R.Resource c.args.ground.now _ (rw c.in-Remove.is at c.requires.let_in) _ refl)
+
+pub write_remove-requires-clause-owned : goal.write_remove-requires-clause-owned
+write_remove-requires-clause-owned g c κs within =
+    let b = c.args.ground.now in
+    let l = rw c.in-Remove.is at c.requires.let_in in
+    let stand = causes b.register.base b.register.history b.register.limit true (Removing c.in-Remove.res.number) in
+    rw c.tree_res_key.ensures (owned_asked g.R.Resource b _ l c.in-Remove.res refl (not-false _ (no_cause stand l.may.no_cause Leased)))
+
+pub returns-in-Remove : goal.returns-in-Remove
+returns-in-Remove g c =
+    let u = c.write_remove.ensures in
+    rw c.in-Remove.is (written_held g.R.Resource c.args.ground.now c.write_remove.new.self _ (rw c.tree_res_key.ensures at u.written) u.tied u.leased u.nodes u.kept
+    (leases_stay _ _ _ u.leases))
+
+pub write_return-requires-clause-ready : goal.write_return-requires-clause-ready
+write_return-requires-clause-ready g c κs within = rw c.ground_lease_key.ensures (one_ready g.R.Resource c.args.ground.now _ (rw c.in-GiveBack.is at c.requires.let_in) _ refl)
+
+pub write_return-requires-clause-out : goal.write_return-requires-clause-out
+write_return-requires-clause-out g c κs within =
+    rw c.ground_lease_key.ensures (out_asked g.R.Resource c.args.ground.now _ (rw c.in-GiveBack.is at c.requires.let_in) c.in-GiveBack.lease refl)
+
+pub returns-in-GiveBack : goal.returns-in-GiveBack
+returns-in-GiveBack g c =
+    let u = c.write_return.ensures in
+    rw c.in-GiveBack.is (written_held g.R.Resource c.args.ground.now c.write_return.new.self _ (rw c.ground_lease_key.ensures at u.written) u.tied u.leased u.nodes u.kept u.leases)

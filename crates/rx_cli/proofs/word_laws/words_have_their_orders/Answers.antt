@@ -1,0 +1,29 @@
+use Rattle.rx_cli.proofs.Literals.{alone, with_run, with_dump, with_audit, with_storm, with_greatest, beyond, with_help, with_files}
+use Rattle.rx_cli.proofs.word_laws.words_have_their_orders.Goals as goal
+
+pub returns-clause-alone : goal.returns-clause-alone
+returns-clause-alone c = alone
+
+pub returns-clause-with_run : goal.returns-clause-with_run
+returns-clause-with_run c = with_run
+
+pub returns-clause-with_dump : goal.returns-clause-with_dump
+returns-clause-with_dump c = with_dump
+
+pub returns-clause-with_audit : goal.returns-clause-with_audit
+returns-clause-with_audit c = with_audit
+
+pub returns-clause-with_storm : goal.returns-clause-with_storm
+returns-clause-with_storm c = with_storm
+
+pub returns-clause-with_greatest : goal.returns-clause-with_greatest
+returns-clause-with_greatest c = with_greatest
+
+pub returns-clause-beyond : goal.returns-clause-beyond
+returns-clause-beyond c = beyond
+
+pub returns-clause-help : goal.returns-clause-help
+returns-clause-help c = with_help
+
+pub returns-clause-files : goal.returns-clause-files
+returns-clause-files c = with_files

@@ -1,0 +1,109 @@
+-- The definitions at worked examples: what a base keeps, and what it shows.
+use Rattle.std.proofs.Common.{◌≡◌, true, false, List, [], ◌∷◌, refl, pos}
+use Rattle.rx_note.specs.declared.note.Terminal.TheVariants.{Completed}
+use Rattle.rx_event.specs.declared.event.Place.TheVariants.{Root, Source, Inner}
+use Rattle.rx_event.specs.declared.event.Kind.TheVariants.{Leaf, Pass, Flat}
+use Rattle.rx_event.specs.declared.event.Mode.TheVariants.{Auto}
+use Rattle.rx_event.specs.declared.event.Event.{Event}
+use Rattle.rx_event.specs.declared.event.Event.TheVariants.{Open, Hub, Accept, Use, Remove, Item, End, Close, Take}
+use Rattle.rx_event.specs.declared.base.BaseState.TheVariants.{Owned, Waiting}
+use Rattle.rx_event.specs.Tree.{parent, ancestors, is_shut, is_open}
+use Rattle.rx_event.specs.Resources.{is_owned, is_out, leases_of, is_held, is_taken, is_waiting, uses}
+use Rattle.rx_event.specs.Climb.{most_visits, climb, stops}
+use Rattle.rx_event.specs.Moments.{moments, projections, owed}
+use Rattle.rx_event.specs.Marks.{source_completed}
+use Rattle.rx_event.specs.Kept.{Kept, nothing_kept, shown, stored}
+use Rattle.rx_event.specs.Opened.{source_opened}
+use Rattle.rx_event.specs.Bases.{base_of}
+
+-- a FlatMap whose source was opened and completed, and which owes one item; the leaf is forgotten
+abbrev projected : List Event
+projected = Open Root Flat ∷ Open (Source 0) Leaf ∷ Item 1 (pos 5) ∷ End 1 Completed ∷ []
+
+abbrev projected_base : Kept
+projected_base =
+    record {
+      at_length = 4;
+      items = 1;
+      accepted = 0;
+      taken = 0;
+      hubs = [];
+      nodes = (record { number = 0; made = Open Root Flat; source_opened = true; notifier_opened = false; source_completed = true; owed = 1 }) ∷ [];
+      resources = [];
+      leases = [];
+    }
+
+projected_kept : base_of nothing_kept projected ≡ projected_base
+unfolding base_of shown owed projections moments stops climb most_visits is_open is_shut ancestors parent source_completed is_held is_owned is_out leases_of
+    is_waiting is_taken
+projected_kept = refl
+
+projected_shown : shown projected_base ≡ Open Root Flat ∷ Close 1 ∷ Close 2 ∷ Close 3 ∷ []
+unfolding shown
+projected_shown = refl
+
+-- its source's place stays taken, and an inner pays
+still_opened : source_opened projected_base (stored projected_base (Open (Inner 0) Leaf ∷ [])) 0 ≡ true
+unfolding shown
+still_opened = refl
+
+paid : owed projected_base (stored projected_base (Open (Inner 0) Leaf ∷ [])) 0 ≡ 0
+unfolding owed shown projections moments stops climb most_visits is_open is_shut ancestors parent
+paid = refl
+
+-- and the base of that, again
+abbrev paid_base : Kept
+paid_base =
+    record {
+      at_length = 5;
+      items = 1;
+      accepted = 0;
+      taken = 0;
+      hubs = [];
+      nodes =
+          (record { number = 0; made = Open Root Flat; source_opened = true; notifier_opened = false; source_completed = true; owed = 0 })
+          ∷ (record { number = 4; made = Open (Inner 0) Leaf; source_opened = false; notifier_opened = false; source_completed = false; owed = 0 }) ∷ [];
+      resources = [];
+      leases = [];
+    }
+
+paid_kept : base_of projected_base (stored projected_base (Open (Inner 0) Leaf ∷ [])) ≡ paid_base
+unfolding base_of shown owed projections moments stops climb most_visits is_open is_shut ancestors parent source_completed is_held is_owned is_out leases_of
+    is_waiting is_taken
+paid_kept = refl
+
+-- resources: one held and used once, one removed at an open node, which waits, and one taken, which is forgotten
+abbrev resourceful : List Event
+resourceful = Hub Auto ∷ Open Root Pass ∷ Accept 1 7 ∷ Use 2 ∷ Accept 1 8 ∷ Remove 4 ∷ Accept 1 9 ∷ Remove 6 ∷ Take 6 ∷ []
+
+abbrev resourceful_base : Kept
+resourceful_base =
+    record {
+      at_length = 9;
+      items = 0;
+      accepted = 3;
+      taken = 1;
+      hubs = (record { number = 0; mode = Auto }) ∷ [];
+      nodes = (record { number = 1; made = Open Root Pass; source_opened = false; notifier_opened = false; source_completed = false; owed = 0 }) ∷ [];
+      resources = (record { number = 2; node = 1; tag = 7; uses = 1; state = Owned }) ∷ (record
+          { number = 4; node = 1; tag = 8; uses = 0; state = Waiting }) ∷ [];
+      leases = [];
+    }
+
+resourceful_kept : base_of nothing_kept resourceful ≡ resourceful_base
+unfolding base_of shown owed projections moments stops climb most_visits is_open is_shut ancestors parent source_completed is_held is_owned is_out leases_of
+    is_waiting is_taken uses
+resourceful_kept = refl
+
+-- after it the first can be used, and the second waits
+used_on : uses resourceful_base (stored resourceful_base (Use 2 ∷ [])) 2 ≡ 2
+unfolding shown uses
+used_on = refl
+
+held_on : is_held (stored resourceful_base []) 2 ≡ true
+unfolding shown is_held is_owned is_out leases_of is_open is_shut ancestors parent
+held_on = refl
+
+waits_on : is_waiting (stored resourceful_base []) 4 ≡ true
+unfolding shown is_waiting is_held is_owned is_out leases_of is_taken is_open is_shut ancestors parent
+waits_on = refl

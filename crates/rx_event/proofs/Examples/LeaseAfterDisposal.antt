@@ -1,0 +1,167 @@
+-- The definitions at worked examples: a lease that is given back after its subscription was disposed of.
+use Rattle.std.proofs.Common.{◌≡◌, true, false, Some, List, [], ◌∷◌, ◌++◌, refl}
+use Rattle.rx_event.specs.declared.base.BaseState.TheVariants.{Leased}
+use Rattle.rx_event.specs.declared.event.Place.TheVariants.{Root}
+use Rattle.rx_event.specs.declared.event.Kind.TheVariants.{Pass}
+use Rattle.rx_event.specs.declared.event.Event.{Event}
+use Rattle.rx_event.specs.declared.event.Event.TheVariants.{Open, Accept, Use, Remove, Lease, Return, Close, Take}
+use Rattle.rx_event.specs.Tree.{parent, ancestors, is_shut, is_open}
+use Rattle.rx_event.specs.Resources.{is_owned, is_out, leases_of, leases_out, is_held, is_taken, is_waiting, held_resources, waiting_resources, uses}
+use Rattle.rx_event.specs.Resources.{accepted_by}
+use Rattle.rx_event.specs.Climb.{most_visits, climb, stops}
+use Rattle.rx_event.specs.Moments.{moments, projections, is_fired, owed}
+use Rattle.rx_event.specs.Marks.{child_terminal, source_completed, open_children}
+use Rattle.rx_event.specs.Totals.{debt}
+use Rattle.rx_event.specs.Forced.{IsSettled}
+use Rattle.rx_event.specs.Allowed.{used, leased, returned, taken, IsAllowed}
+use Rattle.rx_event.specs.Canonical.{source_end, first_forced}
+use Rattle.rx_event.specs.Kept.{Kept, nothing_kept, shown, stored}
+use Rattle.rx_event.specs.Bases.{base_of}
+use Rattle.rx_event.proofs.Laws.InOrder.{settled_by_order}
+
+-- a Using subscription whose resource is leased, and which is then disposed of
+abbrev using : List Event
+using = Open Root Pass ∷ Accept 0 7 ∷ []
+
+abbrev lent : List Event
+lent = using ++ Lease 1 ∷ []
+
+abbrev disposed : List Event
+disposed = lent ++ Close 0 ∷ []
+
+may_lease_it : IsAllowed nothing_kept using (Lease 1)
+unfolding is_owned is_open is_shut ancestors parent
+may_lease_it = leased refl
+
+lent_out : leases_out lent ≡ 2 ∷ []
+unfolding is_out
+lent_out = refl
+
+-- nothing waits: the lease keeps it held
+disposed_waiting : waiting_resources disposed ≡ []
+unfolding is_waiting is_taken is_held is_owned is_out leases_of is_open is_shut ancestors parent
+disposed_waiting = refl
+
+disposed_held : held_resources disposed ≡ 1 ∷ []
+unfolding is_held is_owned is_out leases_of is_open is_shut ancestors parent
+disposed_held = refl
+
+disposed_leases : leases_of disposed 1 ≡ 1
+unfolding leases_of is_out
+disposed_leases = refl
+
+disposed_settled : IsSettled nothing_kept disposed
+unfolding first_forced source_end child_terminal source_completed open_children is_fired owed projections moments stops climb most_visits is_open is_shut
+    ancestors parent shown
+disposed_settled = settled_by_order nothing_kept disposed refl
+
+-- it may be used still, but neither leased nor removed
+may_use_it : IsAllowed nothing_kept disposed (Use 1)
+unfolding is_held is_owned is_out leases_of is_open is_shut ancestors parent
+may_use_it = used refl
+
+abbrev applied : List Event
+applied = disposed ++ Use 1 ∷ []
+
+applied_owned : is_owned applied 1 ≡ false
+unfolding is_owned is_open is_shut ancestors parent
+applied_owned = refl
+
+may_give_back : IsAllowed nothing_kept applied (Return 2)
+unfolding is_out
+may_give_back = returned refl
+
+-- at its last return it waits, is taken with its uses, and the lease is out no more
+abbrev given_back : List Event
+given_back = applied ++ Return 2 ∷ []
+
+given_back_waiting : waiting_resources given_back ≡ 1 ∷ []
+unfolding is_waiting is_taken is_held is_owned is_out leases_of is_open is_shut ancestors parent
+given_back_waiting = refl
+
+given_back_out : is_out given_back 2 ≡ false
+unfolding is_out
+given_back_out = refl
+
+may_take_it : IsAllowed nothing_kept given_back (Take 1)
+unfolding is_waiting is_taken is_held is_owned is_out leases_of is_open is_shut ancestors parent
+may_take_it = taken refl
+
+abbrev released : List Event
+released = given_back ++ Take 1 ∷ []
+
+released_uses : uses nothing_kept released 1 ≡ 1
+unfolding uses
+released_uses = refl
+
+released_held : is_held released 1 ≡ false
+unfolding is_held is_owned is_out leases_of is_open is_shut ancestors parent
+released_held = refl
+
+-- what closing everything may still add, from call to call
+using_debt : debt nothing_kept using ≡ 3
+unfolding debt owed projections moments stops climb most_visits is_held is_owned is_out leases_of is_taken is_waiting is_open is_shut ancestors parent shown
+using_debt = refl
+
+lent_debt : debt nothing_kept lent ≡ 4
+unfolding debt owed projections moments stops climb most_visits is_held is_owned is_out leases_of is_taken is_waiting is_open is_shut ancestors parent shown
+lent_debt = refl
+
+disposed_debt : debt nothing_kept disposed ≡ 2
+unfolding debt owed projections moments stops climb most_visits is_held is_owned is_out leases_of is_taken is_waiting is_open is_shut ancestors parent shown
+disposed_debt = refl
+
+given_back_debt : debt nothing_kept given_back ≡ 1
+unfolding debt owed projections moments stops climb most_visits is_held is_owned is_out leases_of is_taken is_waiting is_open is_shut ancestors parent shown
+given_back_debt = refl
+
+released_debt : debt nothing_kept released ≡ 0
+unfolding debt owed projections moments stops climb most_visits is_held is_owned is_out leases_of is_taken is_waiting is_open is_shut ancestors parent shown
+released_debt = refl
+
+-- what is removed while a lease of it is out is held by that alone, and waits at its return
+abbrev removed_early : List Event
+removed_early = lent ++ Remove 1 ∷ []
+
+removed_early_held : held_resources removed_early ≡ 1 ∷ []
+unfolding is_held is_owned is_out leases_of is_open is_shut ancestors parent
+removed_early_held = refl
+
+removed_early_waiting : waiting_resources (removed_early ++ Return 2 ∷ []) ≡ 1 ∷ []
+unfolding is_waiting is_taken is_held is_owned is_out leases_of is_open is_shut ancestors parent
+removed_early_waiting = refl
+
+-- the base of the disposed one keeps the lease, and the resource as held by leases alone
+abbrev disposed_base : Kept
+disposed_base =
+    record {
+      at_length = 4;
+      items = 0;
+      accepted = 1;
+      taken = 0;
+      hubs = [];
+      nodes = [];
+      resources = (record { number = 1; node = 0; tag = 7; uses = 0; state = Leased }) ∷ [];
+      leases = (record { number = 2; resource = 1 }) ∷ [];
+    }
+
+disposed_kept : base_of nothing_kept disposed ≡ disposed_base
+unfolding base_of shown owed projections moments stops climb most_visits is_open is_shut ancestors parent source_completed is_held is_owned is_out leases_of
+    is_waiting is_taken uses
+disposed_kept = refl
+
+disposed_shown : shown disposed_base ≡ Close 0 ∷ Accept 1 7 ∷ Lease 1 ∷ Close 3 ∷ []
+unfolding shown
+disposed_shown = refl
+
+-- after it the resource is held, and waits at the return, at its own node and with its own tag
+kept_held : is_held (stored disposed_base []) 1 ≡ true
+unfolding shown is_held is_owned is_out leases_of is_open is_shut ancestors parent
+kept_held = refl
+
+kept_given_back : waiting_resources (stored disposed_base (Return 2 ∷ [])) ≡ 1 ∷ []
+unfolding shown is_waiting is_taken is_held is_owned is_out leases_of is_open is_shut ancestors parent
+kept_given_back = refl
+
+kept_accepted : accepted_by disposed_base (stored disposed_base (Return 2 ∷ [])) 1 ≡ Some (Accept 0 7)
+kept_accepted = refl

@@ -1,0 +1,109 @@
+-- What makes way for a node takes no memory, and leaves a ground that is ready for it.
+use Rattle.std.proofs.Common.{◌≡◌, ◌+◌, ◌<◌, ◌≤◌, ◌∙◌, ℕ, Bool, List, Option, IfSome, length, sym, ap, subst, arith}
+use Rattle.rx_resource.specs.declared.Resource.{Ghosts}
+use Rattle.rx_event.specs.declared.event.Event.{Event}
+use Rattle.rx_event.specs.declared.event.Event.TheVariants.{Open}
+use Rattle.rx_event.specs.declared.event.Kind.{Kind}
+use Rattle.rx_event.specs.declared.event.Place.{Place}
+use Rattle.rx_event.specs.Lawful.{MayFollow, IsLawful}
+use Rattle.rx_register.specs.State.{IsPromised, Writes}
+use Rattle.rx_slots.specs.declared.Key.{Key}
+use Rattle.rx_slots.specs.Slots.{find}
+use Rattle.rx_tree.specs.Owed.{owed_in}
+use Rattle.rx_tree.specs.Tree.{Tree, IsSound}
+use Rattle.rx_hub.specs.After.{hubs_after, with_made}
+use Rattle.rx_hub.specs.Hubs.{Hubs}
+use Rattle.rx_ground.specs.Inners.{MakesWay, ClearsHubs}
+use Rattle.rx_ground.specs.Memory.{TakesNoMemory}
+use Rattle.rx_ground.specs.Shown.{Ground}
+use Rattle.rx_ground.specs.Ties.{AreTied}
+use Rattle.rx_ground.proofs.Memory.{written_memory}
+use Rattle.rx_ground.proofs.Owing.{owed_in-bounded}
+use Rattle.rx_ground.proofs.HubsAtOpening.{hubs_opened}
+use Rattle.rx_ground.proofs.ReadyToOpen.{IsReadyToOpen, IsOpenedBelow, few_above}
+
+module _ {T : Type 0} where
+  -- what making way for a node leaves of a ground
+  pub record IsLeft (place : Place) (replaces : Bool) (old left : Ground T) : Type 0 where
+    pub way : MakesWay old.register.history place old.tree left.tree replaces
+    pub hubs : ClearsHubs old.register.history place old.tree left.tree old.hubs left.hubs replaces
+    pub register : left.register ≡ old.register
+    pub leases : left.leases ≡ old.leases
+    pub owed : owed_in left.tree.nodes ≤ owed_in old.tree.nodes
+    pub room : old.tree.nodes.room ≤ left.tree.nodes.room
+    pub memory : TakesNoMemory old left
+
+  -- so it is ready for the node, which may be opened
+  pub record IsWayMade (g : Ghosts T) (place : Place) (kind : Kind) (old left : Ground T) (replaces : Bool) : Type 0 where
+    pub ready : IsReadyToOpen old.register.base g old.register.history place kind old.tree left.tree old.hubs left.hubs replaces
+    pub stays : IsLeft place replaces old left
+
+  -- that is so of the grounds that a call has where it is so of those that it tells
+  pub way_made : {g : Ghosts T} {place : Place} {kind : Kind} {old now left after : Ground T} {replaces : Bool} → old ≡ now → left ≡ after →
+      IsLawful old.register.base old.register.history → MayFollow now.register.base now.register.history (Open place kind) →
+      AreTied now.register.base g now.register.history now.tree now.hubs → IsSound old.tree.nodes → IsLeft place replaces now after →
+      IsWayMade g place kind old left replaces
+  way_made {g = g} {place = place} {kind = kind} {old = old} {now = now} {left = left} {replaces = replaces} was is law next tied sound told =
+      let stays = subst (λ (b : Ground T). IsLeft place replaces b left) (sym was) (subst (IsLeft place replaces now) (sym is) told) in
+      record {
+        ready = record {
+          law = law;
+          next = subst (λ (b : Ground T). MayFollow b.register.base b.register.history (Open place kind)) (sym was) next;
+          tied = subst (λ (b : Ground T). AreTied b.register.base g b.register.history b.tree b.hubs) (sym was) tied;
+          sound = sound;
+          way = stays.way;
+          clears = stays.hubs;
+        };
+        stays = stays;
+      }
+
+  -- what all nodes owe can still be counted
+  pub few_owed : {g : Ghosts T} {place : Place} {kind : Kind} {old left : Ground T} {replaces : Bool} → IsWayMade g place kind old left replaces →
+      IsPromised old.register → owed_in left.tree.nodes < 9223372036854775808
+  few_owed {g = g} {old = old} w promised =
+      let all = owed_in-bounded g old.register old.tree w.ready.tied.of_tree promised w.ready.sound.apart in
+      let less = w.stays.owed in
+      omega arith
+
+  -- and so can the children of the node above
+  pub few_children : {g : Ghosts T} {place : Place} {kind : Kind} {old left : Ground T} {replaces : Bool} {mid : Tree T} {key : Key}
+      {above : Option Key} → IsWayMade g place kind old left replaces → IsPromised old.register →
+      IsOpenedBelow old.register.history place kind above old.tree left.tree mid key →
+      IfSome above (λ k. IfSome (find mid.nodes k) (λ node. node.marks.open_children + 1 < 18446744073709551616))
+  few_children w promised below =
+      let within = promised.within in
+      let limited = promised.limited in
+      let placed = promised.placed in
+      few_above w.ready below 18446744073709551615 (omega arith)
+
+  -- the hubs that the node joined are those after the opening
+  pub hubs_told : {g : Ghosts T} {place : Place} {kind : Kind} {old now left : Ground T} {replaces : Bool} {last : Hubs} →
+      IsWayMade g place kind old left replaces → old ≡ now → (key : Key) → key.number ≡ length old.register.history →
+      last ≡ record left.hubs { hubs = with_made key (Open place kind) left.hubs.hubs } →
+      last ≡ record now.hubs { hubs = hubs_after now.register.history (Open place kind) key.slot now.hubs.hubs }
+  hubs_told {place = place} {kind = kind} {last = last} w was key numbered made =
+      subst (λ (b : Ground T). last ≡ record b.hubs { hubs = hubs_after b.register.history (Open place kind) key.slot b.hubs.hubs }) was
+      (hubs_opened w.ready key numbered made)
+
+  -- the node's slot is among those at which a subscriber may stand
+  pub slot_within : {place : Place} {replaces : Bool} {old left : Ground T} → IsLeft place replaces old left →
+      left.hubs ≡ record old.hubs { hubs = left.hubs.hubs } →
+      (0 < length old.hubs.hubs → old.tree.nodes.count + old.tree.nodes.room ≤ old.hubs.slots) → 0 < length left.hubs.hubs →
+      (slot : ℕ) → slot < left.tree.nodes.count + left.tree.nodes.room → slot < left.hubs.slots
+  slot_within x rest reserved some slot within =
+      let room = ap (λ (s : Hubs). s.room) rest in
+      let slots = ap (λ (s : Hubs). s.slots) rest in
+      let hubs = x.memory.hubs in
+      let nodes = x.memory.nodes in
+      let enough = reserved (omega arith) in
+      omega arith
+
+  -- an event that is written then takes no memory beside its own
+  pub left_memory : {place : Place} {replaces : Bool} {old left new : Ground T} → IsLeft place replaces old left → (es : List Event) →
+      Writes old.register es new.register → new.tree.nodes.count + new.tree.nodes.room ≡ left.tree.nodes.count + left.tree.nodes.room →
+      new.tree.resources ≡ left.tree.resources → new.tree.nodes.count + new.space ≡ left.tree.nodes.count + left.space →
+      length new.hubs.hubs + new.hubs.room ≡ length left.hubs.hubs + left.hubs.room → new.hubs.slots ≡ left.hubs.slots → TakesNoMemory old new
+  left_memory x es written nodes resources space hubs slots =
+      let m = x.memory in
+      written_memory es written (nodes ∙ m.nodes) (ap (λ s. s.count + s.room) resources ∙ m.resources) (space ∙ m.closing) (hubs ∙ m.hubs)
+      (slots ∙ m.slots)

@@ -1,0 +1,147 @@
+//! What each call may cost: the one table that its cause and its reservation read.
+
+ghost use Rattle.std.specs.Prelude.{◌≡◌, []};
+ghost use Rattle.rx_event.specs.declared.event.Mode.{Mode};
+ghost use Rattle.rx_event.specs.Calls.{Opening, OpeningUsing, Holding, Applying, Leasing, Publishing, Connecting};
+ghost use Rattle.rx_register.specs.Causes.{end_at as end_at_in};
+ghost use Rattle.rx_ground.specs.Costs.{cost_of};
+ghost use Rattle.rx_ground.specs.Ties.{IsStanding};
+
+use crate::base::{Ground, Wanted};
+use crate::route::Reach;
+use rx_event::{Kind, Place};
+use rx_resource::Resource;
+
+/// How many events the end of a node at this place has to be given, when it is opened: 0 for an inner,
+/// whose end the item was given that it was projected for, and 1 at each other place.
+fn end_at(place: Place) -> u64
+    ensures { result ≡ end_at_in place }
+{
+    match place {
+        Place::Inner(_) => 0,
+        Place::Root | Place::Source(_) | Place::Notifier(_) => 1,
+    }
+}
+
+// The rows that are the same at each history and for each number.
+impl Wanted {
+    /// Of opening a node with a resource: both events, one for the node's end, and two for the resource's
+    /// removal and its taking.
+    pub fn of_using(place: Place) -> Self
+        ensures { result ≡ cost_of [] (OpeningUsing place 0) }
+    {
+        Wanted {
+            events: 4 + end_at(place),
+            notes: 1,
+            nodes: 1,
+            resources: 1,
+            hubs: 0,
+            leases: 0,
+        }
+    }
+
+    /// Of holding a resource: its event, and two for its removal and its taking.
+    pub fn of_holding() -> Self
+        ensures { result ≡ cost_of [] (Holding 0 0) }
+    {
+        Wanted {
+            events: 3,
+            notes: 0,
+            nodes: 0,
+            resources: 1,
+            hubs: 0,
+            leases: 0,
+        }
+    }
+
+    /// Of using a resource: its event.
+    pub fn of_applying() -> Self
+        ensures { result ≡ cost_of [] (Applying 0) }
+    {
+        Wanted {
+            events: 1,
+            notes: 0,
+            nodes: 0,
+            resources: 0,
+            hubs: 0,
+            leases: 0,
+        }
+    }
+
+    /// Of a lease: its event, and one for its return.
+    pub fn of_leasing() -> Self
+        ensures { result ≡ cost_of [] (Leasing 0) }
+    {
+        Wanted {
+            events: 2,
+            notes: 0,
+            nodes: 0,
+            resources: 0,
+            hubs: 0,
+            leases: 1,
+        }
+    }
+
+    /// Of an item, by what it reaches.
+    pub fn of_item(reach: Reach) -> Self
+        ensures { result ≡ record { events = reach.events; notes = reach.notes; nodes = 0; resources = 0; hubs = 0; leases = 0 } }
+    {
+        Wanted {
+            events: reach.events,
+            notes: reach.notes,
+            nodes: 0,
+            resources: 0,
+            hubs: 0,
+            leases: 0,
+        }
+    }
+
+    /// Of making a hub: its event.
+    pub fn of_hub() -> Self
+        ensures { result ≡ cost_of [] (Publishing Mode.Auto) }
+    {
+        Wanted {
+            events: 1,
+            notes: 0,
+            nodes: 0,
+            resources: 0,
+            hubs: 1,
+            leases: 0,
+        }
+    }
+
+    /// Of connecting a hub: its event, and one for the connection's end.
+    pub fn of_connecting() -> Self
+        ensures { result ≡ cost_of [] (Connecting 0) }
+    {
+        Wanted {
+            events: 2,
+            notes: 1,
+            nodes: 1,
+            resources: 0,
+            hubs: 0,
+            leases: 0,
+        }
+    }
+}
+
+impl<R: Resource> Ground<R> {
+    /// Of opening such a node there: its event, and one for its end; with a connection that it forces, two
+    /// more.
+    pub fn opening_cost(&self, place: Place, kind: Kind) -> Wanted
+        requires standing { IsStanding R.Resource self.now }
+        ensures { result ≡ cost_of self.now.register.history (Opening place kind) }
+    {
+        let connects = self.forces_connect(kind);
+        let events: u64 = if connects { 3 } else { 1 };
+        let nodes: u64 = if connects { 2 } else { 1 };
+        Wanted {
+            events: events + end_at(place),
+            notes: nodes,
+            nodes: nodes as usize,
+            resources: 0,
+            hubs: 0,
+            leases: 0,
+        }
+    }
+}

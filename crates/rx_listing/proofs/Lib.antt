@@ -1,0 +1,3 @@
+pub mod Rises
+pub mod Knowing
+pub mod Keeping

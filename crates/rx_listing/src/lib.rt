@@ -1,0 +1,33 @@
+//! What a book holds, as text: its open nodes, its resources and leases and its hubs, under their names.
+//!
+//! # Vocabulary
+//!
+//! - [`Known`] is what is known beside the book: what its numbers are called, and its [`Past`], which has what
+//!   is told of the events before its last checkpoint.
+//! - An **object** is what is said of one number; a **part** of the text has the objects of one kind, by rising
+//!   number.
+//!
+//! # Promised, and not
+//!
+//! - [`rising`] gives each number that has a name once, by rising number; [`since`] the place of the last
+//!   checkpoint.
+//! - Of the whole text nothing is promised yet; each object is the text of `specs/Text.antt`.
+//! - What is told of a book goes over the events since its last checkpoint and over what has names, and changes
+//!   nothing.
+#![tactic(auto)]
+
+mod counts;
+mod known;
+mod list;
+mod numbers;
+mod object;
+mod past;
+mod recent;
+mod seen;
+mod text;
+
+pub use known::Known;
+pub use list::list_text;
+pub use numbers::rising;
+pub use past::{Past, past_of};
+pub use recent::{is_since, since};
