@@ -13,7 +13,7 @@ use Rattle.rx_event.specs.Refusals.{first_cause}
 use Rattle.rx_slots.specs.declared.Key.{Key}
 use Rattle.rx_slots.specs.Slots.{Slots}
 use Rattle.rx_tree.specs.declared.node.Node.{Node}
-use Rattle.rx_register.specs.Causes.{causes, added_by, is_over, forces_connect, nodes_opened}
+use Rattle.rx_event.specs.Causes.{causes, added_by, is_over, forces_connect, nodes_opened}
 use Rattle.rx_register.specs.Claims.{IsReady as IsReadyFor}
 use Rattle.rx_register.specs.State.{IsPromised}
 use Rattle.rx_ground.specs.declared.base.Wanted.{Wanted}

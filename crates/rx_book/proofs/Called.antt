@@ -24,7 +24,7 @@ use Rattle.rx_event.proofs.Laws.Counts.{notes-push}
 use Rattle.rx_event.proofs.Laws.Lawful.{IsLawful-push}
 use Rattle.rx_event.proofs.Laws.Waits.{settled_connected, waits_after, forced_connected, kept_unsubscribed}
 use Rattle.rx_register.specs.State.{State as Register, IsPromised, Writes}
-use Rattle.rx_register.specs.Causes.{causes, added_by, by_key_of, is_over}
+use Rattle.rx_event.specs.Causes.{causes, added_by, by_key_of, is_over}
 use Rattle.rx_register.specs.Paid.{IsPaid, HasRoomFor, Fits, notes_added}
 use Rattle.rx_register.specs.Claims.{MayFollowInTurn, IsReady as IsReadyFor}
 use Rattle.rx_register.proofs.Laws.NoCause.{no_cause}

@@ -9,7 +9,7 @@ use Rattle.rx_tree.specs.declared.node.ResKey.{ResKey as TreeResKey}
 use Rattle.rx_lease.specs.Leases.{is_out_at}
 use Rattle.rx_tree.specs.Tree.{Tree}
 use Rattle.rx_tree.specs.Resources.{is_held_at}
-use Rattle.rx_register.specs.Causes.{by_key, by_res_key, by_lease_key, by_key_of}
+use Rattle.rx_event.specs.Causes.{by_key, by_res_key, by_lease_key, by_key_of}
 use Rattle.rx_register.proofs.Laws.NoCause.{no_cause}
 use Rattle.rx_ground.specs.Ties.{is_there}
 use Rattle.rx_book.specs.declared.key.Key.{Key}

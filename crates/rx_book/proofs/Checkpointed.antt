@@ -6,7 +6,7 @@ use Rattle.rx_event.specs.Bases.{base_of, Agree}
 use Rattle.rx_event.specs.declared.refusal.Refusal.{Refusal}
 use Rattle.rx_event.specs.Refusals.{first_cause, IsRefusal}
 use Rattle.rx_event.proofs.Laws.Checkpoints.{kept_agrees}
-use Rattle.rx_register.specs.Causes.{checkpoint_causes}
+use Rattle.rx_event.specs.Causes.{checkpoint_causes}
 use Rattle.rx_register.specs.State.{IsPromised as IsRegisterPromised}
 use Rattle.rx_slots.specs.Slots.{Slots}
 use Rattle.rx_tree.specs.declared.node.ResKey.{ResKey as TreeResKey}

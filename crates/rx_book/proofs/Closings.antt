@@ -29,7 +29,7 @@ use Rattle.rx_event.proofs.Laws.Steps.{may_be_forced, forced_kind}
 use Rattle.rx_event.proofs.Laws.Totals.{accepted_count-parts}
 use Rattle.rx_event.proofs.Laws.LetGo.{nothing_open}
 use Rattle.rx_event.proofs.Laws.Closings.{OpensNoneUpTo, makes_neither_opens, roots_before, let_go_after, manual_hub}
-use Rattle.rx_register.specs.Causes.{has_connection}
+use Rattle.rx_event.specs.Causes.{has_connection}
 use Rattle.rx_register.proofs.Laws.Connecting.{connects_none, connects_one}
 use Rattle.rx_ground.specs.Told.{is_connected_manual}
 use Rattle.rx_book.specs.declared.key.Key.{Key}

@@ -6,7 +6,7 @@ use Rattle.rx_event.specs.declared.event.Event.TheVariants.{Close}
 use Rattle.rx_event.specs.Calls.{outside_of}
 use Rattle.rx_event.specs.Refusals.{first_cause}
 use Rattle.rx_event.specs.Tree.{open_connections}
-use Rattle.rx_register.specs.Causes.{added_by}
+use Rattle.rx_event.specs.Causes.{added_by}
 use Rattle.rx_register.specs.Paid.{notes_added}
 use Rattle.rx_register.specs.Claims.{IsReady as IsReadyFor}
 use Rattle.rx_register.specs.State.{IsPromised}

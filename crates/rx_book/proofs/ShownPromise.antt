@@ -23,7 +23,7 @@ use Rattle.rx_tree.specs.declared.node.Stowed.{Stowed}
 use Rattle.rx_tree.specs.declared.node.ResKey.{ResKey as TreeResKey}
 use Rattle.rx_tree.specs.Tree.{AreApart, IsPromised as IsTreePromised}
 use Rattle.rx_register.specs.State.{IsPromised as IsRegisterPromised}
-use Rattle.rx_register.specs.Causes.{has_connection}
+use Rattle.rx_event.specs.Causes.{has_connection}
 use Rattle.rx_ground.specs.Shown.{Ground, Label, Kept, kept_in, held_in, waiting_in, label_in}
 use Rattle.rx_ground.specs.Ties.{IsStored, IsStanding}
 use Rattle.rx_ground.proofs.Laws.Numbers.{ListsJust}

@@ -4,7 +4,7 @@ use Rattle.rx_event.specs.declared.refusal.Refusal.{Refusal}
 use Rattle.rx_event.specs.Kept.{shown}
 use Rattle.rx_event.specs.Bases.{base_of, Agree}
 use Rattle.rx_event.specs.Refusals.{first_cause, IsRefusal}
-use Rattle.rx_register.specs.Causes.{checkpoint_causes}
+use Rattle.rx_event.specs.Causes.{checkpoint_causes}
 use Rattle.rx_book.specs.State.{State}
 
 -- what old's history leaves stands in its place and no event follows it; the two agree, what is there is as before under its keys,

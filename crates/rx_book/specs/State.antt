@@ -14,7 +14,7 @@ use Rattle.rx_event.specs.Notes.{notes, notes_to}
 use Rattle.rx_event.specs.Totals.{debt, item_count, accepted_count, taken_count}
 use Rattle.rx_event.specs.Lawful.{IsLawful}
 use Rattle.rx_event.specs.Forced.{IsSettled}
-use Rattle.rx_register.specs.Causes.{has_connection}
+use Rattle.rx_event.specs.Causes.{has_connection}
 use Rattle.rx_ground.specs.Shown.{Label}
 use Rattle.rx_book.specs.declared.key.Key.{Key}
 use Rattle.rx_book.specs.declared.key.ResKey.{ResKey}

@@ -14,6 +14,7 @@ pub mod Allowed
 pub mod Lawful
 pub mod Calls
 pub mod Refusals
+pub mod Causes
 pub mod Stored
 pub mod Renumbered
 pub mod Canonical

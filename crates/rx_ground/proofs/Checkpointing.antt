@@ -13,7 +13,7 @@ use Rattle.rx_event.specs.Forced.{IsSettled}
 use Rattle.rx_event.specs.Notes.{notes}
 use Rattle.rx_event.specs.Refusals.{first_cause}
 use Rattle.rx_event.specs.Totals.{debt, item_count, accepted_count, taken_count}
-use Rattle.rx_register.specs.Causes.{checkpoint_causes}
+use Rattle.rx_event.specs.Causes.{checkpoint_causes}
 use Rattle.rx_register.specs.State.{State as Register, Rebases, IsPromised as IsRegisterPromised}
 use Rattle.rx_register.proofs.Laws.NoCause.{no_cause}
 use Rattle.rx_tree.specs.Bases.{IsByNumber, kept_by, node_as_kept, resource_as_kept}

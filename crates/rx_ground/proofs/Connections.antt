@@ -22,7 +22,7 @@ use Rattle.rx_hub.specs.declared.hub.Published.{Published}
 use Rattle.rx_hub.specs.Hubs.{Hub, Hubs, IsPromised, find_hub, published_of}
 use Rattle.rx_hub.specs.Records.{HasHub, AreHubsOf, numbers}
 use Rattle.rx_hub.proofs.Laws.Walks.{found_hub}
-use Rattle.rx_register.specs.Causes.{has_connection}
+use Rattle.rx_event.specs.Causes.{has_connection}
 use Rattle.rx_ground.specs.Ties.{AreTied}
 use Rattle.rx_ground.specs.Told.{is_connected_manual}
 use Rattle.rx_ground.proofs.Joined.{connected_hub}

@@ -13,7 +13,7 @@ use Rattle.rx_slots.specs.declared.Key.{Key}
 use Rattle.rx_slots.specs.Slots.{find}
 use Rattle.rx_tree.specs.Tree.{Tree, named_above, parent_number}
 use Rattle.rx_tree.proofs.Laws.Keys.{some_of}
-use Rattle.rx_register.specs.Causes.{connects_up_to}
+use Rattle.rx_event.specs.Causes.{connects_up_to}
 use Rattle.rx_ground.specs.Ties.{IsTied}
 use Rattle.rx_ground.specs.Told.{is_inside_up_to}
 

@@ -32,7 +32,7 @@ use Rattle.rx_hub.specs.Records.{IsHubOf, AreHubsOf, numbers}
 use Rattle.rx_hub.proofs.Laws.AfterAll.{hubs_follow, pushed_from}
 use Rattle.rx_hub.proofs.Laws.AfterCases.{closes_none, hubs_stay, hubs_published, hubs_connected}
 use Rattle.rx_hub.proofs.Laws.Walks.{found_hub}
-use Rattle.rx_register.specs.Causes.{has_connection}
+use Rattle.rx_event.specs.Causes.{has_connection}
 use Rattle.rx_register.specs.State.{State, Writes}
 use Rattle.rx_ground.specs.Told.{IsHubTold}
 use Rattle.rx_ground.specs.Ties.{IsTied, AreTied, AreJoined, KeepsNodes, Remarks}

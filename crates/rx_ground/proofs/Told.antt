@@ -19,7 +19,7 @@ use Rattle.rx_event.specs.Opened.{source_opened, notifier_opened}
 use Rattle.rx_event.specs.Moments.{owed}
 use Rattle.rx_event.specs.Resources.{is_owned as is_owned_in, is_out, is_held as is_held_in}
 use Rattle.rx_event.specs.Marks.{marks_of, open_children}
-use Rattle.rx_register.specs.Causes.{is_wrong_place, is_taken_place, is_unowed_place}
+use Rattle.rx_event.specs.Causes.{is_wrong_place, is_taken_place, is_unowed_place}
 use Rattle.rx_slots.specs.declared.Key.{Key}
 use Rattle.rx_slots.specs.Slots.{Slots, find}
 use Rattle.rx_tree.specs.declared.node.Node.{Node}

@@ -2,7 +2,7 @@
 use Rattle.std.specs.Prelude.{ℕ, List}
 use Rattle.rx_event.specs.declared.event.Event.{Event}
 use Rattle.rx_event.specs.Calls.{Call, Opening, OpeningUsing, Holding, Leasing, Publishing, Connecting}
-use Rattle.rx_register.specs.Causes.{nodes_opened, added_by}
+use Rattle.rx_event.specs.Causes.{nodes_opened, added_by}
 use Rattle.rx_register.specs.Paid.{notes_added}
 use Rattle.rx_ground.specs.declared.base.Wanted.{Wanted}
 

@@ -3,7 +3,7 @@ use Rattle.std.specs.Prelude.{Bool, true, Option, is_some}
 use Rattle.rx_event.specs.declared.refusal.Refusal.{Refusal}
 use Rattle.rx_event.specs.Calls.{Call}
 use Rattle.rx_event.specs.Refusals.{first_cause}
-use Rattle.rx_register.specs.Causes.{causes, by_key, by_res_key, by_lease_key}
+use Rattle.rx_event.specs.Causes.{causes, by_key, by_res_key, by_lease_key}
 use Rattle.rx_slots.specs.declared.Key.{Key}
 use Rattle.rx_slots.specs.Slots.{find}
 use Rattle.rx_ground.specs.Shown.{Ground}

@@ -15,7 +15,7 @@ use Rattle.rx_slots.specs.declared.Key.{Key}
 use Rattle.rx_slots.specs.Slots.{Slots, find}
 use Rattle.rx_tree.specs.declared.node.Node.{Node}
 use Rattle.rx_hub.specs.declared.hub.Published.{Published}
-use Rattle.rx_register.specs.Causes.{has_connection, connects_up_to}
+use Rattle.rx_event.specs.Causes.{has_connection, connects_up_to}
 use Rattle.rx_ground.specs.declared.base.Record.{Record}
 
 -- the key is an open node's, and the record says which event made it and how the history marks it

@@ -3,7 +3,7 @@
 ghost use Rattle.std.specs.Prelude.{◌≡◌, None, IfOk, OnOk, OnErr};
 ghost use Rattle.rx_event.specs.Bases.{base_of};
 ghost use Rattle.rx_event.specs.Refusals.{first_cause};
-ghost use Rattle.rx_register.specs.Causes.{checkpoint_causes};
+ghost use Rattle.rx_event.specs.Causes.{checkpoint_causes};
 ghost use Rattle.rx_ground.specs.Checkpoints.{IsCheckpoint};
 ghost use Rattle.rx_ground.specs.Ties.{IsStanding};
 

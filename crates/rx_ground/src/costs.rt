@@ -3,7 +3,7 @@
 ghost use Rattle.std.specs.Prelude.{◌≡◌, []};
 ghost use Rattle.rx_event.specs.declared.event.Mode.{Mode};
 ghost use Rattle.rx_event.specs.Calls.{Opening, OpeningUsing, Holding, Applying, Leasing, Publishing, Connecting};
-ghost use Rattle.rx_register.specs.Causes.{end_at as end_at_in};
+ghost use Rattle.rx_event.specs.Causes.{end_at as end_at_in};
 ghost use Rattle.rx_ground.specs.Costs.{cost_of};
 ghost use Rattle.rx_ground.specs.Ties.{IsStanding};
 

@@ -13,7 +13,7 @@ ghost use Rattle.rx_event.specs.Calls.{Publishing, Connecting, Disconnecting};
 ghost use Rattle.rx_slots.specs.Slots.{find as find_in};
 ghost use Rattle.rx_hub.specs.After.{hubs_after};
 ghost use Rattle.rx_hub.specs.Hubs.{new_hub};
-ghost use Rattle.rx_register.specs.Causes.{forces_connect};
+ghost use Rattle.rx_event.specs.Causes.{forces_connect};
 ghost use Rattle.rx_register.specs.State.{Writes};
 ghost use Rattle.rx_ground.specs.FirstCause.{first_by_key};
 ghost use Rattle.rx_ground.specs.Memory.{TakesNoMemory};

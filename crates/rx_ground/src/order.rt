@@ -5,7 +5,7 @@ ghost use Rattle.std.specs.Prelude.{◌≡◌, true, IsSome, option_map};
 ghost use Rattle.rx_event.specs.Events.{named_by};
 ghost use Rattle.rx_event.specs.Tree.{at, parent};
 ghost use Rattle.rx_slots.specs.Slots.{find};
-ghost use Rattle.rx_register.specs.Causes.{connects_up_to as connects_up_to_in, is_out_of_order as is_out_of_order_in};
+ghost use Rattle.rx_event.specs.Causes.{connects_up_to as connects_up_to_in, is_out_of_order as is_out_of_order_in};
 ghost use Rattle.rx_ground.specs.Ties.{IsStanding, is_there};
 ghost use Rattle.rx_ground.specs.Told.{is_inside_up_to};
 

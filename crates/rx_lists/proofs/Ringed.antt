@@ -11,12 +11,12 @@ use Rattle.rx_lists.specs.declared.links.Link.{Link}
 use Rattle.rx_lists.specs.declared.links.Place.{Place}
 use Rattle.rx_lists.specs.declared.links.Place.TheVariants.{End, Member}
 use Rattle.rx_lists.specs.Lists.{IsPlain, AreApart, list_at, is_in, take_out, head_of, last_from, last_of, after}
-use Rattle.rx_tree.specs.Rings.{is_among, AreDifferent, without, Steps, IsLink, Leads, walk}
+use Rattle.rx_rings.specs.Rings.{is_among, AreDifferent, without, Steps, IsLink, Leads, walk}
 use Rattle.rx_lists.specs.Places.{number_of, is_place, is_end, places}
 use Rattle.rx_lists.proofs.Places.{tells}
-use Rattle.rx_tree.proofs.Laws.Places.{few_places, cases_place, among_here, among_there}
-use Rattle.rx_tree.proofs.Laws.Links.{walk_leads, no_loop, last_among, next_in as next_among, previous_in as previous_among}
-use Rattle.rx_tree.proofs.Laws.Rings.{some_same, some_none}
+use Rattle.rx_rings.proofs.Laws.Places.{few_places, cases_place, among_here, among_there}
+use Rattle.rx_rings.proofs.Laws.Links.{walk_leads, no_loop, last_among, next_in as next_among, previous_in as previous_among}
+use Rattle.rx_rings.proofs.Laws.Rings.{some_same, some_none}
 use Rattle.rx_lists.specs.Rings.{next_in, previous_in, within, IsTiedIn, ring_in, lists_in}
 
 -- the places are members

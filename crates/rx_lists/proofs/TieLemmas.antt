@@ -3,7 +3,7 @@ use Rattle.std.proofs.Common.{◌≡◌, Bool, true, false, cond, refl, ap, ◌�
 use Rattle.rx_lists.specs.declared.links.Link.{Link}
 use Rattle.rx_lists.specs.declared.links.Place.{Place}
 use Rattle.rx_lists.specs.declared.links.Links.{Links}
-use Rattle.rx_tree.specs.Rings.{set_step}
+use Rattle.rx_rings.specs.Rings.{set_step}
 use Rattle.rx_lists.specs.Places.{is_place, places}
 use Rattle.rx_lists.proofs.Places.{tells}
 use Rattle.rx_lists.specs.Rings.{within, is_there, Relinks}

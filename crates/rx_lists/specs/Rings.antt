@@ -1,7 +1,7 @@
 -- The links of ends and members, and what of their rings callers see. No public clause cites this module.
 use Rattle.std.specs.Prelude.{◌≡◌, ℕ, ◌-◌, Bool, true, cond, nat_lt, List, map, length, Option, Some, slice_index_or, vec_capacity}
 use Rattle.std.specs.List.{range_with_len}
-use Rattle.rx_tree.specs.Rings.{Steps, AreRings, walk}
+use Rattle.rx_rings.specs.Rings.{Steps, AreRings, walk}
 use Rattle.rx_lists.specs.Lists.{Lists}
 use Rattle.rx_lists.specs.Places.{number_of, is_place, places}
 use Rattle.rx_lists.specs.declared.links.Link.{Link}

@@ -1,7 +1,7 @@
 //! Links in both directions, and the rings that they make.
 
 ghost use Rattle.std.specs.Prelude.{◌≡◌, ◌≤◌, IsTrue, max, length, vec_capacity};
-ghost use Rattle.rx_tree.specs.Rings.{set_step, Joins, Leaves};
+ghost use Rattle.rx_rings.specs.Rings.{set_step, Joins, Leaves};
 ghost use Rattle.rx_lists.specs.Places.{places};
 ghost use Rattle.rx_lists.specs.Rings.{link_at, set_link_at, next_of, previous_of, is_there, Relinks};
 

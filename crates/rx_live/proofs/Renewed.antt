@@ -20,7 +20,7 @@ use Rattle.rx_event.specs.Notes.{notes}
 use Rattle.rx_event.specs.Refusals.{first_cause, IsRefusal}
 use Rattle.rx_event.proofs.Laws.Making.{made_untold}
 use Rattle.rx_event.proofs.Laws.Resources.{held_resource, held_not_taken}
-use Rattle.rx_register.specs.Causes.{checkpoint_causes, most_places}
+use Rattle.rx_event.specs.Causes.{checkpoint_causes, most_places}
 use Rattle.rx_register.proofs.Laws.NoCause.{no_cause}
 use Rattle.rx_book.specs.State.{State, IsPromised}
 use Rattle.rx_book.specs.Checkpoints.{Checkpoints}

@@ -3,7 +3,7 @@ use Rattle.std.specs.Prelude.{◌≡◌, ◌<◌, ◌⊎◌, Bool, false, nat_lt
 use Rattle.rx_event.specs.declared.refusal.Refusal.{Refusal}
 use Rattle.rx_event.specs.declared.refusal.Refusal.TheVariants.{Full, MailLeft, TooMany}
 use Rattle.rx_event.specs.Refusals.{IsRefusal}
-use Rattle.rx_register.specs.Causes.{most_places}
+use Rattle.rx_event.specs.Causes.{most_places}
 use Rattle.rx_scenario.specs.Scenario.{Name}
 use Rattle.rx_book.specs.State.{State}
 use Rattle.rx_book.specs.Checkpoints.{Checkpoints}

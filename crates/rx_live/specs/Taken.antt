@@ -2,7 +2,7 @@
 use Rattle.std.specs.Prelude.{◌≡◌, ℕ, ◌&&◌, Bool, true, false, nat_lt, List, length}
 use Rattle.std.proofs.Math.Bool.{not}
 use Rattle.rx_event.specs.declared.refusal.Refusal.TheVariants.{Full}
-use Rattle.rx_register.specs.Causes.{most_places}
+use Rattle.rx_event.specs.Causes.{most_places}
 use Rattle.rx_line.specs.declared.outcome.Cause.{Cause}
 use Rattle.rx_line.specs.declared.outcome.Cause.TheVariants.{Book}
 use Rattle.rx_live.specs.Session.{Session, has_resource}

@@ -5,7 +5,7 @@ use Rattle.rx_event.specs.declared.event.Event.{Event}
 use Rattle.rx_event.specs.declared.refusal.Refusal.TheVariants.{MailLeft, TooMany}
 use Rattle.rx_event.specs.Notes.{notes}
 use Rattle.rx_event.specs.Refusals.{first_cause}
-use Rattle.rx_register.specs.Causes.{checkpoint_causes}
+use Rattle.rx_event.specs.Causes.{checkpoint_causes}
 
 -- notes that were told and not handed out
 pub left_over : (h : List Event) (told : ℕ) → told ≤ length (notes h) → (told ≡ 0 → ⊥) →

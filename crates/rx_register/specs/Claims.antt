@@ -7,7 +7,7 @@ use Rattle.rx_event.specs.Forced.{IsForced, IsSettled}
 use Rattle.rx_event.specs.Lawful.{MayFollow, IsLawful}
 use Rattle.rx_event.specs.Calls.{Call, Taking, outside_of}
 use Rattle.rx_event.specs.Refusals.{first_cause}
-use Rattle.rx_register.specs.Causes.{causes, added_by}
+use Rattle.rx_event.specs.Causes.{causes, added_by}
 use Rattle.rx_register.specs.State.{State, Writes}
 use Rattle.rx_register.specs.Paid.{IsPaid, HasRoomFor, Fits, notes_added}
 

@@ -1,4 +1,3 @@
-pub mod Causes
 pub mod State
 pub mod Paid
 pub mod Claims

@@ -7,7 +7,7 @@ use Rattle.rx_event.specs.Notes.{notes, mail_of}
 use Rattle.rx_event.specs.Totals.{debt, open_count}
 use Rattle.rx_event.specs.Forced.{MayWait}
 use Rattle.rx_event.specs.Calls.{Call, Opening, OpeningUsing, Emitting, Connecting}
-use Rattle.rx_register.specs.Causes.{nodes_opened, added_by}
+use Rattle.rx_event.specs.Causes.{nodes_opened, added_by}
 use Rattle.rx_register.specs.State.{State}
 
 -- there is room for the connection that may be forced (its event, and one for its end), for the events that closing everything

@@ -14,7 +14,7 @@ use Rattle.rx_event.specs.Lawful.{IsLawful}
 use Rattle.rx_event.specs.Calls.{Call, IsStepOf}
 use Rattle.rx_event.specs.Refusals.{first_cause}
 use Rattle.rx_book.specs.State.{State, IsPromised, Continues}
-use Rattle.rx_register.specs.Causes.{by_key, causes}
+use Rattle.rx_event.specs.Causes.{by_key, causes}
 use Rattle.rx_book.specs.Requests.{Request, stands}
 use Rattle.rx_book.specs.Answers.{Accepts, connection_made}
 use Rattle.rx_agenda.specs.declared.answer.Answer.{Answer}

@@ -15,7 +15,7 @@ use Rattle.rx_event.specs.Refusals.{first_cause, IsRefusal}
 use Rattle.rx_book.specs.declared.key.Key.{Key}
 use Rattle.rx_book.specs.declared.key.ResKey.{ResKey}
 use Rattle.rx_book.specs.State.{State, IsPromised, has_key, has_res_key}
-use Rattle.rx_register.specs.Causes.{causes, by_key, by_res_key, by_key_of}
+use Rattle.rx_event.specs.Causes.{causes, by_key, by_res_key, by_key_of}
 use Rattle.rx_book.specs.Requests.{Request, stands, node_request, res_request}
 use Rattle.rx_book.specs.Answers.{Accepts}
 use Rattle.rx_agenda.specs.declared.answer.Answer.{Answer}

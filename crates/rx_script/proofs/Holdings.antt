@@ -12,7 +12,7 @@ use Rattle.rx_book.specs.declared.key.Key.{Key}
 use Rattle.rx_book.specs.declared.key.ResKey.{ResKey}
 use Rattle.rx_book.specs.declared.answer.At.{At}
 use Rattle.rx_book.specs.State.{State, IsPromised, has_key, has_res_key}
-use Rattle.rx_register.specs.Causes.{causes, by_key}
+use Rattle.rx_event.specs.Causes.{causes, by_key}
 use Rattle.rx_book.specs.Requests.{Request, place_of, is_known_place, stands}
 use Rattle.rx_book.specs.Answers.{Accepts}
 use Rattle.rx_agenda.specs.declared.answer.Answer.TheVariants.{Accepted, Refused}

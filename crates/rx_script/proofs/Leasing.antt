@@ -12,7 +12,7 @@ use Rattle.rx_event.specs.Refusals.{first_cause, IsRefusal}
 use Rattle.rx_book.specs.declared.key.ResKey.{ResKey}
 use Rattle.rx_book.specs.declared.key.LeaseKey.{LeaseKey}
 use Rattle.rx_book.specs.State.{State, IsPromised, has_res_key, has_lease_key}
-use Rattle.rx_register.specs.Causes.{causes, by_res_key, by_lease_key}
+use Rattle.rx_event.specs.Causes.{causes, by_res_key, by_lease_key}
 use Rattle.rx_book.specs.Requests.{stands, lease_request, give_back_request}
 use Rattle.rx_book.specs.Answers.{Accepts}
 use Rattle.rx_agenda.specs.declared.answer.Answer.TheVariants.{Accepted, Refused}

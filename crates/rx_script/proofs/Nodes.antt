@@ -11,7 +11,7 @@ use Rattle.rx_event.specs.Refusals.{IsRefusal}
 use Rattle.rx_book.specs.declared.key.Key.{Key}
 use Rattle.rx_book.specs.declared.answer.At.{At}
 use Rattle.rx_book.specs.State.{State, IsPromised}
-use Rattle.rx_register.specs.Causes.{causes}
+use Rattle.rx_event.specs.Causes.{causes}
 use Rattle.rx_book.specs.Requests.{Request, place_of, is_known_place, stands, open_request}
 use Rattle.rx_book.specs.Answers.{Accepts, IsOpened, connection_made}
 use Rattle.rx_agenda.specs.declared.answer.Answer.TheVariants.{Accepted, Refused}

@@ -20,7 +20,7 @@ use Rattle.rx_book.specs.declared.key.LeaseKey.{LeaseKey}
 use Rattle.rx_book.specs.declared.answer.At.{At}
 use Rattle.rx_book.specs.declared.answer.At.TheVariants.{Root as AtRoot, Source as AtSource, Inner as AtInner, Notifier as AtNotifier}
 use Rattle.rx_book.specs.State.{State, has_key, has_res_key, has_lease_key}
-use Rattle.rx_register.specs.Causes.{is_gone}
+use Rattle.rx_event.specs.Causes.{is_gone}
 use Rattle.rx_book.specs.Requests.{Request, place_of, is_known_place}
 use Rattle.rx_book.specs.Answers.{Accepts, IsOpened, makes_connection}
 use Rattle.rx_agenda.specs.declared.names.Named.{Named}

@@ -25,7 +25,7 @@ use Rattle.rx_event.proofs.Laws.Begin.{shown_nothing}
 use Rattle.rx_event.proofs.Laws.Starts.{lawful_begun, lawful_last}
 use Rattle.rx_event.proofs.Laws.Finishes.{first_forced_on, finishes, finish_settled}
 use Rattle.rx_event.proofs.Laws.ReadDrained.{TakesOn, takes_none, takes_one}
-use Rattle.rx_register.specs.Causes.{is_over, added_by, causes, unlimited}
+use Rattle.rx_event.specs.Causes.{is_over, added_by, causes, unlimited}
 use Rattle.rx_register.specs.Claims.{MayFollowInTurn, IsReady}
 use Rattle.rx_register.proofs.Laws.Calls.{call_follows}
 use Rattle.rx_book.specs.Drains.{Takes, none_taken, next_taken}

@@ -33,8 +33,8 @@ use Rattle.rx_event.proofs.Laws.SameTree.{alike_back, at_alike, at_hub_alike, pa
 use Rattle.rx_event.proofs.Laws.Agreed.{hubs_alike, hub_is}
 use Rattle.rx_event.proofs.Laws.Steps.{named_below}
 use Rattle.rx_event.proofs.Laws.Checkpoints.{same_debt}
-use Rattle.rx_register.specs.Causes.{has_connection, is_without_hub, forces_connect, connects_up_to, is_out_of_order, is_gone, is_wrong_place}
-use Rattle.rx_register.specs.Causes.{is_taken_place, is_unowed_place, is_crowded, is_over, nodes_opened, end_at, added_by, opening_causes, using_causes, causes}
+use Rattle.rx_event.specs.Causes.{has_connection, is_without_hub, forces_connect, connects_up_to, is_out_of_order, is_gone, is_wrong_place}
+use Rattle.rx_event.specs.Causes.{is_taken_place, is_unowed_place, is_crowded, is_over, nodes_opened, end_at, added_by, opening_causes, using_causes, causes}
 
 same_first : (p q : Refusal → Bool) → ((why : Refusal) → p why ≡ q why) → first_cause p ≡ first_cause q
 same_first p q same = λ i. first_cause (λ why. same why i)

@@ -25,7 +25,7 @@ use Rattle.rx_event.proofs.Laws.Places.{slice_get-append}
 use Rattle.std.proofs.lemmas.Option.{slice_get_within}
 use Rattle.rx_event.specs.declared.event.Event.TheVariants.{Take}
 use Rattle.std.proofs.Common.{slice_get}
-use Rattle.rx_register.specs.Causes.{causes, unlimited}
+use Rattle.rx_event.specs.Causes.{causes, unlimited}
 use Rattle.rx_register.proofs.Laws.Empty.{settled_empty}
 use Rattle.rx_register.proofs.Laws.SameCauses.{NamesKnown, same_cause, never_full}
 use Rattle.rx_book.specs.Drains.{Drains}

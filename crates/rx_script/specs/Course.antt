@@ -9,7 +9,7 @@ use Rattle.rx_event.specs.Resources.{waiting_resources}
 use Rattle.rx_event.specs.Calls.{Call, Taking, outside_of, IsStepOf}
 use Rattle.rx_event.specs.Canonical.{IsFirstStep}
 use Rattle.rx_event.specs.Refusals.{first_cause}
-use Rattle.rx_register.specs.Causes.{causes, unlimited}
+use Rattle.rx_event.specs.Causes.{causes, unlimited}
 use Rattle.rx_book.specs.Drains.{Drains}
 use Rattle.rx_agenda.specs.declared.answer.Answer.{Answer}
 use Rattle.rx_agenda.specs.declared.answer.Answer.TheVariants.{Accepted, Refused}

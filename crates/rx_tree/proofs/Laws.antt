@@ -4,7 +4,3 @@ pub mod Parents
 pub mod Below
 pub mod Newest
 pub mod Owed
-pub mod Places
-pub mod Links
-pub mod Rings
-pub mod Relinked

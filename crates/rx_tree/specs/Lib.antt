@@ -5,7 +5,6 @@ pub mod Cuts
 pub mod Owed
 pub mod Resources
 pub mod Bases
-pub mod Rings
 pub mod Places
 pub mod Record
 pub mod Store

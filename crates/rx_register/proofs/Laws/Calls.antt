@@ -8,7 +8,7 @@ use Rattle.rx_event.specs.declared.event.Event.TheVariants.{Open, Close}
 use Rattle.rx_event.specs.Lawful.{MayFollow}
 use Rattle.rx_event.specs.Calls.{Call, Opening, OpeningUsing, Holding, Applying, Removing, Leasing, GivingBack, Emitting, Ending, Aborting, Declining}
 use Rattle.rx_event.specs.Calls.{Failing, Disposing, Publishing, Connecting, Disconnecting, Taking, outside_of}
-use Rattle.rx_register.specs.Causes.{added_by}
+use Rattle.rx_event.specs.Causes.{added_by}
 use Rattle.rx_register.specs.State.{State, Writes}
 use Rattle.rx_register.specs.Paid.{IsPaid, HasRoomFor, Fits, notes_added}
 use Rattle.rx_register.specs.Claims.{MayFollowInTurn, MayCall}

@@ -21,7 +21,7 @@ use Rattle.rx_event.proofs.Laws.Places.{at-append, at_within}
 use Rattle.rx_event.proofs.Laws.Openness.{is_open-push}
 use Rattle.rx_event.proofs.Laws.Hubs.{at_connect}
 use Rattle.rx_event.proofs.Laws.Waits.{alone, kept_unsubscribed, kept_subscribed, settled_connected}
-use Rattle.rx_register.specs.Causes.{has_connection, forces_connect}
+use Rattle.rx_event.specs.Causes.{has_connection, forces_connect}
 
 no_member : {X : Type 0} (xs : List X) → nat_lt 0 (length xs) ≡ false → xs ≡ []
 no_member [] none = refl

@@ -31,7 +31,7 @@ use Rattle.rx_event.proofs.Laws.Debt.{debt-hub, debt-use, debt-accept, debt-remo
 use Rattle.rx_event.proofs.Laws.Debt.{debt-take, debt-item, debt-decline, debt_falls-end, debt_falls-close}
 use Rattle.rx_event.proofs.Laws.Hubs.{may_subscribe}
 use Rattle.rx_event.proofs.Laws.Waits.{kept_end, kept_close_allowed, kept_unsubscribed, settled_connected}
-use Rattle.rx_register.specs.Causes.{end_at, forces_connect, nodes_opened}
+use Rattle.rx_event.specs.Causes.{end_at, forces_connect, nodes_opened}
 use Rattle.rx_register.specs.Paid.{Fits}
 use Rattle.rx_register.proofs.Laws.Connecting.{opening_waits}
 

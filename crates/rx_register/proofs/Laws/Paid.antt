@@ -18,7 +18,7 @@ use Rattle.rx_event.proofs.Laws.Steps.{forced_kind}
 use Rattle.rx_event.proofs.Laws.Totals.{open_count_made, open_count_falls-end}
 use Rattle.rx_event.proofs.Laws.Debt.{debt-connect, debt_falls-end, debt_falls-close}
 use Rattle.rx_event.proofs.Laws.Waits.{forced_connected, forced_closes}
-use Rattle.rx_register.specs.Causes.{added_by, is_over}
+use Rattle.rx_event.specs.Causes.{added_by, is_over}
 use Rattle.rx_register.specs.State.{State, Writes}
 use Rattle.rx_register.specs.Paid.{IsPaid, HasRoomFor, Fits, notes_added}
 use Rattle.rx_register.proofs.Laws.Fits.{told_by_end}

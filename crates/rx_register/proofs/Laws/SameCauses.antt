@@ -28,8 +28,8 @@ use Rattle.rx_event.specs.Renumbered.{place_by, kind_by, call_by, AreSameBy}
 use Rattle.rx_event.specs.Claims.Seen.{CallersSeeTheSame}
 use Rattle.rx_event.proofs.Laws.Searches.{list_any_found, list_any_holds}
 use Rattle.rx_event.proofs.Laws.ReadSeen.{callers_see}
-use Rattle.rx_register.specs.Causes.{has_connection, is_without_hub, forces_connect, connects_up_to, is_out_of_order, is_gone, is_wrong_place, is_taken_place}
-use Rattle.rx_register.specs.Causes.{is_unowed_place, is_crowded, nodes_opened, opening_causes, using_causes, causes, unlimited}
+use Rattle.rx_event.specs.Causes.{has_connection, is_without_hub, forces_connect, connects_up_to, is_out_of_order, is_gone, is_wrong_place, is_taken_place}
+use Rattle.rx_event.specs.Causes.{is_unowed_place, is_crowded, nodes_opened, opening_causes, using_causes, causes, unlimited}
 use Rattle.rx_register.proofs.Laws.Follow.{in_order}
 
 -- the numbers that a call names are of what they have to be

@@ -6,7 +6,7 @@ ghost use Rattle.rx_event.specs.Forced.{IsSettled};
 ghost use Rattle.rx_event.specs.Notes.{notes};
 ghost use Rattle.rx_event.specs.Refusals.{first_cause};
 ghost use Rattle.rx_event.specs.Totals.{debt};
-ghost use Rattle.rx_register.specs.Causes.{checkpoint_causes};
+ghost use Rattle.rx_event.specs.Causes.{checkpoint_causes};
 ghost use Rattle.rx_register.specs.State.{Rebases};
 
 use super::Register;

@@ -1,7 +1,7 @@
 //! What of a call's causes needs numbers alone.
 
 ghost use Rattle.std.specs.Prelude.{◌≡◌};
-ghost use Rattle.rx_register.specs.Causes.{is_crowded as is_crowded_in, is_over as is_over_in};
+ghost use Rattle.rx_event.specs.Causes.{is_crowded as is_crowded_in, is_over as is_over_in};
 ghost use Rattle.rx_register.specs.State.{IsLoadOf};
 
 use super::Register;

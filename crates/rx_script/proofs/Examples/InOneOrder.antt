@@ -11,7 +11,7 @@ use Rattle.rx_event.specs.Refusals.{first_cause}
 use Rattle.rx_event.specs.Canonical.{first_forced, IsFirstOn, IsFirstStep}
 use Rattle.rx_event.proofs.Laws.Begin.{IsLawful_nothing}
 use Rattle.rx_event.proofs.Laws.Finishes.{first_forced_on}
-use Rattle.rx_register.specs.Causes.{causes, unlimited}
+use Rattle.rx_event.specs.Causes.{causes, unlimited}
 use Rattle.rx_register.specs.Claims.{IsReady}
 use Rattle.rx_register.proofs.Laws.Empty.{settled_empty}
 use Rattle.rx_agenda.specs.declared.answer.Answer.{Answer}

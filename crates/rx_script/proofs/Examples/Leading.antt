@@ -9,7 +9,7 @@ use Rattle.rx_event.specs.Refusals.{first_cause}
 use Rattle.rx_event.specs.Canonical.{first_forced}
 use Rattle.rx_event.proofs.Laws.Lawful.{IsLawful-push}
 use Rattle.rx_event.proofs.Laws.InOrder.{settled_by_order}
-use Rattle.rx_register.specs.Causes.{causes, unlimited}
+use Rattle.rx_event.specs.Causes.{causes, unlimited}
 use Rattle.rx_register.specs.Claims.{IsReady}
 use Rattle.rx_agenda.specs.declared.answer.Answer.{Answer}
 use Rattle.rx_agenda.specs.declared.answer.Answer.TheVariants.{Accepted}

@@ -1,6 +1,6 @@
 use Rattle.std.proofs.Common.{true, ◌≤◌, None, Some, sym, ap, ◌∙◌, arith}
 use Rattle.rx_event.specs.Calls.{Opening, OpeningUsing, Holding, Applying, Leasing, Emitting}
-use Rattle.rx_register.specs.Causes.{causes}
+use Rattle.rx_event.specs.Causes.{causes}
 use Rattle.rx_ground.specs.declared.base.Wanted.{Wanted}
 use Rattle.rx_book.specs.Requests.{place_of}
 use Rattle.rx_book.specs.Shown.{state_of}

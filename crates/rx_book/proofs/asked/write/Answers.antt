@@ -4,7 +4,7 @@ use Rattle.rx_event.specs.declared.event.Event.{Event}
 use Rattle.rx_event.specs.declared.event.Event.TheVariants.{Close}
 use Rattle.rx_event.specs.declared.refusal.Refusal.TheVariants.{Leased}
 use Rattle.rx_event.specs.Calls.{Removing, Disconnecting, outside_of}
-use Rattle.rx_register.specs.Causes.{causes}
+use Rattle.rx_event.specs.Causes.{causes}
 use Rattle.rx_register.specs.State.{Writes}
 use Rattle.rx_register.proofs.Laws.NoCause.{no_cause}
 use Rattle.rx_ground.proofs.Laws.KeysKept.{leases_stay}

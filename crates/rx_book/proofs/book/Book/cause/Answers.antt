@@ -1,6 +1,6 @@
 use Rattle.std.proofs.Common.{true, sym}
 use Rattle.rx_event.specs.Calls.{Ending, Aborting, Declining, Failing, Disposing, Removing, GivingBack}
-use Rattle.rx_register.specs.Causes.{causes}
+use Rattle.rx_event.specs.Causes.{causes}
 use Rattle.rx_book.proofs.CausesByKey.{first_by_key, first_by_res_key, first_by_lease_key}
 use Rattle.rx_book.proofs.book.Book.cause.Goals as goal
 

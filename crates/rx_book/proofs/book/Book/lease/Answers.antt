@@ -3,7 +3,7 @@ use Rattle.std.specs.Prelude.{Ok}
 use Rattle.std.proofs.lemmas.Bool.{not-false}
 use Rattle.rx_event.specs.declared.refusal.Refusal.TheVariants.{Leased}
 use Rattle.rx_event.specs.Calls.{Leasing}
-use Rattle.rx_register.specs.Causes.{causes}
+use Rattle.rx_event.specs.Causes.{causes}
 use Rattle.rx_register.proofs.Laws.NoCause.{no_cause}
 use Rattle.rx_book.specs.State.{State}
 use Rattle.rx_book.specs.Requests.{lease_request}

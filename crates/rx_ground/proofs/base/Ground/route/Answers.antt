@@ -1,5 +1,5 @@
 use Rattle.std.proofs.Common.{false, true, sym, ap, ◌∙◌}
-use Rattle.rx_register.specs.Causes.{is_over}
+use Rattle.rx_event.specs.Causes.{is_over}
 use Rattle.rx_register.specs.State.{State as Register}
 use Rattle.rx_ground.specs.Shown.{Ground}
 use Rattle.rx_ground.proofs.Routed.{cause_of-no_leaf, cause_of-visits, cause_of-room}

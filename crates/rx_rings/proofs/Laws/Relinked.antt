@@ -1,7 +1,7 @@
 -- What a few ties between places make.
 use Rattle.std.proofs.Common.{◌≡◌, cond, Bool, true, false, refl, sym, ap, ◌∙◌}
-use Rattle.rx_tree.specs.Rings.{Places, Steps, set_step, Joins, PassesBy, Leaves, Merges}
-use Rattle.rx_tree.proofs.Laws.Places.{Tells}
+use Rattle.rx_rings.specs.Rings.{Places, Steps, set_step, Joins, PassesBy, Leaves, Merges}
+use Rattle.rx_rings.proofs.Laws.Places.{Tells}
 
 module _ {Place : Type 0} (places : Places Place) where
   module _ (n p n1 p1 n2 p2 : Steps Place) where
