@@ -1,7 +1,7 @@
 pub mod FoundAtTheEnd
 pub mod Laws
-pub mod Tying
-pub mod Planning
+pub mod NamesStayTied
+pub mod NextStepAndCancel
 pub mod Members
 pub mod ComesBeforeIsAnOrder
 pub mod PlacedSteps

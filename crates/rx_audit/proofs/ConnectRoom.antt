@@ -26,9 +26,9 @@ use Rattle.rx_event.proofs.Laws.OneEnd.{open_old}
 use Rattle.rx_event.proofs.Laws.Waits.{settled_connected, kept_unsubscribed, kept_subscribed, cut_alone, spares, at_before}
 use Rattle.rx_audit.specs.Allowing.{needs_connection, leaves_room, open_allowed}
 use Rattle.rx_audit.specs.Rules.{has_key, open_connected}
-use Rattle.rx_audit.proofs.Deciding.{left, right, either, not_not, is_false, not_true, filter_none, connected_key, find_number}
-use Rattle.rx_audit.proofs.Surveying.{any_found}
-use Rattle.rx_audit.proofs.Permitting.{open_free}
+use Rattle.rx_audit.proofs.TestsDecideRules.{left, right, either, not_not, is_false, not_true, filter_none, connected_key, find_number}
+use Rattle.rx_audit.proofs.KeysInRange.{any_found}
+use Rattle.rx_audit.proofs.TestsDecideAllowed.{open_free}
 
 -- an opening takes no connection away
 connection_stays : (h : List Event) (place : Place) (kind : Kind) (c g : ℕ) → slice_get h c ≡ Some (Connect g) → is_open h c ≡ true

@@ -18,11 +18,11 @@ use Rattle.rx_audit.specs.Rules.{hub_subscribed_at, hub_connected_at, is_cut}
 use Rattle.rx_audit.specs.Rules.{open_subscribed, open_connected}
 use Rattle.rx_audit.specs.Rules.{open_waiting, has_key, connect_due, any_connect_due, is_left}
 use Rattle.rx_audit.specs.Rules.{close_due}
-use Rattle.rx_audit.proofs.Surveying.{any_found}
-use Rattle.rx_audit.proofs.Deciding.{both, not_not, is_false, not_true}
-use Rattle.rx_audit.proofs.Deciding.{key_is, is_key_of, FoundNumber, find_number}
-use Rattle.rx_audit.proofs.Deciding.{subscriber_at, at_subscriber, connection_at, at_connection}
-use Rattle.rx_audit.proofs.Deciding.{cut_ended, is_cut_of, filter_none, none_filtered, subscribed_key, connected_key}
+use Rattle.rx_audit.proofs.KeysInRange.{any_found}
+use Rattle.rx_audit.proofs.TestsDecideRules.{both, not_not, is_false, not_true}
+use Rattle.rx_audit.proofs.TestsDecideRules.{key_is, is_key_of, FoundNumber, find_number}
+use Rattle.rx_audit.proofs.TestsDecideRules.{subscriber_at, at_subscriber, connection_at, at_connection}
+use Rattle.rx_audit.proofs.TestsDecideRules.{cut_ended, is_cut_of, filter_none, none_filtered, subscribed_key, connected_key}
 
 -- connections ------------------------------------------------------------------------------------------
 

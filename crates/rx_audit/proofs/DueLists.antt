@@ -34,9 +34,9 @@ use Rattle.rx_audit.specs.Rules.{hub_connected_at, is_cut, close_due, any_connec
 use Rattle.rx_audit.proofs.Latest.{last_none, key_is, is_key_of}
 use Rattle.rx_audit.proofs.Neighbours.{last_unique}
 use Rattle.rx_audit.proofs.StaysOpen.{is_open_older}
-use Rattle.rx_audit.proofs.Deciding.{not_true, cut_ended, is_cut_of, at_subscriber, connection_at, at_connection}
+use Rattle.rx_audit.proofs.TestsDecideRules.{not_true, cut_ended, is_cut_of, at_subscriber, connection_at, at_connection}
 use Rattle.rx_audit.proofs.Due.{some_connect_due, close_is_due, close_due_of}
-use Rattle.rx_audit.proofs.Covering.{due_parts, due_made_at, some_due, none_is_due}
+use Rattle.rx_audit.proofs.DueListCovers.{due_parts, due_made_at, some_due, none_is_due}
 
 due_close_open : {h : List Event} {c : ℕ} → IsDue nothing_kept h (Close c) → is_open h c ≡ true
 due_close_open (left o at_c a n) = o

@@ -31,8 +31,8 @@ use Rattle.rx_audit.specs.Marking.{IsUntouched, leaf_of, ends_so, forced_end}
 use Rattle.rx_audit.specs.HubTables.{AreHubs, terminal_of_word, ends_last_so, cut_so, ends_now, forced_now}
 use Rattle.rx_audit.specs.Rules.{hub_subscribed_at, hub_ended, hub_ended_at, is_cut, any_connect_due, close_due, connect_due}
 use Rattle.rx_audit.proofs.Latest.{last_holds, last_none, key_is, is_key_of}
-use Rattle.rx_audit.proofs.Deciding.{both, left, right, either, not_not, is_false, not_true, terminal_is}
-use Rattle.rx_audit.proofs.Deciding.{terminal_self, subscriber_at, connection_at, at_connection, is_cut_of}
+use Rattle.rx_audit.proofs.TestsDecideRules.{both, left, right, either, not_not, is_false, not_true, terminal_is}
+use Rattle.rx_audit.proofs.TestsDecideRules.{terminal_self, subscriber_at, connection_at, at_connection, is_cut_of}
 use Rattle.rx_audit.proofs.Due.{connect_is_due, connect_due_of, some_connect_due, any_connect_due_of, no_connect_due, close_is_due, close_due_of}
 use Rattle.rx_audit.proofs.HubWords.{cut_word, uncut}
 

@@ -20,8 +20,8 @@ use Rattle.rx_audit.specs.Listed.{on_list, AreLinked, AreOpenListed}
 use Rattle.rx_audit.specs.Rules.{is_key, joins, hub_connected_at, hub_subscribed_at, hub_ended, hub_ended_at}
 use Rattle.rx_audit.specs.Rules.{open_connected, open_subscribed, open_waiting, has_key, ends_source, is_cut}
 use Rattle.rx_audit.proofs.Latest.{last_le, last_holds, last_none, key_is, is_key_of}
-use Rattle.rx_audit.proofs.Surveying.{any_found}
-use Rattle.rx_audit.proofs.Deciding.{find_after, find_number, any_after, not_true, subscribed_key, subscriber_at, at_subscriber, connection_at}
+use Rattle.rx_audit.proofs.KeysInRange.{any_found}
+use Rattle.rx_audit.proofs.TestsDecideRules.{find_after, find_number, any_after, not_true, subscribed_key, subscriber_at, at_subscriber, connection_at}
 
 -- some number passes where the word of the last is none
 pub any_last : (p : ℕ → Bool) (k : ℕ) → list_any p (range_with_len 0 k) ≡ nat_lt 0 (last_below p k)

@@ -21,7 +21,7 @@ use Rattle.rx_audit.specs.Listed.{on_list, IsRow, number_of, hub_if_last, listed
 use Rattle.rx_audit.specs.Rules.{hub_subscribed_at}
 use Rattle.rx_audit.proofs.Latest.{last_le, last_holds, one_longer, length-table_with}
 use Rattle.rx_audit.proofs.ClosingBelow.{within_marks, cleared}
-use Rattle.rx_audit.proofs.Deciding.{not_true, same_subscribed, subscriber_at, at_subscriber}
+use Rattle.rx_audit.proofs.TestsDecideRules.{not_true, same_subscribed, subscriber_at, at_subscriber}
 use Rattle.rx_audit.proofs.Neighbours.{row_less, row_more, row_apart}
 
 -- a mark that was taken away is gone

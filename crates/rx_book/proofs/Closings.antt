@@ -30,7 +30,7 @@ use Rattle.rx_event.proofs.Laws.Totals.{accepted_count-parts}
 use Rattle.rx_event.proofs.Laws.LetGo.{nothing_open}
 use Rattle.rx_event.proofs.Laws.Closings.{OpensNoneUpTo, makes_neither_opens, roots_before, let_go_after, manual_hub}
 use Rattle.rx_event.specs.Causes.{has_connection}
-use Rattle.rx_register.proofs.Laws.Connecting.{connects_none, connects_one}
+use Rattle.rx_register.proofs.Laws.OpeningForcesConnection.{connects_none, connects_one}
 use Rattle.rx_ground.specs.Told.{is_connected_manual}
 use Rattle.rx_book.specs.declared.key.Key.{Key}
 use Rattle.rx_book.specs.declared.key.LeaseKey.{LeaseKey}
@@ -38,7 +38,7 @@ use Rattle.rx_book.specs.State.{State, AreJust, IsPromised, has_key, has_lease_k
 use Rattle.rx_book.specs.Requests.{Request, stands, give_back_request, dispose_request, disconnect_request}
 use Rattle.rx_book.specs.Answers.{Accepts}
 use Rattle.rx_book.specs.Drains.{Takes, none_taken, next_taken}
-use Rattle.rx_book.proofs.Laws.Going.{count_by-append, step_longer}
+use Rattle.rx_book.proofs.Laws.StepsContinue.{count_by-append, step_longer}
 
 -- counting -----------------------------------------------------------------------------------------
 

@@ -26,7 +26,7 @@ use Rattle.rx_event.proofs.Laws.Waits.{settled_connected, kept_subscribed, conne
 use Rattle.rx_event.proofs.Laws.Calm.{opened_settled}
 use Rattle.rx_event.proofs.Laws.StaysOpen.{opened_stays}
 use Rattle.rx_event.specs.Causes.{has_connection, forces_connect}
-use Rattle.rx_register.proofs.Laws.Connecting.{connects_none, opening_connects}
+use Rattle.rx_register.proofs.Laws.OpeningForcesConnection.{connects_none, opening_connects}
 use Rattle.rx_book.specs.Answers.{makes_connection, connection_made}
 
 -- what is forced ------------------------------------------------------------------------------------

@@ -19,7 +19,7 @@ use Rattle.rx_book.specs.Requests.{stands}
 use Rattle.rx_book.specs.Shown.{state_of}
 use Rattle.rx_book.specs.Asked.{request_of}
 use Rattle.rx_book.specs.Steps.{IsLetIn}
-use Rattle.rx_book.proofs.Called.{let_in_free, subscribes_none}
+use Rattle.rx_book.proofs.CallWithoutCause.{let_in_free, subscribes_none}
 
 -- what wants no room
 record IsFree (s : State) (asked : Asked) : Type 0 where

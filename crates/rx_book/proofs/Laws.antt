@@ -1,2 +1,2 @@
-pub mod Going
+pub mod StepsContinue
 pub mod Keys

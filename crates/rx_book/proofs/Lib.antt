@@ -1,16 +1,16 @@
 pub mod ShownKeys
-pub mod Answered
+pub mod AnswersOkOrErr
 pub mod CausesByKey
-pub mod Called
+pub mod CallWithoutCause
 pub mod FreeCalls
 pub mod Admitted
 pub mod ShownRoots
 pub mod ShownPromise
-pub mod Listed
+pub mod MadeKeyIsListed
 pub mod Openings
 pub mod Connections
-pub mod Taken
+pub mod OneFewerWaits
 pub mod Closings
 pub mod Laws
 mod ShownLeases
-mod Checkpointed
+mod SeenAcrossCheckpoint

@@ -16,7 +16,7 @@ use Rattle.rx_tree.specs.Tree.{Tree, IsPlaced}
 use Rattle.rx_tree.proofs.Laws.Keys.{some_of}
 use Rattle.rx_event.specs.Causes.{nodes_opened}
 use Rattle.rx_register.specs.State.{Writes}
-use Rattle.rx_register.proofs.Laws.Connecting.{opening_connects}
+use Rattle.rx_register.proofs.Laws.OpeningForcesConnection.{opening_connects}
 use Rattle.rx_ground.specs.Shown.{Ground}
 use Rattle.rx_ground.specs.Memory.{TakesNoMemory}
 use Rattle.rx_ground.specs.Ties.{IsTied, HasRoomToConnect, is_there}

@@ -27,7 +27,7 @@ use Rattle.rx_event.specs.Causes.{has_connection}
 use Rattle.rx_ground.specs.Shown.{Ground, Label, Kept, kept_in, held_in, waiting_in, label_in}
 use Rattle.rx_ground.specs.Ties.{IsStored, IsStanding}
 use Rattle.rx_ground.proofs.Laws.Numbers.{ListsJust}
-use Rattle.rx_ground.proofs.Laws.Kept.{numbers, stored_held, stored_waiting, just_nodes, just_held, just_waiting, just_out, length-held, length-waiting}
+use Rattle.rx_ground.proofs.Laws.JustOpenHeldWaiting.{numbers, stored_held, stored_waiting, just_nodes, just_held, just_waiting, just_out, length-held, length-waiting}
 use Rattle.rx_book.specs.declared.key.Key.{Key}
 use Rattle.rx_book.specs.declared.key.ResKey.{ResKey}
 use Rattle.rx_book.specs.declared.key.LeaseKey.{LeaseKey}

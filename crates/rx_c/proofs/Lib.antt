@@ -1,6 +1,6 @@
-pub mod Answered
-pub mod Filling
-mod Held
+pub mod OutcomeIsAnswer
+pub mod StockGrowsInOrder
+mod HeldToTheEnd
 pub mod NoOutput
-mod Owed
+mod AnswersHandedOut
 pub mod Values

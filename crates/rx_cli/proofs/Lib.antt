@@ -1,5 +1,5 @@
 pub mod Fronts
 pub mod Literals
-pub mod Running
-pub mod Filling
+pub mod NotBegunWithoutMemory
+pub mod StockGrowsByOne
 pub mod Numbers

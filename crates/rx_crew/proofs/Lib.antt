@@ -1,5 +1,5 @@
-mod Counted
+mod StepAddsTotals
 mod Ties
 mod Pulls
-mod Taken
+mod AllTakenWhereOk
 pub mod Laws

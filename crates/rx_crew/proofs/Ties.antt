@@ -8,7 +8,7 @@ use Rattle.rx_book.specs.Answers.{Accepts, Answers}
 use Rattle.rx_book.specs.Checkpoints.{AnswersCheckpoint}
 use Rattle.rx_ledger.specs.declared.ledgers.Sums.{Sums}
 use Rattle.rx_crew.specs.Counting.{sums_of, counting}
-use Rattle.rx_crew.proofs.Counted.{same_sums, sums-step}
+use Rattle.rx_crew.proofs.StepAddsTotals.{same_sums, sums-step}
 
 -- ledgers that agreed with the history, and count what the accepted call does, agree with the history after it
 pub counted : (old new : State) (asked : Request) (before after : Sums)

@@ -3,7 +3,7 @@ pub mod FlatMap
 pub mod Switch
 pub mod TakeUntil
 pub mod RefCount
-pub mod Marking
+pub mod ExampleMarks
 pub mod Orders
 pub mod KeptInBase
 pub mod LeaseAfterDisposal

@@ -80,7 +80,7 @@ fn emit_both<
 
 /// Ends a desk whose threads are joined, with all their seats, and then its book: no lock is held any more, so
 /// the releases run here.
-#[tactic(auto, using(rx_crew::proofs::Laws::Agreed::agreed, rx_crew::proofs::Laws::Agreed::released_at_the_end))]
+#[tactic(auto, using(rx_crew::proofs::Laws::OkHasTheTotals::agreed, rx_crew::proofs::Laws::OkHasTheTotals::released_at_the_end))]
 fn end_all<I: Ledger, A: Ledger, K: Ledger>(
     desk: Desk<Sample, I, A, K>,
     seats: Vec<Seat<I, A, K>>,

@@ -170,7 +170,7 @@ pub fn too_long(alloc: Global) -> Result<String, AllocError> {
 /// audit accepts what it calls lawful.
 ///
 /// Err comes where memory is refused.
-#[tactic(auto, using(crate::proofs::Accepting::accepted_by, crate::proofs::Accepting::too_many, crate::proofs::Accepting::no_json))]
+#[tactic(auto, using(crate::proofs::AcceptedAsRead::accepted_by, crate::proofs::AcceptedAsRead::too_many, crate::proofs::AcceptedAsRead::no_json))]
 pub fn explain(alloc: Global, input: &[u8]) -> Told
     ensures { IfOk result (SaysNothingWhere (IsAccepted input.now)) }
 {

@@ -1,4 +1,4 @@
 pub mod Laws
-mod Walked
-mod Chained
+mod WayWalkedSoFar
+mod FirstDueOnChain
 mod Marked

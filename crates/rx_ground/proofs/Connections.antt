@@ -25,8 +25,8 @@ use Rattle.rx_hub.proofs.Laws.Walks.{found_hub}
 use Rattle.rx_event.specs.Causes.{has_connection}
 use Rattle.rx_ground.specs.Ties.{AreTied}
 use Rattle.rx_ground.specs.Told.{is_connected_manual}
-use Rattle.rx_ground.proofs.Joined.{connected_hub}
-use Rattle.rx_ground.proofs.Published.{hub_is_older, found_made, connection_kept}
+use Rattle.rx_ground.proofs.HubsBesideTree.{connected_hub}
+use Rattle.rx_ground.proofs.HubsAfterEvent.{hub_is_older, found_made, connection_kept}
 use Rattle.rx_ground.proofs.Laws.Ranges.{find_first, find_nothing}
 
 -- a hub's own -------------------------------------------------------------------------------------

@@ -23,7 +23,7 @@ use Rattle.rx_hub.proofs.Laws.AfterCases.{hubs_with_made, hubs_exchanged}
 use Rattle.rx_hub.proofs.Laws.AfterReady.{ready_to_subscribe, ready_to_exchange}
 use Rattle.rx_ground.specs.Inners.{LeavesHubs}
 use Rattle.rx_ground.specs.Ties.{AreTied, AreJoined, Remarks, opened_marks}
-use Rattle.rx_ground.proofs.Joined.{as_many, joined_cut, joined_found, joined_opened}
+use Rattle.rx_ground.proofs.HubsBesideTree.{as_many, joined_cut, joined_found, joined_opened}
 use Rattle.rx_ground.proofs.ReadyToOpen.{IsReadyToOpen, IsOpenedBelow, none_closed, opened_found, opened_new, opened_tied}
 
 module _ {base : Kept} {T : Type 0} {g : Ghosts T} {h : List Event} {place : Place} {kind : Kind} {old left : Tree T} {hubs later : Hubs} {replaces : Bool}

@@ -40,10 +40,10 @@ use Rattle.rx_ground.specs.Shown.{Kept, kept_from, kept_in}
 use Rattle.rx_flow.specs.Records.{IsRecordOf}
 use Rattle.rx_ground.specs.Ties.{HasKey, IsTied, IsStored, AreLeased}
 use Rattle.rx_ground.proofs.Laws.Members.{Contains-head, Contains-later, Contains-none, Contains-cases, Contains-map, Contains-from_map}
-use Rattle.rx_ground.proofs.Laws.Kept.{numbers, just_all, just_nodes, just_out}
+use Rattle.rx_ground.proofs.Laws.JustOpenHeldWaiting.{numbers, just_all, just_nodes, just_out}
 use Rattle.rx_ground.proofs.Laws.Numbers.{ListsJust}
-use Rattle.rx_ground.proofs.Lent.{owned_agrees, held_agrees}
-use Rattle.rx_ground.proofs.Listed.{kept_found}
+use Rattle.rx_ground.proofs.TreeAgreesOnResource.{owned_agrees, held_agrees}
+use Rattle.rx_ground.proofs.FoundIsListed.{kept_found}
 use Rattle.rx_ground.proofs.RisingNumbers.{Rising, rising_just, in_order}
 
 -- slots as lists ------------------------------------------------------------------------------------

@@ -1,9 +1,9 @@
-pub mod Emitted
+pub mod AddedByItem
 pub mod Members
 pub mod KeysKept
 pub mod Keys
 pub mod Numbers
 pub mod Ranges
-pub mod Kept
+pub mod JustOpenHeldWaiting
 pub mod StaysHeld
-pub mod Owned
+pub mod OwnedInTree

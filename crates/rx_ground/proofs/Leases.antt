@@ -17,7 +17,7 @@ use Rattle.rx_event.specs.Resources.{is_out, is_out_of, leases_of, is_waiting}
 use Rattle.rx_event.specs.Lawful.{IsLawful}
 use Rattle.rx_event.proofs.Laws.Places.{slice_get-append, slice_get_last}
 use Rattle.rx_event.proofs.Laws.Leases.{is_out-push, is_out_within, is_out_past, is_out_last, leases_of_some}
-use Rattle.rx_event.proofs.Laws.Released.{out_waits_not}
+use Rattle.rx_event.proofs.Laws.NothingOpenNothingHeld.{out_waits_not}
 use Rattle.rx_slots.specs.declared.Key.{Key}
 use Rattle.rx_slots.specs.Slots.{Slots, find, entry_at, with_number, KeepsOthers}
 use Rattle.rx_tree.specs.declared.node.ResKey.{ResKey}

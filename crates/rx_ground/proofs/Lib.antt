@@ -1,36 +1,36 @@
-pub mod Listed
+pub mod FoundIsListed
 pub mod Records
-pub mod Stored
-mod Lent
+pub mod ResourcesAfterEvent
+mod TreeAgreesOnResource
 mod Leases
-pub mod Owing
-pub mod Tied
-pub mod Written
+pub mod OwedCountBounded
+pub mod StaysTied
+pub mod RegisterAfterWrite
 pub mod Memory
 pub mod HeldKept
 pub mod Newest
 pub mod NodeEnds
-pub mod Settling
+pub mod TiedWhileSettling
 pub mod Inners
 pub mod ReadyToOpen
-pub mod Joined
-pub mod Published
+pub mod HubsBesideTree
+pub mod HubsAfterEvent
 pub mod HubsAtOpening
 pub mod RoomAtOpening
 pub mod Connections
-pub mod Taking
+pub mod TakenResourceWaited
 pub mod Told
-pub mod Ordered
+pub mod InsideConnections
 mod Bare
-pub mod Routed
-pub mod Measuring
-pub mod Passed
+pub mod WayAsInHistory
+pub mod CountsOnTheWay
+pub mod RecordsAfterItem
 pub mod Passage
-pub mod Arrived
+pub mod ItemWentItsWay
 pub mod Loads
-pub mod Standing
+pub mod StandsWithMoreRoom
 mod RisingNumbers
 mod KeptRecords
-mod Rebased
-mod Checkpointing
+mod StandsAfterCheckpoint
+mod CheckpointMakesBase
 pub mod Laws

@@ -14,7 +14,7 @@ use Rattle.rx_event.proofs.Laws.Totals.{accepted_count-parts}
 use Rattle.rx_event.proofs.Laws.Resources.{owned_held}
 use Rattle.rx_register.specs.State.{State, IsPromised}
 use Rattle.rx_register.specs.Paid.{IsPaid}
-use Rattle.rx_ground.proofs.Lent.{is_alone}
+use Rattle.rx_ground.proofs.TreeAgreesOnResource.{is_alone}
 
 -- what is held is owned, or leases alone hold it
 counted_apart : (p q : ℕ → Bool) → ((n : ℕ) → q n ≡ true → p n ≡ true) → (ns : List ℕ) →

@@ -14,7 +14,7 @@ use Rattle.rx_tree.specs.Tree.{Tree, IsNewest, IsPast}
 use Rattle.rx_tree.specs.Resources.{store_key, is_owned, is_owned_at, is_held, is_held_at}
 use Rattle.rx_tree.proofs.Laws.Keys.{some_of}
 use Rattle.rx_ground.specs.Ties.{IsTied}
-use Rattle.rx_ground.proofs.Stored.{stored_within}
+use Rattle.rx_ground.proofs.ResourcesAfterEvent.{stored_within}
 
 module _ (base : Kept) {T : Type 0} (g : Ghosts T) (h : List Event) (tree : Tree T) (tied : IsTied base g h tree) (law : IsLawful base h) (n : ℕ) (at_end : n ≡ length h) where
   pub past_resources : IsPast tree.resources n

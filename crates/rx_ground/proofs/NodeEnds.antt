@@ -21,7 +21,7 @@ use Rattle.rx_tree.proofs.Laws.Keys.{some_of}
 use Rattle.rx_ground.specs.declared.base.Record.{Record}
 use Rattle.rx_ground.specs.Ties.{IsTied, KeepsNodes, Remarks, Cuts, record_of}
 use Rattle.rx_ground.proofs.Records.{parent_in_tree}
-use Rattle.rx_ground.proofs.Tied.{tied_end_top, tied_end_child, parent_stays, cut_keeps, keeps_marked}
+use Rattle.rx_ground.proofs.StaysTied.{tied_end_top, tied_end_child, parent_stays, cut_keeps, keeps_marked}
 
 -- what the record of a node tells of it
 pub record IsRead (h : List Event) (nodes : Slots Node) (key : Key) (read : Record) : Type 0 where

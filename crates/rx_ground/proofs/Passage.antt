@@ -40,9 +40,9 @@ use Rattle.rx_hub.proofs.Laws.Orders.{IsOrdered-walk}
 use Rattle.rx_hub.proofs.Laws.Routes.{stops_left-marked, ordered-marked, under_way-marked}
 use Rattle.rx_ground.specs.Ties.{AreRecords, Remarks}
 use Rattle.rx_ground.specs.Passing.{ArePassed, IsPassing, IsThere, IsMarkedAt, owed_at, told_at, mail_at, sum_at}
-use Rattle.rx_ground.proofs.Measuring.{filtered_few, stops_few}
-use Rattle.rx_ground.proofs.Passed.{Changes, projection_changes, firing_changes, passed_none, passed_told, passed_marked}
-use Rattle.rx_ground.proofs.Routed.{told_sum}
+use Rattle.rx_ground.proofs.CountsOnTheWay.{filtered_few, stops_few}
+use Rattle.rx_ground.proofs.RecordsAfterItem.{Changes, projection_changes, firing_changes, passed_none, passed_told, passed_marked}
+use Rattle.rx_ground.proofs.WayAsInHistory.{told_sum}
 
 -- what is reached is there ------------------------------------------------------------------------
 

@@ -35,7 +35,7 @@ use Rattle.rx_ground.specs.Ties.{IsTied, AreTied, Remarks, IsNewNode, opened_mar
 use Rattle.rx_ground.specs.Inners.{ReplacesNone, Exchanges, MakesWay, ClearsHubs}
 use Rattle.rx_ground.proofs.Newest.{newest}
 use Rattle.rx_ground.proofs.Records.{AreLeft, all_left, cut_left}
-use Rattle.rx_ground.proofs.Tied.{IsOpenedIn, found_still, still_there, rewritten_there, tied_root, tied_below}
+use Rattle.rx_ground.proofs.StaysTied.{IsOpenedIn, found_still, still_there, rewritten_there, tied_root, tied_below}
 
 -- what an opening closes --------------------------------------------------------------------------
 

@@ -18,7 +18,7 @@ use Rattle.rx_ground.specs.Memory.{TakesNoMemory}
 use Rattle.rx_ground.specs.Shown.{Ground}
 use Rattle.rx_ground.specs.Ties.{AreTied}
 use Rattle.rx_ground.proofs.Memory.{written_memory}
-use Rattle.rx_ground.proofs.Owing.{owed_in-bounded}
+use Rattle.rx_ground.proofs.OwedCountBounded.{owed_in-bounded}
 use Rattle.rx_ground.proofs.HubsAtOpening.{hubs_opened}
 use Rattle.rx_ground.proofs.ReadyToOpen.{IsReadyToOpen, IsOpenedBelow, few_above}
 

@@ -33,7 +33,7 @@ use Rattle.rx_lease.specs.Leases.{is_out_at}
 use Rattle.rx_ground.specs.declared.base.Record.{Record}
 use Rattle.rx_ground.specs.Ties.{IsTied, AreLeased, record_of}
 use Rattle.rx_ground.specs.Told.{IsTold, has_place, is_used, is_unowed}
-use Rattle.rx_ground.proofs.Lent.{owned_agrees, held_agrees}
+use Rattle.rx_ground.proofs.TreeAgreesOnResource.{owned_agrees, held_agrees}
 use Rattle.rx_ground.proofs.Leases.{out_in_history as lease_in_history}
 use Rattle.rx_ground.proofs.Newest.{held_found}
 

@@ -55,7 +55,7 @@ impl<R: Resource> Ground<R> {
     }
 
     /// Whether opening such a node forces a connection: it subscribes to a RefCount hub that has none.
-    #[tactic(auto, using(crate::proofs::Published::no_auto_hub))]
+    #[tactic(auto, using(crate::proofs::HubsAfterEvent::no_auto_hub))]
     pub fn forces_connect(&self, kind: Kind) -> bool
         requires standing { IsStanding R.Resource self.now }
         ensures { result ≡ forces_connect self.now.register.history kind }

@@ -20,7 +20,7 @@ use Rattle.rx_hub.specs.declared.hub.LastEnd.{LastEnd}
 use Rattle.rx_hub.specs.Closing.{is_closed, remaining, without_gone, after_closing, IsKnown, AreClosing}
 use Rattle.rx_hub.specs.Hubs.{Hub, Hubs, find_hub, at_hub, disconnected, unsubscribed, without_key}
 use Rattle.rx_hub.proofs.Laws.Walks.{found_hub}
-use Rattle.rx_hub.proofs.Stored.{get_some}
+use Rattle.rx_hub.proofs.StoreShowsHubs.{get_some}
 
 -- tests -------------------------------------------------------------------------------------------
 

@@ -8,4 +8,4 @@ pub mod AfterAll
 pub mod AfterCases
 pub mod AfterReady
 pub mod AfterOrder
-pub mod Forgetting
+pub mod HubsWithoutEnds

@@ -1,9 +1,9 @@
 pub mod Laws
-mod Stored
-mod Found
-mod Forgotten
+mod StoreShowsHubs
+mod HubsByNumber
+mod HubsForgetEnds
 mod ClosedLemmas
-mod Ruled
+mod DueBySubscribers
 mod RouteWays
 mod RouteFrames
 mod RouteSteps

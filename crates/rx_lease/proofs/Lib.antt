@@ -1,2 +1,2 @@
 mod Orders
-mod Kept
+mod LeasesStayInOrder

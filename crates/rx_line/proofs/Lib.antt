@@ -1,3 +1,3 @@
-pub mod Pairing
-pub mod Reordered
-pub mod Changed
+pub mod NamesStayPaired
+pub mod NamesWithMoreRoom
+pub mod BoundAfterChange

@@ -11,7 +11,7 @@ use Rattle.std.proofs.lemmas.List.Kept.{Contains-dedup_nat, Contains-from_dedup}
 use Rattle.std.proofs.lemmas.List.Sorted.{Contains-permutation, IsPermutation-sym}
 use Rattle.std.proofs.lemmas.Map.Keys.{sorted_head, sorted_tail, IsStrictlyIncreasing-dedup, sorted_from_strictly_increasing}
 use Rattle.std.proofs.lemmas.Map.Views.{Contains-from_any, list_any-from_Contains, exact_unsigned_eq}
-use Rattle.rx_event.proofs.Laws.Rising.{In, Rises, rising_same, in_filter, filter_in, filter_rises, in_range, range_rises}
+use Rattle.rx_event.proofs.Laws.RisingLists.{In, Rises, rising_same, in_filter, filter_in, filter_rises, in_range, range_rises}
 
 less : (x y : ℕ) → nat_cmp x y ≡ Less → x < y
 less x y is = by_test (nat_lt x y) (x == y) refl is where

@@ -1,4 +1,4 @@
 mod Places
 mod TieLemmas
-mod Ringed
+mod RingsShowLists
 mod RingSteps

@@ -16,7 +16,7 @@ use Rattle.rx_rings.proofs.Laws.Places.{place_apart, cases_place}
 use Rattle.rx_rings.proofs.Laws.Rings.{some_same, some_none, put_ring, rings_joined, rings_left}
 use Rattle.rx_lists.specs.Rings.{alone, link_in}
 use Rattle.rx_lists.specs.Rings.{next_in, previous_in, within, IsTiedIn, lists_in}
-use Rattle.rx_lists.proofs.Ringed.{seen, of_lt, free_home, out_ring, end_ring, ring_members, rings_seen, past_empty}
+use Rattle.rx_lists.proofs.RingsShowLists.{seen, of_lt, free_home, out_ring, end_ring, ring_members, rings_seen, past_empty}
 
 module _ (ends members ends' members' : List Link) (same_ends : length ends' ≡ length ends) (same_members : length members' ≡ length members)
     (tied : IsTiedIn ends members) where

@@ -15,9 +15,9 @@ use Rattle.rx_live.specs.Carried.{Carries, Goes}
 use Rattle.rx_live.specs.Given.{IsAlike, Gives, NamesOne, BindsHub}
 use Rattle.rx_live.specs.Promise.{Act, released, with_held, Leads, no_act, hands_in, IsKept}
 use Rattle.rx_live.specs.Lines.{Runs, handed_by, IsCarried, Ends, GoesOn, no_line, one_line, IsFresh}
-use Rattle.rx_live.proofs.Binding.{or_false, alike_same}
-use Rattle.rx_live.proofs.Laws.Held.{leads_on, leads_same, alike_held, fresh_held}
-use Rattle.rx_live.proofs.Renewed.{refused_same}
+use Rattle.rx_live.proofs.AcceptedBindsNames.{or_false, alike_same}
+use Rattle.rx_live.proofs.Laws.HeldStaysHeld.{leads_on, leads_same, alike_held, fresh_held}
+use Rattle.rx_live.proofs.SessionAfterCheckpoint.{refused_same}
 
 -- what an accepted command says -----------------------------------------------------------------------
 

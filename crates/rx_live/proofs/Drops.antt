@@ -26,11 +26,11 @@ use Rattle.rx_live.specs.Session.{Session, IsSound, is_kept, has_resource}
 use Rattle.rx_live.specs.Promise.{Act, released, Leads, no_act, releases}
 use Rattle.rx_live.specs.Answers.{Takes, none_taken, one_taken, WritesNames}
 use Rattle.rx_live.specs.Steps.{TakesName, DropsName, WritesName, WritesNoName, AreNamesWritten}
-use Rattle.rx_live.proofs.Laws.Held.{leads_on}
-use Rattle.rx_live.proofs.Remaining.{kept_taken, out_same}
+use Rattle.rx_live.proofs.Laws.HeldStaysHeld.{leads_on}
+use Rattle.rx_live.proofs.LastsThroughSteps.{kept_taken, out_same}
 use Rattle.rx_live.proofs.Soundness.{accepted_longer}
-use Rattle.rx_live.proofs.Binding.{placed_longer, some_gone}
-use Rattle.rx_live.proofs.Opened.{free_forgot}
+use Rattle.rx_live.proofs.AcceptedBindsNames.{placed_longer, some_gone}
+use Rattle.rx_live.proofs.NamesOfOpenNodes.{free_forgot}
 use Rattle.rx_live.proofs.Tellings.{array_more, array_end}
 
 -- what waits is kept, and so has a name --------------------------------------------------------------

@@ -18,10 +18,10 @@ use Rattle.rx_line.specs.Pieces.{name_text, joined}
 use Rattle.rx_live.specs.Session.{Session, IsSound, is_kept, has_resource}
 use Rattle.rx_live.specs.Promise.{Act, released, with_held, Leads, no_act, releases}
 use Rattle.rx_live.specs.Listed.{names_below, all_names, is_nil, led_text, open_text}
-use Rattle.rx_live.proofs.Remaining.{kept_past}
-use Rattle.rx_live.proofs.Binding.{none_of}
+use Rattle.rx_live.proofs.LastsThroughSteps.{kept_past}
+use Rattle.rx_live.proofs.AcceptedBindsNames.{none_of}
 use Rattle.rx_live.proofs.Tellings.{joined_more}
-use Rattle.rx_live.proofs.Laws.Held.{leads_on, leads_same}
+use Rattle.rx_live.proofs.Laws.HeldStaysHeld.{leads_on, leads_same}
 use Rattle.rx_live.proofs.Drops.{dropped_unnamed, or_none}
 
 -- text -----------------------------------------------------------------------------------------------

@@ -8,8 +8,8 @@ use Rattle.rx_picture.specs.Levels.{AreLevels}
 use Rattle.rx_picture.specs.Rows.{AreRows, is_drawn, is_left}
 use Rattle.rx_picture.specs.Told.{marbles, ArePoints}
 use Rattle.rx_picture.specs.Drawn.{is_shown, is_placed, is_rowed, is_rowed_by, AreColumns, IsDrawing}
-use Rattle.rx_picture.proofs.Choosing.{few_chosen}
-use Rattle.rx_picture.proofs.Placing.{count_same, marks_all, rows_same, rowed_same, columns_same, shown_anywhere, placed_anywhere}
+use Rattle.rx_picture.proofs.FewAreChosen.{few_chosen}
+use Rattle.rx_picture.proofs.MarksStandForTests.{count_same, marks_all, rows_same, rowed_same, columns_same, shown_anywhere, placed_anywhere}
 
 pub marks_every : (size : ℕ) (every : List Bool) → every ≡ replicate size true → AreMarks every size (λ n. nat_lt n size)
 marks_every size every is = rw is (marks_all size)

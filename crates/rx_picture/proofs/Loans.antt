@@ -13,8 +13,8 @@ use Rattle.rx_picture.specs.declared.row.Shape.TheVariants.{Loan}
 use Rattle.rx_picture.specs.Rows.{Spans, IsShape}
 use Rattle.rx_picture.specs.Tables.{IsTurn, was_returned}
 use Rattle.rx_picture.proofs.Prefixes.{past_prefix, at_prefix}
-use Rattle.rx_picture.proofs.Turning.{turn_within}
-use Rattle.rx_picture.proofs.Lining.{cut_alone}
+use Rattle.rx_picture.proofs.WhereTestsTurnTrue.{turn_within}
+use Rattle.rx_picture.proofs.WhereLinesEnd.{cut_alone}
 
 module _ (h : List Event) (l r back : ℕ) (leased : slice_get h l ≡ Some (Lease r)) (returned : IsTurn h (was_returned l) (length h) (length h) back) where
   out_prefix : (k : ℕ) → l < k → k ≤ length h → is_out (take k h) l ≡ not (nat_lt back k)

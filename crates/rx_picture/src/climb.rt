@@ -177,7 +177,7 @@ fn push_onward(
 }
 
 /// The nodes that an item of the leaf visits, in order, each as often as it is reached.
-#[tactic(auto, using(crate::proofs::Climbing::climb_begins, crate::proofs::Climbing::climb_ended, crate::proofs::Climbing::climb_stopped, crate::proofs::Climbing::climb_popped))]
+#[tactic(auto, using(crate::proofs::ClimbByStack::climb_begins, crate::proofs::ClimbByStack::climb_ended, crate::proofs::ClimbByStack::climb_stopped, crate::proofs::ClimbByStack::climb_popped))]
 pub fn climb(
     alloc: Global,
     past: &[Event],

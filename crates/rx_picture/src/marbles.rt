@@ -59,7 +59,7 @@ fn is_root_at(past: &[Event], n: u64) -> bool
 }
 
 /// Puts what an item tells behind the marbles.
-#[tactic(auto, using(crate::proofs::Telling::item_told))]
+#[tactic(auto, using(crate::proofs::MarblesOfPrefixes::item_told))]
 fn push_item(
     alloc: Global,
     marbles: &mut Vec<Mail>,
@@ -112,7 +112,7 @@ fn push_told(
 }
 
 /// Puts what the event at the place tells behind the marbles.
-#[tactic(auto, using(crate::proofs::Climbing::ends_of_prefix))]
+#[tactic(auto, using(crate::proofs::ClimbByStack::ends_of_prefix))]
 fn push_told_at(
     alloc: Global,
     marbles: &mut Vec<Mail>,
@@ -132,7 +132,7 @@ fn push_told_at(
 }
 
 /// What was told, in order, so far as the lane and the place are marked.
-#[tactic(auto, using(crate::proofs::Telling::marbles_whole))]
+#[tactic(auto, using(crate::proofs::MarblesOfPrefixes::marbles_whole))]
 pub fn marbles_of(
     alloc: Global,
     events: &[Event],

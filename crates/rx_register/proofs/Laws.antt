@@ -1,5 +1,5 @@
 pub mod NoCause
-pub mod Connecting
+pub mod OpeningForcesConnection
 pub mod Follow
 pub mod Fits
 pub mod Paid

@@ -1,3 +1,3 @@
-mod Written
+mod RegisterStaysTied
 pub mod Laws
 mod CheckpointCauses

@@ -1,4 +1,4 @@
 pub mod Places
 pub mod Links
 pub mod Rings
-pub mod Relinked
+pub mod JoinsLeavesMerges

@@ -30,8 +30,8 @@ use Rattle.rx_script.specs.Engine.{IsSound, Carries}
 use Rattle.rx_report.specs.Keys.{IsNodeKey, IsHeldKey}
 use Rattle.rx_report.proofs.Laws.{has_key-is_open, has_res_key-is_held}
 use Rattle.rx_agenda.proofs.Laws.{key_of-holds}
-use Rattle.rx_script.proofs.Naming.{node_bound, node_unbound, res_bound, res_unbound}
-use Rattle.rx_script.proofs.Carrying.{Agrees, first_cause-by_key, with, refused_own, refused_there, accepted_plain, stored_stage}
+use Rattle.rx_script.proofs.NamesStandForKeys.{node_bound, node_unbound, res_bound, res_unbound}
+use Rattle.rx_script.proofs.EngineCarriesOut.{Agrees, first_cause-by_key, with, refused_own, refused_there, accepted_plain, stored_stage}
 
 -- refusals by the book -----------------------------------------------------------------------------
 

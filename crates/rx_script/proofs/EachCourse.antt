@@ -22,11 +22,11 @@ use Rattle.rx_script.specs.Course.{in_one_order, cause_in, Executes, refused, re
 use Rattle.rx_script.specs.Course.{accepted, drained, checkpointed, Course, IsCanonicalCourseOf, HasOneCourse}
 use Rattle.rx_script.specs.Progress.{Progress, begin, Performs, executes, cancels, Advances, Leads, not_begun, advanced, Ends}
 use Rattle.rx_script.proofs.CoursesInOrder.{course_in_order}
-use Rattle.rx_script.proofs.Calling.{call_ready, not_called, history-after}
-use Rattle.rx_script.proofs.Ordering.{FirstStep, ordered_step, OrderedDrain, ordered_drain}
+use Rattle.rx_script.proofs.CallsOfSteps.{call_ready, not_called, history-after}
+use Rattle.rx_script.proofs.StepsInOneOrder.{FirstStep, ordered_step, OrderedDrain, ordered_drain}
 use Rattle.rx_script.proofs.OneCourse.{one_canonical_course}
-use Rattle.rx_script.proofs.Remaining.{to_come, IsOrderly, IsLeft, IsNoMore, empty-orderly}
-use Rattle.rx_script.proofs.Remaining.{with_steps-orderly, followed-total, followed-orderly, next_left, cancelled_left}
+use Rattle.rx_script.proofs.StepsToCome.{to_come, IsOrderly, IsLeft, IsNoMore, empty-orderly}
+use Rattle.rx_script.proofs.StepsToCome.{with_steps-orderly, followed-total, followed-orderly, next_left, cancelled_left}
 
 -- a command --------------------------------------------------------------------------------------------------------------------------
 

@@ -1,4 +1,4 @@
-pub mod Leading
+pub mod StepsThatForceNothing
 pub mod Drains
 pub mod Lengths
 pub mod InOneOrder

@@ -29,10 +29,10 @@ use Rattle.rx_agenda.specs.Shown.{number_binding}
 use Rattle.rx_script.specs.Engine.{at_of, IsSound, Carries}
 use Rattle.rx_report.proofs.Laws.{has_key-is_open}
 use Rattle.rx_agenda.proofs.Laws.{key_of-holds}
-use Rattle.rx_script.proofs.Naming.{node_bound, node_unbound}
-use Rattle.rx_book.proofs.Laws.Going.{accepted_continues}
-use Rattle.rx_script.proofs.Going.{node_keys_kept, held_keys_kept, lease_keys_kept}
-use Rattle.rx_script.proofs.Carrying.{Agrees, first_cause-by_key, with, refused_own, refused_there, accepted_to, stored_stage, KeepsRest}
+use Rattle.rx_script.proofs.NamesStandForKeys.{node_bound, node_unbound}
+use Rattle.rx_book.proofs.Laws.StepsContinue.{accepted_continues}
+use Rattle.rx_script.proofs.GivenKeysStay.{node_keys_kept, held_keys_kept, lease_keys_kept}
+use Rattle.rx_script.proofs.EngineCarriesOut.{Agrees, first_cause-by_key, with, refused_own, refused_there, accepted_to, stored_stage, KeepsRest}
 use Rattle.rx_script.proofs.Commands.{cause_of}
 use Rattle.rx_script.proofs.Openings.{is_bound-nodes, is_bound-resources, IsPlaced, site_placed, site_nameless}
 use Rattle.rx_script.proofs.Openings.{new_node_key, new_held_key, nodes_bound, resources_bound, same_stage, all_pushed}

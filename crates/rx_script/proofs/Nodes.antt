@@ -26,9 +26,9 @@ use Rattle.rx_report.specs.Keys.{node_binding, res_binding, lease_binding, IsNod
 use Rattle.rx_agenda.specs.Shown.{number_binding}
 use Rattle.rx_script.specs.Engine.{at_of, kind_of, is_taken_beside, with_named, IsSound, Carries}
 use Rattle.rx_agenda.proofs.Laws.{bound-numbers}
-use Rattle.rx_book.proofs.Laws.Going.{accepted_continues}
-use Rattle.rx_script.proofs.Going.{node_keys_kept, held_keys_kept, lease_keys_kept}
-use Rattle.rx_script.proofs.Carrying.{Agrees, first_cause-by_key, with, refused_own, refused_there, accepted_to, stored_stage, KeepsRest}
+use Rattle.rx_book.proofs.Laws.StepsContinue.{accepted_continues}
+use Rattle.rx_script.proofs.GivenKeysStay.{node_keys_kept, held_keys_kept, lease_keys_kept}
+use Rattle.rx_script.proofs.EngineCarriesOut.{Agrees, first_cause-by_key, with, refused_own, refused_there, accepted_to, stored_stage, KeepsRest}
 use Rattle.rx_script.proofs.Commands.{cause_of}
 use Rattle.rx_script.proofs.Openings.{is_bound-nodes, taken_beside-bound, named_bound, all_named, forced_node_key}
 use Rattle.rx_script.proofs.Openings.{IsPlaced, site_placed, site_nameless, new_node_key, nodes_bound, same_stage, all_pushed}

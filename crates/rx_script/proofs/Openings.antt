@@ -35,9 +35,9 @@ use Rattle.rx_script.specs.Engine.{at_of, is_taken, is_taken_beside, with_named,
 use Rattle.rx_agenda.proofs.Laws.{key_of-bind, none_there}
 use Rattle.rx_report.proofs.Laws.{has_key-is_open, has_key-contained, has_res_key-contained, has_lease_key-contained}
 use Rattle.rx_agenda.proofs.Laws.{key_of-holds, bound-numbers}
-use Rattle.rx_script.proofs.Naming.{bound-nodes, bound-resources, bound-leases, node_bound, node_unbound}
-use Rattle.rx_book.proofs.Laws.Going.{step_longer}
-use Rattle.rx_script.proofs.Carrying.{stored_stage}
+use Rattle.rx_script.proofs.NamesStandForKeys.{bound-nodes, bound-resources, bound-leases, node_bound, node_unbound}
+use Rattle.rx_book.proofs.Laws.StepsContinue.{step_longer}
+use Rattle.rx_script.proofs.EngineCarriesOut.{stored_stage}
 
 -- names that are taken -----------------------------------------------------------------------------
 

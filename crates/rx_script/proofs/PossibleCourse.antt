@@ -10,7 +10,7 @@ use Rattle.rx_script.specs.Stage.{Stage, front_is_fresh}
 use Rattle.rx_script.specs.Course.{limited, in_one_order, DrainsInOrder, nothing_left, least_taken}
 use Rattle.rx_script.specs.Course.{Executes, refused, refused_by_book, accepted, drained, checkpointed}
 use Rattle.rx_script.specs.Course.{Does, does, leaves, Plays, none_played, one_played, CanonicalCoursesArePossible}
-use Rattle.rx_script.proofs.Ordering.{roomy, roomy_first}
+use Rattle.rx_script.proofs.StepsInOneOrder.{roomy, roomy_first}
 
 -- what is drained in order is drained ------------------------------------------------------------------------------------------------
 

@@ -23,7 +23,7 @@ use Rattle.rx_agenda.specs.Bindings.{Binding, bound, with_binding}
 use Rattle.rx_scenario.specs.Scenario.{Name, Command, using, open_node, hold, apply, remove, lease, give_back, next}
 use Rattle.rx_scenario.specs.Scenario.{end, abort, decline, fail, dispose, make_hub, connect, disconnect, drain, checkpoint}
 use Rattle.rx_script.specs.Stage.{Ware, Stage, connection_name, place_at, kind_at, front, call_of, with_connection, after}
-use Rattle.rx_script.proofs.Renaming.{renamed, AllNumbers, all_numbers, renamed-same, with_binding-renamed, with_binding-all}
+use Rattle.rx_script.proofs.NamesForOtherNumbers.{renamed, AllNumbers, all_numbers, renamed-same, with_binding-renamed, with_binding-all}
 use Rattle.rx_script.proofs.SameStages.{AreSameStages}
 
 -- places in a longer history ---------------------------------------------------------------------------------------------------------

@@ -30,7 +30,7 @@ use Rattle.rx_report.specs.declared.line.Whereabouts.TheVariants.{Held, Waiting,
 use Rattle.rx_report.specs.Lines.{refused_lines, is_told, node_shown, node_lines, account_of, res_lines, totals_of}
 use Rattle.rx_script.specs.Stage.{Stage}
 use Rattle.rx_script.specs.Report.{unclosed_report, report}
-use Rattle.rx_script.proofs.Renaming.{renamed, AllNumbers}
+use Rattle.rx_script.proofs.NamesForOtherNumbers.{renamed, AllNumbers}
 use Rattle.rx_script.proofs.SameStages.{AreSameStages}
 
 told_by : (r : ℕ → ℕ) (e : Event) → is_told (event_by r e) ≡ is_told e

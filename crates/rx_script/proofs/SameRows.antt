@@ -30,7 +30,7 @@ use Rattle.rx_event.specs.Calls.{Opening, OpeningUsing, Holding, Applying, Remov
 use Rattle.rx_event.specs.Calls.{Disposing, Publishing, Connecting, Disconnecting, Taking, Call}
 use Rattle.rx_event.proofs.Laws.Openness.{ancestors_open}
 use Rattle.rx_event.proofs.Laws.SameTree.{alike_back, at_alike, at_hub_alike, parent_alike, ancestors_alike, connections_alike, visits_alike, stops_alike}
-use Rattle.rx_event.proofs.Laws.Agreed.{hubs_alike, hub_is}
+use Rattle.rx_event.proofs.Laws.SameForcedAndAllowed.{hubs_alike, hub_is}
 use Rattle.rx_event.proofs.Laws.Steps.{named_below}
 use Rattle.rx_event.proofs.Laws.Checkpoints.{same_debt}
 use Rattle.rx_event.specs.Causes.{has_connection, is_without_hub, forces_connect, connects_up_to, is_out_of_order, is_gone, is_wrong_place}

@@ -25,7 +25,7 @@ use Rattle.rx_scenario.specs.Scenario.{until, sub, Command, using, open_node, ho
 use Rattle.rx_scenario.specs.Scenario.{next, end, abort, decline, fail, dispose, make_hub, connect, disconnect, drain, checkpoint}
 use Rattle.rx_script.specs.Stage.{Ware, Stage, is_unbound_site, is_unbound_hub, lacks_name, connection_name}
 use Rattle.rx_script.specs.Stage.{takes_name, is_empty, lacks_stock, own_cause, place_at, kind_at, front, call_of}
-use Rattle.rx_script.proofs.Renaming.{renamed, AllNumbers, bound-same, is_bound-same, is_unbound-same, bound-holds}
+use Rattle.rx_script.proofs.NamesForOtherNumbers.{renamed, AllNumbers, bound-same, is_bound-same, is_unbound-same, bound-holds}
 
 pub record AreSameStages (r s : ℕ → ℕ) (x y : Stage) : Type 0 where
   pub histories : AreSameBy nothing_kept r s x.history y.history

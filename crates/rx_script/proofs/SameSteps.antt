@@ -39,8 +39,8 @@ use Rattle.rx_script.specs.Stage.{Ware, Stage, start, own_cause, call_of, front_
 use Rattle.rx_script.specs.Course.{limited, in_one_order, book_cause, cause_in, Executes, refused, refused_by_book, accepted, drained, checkpointed}
 use Rattle.rx_script.specs.Course.{Does, does, leaves, Plays, none_played, one_played, is_full, HasNoFull, Course, IsCourseOf, IsCanonicalCourseOf}
 use Rattle.rx_script.proofs.CoursesInOrder.{answer_in, answers_done}
-use Rattle.rx_script.proofs.Calling.{call_ready}
-use Rattle.rx_script.proofs.Ordering.{FirstStep, ordered_step, Drained, takes_drained, OrderedDrain, ordered_drain}
+use Rattle.rx_script.proofs.CallsOfSteps.{call_ready}
+use Rattle.rx_script.proofs.StepsInOneOrder.{FirstStep, ordered_step, Drained, takes_drained, OrderedDrain, ordered_drain}
 use Rattle.rx_script.proofs.SameStages.{AreSameStages, own_same, front_same, call_same, call_known}
 use Rattle.rx_script.proofs.SameAfter.{stands_on, same_on, after_same}
 

@@ -16,7 +16,7 @@ use Rattle.rx_event.proofs.Laws.Starts.{lawful_front, lawful_last, lawful_begun}
 use Rattle.rx_event.proofs.Laws.Steps.{by_pushes}
 use Rattle.rx_event.proofs.Laws.Counts.{notes-push}
 use Rattle.rx_event.proofs.Laws.SameTree.{connections_alike}
-use Rattle.rx_event.proofs.Laws.Agreed.{agree_back, forced_too, settled_too}
+use Rattle.rx_event.proofs.Laws.SameForcedAndAllowed.{agree_back, forced_too, settled_too}
 use Rattle.rx_event.proofs.Laws.Begin.{shown_nothing}
 use Rattle.rx_event.proofs.Laws.Bases.{base_length, length_base}
 use Rattle.rx_event.proofs.Laws.Checkpoints.{checkpoints_agree}

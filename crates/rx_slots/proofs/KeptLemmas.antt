@@ -10,7 +10,7 @@ use Rattle.rx_slots.specs.declared.Key.{Key}
 use Rattle.rx_slots.specs.Slots.{entry_at, with_number, find, IsWithin, placed, with_value as written_at, entry_of, with_value_at}
 use Rattle.rx_slots.specs.Kept.{table, shown, IsKept}
 use Rattle.rx_slots.proofs.SlotsLemmas.{get_or-append-nothing, sum_by-same_reads}
-use Rattle.rx_slots.proofs.Laws.Found.{numbered_entry, with_number-same}
+use Rattle.rx_slots.proofs.Laws.EntryByNumber.{numbered_entry, with_number-same}
 use Rattle.slab.proofs.SlabLemmas.{ContainsKey-within, Updates-with_value}
 use Rattle.std.proofs.lemmas.List.Sums.{sum_by-set}
 

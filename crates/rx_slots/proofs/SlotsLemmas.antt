@@ -8,7 +8,7 @@ use Rattle.std.proofs.lemmas.List.{length-set, length-append, length-replicate, 
 use Rattle.rx_slots.specs.declared.Entry.{Entry}
 use Rattle.rx_slots.specs.declared.Key.{Key}
 use Rattle.rx_slots.specs.Slots.{Slots, slot_count, entry_at, with_number, find, placed, Changes, KeepsOthers}
-use Rattle.rx_slots.proofs.Laws.Found.{with_number-other, found_entry}
+use Rattle.rx_slots.proofs.Laws.EntryByNumber.{with_number-other, found_entry}
 
 -- nothing more is read past the end of a list that is longer by nothing
 pub get_or-append-nothing : {X : Type 0} (xs : List (Option X)) (more k : ℕ) → get_or (xs ++ replicate more None) k None ≡ get_or xs k None

@@ -1,3 +1,3 @@
 mod CountUp
 mod Mail
-mod Told
+mod OutcomeTellsFigures

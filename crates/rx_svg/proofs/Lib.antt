@@ -6,4 +6,4 @@ mod Rows
 mod Documents
 pub mod Laws
 mod Reader
-mod Refused
+mod NotWellFormed

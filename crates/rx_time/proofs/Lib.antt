@@ -1,4 +1,4 @@
 pub mod Laws
 pub mod Entries
 pub mod Next
-pub mod Kept
+pub mod AgendaMatchesEntries

@@ -16,7 +16,7 @@ use Rattle.rx_tree.specs.declared.node.Stowed.{Stowed}
 use Rattle.rx_tree.specs.declared.store.Store.{Store}
 use Rattle.rx_rings.specs.Rings.{is_among, AreDifferent, walk}
 use Rattle.rx_tree.specs.Places.{is_place, slot_of, places}
-use Rattle.rx_tree.proofs.Places.{tells}
+use Rattle.rx_tree.proofs.PlacesApart.{tells}
 use Rattle.rx_rings.proofs.Laws.Places.{few_places, among_here, among_there, among_cons, or_true}
 use Rattle.rx_rings.proofs.Laws.Links.{walk_leads}
 use Rattle.rx_rings.proofs.Laws.Rings.{some_same}
@@ -24,7 +24,7 @@ use Rattle.rx_tree.specs.Store.{on_entry, key_on, nodes_of, resources_of, next_o
 use Rattle.rx_tree.specs.Ties.{home_of, sibling_ring, resource_ring, IsTiedAt, IsTied}
 use Rattle.rx_tree.specs.Tree.{IsPromised, AreDistinct, is_key, is_on}
 use Rattle.rx_tree.proofs.Laws.Keys.{same_key}
-use Rattle.rx_tree.proofs.Laws.Written.{entry_found, found_entry}
+use Rattle.rx_tree.proofs.Laws.FoundAfterWrite.{entry_found, found_entry}
 use Rattle.rx_tree.specs.Resources.{is_owned, is_lent}
 use Rattle.rx_tree.proofs.TieRecords.{home_stands}
 

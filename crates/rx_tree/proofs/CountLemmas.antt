@@ -14,7 +14,7 @@ use Rattle.rx_tree.specs.declared.node.Node.{Node}
 use Rattle.rx_tree.specs.declared.node.Stowed.{Stowed}
 use Rattle.rx_tree.specs.Resources.{is_owned}
 use Rattle.rx_tree.specs.Ties.{unowned_in, owned_at, AreCounted}
-use Rattle.rx_tree.proofs.Laws.Written.{found_entry, slot_within}
+use Rattle.rx_tree.proofs.Laws.FoundAfterWrite.{found_entry, slot_within}
 
 -- one for what passes a test, none for what does not
 abbrev pub bit : Bool → ℕ

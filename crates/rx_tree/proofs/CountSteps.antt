@@ -24,7 +24,7 @@ use Rattle.rx_tree.specs.Ties.{unowned_in, owned_at, AreCounted, is_free, IsCoun
 use Rattle.rx_tree.proofs.CountLemmas.{bit, same_here, same_apart, count_changed, counted_changed, counted_placed, counted_out, are_counted_still}
 use Rattle.rx_tree.proofs.Laws.Keys.{cases_key}
 use Rattle.rx_tree.proofs.Laws.Owed.{owed_came, owed_taken, owed_empty}
-use Rattle.rx_tree.proofs.Laws.Written.{entry_found, slot_within}
+use Rattle.rx_tree.proofs.Laws.FoundAfterWrite.{entry_found, slot_within}
 use Rattle.rx_tree.proofs.StoreLemmas.{find-project}
 
 -- what of the counts is of those with a lease out, or of the others

@@ -1,5 +1,5 @@
 pub mod Keys
-pub mod Written
+pub mod FoundAfterWrite
 pub mod Parents
 pub mod Below
 pub mod Newest

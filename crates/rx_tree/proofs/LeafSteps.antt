@@ -17,17 +17,17 @@ use Rattle.rx_tree.specs.Cuts.{still_open, waiting_home, LetsWait}
 use Rattle.rx_tree.specs.Resources.{is_owned, is_lent}
 use Rattle.rx_rings.specs.Rings.{is_among, without, Steps, set_step, AreRings, PassesBy, Leaves, Merges}
 use Rattle.rx_tree.specs.Places.{is_place, is_end, slot_of, places}
-use Rattle.rx_tree.proofs.Places.{tells}
+use Rattle.rx_tree.proofs.PlacesApart.{tells}
 use Rattle.rx_rings.proofs.Laws.Places.{cases_place, place_apart, among_here, among_there, among_without, without_none}
 use Rattle.rx_rings.proofs.Laws.Links.{no_loop}
 use Rattle.rx_rings.proofs.Laws.Rings.{merged_rings, rings_merged, rings_left, some_same}
-use Rattle.rx_rings.proofs.Laws.Relinked.{leaves_of}
+use Rattle.rx_rings.proofs.Laws.JoinsLeavesMerges.{leaves_of}
 use Rattle.rx_tree.specs.Store.{alone, key_on, nodes_of, resources_of, link_at, set_link_at, next_of, previous_of, stands, is_there, Relinks, Takes_out, shown}
 use Rattle.rx_tree.specs.Ties.{sibling_ring, resource_ring, Rises, is_by_age, home_of, IsTiedAt, IsTied}
 use Rattle.rx_tree.specs.Tree.{IsSound}
 use Rattle.rx_tree.proofs.Chain.{chain_is, retie, due_is}
 use Rattle.rx_tree.proofs.Laws.Keys.{cases_key, some_of, none_not_some, same_key}
-use Rattle.rx_tree.proofs.Laws.Written.{one_key, with_number-same}
+use Rattle.rx_tree.proofs.Laws.FoundAfterWrite.{one_key, with_number-same}
 use Rattle.rx_tree.proofs.LeafRings.{lone, lone_here, lone_other, lone_some, next_there, previous_there, empty_ring, nothing_on, held_is, no_above, none_held}
 use Rattle.rx_tree.proofs.Sound.{IfSome-same}
 use Rattle.rx_tree.proofs.TieRecords.{home_by, home_stands, aged}

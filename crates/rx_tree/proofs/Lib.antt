@@ -1,5 +1,5 @@
 pub mod Laws
-pub mod Places
+pub mod PlacesApart
 pub mod PlaceKinds
 pub mod Origins
 pub mod StoreLemmas

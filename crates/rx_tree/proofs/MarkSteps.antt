@@ -16,7 +16,7 @@ use Rattle.rx_tree.specs.declared.node.Stowed.{Stowed}
 use Rattle.rx_tree.specs.declared.store.Store.{Store}
 use Rattle.rx_rings.specs.Rings.{is_among, without, Steps, Leads, AreDifferent, Joins, Leaves}
 use Rattle.rx_tree.specs.Places.{is_place, is_end, slot_of, places}
-use Rattle.rx_tree.proofs.Places.{tells}
+use Rattle.rx_tree.proofs.PlacesApart.{tells}
 use Rattle.rx_rings.proofs.Laws.Places.{place_differs, among_here, without_none}
 use Rattle.rx_rings.proofs.Laws.Links.{no_loop, first_among}
 use Rattle.rx_rings.proofs.Laws.Rings.{some_none}

@@ -7,7 +7,7 @@ use Rattle.rx_event.specs.Events.{is_root}
 use Rattle.rx_slots.specs.declared.Key.{Key}
 use Rattle.rx_rings.specs.Rings.{is_among, Joins}
 use Rattle.rx_tree.specs.Places.{is_place, is_end, slot_of, places}
-use Rattle.rx_tree.proofs.Places.{tells}
+use Rattle.rx_tree.proofs.PlacesApart.{tells}
 use Rattle.rx_rings.proofs.Laws.Places.{among_here, among_there}
 use Rattle.rx_rings.proofs.Laws.Rings.{some_same, some_none}
 use Rattle.rx_slots.specs.Slots.{Slots, entry_at, with_number, find}

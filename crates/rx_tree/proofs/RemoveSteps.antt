@@ -10,12 +10,12 @@ use Rattle.rx_tree.specs.declared.node.Stowed.{Stowed}
 use Rattle.rx_tree.specs.declared.store.Store.{Store}
 use Rattle.rx_rings.specs.Rings.{is_among, without, Joins, Leaves}
 use Rattle.rx_tree.specs.Places.{is_place, places}
-use Rattle.rx_tree.proofs.Places.{tells}
+use Rattle.rx_tree.proofs.PlacesApart.{tells}
 use Rattle.rx_rings.proofs.Laws.Places.{without_none}
 use Rattle.rx_tree.specs.Store.{key_on, nodes_of, resources_of, next_of, previous_of, stands, is_there, KeepsLinks, Relinks, shown}
 use Rattle.rx_tree.specs.Ties.{resource_ring, IsTiedAt, IsTied}
 use Rattle.rx_tree.proofs.Chain.{chain_is, retie}
-use Rattle.rx_tree.proofs.Laws.Written.{entry_found}
+use Rattle.rx_tree.proofs.Laws.FoundAfterWrite.{entry_found}
 use Rattle.rx_tree.proofs.There.{previous_stands, next_stands}
 use Rattle.rx_tree.proofs.TieResources.{ring_ends, tied_off, tied_on}
 use Rattle.rx_tree.proofs.TieSteps.{tied_links}

@@ -15,7 +15,7 @@ use Rattle.rx_tree.specs.declared.node.Node.{Node}
 use Rattle.rx_tree.specs.declared.node.Stowed.{Stowed}
 use Rattle.rx_rings.specs.Rings.{is_among, Steps, Leads}
 use Rattle.rx_tree.specs.Places.{is_place, is_end, slot_of, places}
-use Rattle.rx_tree.proofs.Places.{tells}
+use Rattle.rx_tree.proofs.PlacesApart.{tells}
 use Rattle.rx_rings.proofs.Laws.Places.{among_here, among_there, among_cons}
 use Rattle.rx_rings.proofs.Laws.Rings.{some_same}
 use Rattle.rx_tree.specs.Store.{key_on}
@@ -23,7 +23,7 @@ use Rattle.rx_tree.specs.Ties.{sibling_ring, Rises, is_by_age, home_of, IsTiedAt
 use Rattle.rx_tree.specs.Tree.{IsChild, IsRoot, IsFirst, HasNone, parent_number}
 use Rattle.rx_tree.proofs.Laws.Keys.{some_of}
 use Rattle.rx_tree.proofs.Laws.Parents.{named_parent, child_found, parent_key}
-use Rattle.rx_tree.proofs.Laws.Written.{entry_found, found_entry, one_key}
+use Rattle.rx_tree.proofs.Laws.FoundAfterWrite.{entry_found, found_entry, one_key}
 use Rattle.rx_tree.proofs.Chain.{key_on_found}
 use Rattle.rx_tree.proofs.TieRecords.{aged}
 

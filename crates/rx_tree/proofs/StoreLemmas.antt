@@ -18,7 +18,7 @@ use Rattle.rx_tree.specs.declared.store.Stored.{Stored as Kept}
 use Rattle.rx_tree.specs.declared.store.Store.{Store}
 use Rattle.rx_tree.specs.Store.{on_entry, project, alone, link_at, set_link_at, Relinks, KeepsLinks, Inserts, Takes_out, no_counts}
 use Rattle.rx_tree.specs.Tree.{Rewrites}
-use Rattle.rx_tree.proofs.Laws.Written.{find-written, KeepsOthers-written, entry_found, slot_within}
+use Rattle.rx_tree.proofs.Laws.FoundAfterWrite.{find-written, KeepsOthers-written, entry_found, slot_within}
 
 module _ {X Y : Type 0} (f : X → Y) where
   pub entry_at-project : (s : Slots X) (i : ℕ) → entry_at (project f s) i ≡ option_map (on_entry f) (entry_at s i)

@@ -5,7 +5,7 @@ use Rattle.rx_tree.specs.declared.links.Place.{Place}
 use Rattle.rx_tree.specs.declared.store.Store.{Store}
 use Rattle.rx_rings.specs.Rings.{set_step}
 use Rattle.rx_tree.specs.Places.{is_place, places}
-use Rattle.rx_tree.proofs.Places.{tells}
+use Rattle.rx_tree.proofs.PlacesApart.{tells}
 use Rattle.rx_tree.specs.Store.{stands, is_there, Relinks}
 
 -- one link is written

@@ -6,7 +6,7 @@ use Rattle.rx_slots.specs.declared.Entry.{Entry}
 use Rattle.rx_slots.specs.declared.Key.{Key}
 use Rattle.std.specs.Option.{option_and_then}
 use Rattle.rx_slots.specs.Slots.{Slots, entry_of, entry_at, find, with_number, Changes}
-use Rattle.rx_tree.proofs.Laws.Written.{entry_found}
+use Rattle.rx_tree.proofs.Laws.FoundAfterWrite.{entry_found}
 use Rattle.rx_tree.specs.declared.links.Place.{Place}
 use Rattle.rx_tree.specs.declared.links.Place.TheVariants.{Due, Waiting, Held, Stored}
 use Rattle.rx_tree.specs.declared.node.Node.{Node}
@@ -14,7 +14,7 @@ use Rattle.rx_tree.specs.declared.node.Stowed.{Stowed}
 use Rattle.rx_tree.specs.Resources.{is_owned, is_lent}
 use Rattle.rx_rings.specs.Rings.{without, Steps, AreRings, Joins, Leaves}
 use Rattle.rx_tree.specs.Places.{is_place, is_end, places}
-use Rattle.rx_tree.proofs.Places.{tells}
+use Rattle.rx_tree.proofs.PlacesApart.{tells}
 use Rattle.rx_rings.proofs.Laws.Places.{place_apart}
 use Rattle.rx_rings.proofs.Laws.Rings.{put_ring, by_ring, some_same, rings_joined, rings_left}
 use Rattle.rx_tree.specs.Store.{Takes_out}

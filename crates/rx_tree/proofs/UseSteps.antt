@@ -19,7 +19,7 @@ use Rattle.rx_tree.specs.Tree.{Rewrites}
 use Rattle.rx_tree.proofs.Chain.{chain_is}
 use Rattle.rx_tree.proofs.CountSteps.{counted_written}
 use Rattle.rx_tree.proofs.Laws.Keys.{cases_key}
-use Rattle.rx_tree.proofs.Laws.Written.{entry_found}
+use Rattle.rx_tree.proofs.Laws.FoundAfterWrite.{entry_found}
 use Rattle.rx_tree.proofs.StoreLemmas.{find-project, changes-written, rewrites-project, part-rewritten, keeps_links}
 use Rattle.rx_tree.proofs.TieRecords.{home_by}
 use Rattle.rx_tree.proofs.TieSteps.{rings_same, tied_links}

@@ -16,14 +16,14 @@ use Rattle.rx_tree.specs.declared.store.Store.{Store}
 use Rattle.rx_tree.specs.Resources.{is_owned, is_lent, is_held, Takes}
 use Rattle.rx_rings.specs.Rings.{is_among, set_step, Leads, Leaves}
 use Rattle.rx_tree.specs.Places.{is_place, is_end, slot_of, places}
-use Rattle.rx_tree.proofs.Places.{tells}
+use Rattle.rx_tree.proofs.PlacesApart.{tells}
 use Rattle.rx_rings.proofs.Laws.Places.{among_here, without_none}
 use Rattle.rx_rings.proofs.Laws.Links.{set_same, first_among}
 use Rattle.rx_rings.proofs.Laws.Rings.{some_same}
 use Rattle.rx_tree.specs.Store.{alone, link_at, key_on, nodes_of, resources_of, next_of, previous_of, KeepsLinks, Relinks, Takes_out, shown}
 use Rattle.rx_tree.specs.Ties.{home_of, sibling_ring, resource_ring, IsTiedAt, IsTied}
 use Rattle.rx_tree.proofs.Chain.{chain_is, retie}
-use Rattle.rx_tree.proofs.Laws.Written.{entry_found, found_entry}
+use Rattle.rx_tree.proofs.Laws.FoundAfterWrite.{entry_found, found_entry}
 use Rattle.rx_tree.proofs.TieRecords.{home_stands}
 use Rattle.rx_tree.proofs.TieResources.{tied_taken}
 use Rattle.rx_tree.proofs.TieSteps.{tied_links}

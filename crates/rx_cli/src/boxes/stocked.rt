@@ -97,7 +97,7 @@ impl Resource for Stocked {
 /// its tag.
 ///
 /// Err comes where memory is refused for the list.
-#[tactic(auto, using(crate::proofs::Filling::all_more))]
+#[tactic(auto, using(crate::proofs::StockGrowsByOne::all_more))]
 pub fn stock(alloc: Global) -> Result<Vec<Stocked>, AllocError>
     ensures shown { IfOk result (λ v. map shown v.items ≡ map fresh_by (range_with_len 0 256)) }
     ensures count { IfOk result (λ v. vec_len v ≡ 256) }

@@ -32,7 +32,7 @@ use Rattle.rx_event.proofs.Laws.Notes.{notes_in, notes_to-push, noted_to}
 use Rattle.rx_event.proofs.Laws.Dues.{and_false, IsDueOn, none_more, one_more, IsClosing, by_end, by_close, closing_of, Fails}
 use Rattle.rx_event.proofs.Laws.Dues.{SeesNone, seen_on, connect_on, at_on, any_on, count_on, owed_on, stays_closed_on, EndsSo}
 use Rattle.rx_event.proofs.Laws.Dues.{ends_one, EndStands, stood_before, came_after, end_stands, begun_on}
-use Rattle.rx_event.proofs.Laws.Spared.{same_open, spared}
+use Rattle.rx_event.proofs.Laws.ClosedInEveryCourse.{same_open, spared}
 use Rattle.rx_event.proofs.Laws.SameMarks.{marks_both}
 use Rattle.rx_event.proofs.Laws.Starts.{StartAlike, BeginsWith, begins_with, starts_with, start_alike, lawful_begun}
 use Rattle.rx_event.proofs.Laws.Lawful.{shown_within}

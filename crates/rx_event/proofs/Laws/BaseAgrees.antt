@@ -12,7 +12,7 @@ use Rattle.rx_note.specs.declared.note.Terminal.TheVariants.{Completed, Error}
 use Rattle.rx_event.specs.declared.event.Place.{Place}
 use Rattle.rx_event.specs.declared.event.Kind.TheVariants.{Leaf, Pass, Flat, Switch, Until, Sub}
 use Rattle.rx_event.specs.Allowed.{IsInOrderAt, IsInOrder}
-use Rattle.rx_event.proofs.Laws.Agreed.{hub_is, in_order_too}
+use Rattle.rx_event.proofs.Laws.SameForcedAndAllowed.{hub_is, in_order_too}
 use Rattle.rx_event.specs.declared.event.Place.TheVariants.{Root, Source, Inner, Notifier}
 use Rattle.rx_event.specs.declared.event.Event.{Event}
 use Rattle.rx_event.specs.declared.event.Event.TheVariants.{Open, Hub, Connect, Accept, Use, Lease, Item, End, Close, Take}
@@ -44,7 +44,7 @@ use Rattle.rx_event.proofs.Laws.MarksNew.{never}
 use Rattle.rx_event.proofs.Laws.SameTree.{at_hub_alike, at_alike, alike_back, named_parent}
 use Rattle.rx_event.proofs.Laws.Bases.{found, node_of_base, hub_of_base, shown_get, length_base, base_length, is_inert, KeptAt, kept_at, kept_open, base_alike}
 use Rattle.rx_event.proofs.Laws.Sound.{count_none}
-use Rattle.rx_event.proofs.Laws.Making.{made_unremoved, made_unreturned, made_untaken, made_unfired}
+use Rattle.rx_event.proofs.Laws.MakingRemovesNothing.{made_unremoved, made_unreturned, made_untaken, made_unfired}
 
 pub resource_of_base : (b : Kept) (h : List Event) (r : ℕ) → resource_kept (base_of b h) r ≡ cond (is_untaken h r) (Some (keep_resource b h r)) None
 unfolding base_of

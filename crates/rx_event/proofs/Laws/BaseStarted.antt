@@ -29,7 +29,7 @@ use Rattle.rx_event.proofs.Laws.Openness.{is_open_past, stays_closed_after, pare
 use Rattle.rx_event.proofs.Laws.Hubs.{one_connection}
 use Rattle.rx_event.proofs.Laws.Resources.{node_of-lt, leased_held, is_held_past, is_waiting_past}
 use Rattle.rx_event.proofs.Laws.Leases.{lease_older}
-use Rattle.rx_event.proofs.Laws.Released.{out_leased}
+use Rattle.rx_event.proofs.Laws.NothingOpenNothingHeld.{out_leased}
 use Rattle.rx_event.proofs.Laws.Plain.{owed_plain}
 use Rattle.rx_event.proofs.Laws.Sources.{one_source}
 use Rattle.rx_event.proofs.Laws.Totals.{accepted_count-parts}
@@ -38,7 +38,7 @@ use Rattle.rx_event.proofs.Laws.Sound.{sound_of, count_none, hub_before, hubbed_
 use Rattle.rx_event.proofs.Laws.MarksNew.{never}
 use Rattle.rx_event.proofs.Laws.SameTree.{named_parent}
 use Rattle.rx_event.proofs.Laws.Bases.{is_inert, KeptAt, kept_at, node_of_base, length_base}
-use Rattle.rx_event.proofs.Laws.Agreed.{settled_too}
+use Rattle.rx_event.proofs.Laws.SameForcedAndAllowed.{settled_too}
 use Rattle.rx_event.proofs.Laws.BaseAgrees.{resource_of_base, s_making, s_unused, s_owned, s_unowned, s_no_resource, s_resource_at, s_lease, s_no_lease}
 use Rattle.rx_event.proofs.Laws.BaseAgrees.{base_is_alike, owned_node, s_one_inner, s_paid, base_sound, base_agrees}
 use Rattle.rx_event.proofs.Laws.ShownBase.{base_one_connection, base_undue, agree_accepted}

@@ -27,11 +27,11 @@ use Rattle.rx_event.proofs.Laws.Projections.{stops_open}
 use Rattle.rx_event.proofs.Laws.Waits.{settled_connected}
 use Rattle.rx_event.proofs.Laws.MarksAfter.{is_fired-push, same_marks}
 use Rattle.rx_event.proofs.Laws.MarksNew.{never}
-use Rattle.rx_event.proofs.Laws.Making.{made_unfired, made_untold}
+use Rattle.rx_event.proofs.Laws.MakingRemovesNothing.{made_unfired, made_untold}
 use Rattle.rx_event.proofs.Laws.SameMarks.{settled_no_terminal}
 use Rattle.rx_event.proofs.Laws.SameTree.{parent_alike}
 use Rattle.rx_event.proofs.Laws.BaseStarted.{base_started}
-use Rattle.rx_event.proofs.Laws.Agreed.{settled_too}
+use Rattle.rx_event.proofs.Laws.SameForcedAndAllowed.{settled_too}
 use Rattle.rx_event.proofs.Laws.Checkpoints.{base_lawful, kept_agrees}
 
 -- what items fire is a TakeUntil --------------------------------------------------------------------

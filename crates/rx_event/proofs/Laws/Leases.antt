@@ -21,7 +21,7 @@ use Rattle.rx_event.proofs.Laws.Sums.{sum_by-places-push, sums_balance, sum_by-s
 use Rattle.rx_event.proofs.Laws.Lawful.{in_base, since_base, FoundAt, found_at}
 use Rattle.rx_event.proofs.Laws.Steps.{by_events, may_lease, may_return}
 use Rattle.rx_event.proofs.Laws.Stands.{at_older}
-use Rattle.rx_event.proofs.Laws.Making.{made_unreturned}
+use Rattle.rx_event.proofs.Laws.MakingRemovesNothing.{made_unreturned}
 
 one_if : {a b : Bool} → a ≡ b → cond {A = ℕ} a 1 0 ≡ cond {A = ℕ} b 1 0
 one_if same = ap (λ (b : Bool). cond {A = ℕ} b 1 0) same

@@ -27,7 +27,7 @@ use Rattle.rx_event.proofs.Laws.Projections.{stops_open, owed_new}
 use Rattle.rx_event.proofs.Laws.Searches.{list_any_found}
 use Rattle.rx_event.proofs.Laws.MarksFound.{child_terminal_some, source_completed_true, open_children_zero}
 use Rattle.rx_event.proofs.Laws.MarksAfter.{is_fired-push, same_marks}
-use Rattle.rx_event.proofs.Laws.Making.{made_unfired}
+use Rattle.rx_event.proofs.Laws.MakingRemovesNothing.{made_unfired}
 
 -- a new node --------------------------------------------------------------------------------------
 

@@ -30,7 +30,7 @@ use Rattle.rx_event.proofs.Laws.Lawful.{may_end}
 use Rattle.rx_event.proofs.Laws.Steps.{by_events, may_emit}
 use Rattle.rx_event.proofs.Laws.Totals.{is_within_self}
 use Rattle.rx_event.proofs.Laws.Projections.{stops_open}
-use Rattle.rx_event.proofs.Laws.Making.{made_untold}
+use Rattle.rx_event.proofs.Laws.MakingRemovesNothing.{made_untold}
 
 -- the notes of this mail that go to n
 abbrev pub notes_in : ℕ → List Mail → List Note

@@ -34,13 +34,13 @@ use Rattle.rx_event.proofs.Laws.Waits.{at_before, spares, cut_alone, kept_subscr
 use Rattle.rx_event.proofs.Laws.OneEnd.{ends_as, source_ended_before, open_old}
 use Rattle.rx_event.proofs.Laws.Leases.{owned_resource, out_lease}
 use Rattle.rx_event.proofs.Laws.Resources.{held_resource, waiting_parts}
-use Rattle.rx_event.proofs.Laws.Spared.{open_above}
-use Rattle.rx_event.proofs.Laws.Reading.{parent_read, within_read, unconnected_read, auto_hub}
+use Rattle.rx_event.proofs.Laws.ClosedInEveryCourse.{open_above}
+use Rattle.rx_event.proofs.Laws.ReadDue.{parent_read, within_read, unconnected_read, auto_hub}
 use Rattle.rx_event.proofs.Laws.ReadOpened.{at_read, hub_made}
 use Rattle.rx_event.proofs.Laws.ReadStops.{visits_read}
 use Rattle.rx_event.proofs.Laws.ReadShown.{made_at, resource_made, root_by}
 use Rattle.rx_event.proofs.Laws.LetGo.{connected_hub, connection_listed, first_connection}
-use Rattle.rx_event.proofs.Laws.Rising.{In, rising_same, in_filter, filter_in, filter_rises, in_range, range_rises, in_map, map_in, map_rises}
+use Rattle.rx_event.proofs.Laws.RisingLists.{In, rising_same, in_filter, filter_in, filter_rises, in_range, range_rises, in_map, map_in, map_rises}
 use Rattle.rx_event.specs.Opened.{source_opened, notifier_opened}
 
 -- tests that see no number -----------------------------------------------------------------------------------------------------------

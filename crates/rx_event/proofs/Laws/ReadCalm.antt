@@ -21,7 +21,7 @@ use Rattle.rx_event.proofs.Laws.Projections.{stops_open}
 use Rattle.rx_event.proofs.Laws.MarksAfter.{marks_kept, is_still}
 use Rattle.rx_event.proofs.Laws.MarksTouched.{marks_untouched, marks-item_at, marks-decline_at}
 use Rattle.rx_event.proofs.Laws.OneEnd.{ends_as, source_ended_before}
-use Rattle.rx_event.proofs.Laws.Reading.{renumbered_back}
+use Rattle.rx_event.proofs.Laws.ReadDue.{renumbered_back}
 use Rattle.rx_event.proofs.Laws.ReadOn.{read_on}
 use Rattle.rx_event.proofs.Laws.ReadOpened.{apart_read}
 use Rattle.rx_event.proofs.Laws.ReadStops.{stops_read, after_stops_read}

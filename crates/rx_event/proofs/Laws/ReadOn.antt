@@ -27,7 +27,7 @@ use Rattle.rx_event.proofs.Laws.MarksFound.{is_child_parent, parent_is_child}
 use Rattle.rx_event.proofs.Laws.MarksEnds.{marks_closed, not_false}
 use Rattle.rx_event.proofs.Laws.MarksTouched.{marks_untouched, marks-end_at}
 use Rattle.rx_event.proofs.Laws.OneEnd.{ends_as, source_ended_before}
-use Rattle.rx_event.proofs.Laws.Reading.{parent_read, within_read, subscriber_read, renumbered_back}
+use Rattle.rx_event.proofs.Laws.ReadDue.{parent_read, within_read, subscriber_read, renumbered_back}
 
 -- an event that makes neither a node nor a hub
 pub record MakesNone (e : Event) : Type 0 where

@@ -30,7 +30,7 @@ use Rattle.rx_event.proofs.Laws.MarksAfter.{marks_kept}
 use Rattle.rx_event.proofs.Laws.MarksEnds.{not_false}
 use Rattle.rx_event.proofs.Laws.MarksTouched.{marks_untouched, marks-source_at, marks-notifier_at, marks-inner_at_flat}
 use Rattle.rx_event.proofs.Laws.MarksTouched.{marks-inner_at_first, marks-inner_at_next}
-use Rattle.rx_event.proofs.Laws.Reading.{parent_read, renumbered_back}
+use Rattle.rx_event.proofs.Laws.ReadDue.{parent_read, renumbered_back}
 use Rattle.rx_event.proofs.Laws.ReadMade.{with_number, makes, is_read_made}
 
 -- back to the numbers that it had -------------------------------------------------------------------------------------

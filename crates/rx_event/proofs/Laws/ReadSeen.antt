@@ -21,7 +21,7 @@ use Rattle.rx_event.proofs.Laws.Openness.{is_open_within}
 use Rattle.rx_event.proofs.Laws.Searches.{list_any_found, list_any_holds}
 use Rattle.rx_event.proofs.Laws.MarksFound.{is_child_parent, parent_is_child}
 use Rattle.rx_event.proofs.Laws.InOrder.{place_get}
-use Rattle.rx_event.proofs.Laws.Reading.{parent_read, renumbered_back}
+use Rattle.rx_event.proofs.Laws.ReadDue.{parent_read, renumbered_back}
 use Rattle.rx_event.proofs.Laws.ReadOpened.{at_read, hub_made, merging_read}
 use Rattle.rx_event.proofs.Laws.ReadStops.{subscribers_read, visits_read}
 use Rattle.rx_event.proofs.Laws.ReadShown.{made_at, node_named, resource_made, root_by}

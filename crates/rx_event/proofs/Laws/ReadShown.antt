@@ -36,7 +36,7 @@ use Rattle.rx_event.proofs.Laws.Projections.{stops_open}
 use Rattle.rx_event.proofs.Laws.ReadMade.{event_by_below, names_below, makes_by}
 use Rattle.rx_event.proofs.Laws.ReadOpened.{at_read}
 use Rattle.rx_event.proofs.Laws.ReadStops.{stop_by, stops_read}
-use Rattle.rx_event.proofs.Laws.Making.{made_untold}
+use Rattle.rx_event.proofs.Laws.MakingRemovesNothing.{made_untold}
 
 -- no number past the end was told anything ------------------------------------------------------------------------------------
 

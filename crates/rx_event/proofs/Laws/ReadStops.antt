@@ -24,10 +24,10 @@ use Rattle.rx_event.proofs.Laws.Openness.{is_open_within, parent_open}
 use Rattle.rx_event.proofs.Laws.Steps.{parent-named}
 use Rattle.rx_event.proofs.Laws.Stands.{event_at}
 use Rattle.rx_event.proofs.Laws.Projections.{onward_open, climb_open}
-use Rattle.rx_event.proofs.Laws.Reading.{parent_read, subscriber_read}
+use Rattle.rx_event.proofs.Laws.ReadDue.{parent_read, subscriber_read}
 use Rattle.rx_event.proofs.Laws.ReadOpened.{merging_read, hub_made, apart_read}
 use Rattle.rx_event.proofs.Laws.LetGo.{connected_hub}
-use Rattle.rx_event.proofs.Laws.Rising.{In, rising_same, in_filter, filter_in, filter_rises, in_range, range_rises, in_map, map_in, map_rises}
+use Rattle.rx_event.proofs.Laws.RisingLists.{In, rising_same, in_filter, filter_in, filter_rises, in_range, range_rises, in_map, map_in, map_rises}
 
 abbrev pub stop_by : (ℕ → ℕ) → Stop → Stop
 stop_by r (Delivery n) = Delivery (r n)

@@ -22,7 +22,7 @@ use Rattle.rx_event.proofs.Laws.Resources.{held_resource, waiting_parts}
 use Rattle.rx_event.proofs.Laws.Leases.{owned_resource, out_lease}
 use Rattle.rx_event.proofs.Laws.Waits.{settled_connected}
 use Rattle.rx_event.proofs.Laws.Alike.{courses_alike}
-use Rattle.rx_event.proofs.Laws.Reading.{renumbered_back, forced_read, settled_read}
+use Rattle.rx_event.proofs.Laws.ReadDue.{renumbered_back, forced_read, settled_read}
 use Rattle.rx_event.proofs.Laws.ReadOn.{renumbered_end, renumbered_close}
 use Rattle.rx_event.proofs.Laws.ReadMade.{with_number, number_new, number_old}
 use Rattle.rx_event.proofs.Laws.ReadOpened.{event_undone, renumbered_open, renumbered_hub, renumbered_connect, renumbered_accept, renumbered_lease}

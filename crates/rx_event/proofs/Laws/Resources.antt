@@ -25,7 +25,7 @@ use Rattle.rx_event.proofs.Laws.Steps.{by_events, may_accept, may_remove, may_ta
 use Rattle.rx_event.proofs.Laws.Places.{at_within}
 use Rattle.rx_event.proofs.Laws.Leases.{is_owned_within, owned_resource, lease_resource, leases_of_kept, leases_of-return, leased_resource, leased_some}
 use Rattle.rx_event.proofs.Laws.Leases.{leased_where, is_leased_past, is_leased_kept, is_leased_last, leased_old, lease_owned}
-use Rattle.rx_event.proofs.Laws.Making.{made_unremoved, made_untaken}
+use Rattle.rx_event.proofs.Laws.MakingRemovesNothing.{made_unremoved, made_untaken}
 
 -- the node of a resource ---------------------------------------------------------------------------
 

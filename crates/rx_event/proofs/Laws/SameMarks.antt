@@ -26,7 +26,7 @@ use Rattle.rx_event.proofs.Laws.Waits.{settled_connected}
 use Rattle.rx_event.proofs.Laws.MarksFound.{child_terminal_some}
 use Rattle.rx_event.proofs.Laws.MarksAfter.{same_marks}
 use Rattle.rx_event.proofs.Laws.Dues.{IsDueOn, Fails, any_on, parent_on, owed_on, fired_on, lawful_on}
-use Rattle.rx_event.proofs.Laws.Spared.{same_open, spared, completed_in_k, source_fails}
+use Rattle.rx_event.proofs.Laws.ClosedInEveryCourse.{same_open, spared, completed_in_k, source_fails}
 
 -- what has a child is a mirroring node, or a FlatMap or Switch
 data IsParent (h : List Event) (n : ℕ) : Type 0 where

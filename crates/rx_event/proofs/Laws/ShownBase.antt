@@ -14,7 +14,7 @@ use Rattle.rx_event.proofs.Laws.SoundForm.{Sound}
 use Rattle.rx_event.proofs.Laws.SameTree.{at_alike}
 use Rattle.rx_event.proofs.Laws.Bases.{base_alike}
 use Rattle.rx_event.proofs.Laws.Hubs.{TwoConnections}
-use Rattle.rx_event.proofs.Laws.Agreed.{agree_back, due_too}
+use Rattle.rx_event.proofs.Laws.SameForcedAndAllowed.{agree_back, due_too}
 use Rattle.rx_event.proofs.Laws.BaseAgrees.{base_agrees}
 
 -- it has one open connection of a hub -----------------------------------------------------------------

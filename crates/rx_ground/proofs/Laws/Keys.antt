@@ -7,7 +7,7 @@ use Rattle.rx_tree.specs.declared.node.Stowed.{Stowed}
 use Rattle.rx_tree.specs.Tree.{Tree}
 use Rattle.rx_tree.specs.Resources.{is_held}
 use Rattle.rx_ground.specs.Shown.{Kept, kept_in, held_in}
-use Rattle.rx_ground.proofs.Listed.{filter_member, filter_has, kept_found, kept_listed}
+use Rattle.rx_ground.proofs.FoundIsListed.{filter_member, filter_has, kept_found, kept_listed}
 
 module _ {X : Type 0} (slots : Slots X) where
   -- what is listed is found under its key, and what is found is listed

@@ -15,7 +15,7 @@ use Rattle.rx_tree.specs.declared.node.ResKey.{ResKey}
 use Rattle.rx_tree.specs.Tree.{Tree}
 use Rattle.rx_tree.specs.Resources.{store_key, is_lent, is_held, is_held_at}
 use Rattle.rx_ground.specs.Ties.{IsTied, KeepsNodes, KeepsOlder, KeepsHeld, KeepsLeases, IsNewNode}
-use Rattle.rx_ground.proofs.Stored.{stored_within}
+use Rattle.rx_ground.proofs.ResourcesAfterEvent.{stored_within}
 
 or_true : (b : Bool) → (b || true) ≡ true
 or_true true = refl

@@ -37,7 +37,7 @@ use Rattle.rx_hub.specs.Due.{event_of, IsOf, ConcernsHub, IsDueIn, connects, act
 use Rattle.rx_hub.specs.Due.{is_auto, is_cut, waits, connect_of, cut_of, left_of, due_of}
 use Rattle.rx_hub.specs.Hubs.{Hub, Hubs, IsPromised}
 use Rattle.rx_hub.specs.Records.{numbers, EndsConnection, IsUpTo, IsHubOf, AreHubsOf}
-use Rattle.rx_hub.proofs.Found.{find_at}
+use Rattle.rx_hub.proofs.HubsByNumber.{find_at}
 
 -- tests -------------------------------------------------------------------------------------------
 

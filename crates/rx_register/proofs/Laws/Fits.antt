@@ -33,7 +33,7 @@ use Rattle.rx_event.proofs.Laws.Hubs.{may_subscribe}
 use Rattle.rx_event.proofs.Laws.Waits.{kept_end, kept_close_allowed, kept_unsubscribed, settled_connected}
 use Rattle.rx_event.specs.Causes.{end_at, forces_connect, nodes_opened}
 use Rattle.rx_register.specs.Paid.{Fits}
-use Rattle.rx_register.proofs.Laws.Connecting.{opening_waits}
+use Rattle.rx_register.proofs.Laws.OpeningForcesConnection.{opening_waits}
 
 -- one event after which no hub waits
 fits_one : (base : Kept) → (h : List Event) (e : Event) (events noted : ℕ) → IsConnected (h ++ e ∷ []) → debt base (h ++ e ∷ []) + 1 ≤ debt base h + events →

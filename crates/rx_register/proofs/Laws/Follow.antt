@@ -42,7 +42,7 @@ use Rattle.rx_event.proofs.Laws.Totals.{is_open_new}
 use Rattle.rx_event.specs.Causes.{causes, is_gone, is_wrong_place, is_taken_place, is_unowed_place, is_without_hub, is_out_of_order}
 use Rattle.rx_event.specs.Causes.{connects_up_to, nodes_opened, is_crowded, opening_causes, using_causes, disconnecting_causes}
 use Rattle.rx_register.proofs.Laws.NoCause.{no_cause}
-use Rattle.rx_register.proofs.Laws.Connecting.{opening_connects, connects_none, connects_one}
+use Rattle.rx_register.proofs.Laws.OpeningForcesConnection.{opening_connects, connects_none, connects_one}
 
 -- places and hubs ---------------------------------------------------------------------------------
 

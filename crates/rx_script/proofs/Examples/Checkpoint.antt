@@ -28,7 +28,7 @@ use Rattle.rx_script.specs.Stage.{Ware, Stage}
 use Rattle.rx_script.specs.Course.{limited, Executes, refused_by_book, accepted, checkpointed, Course, IsCourseOf}
 use Rattle.rx_script.specs.Progress.{Progress, begin, executes, Leads, not_begun, advanced}
 use Rattle.rx_script.proofs.CoursesInOrder.{course_in_order}
-use Rattle.rx_script.proofs.Examples.Leading.{doing, turn_of, plain_step}
+use Rattle.rx_script.proofs.Examples.StepsThatForceNothing.{doing, turn_of, plain_step}
 
 -- a scenario -------------------------------------------------------------------------------------------------------------------------
 

@@ -27,7 +27,7 @@ use Rattle.rx_script.specs.Stage.{Ware, Stage}
 use Rattle.rx_script.specs.Course.{limited, drained, HasNoFull, Course, IsCourseOf}
 use Rattle.rx_script.specs.Progress.{begin, executes, not_begun, advanced}
 use Rattle.rx_script.proofs.CoursesInOrder.{course_in_order}
-use Rattle.rx_script.proofs.Examples.Leading.{doing, turn_of, plain_step, Led, led_on}
+use Rattle.rx_script.proofs.Examples.StepsThatForceNothing.{doing, turn_of, plain_step, Led, led_on}
 
 -- a scenario -------------------------------------------------------------------------------------------------------------------------
 

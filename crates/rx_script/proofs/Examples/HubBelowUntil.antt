@@ -28,7 +28,7 @@ use Rattle.rx_script.specs.Course.{in_one_order, Course, IsCanonicalCourseOf}
 use Rattle.rx_report.specs.Text.{refused_line, node_line, note_text, totals_line, closed_line}
 use Rattle.rx_script.specs.Report.{report, unclosed_report}
 use Rattle.rx_script.proofs.CoursesInOrder.{course_in_order}
-use Rattle.rx_script.proofs.Examples.Leading.{doing, turn_of}
+use Rattle.rx_script.proofs.Examples.StepsThatForceNothing.{doing, turn_of}
 use Rattle.rx_script.proofs.Examples.InOneOrder.{Ordered, nothing_stands, ordered_to, stands_after, first_of_all, ordered_on}
 
 abbrev h : Name

@@ -22,7 +22,7 @@ use Rattle.rx_scenario.specs.Scenario.{Name, Command, command, Steps, Step, list
 use Rattle.rx_script.specs.Stage.{Ware, own_cause, call_of, after}
 use Rattle.rx_script.specs.Course.{in_one_order, cause_in, accepted, refused_by_book}
 use Rattle.rx_script.specs.Progress.{Progress, begin, executes, Leads, not_begun, advanced}
-use Rattle.rx_script.proofs.Examples.Leading.{step_to}
+use Rattle.rx_script.proofs.Examples.StepsThatForceNothing.{step_to}
 
 -- a history that is lawful and settled
 pub record Stands (h : List Event) : Type 0 where

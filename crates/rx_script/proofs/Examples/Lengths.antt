@@ -28,7 +28,7 @@ use Rattle.rx_script.specs.Stage.{Ware, Stage}
 use Rattle.rx_script.specs.Course.{limited, HasNoFull, Course, IsCourseOf}
 use Rattle.rx_script.specs.Progress.{begin, not_begun}
 use Rattle.rx_script.proofs.CoursesInOrder.{course_in_order}
-use Rattle.rx_script.proofs.Examples.Leading.{doing, turn_of, step_to, plain_step, Led, led_on}
+use Rattle.rx_script.proofs.Examples.StepsThatForceNothing.{doing, turn_of, step_to, plain_step, Led, led_on}
 
 -- a scenario: source and notifier of a TakeUntil subscribe to one hub, the source of its connection completes, and one more is opened --
 

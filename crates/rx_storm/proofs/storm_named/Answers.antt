@@ -1,4 +1,4 @@
-use Rattle.rx_storm.proofs.Told.{told_of, front_of}
+use Rattle.rx_storm.proofs.OutcomeTellsFigures.{told_of, front_of}
 use Rattle.rx_storm.proofs.storm_named.Goals as goal
 
 pub returns-clause-told : goal.returns-clause-told

@@ -15,7 +15,7 @@ use Rattle.rx_tree.specs.declared.node.Node.{Node}
 use Rattle.rx_tree.specs.Tree.{IsSound, named_above}
 use Rattle.rx_tree.specs.Below.{ancestors_within, record_in, record_of, up, ancestors, is_below}
 use Rattle.rx_tree.proofs.Laws.Parents.{named_parent}
-use Rattle.rx_tree.proofs.Laws.Written.{entry_found, with_number-same, with_number-other}
+use Rattle.rx_tree.proofs.Laws.FoundAfterWrite.{entry_found, with_number-same, with_number-other}
 
 -- one test for both
 option_map_or-same : {X Y : Type 0} (f g : X → Y) (o : Option X) (d : Y) → ((x : X) → o ≡ Some x → f x ≡ g x) → option_map_or f o d ≡ option_map_or g o d

@@ -15,7 +15,7 @@ use Rattle.rx_tree.specs.Owed.{owed_by, owed_in}
 use Rattle.rx_tree.specs.Tree.{AreApart, Rewrites}
 use Rattle.rx_tree.proofs.CountLemmas.{sum_none, sum_changed}
 use Rattle.rx_tree.proofs.Laws.Keys.{some_of}
-use Rattle.rx_tree.proofs.Laws.Written.{entry_found, found_entry, slot_within}
+use Rattle.rx_tree.proofs.Laws.FoundAfterWrite.{entry_found, found_entry, slot_within}
 
 -- sums over slots ---------------------------------------------------------------------------------
 

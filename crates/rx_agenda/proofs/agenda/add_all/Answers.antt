@@ -5,7 +5,7 @@ use Rattle.std.proofs.lemmas.List.Sums.{sum_by-append, sum_by-cons}
 use Rattle.rx_scenario.specs.Scenario.{step_of}
 use Rattle.rx_agenda.specs.Agenda.{with_step, with_steps}
 use Rattle.rx_agenda.specs.Shown.{agenda_of, size_of, size_left}
-use Rattle.rx_agenda.proofs.Planning.{with_steps-push}
+use Rattle.rx_agenda.proofs.NextStepAndCancel.{with_steps-push}
 use Rattle.rx_agenda.proofs.agenda.add_all.Goals as goal
 
 pub loop-step-preserved : goal.loop-step-preserved

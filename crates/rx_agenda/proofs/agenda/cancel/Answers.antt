@@ -1,6 +1,6 @@
 use Rattle.std.proofs.Common.{◌≡◌, ◌∙◌, Some, None, sym, arith}
 use Rattle.rx_agenda.specs.Names.{key_of}
-use Rattle.rx_agenda.proofs.Planning.{cancel-unbound, cancel-gone, cancel-taken, size_left-taken}
+use Rattle.rx_agenda.proofs.NextStepAndCancel.{cancel-unbound, cancel-gone, cancel-taken, size_left-taken}
 use Rattle.rx_agenda.proofs.agenda.cancel.Goals as goal
 
 pub returns-in_default-clause-value : goal.returns-in_default-clause-value

@@ -1,5 +1,5 @@
 use Rattle.std.proofs.Common.{◌≡◌, ◌∙◌, [], sym, arith}
-use Rattle.rx_agenda.proofs.Planning.{next_step-some, next_step-none, size_left-taken}
+use Rattle.rx_agenda.proofs.NextStepAndCancel.{next_step-some, next_step-none, size_left-taken}
 use Rattle.rx_agenda.proofs.agenda.next_step.Goals as goal
 
 pub returns-in-Some-next_until-clause-some : goal.returns-in-Some-next_until-clause-some

@@ -1,5 +1,5 @@
 use Rattle.std.proofs.Common.{sym, ◌∙◌}
-use Rattle.rx_audit.proofs.Passing.{item_of}
+use Rattle.rx_audit.proofs.MarksAfterItem.{item_of}
 use Rattle.rx_audit.proofs.advance.keep.Goals as goal
 
 pub keep_item-requires-clause-reached : goal.keep_item-requires-clause-reached

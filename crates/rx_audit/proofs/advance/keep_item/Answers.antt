@@ -2,7 +2,7 @@ use Rattle.std.proofs.Common.{arith}
 use Rattle.std.proofs.lemmas.Result.{on_ok_weaker}
 use Rattle.rx_audit.specs.Marking.{IsVisited}
 use Rattle.rx_audit.proofs.DueLists.{marks_noted}
-use Rattle.rx_audit.proofs.Passing.{item_kept, item_covered}
+use Rattle.rx_audit.proofs.MarksAfterItem.{item_kept, item_covered}
 use Rattle.rx_audit.proofs.advance.keep_item.Goals as goal
 
 pub returns-clause-kept : goal.returns-clause-kept

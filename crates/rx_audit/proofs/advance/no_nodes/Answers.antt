@@ -1,5 +1,5 @@
 use Rattle.std.proofs.Common.{sym, ◌∙◌}
-use Rattle.rx_audit.proofs.Following.{followed_nothing}
+use Rattle.rx_audit.proofs.KnownNodesAndHubs.{followed_nothing}
 use Rattle.rx_audit.proofs.advance.no_nodes.Goals as goal
 
 pub returns : goal.returns

@@ -1,5 +1,5 @@
 use Rattle.std.proofs.Common.{sym, ◌∙◌}
-use Rattle.rx_audit.proofs.Covering.{child_marked}
+use Rattle.rx_audit.proofs.DueListCovers.{child_marked}
 use Rattle.rx_audit.proofs.allowed.has_child.Goals as goal
 
 pub returns : goal.returns

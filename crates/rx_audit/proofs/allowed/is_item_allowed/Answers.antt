@@ -4,7 +4,7 @@ use Rattle.std.specs.Bool.{MatchBool}
 use Rattle.rx_event.specs.Climb.{visits}
 use Rattle.rx_audit.specs.Flow.{IsReached}
 use Rattle.rx_audit.specs.Allowing.{item_allowed}
-use Rattle.rx_audit.proofs.Permitting.{item_test, climb_test, no_item}
+use Rattle.rx_audit.proofs.TestsDecideAllowed.{item_test, climb_test, no_item}
 use Rattle.rx_audit.proofs.allowed.is_item_allowed.Goals as goal
 
 pub returns-then-not-is_open_leaf-clause-value : goal.returns-then-not-is_open_leaf-clause-value

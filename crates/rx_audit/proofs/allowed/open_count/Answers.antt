@@ -1,5 +1,5 @@
 use Rattle.std.proofs.Common.{◌∙◌}
-use Rattle.rx_audit.proofs.Permitting.{open_counted}
+use Rattle.rx_audit.proofs.TestsDecideAllowed.{open_counted}
 use Rattle.rx_audit.proofs.allowed.open_count.Goals as goal
 
 pub returns : goal.returns

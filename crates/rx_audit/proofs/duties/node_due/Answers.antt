@@ -1,7 +1,7 @@
 use Rattle.std.proofs.Common.{sym, ap, ◌∙◌}
 use Rattle.std.specs.Prelude.{is_some}
 use Rattle.rx_event.specs.Marks.{terminal_due}
-use Rattle.rx_audit.proofs.Covering.{due_closed, due_nowhere, due_made_at}
+use Rattle.rx_audit.proofs.DueListCovers.{due_closed, due_nowhere, due_made_at}
 use Rattle.rx_audit.proofs.duties.node_due.Goals as goal
 
 pub returns-then-not-is_marked : goal.returns-then-not-is_marked

@@ -1,8 +1,8 @@
 use Rattle.std.proofs.Common.{sym, arith, refl}
 use Rattle.std.proofs.lemmas.Bool.{false≢true}
-use Rattle.rx_audit.proofs.Covering.{noted_none}
+use Rattle.rx_audit.proofs.DueListCovers.{noted_none}
 use Rattle.rx_audit.proofs.Due.{no_connect_due}
-use Rattle.rx_audit.proofs.Following.{known_due}
+use Rattle.rx_audit.proofs.KnownNodesAndHubs.{known_due}
 use Rattle.rx_audit.proofs.DueLists.{acts_unsettled, none_acts_settled, waits_unsettled}
 use Rattle.rx_audit.proofs.duties.settle.Goals as goal
 

@@ -1,5 +1,5 @@
 use Rattle.std.proofs.Common.{length, arith}
-use Rattle.rx_audit.proofs.Lending.{leases_found, leases_long, leases_few}
+use Rattle.rx_audit.proofs.LeaseTallies.{leases_found, leases_long, leases_few}
 use Rattle.rx_audit.proofs.found.find_leases.Goals as goal
 
 pub returns-clause-leases : goal.returns-clause-leases

@@ -1,7 +1,7 @@
 use Rattle.std.proofs.Common.{◌≡◌, length, arith, ap, ◌∙◌, length-append}
 use Rattle.rx_event.specs.declared.event.Event.{Event}
 use Rattle.rx_event.specs.Events.{removed_of, returned_of, taken_of}
-use Rattle.rx_audit.proofs.Finding.{back, table_field}
+use Rattle.rx_audit.proofs.FoundAfterEvent.{back, table_field}
 use Rattle.rx_audit.proofs.found.follow.Goals as goal
 
 pub returns-clause-found : goal.returns-clause-found

@@ -1,6 +1,6 @@
 use Rattle.std.proofs.Common.{false, length, arith, refl, sym, ap, ◌∙◌}
 use Rattle.std.proofs.lemmas.List.{length-replicate}
-use Rattle.rx_audit.proofs.Finding.{no_table, none_marked, no_tally, nothing_leased, nothing_live}
+use Rattle.rx_audit.proofs.FoundAfterEvent.{no_table, none_marked, no_tally, nothing_leased, nothing_live}
 use Rattle.rx_audit.proofs.found.nothing_found.Goals as goal
 
 pub returns : goal.returns

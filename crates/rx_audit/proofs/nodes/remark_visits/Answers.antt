@@ -1,6 +1,6 @@
 use Rattle.std.proofs.Common.{◌<◌, length, get_or, arith}
 use Rattle.rx_audit.specs.declared.reach.Visit.{Visit}
-use Rattle.rx_audit.proofs.Visiting.{visited_none, visited_more, same_default}
+use Rattle.rx_audit.proofs.VisitsChangeMarks.{visited_none, visited_more, same_default}
 use Rattle.rx_audit.proofs.nodes.remark_visits.Goals as goal
 
 pub loop-visit-init : goal.loop-visit-init

@@ -1,8 +1,8 @@
 use Rattle.std.proofs.Common.{◌≡◌, ℕ, ◌+◌, ◌*◌, ◌≤◌, List, drop, length, refl, ap, ◌∙◌, arith}
 use Rattle.std.specs.List.{sum_by}
 use Rattle.rx_audit.specs.Flow.{times}
-use Rattle.rx_audit.proofs.Logging.{read_at}
-use Rattle.rx_audit.proofs.Counting.{flow_ends, flow_step, flow_over, length_few, few_left}
+use Rattle.rx_audit.proofs.VisitLogEntries.{read_at}
+use Rattle.rx_audit.proofs.LogCountsVisits.{flow_ends, flow_step, flow_over, length_few, few_left}
 use Rattle.rx_audit.proofs.reach.reached.Goals as goal
 
 pub returns-then-i-len : goal.returns-then-i-len

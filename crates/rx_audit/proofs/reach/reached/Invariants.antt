@@ -1,4 +1,4 @@
-use Rattle.rx_audit.proofs.Counting.{IsFlowing}
+use Rattle.rx_audit.proofs.LogCountsVisits.{IsFlowing}
 use Rattle.rx_audit.proofs.reach.reached.Given as goal
 
 abbrev pub invariant-loop-i : goal.invariant-loop-i

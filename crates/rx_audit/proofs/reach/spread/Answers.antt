@@ -1,5 +1,5 @@
 use Rattle.std.proofs.Common.{◌∙◌, arith}
-use Rattle.rx_audit.proofs.Logging.{taken_few, times_more}
+use Rattle.rx_audit.proofs.VisitLogEntries.{taken_few, times_more}
 use Rattle.rx_audit.proofs.reach.spread.Goals as goal
 
 pub reach-requires-clause-few : goal.reach-requires-clause-few

@@ -4,7 +4,7 @@ use Rattle.rx_event.specs.declared.event.Kind.TheVariants.{Leaf}
 use Rattle.rx_event.specs.declared.event.Event.{Event}
 use Rattle.rx_event.specs.declared.event.Event.TheVariants.{Open}
 use Rattle.rx_event.proofs.Laws.Begin.{IsLawful_nothing}
-use Rattle.rx_audit.proofs.Judging.{unlawful_here, lawful_more, found_more, followed_more, known_from}
+use Rattle.rx_audit.proofs.TestsToVerdict.{unlawful_here, lawful_more, found_more, followed_more, known_from}
 use Rattle.rx_audit.proofs.verdict.first_unlawful.Goals as goal
 
 any_event : Event

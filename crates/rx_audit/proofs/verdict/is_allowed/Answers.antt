@@ -5,7 +5,7 @@ use Rattle.rx_event.specs.Allowed.{IsAllowed}
 use Rattle.rx_audit.specs.Allowing.{item_allowed}
 use Rattle.rx_audit.specs.Flow.{IsReached}
 use Rattle.rx_audit.specs.Found.{IsClimbed}
-use Rattle.rx_audit.proofs.Judging.{item_answer, simple_answer, item_climbs, no_item_climbs}
+use Rattle.rx_audit.proofs.TestsToVerdict.{item_answer, simple_answer, item_climbs, no_item_climbs}
 use Rattle.rx_audit.proofs.verdict.is_allowed.Goals as goal
 
 pub returns-in-Item-clause-allows : goal.returns-in-Item-clause-allows

@@ -1,4 +1,4 @@
-use Rattle.rx_audit.proofs.Judging.{open_test}
+use Rattle.rx_audit.proofs.TestsToVerdict.{open_test}
 use Rattle.rx_audit.proofs.verdict.is_opening_allowed.Goals as goal
 
 pub returns : goal.returns

@@ -4,7 +4,7 @@ use Rattle.std.proofs.lemmas.Result.{IfOk-weaker}
 use Rattle.rx_event.specs.Kept.{nothing_kept}
 use Rattle.rx_event.specs.Allowed.{IsAllowed}
 use Rattle.rx_event.specs.Lawful.{MayFollow}
-use Rattle.rx_audit.proofs.Judging.{settled_answer, unsettled_climbs}
+use Rattle.rx_audit.proofs.TestsToVerdict.{settled_answer, unsettled_climbs}
 use Rattle.rx_audit.proofs.verdict.may_follow.Goals as goal
 
 pub returns-then-settled-clause-follows : goal.returns-then-settled-clause-follows

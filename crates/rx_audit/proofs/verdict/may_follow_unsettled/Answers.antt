@@ -1,5 +1,5 @@
 use Rattle.std.proofs.lemmas.Bool.{both_ways}
-use Rattle.rx_audit.proofs.Judging.{forced_follows, unforced_follows}
+use Rattle.rx_audit.proofs.TestsToVerdict.{forced_follows, unforced_follows}
 use Rattle.rx_audit.proofs.verdict.may_follow_unsettled.Goals as goal
 
 pub returns-then-is_forced : goal.returns-then-is_forced

@@ -3,9 +3,9 @@ use Rattle.rx_event.specs.Totals.{debt}
 use Rattle.rx_ground.specs.Shown.{Ground}
 use Rattle.rx_ground.specs.Ties.{IsStanding}
 use Rattle.rx_book.specs.Shown.{state_of}
-use Rattle.rx_book.proofs.Answered.{refused_with}
+use Rattle.rx_book.proofs.AnswersOkOrErr.{refused_with}
 use Rattle.rx_book.proofs.Admitted.{cost_within, admitted, roomier_after}
-use Rattle.rx_book.proofs.Called.{state_roomier}
+use Rattle.rx_book.proofs.CallWithoutCause.{state_roomier}
 use Rattle.rx_book.proofs.admit.admit.Goals as goal
 
 pub returns-in_err-cost-clause-err : goal.returns-in_err-cost-clause-err

@@ -8,7 +8,7 @@ use Rattle.rx_event.specs.Causes.{causes}
 use Rattle.rx_register.specs.State.{Writes}
 use Rattle.rx_register.proofs.Laws.NoCause.{no_cause}
 use Rattle.rx_ground.proofs.Laws.KeysKept.{leases_stay}
-use Rattle.rx_book.proofs.Called.{one_ready, open_asked, owned_asked, out_asked, written_closed, written_held}
+use Rattle.rx_book.proofs.CallWithoutCause.{one_ready, open_asked, owned_asked, out_asked, written_closed, written_held}
 use Rattle.rx_book.proofs.asked.write.Goals as goal
 
 pub write_end-requires-clause-ready : goal.write_end-requires-clause-ready

@@ -1,4 +1,4 @@
-use Rattle.rx_c.proofs.Answered.{answered_through}
+use Rattle.rx_c.proofs.OutcomeIsAnswer.{answered_through}
 use Rattle.rx_c.proofs.audit.rx_audit.Goals as goal
 
 pub returns : goal.returns

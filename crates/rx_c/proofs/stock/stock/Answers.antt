@@ -3,7 +3,7 @@ use Rattle.std.specs.List.{range_with_len}
 use Rattle.rx_script.specs.Stage.{ware_of}
 use Rattle.rx_c.specs.Ran.{fresh, made}
 use Rattle.rx_resource.proofs.Laws.Stocks.{shown_more}
-use Rattle.rx_c.proofs.Filling.{of_samples, made_more}
+use Rattle.rx_c.proofs.StockGrowsInOrder.{of_samples, made_more}
 use Rattle.rx_c.proofs.stock.stock.Goals as goal
 
 pub loop-tag-preserved : goal.loop-tag-preserved

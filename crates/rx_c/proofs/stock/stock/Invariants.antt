@@ -3,7 +3,7 @@ use Rattle.std.proofs.Common.{◌≡◌, map}
 use Rattle.std.specs.List.{range_with_len}
 use Rattle.rx_script.specs.Stage.{ware_of}
 use Rattle.rx_c.specs.Ran.{fresh, made}
-use Rattle.rx_c.proofs.Filling.{of_samples}
+use Rattle.rx_c.proofs.StockGrowsInOrder.{of_samples}
 use Rattle.rx_c.proofs.stock.stock.Given as goal
 
 abbrev pub invariant-loop-tag : goal.invariant-loop-tag

@@ -1,7 +1,7 @@
 use Rattle.std.proofs.Common.{Err}
 use Rattle.rx_device.specs.declared.fault.ScriptError.TheVariants.{Memory}
 use Rattle.rx_storm.specs.declared.StormFault.TheVariants.{Memory as NoMemory}
-use Rattle.rx_cli.proofs.Running.{ran_without_memory, audited_without_memory, stormed_without_memory}
+use Rattle.rx_cli.proofs.NotBegunWithoutMemory.{ran_without_memory, audited_without_memory, stormed_without_memory}
 use Rattle.rx_cli.proofs.program.serve.Goals as goal
 
 -- a run for which memory was refused before it began

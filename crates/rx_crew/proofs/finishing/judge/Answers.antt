@@ -1,4 +1,4 @@
-use Rattle.rx_crew.proofs.Taken.{all_taken}
+use Rattle.rx_crew.proofs.AllTakenWhereOk.{all_taken}
 use Rattle.rx_crew.proofs.finishing.judge.Goals as goal
 
 pub returns-clause-all_taken : goal.returns-clause-all_taken

@@ -1,6 +1,6 @@
 use Rattle.std.proofs.Common.{◌∙◌, arith}
 use Rattle.std.proofs.lemmas.Grind.{common_steps}
-use Rattle.rx_device.proofs.Written.{written_more}
+use Rattle.rx_device.proofs.OneMoreWrite.{written_more}
 use Rattle.rx_device.proofs.writing.write_text.Goals as goal
 
 pub loop-done-preserved : goal.loop-done-preserved

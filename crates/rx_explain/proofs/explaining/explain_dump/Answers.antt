@@ -1,6 +1,6 @@
 use Rattle.std.proofs.Common.{Some, ap, sym, ◌∙◌}
 use Rattle.serde_json.specs.View.{view}
-use Rattle.rx_explain.proofs.Accepting.{dump_answer}
+use Rattle.rx_explain.proofs.AcceptedAsRead.{dump_answer}
 use Rattle.rx_explain.proofs.explaining.explain_dump.Goals as goal
 
 pub returns-in-Ok-audit : goal.returns-in-Ok-audit

@@ -1,6 +1,6 @@
 use Rattle.std.proofs.Common.{sym, ◌∙◌}
 use Rattle.serde_json.specs.View.{view}
-use Rattle.rx_explain.proofs.Accepting.{taken_array, taken_other}
+use Rattle.rx_explain.proofs.AcceptedAsRead.{taken_array, taken_other}
 use Rattle.rx_explain.proofs.explaining.explain_value.Goals as goal
 
 pub returns-then-is_array : goal.returns-then-is_array

@@ -3,7 +3,7 @@ use Rattle.rx_slots.specs.declared.Key.{Key}
 use Rattle.rx_slots.specs.Slots.{Slots}
 use Rattle.rx_tree.specs.declared.node.Node.{Node}
 use Rattle.rx_flow.specs.Way.{stop_of, way, end_of}
-use Rattle.rx_flow.proofs.Walked.{at_first, one_further, at_stop, at_top, at_limit, limit_is, free_of, stop_there}
+use Rattle.rx_flow.proofs.WayWalkedSoFar.{at_first, one_further, at_stop, at_top, at_limit, limit_is, free_of, stop_there}
 use Rattle.rx_flow.proofs.climbing.climb.Given as given
 use Rattle.rx_flow.proofs.climbing.climb.Goals as goal
 use Rattle.rx_flow.proofs.climbing.climb.Goals.{then-loop-at-test+else-reached-le-MOST_VISITS, else-loop-at-test}

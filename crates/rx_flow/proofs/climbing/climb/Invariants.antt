@@ -1,6 +1,6 @@
 use Rattle.std.proofs.Common.{◌≡◌, ◌-◌, None}
 use Rattle.rx_flow.specs.Way.{stop_of}
-use Rattle.rx_flow.proofs.Walked.{IsOnWay}
+use Rattle.rx_flow.proofs.WayWalkedSoFar.{IsOnWay}
 use Rattle.rx_flow.proofs.climbing.climb.Given as goal
 
 abbrev pub invariant-loop-at : goal.invariant-loop-at

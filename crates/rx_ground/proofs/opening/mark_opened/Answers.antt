@@ -3,7 +3,7 @@ use Rattle.std.proofs.lemmas.Bool.{false≢true}
 use Rattle.rx_slots.specs.Slots.{find}
 use Rattle.rx_tree.specs.declared.node.Node.{Node}
 use Rattle.rx_event.specs.declared.marks.Marks.{Marks}
-use Rattle.rx_ground.proofs.Owing.{owed_marks-le}
+use Rattle.rx_ground.proofs.OwedCountBounded.{owed_marks-le}
 use Rattle.rx_ground.proofs.ReadyToOpen.{opened_owes}
 use Rattle.rx_ground.proofs.opening.mark_opened.Goals as goal
 

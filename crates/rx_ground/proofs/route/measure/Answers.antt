@@ -1,6 +1,6 @@
 use Rattle.std.proofs.Common.{ap, ◌∙◌}
 use Rattle.rx_hub.specs.Route.{Route}
-use Rattle.rx_ground.proofs.Measuring.{measuring_starts, measuring_on, measuring_ends, measuring_only, visits_past, visits_within}
+use Rattle.rx_ground.proofs.CountsOnTheWay.{measuring_starts, measuring_on, measuring_ends, measuring_only, visits_past, visits_within}
 use Rattle.rx_ground.proofs.route.measure.Goals as goal
 
 pub loop-stop-init : goal.loop-stop-init

@@ -1,6 +1,6 @@
 use Rattle.std.proofs.Common.{length}
 use Rattle.rx_hub.specs.Route.{stops_left}
-use Rattle.rx_ground.proofs.Measuring.{IsMeasuring}
+use Rattle.rx_ground.proofs.CountsOnTheWay.{IsMeasuring}
 use Rattle.rx_ground.proofs.route.measure.Given as goal
 
 abbrev pub invariant-loop-stop : goal.invariant-loop-stop

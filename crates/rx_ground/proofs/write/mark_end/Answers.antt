@@ -1,7 +1,7 @@
 use Rattle.std.proofs.Common.{sym, ap, ◌∙◌, arith}
 use Rattle.rx_event.specs.declared.marks.Marks.{Marks}
-use Rattle.rx_ground.proofs.Owing.{owed_marks-le}
-use Rattle.rx_ground.proofs.Settling.{found_end}
+use Rattle.rx_ground.proofs.OwedCountBounded.{owed_marks-le}
+use Rattle.rx_ground.proofs.TiedWhileSettling.{found_end}
 use Rattle.rx_ground.proofs.write.mark_end.Goals as goal
 
 pub returns-in-Some-Some-clause-marked : goal.returns-in-Some-Some-clause-marked

@@ -1,5 +1,5 @@
 use Rattle.std.proofs.Common.{sym, ◌∙◌}
-use Rattle.rx_hub.proofs.Ruled.{connect_found}
+use Rattle.rx_hub.proofs.DueBySubscribers.{connect_found}
 use Rattle.rx_hub.proofs.forcing.due_at.Goals as goal
 
 pub returns-in-Connect : goal.returns-in-Connect

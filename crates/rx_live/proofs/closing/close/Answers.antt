@@ -1,7 +1,7 @@
 use Rattle.std.proofs.Common.{None, refl}
 use Rattle.rx_live.specs.Session.{Session, session_of}
 use Rattle.rx_live.specs.Lines.{IsClosed}
-use Rattle.rx_live.proofs.Ended.{closed_sound}
+use Rattle.rx_live.proofs.ClosedSessionIsSound.{closed_sound}
 use Rattle.rx_live.proofs.closing.close.Goals as goal
 
 pub returns-clause-sound : goal.returns-clause-sound

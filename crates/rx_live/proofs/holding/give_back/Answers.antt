@@ -4,7 +4,7 @@ use Rattle.rx_book.specs.Requests.{give_back_request}
 use Rattle.rx_line.specs.Names.{name_of}
 use Rattle.rx_live.specs.Session.{session_of, lease_of}
 use Rattle.rx_live.specs.Given.{FreesLease}
-use Rattle.rx_live.proofs.Binding.{given_accepted, lease_named, forgot, returned_sound}
+use Rattle.rx_live.proofs.AcceptedBindsNames.{given_accepted, lease_named, forgot, returned_sound}
 use Rattle.rx_live.proofs.holding.give_back.Goals as goal
 
 pub returns-in-Ok-clause-ok : goal.returns-in-Ok-clause-ok

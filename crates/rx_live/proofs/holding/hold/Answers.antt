@@ -7,7 +7,7 @@ use Rattle.rx_line.specs.declared.names.Spot.{Spot}
 use Rattle.rx_line.specs.Names.{name_of, Binds}
 use Rattle.rx_live.specs.Session.{Session, session_of, node_of, has_resource}
 use Rattle.rx_live.specs.Given.{hold_asked, BindsResource}
-use Rattle.rx_live.proofs.Binding.{unnamed_resource, is_new, given_accepted, held_bound, held_sound}
+use Rattle.rx_live.proofs.AcceptedBindsNames.{unnamed_resource, is_new, given_accepted, held_bound, held_sound}
 use Rattle.rx_live.proofs.holding.hold.Goals as goal
 
 pub bind-requires-clause-unnamed : goal.bind-requires-clause-unnamed

@@ -8,7 +8,7 @@ use Rattle.rx_line.specs.declared.names.Spot.{Spot}
 use Rattle.rx_line.specs.Names.{name_of, Binds}
 use Rattle.rx_live.specs.Session.{Session, session_of, resource_of, lease_of}
 use Rattle.rx_live.specs.Given.{BindsLease}
-use Rattle.rx_live.proofs.Binding.{unnamed_lease, given_accepted, leased_bound, leased_sound}
+use Rattle.rx_live.proofs.AcceptedBindsNames.{unnamed_lease, given_accepted, leased_bound, leased_sound}
 use Rattle.rx_live.proofs.holding.lease.Goals as goal
 
 pub bind-requires-clause-unnamed : goal.bind-requires-clause-unnamed

@@ -5,8 +5,8 @@ use Rattle.rx_book.specs.Requests.{connect_request}
 use Rattle.rx_book.specs.Answers.{Accepts}
 use Rattle.rx_live.specs.Session.{session_of, hub_of}
 use Rattle.rx_live.specs.Openings.{is_node, BindsMade, BindsConnection}
-use Rattle.rx_live.proofs.Binding.{given_accepted, given_refused}
-use Rattle.rx_live.proofs.Bound.{unchanged_room, on_err, with_book, connected_bound, connected_sound}
+use Rattle.rx_live.proofs.AcceptedBindsNames.{given_accepted, given_refused}
+use Rattle.rx_live.proofs.OpenedNodesGetNames.{unchanged_room, on_err, with_book, connected_bound, connected_sound}
 use Rattle.rx_live.proofs.opening.connect.Goals as goal
 
 pub returns-in_err-make_room-clause-err : goal.returns-in_err-make_room-clause-err

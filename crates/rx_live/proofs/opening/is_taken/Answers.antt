@@ -1,7 +1,7 @@
 use Rattle.std.proofs.Common.{◌≡◌, Some, sym, ◌∙◌}
 use Rattle.rx_line.specs.Names.{spot_of, name_of}
-use Rattle.rx_live.proofs.Binding.{forgot}
-use Rattle.rx_live.proofs.Opened.{unbound_name, late_name, known_name, open_forgot}
+use Rattle.rx_live.proofs.AcceptedBindsNames.{forgot}
+use Rattle.rx_live.proofs.NamesOfOpenNodes.{unbound_name, late_name, known_name, open_forgot}
 use Rattle.rx_live.proofs.opening.is_taken.Goals as goal
 
 pub returns-in_default-clause-answer : goal.returns-in_default-clause-answer

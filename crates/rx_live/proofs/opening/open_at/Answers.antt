@@ -8,8 +8,8 @@ use Rattle.rx_line.specs.declared.names.Spot.{Spot}
 use Rattle.rx_line.specs.Names.{spot_of, Binds}
 use Rattle.rx_live.specs.Session.{session_of}
 use Rattle.rx_live.specs.Openings.{is_open_taken, BindsMade, BindsNode}
-use Rattle.rx_live.proofs.Binding.{given_accepted, given_refused}
-use Rattle.rx_live.proofs.Bound.{unchanged_room, connection_free, on_err, with_book, opened_bound, opened_sound}
+use Rattle.rx_live.proofs.AcceptedBindsNames.{given_accepted, given_refused}
+use Rattle.rx_live.proofs.OpenedNodesGetNames.{unchanged_room, connection_free, on_err, with_book, opened_bound, opened_sound}
 use Rattle.rx_live.proofs.opening.open_at.Goals as goal
 
 pub returns-in_err-make_room-clause-err : goal.returns-in_err-make_room-clause-err

@@ -8,8 +8,8 @@ use Rattle.rx_line.specs.declared.names.Spot.{Spot}
 use Rattle.rx_line.specs.Names.{name_of, Binds}
 use Rattle.rx_live.specs.Session.{session_of, has_resource}
 use Rattle.rx_live.specs.Openings.{place_at, using_asked, using_at, is_node, is_using_taken, BindsUsing}
-use Rattle.rx_live.proofs.Binding.{is_new, given_accepted, given_refused}
-use Rattle.rx_live.proofs.Bound.{unchanged_room, unchanged_rooms, unnamed_used, on_err, with_book, used_bound, used_sound}
+use Rattle.rx_live.proofs.AcceptedBindsNames.{is_new, given_accepted, given_refused}
+use Rattle.rx_live.proofs.OpenedNodesGetNames.{unchanged_room, unchanged_rooms, unnamed_used, on_err, with_book, used_bound, used_sound}
 use Rattle.rx_live.proofs.opening.using.Goals as goal
 
 pub returns-in_err-make_room-clause-err : goal.returns-in_err-make_room-clause-err

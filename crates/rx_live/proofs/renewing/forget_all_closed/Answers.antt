@@ -1,6 +1,6 @@
 use Rattle.std.proofs.Common.{◌≡◌, None, List, ℕ, length, subst, rules}
-use Rattle.rx_live.proofs.Opened.{open_on}
-use Rattle.rx_live.proofs.Forgotten.{AreLeft, left_one, left_end, left_none}
+use Rattle.rx_live.proofs.NamesOfOpenNodes.{open_on}
+use Rattle.rx_live.proofs.ClosedNamesForgotten.{AreLeft, left_one, left_end, left_none}
 use Rattle.rx_live.proofs.renewing.forget_all_closed.Goals as goal
 
 pub numbers-preserved : goal.numbers-preserved

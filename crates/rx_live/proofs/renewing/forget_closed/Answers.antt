@@ -1,6 +1,6 @@
 use Rattle.std.proofs.Common.{◌≡◌, None, Some, sym, ◌∙◌}
-use Rattle.rx_live.proofs.Binding.{same_open}
-use Rattle.rx_live.proofs.Forgotten.{spot_at, left_nameless, left_open, forgot_one, left_forgotten}
+use Rattle.rx_live.proofs.AcceptedBindsNames.{same_open}
+use Rattle.rx_live.proofs.ClosedNamesForgotten.{spot_at, left_nameless, left_open, forgot_one, left_forgotten}
 use Rattle.rx_live.proofs.renewing.forget_closed.Goals as goal
 
 pub returns-in_default-clause-same : goal.returns-in_default-clause-same

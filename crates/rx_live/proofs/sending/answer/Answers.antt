@@ -4,7 +4,7 @@ use Rattle.rx_line.specs.declared.order.Order.{Order as OrderInCode}
 use Rattle.rx_line.specs.declared.order.Unread.{Unread}
 use Rattle.rx_line.specs.Orders.{command, list, dump, order_of, IsOrderOf, IsFaulty, IsUnread}
 use Rattle.rx_live.specs.Session.{session_of}
-use Rattle.rx_live.proofs.Sent.{answered_command, answered_listed, answered_dumped, answered_faulty}
+use Rattle.rx_live.proofs.AnswerToEachLine.{answered_command, answered_listed, answered_dumped, answered_faulty}
 use Rattle.rx_live.proofs.sending.answer.Goals as goal
 
 pub returns-in-Ok-Command-clause-some : goal.returns-in-Ok-Command-clause-some

@@ -5,9 +5,9 @@ use Rattle.rx_line.specs.declared.outcome.Outcome.TheVariants.{Accepted, Refused
 use Rattle.rx_live.specs.Session.{session_of}
 use Rattle.rx_live.specs.Lines.{Runs}
 use Rattle.rx_live.proofs.Acts.{refused_alike}
-use Rattle.rx_live.proofs.Bound.{on_err}
-use Rattle.rx_live.proofs.Renewed.{full_by_age, full_by_open}
-use Rattle.rx_live.proofs.Sent.{carried_out, refused_out}
+use Rattle.rx_live.proofs.OpenedNodesGetNames.{on_err}
+use Rattle.rx_live.proofs.SessionAfterCheckpoint.{full_by_age, full_by_open}
+use Rattle.rx_live.proofs.AnswerToEachLine.{carried_out, refused_out}
 use Rattle.rx_live.proofs.sending.carry_out.Goals as goal
 
 pub returns-then-is_full_by_age-clause-none : goal.returns-then-is_full_by_age-clause-none

@@ -3,7 +3,7 @@ use Rattle.rx_line.specs.Pieces.{name_text, member_text}
 use Rattle.rx_live.specs.Session.{session_of}
 use Rattle.rx_live.specs.Answers.{late_text}
 use Rattle.rx_live.specs.Listed.{all_names}
-use Rattle.rx_live.proofs.Sent.{ended}
+use Rattle.rx_live.proofs.AnswerToEachLine.{ended}
 use Rattle.rx_live.proofs.sending.end.Goals as goal
 
 pub returns-clause-ok : goal.returns-clause-ok

@@ -4,9 +4,9 @@ use Rattle.rx_live.specs.Session.{Session, session_of}
 use Rattle.rx_live.specs.Given.{IsAlike}
 use Rattle.rx_live.specs.Renewals.{as_it_was, renewed}
 use Rattle.rx_live.specs.Taken.{IsFullByAge, Answered}
-use Rattle.rx_live.proofs.Bound.{on_err}
-use Rattle.rx_live.proofs.Renewed.{young}
-use Rattle.rx_live.proofs.Sent.{sent_first, sent_again}
+use Rattle.rx_live.proofs.OpenedNodesGetNames.{on_err}
+use Rattle.rx_live.proofs.SessionAfterCheckpoint.{young}
+use Rattle.rx_live.proofs.AnswerToEachLine.{sent_first, sent_again}
 use Rattle.rx_live.proofs.sending.send.Goals as goal
 
 pub returns-in_err-text-clause-err : goal.returns-in_err-text-clause-err

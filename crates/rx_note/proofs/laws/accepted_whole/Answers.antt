@@ -1,4 +1,4 @@
-use Rattle.rx_note.proofs.Accepted.{accepted_form, form_accepted}
+use Rattle.rx_note.proofs.AcceptsJustGrammatical.{accepted_form, form_accepted}
 use Rattle.rx_note.proofs.laws.accepted_whole.Goals as goal
 
 pub returns : goal.returns

@@ -1,7 +1,7 @@
 use Rattle.std.proofs.Common.{◌≡◌, length, refl, ap, ◌∙◌, arith}
 use Rattle.rx_picture.specs.Choice.{bit, leads, follows, is_chosen, marked}
 use Rattle.rx_picture.proofs.Ranges.{count_next}
-use Rattle.rx_picture.proofs.Choosing.{marks_more, few_chosen}
+use Rattle.rx_picture.proofs.FewAreChosen.{marks_more, few_chosen}
 use Rattle.rx_picture.proofs.choice.choose.Goals as goal
 
 pub loop-n-preserved : goal.loop-n-preserved

@@ -1,5 +1,5 @@
 use Rattle.rx_event.specs.Climb.{most_visits}
-use Rattle.rx_picture.proofs.Climbing.{ClimbsOn}
+use Rattle.rx_picture.proofs.ClimbByStack.{ClimbsOn}
 use Rattle.rx_picture.proofs.climb.climb.Given as goal
 
 abbrev pub invariant-loop-step : goal.invariant-loop-step

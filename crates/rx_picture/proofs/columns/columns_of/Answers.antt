@@ -1,7 +1,7 @@
 use Rattle.std.proofs.Common.{◌≡◌, ap, ◌∙◌, arith}
 use Rattle.rx_picture.specs.Choice.{bit, marked}
 use Rattle.rx_picture.proofs.Ranges.{count_next}
-use Rattle.rx_picture.proofs.Placing.{columns_more}
+use Rattle.rx_picture.proofs.MarksStandForTests.{columns_more}
 use Rattle.rx_picture.proofs.columns.columns_of.Goals as goal
 
 pub loop-n-preserved : goal.loop-n-preserved

@@ -1,6 +1,6 @@
 use Rattle.std.proofs.Common.{◌≡◌, ◌≤◌}
 use Rattle.rx_picture.specs.Choice.{count_below, marked}
-use Rattle.rx_picture.proofs.Placing.{ColumnsUpTo}
+use Rattle.rx_picture.proofs.MarksStandForTests.{ColumnsUpTo}
 use Rattle.rx_picture.proofs.columns.columns_of.Given as goal
 
 abbrev pub invariant-loop-n : goal.invariant-loop-n

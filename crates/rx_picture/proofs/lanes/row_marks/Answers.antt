@@ -1,6 +1,6 @@
 use Rattle.rx_picture.specs.Choice.{marked}
 use Rattle.rx_picture.specs.Drawn.{is_rowed_by}
-use Rattle.rx_picture.proofs.Choosing.{marks_more}
+use Rattle.rx_picture.proofs.FewAreChosen.{marks_more}
 use Rattle.rx_picture.proofs.lanes.row_marks.Goals as goal
 
 pub loop-n-preserved : goal.loop-n-preserved

@@ -1,6 +1,6 @@
 use Rattle.std.proofs.Common.{sym, ◌∙◌, arith}
 use Rattle.rx_picture.specs.Choice.{marked}
-use Rattle.rx_picture.proofs.Telling.{marbles_none, marbles_more, marbles_skip}
+use Rattle.rx_picture.proofs.MarblesOfPrefixes.{marbles_none, marbles_more, marbles_skip}
 use Rattle.rx_picture.proofs.marbles.marbles_of.Goals as goal
 use Rattle.rx_picture.proofs.marbles.marbles_of.Goals.{then-is_marked+in_ok-push_told_at, else-is_marked}
 

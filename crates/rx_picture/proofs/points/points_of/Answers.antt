@@ -1,6 +1,6 @@
 use Rattle.std.proofs.Common.{arith}
 use Rattle.rx_picture.specs.Choice.{marked}
-use Rattle.rx_picture.proofs.Pointing.{points_more, points_skip}
+use Rattle.rx_picture.proofs.PointsOfFirstPlaces.{points_more, points_skip}
 use Rattle.rx_picture.proofs.points.points_of.Goals as goal
 use Rattle.rx_picture.proofs.points.points_of.Goals.{in-Some+in_ok-push, in_default}
 

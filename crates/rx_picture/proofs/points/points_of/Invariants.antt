@@ -1,5 +1,5 @@
 use Rattle.rx_picture.specs.Choice.{marked}
-use Rattle.rx_picture.proofs.Pointing.{PointsUpTo}
+use Rattle.rx_picture.proofs.PointsOfFirstPlaces.{PointsUpTo}
 use Rattle.rx_picture.proofs.points.points_of.Given as goal
 
 abbrev pub invariant-loop-n : goal.invariant-loop-n

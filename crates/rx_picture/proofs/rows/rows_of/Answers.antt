@@ -1,5 +1,5 @@
 use Rattle.rx_picture.specs.Choice.{marked}
-use Rattle.rx_picture.proofs.Listing.{rows_more, rows_skip}
+use Rattle.rx_picture.proofs.RowsOfFirstPlaces.{rows_more, rows_skip}
 use Rattle.rx_picture.proofs.rows.rows_of.Goals as goal
 use Rattle.rx_picture.proofs.rows.rows_of.Goals.{in-Some+in_ok-push, in_default}
 

@@ -1,5 +1,5 @@
 use Rattle.rx_picture.specs.Choice.{marked}
-use Rattle.rx_picture.proofs.Listing.{RowsUpTo}
+use Rattle.rx_picture.proofs.RowsOfFirstPlaces.{RowsUpTo}
 use Rattle.rx_picture.proofs.rows.rows_of.Given as goal
 
 abbrev pub invariant-loop-n : goal.invariant-loop-n

@@ -1,5 +1,5 @@
 use Rattle.std.proofs.Common.{sym, ◌∙◌, arith}
-use Rattle.rx_picture.proofs.Leaving.{left_open, left_taken, left_untaken}
+use Rattle.rx_picture.proofs.LeaksByTables.{left_open, left_taken, left_untaken}
 use Rattle.rx_picture.proofs.tables.is_left.Goals as goal
 
 pub returns-then-value_at-events : goal.returns-then-value_at-events

@@ -1,5 +1,5 @@
 use Rattle.rx_picture.specs.Rows.{is_left}
-use Rattle.rx_picture.proofs.Choosing.{marks_more}
+use Rattle.rx_picture.proofs.FewAreChosen.{marks_more}
 use Rattle.rx_picture.proofs.tables.left_marks.Goals as goal
 
 pub loop-n-preserved : goal.loop-n-preserved

@@ -1,4 +1,4 @@
-use Rattle.rx_script.proofs.Advancing.{IfOk-map, performed_command, performed_cancel}
+use Rattle.rx_script.proofs.OneMoreStep.{IfOk-map, performed_command, performed_cancel}
 use Rattle.rx_agenda.specs.Shown.{agenda_of}
 use Rattle.rx_agenda.specs.Agenda.{Cancels}
 use Rattle.std.proofs.Common.{string_bytes, subst}

@@ -2,7 +2,7 @@
 use Rattle.std.proofs.Common.{◌≡◌, ◌≤◌}
 use Rattle.rx_script.specs.Engine.{IsSound}
 use Rattle.rx_agenda.specs.Shown.{size_left}
-use Rattle.rx_script.proofs.Advancing.{HasLed}
+use Rattle.rx_script.proofs.OneMoreStep.{HasLed}
 use Rattle.rx_script.proofs.course.take_all.Given as goal
 
 abbrev pub invariant-loop-step : goal.invariant-loop-step

@@ -1,4 +1,4 @@
-use Rattle.rx_script.proofs.Advancing.{followed}
+use Rattle.rx_script.proofs.OneMoreStep.{followed}
 use Rattle.rx_script.proofs.course.take_step.Goals as goal
 
 pub returns : goal.returns

@@ -1,7 +1,7 @@
 use Rattle.std.proofs.Common.{subst}
 use Rattle.rx_book.specs.State.{State}
 use Rattle.rx_book.specs.Checkpoints.{Checkpoints}
-use Rattle.rx_script.proofs.Checking.{checkpointed_to}
+use Rattle.rx_script.proofs.CheckpointCarriedOut.{checkpointed_to}
 use Rattle.rx_script.proofs.engine.checkpoint.Goals as goal
 
 pub returns-in-Ok : goal.returns-in-Ok

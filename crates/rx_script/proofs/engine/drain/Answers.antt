@@ -1,5 +1,5 @@
 use Rattle.std.proofs.Common.{◌≤◌, ◌+◌, arith}
-use Rattle.rx_script.proofs.Carrying.{drained_to}
+use Rattle.rx_script.proofs.EngineCarriesOut.{drained_to}
 use Rattle.rx_script.proofs.engine.drain.Goals as goal
 
 pub returns : goal.returns

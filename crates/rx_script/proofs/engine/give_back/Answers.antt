@@ -1,7 +1,7 @@
 use Rattle.std.proofs.Common.{◌≡◌, Some, None, inl}
 use Rattle.rx_agenda.specs.Names.{key_of}
 use Rattle.rx_script.proofs.Commands.{answered}
-use Rattle.rx_script.proofs.Leasing.{return_nameless, return_refused, return_accepted}
+use Rattle.rx_script.proofs.LeaseCommands.{return_nameless, return_refused, return_accepted}
 use Rattle.rx_script.proofs.engine.give_back.Goals as goal
 
 pub returns-in_default : goal.returns-in_default

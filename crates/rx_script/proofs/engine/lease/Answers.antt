@@ -2,7 +2,7 @@ use Rattle.std.proofs.Common.{◌≡◌, ◌++◌, ◌∷◌, [], Some, None, tr
 use Rattle.std.specs.Prelude.{is_some}
 use Rattle.rx_agenda.specs.Names.{key_of}
 use Rattle.rx_script.proofs.Commands.{answered}
-use Rattle.rx_script.proofs.Leasing.{lease_nameless, lease_taken, lease_refused, lease_accepted}
+use Rattle.rx_script.proofs.LeaseCommands.{lease_nameless, lease_taken, lease_refused, lease_accepted}
 use Rattle.rx_script.proofs.engine.lease.Goals as goal
 
 pub returns-in_default : goal.returns-in_default

@@ -3,7 +3,7 @@ use Rattle.std.specs.Prelude.{option_map}
 use Rattle.rx_agenda.specs.Names.{key_of}
 use Rattle.rx_script.specs.Engine.{is_taken, with_named}
 use Rattle.rx_script.proofs.Commands.{answered}
-use Rattle.rx_script.proofs.Publishing.{connect_nameless, connect_taken, connect_refused, connect_accepted}
+use Rattle.rx_script.proofs.HubCommands.{connect_nameless, connect_taken, connect_refused, connect_accepted}
 use Rattle.rx_script.proofs.hubs.connect.Goals as goal
 
 pub returns-in_default : goal.returns-in_default

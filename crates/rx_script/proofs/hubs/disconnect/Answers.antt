@@ -1,7 +1,7 @@
 use Rattle.std.proofs.Common.{◌≡◌, Some, None, inl}
 use Rattle.rx_agenda.specs.Names.{key_of}
 use Rattle.rx_script.proofs.Commands.{answered}
-use Rattle.rx_script.proofs.Publishing.{disconnect_nameless, disconnect_refused, disconnect_accepted}
+use Rattle.rx_script.proofs.HubCommands.{disconnect_nameless, disconnect_refused, disconnect_accepted}
 use Rattle.rx_script.proofs.hubs.disconnect.Goals as goal
 
 pub returns-in_default : goal.returns-in_default

@@ -2,7 +2,7 @@ use Rattle.std.proofs.Common.{◌≡◌, ◌++◌, ◌∷◌, [], true, false, r
 use Rattle.std.specs.Prelude.{is_some}
 use Rattle.rx_agenda.specs.Names.{key_of}
 use Rattle.rx_script.proofs.Commands.{answered}
-use Rattle.rx_script.proofs.Publishing.{hub_taken, hub_refused, hub_accepted}
+use Rattle.rx_script.proofs.HubCommands.{hub_taken, hub_refused, hub_accepted}
 use Rattle.rx_script.proofs.hubs.hub.Goals as goal
 
 pub returns-then-is_bound : goal.returns-then-is_bound

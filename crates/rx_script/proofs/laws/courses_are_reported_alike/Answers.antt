@@ -1,4 +1,4 @@
-use Rattle.rx_script.proofs.Reporting.{reported_alike}
+use Rattle.rx_script.proofs.WholeReport.{reported_alike}
 use Rattle.rx_script.proofs.laws.courses_are_reported_alike.Goals as goal
 
 pub returns : goal.returns

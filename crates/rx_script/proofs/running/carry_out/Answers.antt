@@ -4,7 +4,7 @@ use Rattle.rx_agenda.specs.Agenda.{with_steps, empty_agenda}
 use Rattle.rx_script.specs.Course.{limited}
 use Rattle.rx_script.specs.Engine.{stage_of}
 use Rattle.rx_script.specs.Outputs.{unclosed_output}
-use Rattle.rx_script.proofs.Written.{written_of, carried_out}
+use Rattle.rx_script.proofs.WrittenBeforeClosing.{written_of, carried_out}
 use Rattle.rx_script.proofs.running.carry_out.Goals as goal
 
 pub returns : goal.returns

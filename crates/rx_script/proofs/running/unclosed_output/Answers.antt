@@ -1,8 +1,8 @@
 use Rattle.std.proofs.Common.{string_bytes, sym, ap, ◌∙◌}
 use Rattle.rx_script.specs.Engine.{stage_of}
 use Rattle.rx_script.specs.Outputs.{unclosed_output}
-use Rattle.rx_script.proofs.Advancing.{IfOk-map}
-use Rattle.rx_script.proofs.Written.{dump_whole}
+use Rattle.rx_script.proofs.OneMoreStep.{IfOk-map}
+use Rattle.rx_script.proofs.WrittenBeforeClosing.{dump_whole}
 use Rattle.rx_script.proofs.running.unclosed_output.Goals as goal
 
 pub returns-in-Dump-clause-ok : goal.returns-in-Dump-clause-ok

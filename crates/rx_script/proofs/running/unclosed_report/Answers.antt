@@ -3,7 +3,7 @@ use Rattle.rx_report.specs.Keys.{node_binding, res_binding}
 use Rattle.rx_report.specs.Lines.{refused_lines, node_lines, res_lines}
 use Rattle.rx_report.specs.Tallies.{IsWhole}
 use Rattle.rx_report.specs.Text.{totals_line}
-use Rattle.rx_script.proofs.Written.{all_gathered, lines_report}
+use Rattle.rx_script.proofs.WrittenBeforeClosing.{all_gathered, lines_report}
 use Rattle.rx_script.proofs.running.unclosed_report.Goals as goal
 
 pub returns-clause-ok : goal.returns-clause-ok

@@ -5,7 +5,7 @@ use Rattle.rx_slots.specs.declared.Key.{Key}
 use Rattle.rx_slots.specs.Slots.{with_number, placed}
 use Rattle.rx_slots.specs.Kept.{table}
 use Rattle.rx_slots.proofs.SlotsLemmas.{length-placed, Changes-placed, KeepsOthers-insert}
-use Rattle.rx_slots.proofs.Laws.Found.{with_number-same}
+use Rattle.rx_slots.proofs.Laws.EntryByNumber.{with_number-same}
 use Rattle.rx_slots.proofs.KeptLemmas.{get_or-table, Updates-grown, table-placed}
 use Rattle.rx_slots.proofs.Slots.insert.Goals as goal
 

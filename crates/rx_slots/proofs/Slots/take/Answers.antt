@@ -1,7 +1,7 @@
 use Rattle.std.proofs.Common.{◌<◌, None, is_some, set, sym, ap, ◌∙◌}
 use Rattle.rx_slots.specs.Slots.{with_number}
 use Rattle.rx_slots.proofs.SlotsLemmas.{within_count, Changes-set, KeepsOthers-take}
-use Rattle.rx_slots.proofs.Laws.Found.{found_entry}
+use Rattle.rx_slots.proofs.Laws.EntryByNumber.{found_entry}
 use Rattle.rx_slots.proofs.KeptLemmas.{length-table, stored_entry, find-stored, table-update}
 use Rattle.rx_slots.proofs.Slots.take.Goals as goal
 

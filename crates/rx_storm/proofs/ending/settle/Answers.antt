@@ -2,7 +2,7 @@ use Rattle.std.proofs.Common.{◌≡◌, refl, ap, rules}
 use Rattle.rx_ledger.specs.Shares.{together, sums_in}
 use Rattle.rx_storm.specs.declared.figures.Figures.{Figures}
 use Rattle.rx_storm.specs.Storms.{IsEnd}
-use Rattle.rx_storm.proofs.Told.{outcome_tells, outcome_done, outcome_lacks, own_figures}
+use Rattle.rx_storm.proofs.OutcomeTellsFigures.{outcome_tells, outcome_done, outcome_lacks, own_figures}
 use Rattle.rx_storm.proofs.ending.settle.Goals as goal
 
 pub returns-clause-told : goal.returns-clause-told

@@ -7,7 +7,7 @@ use Rattle.std.proofs.lemmas.Map.Text.{hash_map_updates_text}
 use Rattle.rx_agenda.specs.declared.names.Named.{Named}
 use Rattle.rx_agenda.specs.Names.{key_of}
 use Rattle.rx_agenda.specs.Ties.{IsTied}
-use Rattle.rx_agenda.proofs.Tying.{still_tied}
+use Rattle.rx_agenda.proofs.NamesStayTied.{still_tied}
 use Rattle.rx_agenda.proofs.names.Names.bind.Goals as goal
 
 pub invariant_of-self-2 : goal.invariant_of-self-2

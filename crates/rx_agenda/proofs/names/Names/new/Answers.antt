@@ -1,4 +1,4 @@
-use Rattle.rx_agenda.proofs.Tying.{tied_empty}
+use Rattle.rx_agenda.proofs.NamesStayTied.{tied_empty}
 use Rattle.rx_agenda.proofs.names.Names.new.Goals as goal
 
 pub invariant_of-result : goal.invariant_of-result

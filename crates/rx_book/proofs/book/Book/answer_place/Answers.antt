@@ -5,8 +5,8 @@ use Rattle.rx_book.specs.Requests.{stands}
 use Rattle.rx_book.specs.Asked.{request_of}
 use Rattle.rx_book.specs.Shown.{state_of}
 use Rattle.rx_book.specs.Steps.{IsLetIn}
-use Rattle.rx_book.proofs.Answered.{answers_ok, answers_err}
-use Rattle.rx_book.proofs.Called.{pays, connects_none, accepts_written}
+use Rattle.rx_book.proofs.AnswersOkOrErr.{answers_ok, answers_err}
+use Rattle.rx_book.proofs.CallWithoutCause.{pays, connects_none, accepts_written}
 use Rattle.rx_book.proofs.FreeCalls.{free_let_in, free_subscribes_none}
 use Rattle.rx_book.proofs.book.Book.answer_place.Given as given
 use Rattle.rx_book.proofs.book.Book.answer_place.Goals as goal

@@ -5,8 +5,8 @@ use Rattle.rx_book.specs.State.{State}
 use Rattle.rx_book.specs.Requests.{apply_request}
 use Rattle.rx_book.specs.Answers.{AnswersWord}
 use Rattle.rx_book.specs.Shown.{state_of}
-use Rattle.rx_book.proofs.Answered.{answers_ok, passed_refusal}
-use Rattle.rx_book.proofs.Called.{one_ready, held_asked, pays, connects_none, written_held, accepts_written}
+use Rattle.rx_book.proofs.AnswersOkOrErr.{answers_ok, passed_refusal}
+use Rattle.rx_book.proofs.CallWithoutCause.{one_ready, held_asked, pays, connects_none, written_held, accepts_written}
 use Rattle.rx_book.proofs.book.Book.apply.Goals as goal
 
 pub returns-in_err-admit : goal.returns-in_err-admit

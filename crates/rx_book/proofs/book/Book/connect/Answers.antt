@@ -7,9 +7,9 @@ use Rattle.rx_book.specs.State.{State}
 use Rattle.rx_book.specs.Requests.{connect_request}
 use Rattle.rx_book.specs.Answers.{AnswersKey}
 use Rattle.rx_book.specs.Shown.{state_of}
-use Rattle.rx_book.proofs.Answered.{answers_ok, passed_refusal}
-use Rattle.rx_book.proofs.Called.{one_ready, pays, connects_none, accepts}
-use Rattle.rx_book.proofs.Listed.{key_listed}
+use Rattle.rx_book.proofs.AnswersOkOrErr.{answers_ok, passed_refusal}
+use Rattle.rx_book.proofs.CallWithoutCause.{one_ready, pays, connects_none, accepts}
+use Rattle.rx_book.proofs.MadeKeyIsListed.{key_listed}
 use Rattle.rx_book.proofs.book.Book.connect.Goals as goal
 
 pub returns-in_err-admit : goal.returns-in_err-admit

@@ -11,9 +11,9 @@ use Rattle.rx_book.specs.State.{State}
 use Rattle.rx_book.specs.Requests.{hold_request}
 use Rattle.rx_book.specs.Answers.{AnswersResKey}
 use Rattle.rx_book.specs.Shown.{state_of}
-use Rattle.rx_book.proofs.Answered.{answers_ok, answers_err}
-use Rattle.rx_book.proofs.Called.{one_ready, open_asked, fresh_asked, live_fresh, unused_fresh, pays, connects_none, written_held, accepts_written}
-use Rattle.rx_book.proofs.Listed.{res_key_listed}
+use Rattle.rx_book.proofs.AnswersOkOrErr.{answers_ok, answers_err}
+use Rattle.rx_book.proofs.CallWithoutCause.{one_ready, open_asked, fresh_asked, live_fresh, unused_fresh, pays, connects_none, written_held, accepts_written}
+use Rattle.rx_book.proofs.MadeKeyIsListed.{res_key_listed}
 use Rattle.rx_book.proofs.book.Book.hold.Given as given
 use Rattle.rx_book.proofs.book.Book.hold.Goals as goal
 use Rattle.rx_book.proofs.book.Book.hold.Goals.{In_default}

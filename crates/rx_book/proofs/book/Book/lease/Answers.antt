@@ -9,8 +9,8 @@ use Rattle.rx_book.specs.State.{State}
 use Rattle.rx_book.specs.Requests.{lease_request}
 use Rattle.rx_book.specs.Answers.{AnswersLeaseKey}
 use Rattle.rx_book.specs.Shown.{state_of}
-use Rattle.rx_book.proofs.Answered.{answers_ok, passed_refusal}
-use Rattle.rx_book.proofs.Called.{one_ready, owned_asked, pays, connects_none, written_held, accepts_written, lease_key_new}
+use Rattle.rx_book.proofs.AnswersOkOrErr.{answers_ok, passed_refusal}
+use Rattle.rx_book.proofs.CallWithoutCause.{one_ready, owned_asked, pays, connects_none, written_held, accepts_written, lease_key_new}
 use Rattle.rx_book.proofs.book.Book.lease.Goals as goal
 
 pub returns-in_err-admit : goal.returns-in_err-admit

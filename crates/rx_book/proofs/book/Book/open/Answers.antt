@@ -9,11 +9,11 @@ use Rattle.rx_book.specs.Requests.{open_request, place_of}
 use Rattle.rx_book.specs.Answers.{AnswersOpened}
 use Rattle.rx_book.specs.Shown.{state_of}
 use Rattle.rx_book.proofs.ShownKeys.{is_known_place_is}
-use Rattle.rx_book.proofs.Answered.{answers_ok, passed_refusal}
-use Rattle.rx_book.proofs.Called.{known, one_ready, pays, accepts}
+use Rattle.rx_book.proofs.AnswersOkOrErr.{answers_ok, passed_refusal}
+use Rattle.rx_book.proofs.CallWithoutCause.{known, one_ready, pays, accepts}
 use Rattle.rx_book.proofs.Openings.{opening_room, placed_at}
 use Rattle.rx_book.proofs.Connections.{connection_answered}
-use Rattle.rx_book.proofs.Listed.{key_listed}
+use Rattle.rx_book.proofs.MadeKeyIsListed.{key_listed}
 use Rattle.rx_book.proofs.book.Book.open.Goals as goal
 
 pub returns-in_err-admit : goal.returns-in_err-admit

@@ -20,10 +20,10 @@ use Rattle.rx_book.specs.Answers.{AnswersOpenedUsing}
 use Rattle.rx_book.specs.Shown.{state_of}
 use Rattle.rx_book.specs.Steps.{IsLetIn}
 use Rattle.rx_book.proofs.ShownKeys.{is_known_place_is}
-use Rattle.rx_book.proofs.Answered.{answers_ok, answers_err}
-use Rattle.rx_book.proofs.Called.{known, first_ready, second_ready, fresh_asked, live_fresh, unused_fresh, pays, connects_none, accepts}
+use Rattle.rx_book.proofs.AnswersOkOrErr.{answers_ok, answers_err}
+use Rattle.rx_book.proofs.CallWithoutCause.{known, first_ready, second_ready, fresh_asked, live_fresh, unused_fresh, pays, connects_none, accepts}
 use Rattle.rx_book.proofs.Openings.{placed_at}
-use Rattle.rx_book.proofs.Listed.{key_listed, res_key_listed}
+use Rattle.rx_book.proofs.MadeKeyIsListed.{key_listed, res_key_listed}
 use Rattle.rx_book.proofs.book.Book.open_using.Given as given
 use Rattle.rx_book.proofs.book.Book.open_using.Goals as goal
 use Rattle.rx_book.proofs.book.Book.open_using.Goals.{In_default}

@@ -6,8 +6,8 @@ use Rattle.rx_event.proofs.Laws.Calm.{closes_none_kept, settled_on, unforced}
 use Rattle.rx_ground.proofs.Laws.KeysKept.{leases_stay, keeps_held}
 use Rattle.rx_book.specs.Requests.{take_request}
 use Rattle.rx_book.specs.Steps.{IsLetIn}
-use Rattle.rx_book.proofs.Called.{let_in_free, one_ready, pays, connects_none, accepts}
-use Rattle.rx_book.proofs.Taken.{listed_waits, fewer_wait}
+use Rattle.rx_book.proofs.CallWithoutCause.{let_in_free, one_ready, pays, connects_none, accepts}
+use Rattle.rx_book.proofs.OneFewerWaits.{listed_waits, fewer_wait}
 use Rattle.rx_book.proofs.book.Book.take.Given as given
 use Rattle.rx_book.proofs.book.Book.take.Goals as goal
 use Rattle.rx_book.proofs.book.Book.take.Goals.{In_ok-handed}

@@ -6,7 +6,7 @@ use Rattle.rx_cli.specs.declared.boxes.stocked.Stocked.{Stocked}
 use Rattle.rx_cli.specs.Boxes.{shown, fresh_by, marks_of}
 use Rattle.rx_cli.specs.Marks.{Marks}
 use Rattle.rx_resource.proofs.Laws.Stocks.{shown_more}
-use Rattle.rx_cli.proofs.Filling.{all_more}
+use Rattle.rx_cli.proofs.StockGrowsByOne.{all_more}
 use Rattle.rx_cli.proofs.boxes.stocked.stock.Goals as goal
 
 pub loop-tag-preserved : goal.loop-tag-preserved

@@ -1,4 +1,4 @@
-use Rattle.rx_event.proofs.Laws.Reading.{forced_read, settled_read}
+use Rattle.rx_event.proofs.Laws.ReadDue.{forced_read, settled_read}
 use Rattle.rx_event.proofs.Laws.ReadWhole.{same_start, same_event_on, courses_same}
 use Rattle.rx_event.proofs.Laws.ReadAllowed.{allowed_read}
 use Rattle.rx_event.proofs.Laws.ReadSteps.{steps_same}

@@ -1,4 +1,4 @@
-use Rattle.rx_event.proofs.Laws.Released.{owned_count_closed, held_count_closed, taken_count_closed}
+use Rattle.rx_event.proofs.Laws.NothingOpenNothingHeld.{owned_count_closed, held_count_closed, taken_count_closed}
 use Rattle.rx_event.proofs.theorems.resources.a_closed_history_holds_nothing.Goals as goal
 
 pub returns : goal.returns

@@ -1,5 +1,5 @@
 use Rattle.rx_event.proofs.Laws.Leases.{lease_older, lease_resource}
-use Rattle.rx_event.proofs.Laws.Released.{out_leased, out_held, out_waits_not, out_untaken}
+use Rattle.rx_event.proofs.Laws.NothingOpenNothingHeld.{out_leased, out_held, out_waits_not, out_untaken}
 use Rattle.rx_event.proofs.theorems.resources.a_leased_resource_is_held.Goals as goal
 
 pub returns : goal.returns

@@ -1,8 +1,8 @@
 use Rattle.std.proofs.Common.{refl, sym, subst}
 use Rattle.rx_hub.specs.Due.{IsQuiet}
 use Rattle.rx_ground.specs.Shown.{Ground}
-use Rattle.rx_ground.proofs.Rebased.{settled_quiet_hubs}
-use Rattle.rx_ground.proofs.Checkpointing.{standing_after}
+use Rattle.rx_ground.proofs.StandsAfterCheckpoint.{settled_quiet_hubs}
+use Rattle.rx_ground.proofs.CheckpointMakesBase.{standing_after}
 use Rattle.rx_ground.proofs.base.Ground.checkpoint.Goals as goal
 
 pub forget_ends-requires : goal.forget_ends-requires

@@ -5,7 +5,7 @@ use Rattle.rx_slots.specs.Slots.{Slots}
 use Rattle.rx_tree.specs.declared.node.Node.{Node}
 use Rattle.rx_tree.specs.declared.node.Closed.{Closed}
 use Rattle.rx_tree.specs.Closing.{IsSubtree}
-use Rattle.rx_ground.proofs.Joined.{are_closing, moved_left}
+use Rattle.rx_ground.proofs.HubsBesideTree.{are_closing, moved_left}
 use Rattle.rx_ground.proofs.base.Ground.cut.Goals as goal
 
 -- all that was moved out, into an empty list, is the subtree

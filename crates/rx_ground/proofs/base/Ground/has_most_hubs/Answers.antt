@@ -1,5 +1,5 @@
 use Rattle.rx_ground.specs.Ties.{AreTied}
-use Rattle.rx_ground.proofs.Published.{too_many}
+use Rattle.rx_ground.proofs.HubsAfterEvent.{too_many}
 use Rattle.rx_ground.proofs.base.Ground.has_most_hubs.Goals as goal
 
 pub returns : goal.returns

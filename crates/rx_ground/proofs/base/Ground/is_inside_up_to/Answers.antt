@@ -1,5 +1,5 @@
 use Rattle.std.proofs.Common.{sym, ◌∙◌}
-use Rattle.rx_ground.proofs.Ordered.{climb_ends, climb_on, climb_nearer}
+use Rattle.rx_ground.proofs.InsideConnections.{climb_ends, climb_on, climb_nearer}
 use Rattle.rx_ground.proofs.base.Ground.is_inside_up_to.Goals as goal
 
 pub returns-then-is_connection_up_to : goal.returns-then-is_connection_up_to

@@ -5,7 +5,7 @@ use Rattle.rx_tree.specs.Tree.{AreApart, IsPromised as IsTreePromised}
 use Rattle.rx_hub.specs.Hubs.{IsPromised as IsHubsPromised}
 use Rattle.rx_ground.specs.Shown.{Ground}
 use Rattle.rx_ground.specs.Ties.{IsStanding}
-use Rattle.rx_ground.proofs.Checkpointing.{whole_base}
+use Rattle.rx_ground.proofs.CheckpointMakesBase.{whole_base}
 use Rattle.rx_ground.proofs.base.Ground.kept_base.Goals as goal
 
 pub returns : goal.returns

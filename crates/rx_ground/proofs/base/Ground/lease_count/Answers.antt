@@ -1,6 +1,6 @@
 use Rattle.std.proofs.Common.{◌∙◌}
 use Rattle.rx_ground.specs.Ties.{AreLeased}
-use Rattle.rx_ground.proofs.Laws.Kept.{count-leases}
+use Rattle.rx_ground.proofs.Laws.JustOpenHeldWaiting.{count-leases}
 use Rattle.rx_ground.proofs.base.Ground.lease_count.Goals as goal
 
 pub returns : goal.returns

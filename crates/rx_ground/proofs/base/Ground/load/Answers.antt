@@ -5,10 +5,10 @@ use Rattle.rx_event.specs.Totals.{debt}
 use Rattle.rx_event.proofs.Laws.Totals.{accepted_count-parts}
 use Rattle.rx_tree.specs.Owed.{owed_in}
 use Rattle.rx_ground.specs.Shown.{Ground}
-use Rattle.rx_ground.proofs.Owing.{owed_in-count}
+use Rattle.rx_ground.proofs.OwedCountBounded.{owed_in-count}
 use Rattle.rx_tree.specs.Resources.{lent_alone_count}
-use Rattle.rx_ground.proofs.Lent.{is_alone}
-use Rattle.rx_ground.proofs.Laws.Kept.{length-alone}
+use Rattle.rx_ground.proofs.TreeAgreesOnResource.{is_alone}
+use Rattle.rx_ground.proofs.Laws.JustOpenHeldWaiting.{length-alone}
 use Rattle.rx_ground.proofs.Loads.{held_counted, debt_counted, debt_bounded}
 use Rattle.rx_ground.proofs.base.Ground.load.Given.{Over}
 use Rattle.rx_ground.proofs.base.Ground.load.Goals as goal

@@ -1,6 +1,6 @@
 use Rattle.std.proofs.Common.{arith}
 use Rattle.rx_ground.proofs.Loads.{open_count_in_debt}
-use Rattle.rx_ground.proofs.Standing.{standing_roomier}
+use Rattle.rx_ground.proofs.StandsWithMoreRoom.{standing_roomier}
 use Rattle.rx_ground.proofs.base.Ground.make_room.Goals as goal
 
 pub overflow_add-in_all-2 : goal.overflow_add-in_all-2

@@ -3,7 +3,7 @@ use Rattle.std.proofs.Math.Bool.{not}
 use Rattle.rx_event.specs.Climb.{most_visits}
 use Rattle.rx_hub.proofs.Laws.Orders.{IsOrdered-walk}
 use Rattle.rx_hub.proofs.Laws.Walks.{visits_told}
-use Rattle.rx_ground.proofs.Routed.{walk_tied, reach_told, only_kept}
+use Rattle.rx_ground.proofs.WayAsInHistory.{walk_tied, reach_told, only_kept}
 use Rattle.rx_ground.proofs.base.Ground.measured.Goals as goal
 
 pub measure-requires-clause-ordered : goal.measure-requires-clause-ordered

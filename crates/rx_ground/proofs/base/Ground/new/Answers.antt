@@ -1,4 +1,4 @@
-use Rattle.rx_ground.proofs.Standing.{standing_empty}
+use Rattle.rx_ground.proofs.StandsWithMoreRoom.{standing_empty}
 use Rattle.rx_ground.proofs.base.Ground.new.Goals as goal
 
 pub returns-clause-standing : goal.returns-clause-standing

@@ -5,7 +5,7 @@ use Rattle.rx_hub.specs.declared.hub.HubDue.{HubDue}
 use Rattle.rx_hub.specs.Due.{IsDueIn, ConcernsHub}
 use Rattle.rx_hub.specs.Hubs.{Hubs}
 use Rattle.rx_ground.specs.Ties.{AreTied, IsNext}
-use Rattle.rx_ground.proofs.Settling.{hub_next, node_forced, quiet_settled, tied_rechained}
+use Rattle.rx_ground.proofs.TiedWhileSettling.{hub_next, node_forced, quiet_settled, tied_rechained}
 use Rattle.rx_ground.proofs.base.Ground.next_forced.Goals as goal
 
 pub returns-in-Some-clause-next : goal.returns-in-Some-clause-next

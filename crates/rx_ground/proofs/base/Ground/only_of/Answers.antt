@@ -1,7 +1,7 @@
 use Rattle.std.proofs.Common.{◌≡◌, [], ◌∷◌, sym, subst}
 use Rattle.rx_hub.specs.Walk.{stops_over}
 use Rattle.rx_ground.specs.Shown.{Ground}
-use Rattle.rx_ground.proofs.Routed.{only_found}
+use Rattle.rx_ground.proofs.WayAsInHistory.{only_found}
 use Rattle.rx_ground.proofs.base.Ground.only_of.Goals as goal
 
 pub returns-then-is_same : goal.returns-then-is_same

@@ -1,6 +1,6 @@
 use Rattle.std.proofs.Common.{sym, ◌∙◌}
 use Rattle.rx_ground.specs.Ties.{IsTied}
-use Rattle.rx_ground.proofs.Laws.Kept.{length-kept, length-nodes}
+use Rattle.rx_ground.proofs.Laws.JustOpenHeldWaiting.{length-kept, length-nodes}
 use Rattle.rx_ground.proofs.base.Ground.open_count.Goals as goal
 
 pub returns : goal.returns

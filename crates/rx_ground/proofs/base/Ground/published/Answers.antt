@@ -1,5 +1,5 @@
 use Rattle.rx_ground.specs.Ties.{AreTied}
-use Rattle.rx_ground.proofs.Published.{hub_known}
+use Rattle.rx_ground.proofs.HubsAfterEvent.{hub_known}
 use Rattle.rx_ground.proofs.base.Ground.published.Goals as goal
 
 pub returns-clause-some : goal.returns-clause-some

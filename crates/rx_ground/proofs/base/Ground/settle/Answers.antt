@@ -1,6 +1,6 @@
 use Rattle.std.proofs.Common.{ap, arith}
 use Rattle.rx_ground.specs.Shown.{Ground}
-use Rattle.rx_ground.proofs.Settling.{way_starts, way_rechained, way_on, next_ready, next_room}
+use Rattle.rx_ground.proofs.TiedWhileSettling.{way_starts, way_rechained, way_on, next_ready, next_room}
 use Rattle.rx_ground.proofs.base.Ground.settle.Goals as goal
 
 pub loop-due-init : goal.loop-due-init

@@ -1,4 +1,4 @@
-use Rattle.rx_ground.proofs.Settling.{IsOnTheWay}
+use Rattle.rx_ground.proofs.TiedWhileSettling.{IsOnTheWay}
 use Rattle.rx_ground.proofs.base.Ground.settle.Given as goal
 
 abbrev pub invariant-loop-due : goal.invariant-loop-due

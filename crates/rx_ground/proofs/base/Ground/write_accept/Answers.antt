@@ -8,12 +8,12 @@ use Rattle.rx_event.proofs.Laws.Steps.{may_accept}
 use Rattle.rx_ground.specs.Ties.{AreLeased, IsTied, AreTied}
 use Rattle.rx_tree.specs.declared.node.Node.{Node}
 use Rattle.rx_ground.proofs.Memory.{written_memory}
-use Rattle.rx_ground.proofs.Written.{writes_silent}
-use Rattle.rx_ground.proofs.Stored.{stored_accepted}
-use Rattle.rx_ground.proofs.Tied.{tied_still}
+use Rattle.rx_ground.proofs.RegisterAfterWrite.{writes_silent}
+use Rattle.rx_ground.proofs.ResourcesAfterEvent.{stored_accepted}
+use Rattle.rx_ground.proofs.StaysTied.{tied_still}
 use Rattle.rx_ground.proofs.HeldKept.{held_new}
 use Rattle.rx_ground.proofs.Newest.{past_resources}
-use Rattle.rx_ground.proofs.Published.{rebased, tied_on_same}
+use Rattle.rx_ground.proofs.HubsAfterEvent.{rebased, tied_on_same}
 use Rattle.rx_ground.proofs.Leases.{leased_kept}
 use Rattle.rx_tree.proofs.Laws.Keys.{none_not_some}
 use Rattle.rx_ground.proofs.base.Ground.write_accept.Goals as goal

@@ -10,9 +10,9 @@ use Rattle.rx_hub.proofs.Laws.AfterCases.{hubs_closed}
 use Rattle.rx_ground.specs.Shown.{Ground}
 use Rattle.rx_ground.specs.Ties.{AreLeased, IsTied, AreTied, KeepsNodes, Cuts, left_inside}
 use Rattle.rx_ground.proofs.Memory.{written_memory}
-use Rattle.rx_ground.proofs.Written.{writes_silent}
-use Rattle.rx_ground.proofs.Tied.{tied_close, cut_keeps}
-use Rattle.rx_ground.proofs.Published.{rebased, tied_closed}
+use Rattle.rx_ground.proofs.RegisterAfterWrite.{writes_silent}
+use Rattle.rx_ground.proofs.StaysTied.{tied_close, cut_keeps}
+use Rattle.rx_ground.proofs.HubsAfterEvent.{rebased, tied_closed}
 use Rattle.rx_ground.proofs.Leases.{leased_quiet}
 use Rattle.rx_ground.proofs.base.Ground.write_close.Given.{Over}
 use Rattle.rx_ground.proofs.base.Ground.write_close.Goals as goal

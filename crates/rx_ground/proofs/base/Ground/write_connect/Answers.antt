@@ -11,13 +11,13 @@ use Rattle.rx_hub.specs.Hubs.{Hub, Hubs, connected}
 use Rattle.rx_hub.proofs.Laws.AfterReady.{ready_to_connect}
 use Rattle.rx_ground.specs.Shown.{Ground}
 use Rattle.rx_ground.specs.Ties.{AreLeased, AreTied, IsNewNode, KeepsOlder}
-use Rattle.rx_ground.proofs.Tied.{IsOpenedIn, found_still, tied_top}
+use Rattle.rx_ground.proofs.StaysTied.{IsOpenedIn, found_still, tied_top}
 use Rattle.rx_ground.proofs.Records.{all_left}
-use Rattle.rx_ground.proofs.Joined.{as_many_at}
+use Rattle.rx_ground.proofs.HubsBesideTree.{as_many_at}
 use Rattle.rx_ground.proofs.Memory.{written_memory}
-use Rattle.rx_ground.proofs.Written.{writes_silent}
+use Rattle.rx_ground.proofs.RegisterAfterWrite.{writes_silent}
 use Rattle.rx_ground.proofs.Newest.{newest}
-use Rattle.rx_ground.proofs.Published.{rebased, connected_after, tied_connected}
+use Rattle.rx_ground.proofs.HubsAfterEvent.{rebased, connected_after, tied_connected}
 use Rattle.rx_ground.proofs.Leases.{leased_quiet}
 use Rattle.rx_ground.proofs.base.Ground.write_connect.Given.{Over}
 use Rattle.rx_ground.proofs.base.Ground.write_connect.Goals as goal

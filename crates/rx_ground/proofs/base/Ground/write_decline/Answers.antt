@@ -10,11 +10,11 @@ use Rattle.rx_tree.specs.declared.node.Node.{Node}
 use Rattle.rx_tree.specs.declared.node.Stowed.{Stowed}
 use Rattle.rx_ground.specs.Ties.{AreLeased, IsTied, AreTied, Remarks}
 use Rattle.rx_ground.proofs.Memory.{written_memory, same_places}
-use Rattle.rx_ground.proofs.Written.{writes_silent}
-use Rattle.rx_ground.proofs.Owing.{owed_told, owed_in-bounded, owed_marks-le}
-use Rattle.rx_ground.proofs.Tied.{tied_decline, remarked_keeps}
-use Rattle.rx_ground.proofs.Settling.{set_remarks}
-use Rattle.rx_ground.proofs.Published.{rebased, tied_on_marked}
+use Rattle.rx_ground.proofs.RegisterAfterWrite.{writes_silent}
+use Rattle.rx_ground.proofs.OwedCountBounded.{owed_told, owed_in-bounded, owed_marks-le}
+use Rattle.rx_ground.proofs.StaysTied.{tied_decline, remarked_keeps}
+use Rattle.rx_ground.proofs.TiedWhileSettling.{set_remarks}
+use Rattle.rx_ground.proofs.HubsAfterEvent.{rebased, tied_on_marked}
 use Rattle.rx_ground.proofs.Leases.{leased_quiet}
 use Rattle.rx_ground.proofs.base.Ground.write_decline.Given.{Over}
 use Rattle.rx_ground.proofs.base.Ground.write_decline.Goals as goal

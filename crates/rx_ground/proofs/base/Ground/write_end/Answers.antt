@@ -14,10 +14,10 @@ use Rattle.rx_hub.proofs.Laws.AfterCases.{hubs_ended}
 use Rattle.rx_ground.specs.Shown.{Ground}
 use Rattle.rx_ground.specs.Ties.{AreLeased, IsTied, AreTied, record_of, left_inside}
 use Rattle.rx_ground.proofs.Memory.{written_memory, same_places}
-use Rattle.rx_ground.proofs.Written.{writes_told}
-use Rattle.rx_ground.proofs.Owing.{owed_in-bounded}
+use Rattle.rx_ground.proofs.RegisterAfterWrite.{writes_told}
+use Rattle.rx_ground.proofs.OwedCountBounded.{owed_in-bounded}
 use Rattle.rx_ground.proofs.NodeEnds.{IsReadyToEnd, IsEnded, record_read, above_counted, ended_tied}
-use Rattle.rx_ground.proofs.Published.{rebased, tied_closed}
+use Rattle.rx_ground.proofs.HubsAfterEvent.{rebased, tied_closed}
 use Rattle.rx_ground.proofs.Leases.{leased_quiet}
 use Rattle.rx_ground.proofs.base.Ground.write_end.Given.{Over}
 use Rattle.rx_ground.proofs.base.Ground.write_end.Goals as goal

@@ -5,9 +5,9 @@ use Rattle.rx_event.specs.Lawful.{MayFollow}
 use Rattle.rx_hub.specs.Hubs.{Hub, new_hub}
 use Rattle.rx_ground.specs.Ties.{AreLeased, AreTied}
 use Rattle.rx_ground.proofs.Memory.{written_memory}
-use Rattle.rx_ground.proofs.Written.{writes_silent}
-use Rattle.rx_ground.proofs.Tied.{tied_same}
-use Rattle.rx_ground.proofs.Published.{rebased, hub_is_older, tied_published}
+use Rattle.rx_ground.proofs.RegisterAfterWrite.{writes_silent}
+use Rattle.rx_ground.proofs.StaysTied.{tied_same}
+use Rattle.rx_ground.proofs.HubsAfterEvent.{rebased, hub_is_older, tied_published}
 use Rattle.rx_ground.proofs.Leases.{leased_quiet}
 use Rattle.rx_ground.proofs.base.Ground.write_hub.Goals as goal
 

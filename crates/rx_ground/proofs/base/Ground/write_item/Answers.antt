@@ -6,12 +6,12 @@ use Rattle.rx_slots.specs.Slots.{Slots}
 use Rattle.rx_tree.specs.declared.node.Node.{Node}
 use Rattle.rx_tree.specs.declared.node.Stowed.{Stowed}
 use Rattle.rx_ground.specs.Ties.{AreLeased, AreTied}
-use Rattle.rx_ground.proofs.Published.{rebased}
+use Rattle.rx_ground.proofs.HubsAfterEvent.{rebased}
 use Rattle.rx_register.specs.State.{State as Register}
-use Rattle.rx_ground.proofs.Arrived.{arrived_writes, arrived_tied}
+use Rattle.rx_ground.proofs.ItemWentItsWay.{arrived_writes, arrived_tied}
 use Rattle.rx_ground.proofs.Memory.{written_memory, same_places}
-use Rattle.rx_ground.proofs.Owing.{owed_in-bounded}
-use Rattle.rx_ground.proofs.Routed.{walk_tied}
+use Rattle.rx_ground.proofs.OwedCountBounded.{owed_in-bounded}
+use Rattle.rx_ground.proofs.WayAsInHistory.{walk_tied}
 use Rattle.rx_ground.proofs.Leases.{leased_quiet}
 use Rattle.rx_ground.proofs.base.Ground.write_item.Goals as goal
 

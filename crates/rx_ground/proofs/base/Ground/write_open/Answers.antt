@@ -5,12 +5,12 @@ use Rattle.rx_register.specs.State.{State, Writes}
 use Rattle.rx_tree.specs.declared.node.Node.{Node}
 use Rattle.rx_hub.specs.Hubs.{Hubs}
 use Rattle.rx_ground.specs.Ties.{AreLeased}
-use Rattle.rx_ground.proofs.Written.{writes_silent}
+use Rattle.rx_ground.proofs.RegisterAfterWrite.{writes_silent}
 use Rattle.rx_ground.proofs.ReadyToOpen.{IsOpenedBelow, stands_below, opened_new, owes_above, above_there_still, newest_left, placed_left, way_resources}
 use Rattle.rx_ground.proofs.HubsAtOpening.{rest_same, joined_left, ready_left, older_left, all_opened, as_many_opened}
 use Rattle.rx_ground.proofs.RoomAtOpening.{IsWayMade, way_made, few_owed, few_children, hubs_told, slot_within, left_memory}
-use Rattle.rx_ground.proofs.Published.{tied_written}
-use Rattle.rx_ground.proofs.Joined.{slot_free, some_hub}
+use Rattle.rx_ground.proofs.HubsAfterEvent.{tied_written}
+use Rattle.rx_ground.proofs.HubsBesideTree.{slot_free, some_hub}
 use Rattle.rx_ground.proofs.Leases.{leased_quiet}
 use Rattle.rx_ground.proofs.base.Ground.write_open.Given.{Over}
 use Rattle.rx_ground.proofs.base.Ground.write_open.Goals as goal

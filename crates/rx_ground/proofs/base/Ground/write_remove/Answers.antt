@@ -7,12 +7,12 @@ use Rattle.rx_tree.specs.Resources.{store_key, removed, is_owned_at}
 use Rattle.rx_ground.specs.Ties.{AreLeased, IsTied, AreTied}
 use Rattle.rx_tree.specs.declared.node.Node.{Node}
 use Rattle.rx_ground.proofs.Memory.{written_memory, same_places}
-use Rattle.rx_ground.proofs.Written.{writes_silent}
-use Rattle.rx_ground.proofs.Stored.{stored_removed}
-use Rattle.rx_ground.proofs.Tied.{tied_still, still_there}
+use Rattle.rx_ground.proofs.RegisterAfterWrite.{writes_silent}
+use Rattle.rx_ground.proofs.ResourcesAfterEvent.{stored_removed}
+use Rattle.rx_ground.proofs.StaysTied.{tied_still, still_there}
 use Rattle.rx_ground.proofs.HeldKept.{held_rewritten, removed_held}
 use Rattle.rx_ground.proofs.Newest.{owned_found}
-use Rattle.rx_ground.proofs.Published.{rebased, tied_on_same}
+use Rattle.rx_ground.proofs.HubsAfterEvent.{rebased, tied_on_same}
 use Rattle.rx_ground.proofs.Leases.{leased_found}
 use Rattle.rx_ground.proofs.base.Ground.write_remove.Goals as goal
 

@@ -9,12 +9,12 @@ use Rattle.rx_ground.specs.Ties.{AreLeased, IsTied, AreTied, IsReady}
 use Rattle.rx_slots.specs.Slots.{Slots}
 use Rattle.rx_tree.specs.declared.node.Node.{Node}
 use Rattle.rx_ground.proofs.Memory.{written_memory}
-use Rattle.rx_ground.proofs.Written.{writes_silent}
-use Rattle.rx_ground.proofs.Stored.{stored_taken}
-use Rattle.rx_ground.proofs.Tied.{tied_still}
+use Rattle.rx_ground.proofs.RegisterAfterWrite.{writes_silent}
+use Rattle.rx_ground.proofs.ResourcesAfterEvent.{stored_taken}
+use Rattle.rx_ground.proofs.StaysTied.{tied_still}
 use Rattle.rx_ground.proofs.HeldKept.{held_gone}
-use Rattle.rx_ground.proofs.Taking.{takes_waiting, takes_live, takes_listed, none_waits}
-use Rattle.rx_ground.proofs.Published.{rebased, tied_on_same}
+use Rattle.rx_ground.proofs.TakenResourceWaited.{takes_waiting, takes_live, takes_listed, none_waits}
+use Rattle.rx_ground.proofs.HubsAfterEvent.{rebased, tied_on_same}
 use Rattle.rx_ground.proofs.Leases.{leased_taken}
 use Rattle.rx_ground.proofs.base.Ground.write_take.Given.{Over}
 use Rattle.rx_ground.proofs.base.Ground.write_take.Goals as goal

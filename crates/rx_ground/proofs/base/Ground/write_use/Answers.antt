@@ -8,12 +8,12 @@ use Rattle.rx_ground.specs.Ties.{AreLeased, IsTied, AreTied}
 use Rattle.rx_slots.specs.Slots.{Slots}
 use Rattle.rx_tree.specs.declared.node.Node.{Node}
 use Rattle.rx_ground.proofs.Memory.{written_memory, same_places}
-use Rattle.rx_ground.proofs.Written.{writes_silent}
-use Rattle.rx_ground.proofs.Stored.{stored_used}
-use Rattle.rx_ground.proofs.Tied.{tied_still, still_there}
+use Rattle.rx_ground.proofs.RegisterAfterWrite.{writes_silent}
+use Rattle.rx_ground.proofs.ResourcesAfterEvent.{stored_used}
+use Rattle.rx_ground.proofs.StaysTied.{tied_still, still_there}
 use Rattle.rx_ground.proofs.HeldKept.{held_rewritten}
 use Rattle.rx_ground.proofs.Newest.{held_found, of_found, if_found}
-use Rattle.rx_ground.proofs.Published.{rebased, tied_on_same}
+use Rattle.rx_ground.proofs.HubsAfterEvent.{rebased, tied_on_same}
 use Rattle.rx_ground.proofs.Leases.{leased_found}
 use Rattle.rx_ground.proofs.base.Ground.write_use.Goals as goal
 

@@ -3,7 +3,7 @@ use Rattle.rx_hub.specs.Hubs.{Hub, Hubs, new_hub}
 use Rattle.std.proofs.lemmas.List.{length-append}
 use Rattle.rx_hub.specs.Due.{connect_of, due_of}
 use Rattle.rx_hub.specs.Chains.{IsCalm}
-use Rattle.rx_hub.proofs.Found.{calm_added, nothing_new_waits, nothing_new_due}
+use Rattle.rx_hub.proofs.HubsByNumber.{calm_added, nothing_new_waits, nothing_new_due}
 use Rattle.rx_hub.proofs.hubs.Hubs.add.Goals as goal
 
 pub add-requires-clause-newest : goal.add-requires-clause-newest

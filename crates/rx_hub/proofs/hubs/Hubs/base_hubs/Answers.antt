@@ -1,6 +1,6 @@
 use Rattle.std.proofs.Common.{◌∙◌}
 use Rattle.std.proofs.lemmas.Result.{IfOk-weaker}
-use Rattle.rx_hub.proofs.Forgotten.{kept_of_all}
+use Rattle.rx_hub.proofs.HubsForgetEnds.{kept_of_all}
 use Rattle.rx_hub.proofs.hubs.Hubs.base_hubs.Goals as goal
 
 pub returns : goal.returns

@@ -1,6 +1,6 @@
 use Rattle.std.proofs.Common.{option_map, sym, ap, ◌∙◌}
 use Rattle.rx_hub.specs.Hubs.{published_of}
-use Rattle.rx_hub.proofs.Found.{find_index, find_none}
+use Rattle.rx_hub.proofs.HubsByNumber.{find_index, find_none}
 use Rattle.rx_hub.proofs.hubs.Hubs.get.Goals as goal
 
 pub returns-in_err-index_of : goal.returns-in_err-index_of

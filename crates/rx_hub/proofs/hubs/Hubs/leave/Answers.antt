@@ -1,7 +1,7 @@
 use Rattle.std.proofs.Common.{◌≡◌, Option, IfSome, IsSome, true, sym, subst, arith}
 use Rattle.rx_tree.specs.Tree.{is_on}
 use Rattle.rx_hub.specs.Hubs.{Hub, Hubs, find_hub, unsubscribed}
-use Rattle.rx_hub.proofs.Found.{find_index, index_below, not_found, linked_changed}
+use Rattle.rx_hub.proofs.HubsByNumber.{find_index, index_below, not_found, linked_changed}
 use Rattle.rx_hub.proofs.hubs.Hubs.leave.Goals as goal
 
 pub unreachable-requires : goal.unreachable-requires

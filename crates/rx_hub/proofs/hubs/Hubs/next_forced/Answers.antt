@@ -2,7 +2,7 @@ use Rattle.std.proofs.Common.{Option, IfNone, subst}
 use Rattle.rx_hub.specs.declared.hub.HubDue.{HubDue}
 use Rattle.rx_hub.specs.Due.{NoneWaits}
 use Rattle.rx_hub.proofs.Laws.Dues.{concerns_hub}
-use Rattle.rx_hub.proofs.Ruled.{none_of, connects_if, acts_if}
+use Rattle.rx_hub.proofs.DueBySubscribers.{none_of, connects_if, acts_if}
 use Rattle.rx_hub.proofs.hubs.Hubs.next_forced.Goals as goal
 
 pub returns-then-is_some-clause-due : goal.returns-then-is_some-clause-due

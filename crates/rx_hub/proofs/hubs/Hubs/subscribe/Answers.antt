@@ -1,6 +1,6 @@
 use Rattle.std.proofs.Common.{Option, IfSome, IsSome, sym, subst, arith}
 use Rattle.rx_hub.specs.Hubs.{Hub, Hubs, AreBelow, find_hub, subscribed}
-use Rattle.rx_hub.proofs.Found.{find_index, index_below, not_found, linked_changed}
+use Rattle.rx_hub.proofs.HubsByNumber.{find_index, index_below, not_found, linked_changed}
 use Rattle.rx_hub.proofs.hubs.Hubs.subscribe.Goals as goal
 
 pub unreachable-requires : goal.unreachable-requires

@@ -1,6 +1,6 @@
 use Rattle.std.proofs.Common.{ap, arith}
 use Rattle.rx_lists.specs.Lists.{Lists}
-use Rattle.rx_hub.proofs.Stored.{kept_same}
+use Rattle.rx_hub.proofs.StoreShowsHubs.{kept_same}
 use Rattle.rx_hub.proofs.store.Store.admit.Goals as goal
 
 pub invariant_of-self-2 : goal.invariant_of-self-2

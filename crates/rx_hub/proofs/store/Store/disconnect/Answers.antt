@@ -3,7 +3,7 @@ use Rattle.std.specs.Option.{option_or}
 use Rattle.std.proofs.lemmas.Option.{same_Some}
 use Rattle.rx_hub.specs.declared.hub.Published.{Published}
 use Rattle.rx_hub.specs.Hubs.{Hub, at_hub, published_of, with_published, disconnected}
-use Rattle.rx_hub.proofs.Found.{at_same, only_hub}
+use Rattle.rx_hub.proofs.HubsByNumber.{at_same, only_hub}
 use Rattle.rx_hub.proofs.store.Store.disconnect.Goals as goal
 
 pub returns-in-Some : goal.returns-in-Some

@@ -1,4 +1,4 @@
-use Rattle.rx_hub.proofs.Stored.{first_shown}
+use Rattle.rx_hub.proofs.StoreShowsHubs.{first_shown}
 use Rattle.rx_hub.proofs.store.Store.first.Goals as goal
 
 pub returns : goal.returns

@@ -1,7 +1,7 @@
 use Rattle.std.proofs.Common.{List, vec_capacity, sym, subst}
 use Rattle.rx_hub.specs.declared.hub.Published.{Published}
 use Rattle.rx_hub.specs.Store.{IsKept}
-use Rattle.rx_hub.proofs.Stored.{kept_forgot, store_forgot}
+use Rattle.rx_hub.proofs.StoreShowsHubs.{kept_forgot, store_forgot}
 use Rattle.rx_hub.proofs.store.Store.forget_ends.Goals as goal
 
 pub invariant_of-self : goal.invariant_of-self

@@ -1,4 +1,4 @@
-use Rattle.rx_hub.proofs.Stored.{last_shown}
+use Rattle.rx_hub.proofs.StoreShowsHubs.{last_shown}
 use Rattle.rx_hub.proofs.store.Store.last.Goals as goal
 
 pub returns : goal.returns

@@ -1,5 +1,5 @@
 use Rattle.std.proofs.Common.{sym, ◌∙◌}
-use Rattle.rx_hub.proofs.Stored.{count_hubs}
+use Rattle.rx_hub.proofs.StoreShowsHubs.{count_hubs}
 use Rattle.rx_hub.proofs.store.Store.len.Goals as goal
 
 pub returns : goal.returns

@@ -1,5 +1,5 @@
 use Rattle.std.proofs.Common.{◌-◌, min, length, vec_capacity}
-use Rattle.rx_hub.proofs.Stored.{promised}
+use Rattle.rx_hub.proofs.StoreShowsHubs.{promised}
 use Rattle.rx_hub.proofs.store.Store.promise.Goals as goal
 
 pub returns : goal.returns

@@ -1,5 +1,5 @@
 use Rattle.std.proofs.Common.{◌∙◌}
-use Rattle.rx_hub.proofs.Stored.{shown_record}
+use Rattle.rx_hub.proofs.StoreShowsHubs.{shown_record}
 use Rattle.rx_hub.proofs.store.Store.published.Goals as goal
 
 pub returns : goal.returns

@@ -1,6 +1,6 @@
 use Rattle.std.proofs.Common.{◌≡◌, ◌<◌, ◌-◌, Some, min, option_map, slice_get, vec_capacity, sym, subst}
 use Rattle.rx_hub.specs.Hubs.{Hub, Hubs}
-use Rattle.rx_hub.proofs.Stored.{named, hubs_written, kept_written}
+use Rattle.rx_hub.proofs.StoreShowsHubs.{named, hubs_written, kept_written}
 use Rattle.std.proofs.lemmas.List.{length-set}
 use Rattle.rx_hub.proofs.store.Store.set_published.Goals as goal
 

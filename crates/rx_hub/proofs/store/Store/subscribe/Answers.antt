@@ -1,7 +1,7 @@
 use Rattle.std.proofs.Common.{◌<◌, ◌-◌, IfSome, IsSome, min, length, slice_get, vec_capacity, sym, ap, subst, ◌∙◌}
 use Rattle.rx_hub.specs.Hubs.{Hub, Hubs, IsFree, AreBelow, at_hub, subscribed}
 use Rattle.rx_hub.specs.Store.{hubs_in}
-use Rattle.rx_hub.proofs.Stored.{hub_within, hub_is, free_lists, below_here, hubs_joined, kept_joined}
+use Rattle.rx_hub.proofs.StoreShowsHubs.{hub_within, hub_is, free_lists, below_here, hubs_joined, kept_joined}
 use Rattle.std.proofs.lemmas.List.{length-set}
 use Rattle.rx_hub.proofs.store.Store.subscribe.Goals as goal
 

@@ -5,7 +5,7 @@ use Rattle.rx_hub.specs.declared.hub.Published.{Published}
 use Rattle.rx_hub.specs.Hubs.{Hub, Hubs, at_hub, unsubscribed}
 use Rattle.rx_lists.specs.Lists.{Lists, is_in, list_at}
 use Rattle.rx_hub.specs.Store.{key_in, hub_in, hubs_in, IsKept}
-use Rattle.rx_hub.proofs.Stored.{hub_within, hub_get, hub_is, subscriber_in, hubs_left, kept_left}
+use Rattle.rx_hub.proofs.StoreShowsHubs.{hub_within, hub_get, hub_is, subscriber_in, hubs_left, kept_left}
 use Rattle.rx_hub.proofs.store.Store.unsubscribe.Goals as goal
 
 -- the subscriber stands on the hub's list

@@ -1,4 +1,4 @@
-use Rattle.rx_lease.proofs.Kept.{order_left}
+use Rattle.rx_lease.proofs.LeasesStayInOrder.{order_left}
 use Rattle.rx_lease.proofs.leases.Leases.give_back.Goals as goal
 
 pub invariant_of-self-2 : goal.invariant_of-self-2

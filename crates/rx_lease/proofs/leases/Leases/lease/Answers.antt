@@ -1,5 +1,5 @@
 use Rattle.rx_tree.specs.Tree.{IsPast}
-use Rattle.rx_lease.proofs.Kept.{order_joined}
+use Rattle.rx_lease.proofs.LeasesStayInOrder.{order_joined}
 use Rattle.rx_lease.proofs.leases.Leases.lease.Goals as goal
 
 pub invariant_of-self : goal.invariant_of-self

@@ -1,4 +1,4 @@
-use Rattle.rx_lease.proofs.Kept.{order_apart}
+use Rattle.rx_lease.proofs.LeasesStayInOrder.{order_apart}
 use Rattle.rx_lease.proofs.leases.Leases.promise.Goals as goal
 
 pub returns : goal.returns

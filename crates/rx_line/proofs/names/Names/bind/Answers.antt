@@ -1,7 +1,7 @@
 use Rattle.std.proofs.Common.{ℕ, List, subst}
 use Rattle.rx_line.specs.declared.names.Names.{Names}
 use Rattle.rx_line.specs.Names.{Binds}
-use Rattle.rx_line.proofs.Changed.{bound_names, bound_paired}
+use Rattle.rx_line.proofs.BoundAfterChange.{bound_names, bound_paired}
 use Rattle.rx_line.proofs.names.Names.bind.Goals as goal
 
 pub returns-clause-binds : goal.returns-clause-binds

@@ -1,7 +1,7 @@
 use Rattle.std.proofs.Common.{◌≡◌, ℕ, List, Some, option_map, string_bytes, ap, sym, subst}
 use Rattle.rx_line.specs.declared.names.Names.{Names}
 use Rattle.rx_line.specs.Names.{name_of, Forgets}
-use Rattle.rx_line.proofs.Changed.{forgotten_names, forgotten_paired}
+use Rattle.rx_line.proofs.BoundAfterChange.{forgotten_names, forgotten_paired}
 use Rattle.rx_line.proofs.names.Names.forget.Goals as goal
 
 pub returns-clause-some : goal.returns-clause-some

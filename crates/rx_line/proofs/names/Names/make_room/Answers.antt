@@ -1,5 +1,5 @@
 use Rattle.rx_line.specs.declared.names.Names.{Names}
-use Rattle.rx_line.proofs.Reordered.{same_names, still_paired}
+use Rattle.rx_line.proofs.NamesWithMoreRoom.{same_names, still_paired}
 use Rattle.rx_line.proofs.names.Names.make_room.Goals as goal
 
 pub returns-clause-same : goal.returns-clause-same

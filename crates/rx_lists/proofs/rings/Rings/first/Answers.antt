@@ -1,5 +1,5 @@
 use Rattle.std.proofs.Common.{sym, ap, ◌∙◌}
-use Rattle.rx_lists.proofs.Ringed.{as_member, first_seen}
+use Rattle.rx_lists.proofs.RingsShowLists.{as_member, first_seen}
 use Rattle.rx_lists.proofs.rings.Rings.first.Goals as goal
 
 pub returns-in-Member : goal.returns-in-Member

@@ -1,4 +1,4 @@
-use Rattle.rx_lists.proofs.Ringed.{nothing_tied}
+use Rattle.rx_lists.proofs.RingsShowLists.{nothing_tied}
 use Rattle.rx_lists.proofs.rings.Rings.new.Goals as goal
 
 pub invariant_of-result : goal.invariant_of-result

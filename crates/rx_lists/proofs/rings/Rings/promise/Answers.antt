@@ -1,4 +1,4 @@
-use Rattle.rx_lists.proofs.Ringed.{plain}
+use Rattle.rx_lists.proofs.RingsShowLists.{plain}
 use Rattle.rx_lists.proofs.rings.Rings.promise.Goals as goal
 
 pub returns : goal.returns

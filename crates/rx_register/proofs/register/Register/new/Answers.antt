@@ -1,5 +1,5 @@
 use Rattle.std.proofs.Common.{refl, sym, arith}
-use Rattle.rx_register.proofs.Written.{tied_empty, no_notes}
+use Rattle.rx_register.proofs.RegisterStaysTied.{tied_empty, no_notes}
 use Rattle.rx_register.proofs.register.Register.new.Goals as goal
 
 pub invariant_of-result : goal.invariant_of-result

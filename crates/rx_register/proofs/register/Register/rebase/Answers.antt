@@ -1,5 +1,5 @@
 use Rattle.std.proofs.Common.{refl}
-use Rattle.rx_register.proofs.Written.{may_rebase, base_long, placed_base, rebased, rebases_seen, made_rebased}
+use Rattle.rx_register.proofs.RegisterStaysTied.{may_rebase, base_long, placed_base, rebased, rebases_seen, made_rebased}
 use Rattle.rx_register.proofs.register.Register.rebase.Goals as goal
 
 pub rebase-requires-clause-length : goal.rebase-requires-clause-length

@@ -1,6 +1,6 @@
 use Rattle.std.proofs.Common.{◌≡◌, ◌<◌, ℕ, refl, arith}
 use Rattle.rx_event.specs.Notes.{notes}
-use Rattle.rx_register.proofs.Written.{IsPopped, popped_first, popped_inside}
+use Rattle.rx_register.proofs.RegisterStaysTied.{IsPopped, popped_first, popped_inside}
 use Rattle.rx_register.proofs.register.Register.take_mail.Goals as goal
 
 some : (n : ℕ) → (n ≡ 0 → ⊥) → 0 < n

@@ -4,7 +4,7 @@ use Rattle.rx_event.specs.Lawful.{MayFollow}
 use Rattle.rx_event.proofs.Laws.Counts.{notes-push}
 use Rattle.rx_register.specs.State.{State}
 use Rattle.rx_register.specs.Ties.{state_of}
-use Rattle.rx_register.proofs.Written.{written, given_after, told_length}
+use Rattle.rx_register.proofs.RegisterStaysTied.{written, given_after, told_length}
 use Rattle.rx_register.proofs.register.Register.write.Goals as goal
 
 pub invariant_of-self : goal.invariant_of-self

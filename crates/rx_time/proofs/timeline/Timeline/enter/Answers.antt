@@ -1,7 +1,7 @@
 use Rattle.std.proofs.Common.{◌≤◌, ap, ◌∙◌, rules, arith}
 use Rattle.rx_time.specs.Schedule.{Schedule, schedule}
 use Rattle.rx_time.proofs.Entries.{insert_entry-last, lookup-nat_cmp, lookup-past}
-use Rattle.rx_time.proofs.Kept.{IsKept-push, IsKept-undone}
+use Rattle.rx_time.proofs.AgendaMatchesEntries.{IsKept-push, IsKept-undone}
 use Rattle.rx_time.proofs.timeline.Timeline.enter.Goals as goal
 
 pub invariant_of-self-in-Ok-None : goal.invariant_of-self-in-Ok-None

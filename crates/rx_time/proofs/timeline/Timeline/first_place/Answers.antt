@@ -2,7 +2,7 @@ use Rattle.std.proofs.Common.{◌≡◌, refl, inl, inr, arith}
 use Rattle.std.proofs.lemmas.Bool.{cases_lt, false≢true}
 use Rattle.std.specs.BTreeSet.{btree_set_len}
 use Rattle.rx_time.specs.Schedule.{schedule}
-use Rattle.rx_time.proofs.Kept.{PointsAt-first, ahead_at_place, work-none}
+use Rattle.rx_time.proofs.AgendaMatchesEntries.{PointsAt-first, ahead_at_place, work-none}
 use Rattle.rx_time.proofs.timeline.Timeline.first_place.Goals as goal
 
 pub returns-in-Some-clause-next : goal.returns-in-Some-clause-next

@@ -1,7 +1,7 @@
 use Rattle.std.proofs.Common.{sym, ◌∙◌}
 use Rattle.rx_time.specs.Schedule.{schedule}
 use Rattle.rx_time.proofs.Entries.{items_of-without, lookup-nat_cmp, remove_entry-nat_cmp}
-use Rattle.rx_time.proofs.Kept.{IsKept-without}
+use Rattle.rx_time.proofs.AgendaMatchesEntries.{IsKept-without}
 use Rattle.rx_time.proofs.timeline.Timeline.take.Goals as goal
 
 pub invariant_of-self : goal.invariant_of-self

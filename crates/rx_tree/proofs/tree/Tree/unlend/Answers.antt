@@ -6,7 +6,7 @@ use Rattle.rx_tree.specs.Resources.{is_lent, one_lease_less}
 use Rattle.rx_tree.specs.Store.{nodes_of, resources_of}
 use Rattle.rx_tree.specs.Ties.{resource_ring}
 use Rattle.rx_tree.proofs.There.{ring_stands}
-use Rattle.rx_tree.proofs.Laws.Written.{found_entry}
+use Rattle.rx_tree.proofs.Laws.FoundAfterWrite.{found_entry}
 use Rattle.rx_tree.proofs.RemoveSteps.{found_where, stored_stands, stored_before, stored_after, stands_still, last_there, off_tied, off_chain, on_tied}
 use Rattle.rx_tree.proofs.RemoveSteps.{on_chain}
 use Rattle.rx_tree.specs.declared.links.Place.TheVariants.{Stored}

@@ -1,0 +1,91 @@
+-- What is kept of the nodes and the hubs: of no events, and with another list of what may be due.
+use Rattle.rx_audit.proofs.KeysInRange.{connected_below}
+use Rattle.rx_audit.proofs.TestsDecideRules.{not_true}
+use Rattle.rx_audit.proofs.Neighbours.{last_unique}
+use Rattle.rx_audit.proofs.Latest.{is_key_of}
+use Rattle.rx_audit.specs.declared.hubs.Hubs.{Hubs}
+use Rattle.rx_audit.specs.DueList.{HasAll}
+use Rattle.rx_audit.specs.Rules.{hub_connected_at, hub_ended, hub_ended_at}
+use Rattle.rx_event.specs.Kept.{nothing_kept}
+use Rattle.rx_event.specs.Lawful.{IsLawful}
+use Rattle.rx_event.specs.declared.event.Event.{Event}
+use Rattle.std.proofs.Common.{◌≡◌, ℕ, zero, suc, ◌<◌, ◌≤◌, Bool, List, [], ◌∷◌, length, Option}
+use Rattle.std.proofs.Common.{Some, None, refl, sym, ◌∙◌, arith, inl, inr, ◌⊎◌, get_or, slice_get}
+use Rattle.std.specs.Option.{option_and_then}
+use Rattle.std.proofs.lemmas.Bool.{both_ways, false≢true, cases_lt}
+use Rattle.std.proofs.lemmas.Option.{none-some}
+use Rattle.rx_event.specs.declared.event.Event.TheVariants.{End}
+use Rattle.rx_event.specs.Tree.{is_open}
+use Rattle.rx_event.proofs.Laws.Openness.{is_open_past}
+use Rattle.rx_audit.specs.declared.advance.Nodes.{Nodes}
+use Rattle.rx_audit.specs.Latest.{AreChildren, last_below, keyed}
+use Rattle.rx_audit.specs.Listed.{AreLinked}
+use Rattle.rx_audit.specs.HubTables.{AreHubs}
+use Rattle.rx_audit.specs.Standing.{IsFollowed, IsKnown}
+use Rattle.rx_audit.proofs.DueLists.{acts_open}
+
+pub followed_nothing : (size : ℕ) (nodes : Nodes) → AreChildren [] size nodes.children → AreLinked [] size nodes.subscribers → AreHubs [] size nodes.hubs
+    → length nodes.marks.items ≡ size → IsFollowed [] size nodes
+followed_nothing size nodes children linked hubs marks = record {
+  children = children;
+  linked = linked;
+  listed = λ g k y. absurd (false≢true y);
+  hubs = hubs;
+  marks_size = marks;
+  kept = λ n o. absurd (both_ways (is_open [] n) (is_open_past [] n (omega arith)) o);
+  covered = λ n y. absurd (both_ways (is_open [] n) (is_open_past [] n (omega arith)) (acts_open [] n y));
+}
+
+-- with another list of what may be due
+pub known_due : (h : List Event) (live : List Bool) (old new : Nodes) → IsKnown h live old → new.children ≡ old.children → new.subscribers ≡ old.subscribers
+    → new.hubs ≡ old.hubs → new.marks ≡ old.marks → HasAll h new.due.items → IsKnown h live new
+known_due h live old new k children subscribers hubs marks covered =
+    let w = k.followed in
+    record {
+      lawful = k.lawful;
+      tied = k.tied;
+      room = k.room;
+      followed = record {
+        children = rw children w.children;
+        linked = rw subscribers w.linked;
+        listed = rw subscribers w.listed;
+        hubs = rw hubs w.hubs;
+        marks_size = rw marks w.marks_size;
+        kept = rw marks w.kept;
+        covered = covered;
+      };
+    }
+
+-- the words of the hubs, also of numbers past the lists
+past_list : (xs : List ℕ) (n : ℕ) → length xs ≤ n → ◌≡◌ {A = ℕ} (get_or xs n 0) 0
+past_list [] n l = refl
+past_list (x ∷ xs) zero l = absurd (omega arith)
+past_list (x ∷ xs) (suc n) l = past_list xs n (omega arith)
+
+none_keyed : (h : List Event) (key : ℕ → Option ℕ) (g : ℕ) → ((k : ℕ) → key k ≡ Some g → ⊥) → last_below (keyed key g) (length h) ≡ 0
+none_keyed h key g none = last_unique (keyed key g) (length h) 0 (omega arith)
+    (λ j l m. not_true _ (λ y. none j (is_key_of (key j) g y))) (λ j e. absurd (omega arith))
+
+ended_below : (h : List Event) → IsLawful nothing_kept h → (k g : ℕ) → hub_ended_at h k ≡ Some g → g < length h
+ended_below h law k g named = by_event (slice_get h k) named where
+  by_event : (o : Option Event) → option_and_then (hub_ended h) o ≡ Some g → g < length h
+  by_event None e = absurd (none-some g e)
+  by_event (Some (End c t)) e = connected_below h law c g e
+  by_event (Some _) e = absurd (none-some g e)
+
+module _ (h : List Event) (law : IsLawful nothing_kept h) (size : ℕ) (known : Hubs) (w : AreHubs h size known) (room : length h ≤ size) where
+  pub connection_word : (g word : ℕ) → word ≡ get_or known.connection.items g 0 → word ≡ last_below (keyed (hub_connected_at h) g) (length h)
+  connection_word g word is = is ∙ by_place (cases_lt g size) where
+    by_place : (g < size) ⊎ (size ≤ g) → get_or known.connection.items g 0 ≡ last_below (keyed (hub_connected_at h) g) (length h)
+    by_place (inl l) = let s = w.connection_size in w.connection g (omega arith)
+    by_place (inr l) =
+        let s = w.connection_size in
+        past_list known.connection.items g (omega arith) ∙ sym (none_keyed h (hub_connected_at h) g (λ k e. let b = connected_below h law k g e in omega arith))
+
+  pub ended_word : (g word : ℕ) → word ≡ get_or known.ended.items g 0 → word ≡ last_below (keyed (hub_ended_at h) g) (length h)
+  ended_word g word is = is ∙ by_place (cases_lt g size) where
+    by_place : (g < size) ⊎ (size ≤ g) → get_or known.ended.items g 0 ≡ last_below (keyed (hub_ended_at h) g) (length h)
+    by_place (inl l) = let s = w.ended_size in w.ended g (omega arith)
+    by_place (inr l) =
+        let s = w.ended_size in
+        past_list known.ended.items g (omega arith) ∙ sym (none_keyed h (hub_ended_at h) g (λ k e. let b = ended_below h law k g e in omega arith))

@@ -1,0 +1,147 @@
+-- An item in a history without hubs: what it does to marks, and what is due after it.
+use Rattle.std.proofs.Common.{◌≡◌, ℕ, ℤ, ◌+◌, ◌<◌, Bool, true, false, List, [], ◌∷◌, ◌++◌, length}
+use Rattle.std.proofs.Common.{Option, Some, None, refl, sym, ap, ◌∙◌, arith, inl, inr, ◌⊎◌, ◌==◌, cond}
+use Rattle.std.proofs.Math.Bool.{◌||◌, ◌&&◌}
+use Rattle.std.proofs.lemmas.Bool.{cases_Bool, false≢true, eq-eqb, eqb-true}
+use Rattle.std.proofs.lemmas.Option.{none-some, same_Some}
+use Rattle.std.specs.List.{list_any, sum_by, count_by}
+use Rattle.std.specs.Option.{option_or}
+use Rattle.std.specs.Prelude.{is_some}
+use Rattle.rx_event.specs.Kept.{nothing_kept}
+use Rattle.rx_note.specs.declared.note.Terminal.{Terminal}
+use Rattle.rx_event.specs.declared.event.Kind.TheVariants.{Leaf, Pass, Flat, Switch, Until, Sub}
+use Rattle.rx_event.specs.declared.event.Event.{Event}
+use Rattle.rx_event.specs.declared.event.Event.TheVariants.{Open, Hub, Connect, Accept, Use, Remove, Lease, Return, Item, Decline, End, Close, Take}
+use Rattle.rx_event.specs.declared.marks.Marks.{Marks}
+use Rattle.rx_event.specs.Tree.{is_open}
+use Rattle.rx_event.specs.Climb.{stop_at, climb, stops}
+use Rattle.rx_event.specs.Moments.{owed, is_fired, is_firing_of, is_projection_to}
+use Rattle.rx_event.specs.Marks.{marks_of, terminal_due, completed_if, is_over}
+use Rattle.rx_event.specs.Lawful.{IsLawful, MayFollow}
+use Rattle.rx_event.proofs.Laws.Openness.{is_open_within, open_before}
+use Rattle.rx_event.proofs.Laws.Places.{slice_get-append}
+use Rattle.rx_event.proofs.Laws.Stands.{event_at}
+use Rattle.rx_event.proofs.Laws.MarksAfter.{marks-item}
+use Rattle.rx_audit.specs.declared.reach.Visit.{Visit}
+use Rattle.rx_audit.specs.Flow.{IsReached}
+use Rattle.rx_audit.specs.Rules.{is_key}
+use Rattle.rx_audit.specs.Latest.{IsNoted}
+use Rattle.rx_audit.specs.Marking.{leaf_of, IsKept, IsCovered, IsVisited, visited_marks, fired_key, projected_key, due_made}
+use Rattle.rx_audit.proofs.FoundAfterEvent.{same_any, firing_stops, projection_stops, times_cond}
+use Rattle.rx_audit.proofs.VisitsChangeMarks.{with_two, same_two}
+use Rattle.rx_audit.proofs.DueListCovers.{due_parts, due_made_at}
+
+pub item_of : (e : Event) (leaf : ℕ) → leaf_of e ≡ Some leaf → (v : ℤ) × (e ≡ Item leaf v)
+item_of (Item l v) leaf is = (v, ap (λ k. Item k v) (same_Some l leaf is))
+item_of (Open place kind) leaf is = absurd (none-some leaf is)
+item_of (Hub mode) leaf is = absurd (none-some leaf is)
+item_of (Connect g) leaf is = absurd (none-some leaf is)
+item_of (Accept n tag) leaf is = absurd (none-some leaf is)
+item_of (Use r) leaf is = absurd (none-some leaf is)
+item_of (Remove r) leaf is = absurd (none-some leaf is)
+item_of (Lease r) leaf is = absurd (none-some leaf is)
+item_of (Return r) leaf is = absurd (none-some leaf is)
+item_of (Decline f) leaf is = absurd (none-some leaf is)
+item_of (End n t) leaf is = absurd (none-some leaf is)
+item_of (Close n) leaf is = absurd (none-some leaf is)
+item_of (Take r) leaf is = absurd (none-some leaf is)
+
+fires_same : (h : List Event) (leaf n : ℕ) (log : List Visit) → IsReached h leaf log
+    → list_any (λ v. is_key (fired_key h v.node) n) log ≡ list_any (is_firing_of n) (stops h leaf)
+unfolding stops
+fires_same h leaf n log r = same_any h leaf log (λ m. is_key (fired_key h m) n) r ∙ sym (firing_stops (stop_at h) n (climb h leaf))
+
+owes_same : (h : List Event) (leaf n : ℕ) (log : List Visit) → IsReached h leaf log
+    → sum_by (λ v. cond (is_key (projected_key h v.node) n) v.count 0) log ≡ count_by (is_projection_to n) (stops h leaf)
+unfolding stops
+owes_same h leaf n log r =
+    times_cond (λ m. is_key (projected_key h m) n) log ∙ r.sums (λ m. cond (is_key (projected_key h m) n) 1 0)
+    ∙ sym (projection_stops (stop_at h) n (climb h leaf))
+
+kept_visit : (h : List Event) (leaf : ℕ) (v : ℤ) (log : List Visit) (old new : List Marks) (before after : List ℕ) → IsLawful nothing_kept h
+    → MayFollow nothing_kept h (Item leaf v)
+    → IsReached h leaf log → IsKept h old → length h < length old → IsVisited h log old new before after → IsKept (h ++ Item leaf v ∷ []) new
+kept_visit h leaf v log old new before after law next r kept room w n o =
+    let here : is_open h n ≡ true = open_before h (Item leaf v) n refl o in
+    let l : n < length h = is_open_within h n here in
+    w.marks n (omega arith)
+    ∙ ap (visited_marks h log n) (kept n here)
+    ∙ same_two (marks_of nothing_kept h n) _ _ _ _ (ap (λ b. is_fired h n || b) (fires_same h leaf n log r))
+    (ap (λ (k : ℕ). owed nothing_kept h n + k) (owes_same h leaf n log r))
+    ∙ sym (marks-item nothing_kept h leaf v law next n l)
+
+-- what more is owed makes nothing due
+over_still : (s o z more : Bool) → (more ≡ true → z ≡ true) → is_some (completed_if ((s && o) && more)) ≡ true → is_some (completed_if ((s && o) && z)) ≡ true
+over_still true true z true so y = rw (so refl) refl
+over_still true true z false so y = absurd (false≢true y)
+over_still true false z more so y = absurd (false≢true y)
+over_still false o z more so y = absurd (false≢true y)
+
+merging_still : (c : Option Terminal) (a b : Bool) → (is_some (completed_if a) ≡ true → is_some (completed_if b) ≡ true)
+    → is_some (option_or c (completed_if a)) ≡ true → is_some (option_or c (completed_if b)) ≡ true
+merging_still (Some t) a b so y = refl
+merging_still None a b so y = so y
+
+none_owed : (a k : ℕ) → (a + k == 0) ≡ true → (a == 0) ≡ true
+none_owed a k e = let s : a + k ≡ 0 = eqb-true (a + k) 0 e in eq-eqb a 0 (omega arith)
+
+still_due : (made : Event) (m : Marks) (k : ℕ) → is_some (terminal_due made (with_two m m.fired (m.owed + k))) ≡ true → is_some (terminal_due made m) ≡ true
+still_due (Open place Flat) m k y = merging_still m.child_terminal (is_over (with_two m m.fired (m.owed + k))) (is_over m)
+    (over_still m.source_completed (m.open_children == 0) (m.owed == 0) (m.owed + k == 0) (none_owed m.owed k)) y
+still_due (Open place Switch) m k y = merging_still m.child_terminal (is_over (with_two m m.fired (m.owed + k))) (is_over m)
+    (over_still m.source_completed (m.open_children == 0) (m.owed == 0) (m.owed + k == 0) (none_owed m.owed k)) y
+still_due (Open place Pass) m k y = y
+still_due (Open place Until) m k y = y
+still_due (Open place Leaf) m k y = y
+still_due (Open place (Sub g)) m k y = y
+still_due (Connect g) m k y = y
+still_due (Hub mode) m k y = y
+still_due (Accept n tag) m k y = y
+still_due (Use r) m k y = y
+still_due (Remove r) m k y = y
+still_due (Lease r) m k y = y
+still_due (Return r) m k y = y
+still_due (Item l v) m k y = y
+still_due (Decline f) m k y = y
+still_due (End n t) m k y = y
+still_due (Close n) m k y = y
+still_due (Take r) m k y = y
+
+or_false : (b : Bool) → (b || false) ≡ b
+or_false true = refl
+or_false false = refl
+
+covered_visit : (h : List Event) (leaf : ℕ) (v : ℤ) (log : List Visit) (old new : List Marks) (before after : List ℕ) → IsLawful nothing_kept h
+    → MayFollow nothing_kept h (Item leaf v)
+    → IsReached h leaf log → IsCovered h before → IsVisited h log old new before after → IsCovered (h ++ Item leaf v ∷ []) after
+covered_visit h leaf v log old new before after law next r covered w n y = by_fired (cases_Bool (list_any (is_firing_of n) (stops h leaf))) where
+  by_fired : (list_any (is_firing_of n) (stops h leaf) ≡ true) ⊎ (list_any (is_firing_of n) (stops h leaf) ≡ false) → IsNoted 0 after n
+  by_fired (inl now) = w.noted n (fires_same h leaf n log r ∙ now)
+  by_fired (inr quiet) =
+      let parts = due_parts (h ++ Item leaf v ∷ []) n y in
+      let here : is_open h n ≡ true = open_before h (Item leaf v) n refl parts.0 in
+      let l : n < length h = is_open_within h n here in
+      let made = event_at h n l in
+      let now : due_made (h ++ Item leaf v ∷ []) n made.0 ≡ true =
+      sym (due_made_at (h ++ Item leaf v ∷ []) n made.0 parts.0 (slice_get-append h (Item leaf v ∷ []) n l ∙ made.1)) ∙ y in
+      let same = marks-item nothing_kept h leaf v law next n l
+      ∙ same_two (marks_of nothing_kept h n) _ _ _ _ (ap (λ b. is_fired h n || b) quiet ∙ or_false (is_fired h n)) refl in
+      let was = still_due made.0 (marks_of nothing_kept h n) (count_by (is_projection_to n) (stops h leaf))
+      (ap (λ m. is_some (terminal_due made.0 m)) (sym same) ∙ now) in
+      w.kept n (covered n (due_made_at h n made.0 here made.1 ∙ was))
+
+pub item_kept : (h : List Event) (e : Event) (leaf : ℕ) (log : List Visit) (old new : List Marks) (before after : List ℕ) → IsLawful nothing_kept h
+    → MayFollow nothing_kept h e → leaf_of e ≡ Some leaf
+    → IsReached h leaf log → IsKept h old → length h < length old → IsVisited h log old new before after → IsKept (h ++ e ∷ []) new
+item_kept h e leaf log old new before after law next is r kept room w =
+    let found = item_of e leaf is in
+    let now : MayFollow nothing_kept h (Item leaf found.0) = rw (← found.1) next in
+    rw found.1 (kept_visit h leaf found.0 log old new before after law now r kept room w)
+
+pub item_covered : (h : List Event) (e : Event) (leaf : ℕ) (log : List Visit) (old new : List Marks) (before after : List ℕ) → IsLawful nothing_kept h
+    → MayFollow nothing_kept h e → leaf_of e ≡ Some leaf
+    → IsReached h leaf log → IsCovered h before → IsVisited h log old new before after → IsCovered (h ++ e ∷ []) after
+item_covered h e leaf log old new before after law next is r covered w =
+    let found = item_of e leaf is in
+    let now : MayFollow nothing_kept h (Item leaf found.0) = rw (← found.1) next in
+    rw found.1 (covered_visit h leaf found.0 log old new before after law now r covered w)

@@ -1,0 +1,351 @@
+-- The tests that compute decide which events callers may add.
+use Rattle.std.proofs.Common.{◌≡◌, ℕ, ℤ, zero, suc, cond, count_by, get_or, ◌+◌, ◌<◌, ◌≤◌, Bool, true, false, List, [], ◌∷◌, ◌++◌, length, Option}
+use Rattle.std.proofs.Common.{Some, None, refl, sym, ap, ◌∙◌, arith, ◌==◌, slice_get, inl, inr, ◌⊎◌, nat_lt, nat_le, IsTrue}
+use Rattle.std.specs.Bool.{MatchBool}
+use Rattle.std.proofs.Math.Bool.{not, ◌&&◌, ◌||◌}
+use Rattle.std.specs.List.{list_any, list_all, range_with_len}
+use Rattle.std.proofs.lemmas.List.Sums.{sum_by-cons, length-filter}
+use Rattle.std.specs.Option.{option_map_or}
+use Rattle.std.proofs.lemmas.Bool.{and_parts, false≢true, ltb-true, lt-ltb, eqb-true, eq-eqb, leb-true, le-leb, lt-leb}
+use Rattle.rx_event.specs.Kept.{nothing_kept}
+use Rattle.rx_note.specs.declared.note.Terminal.{Terminal}
+use Rattle.rx_note.specs.declared.note.Terminal.TheVariants.{Completed, Error}
+use Rattle.rx_event.specs.declared.event.Place.{Place}
+use Rattle.rx_event.specs.declared.event.Place.TheVariants.{Root, Source, Inner, Notifier}
+use Rattle.rx_event.specs.declared.event.Kind.{Kind}
+use Rattle.rx_event.specs.declared.event.Kind.TheVariants.{Leaf, Pass, Flat, Switch, Until, Sub}
+use Rattle.rx_event.specs.declared.event.Mode.{Mode}
+use Rattle.rx_event.specs.declared.event.Event.{Event}
+use Rattle.rx_event.specs.declared.event.Event.TheVariants.{Open, Hub, Connect, Accept, Use, Remove, Lease, Return, Item, Decline, End, Close, Take}
+use Rattle.rx_event.specs.Events.{makes_hub, has_source, is_leaf, is_merging, is_until, is_root, is_manual_hub, is_source_of, is_notifier_of, is_connect_of}
+use Rattle.rx_event.specs.Tree.{at, places, hubs, is_open, open_nodes, ancestors, has_open_child}
+use Rattle.rx_event.proofs.Laws.Openness.{is_open_past}
+use Rattle.rx_event.specs.Climb.{visits, most_visits}
+use Rattle.rx_event.specs.Moments.{owed}
+use Rattle.rx_event.specs.Forced.{IsConnectDue}
+use Rattle.rx_event.specs.Allowed.{most_nodes, most_hubs, IsFree, IsInOrderAt, IsInOrder, IsHubbed, may_abort, IsAllowed, opened}
+use Rattle.rx_event.specs.Allowed.{published, connected, accepted, used, removed, leased, returned}
+use Rattle.rx_event.specs.Allowed.{emitted, declined, leaf_ended, aborted, projection_failed, root_closed}
+use Rattle.rx_event.specs.Allowed.{disconnected, taken}
+use Rattle.rx_audit.specs.Tables.{IsMarked, mark_count}
+use Rattle.rx_audit.specs.Rules.{hub_connected_at, has_key, open_connected, is_owing}
+use Rattle.rx_audit.specs.Allowing.{connects_later, is_in_order_at, is_in_order, is_hubbed, is_free, failure_allowed}
+use Rattle.rx_audit.specs.Allowing.{failing_allowed, end_allowed, close_allowed, connect_allowed, decline_allowed, allowed_simply, item_allowed, open_allowed}
+use Rattle.rx_audit.proofs.TestsDecideRules.{both, left, right, either, not_not, is_false, connection_at, at_connection, filter_none, none_filtered, connected_key}
+use Rattle.rx_audit.proofs.Due.{child_closed, no_child_open}
+
+-- items ------------------------------------------------------------------------------------------------
+
+pub item_test : (h : List Event) (l : ℕ) (b : Bool) (P : Type 0) → (P → visits h l ≤ 1048576)
+    → MatchBool b P (1048576 < visits h l) → (is_open h l && at is_leaf h l) ≡ true → b ≡ item_allowed h l
+unfolding item_allowed
+item_test h l false P few m leaf = rw leaf (sym (lt-leb (visits h l) 1048576 m))
+item_test h l true P few m leaf = rw leaf (sym (le-leb (visits h l) 1048576 (few m)))
+
+pub climb_test : (b : Bool) (P Q : Type 0) → MatchBool b P Q → IsTrue b → P
+climb_test true P Q p t = p
+climb_test false P Q q t = absurd (false≢true t)
+
+pub no_item : (h : List Event) (l : ℕ) → (is_open h l && at is_leaf h l) ≡ false → false ≡ item_allowed h l
+unfolding item_allowed
+no_item h l o = rw o refl
+
+pub item_may : (h : List Event) (l : ℕ) (v : ℤ) → item_allowed h l ≡ true → IsAllowed nothing_kept h (Item l v)
+unfolding item_allowed most_visits
+item_may h l v e =
+    let a = and_parts (is_open h l && at is_leaf h l) (nat_le (visits h l) 1048576) e in
+    let b = and_parts (is_open h l) (at is_leaf h l) a.0 in
+    emitted b.0 b.1 (leb-true (visits h l) 1048576 a.1)
+
+pub item_may_of : (h : List Event) (l : ℕ) (v : ℤ) → IsAllowed nothing_kept h (Item l v) → item_allowed h l ≡ true
+unfolding item_allowed most_visits
+item_may_of h l v (emitted o m few) =
+    both (is_open h l && at is_leaf h l) (nat_le (visits h l) 1048576) (both (is_open h l) (at is_leaf h l) o m) (le-leb (visits h l) 1048576 few)
+
+-- what is owed -----------------------------------------------------------------------------------------
+
+pub owes : (h : List Event) (f : ℕ) → is_owing h f ≡ true → 0 < owed nothing_kept h f
+unfolding is_owing
+owes h f e = ltb-true 0 (owed nothing_kept h f) e
+
+pub is_owed : (h : List Event) (f : ℕ) → 0 < owed nothing_kept h f → is_owing h f ≡ true
+unfolding is_owing
+is_owed h f l = lt-ltb 0 (owed nothing_kept h f) l
+
+-- ends, closings and the rest --------------------------------------------------------------------------
+
+same_abort : (e : Event) → has_source e ≡ may_abort e
+same_abort (Open place Pass) = refl
+same_abort (Open place Flat) = refl
+same_abort (Open place Switch) = refl
+same_abort (Open place Until) = refl
+same_abort (Open place Leaf) = refl
+same_abort (Open place (Sub g)) = refl
+same_abort (Hub mode) = refl
+same_abort (Connect g) = refl
+same_abort (Accept m tag) = refl
+same_abort (Use r) = refl
+same_abort (Remove r) = refl
+same_abort (Lease r) = refl
+same_abort (Return l) = refl
+same_abort (Item m v) = refl
+same_abort (Decline f) = refl
+same_abort (End m t) = refl
+same_abort (Close m) = refl
+same_abort (Take r) = refl
+
+abort_at : (h : List Event) (n : ℕ) → at has_source h n ≡ at may_abort h n
+abort_at h n = by_event (slice_get h n) where
+  by_event : (o : Option Event) → option_map_or has_source o false ≡ option_map_or may_abort o false
+  by_event None = refl
+  by_event (Some e) = same_abort e
+
+end_may : (h : List Event) (n : ℕ) (t : Terminal) → end_allowed h n t ≡ true → IsAllowed nothing_kept h (End n t)
+unfolding end_allowed
+end_may h n t e = by_kind (either (at is_leaf h n) (failing_allowed h n t) w.1) where
+  w : (is_open h n ≡ true) × ((at is_leaf h n || failing_allowed h n t) ≡ true)
+  w = and_parts (is_open h n) (at is_leaf h n || failing_allowed h n t) e
+
+  by_cause : (c : ℕ) → ((at has_source h n && not (has_open_child h n)) ≡ true) ⊎ ((at is_merging h n && is_owing h n) ≡ true)
+      → IsAllowed nothing_kept h (End n (Error c))
+  by_cause c (inl m) = let v = and_parts (at has_source h n) (not (has_open_child h n)) m in aborted w.0 (sym (abort_at h n) ∙ v.0) (child_closed h n v.1)
+  by_cause c (inr m) = let v = and_parts (at is_merging h n) (is_owing h n) m in projection_failed w.0 v.0 (owes h n v.1)
+
+  by_terminal : (t : Terminal) → failing_allowed h n t ≡ true → IsAllowed nothing_kept h (End n t)
+  by_terminal Completed m = absurd (false≢true m)
+  by_terminal (Error c) m = by_cause c (either (at has_source h n && not (has_open_child h n)) (at is_merging h n && is_owing h n) m)
+
+  by_kind : (at is_leaf h n ≡ true) ⊎ (failing_allowed h n t ≡ true) → IsAllowed nothing_kept h (End n t)
+  by_kind (inl m) = leaf_ended w.0 m
+  by_kind (inr m) = by_terminal t m
+
+failing : (h : List Event) (n c : ℕ) → is_open h n ≡ true → failure_allowed h n ≡ true → end_allowed h n (Error c) ≡ true
+unfolding end_allowed
+failing h n c o e = both (is_open h n) (at is_leaf h n || failing_allowed h n (Error c)) o (right (at is_leaf h n) (failure_allowed h n) e)
+
+end_may_of : (h : List Event) (n : ℕ) (t : Terminal) → IsAllowed nothing_kept h (End n t) → end_allowed h n t ≡ true
+unfolding end_allowed
+end_may_of h n t (leaf_ended o m) = both (is_open h n) (at is_leaf h n || failing_allowed h n t) o (left (at is_leaf h n) (failing_allowed h n t) m)
+end_may_of h n (Error c) (aborted o m closed) =
+    failing h n c o (left (at has_source h n && not (has_open_child h n)) (at is_merging h n && is_owing h n)
+    (both (at has_source h n) (not (has_open_child h n)) (abort_at h n ∙ m) (no_child_open h n closed)))
+end_may_of h n (Error c) (projection_failed o m w) =
+    failing h n c o (right (at has_source h n && not (has_open_child h n))
+    (at is_merging h n && is_owing h n) (both (at is_merging h n) (is_owing h n) m (is_owed h n w)))
+
+close_may : (h : List Event) (n : ℕ) → close_allowed h n ≡ true → IsAllowed nothing_kept h (Close n)
+unfolding close_allowed
+close_may h n e = by_kind (either (at is_root h n) (option_map_or (at is_manual_hub h) (hub_connected_at h n) false) w.1) where
+  w : (is_open h n ≡ true) × ((at is_root h n || option_map_or (at is_manual_hub h) (hub_connected_at h n) false) ≡ true)
+  w = and_parts (is_open h n) (at is_root h n || option_map_or (at is_manual_hub h) (hub_connected_at h n) false) e
+
+  by_hub : (o : Option ℕ) → hub_connected_at h n ≡ o → option_map_or (at is_manual_hub h) o false ≡ true → IsAllowed nothing_kept h (Close n)
+  by_hub None is m = absurd (false≢true m)
+  by_hub (Some g) is m = disconnected w.0 (connection_at h n g is) m
+
+  by_kind : (at is_root h n ≡ true) ⊎ (option_map_or (at is_manual_hub h) (hub_connected_at h n) false ≡ true) → IsAllowed nothing_kept h (Close n)
+  by_kind (inl m) = root_closed w.0 m
+  by_kind (inr m) = by_hub (hub_connected_at h n) refl m
+
+close_may_of : (h : List Event) (n : ℕ) → IsAllowed nothing_kept h (Close n) → close_allowed h n ≡ true
+unfolding close_allowed
+close_may_of h n (root_closed o m) =
+    both (is_open h n) (at is_root h n || option_map_or (at is_manual_hub h) (hub_connected_at h n) false) o
+    (left (at is_root h n) (option_map_or (at is_manual_hub h) (hub_connected_at h n) false) m)
+close_may_of h n (disconnected {g = g} o at_n m) =
+    both (is_open h n) (at is_root h n || option_map_or (at is_manual_hub h) (hub_connected_at h n) false) o
+    (right (at is_root h n) (option_map_or (at is_manual_hub h) (hub_connected_at h n) false)
+    (ap (λ o. option_map_or (at is_manual_hub h) o false) (at_connection h n g at_n) ∙ m))
+
+connect_may : (h : List Event) (g : ℕ) → connect_allowed h g ≡ true → IsAllowed nothing_kept h (Connect g)
+unfolding connect_allowed most_nodes
+connect_may h g e =
+    let a = and_parts (at is_manual_hub h g && not (has_key (open_connected h) h g)) (nat_lt (length (open_nodes h)) 1048576) e in
+    let b = and_parts (at is_manual_hub h g) (not (has_key (open_connected h) h g)) a.0 in
+    connected b.0 (filter_none (λ n. at (is_connect_of g) h n && is_open h n) (places h)
+    (sym (connected_key h g) ∙ not_not (has_key (open_connected h) h g) b.1)) (ltb-true (length (open_nodes h)) 1048576 a.1)
+
+connect_may_of : (h : List Event) (g : ℕ) → IsAllowed nothing_kept h (Connect g) → connect_allowed h g ≡ true
+unfolding connect_allowed most_nodes
+connect_may_of h g (connected m none few) =
+    both (at is_manual_hub h g && not (has_key (open_connected h) h g)) (nat_lt (length (open_nodes h)) 1048576)
+    (both (at is_manual_hub h g) (not (has_key (open_connected h) h g)) m
+    (is_false (has_key (open_connected h) h g) (connected_key h g ∙ none_filtered (λ n. at (is_connect_of g) h n && is_open h n) (places h) none)))
+    (lt-ltb (length (open_nodes h)) 1048576 few)
+
+decline_may : (h : List Event) (f : ℕ) → decline_allowed h f ≡ true → IsAllowed nothing_kept h (Decline f)
+unfolding decline_allowed
+decline_may h f e = let a = and_parts (is_open h f && at is_merging h f) (is_owing h f) e in
+    let b = and_parts (is_open h f) (at is_merging h f) a.0 in declined b.0 b.1 (owes h f a.1)
+
+decline_may_of : (h : List Event) (f : ℕ) → IsAllowed nothing_kept h (Decline f) → decline_allowed h f ≡ true
+unfolding decline_allowed
+decline_may_of h f (declined o m w) = both (is_open h f && at is_merging h f) (is_owing h f) (both (is_open h f) (at is_merging h f) o m) (is_owed h f w)
+
+hub_may : (h : List Event) (mode : Mode) → nat_lt (length (hubs h)) 1024 ≡ true → IsAllowed nothing_kept h (Hub mode)
+unfolding most_hubs
+hub_may h mode e = published (ltb-true (length (hubs h)) 1024 e)
+
+hub_may_of : (h : List Event) (mode : Mode) → IsAllowed nothing_kept h (Hub mode) → nat_lt (length (hubs h)) 1024 ≡ true
+unfolding most_hubs
+hub_may_of h mode (published few) = lt-ltb (length (hubs h)) 1024 few
+
+pub simply_may : (h : List Event) (e : Event) → allowed_simply h e ≡ true → IsAllowed nothing_kept h e
+simply_may h (Hub mode) e = hub_may h mode e
+simply_may h (Connect g) e = connect_may h g e
+simply_may h (Accept n tag) e = accepted e
+simply_may h (Use r) e = used e
+simply_may h (Remove r) e = removed e
+simply_may h (Lease r) e = leased e
+simply_may h (Return l) e = returned e
+simply_may h (Decline f) e = decline_may h f e
+simply_may h (End n t) e = end_may h n t e
+simply_may h (Close n) e = close_may h n e
+simply_may h (Take r) e = taken e
+simply_may h (Open place kind) e = absurd (false≢true e)
+simply_may h (Item l v) e = absurd (false≢true e)
+
+pub simply_may_of : (h : List Event) (e : Event) → ((place : Place) (kind : Kind) → e ≡ Open place kind → ⊥)
+    → ((l : ℕ) (v : ℤ) → e ≡ Item l v → ⊥) → IsAllowed nothing_kept h e → allowed_simply h e ≡ true
+simply_may_of h (Hub mode) no_open no_item a = hub_may_of h mode a
+simply_may_of h (Connect g) no_open no_item a = connect_may_of h g a
+simply_may_of h (Accept n tag) no_open no_item (accepted o) = o
+simply_may_of h (Use r) no_open no_item (used o) = o
+simply_may_of h (Remove r) no_open no_item (removed o) = o
+simply_may_of h (Lease r) no_open no_item (leased o) = o
+simply_may_of h (Return l) no_open no_item (returned o) = o
+simply_may_of h (Decline f) no_open no_item a = decline_may_of h f a
+simply_may_of h (End n t) no_open no_item a = end_may_of h n t a
+simply_may_of h (Close n) no_open no_item a = close_may_of h n a
+simply_may_of h (Take r) no_open no_item (taken o) = o
+simply_may_of h (Open place kind) no_open no_item a = absurd (no_open place kind refl)
+simply_may_of h (Item l v) no_open no_item a = absurd (no_item l v refl)
+
+-- openings -----------------------------------------------------------------------------------------------
+
+all_at : (q : ℕ → Bool) (xs : List ℕ) (a : ℕ) → list_all q xs ≡ true → list_any (λ x. a == x) xs ≡ true → q a ≡ true
+all_at q [] a all any = absurd (false≢true any)
+all_at q (x ∷ xs) a all any = by_first (all_at q xs a w.1) (either (a == x) (list_any (λ x. a == x) xs) any) where
+  w : (q x ≡ true) × (list_all q xs ≡ true)
+  w = and_parts (q x) (list_all q xs) all
+
+  by_first : (list_any (λ x. a == x) xs ≡ true → q a ≡ true) → ((a == x) ≡ true) ⊎ (list_any (λ x. a == x) xs ≡ true) → q a ≡ true
+  by_first rest (inl m) = rw (eqb-true a x m) w.0
+  by_first rest (inr m) = rest m
+
+all_of : (q : ℕ → Bool) (xs : List ℕ) → ((a : ℕ) → list_any (λ x. a == x) xs ≡ true → q a ≡ true) → list_all q xs ≡ true
+all_of q [] each = refl
+all_of q (x ∷ xs) each =
+    both (q x) (list_all q xs) (each x (left (x == x) (list_any (λ y. x == y) xs) (eq-eqb x x refl)))
+    (all_of q xs (λ a m. each a (right (a == x) (list_any (λ y. a == y) xs) m)))
+
+in_order_at : (h : List Event) (g p : ℕ) → is_in_order_at h g p ≡ true → IsInOrderAt h g p
+unfolding is_in_order_at
+in_order_at h g p e a k within at_a =
+    ltb-true g k (sym (ap (λ o. option_map_or (λ k. nat_lt g k) o true) (at_connection h a k at_a)) ∙ all_at (connects_later h g) (ancestors h p) a e within)
+
+in_order_at_of : (h : List Event) (g p : ℕ) → IsInOrderAt h g p → is_in_order_at h g p ≡ true
+unfolding is_in_order_at
+in_order_at_of h g p order = all_of (connects_later h g) (ancestors h p) (λ a within. by_hub a within (hub_connected_at h a) refl) where
+  by_hub : (a : ℕ) → list_any (λ x. a == x) (ancestors h p) ≡ true → (o : Option ℕ)
+      → hub_connected_at h a ≡ o → option_map_or (λ k. nat_lt g k) (hub_connected_at h a) true ≡ true
+  by_hub a within None is = ap (λ o. option_map_or (λ k. nat_lt g k) o true) is
+  by_hub a within (Some k) is = ap (λ o. option_map_or (λ k. nat_lt g k) o true) is ∙ lt-ltb g k (order a k within (connection_at h a k is))
+
+in_order : (h : List Event) (g : ℕ) (place : Place) → is_in_order h g place ≡ true → IsInOrder h g place
+in_order h g Root e = tt
+in_order h g (Source p) e = in_order_at h g p e
+in_order h g (Inner p) e = in_order_at h g p e
+in_order h g (Notifier p) e = in_order_at h g p e
+
+in_order_of : (h : List Event) (g : ℕ) (place : Place) → IsInOrder h g place → is_in_order h g place ≡ true
+in_order_of h g Root o = refl
+in_order_of h g (Source p) o = in_order_at_of h g p o
+in_order_of h g (Inner p) o = in_order_at_of h g p o
+in_order_of h g (Notifier p) o = in_order_at_of h g p o
+
+hubbed : (h : List Event) (place : Place) (kind : Kind) → is_hubbed h place kind ≡ true → IsHubbed h place kind
+hubbed h place (Sub g) e = let w = and_parts (at makes_hub h g) (is_in_order h g place) e in (w.0, in_order h g place w.1)
+hubbed h place Leaf e = tt
+hubbed h place Pass e = tt
+hubbed h place Flat e = tt
+hubbed h place Switch e = tt
+hubbed h place Until e = tt
+
+hubbed_of : (h : List Event) (place : Place) (kind : Kind) → IsHubbed h place kind → is_hubbed h place kind ≡ true
+hubbed_of h place (Sub g) o = both (at makes_hub h g) (is_in_order h g place) o.0 (in_order_of h g place o.1)
+hubbed_of h place Leaf o = refl
+hubbed_of h place Pass o = refl
+hubbed_of h place Flat o = refl
+hubbed_of h place Switch o = refl
+hubbed_of h place Until o = refl
+
+free : (h : List Event) (place : Place) → is_free h place ≡ true → IsFree nothing_kept h place
+free h Root e = tt
+free h (Source p) e = let a = and_parts (is_open h p && at has_source h p) (not (list_any (is_source_of p) h)) e in
+    let b = and_parts (is_open h p) (at has_source h p) a.0 in (b.0, b.1, not_not (list_any (is_source_of p) h) a.1)
+free h (Inner p) e = let a = and_parts (is_open h p && at is_merging h p) (is_owing h p) e in
+    let b = and_parts (is_open h p) (at is_merging h p) a.0 in (b.0, b.1, owes h p a.1)
+free h (Notifier p) e = let a = and_parts (is_open h p && at is_until h p) (not (list_any (is_notifier_of p) h)) e in
+    let b = and_parts (is_open h p) (at is_until h p) a.0 in (b.0, b.1, not_not (list_any (is_notifier_of p) h) a.1)
+
+free_of : (h : List Event) (place : Place) → IsFree nothing_kept h place → is_free h place ≡ true
+free_of h Root o = refl
+free_of h (Source p) o =
+    both (is_open h p && at has_source h p) (not (list_any (is_source_of p) h))
+    (both (is_open h p) (at has_source h p) o.0 o.1) (is_false (list_any (is_source_of p) h) o.2)
+free_of h (Inner p) o = both (is_open h p && at is_merging h p) (is_owing h p) (both (is_open h p) (at is_merging h p) o.0 o.1) (is_owed h p o.2)
+free_of h (Notifier p) o =
+    both (is_open h p && at is_until h p) (not (list_any (is_notifier_of p) h))
+    (both (is_open h p) (at is_until h p) o.0 o.1) (is_false (list_any (is_notifier_of p) h) o.2)
+
+pub open_may : (h : List Event) (place : Place) (kind : Kind) → open_allowed h place kind ≡ true
+    → ((g : ℕ) → IsConnectDue (h ++ Open place kind ∷ []) g → length (open_nodes h) + 2 ≤ 1048576) → IsAllowed nothing_kept h (Open place kind)
+unfolding open_allowed most_nodes
+open_may h place kind e fits =
+    let a = and_parts (is_free h place && is_hubbed h place kind) (nat_lt (length (open_nodes h)) 1048576) e in
+    let b = and_parts (is_free h place) (is_hubbed h place kind) a.0 in
+    let few = ltb-true (length (open_nodes h)) 1048576 a.1 in
+    opened (free h place b.0) (hubbed h place kind b.1) (omega arith) fits
+
+pub open_may_of : (h : List Event) (place : Place) (kind : Kind) → IsAllowed nothing_kept h (Open place kind) → open_allowed h place kind ≡ true
+unfolding open_allowed most_nodes
+open_may_of h place kind (opened f o few fits) =
+    both (is_free h place && is_hubbed h place kind) (nat_lt (length (open_nodes h)) 1048576)
+    (both (is_free h place) (is_hubbed h place kind) (free_of h place f) (hubbed_of h place kind o)) (lt-ltb (length (open_nodes h)) 1048576 (omega arith))
+
+pub open_fits : (h : List Event) (place : Place) (kind : Kind) → IsAllowed nothing_kept h (Open place kind)
+    → (g : ℕ) → IsConnectDue (h ++ Open place kind ∷ []) g → length (open_nodes h) + 2 ≤ 1048576
+unfolding most_nodes
+open_fits h place kind (opened f o few fits) = fits
+
+pub open_free : (h : List Event) (place : Place) (kind : Kind) → open_allowed h place kind ≡ true → IsFree nothing_kept h place
+unfolding open_allowed
+open_free h place kind e =
+    let a = and_parts (is_free h place && is_hubbed h place kind) (nat_lt (length (open_nodes h)) 1048576) e in
+    free h place (and_parts (is_free h place) (is_hubbed h place kind) a.0).0
+
+-- as many nodes are open as are marked
+marks_counted : (f : ℕ → Bool) (ms : List Bool) (m from : ℕ) → m ≤ length ms → ((n k : ℕ) → k ≡ from + n → get_or ms n false ≡ f k)
+    → ((k : ℕ) → from + m ≤ k → f k ≡ false) → mark_count ms ≡ count_by f (range_with_len from m)
+marks_counted f [] zero from l same none = refl
+marks_counted f [] (suc m) from l same none = absurd (omega arith)
+marks_counted f (x ∷ ms) zero from l same none =
+    let unmarked : x ≡ false = same zero from (omega arith) ∙ none from (omega arith) in
+    let rest : mark_count ms ≡ 0 = marks_counted f ms zero (from + 1) (omega arith) (λ n k e. same (suc n) k (omega arith)) (λ k m. none k (omega arith)) in
+    let first : cond {A = ℕ} x 1 0 ≡ 0 = ap (λ b. cond {A = ℕ} b 1 0) unmarked in
+    let s = sum_by-cons (λ (b : Bool). cond {A = ℕ} b 1 0) x ms in
+    omega arith
+marks_counted f (x ∷ ms) (suc m) from l same none =
+    let rest = marks_counted f ms m (from + 1) (omega arith) (λ n k e. same (suc n) k (omega arith)) (λ k le. none k (omega arith)) in
+    let first : cond {A = ℕ} x 1 0 ≡ cond {A = ℕ} (f from) 1 0 = ap (λ b. cond {A = ℕ} b 1 0) (same zero from (omega arith)) in
+    let s = sum_by-cons (λ (b : Bool). cond {A = ℕ} b 1 0) x ms in
+    let t : count_by f (range_with_len from (suc m)) ≡ cond {A = ℕ} (f from) 1 0 + count_by f (range_with_len (from + 1) m) =
+    sum_by-cons (λ (k : ℕ). cond {A = ℕ} (f k) 1 0) from (range_with_len (from + 1) m) in
+    omega arith
+
+pub open_counted : (h : List Event) (ms : List Bool) → IsMarked ms (is_open h) → length h ≤ length ms → mark_count ms ≡ length (open_nodes h)
+open_counted h ms tied room =
+    marks_counted (is_open h) ms (length h) 0 room (λ n k e. let same : k ≡ n = omega arith in tied n ∙ ap (is_open h) (sym same))
+    (λ k m. is_open_past h k (omega arith))
+    ∙ sym (length-filter (is_open h) (places h))

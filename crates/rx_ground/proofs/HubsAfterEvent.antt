@@ -1,0 +1,257 @@
+-- The hubs of a history, before and after an event that is written.
+use Rattle.std.proofs.Common.{◌≡◌, ℕ, ◌+◌, ◌<◌, Bool, true, false, List, [], ◌∷◌, ◌++◌, map, length, Option, Some, None}
+use Rattle.std.proofs.Common.{◌≢◌, is_some, nat_lt, IsTrue, IsSome, IfSome, IfNone, option_map, slice_get, refl, sym, ap, subst, ◌∙◌, inl, inr, ◌⊎◌, arith}
+use Rattle.std.specs.Option.{option_map_or, option_to_list}
+use Rattle.std.specs.List.{AllByRecursion, AllPairs, Contains}
+use Rattle.std.proofs.lemmas.Bool.{false≢true, lt-ltb, ltb-true, ltb_from_iff}
+use Rattle.std.proofs.lemmas.List.{length-map}
+use Rattle.std.proofs.lemmas.List.Sums.{length-filter}
+use Rattle.std.proofs.lemmas.Option.{slice_get_within, slice_get-get_or, get_or_from_slice_get}
+use Rattle.rx_event.specs.Kept.{Kept}
+use Rattle.rx_resource.specs.declared.Resource.{Ghosts}
+use Rattle.rx_event.specs.declared.event.Mode.{Mode}
+use Rattle.rx_event.specs.declared.event.Event.{Event}
+use Rattle.rx_event.specs.declared.event.Event.TheVariants.{Hub as Publish, Connect}
+use Rattle.rx_event.specs.declared.marks.Marks.{Marks}
+use Rattle.rx_event.specs.Events.{makes_hub, is_auto_hub}
+use Rattle.rx_event.specs.Allowed.{most_hubs}
+use Rattle.rx_event.specs.Lawful.{MayFollow, IsLawful}
+use Rattle.rx_event.specs.Tree.{at, places, hubs as hubs_in}
+use Rattle.rx_event.proofs.Laws.Openness.{shuts_none}
+use Rattle.rx_event.proofs.Laws.Places.{at_within}
+use Rattle.rx_slots.specs.declared.Key.{Key}
+use Rattle.rx_slots.specs.Slots.{Slots, find}
+use Rattle.rx_tree.specs.declared.node.Node.{Node}
+use Rattle.rx_tree.specs.Tree.{Tree}
+use Rattle.rx_hub.specs.declared.hub.LastEnd.{LastEnd}
+use Rattle.rx_hub.specs.declared.hub.Published.{Published}
+use Rattle.rx_hub.specs.After.{joins_hubs, hubs_after}
+use Rattle.rx_hub.specs.Closing.{without_gone}
+use Rattle.rx_hub.specs.Hubs.{Hub, Hubs, IsPromised, find_hub, at_hub, connected, new_hub, published_of}
+use Rattle.rx_hub.specs.Records.{IsHubOf, AreHubsOf, numbers}
+use Rattle.rx_hub.proofs.Laws.AfterAll.{hubs_follow, pushed_from}
+use Rattle.rx_hub.proofs.Laws.AfterCases.{closes_none, hubs_stay, hubs_published, hubs_connected}
+use Rattle.rx_hub.proofs.Laws.Walks.{found_hub}
+use Rattle.rx_event.specs.Causes.{has_connection}
+use Rattle.rx_register.specs.State.{State, Writes}
+use Rattle.rx_ground.specs.Told.{IsHubTold}
+use Rattle.rx_ground.specs.Ties.{IsTied, AreTied, AreJoined, KeepsNodes, Remarks}
+use Rattle.rx_ground.proofs.HubsBesideTree.{joined_without, joined_still, joined_found, joined_connected, found_named}
+use Rattle.rx_ground.proofs.StaysTied.{still_there}
+use Rattle.rx_ground.proofs.Laws.Members.{Contains-map, Contains-from_map, All-members, AllPairs-map}
+use Rattle.rx_ground.proofs.Laws.Numbers.{ListsJust, just_counted}
+
+-- numbers -----------------------------------------------------------------------------------------
+
+-- its number is the greatest
+pub hub_is_older : (h : List Event) (hubs : List Hub) → AreHubsOf h hubs → (i : ℕ) (hub : Hub) → slice_get hubs i ≡ Some hub → hub.number < length h
+hub_is_older h hubs of i hub at_i = slice_get_within h hub.number (Publish hub.mode) (of.each i hub at_i).made
+
+-- a hub is found just where one was made ----------------------------------------------------------
+
+pub found_made : (h : List Event) (hubs : List Hub) → AreHubsOf h hubs → (g : ℕ) → is_some (find_hub hubs g) ≡ at makes_hub h g
+found_made h hubs of g = by_hub (find_hub hubs g) refl where
+  found_if : (b : Bool) → at makes_hub h g ≡ b → find_hub hubs g ≡ None → false ≡ b
+  found_if false made none = refl
+  found_if true made none =
+      let has = of.every g made in
+      absurd (false≢true (sym (ap is_some none) ∙ ap (λ (m : ℕ). is_some (find_hub hubs m)) (sym has.numbered) ∙ found_named hubs has.index has.hub has.there))
+
+  by_hub : (o : Option Hub) → find_hub hubs g ≡ o → is_some o ≡ at makes_hub h g
+  by_hub None none = found_if (at makes_hub h g) refl none
+  by_hub (Some hub) found =
+      let at_i = found_hub hubs g hub found in
+      sym (ap (at makes_hub h) (sym at_i.1.1) ∙ ap (λ o. option_map_or makes_hub o false) (of.each at_i.0 hub at_i.1.0).made)
+
+pub hub_found : (h : List Event) (hubs : List Hub) → AreHubsOf h hubs → (g : ℕ) → is_some (option_map published_of (find_hub hubs g)) ≡ at makes_hub h g
+hub_found h hubs of g = mapped (find_hub hubs g) ∙ found_made h hubs of g where
+  mapped : (o : Option Hub) → is_some (option_map published_of o) ≡ is_some o
+  mapped None = refl
+  mapped (Some hub) = refl
+
+-- what is kept of it ------------------------------------------------------------------------------
+
+-- a connection is kept just where one is open
+pub connection_kept : (h : List Event) (hub : Hub) → IsHubOf h hub → is_some hub.connection ≡ has_connection h hub.number
+connection_kept h hub is = by_key hub.connection ∙ ap (λ (ns : List ℕ). nat_lt 0 (length ns)) is.connection where
+  by_key : (o : Option Key) → is_some o ≡ nat_lt 0 (length (numbers (option_to_list o)))
+  by_key None = refl
+  by_key (Some key) = refl
+
+hub_told : (h : List Event) (hub : Hub) → IsHubOf h hub → (g : ℕ) → hub.number ≡ g → IsHubTold h g (published_of hub)
+hub_told h hub is g same = subst (λ (n : ℕ). IsHubTold h n (published_of hub)) same (record { made = is.made; connection = connection_kept h hub is })
+
+-- what is found of a hub is so, and where none is found none was made
+pub hub_known : (h : List Event) (hubs : List Hub) → AreHubsOf h hubs → (g : ℕ) (o : Option Published) → o ≡ option_map published_of (find_hub hubs g) →
+    IfSome o (IsHubTold h g) × IfNone o (at makes_hub h g ≡ false)
+hub_known h hubs of g o is = subst (λ (o : Option Published). IfSome o (IsHubTold h g) × IfNone o (at makes_hub h g ≡ false)) (sym is) (by_hub (find_hub hubs g) refl) where
+  by_hub : (x : Option Hub) → find_hub hubs g ≡ x → IfSome (option_map published_of x) (IsHubTold h g) × IfNone (option_map published_of x) (at makes_hub h g ≡ false)
+  by_hub None none = (tt, sym (found_made h hubs of g) ∙ ap is_some none)
+  by_hub (Some hub) found = let at_i = found_hub hubs g hub found in (hub_told h hub (of.each at_i.0 hub at_i.1.0) g at_i.1.1, tt)
+
+pub no_auto_hub : (h : List Event) (g : ℕ) → at makes_hub h g ≡ false → at is_auto_hub h g ≡ false
+no_auto_hub h g none = by_place (slice_get h g) none where
+  by_event : (e : Event) → makes_hub e ≡ false → is_auto_hub e ≡ false
+  by_event (Publish mode) unmade = absurd (false≢true (sym unmade))
+  by_event _ unmade = refl
+
+  by_place : (o : Option Event) → option_map_or makes_hub o false ≡ false → option_map_or is_auto_hub o false ≡ false
+  by_place None unmade = refl
+  by_place (Some e) unmade = by_event e unmade
+
+-- there are as many as were made ------------------------------------------------------------------
+
+pub hubs_counted : (h : List Event) (s : Hubs) → IsPromised s → AreHubsOf h s.hubs → length s.hubs ≡ length (hubs_in h)
+hubs_counted h s promised of =
+    sym (length-map s.hubs number) ∙ just_counted (at makes_hub h) (map number s.hubs) (length h) just (at_within makes_hub h) ∙
+    sym (length-filter (at makes_hub h) (places h))
+  where
+    number : Hub → ℕ
+    number hub = hub.number
+
+    made : (hub : Hub) → Contains s.hubs hub → at makes_hub h (number hub) ≡ true
+    made hub c =
+        let at_i = slice_get-get_or s.hubs c.0 hub c.1 ∙ ap (λ (x : Hub). Some x) c.2 in
+        ap (λ o. option_map_or makes_hub o false) (of.each c.0 hub at_i).made
+
+    each : (n : ℕ) → Contains (map number s.hubs) n → at makes_hub h n ≡ true
+    each n c = let m = Contains-from_map number s.hubs n c in ap (at makes_hub h) (sym m.2) ∙ made m.0 m.1
+
+    every : (n : ℕ) → at makes_hub h n ≡ true → Contains (map number s.hubs) n
+    every n is =
+        let has = of.every n is in
+        let there : Contains s.hubs has.hub = (has.index, slice_get_within s.hubs has.index has.hub has.there, get_or_from_slice_get s.hubs has.index has.hub has.hub has.there) in
+        subst (Contains (map number s.hubs)) has.numbered (Contains-map number s.hubs has.hub there)
+
+    apart : AllPairs (λ a b. number a ≢ number b) s.hubs
+    apart i j d before within same =
+        let at_i = slice_get-get_or s.hubs i d (omega arith) in
+        let at_j = slice_get-get_or s.hubs j d within in
+        absurd (let l = promised.rising i j _ _ at_i at_j before in omega arith)
+
+    just : ListsJust (at makes_hub h) (map number s.hubs)
+    just = record {
+      each = All-members (λ n. IsTrue (at makes_hub h n)) (map number s.hubs) each;
+      every = every;
+      once = AllPairs-map number (λ m n. m ≢ n) s.hubs apart;
+    }
+
+most_is : most_hubs ≡ 1023 + 1
+unfolding most_hubs
+most_is = omega arith
+
+one_more : (most less count n : ℕ) → most ≡ less + 1 → count ≡ n → nat_lt less count ≡ nat_lt most (n + 1)
+one_more most less count n limit same = ltb_from_iff (λ over. let l = ltb-true less count over in omega arith, λ over. lt-ltb less count (omega arith))
+
+-- beside 1,023 others there may be one more
+pub too_many : (h : List Event) (s : Hubs) → IsPromised s → AreHubsOf h s.hubs → (count : ℕ) → count ≡ length s.hubs →
+    nat_lt 1023 count ≡ nat_lt most_hubs (length (hubs_in h) + 1)
+too_many h s promised of count is = one_more most_hubs 1023 count (length (hubs_in h)) most_is (is ∙ hubs_counted h s promised of)
+
+-- ties --------------------------------------------------------------------------------------------
+
+-- the hubs after a connection of one of them
+pub connected_after : (h : List Event) (n : ℕ) (key : Key) (hubs : List Hub) → AreHubsOf h hubs → key.number ≡ length h →
+    hubs_after h (Connect n) key.slot hubs ≡ at_hub n (connected key) hubs
+connected_after h n key hubs of numbered =
+    hubs_connected h n key.slot hubs of ∙ (λ i. at_hub n (connected (record { slot = key.slot; number = sym numbered i })) hubs)
+
+module _ {T : Type 0} (g : Ghosts T) where
+  -- over the same base
+  pub rebased : {c base : Kept} {h : List Event} {tree : Tree T} {hubs : Hubs} → c ≡ base → AreTied base g h tree hubs → AreTied c g h tree hubs
+  rebased {h = h} {tree = tree} {hubs = hubs} same tied = subst (λ (b : Kept). AreTied b g h tree hubs) (sym same) tied
+
+  -- and over the register on which the events were written
+  pub tied_written : {es : List Event} {old new : State} {tree : Tree T} {hubs : Hubs} → Writes old es new →
+      AreTied old.base g (old.history ++ es) tree hubs → AreTied new.base g new.history tree hubs
+  tied_written {old = old} {tree = tree} {hubs = hubs} w tied =
+      rebased w.base (subst (λ (k : List Event). AreTied old.base g k tree hubs) (sym w.history) tied)
+
+  -- another tree of the same history with the same nodes, beside the same hubs
+  pub tied_beside : (base : Kept) → {h : List Event} {old new : Tree T} {hubs later : Hubs} → later.hubs ≡ hubs.hubs →
+      ((key : Key) → IsSome (find old.nodes key) → IsSome (find new.nodes key)) → AreTied base g h old hubs → IsTied base g h new → AreTied base g h new later
+  tied_beside base {h = h} {old = old} {new = new} {hubs = hubs} {later = later} same still was tied = record {
+    of_tree = tied;
+    published = subst (AreHubsOf h) (sym same) was.published;
+    joined = subst (AreJoined new.nodes) (sym same) (joined_still h old.nodes new.nodes hubs.hubs was.published (λ key some alive. still key some) was.joined);
+  }
+
+  -- a tree after one more event, which closes no node and makes none, and no hub
+  pub tied_on : (base : Kept) → {h k : List Event} {old new : Tree T} {hubs : Hubs} (e : Event) → IsLawful base h → MayFollow base h e →
+      AreTied base g h old hubs → k ≡ h ++ e ∷ [] →
+      joins_hubs e ≡ false → shuts_none e ≡ true → ((key : Key) → IsSome (find old.nodes key) → IsSome (find new.nodes key)) →
+      IsTied base g k new → AreTied base g k new hubs
+  tied_on base {h = h} {k = k} {old = old} {new = new} {hubs = hubs} e law next was grown joins shuts still tied = record {
+    of_tree = tied;
+    published = of;
+    joined = joined_still k old.nodes new.nodes hubs.hubs of (λ key some alive. still key some) was.joined;
+  }
+    where
+      of : AreHubsOf k hubs.hubs
+      of = subst (λ (j : List Event). AreHubsOf j hubs.hubs) (sym grown) (hubs_stay base h e hubs.hubs law next was.published joins (closes_none h e shuts))
+
+  -- with the nodes as they were
+  pub tied_on_same : (base : Kept) → {h k : List Event} {old new : Tree T} {hubs : Hubs} (e : Event) → IsLawful base h → MayFollow base h e →
+      AreTied base g h old hubs → k ≡ h ++ e ∷ [] →
+      joins_hubs e ≡ false → shuts_none e ≡ true → new.nodes ≡ old.nodes → IsTied base g k new → AreTied base g k new hubs
+  tied_on_same base e law next was grown joins shuts same tied =
+      tied_on base e law next was grown joins shuts (λ key some. ap (λ (nodes : Slots Node). is_some (find nodes key)) same ∙ some) tied
+
+  -- and with the marks of one changed
+  pub tied_on_marked : (base : Kept) → {h k : List Event} {old new : Tree T} {hubs : Hubs} (e : Event) → IsLawful base h → MayFollow base h e →
+      AreTied base g h old hubs → k ≡ h ++ e ∷ [] →
+      joins_hubs e ≡ false → shuts_none e ≡ true → (u : Key) (change : Marks → Marks) → Remarks old new u change → IsTied base g k new →
+      AreTied base g k new hubs
+  tied_on_marked base e law next was grown joins shuts u change marked tied =
+      tied_on base e law next was grown joins shuts (λ key some. still_there u marked.nodes key some) tied
+
+  -- after one that closes nodes, which leave the hubs
+  pub tied_closed : (base : Kept) → {h k : List Event} {old new : Tree T} {hubs later : Hubs} (e : Event) (gone : Key → Bool) (ended : Option LastEnd) → IsLawful base h → MayFollow base h e →
+      AreTied base g h old hubs → k ≡ h ++ e ∷ [] → hubs_after h e 0 hubs.hubs ≡ map (without_gone gone ended) hubs.hubs →
+      later.hubs ≡ map (without_gone gone ended) hubs.hubs → KeepsNodes k old.nodes new.nodes → IsTied base g k new → AreTied base g k new later
+  tied_closed base {h = h} {k = k} {old = old} {new = new} {hubs = hubs} {later = later} e gone ended law next was grown after left kept tied = record {
+    of_tree = tied;
+    published = of;
+    joined = joined_still k old.nodes new.nodes later.hubs of kept.still
+        (subst (AreJoined old.nodes) (sym left) (joined_without old.nodes gone ended hubs.hubs was.joined));
+  }
+    where
+      of : AreHubsOf k later.hubs
+      of = subst (λ (j : List Event). AreHubsOf j later.hubs) (sym grown)
+          (subst (AreHubsOf (h ++ e ∷ [])) (after ∙ sym left) (hubs_follow base h e 0 hubs.hubs law next was.published))
+
+  -- after one that makes a connection, which its hub has from then on
+  pub tied_connected : (base : Kept) → {h : List Event} {old new : Tree T} {hubs later : Hubs} (n : ℕ) (key : Key) → IsLawful base h → MayFollow base h (Connect n) → AreTied base g h old hubs →
+      key.number ≡ length h → later.hubs ≡ at_hub n (connected key) hubs.hubs → ((k : Key) → IsSome (find old.nodes k) → IsSome (find new.nodes k)) →
+      IsSome (find new.nodes key) → IsTied base g (h ++ Connect n ∷ []) new → AreTied base g (h ++ Connect n ∷ []) new later
+  tied_connected base {h = h} {old = old} {new = new} {hubs = hubs} n key law next was numbered made still there tied = record {
+    of_tree = tied;
+    published = subst (AreHubsOf (h ++ Connect n ∷ [])) (connected_after h n key hubs.hubs was.published numbered ∙ sym made)
+        (hubs_follow base h (Connect n) key.slot hubs.hubs law next was.published);
+    joined = subst (AreJoined new.nodes) (sym made)
+        (joined_connected new.nodes key n hubs.hubs there (joined_found old.nodes new.nodes hubs.hubs still was.joined));
+  }
+
+  -- and after one that makes this hub
+  pub tied_published : (base : Kept) → {h : List Event} {old : Tree T} {hubs new : Hubs} (mode : Mode) → IsLawful base h → MayFollow base h (Publish mode) →
+      AreTied base g h old hubs →
+      IsTied base g (h ++ Publish mode ∷ []) old → new.hubs ≡ hubs.hubs ++ new_hub (length h) mode ∷ [] → AreTied base g (h ++ Publish mode ∷ []) old new
+  tied_published base {h = h} {old = old} {hubs = hubs} {new = new} mode law next was tied added = record {
+    of_tree = tied;
+    published = subst (AreHubsOf (h ++ Publish mode ∷ [])) (hubs_published h mode 0 hubs.hubs was.published ∙ sym added)
+        (hubs_follow base h (Publish mode) 0 hubs.hubs law next was.published);
+    joined = record {
+      subscribers = λ i hub at_i. by_place i hub (pushed_from hubs.hubs (new_hub (length h) mode) hub i (ap (λ (hs : List Hub). slice_get hs i) (sym added) ∙ at_i));
+      connection = λ i hub at_i. by_place_too i hub (pushed_from hubs.hubs (new_hub (length h) mode) hub i (ap (λ (hs : List Hub). slice_get hs i) (sym added) ∙ at_i));
+    };
+  }
+    where
+      by_place : (i : ℕ) (hub : Hub) → (slice_get hubs.hubs i ≡ Some hub) ⊎ (new_hub (length h) mode ≡ hub) →
+          AllByRecursion (λ key. IsSome (find old.nodes key)) hub.subscribers
+      by_place i hub (inl before) = was.joined.subscribers i hub before
+      by_place i hub (inr same) = subst (λ (x : Hub). AllByRecursion (λ key. IsSome (find old.nodes key)) x.subscribers) same tt
+
+      by_place_too : (i : ℕ) (hub : Hub) → (slice_get hubs.hubs i ≡ Some hub) ⊎ (new_hub (length h) mode ≡ hub) →
+          IfSome hub.connection (λ key. IsSome (find old.nodes key))
+      by_place_too i hub (inl before) = was.joined.connection i hub before
+      by_place_too i hub (inr same) = subst (λ (x : Hub). IfSome x.connection (λ key. IsSome (find old.nodes key))) same tt

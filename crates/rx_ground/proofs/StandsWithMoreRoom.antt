@@ -1,0 +1,149 @@
+-- A ground that has just been made stands, and one that stands does so with more room.
+use Rattle.std.proofs.Common.{◌≡◌, ℕ, List, [], get_or, slice_get, Option, None, sym, ap, subst, ◌∙◌, arith, is_some}
+use Rattle.std.proofs.lemmas.Bool.{both_ways, false≢true}
+use Rattle.std.proofs.lemmas.Option.{none-some}
+use Rattle.rx_event.specs.Kept.{Kept}
+use Rattle.rx_resource.specs.declared.Resource.{Ghosts}
+use Rattle.rx_event.specs.declared.event.Event.{Event}
+use Rattle.rx_event.specs.Tree.{is_open}
+use Rattle.rx_event.specs.Totals.{debt, open_count}
+use Rattle.rx_event.specs.Forced.{IsSettled, MayWait}
+use Rattle.rx_event.proofs.Laws.Openness.{is_open_past}
+use Rattle.rx_slots.specs.declared.Entry.{Entry}
+use Rattle.rx_slots.specs.declared.Key.{Key}
+use Rattle.rx_slots.specs.Slots.{Slots, find, with_number}
+use Rattle.rx_tree.specs.declared.node.Node.{Node}
+use Rattle.rx_tree.specs.declared.node.ResKey.{ResKey}
+use Rattle.rx_tree.specs.declared.node.Stowed.{Stowed}
+use Rattle.rx_tree.specs.Resources.{store_key}
+use Rattle.rx_tree.specs.Tree.{Tree, is_on}
+use Rattle.rx_register.specs.State.{State as Register}
+use Rattle.rx_register.proofs.Laws.Empty.{settled_empty, paid_empty}
+use Rattle.rx_ground.specs.Shown.{Ground}
+use Rattle.rx_hub.specs.Hubs.{Hub, Hubs}
+use Rattle.rx_ground.specs.Ties.{HasKey, AreRecords, IsStored, IsTied, AreTied, AreLeased, IsStanding, IsRoomier}
+use Rattle.rx_ground.proofs.Leases.{leased_empty, leased_same}
+use Rattle.rx_ground.proofs.HubsAfterEvent.{tied_beside}
+
+-- slots of the same entries find the same
+same_finds : {X : Type 0} (old new : Slots X) → new.entries ≡ old.entries → (key : Key) → find new key ≡ find old key
+same_finds {X = X} old new same key = ap (λ (es : List (Option (Entry X))). with_number key.number (get_or es key.slot None)) same
+
+has_still : {X : Type 0} (old new : Slots X) → new.entries ≡ old.entries → (n : ℕ) → HasKey old n → HasKey new n
+has_still old new same n has = record { key = has.key; value = has.value; found = same_finds old new same has.key ∙ has.found; numbered = has.numbered }
+
+-- and those of none find nothing
+none_found : {X : Type 0} (slots : Slots X) → slots.entries ≡ [] → (key : Key) → find slots key ≡ None
+none_found {X = X} slots empty key = ap (λ (es : List (Option (Entry X))). with_number key.number (get_or es key.slot None)) empty
+
+module _ {T : Type 0} (g : Ghosts T) where
+  tied_empty : (base : Kept) → (tree : Tree T) → tree.nodes.entries ≡ [] → tree.resources.entries ≡ [] → IsTied base g [] tree
+  tied_empty base tree nodes resources = record {
+    records = record {
+      each = λ key node found. absurd (none-some node (sym (none_found tree.nodes nodes key) ∙ found));
+      every = λ n alive. absurd (both_ways (is_open [] n) (is_open_past [] n (omega arith)) alive);
+      quiet = λ key node found off. absurd (none-some node (sym (none_found tree.nodes nodes key) ∙ found));
+    };
+    stored = record {
+      each = λ key s found. absurd (none-some s (sym (none_found tree.resources resources key) ∙ found));
+      every = λ r made untaken. absurd (false≢true made);
+    };
+  }
+
+  hubs_empty : (base : Kept) → (tree : Tree T) (hubs : Hubs) → hubs.hubs ≡ [] → IsTied base g [] tree → AreTied base g [] tree hubs
+  hubs_empty base tree hubs none tied = record {
+    of_tree = tied;
+    published = record {
+      each = λ i hub at_i. absurd (none-some hub (sym (ap (λ (hs : List Hub). slice_get hs i) none) ∙ at_i));
+      every = λ n made. absurd (false≢true made);
+      subscribed = λ n s subscribes. absurd (false≢true subscribes);
+    };
+    joined = record {
+      subscribers = λ i hub at_i. absurd (none-some hub (sym (ap (λ (hs : List Hub). slice_get hs i) none) ∙ at_i));
+      connection = λ i hub at_i. absurd (none-some hub (sym (ap (λ (hs : List Hub). slice_get hs i) none) ∙ at_i));
+    };
+  }
+
+  -- a ground with no events, nodes, resources and hubs
+  pub standing_empty : (b : Ground T) → b.register.history ≡ [] → b.register.pending ≡ [] → b.tree.nodes.entries ≡ [] →
+      b.tree.resources.entries ≡ [] → b.hubs.hubs ≡ [] → b.leases.entries ≡ [] → IsStanding g b
+  standing_empty b empty told nodes resources none no_leases = record {
+    tied = subst (λ (h : List Event). AreTied b.register.base g h b.tree b.hubs) (sym empty) (hubs_empty b.register.base b.tree b.hubs none (tied_empty b.register.base b.tree nodes resources));
+    leased = leased_empty b.register.history b.tree.resources b.leases empty (none_found b.leases no_leases);
+    settled = subst (IsSettled b.register.base) (sym empty) (settled_empty b.register.base);
+    paid = paid_empty b.register empty told;
+  }
+
+  -- a tree of the same entries and chain
+  tied_same_entries : (base : Kept) → (h : List Event) (old new : Tree T) → new.nodes.entries ≡ old.nodes.entries →
+      new.resources.entries ≡ old.resources.entries →
+      new.chain ≡ old.chain → IsTied base g h old → IsTied base g h new
+  tied_same_entries base h old new nodes resources chain tied = record {
+    records = record {
+      each = λ key node found. r.each key node (sym (at_node key) ∙ found);
+      every = λ n alive. has_still old.nodes new.nodes nodes n (r.every n alive);
+      quiet = λ key node found off. r.quiet key node (sym (at_node key) ∙ found) (ap (is_on key) (sym chain) ∙ off);
+    };
+    stored = record {
+      each = λ key s found. of key.number s (tied.stored.each key s (sym (at_resource key) ∙ found));
+      every = λ n made untaken. has_still old.resources new.resources resources n (tied.stored.every n made untaken);
+    };
+  }
+    where
+      r : AreRecords base h old.nodes old.chain
+      r = tied.records
+
+      at_node : (key : Key) → find new.nodes key ≡ find old.nodes key
+      at_node = same_finds old.nodes new.nodes nodes
+
+      at_resource : (key : Key) → find new.resources key ≡ find old.resources key
+      at_resource = same_finds old.resources new.resources resources
+
+      of : (n : ℕ) (s : Stowed T) → IsStored base g h old.nodes n s → IsStored base g h new.nodes n s
+      of n s is = record {
+        made = is.made;
+        accepted = is.accepted;
+        older = is.older;
+        owned = is.owned;
+        lent = is.lent;
+        untaken = is.untaken;
+        home = λ alive. ap is_some (at_node s.node) ∙ is.home alive;
+        live = is.live;
+        few = is.few;
+        uses = is.uses;
+      }
+
+  -- a ground with more room
+  pub standing_roomier : (old new : Ground T) → IsRoomier old new → IsStanding g old → IsStanding g new
+  standing_roomier old new more s = record {
+    tied = subst (λ (r : Register). AreTied r.base g r.history new.tree new.hubs) (sym more.register) tied;
+    leased = subst (λ (h : List Event). AreLeased h new.tree.resources new.leases) (sym history) leased;
+    settled = subst (λ (r : Register). IsSettled r.base r.history) (sym more.register) s.settled;
+    paid = record {
+      waits = s.paid.waits;
+      may_wait = subst (λ (h : List Event). MayWait h s.paid.waits) (sym history) s.paid.may_wait;
+      events = let d = ap (λ (r : Register). debt r.base r.history) more.register in let e = s.paid.events in let m = more.room in omega arith;
+      notes = let o = ap (λ (h : List Event). open_count h) history in let n = s.paid.notes in let m = more.mail_room in omega arith;
+      pending = ap (λ (r : Register). r.pending) more.register ∙ s.paid.pending;
+    };
+  }
+    where
+      history : new.register.history ≡ old.register.history
+      history = ap (λ (r : Register). r.history) more.register
+
+      nodes : new.tree.nodes.entries ≡ old.tree.nodes.entries
+      nodes = ap (λ (slots : Slots Node). slots.entries) more.nodes
+
+      resources : new.tree.resources.entries ≡ old.tree.resources.entries
+      resources = ap (λ (slots : Slots (Stowed T)). slots.entries) more.resources
+
+      leases : new.leases.entries ≡ old.leases.entries
+      leases = ap (λ (slots : Slots ResKey). slots.entries) more.leases
+
+      leased : AreLeased old.register.history new.tree.resources new.leases
+      leased = leased_same old.register.history old.tree.resources old.leases s.leased new.tree.resources new.leases
+          (λ l res is. ap is_some (same_finds old.tree.resources new.tree.resources resources (store_key res)) ∙ is.stored) (same_finds old.leases new.leases leases)
+
+      tied : AreTied old.register.base g old.register.history new.tree new.hubs
+      tied = tied_beside g old.register.base (ap (λ (hubs : Hubs). hubs.hubs) more.hubs) (λ key some. ap is_some (same_finds old.tree.nodes new.tree.nodes nodes key) ∙ some) s.tied
+          (tied_same_entries old.register.base old.register.history old.tree new.tree nodes resources more.chain s.tied.of_tree)

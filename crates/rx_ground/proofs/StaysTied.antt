@@ -1,0 +1,278 @@
+-- A tree that is tied to a history is tied to the longer one, after an event is written on both.
+use Rattle.std.proofs.Common.{◌≡◌, ◌≢◌, ℕ, ◌==◌, Bool, true, false, cond, List, [], ◌∷◌, ◌++◌, length, Option, Some, None, is_some, IsSome, option_map, slice_get, refl, sym, ap, subst, ◌∙◌, inl, inr, ◌⊎◌, arith}
+use Rattle.std.proofs.Math.Bool.{not, ◌&&◌}
+use Rattle.std.specs.List.{list_any}
+use Rattle.std.proofs.lemmas.Bool.{false≢true, and_parts, eq-eqb, ne_eqb, not-true, false_from_ne_true}
+use Rattle.std.proofs.lemmas.Option.{none-some, same_Some}
+use Rattle.rx_event.specs.Kept.{Kept}
+use Rattle.rx_resource.specs.declared.Resource.{Ghosts}
+use Rattle.rx_note.specs.declared.note.Terminal.{Terminal}
+use Rattle.rx_event.specs.declared.marks.Marks.{Marks}
+use Rattle.rx_event.specs.declared.event.Place.{Place}
+use Rattle.rx_event.specs.declared.event.Place.TheVariants.{Root, Source, Inner, Notifier}
+use Rattle.rx_event.specs.declared.event.Kind.{Kind}
+use Rattle.rx_event.specs.declared.event.Event.{Event}
+use Rattle.rx_event.specs.declared.event.Event.TheVariants.{Open, Decline, End, Close}
+use Rattle.rx_event.specs.Events.{makes_node, makes_resource, parent_named, source_named, is_source_of, is_merging}
+use Rattle.rx_event.specs.Tree.{is_open, parent, ancestors, is_within}
+use Rattle.rx_event.specs.Marks.{marks_of, touches, is_child_of, after_child, after_decline}
+use Rattle.rx_event.specs.Lawful.{MayFollow, IsLawful}
+use Rattle.rx_event.proofs.Laws.Parents.{is_within-le, parent-lt, parent_name}
+use Rattle.rx_event.proofs.Laws.Openness.{shuts_none, is_open_outside-end, is_open_outside-close}
+use Rattle.rx_event.proofs.Laws.MarksFound.{is_child_parent}
+use Rattle.rx_event.proofs.Laws.MarksEnds.{marks_closed, marks-end_other}
+use Rattle.rx_event.proofs.Laws.MarksTouched.{marks-decline_at, marks-end_at}
+use Rattle.rx_slots.specs.declared.Key.{Key}
+use Rattle.rx_slots.specs.Slots.{Slots, find, entry_at, with_number, KeepsOthers}
+use Rattle.rx_tree.specs.declared.node.Node.{Node}
+use Rattle.rx_tree.specs.Tree.{Tree, IsSound, AreApart, Rewrites, blank_node, with_due}
+use Rattle.rx_tree.specs.Below.{is_below}
+use Rattle.rx_tree.proofs.Laws.Keys.{cases_key, some_of}
+use Rattle.rx_ground.specs.Ties.{AreRecords, AreStored, IsTied, KeepsNodes, Remarks, Cuts}
+use Rattle.rx_ground.proofs.Records.{AreNearly, AreLeft, all_fresh, remarked, records_still, records_touched, records_opened, records_cut, below_is_within}
+use Rattle.rx_ground.proofs.ResourcesAfterEvent.{IsApart, all_stored}
+
+-- nodes that are kept -----------------------------------------------------------------------------
+
+-- a value that is written over is there before and after
+pub rewritten_there : {X : Type 0} {old new : Slots X} {change : X → X} (k : Key) → Rewrites old new k change → (key : Key) → IsSome (find new key) → IsSome (find old key)
+rewritten_there {X = X} {old = old} {new = new} {change = change} k w key some = by_key (cases_key key k) where
+  mapped : (o : Option X) → IsSome (option_map change o) → IsSome o
+  mapped None e = absurd (false≢true e)
+  mapped (Some x) e = refl
+
+  by_key : (key ≡ k) ⊎ (key ≢ k) → IsSome (find old key)
+  by_key (inl same) = ap (λ (j : Key). is_some (find old j)) same ∙ mapped (find old k) (ap is_some (sym w.changed) ∙ ap (λ (j : Key). is_some (find new j)) (sym same) ∙ some)
+  by_key (inr differs) = ap is_some (sym (w.others key differs)) ∙ some
+
+pub still_there : {X : Type 0} {old new : Slots X} {change : X → X} (k : Key) → Rewrites old new k change → (key : Key) → IsSome (find old key) → IsSome (find new key)
+still_there {X = X} {old = old} {new = new} {change = change} k w key some = by_key (cases_key key k) where
+  mapped : (o : Option X) → IsSome o → IsSome (option_map change o)
+  mapped None e = absurd (false≢true e)
+  mapped (Some x) e = refl
+
+  by_key : (key ≡ k) ⊎ (key ≢ k) → IsSome (find new key)
+  by_key (inl same) = ap (λ (j : Key). is_some (find new j)) same ∙ ap is_some w.changed ∙ mapped (find old k) (ap (λ (j : Key). is_some (find old j)) (sym same) ∙ some)
+  by_key (inr differs) = ap is_some (w.others key differs) ∙ some
+
+-- what writes the marks of one record over keeps the nodes
+pub remarked_keeps : {T : Type 0} (h : List Event) (old new : Tree T) (u : Key) (change : Marks → Marks) → Remarks old new u change →
+    KeepsNodes h old.nodes new.nodes
+remarked_keeps h old new u change marked = record { from = rewritten_there u marked.nodes; still = λ key some alive. still_there u marked.nodes key some }
+
+-- the source of a node -----------------------------------------------------------------------------
+
+pub source_at : (made : Event) (p : ℕ) → parent_named made ≡ Some p → is_some (source_named made) ≡ is_source_of p made
+source_at (Open (Source f) kind) p named = sym (let same = same_Some f p named in rw same (eq_itself p))
+  where
+    eq_itself : (n : ℕ) → (n == n) ≡ true
+    eq_itself n = eq-eqb n n refl
+source_at (Open Root kind) p named = refl
+source_at (Open (Inner f) kind) p named = refl
+source_at (Open (Notifier f) kind) p named = refl
+source_at _ p named = refl
+
+module _ (base : Kept) {T : Type 0} (g : Ghosts T) (h : List Event) (e : Event) (law : IsLawful base h) (next : MayFollow base h e) (old : Tree T) (tied : IsTied base g h old) where
+  -- an event that leaves the records as they are
+  pub tied_still : (new : Tree T) → shuts_none e ≡ true → makes_node e ≡ false → ((n : ℕ) → touches h n e ≡ false) → new.nodes ≡ old.nodes → new.chain ≡ old.chain → AreStored base g (h ++ e ∷ []) new → IsTied base g (h ++ e ∷ []) new
+  tied_still new shuts makes untouched nodes chain stored = record {
+    records = rw (nodes, chain) (records_still base h e law next old.nodes old.chain tied.records shuts makes untouched);
+    stored = stored;
+  }
+
+  -- one that is about no resource either
+  pub tied_same : shuts_none e ≡ true → makes_node e ≡ false → makes_resource e ≡ false → ((n : ℕ) → touches h n e ≡ false) → ((r : ℕ) → IsApart r e) → IsTied base g (h ++ e ∷ []) old
+  tied_same shuts makes none untouched apart = tied_still old shuts makes untouched refl refl (all_stored base g h law e old old tied.stored refl none apart (λ key some alive. some))
+
+  -- one that is about no resource, and changes the marks of one node alone
+  pub tied_marked : (new : Tree T) → IsSound old.nodes → (u : Key) → IsSome (find old.nodes u) → (change : Marks → Marks) → shuts_none e ≡ true →
+      makes_node e ≡ false → makes_resource e ≡ false → ((r : ℕ) → IsApart r e) → ((n : ℕ) → u.number ≢ n → touches h n e ≡ false) →
+      marks_of base (h ++ e ∷ []) u.number ≡ change (marks_of base h u.number) → Remarks old new u change → IsTied base g (h ++ e ∷ []) new
+  tied_marked new sound u there change shuts makes none apart untouched changed marked = record {
+    records = subst (AreRecords base (h ++ e ∷ []) new.nodes) (sym marked.chain)
+        (remarked base (h ++ e ∷ []) old.nodes new.nodes old.chain u before.0 change near sound.apart before.1 marks marked.nodes);
+    stored = all_stored base g h law e old new tied.stored marked.resources none apart (λ k some alive. still_there u marked.nodes k some);
+  }
+    where
+      near : AreNearly base (h ++ e ∷ []) (Some u.number) old.nodes old.chain
+      near = records_touched base h e law next old.nodes old.chain tied.records u.number shuts makes untouched
+
+      before : (x : Node) × (find old.nodes u ≡ Some x)
+      before = some_of (find old.nodes u) there
+
+      marks : marks_of base (h ++ e ∷ []) u.number ≡ change before.0.marks
+      marks = changed ∙ ap change (sym (tied.records.each u before.0 before.1).marks)
+
+-- an opening ----------------------------------------------------------------------------------------
+
+-- the tree after an opening, before the node above is marked
+pub record IsOpenedIn {T : Type 0} (h : List Event) (made : Event) (above : Option Key) (old mid : Tree T) (key : Key) : Type 0 where
+  pub numbered : key.number ≡ length h
+  pub free : entry_at old.nodes key.slot ≡ None
+  pub found : find mid.nodes key ≡ Some (blank_node made above)
+  pub others : KeepsOthers old.nodes mid.nodes key
+  pub resources : mid.resources ≡ old.resources
+  pub chain : mid.chain ≡ old.chain
+
+module _ (base : Kept) {T : Type 0} (g : Ghosts T) (h : List Event) (law : IsLawful base h) (old left mid : Tree T) (tied : IsTied base g h old) (key : Key) where
+  -- what was found is found in the tree with the new node
+  pub found_still : (e : Event) (above : Option Key) → IsOpenedIn h e above left mid key → (k : Key) → IsSome (find left.nodes k) → find mid.nodes k ≡ find left.nodes k
+  found_still e above opened k some = opened.others k (λ same. true_false (sym some ∙ ap is_some (ap (find left.nodes) same ∙ ap (with_number key.number) opened.free))) where
+    true_false : true ≡ false → ⊥
+    true_false e = absurd (false≢true (sym e))
+
+  -- what stays open stands in the tree with the new node
+  pub opened_there : (e : Event) (above : Option Key) → AreLeft h e old.nodes left.nodes old.chain left.chain → IsOpenedIn h e above left mid key →
+      (k : Key) → IsSome (find old.nodes k) → is_open (h ++ e ∷ []) k.number ≡ true → IsSome (find mid.nodes k)
+  opened_there e above stays opened k some alive =
+      let x = some_of (find old.nodes k) some in
+      let here = ap is_some (stays.still k x.0 x.1 alive) in
+      ap is_some (found_still e above opened k here) ∙ here
+
+  -- a node that stands below none
+  pub tied_top : (e : Event) → MayFollow base h e → makes_node e ≡ true → makes_resource e ≡ false → parent_named e ≡ None → ((n : ℕ) → touches h n e ≡ false) →
+      ((r : ℕ) → IsApart r e) → AreLeft h e old.nodes left.nodes old.chain left.chain → left.resources ≡ old.resources →
+      IsOpenedIn h e None left mid key → IsTied base g (h ++ e ∷ []) mid
+  tied_top e next makes none top untouched apart stays same opened = record {
+    records = subst (AreRecords base (h ++ e ∷ []) mid.nodes) (sym opened.chain) (all_fresh _ _ mid.nodes left.chain
+        (subst (λ (o : Option ℕ). AreNearly base (h ++ e ∷ []) o mid.nodes left.chain) top
+        (records_opened base h e law next old.nodes old.chain tied.records left.nodes left.chain stays mid.nodes key None makes (λ n differs. untouched n)
+        opened.numbered opened.free opened.found opened.others)));
+    stored = all_stored base g h law e old mid tied.stored (opened.resources ∙ same) none apart (opened_there e None stays opened);
+  }
+
+module _ (base : Kept) {T : Type 0} (g : Ghosts T) (h : List Event) (kind : Kind) (law : IsLawful base h) (old left mid new : Tree T) (tied : IsTied base g h old) (key : Key) where
+  apart_all : (place : Place) (r : ℕ) → IsApart r (Open place kind)
+  apart_all place r = record { removes = refl; takes = refl; uses = refl; leases = refl; returns = refl }
+
+  pub tied_root : MayFollow base h (Open Root kind) → AreLeft h (Open Root kind) old.nodes left.nodes old.chain left.chain → left.resources ≡ old.resources →
+      IsOpenedIn h (Open Root kind) None left mid key → IsTied base g (h ++ Open Root kind ∷ []) mid
+  tied_root next stays same opened =
+      tied_top base g h law old left mid tied key (Open Root kind) next refl refl refl (λ n. refl) (apart_all Root) stays same opened
+
+  -- one below another, which is marked
+  pub tied_below : (place : Place) (p : Key) (change : Marks → Marks) → (let e : Event = Open place kind in MayFollow base h e → AreLeft h e old.nodes left.nodes old.chain left.chain → left.resources ≡ old.resources
+      → parent_named e ≡ Some p.number → ((n : ℕ) → p.number ≢ n → touches h n e ≡ false) →
+      marks_of base (h ++ e ∷ []) p.number ≡ change (marks_of base h p.number)
+      → AreApart mid.nodes → IsSome (find left.nodes p) → IsOpenedIn h e (Some p) left mid key → Remarks mid new p change → IsTied base g (h ++ e ∷ []) new)
+  tied_below place p change next stays same named apart_marks changed apart there opened marked = record {
+    records = subst (AreRecords base (h ++ e ∷ []) new.nodes) (ap (with_due new.nodes p) (sym opened.chain) ∙ sym marked.chain) (remarked base (h ++ e ∷ []) mid.nodes new.nodes left.chain p before.0 change near apart at_p marks marked.nodes);
+    stored = all_stored base g h law e old new tied.stored (marked.resources ∙ opened.resources ∙
+        same) refl (apart_all place) (λ k some alive. still_there p marked.nodes k
+        (opened_there base g h law old left mid tied key e (Some p) stays opened k some alive));
+  }
+    where
+      e : Event
+      e = Open place kind
+
+      near : AreNearly base (h ++ e ∷ []) (Some p.number) mid.nodes left.chain
+      near = subst (λ (o : Option ℕ). AreNearly base (h ++ e ∷ []) o mid.nodes left.chain) named
+          (records_opened base h e law next old.nodes old.chain tied.records left.nodes left.chain stays mid.nodes key (Some p) refl
+          (λ n differs. apart_marks n (λ same. differs (named ∙ ap (λ (m : ℕ). Some m) same))) opened.numbered opened.free opened.found opened.others)
+
+      before : (x : Node) × (find left.nodes p ≡ Some x)
+      before = some_of (find left.nodes p) there
+
+      at_p : find mid.nodes p ≡ Some before.0
+      at_p = found_still base g h law old left mid tied key e (Some p) opened p there ∙ before.1
+
+      marks : marks_of base (h ++ e ∷ []) p.number ≡ change before.0.marks
+      marks = changed ∙ ap change (sym (tied.records.each p before.0 (stays.was p before.0 before.1)).marks)
+
+-- an item that is declined ------------------------------------------------------------------------
+
+module _ (base : Kept) {T : Type 0} (g : Ghosts T) (h : List Event) (law : IsLawful base h) (old new : Tree T) (tied : IsTied base g h old) (sound : IsSound old.nodes) (u : Key)
+    (there : IsSome (find old.nodes u)) where
+  -- a FlatMap or Switch owes it no more
+  pub tied_decline : MayFollow base h (Decline u.number) → Remarks old new u after_decline → IsTied base g (h ++ Decline u.number ∷ []) new
+  tied_decline next marked =
+      tied_marked base g h (Decline u.number) law next old tied new sound u there after_decline refl refl refl
+      (λ r. record { removes = refl; takes = refl; uses = refl; leases = refl; returns = refl })
+      (λ n differs. ne_eqb u.number n differs) (marks-decline_at base h u.number law next) marked
+
+-- closings ----------------------------------------------------------------------------------------
+
+module _ (base : Kept) {T : Type 0} (h : List Event) (e : Event) (old mid : Tree T) (r : AreRecords base h old.nodes old.chain)
+    (sound : IsSound old.nodes) (top : ℕ) (opens : (n : ℕ) → is_open (h ++ e ∷ []) n ≡
+    (is_open h n && not (list_any (λ a. top == a) (ancestors h n)))) (cuts : Cuts old mid top) where
+  -- a closing keeps what stays open
+  pub cut_keeps : KeepsNodes (h ++ e ∷ []) old.nodes mid.nodes
+  cut_keeps = record {
+    from = λ key some. by_test key (is_below old.nodes top key.number) (ap is_some (sym (cuts.nodes key)) ∙ some);
+    still = λ key some alive. ap is_some (outside_found key some alive) ∙ some;
+  }
+    where
+      by_test : (key : Key) (b : Bool) → is_some (cond b None (find old.nodes key)) ≡ true → IsSome (find old.nodes key)
+      by_test key true some = absurd (false≢true some)
+      by_test key false some = some
+
+      outside_found : (key : Key) → IsSome (find old.nodes key) → is_open (h ++ e ∷ []) key.number ≡ true → find mid.nodes key ≡ find old.nodes key
+      outside_found key some alive =
+          let found = some_of (find old.nodes key) some in
+          let parts = and_parts (is_open h key.number) (not (list_any (λ a. top == a) (ancestors h key.number))) (sym (opens key.number) ∙ alive) in
+          cuts.nodes key ∙ ap (λ b. cond b None (find old.nodes key)) (below_is_within base h old.nodes old.chain r sound key found.0 found.1 top ∙ not-true (list_any (λ a. top == a) (ancestors h key.number)) parts.1)
+
+  -- so does the marking of the one above
+  pub keeps_marked : (new : Tree T) (p : Key) (change : Marks → Marks) → Remarks mid new p change → KeepsNodes (h ++ e ∷ []) old.nodes new.nodes
+  keeps_marked new p change marked = let k = cut_keeps in
+      record {
+        from = λ key some. k.from key (rewritten_there p marked.nodes key some);
+        still = λ key some alive. still_there p marked.nodes key (k.still key some alive);
+      }
+
+module _ (base : Kept) {T : Type 0} (g : Ghosts T) (h : List Event) (c : ℕ) (t : Terminal) (law : IsLawful base h) (next : MayFollow base h (End c t))
+    (old mid new : Tree T) (tied : IsTied base g h old) (sound : IsSound old.nodes) (cuts : Cuts old mid c) where
+  near_end : (stale : Option ℕ) → ((n : ℕ) → stale ≢ Some n → is_open (h ++ End c t ∷ []) n ≡ true → marks_of base (h ++ End c t ∷ []) n ≡ marks_of base h n) → AreNearly base (h ++ End c t ∷ []) stale mid.nodes mid.chain
+  near_end stale kept = records_cut base h (End c t) law next old.nodes old.chain tied.records mid.nodes mid.chain c stale sound kept (is_open_outside-end h c t) cuts.nodes cuts.chain
+
+  no_child : (o : Option ℕ) → parent h c ≡ o → (n : ℕ) → o ≢ Some n → is_child_of h n c ≡ false
+  no_child o above n differs = false_from_ne_true (is_child_of h n c) (λ child. differs (sym above ∙ is_child_parent h n c child))
+
+  apart_end : (r : ℕ) → IsApart r (End c t)
+  apart_end r = record { removes = refl; takes = refl; uses = refl; leases = refl; returns = refl }
+
+  -- the end of a node that stands below none
+  pub tied_end_top : parent h c ≡ None → IsTied base g (h ++ End c t ∷ []) mid
+  tied_end_top above = record {
+    records = all_fresh _ _ mid.nodes mid.chain (near_end None (λ n fresh alive. marks-end_other base h c t law next n alive (no_child None above n (λ e. none-some n e))));
+    stored = all_stored base g h law (End c t) old mid tied.stored cuts.resources refl apart_end (cut_keeps base h (End c t) old mid tied.records sound c (is_open_outside-end h c t) cuts).still;
+  }
+
+  -- and that of one that stands below another, which remembers it
+  pub tied_end_child : (p : Key) (made : Event) (above : Node) → AreApart mid.nodes → is_open h c ≡ true → parent h c ≡ Some p.number →
+      slice_get h c ≡ Some made → find old.nodes p ≡ Some above → find mid.nodes p ≡ Some above →
+      Remarks mid new p (after_child (is_some (source_named made)) (is_merging above.made) t) → IsTied base g (h ++ End c t ∷ []) new
+  tied_end_child p made above apart alive below at_c found at_p marked = record {
+    records = subst (AreRecords base (h ++ End c t ∷ []) new.nodes) (sym marked.chain)
+        (remarked base (h ++ End c t ∷ []) mid.nodes new.nodes mid.chain p above (after_child (is_some (source_named made)) (is_merging above.made) t)
+        (near_end (Some p.number) (λ n fresh alive. marks-end_other base h c t law next n alive (no_child (Some p.number) below n fresh)))
+        apart at_p marks marked.nodes);
+    stored = all_stored base g h law (End c t) old new tied.stored (marked.resources ∙ cuts.resources) refl apart_end (keeps_marked base h (End c t) old mid tied.records sound c (is_open_outside-end h c t) cuts new p _ marked).still;
+  }
+    where
+      is : slice_get h p.number ≡ Some above.made
+      is = (tied.records.each p above found).made
+
+      marks : marks_of base (h ++ End c t ∷ []) p.number ≡ after_child (is_some (source_named made)) (is_merging above.made) t above.marks
+      marks = marks-end_at base h c p.number made above.made t law next below at_c is ∙
+          ap (λ b. after_child b (is_merging above.made) t (marks_of base h p.number))
+          (sym (source_at made p.number (parent_name h c p.number made below at_c))) ∙
+          ap (after_child (is_some (source_named made)) (is_merging above.made) t) (sym (tied.records.each p above found).marks)
+
+  -- the parent stays where it was
+  pub parent_stays : (p : Key) (above : Node) → is_open h c ≡ true → parent h c ≡ Some p.number → find old.nodes p ≡ Some above → find mid.nodes p ≡ Some above
+  parent_stays p above alive below found =
+      cuts.nodes p ∙ ap (λ b. cond b None (find old.nodes p)) (below_is_within base h old.nodes old.chain tied.records sound p above found c ∙
+      false_from_ne_true (is_within h c p.number) (λ within. let l = is_within-le h c p.number within in let s = parent-lt h c p.number below in
+      absurd (omega arith))) ∙ found
+
+-- the closing of a root
+pub tied_close : (base : Kept) → {T : Type 0} (g : Ghosts T) (h : List Event) (c : ℕ) → IsLawful base h → MayFollow base h (Close c) →
+    (old mid : Tree T) → IsTied base g h old → IsSound old.nodes → Cuts old mid c → IsTied base g (h ++ Close c ∷ []) mid
+tied_close base g h c law next old mid tied sound cuts = record {
+  records = all_fresh _ _ mid.nodes mid.chain (records_cut base h (Close c) law next old.nodes old.chain tied.records mid.nodes mid.chain c None sound
+      (λ n fresh alive. marks_closed base h c law next n alive) (is_open_outside-close h c) cuts.nodes cuts.chain);
+  stored = all_stored base g h law (Close c) old mid tied.stored cuts.resources refl
+      (λ r. record { removes = refl; takes = refl; uses = refl; leases = refl; returns = refl })
+      (cut_keeps base h (Close c) old mid tied.records sound c (is_open_outside-close h c) cuts).still;
+}

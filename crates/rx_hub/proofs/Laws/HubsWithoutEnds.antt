@@ -1,0 +1,64 @@
+-- Hubs that forgot how their connections ended are those of a history in which nothing ended, and which agrees.
+use Rattle.std.proofs.Common.{◌≡◌, ℕ, zero, suc, map, true, false, List, [], ◌∷◌, slice_get, Option, Some, None, refl, sym, ap, subst, ◌∙◌}
+use Rattle.std.specs.Option.{option_map_or}
+use Rattle.std.proofs.lemmas.Bool.{false≢true}
+use Rattle.std.proofs.lemmas.Option.{same_Some, none-some}
+use Rattle.rx_note.specs.declared.note.Terminal.{Terminal}
+use Rattle.rx_event.specs.declared.event.Event.{Event}
+use Rattle.rx_event.specs.declared.event.Event.TheVariants.{Open, End}
+use Rattle.rx_event.specs.Events.{makes_node, makes_hub, is_subscriber_of}
+use Rattle.rx_event.specs.Tree.{at, is_open}
+use Rattle.rx_event.specs.Bases.{Alike}
+use Rattle.rx_event.proofs.Laws.SameTree.{alike_back, at_alike, at_hub_alike, subscribers_alike, connections_alike}
+use Rattle.rx_event.proofs.Laws.SameForcedAndAllowed.{hub_is}
+use Rattle.rx_hub.specs.Hubs.{Hub, without_end}
+use Rattle.rx_hub.specs.Records.{IsHubOf, HasHub, AreHubsOf}
+
+-- the hubs one by one
+pub forgot_get : (hubs : List Hub) (i : ℕ) (hub : Hub) → slice_get (map without_end hubs) i ≡ Some hub →
+    (before : Hub) × (slice_get hubs i ≡ Some before) × (hub ≡ without_end before)
+forgot_get [] zero hub at_i = absurd (none-some hub at_i)
+forgot_get [] (suc i) hub at_i = absurd (none-some hub at_i)
+forgot_get (h ∷ hubs) zero hub at_i = (h, refl, sym (same_Some (without_end h) hub at_i))
+forgot_get (h ∷ hubs) (suc i) hub at_i = forgot_get hubs i hub at_i
+
+pub forgot_there : (hubs : List Hub) (i : ℕ) (hub : Hub) → slice_get hubs i ≡ Some hub → slice_get (map without_end hubs) i ≡ Some (without_end hub)
+forgot_there [] zero hub at_i = absurd (none-some hub at_i)
+forgot_there [] (suc i) hub at_i = absurd (none-some hub at_i)
+forgot_there (h ∷ hubs) zero hub at_i = ap (λ x. Some (without_end x)) (same_Some h hub at_i)
+forgot_there (h ∷ hubs) (suc i) hub at_i = forgot_there hubs i hub at_i
+
+-- a subscriber is a node
+subscriber_makes : (g : ℕ) (e : Event) → is_subscriber_of g e ≡ true → makes_node e ≡ true
+subscriber_makes g (Open place kind) is = refl
+subscriber_makes g _ is = absurd (false≢true is)
+
+-- in k each node is open, and nothing ended
+pub forgotten_hubs : (h k : List Event) (hubs : List Hub) → Alike h k →
+    ((n : ℕ) (e : Event) → slice_get k n ≡ Some e → makes_node e ≡ true → is_open k n ≡ true) →
+    ((i n : ℕ) (t : Terminal) → slice_get k i ≡ Some (End n t) → ⊥) → AreHubsOf h hubs → AreHubsOf k (map without_end hubs)
+forgotten_hubs h k hubs a alive endless are =
+    record {
+      each = λ i hub at_i. let before = forgot_get hubs i hub at_i in subst (IsHubOf k) (sym before.2) (one before.0 (are.each i before.0 before.1));
+      every = λ g makes. still g (are.every g (at_hub_alike k h (alike_back h k a) makes_hub hub_is g makes));
+      subscribed = λ g s is. still g (are.subscribed g s (subscribes g s is));
+    }
+  where
+    one : (hub : Hub) → IsHubOf h hub → IsHubOf k (without_end hub)
+    one hub is =
+        record {
+          made = a.same_hub hub.number hub.mode is.made;
+          subscribers = is.subscribers ∙ subscribers_alike h k a hub.number;
+          connection = is.connection ∙ connections_alike h k a hub.number;
+          ended = tt;
+          latest = λ c place t connects ended. absurd (endless place c t ended);
+        }
+
+    still : (g : ℕ) → HasHub hubs g → HasHub (map without_end hubs) g
+    still g has = record { index = has.index; hub = without_end has.hub; there = forgot_there hubs has.index has.hub has.there; numbered = has.numbered }
+
+    subscribes : (g s : ℕ) → at (is_subscriber_of g) k s ≡ true → at (is_subscriber_of g) h s ≡ true
+    subscribes g s is = sym (at_alike k h (alike_back h k a) (is_subscriber_of g) s (opened (slice_get k s) refl is)) ∙ is where
+      opened : (o : Option Event) → slice_get k s ≡ o → option_map_or (is_subscriber_of g) o false ≡ true → is_open k s ≡ true
+      opened None at_s passes = absurd (false≢true passes)
+      opened (Some e) at_s passes = alive s e at_s (subscriber_makes g e passes)

@@ -1,0 +1,171 @@
+-- What a checkpoint makes of a session.
+use Rattle.std.proofs.Common.{◌≡◌, ℕ, ◌-◌, ◌<◌, ◌≤◌, suc, Bool, true, false, List, [], ◌++◌, length, drop, Option, Some, None, Result, Ok, Err, refl, sym, ap, ◌∙◌, arith, subst, inl, inr, ◌⊎◌}
+use Rattle.std.specs.Prelude.{IfOk, is_some, nat_lt}
+use Rattle.std.specs.List.{list_any}
+use Rattle.std.specs.Option.{option_to_list}
+use Rattle.std.proofs.Math.Bool.{not, ◌&&◌, ◌||◌}
+use Rattle.std.proofs.lemmas.Bool.{and_cases, and_parts, and_right, not-false, ltb-true, ltb-false, lt-ltb, le-ltb, cases_lt}
+use Rattle.std.proofs.lemmas.List.{drop_all, length-drop}
+use Rattle.rx_event.specs.declared.mail.Mail.{Mail}
+use Rattle.rx_event.specs.declared.event.Event.{Event}
+use Rattle.rx_event.specs.declared.refusal.Refusal.{Refusal}
+use Rattle.rx_event.specs.declared.refusal.Refusal.TheVariants.{Full, MailLeft, TooMany}
+use Rattle.rx_event.specs.Events.{makes_resource, is_take_of}
+use Rattle.rx_event.specs.Kept.{Kept, shown}
+use Rattle.rx_event.specs.Bases.{base_of}
+use Rattle.rx_event.specs.Tree.{at}
+use Rattle.rx_event.specs.Resources.{is_held, is_waiting, is_taken}
+use Rattle.rx_event.specs.Lawful.{IsLawful}
+use Rattle.rx_event.specs.Notes.{notes}
+use Rattle.rx_event.specs.Refusals.{first_cause, IsRefusal}
+use Rattle.rx_event.proofs.Laws.MakingRemovesNothing.{made_untold}
+use Rattle.rx_event.proofs.Laws.Resources.{held_resource, held_not_taken}
+use Rattle.rx_event.specs.Causes.{checkpoint_causes, most_places}
+use Rattle.rx_register.proofs.Laws.NoCause.{no_cause}
+use Rattle.rx_book.specs.State.{State, IsPromised}
+use Rattle.rx_book.specs.Checkpoints.{Checkpoints}
+use Rattle.rx_line.specs.declared.names.Names.{Names}
+use Rattle.rx_line.specs.declared.outcome.Cause.{Cause}
+use Rattle.rx_line.specs.declared.outcome.Cause.TheVariants.{NoName, NameTaken, Book}
+use Rattle.rx_line.specs.declared.outcome.Outcome.{Outcome}
+use Rattle.rx_line.specs.declared.outcome.Outcome.TheVariants.{Refused}
+use Rattle.std.specs.declared.alloc.AllocError.{AllocError}
+use Rattle.rx_line.specs.Names.{name_of, IsPaired}
+use Rattle.rx_live.specs.Session.{Session, IsSound, is_kept}
+use Rattle.rx_live.specs.Given.{AreOpenSame, IsAlike}
+use Rattle.rx_live.specs.Answers.{to_tell}
+use Rattle.rx_live.specs.Renewals.{AreOpen, Renews, renewing_causes, Renewing, IsFullByOpen}
+use Rattle.rx_live.specs.Taken.{is_full, may_renew, IsFullByAge}
+
+-- what is kept ----------------------------------------------------------------------------------------
+
+kept_shape : (made gone held : Bool) → (held ≡ true → (made ≡ true) × ((made && gone) ≡ false)) → (made && not gone) ≡ (held || (made && not held && not (made && gone)))
+kept_shape true true true p = let e : true ≡ false = (p refl).1 in absurd (cc)
+kept_shape true false true p = refl
+kept_shape false gone true p = let e : false ≡ true = (p refl).0 in absurd (cc)
+kept_shape true true false p = refl
+kept_shape true false false p = refl
+kept_shape false gone false p = refl
+
+-- what is kept is held or waits
+kept_is : (base : Kept) (h : List Event) → IsLawful base h → (r : ℕ) → is_kept h r ≡ (is_held h r || is_waiting h r)
+unfolding is_waiting is_taken is_kept
+kept_is base h law r = kept_shape (at makes_resource h r) (list_any (is_take_of r) h) (is_held h r) (λ held. (held_resource h r held, held_not_taken base h law r held))
+
+-- a session that is sound stays so --------------------------------------------------------------------
+
+pub renewed_sound : (s : Session) (book : State) (nodes : Names) → IsSound s → IsPromised book → Checkpoints s.book book → IsPaired nodes → AreOpenSame None book s.nodes nodes →
+    IsSound (record s { book = book; nodes = nodes })
+renewed_sound s book nodes sound kept made paired same = record {
+  kept = kept;
+  node_pairs = paired;
+  hub_pairs = sound.hub_pairs;
+  resource_pairs = sound.resource_pairs;
+  lease_pairs = sound.lease_pairs;
+  nodes = λ n past. by_old n past (same.names n);
+  hubs = λ n past. sound.hubs n (omega (arith, made.agree.alike.same_length));
+  resources = λ r. sound.resources r ∙ kept_is s.book.base s.book.history sound.kept.lawful r ∙ (λ i. made.agree.held r i || made.agree.waiting r i)
+      ∙ sym (kept_is book.base book.history kept.lawful r);
+  leases = λ l. sound.leases l ∙ made.agree.out l;
+  unnamed = sound.unnamed;
+} where
+  by_old : (n : ℕ) → length book.history ≤ n → (name_of nodes n ≡ name_of s.nodes n) ⊎ (name_of nodes n ≡ None) → name_of nodes n ≡ None
+  by_old n past (inl was) = was ∙ sound.nodes n (omega (arith, made.agree.alike.same_length))
+  by_old n past (inr none) = none
+
+-- what is still to be told ----------------------------------------------------------------------------
+
+told_before : (s : Session) → s.untold ≡ None → first_cause (checkpoint_causes s.book.history s.book.given) ≡ None → to_tell s ≡ []
+told_before s none free =
+    let all : length (notes s.book.history) ≤ s.book.given =
+    ltb-false s.book.given (length (notes s.book.history)) (no_cause (checkpoint_causes s.book.history s.book.given) free MailLeft) in
+    (λ i. option_to_list (none i) ++ drop s.book.given (notes s.book.history)) ∙ drop_all s.book.given (notes s.book.history) all
+
+told_after : (s : Session) (book : State) (nodes : Names) → s.untold ≡ None → IsPromised book → Checkpoints s.book book → to_tell (record s { book = book; nodes = nodes }) ≡ []
+told_after s book nodes none kept made =
+    let silent : notes book.history ≡ [] = ap notes made.history ∙ made_untold (shown book.base) kept.lawful.started.making in
+    let all : length (notes book.history) ≤ book.given = let e = ap (length {A = Mail}) silent in omega (arith, e) in
+    (λ i. option_to_list (none i) ++ drop book.given (notes book.history)) ∙ drop_all book.given (notes book.history) all
+
+pub renews : (s : Session) (book : State) (nodes : Names) → s.untold ≡ None → IsPromised book → Checkpoints s.book book → AreOpenSame None book s.nodes nodes → AreOpen book nodes →
+    Renews s (record s { book = book; nodes = nodes })
+renews s book nodes none kept made same alive = record {
+  told = told_before s none made.no_cause;
+  book = made;
+  untold = told_after s book nodes none kept made;
+  nodes = subst (λ (u : Option Mail). AreOpenSame u book s.nodes nodes) (sym none) same;
+  open_alone = alive;
+  rest = refl;
+}
+
+-- causes ----------------------------------------------------------------------------------------------
+
+some_left : (g n : ℕ) → nat_lt 0 (n - g) ≡ nat_lt g n
+some_left g n = by_order (cases_lt g n) where
+  by_order : (g < n) ⊎ (n ≤ g) → nat_lt 0 (n - g) ≡ nat_lt g n
+  by_order (inl more) = lt-ltb 0 (n - g) (omega arith) ∙ sym (lt-ltb g n more)
+  by_order (inr all) = le-ltb 0 (n - g) (omega arith) ∙ sym (le-ltb g n all)
+
+same_cause : (s : Session) → s.untold ≡ None → (why : Refusal) → checkpoint_causes s.book.history s.book.given why ≡ renewing_causes s why
+same_cause s none MailLeft =
+    let left : length (to_tell s) ≡ length (notes s.book.history) - s.book.given =
+    ap (λ (o : Option Mail). length (option_to_list o ++ drop s.book.given (notes s.book.history))) none ∙ length-drop s.book.given (notes s.book.history) in
+    sym (some_left s.book.given (length (notes s.book.history))) ∙ ap (nat_lt 0) (sym left)
+same_cause s none TooMany = refl
+same_cause s none _ = refl
+
+pub refused_cause : (s : Session) (why : Refusal) → s.untold ≡ None → IsRefusal (checkpoint_causes s.book.history s.book.given) why → IsRefusal (renewing_causes s) why
+refused_cause s why none refusal = subst (λ (stands : Refusal → Bool). IsRefusal stands why) (λ i w. same_cause s none w i) refusal
+
+left_over : (s : Session) (o : Option Mail) → s.untold ≡ o → is_some o ≡ true → nat_lt 0 (length (to_tell s)) ≡ true
+left_over s None is some = absurd (cc)
+left_over s (Some m) is some =
+    ap (λ (u : Option Mail). nat_lt 0 (length (option_to_list u ++ drop s.book.given (notes s.book.history)))) is
+    ∙ lt-ltb 0 (suc (length (drop s.book.given (notes s.book.history)))) (omega arith)
+
+pub mail_left : (s : Session) → is_some s.untold ≡ true → IsRefusal (renewing_causes s) MailLeft
+mail_left s some = let left : renewing_causes s MailLeft ≡ true = left_over s s.untold refl some in inl (rw left refl)
+
+-- where the book refuses it
+pub renewing_refused : (s : Session) (book : State) (why : Refusal) (result : Result Outcome AllocError) → IfOk result (λ o. o ≡ Refused (Book why)) → IsRefusal (renewing_causes s) why →
+    book ≡ s.book → IfOk result (λ o. Renewing s o (record s { book = book }))
+renewing_refused s book why (Err e) told refusal same = told
+renewing_refused s book why (Ok o) told refusal same =
+    subst (λ (p : Outcome). Renewing s p (record s { book = book })) (sym told) (refusal, ap (λ (b : State). record s { book = b }) same)
+
+pub refused_same : (old new : Session) (why : Cause) → Renewing old (Refused why) new → new ≡ old
+refused_same old new NoName r = absurd r
+refused_same old new NameTaken r = absurd r
+refused_same old new (Book why) r = r.1
+
+-- by age ----------------------------------------------------------------------------------------------
+
+by_open : (s : Session) (why : Cause) → IsPromised s.book → (is_full why && may_renew s) ≡ false → IsFullByOpen s why
+by_open s (Book Full) kept none = by_case (and_cases (not (nat_lt most_places (length s.book.history))) (nat_lt s.book.base.at_length (length s.book.history)) none) where
+  by_case : (not (nat_lt most_places (length s.book.history)) ≡ false) ⊎ (nat_lt s.book.base.at_length (length s.book.history) ≡ false) → IsFullByOpen s (Book Full)
+  by_case (inl past) = inr (ltb-true most_places (length s.book.history) (not-false (nat_lt most_places (length s.book.history)) past))
+  by_case (inr young) = let l = ltb-false s.book.base.at_length (length s.book.history) young in let b = kept.begun in inl (omega arith)
+by_open s _ kept none = tt
+
+-- after a refusal, which changed nothing
+pub full_by_age : (old new : Session) (why : Cause) → IsAlike old new → (is_full why && may_renew new) ≡ true → IsFullByAge old new
+full_by_age old new why alike both = record {
+  alike = alike;
+  aged = subst (λ (b : State). may_renew (record old { book = b }) ≡ true) alike.book (and_parts (is_full why) (may_renew new) both).1;
+}
+
+pub full_by_open : (old new : Session) (why : Cause) → IsPromised old.book → IsAlike old new → (is_full why && may_renew new) ≡ false → IsFullByOpen old why
+full_by_open old new why kept alike none = by_open old why kept (subst (λ (b : State). (is_full why && may_renew (record old { book = b })) ≡ false) alike.book none)
+
+-- behind a checkpoint a history is young
+at_base : (b : Kept) (h : List Event) → (base_of b h).at_length ≡ length h
+unfolding base_of
+at_base b h = refl
+
+pub young : (old new : Session) → Renews old new → may_renew new ≡ true → ⊥
+young old new renews aged =
+    let same : length new.book.history ≡ new.book.base.at_length =
+    sym renews.book.agree.alike.same_length ∙ sym (at_base old.book.base old.book.history) ∙ ap (λ (b : Kept). b.at_length) (sym renews.book.base) in
+    let none : nat_lt new.book.base.at_length (length new.book.history) ≡ false = le-ltb new.book.base.at_length (length new.book.history) (omega (arith, same)) in
+    let both : may_renew new ≡ false = and_right (not (nat_lt most_places (length new.book.history))) (nat_lt new.book.base.at_length (length new.book.history)) none in
+    let clash : false ≡ true = sym both ∙ aged in absurd (cc)

@@ -1,0 +1,127 @@
+-- Marks that say a test choose what the test chooses, and stand where it stands.
+use Rattle.std.proofs.Common.{◌≡◌, ℕ, zero, suc, ◌+◌, ◌<◌, ◌≤◌, Bool, true, false, cond, List, [], ◌∷◌, ◌++◌, length, filter}
+use Rattle.std.proofs.Common.{replicate, get_or, Option, Some, None, refl, sym, ap, ◌∙◌, arith, inl, inr, ◌⊎◌, nat_lt, slice_get}
+use Rattle.std.proofs.Math.Bool.{not, ◌&&◌}
+use Rattle.std.specs.List.{range_with_len}
+use Rattle.std.specs.Option.{option_map_or}
+use Rattle.std.proofs.lemmas.Bool.{cases_lt, lt-ltb, le-ltb, and_left}
+use Rattle.std.proofs.lemmas.List.{length_push, length-replicate, get_or-replicate}
+use Rattle.rx_event.specs.declared.event.Event.{Event}
+use Rattle.rx_event.specs.Tree.{at}
+use Rattle.rx_event.proofs.Laws.Sums.{sum_by-same}
+use Rattle.rx_picture.specs.declared.row.Row.{Row}
+use Rattle.rx_picture.specs.Choice.{bit, count_below, leads, follows, is_chosen, marked, AreMarks}
+use Rattle.rx_picture.specs.Rows.{AreRows, has_row, is_drawn, lane_of}
+use Rattle.rx_picture.specs.Drawn.{is_shown, is_placed, is_rowed, is_rowed_by, AreColumns}
+use Rattle.rx_picture.proofs.WhereLinesEnd.{get_old, get_new}
+
+-- the same numbers pass below the bound
+abbrev pub Agree : ℕ → (ℕ → Bool) → (ℕ → Bool) → Type 0
+Agree bound p q = (k : ℕ) → k < bound → p k ≡ q k
+
+pub count_same : (p q : ℕ → Bool) (n : ℕ) → Agree n p q → count_below p n ≡ count_below q n
+count_same p q n same = sum_by-same (λ k. bit (q k)) (λ k. bit (p k)) n (λ k l. ap bit (same k l))
+
+filter_same : (p q : ℕ → Bool) (a n : ℕ) → ((k : ℕ) → k < a + n → p k ≡ q k) → filter p (range_with_len a n) ≡ filter q (range_with_len a n)
+filter_same p q a zero same = refl
+filter_same p q a (suc n) same =
+    ap (λ (x : Bool). cond x (a ∷ filter p (range_with_len (a + 1) n)) (filter p (range_with_len (a + 1) n))) (same a (omega arith))
+    ∙ ap (λ (ks : List ℕ). cond (q a) (a ∷ ks) ks) (filter_same p q (a + 1) n (λ k l. same k (omega arith)))
+
+chosen_same : (first first_too among among_too : ℕ → Bool) (limit size : ℕ) → Agree size first first_too → Agree size among among_too →
+    Agree size (is_chosen first among limit size) (is_chosen first_too among_too limit size)
+chosen_same first first_too among among_too limit size same_first same_among n l =
+    let lead : (k : ℕ) → k < size → leads first among k ≡ leads first_too among_too k = λ k m. (λ i. same_among k m i && same_first k m i) in
+    let follow : (k : ℕ) → k < size → follows first among k ≡ follows first_too among_too k = λ k m. (λ i. same_among k m i && not (same_first k m i)) in
+    let before : count_below (leads first among) n ≡ count_below (leads first_too among_too) n =
+    count_same (leads first among) (leads first_too among_too) n (λ k m. lead k (omega arith)) in
+    let most : count_below (leads first among) size ≡ count_below (leads first_too among_too) size =
+    count_same (leads first among) (leads first_too among_too) size lead in
+    let others : count_below (follows first among) n ≡ count_below (follows first_too among_too) n =
+    count_same (follows first among) (follows first_too among_too) n (λ k m. follow k (omega arith)) in
+    λ i. same_among n l i && nat_lt (cond (same_first n l i) (before i) (most i + others i)) limit
+
+pub marks_chosen : (firsts amongs chosen : List Bool) (first among : ℕ → Bool) (limit size : ℕ) → AreMarks firsts size first → AreMarks amongs size among →
+    AreMarks chosen (length amongs) (is_chosen (marked firsts) (marked amongs) limit (length amongs)) → AreMarks chosen size (is_chosen first among limit size)
+marks_chosen firsts amongs chosen first among limit size tied_first tied_among told =
+    let here : AreMarks chosen size (is_chosen (marked firsts) (marked amongs) limit size) = rw tied_among.size at told in
+    record {
+      size = here.size;
+      each = λ n l. here.each n l ∙ chosen_same (marked firsts) first
+          (marked amongs) among limit size (λ k m. tied_first.each k m) (λ k m. tied_among.each k m) n l;
+    }
+
+pub marks_all : (size : ℕ) → AreMarks (replicate size true) size (λ n. nat_lt n size)
+marks_all size = record { size = length-replicate size true; each = λ n l. get_or-replicate size n true false l ∙ sym (lt-ltb n size l) }
+
+pub rows_same : (h : List Event) (shown : List Bool) (test : ℕ → Bool) (rows : List Row)
+    → AreMarks shown (length h) test → AreRows h (marked shown) rows → AreRows h test rows
+rows_same h shown test rows tied told = record {
+  numbers = told.numbers ∙ filter_same (λ n. at has_row h n && marked shown n) (λ n. at has_row h n && test n) 0 (length h)
+      (λ k l. ap (λ (x : Bool). at has_row h k && x) (tied.each k (omega arith)));
+  each = told.each;
+}
+
+-- the marks of lanes, past their end too
+marked_past : (marks : List Bool) (n : ℕ) → length marks ≤ n → marked marks n ≡ false
+marked_past [] n l = refl
+marked_past (m ∷ marks) zero l = absurd (omega arith)
+marked_past (m ∷ marks) (suc n) l = marked_past marks n (omega arith)
+
+drawn_past : (h : List Event) (n : ℕ) → length h ≤ n → at is_drawn h n ≡ false
+drawn_past [] n l = refl
+drawn_past (e ∷ h) zero l = absurd (omega arith)
+drawn_past (e ∷ h) (suc n) l = drawn_past h n (omega arith)
+
+pub shown_anywhere : (h : List Event) (shown : List Bool) → AreMarks shown (length h) (is_shown h) → (n : ℕ) → marked shown n ≡ is_shown h n
+shown_anywhere h shown tied n = by_place (cases_lt n (length h)) where
+  by_place : (n < length h) ⊎ (length h ≤ n) → marked shown n ≡ is_shown h n
+  by_place (inl l) = tied.each n l
+  by_place (inr l) = let size = tied.size in marked_past shown n (omega arith) ∙ sym (and_left _ _ (drawn_past h n l))
+
+pub placed_anywhere : (h : List Event) (placed : List Bool) → AreMarks placed (length h) (is_placed h) → (n : ℕ) → marked placed n ≡ is_placed h n
+placed_anywhere h placed tied n = by_place (cases_lt n (length h)) where
+  by_place : (n < length h) ⊎ (length h ≤ n) → marked placed n ≡ is_placed h n
+  by_place (inl l) = tied.each n l
+  by_place (inr l) = let size = tied.size in marked_past placed n (omega arith) ∙ sym (and_left _ _ (le-ltb n (length h) l))
+
+-- a row is shown where the marks show its lane
+pub rowed_same : (h : List Event) (shown rowed : List Bool) → AreMarks shown (length h) (is_shown h)
+    → AreMarks rowed (length h) (is_rowed_by (marked shown) h) →
+    AreMarks rowed (length h) (is_rowed h)
+rowed_same h shown rowed lanes told = record {
+  size = told.size;
+  each = λ n l. told.each n l ∙ by_event n (slice_get h n);
+} where
+  by_event : (n : ℕ) (o : Option Event) → option_map_or (λ e. marked shown (lane_of n e)) o false ≡ option_map_or (λ e. is_shown h (lane_of n e)) o false
+  by_event n None = refl
+  by_event n (Some e) = shown_anywhere h shown lanes (lane_of n e)
+
+pub columns_same : (shown : List Bool) (size : ℕ) (test : ℕ → Bool) (columns : List ℕ)
+    → AreMarks shown size test → AreColumns (marked shown) (length shown) columns → AreColumns test size columns
+columns_same shown size test columns tied told =
+    let here : AreColumns (marked shown) size columns = rw tied.size at told in
+    record {
+      size = here.size;
+      each = λ n l. here.each n l ∙ count_same (marked shown) test n (λ k m. tied.each k (omega arith));
+    }
+
+-- columns so far ----------------------------------------------------------------------------------
+
+pub record ColumnsUpTo (test : ℕ → Bool) (n : ℕ) (columns : List ℕ) : Type 0 where
+  pub size : length columns ≡ n
+  pub each : (k : ℕ) → k < n → get_or columns k 0 ≡ count_below test k
+
+pub columns_more : (test : ℕ → Bool) (n : ℕ) (columns : List ℕ) (before : ℕ) → ColumnsUpTo test n columns
+    → before ≡ count_below test n → ColumnsUpTo test (n + 1) (columns ++ before ∷ [])
+columns_more test n columns before tied is = record {
+  size = length_push columns before ∙ ap (λ (j : ℕ). j + 1) tied.size;
+  each = λ k l. by_place k l (cases_lt k n);
+} where
+  by_place : (k : ℕ) → k < n + 1 → (k < n) ⊎ (n ≤ k) → get_or (columns ++ before ∷ []) k 0 ≡ count_below test k
+  by_place k l (inl m) = let size = tied.size in get_old columns before k (omega arith) ∙ tied.each k m
+  by_place k l (inr m) =
+      let size = tied.size in
+      let last : k ≡ length columns = omega arith in
+      let here : n ≡ k = omega arith in
+      ap (λ (j : ℕ). get_or (columns ++ before ∷ []) j 0) last ∙ get_new columns before ∙ is ∙ ap (count_below test) here

@@ -1,0 +1,113 @@
+-- The bar of a resource: while its node is open and it was not removed it is held, and from its taking on taken.
+use Rattle.std.proofs.Common.{◌≡◌, ℕ, ◌<◌, ◌≤◌, min, max, Bool, true, false, cond, List, length, take, get_or}
+use Rattle.std.proofs.Common.{Option, Some, None, refl, sym, ap, ◌∙◌, arith, inl, inr, ◌⊎◌, nat_lt, slice_get}
+use Rattle.std.proofs.Math.Bool.{not, ◌&&◌}
+use Rattle.std.specs.List.{list_any}
+use Rattle.std.specs.Option.{option_and_then, option_map_or}
+use Rattle.std.proofs.lemmas.Bool.{cases_lt, lt-ltb, le-ltb, and_left}
+use Rattle.std.proofs.lemmas.Option.{none-some}
+use Rattle.rx_event.specs.declared.event.Event.{Event}
+use Rattle.rx_event.specs.declared.event.Event.TheVariants.{Accept}
+use Rattle.rx_event.specs.Events.{makes_resource, node_of_accept, is_remove_of, is_take_of}
+use Rattle.rx_event.specs.Tree.{is_open}
+use Rattle.rx_event.specs.Resources.{is_owned, is_taken}
+use Rattle.rx_event.proofs.Laws.Openness.{is_open_past}
+use Rattle.rx_event.proofs.Laws.Resources.{is_owned_past, is_taken_past}
+use Rattle.rx_picture.specs.Rows.{Spans, Begins, IsBar}
+use Rattle.rx_picture.specs.Tables.{IsTurn, AreLines, owned_end, owned_start, was_removed, was_taken}
+use Rattle.rx_picture.proofs.Prefixes.{past_prefix, get_prefix, at_prefix}
+use Rattle.rx_picture.proofs.WhereTestsTurnTrue.{turn_within}
+use Rattle.rx_picture.proofs.WhereLinesEnd.{cut_either, cut_alone, neither, and_not}
+
+pub accepted_makes : (o : Option Event) (node : ℕ) → option_and_then node_of_accept o ≡ Some node → option_map_or makes_resource o false ≡ true
+accepted_makes None node named = absurd (none-some node named)
+accepted_makes (Some (Accept m tag)) node named = refl
+accepted_makes (Some _) node named = absurd (none-some node named)
+
+-- held from the later of node and acceptance to the earlier of the node's end and the removal
+bar_cut : (node u gone r k : ℕ) → r < k →
+    ((nat_lt node k && not (nat_lt u k)) && not (nat_lt gone k)) ≡ (nat_lt (max node r) k && not (nat_lt (max (min u gone) (max node r)) k))
+bar_cut node u gone r k l = by_place (cases_lt node k) where
+  by_place : (node < k) ⊎ (k ≤ node) →
+      ((nat_lt node k && not (nat_lt u k)) && not (nat_lt gone k)) ≡ (nat_lt (max node r) k && not (nat_lt (max (min u gone) (max node r)) k))
+  by_place (inl m) =
+      ap (λ (x : Bool). (x && not (nat_lt u k)) && not (nat_lt gone k)) (lt-ltb node k m) ∙ neither (nat_lt u k) (nat_lt gone k)
+      ∙ sym (ap (λ (x : Bool). x && not (nat_lt (max (min u gone) (max node r)) k)) (lt-ltb (max node r) k (omega arith))
+      ∙ ap (λ (x : Bool). true && not x) (cut_either u gone (max node r) k (omega arith)))
+  by_place (inr m) = and_left _ _ (and_left _ _ (le-ltb node k m)) ∙ sym (and_left _ _ (le-ltb (max node r) k (omega arith)))
+
+start_after : (ends : List ℕ) (node r : ℕ) → r ≤ owned_start ends node r
+start_after ends node r = by_test (nat_lt node (length ends)) where
+  by_test : (b : Bool) → r ≤ cond b (max node r) r
+  by_test true = omega arith
+  by_test false = omega arith
+
+bar_within : (h : List Event) (r node gone : ℕ) (ends : List ℕ) → r < length h → AreLines h (length h) ends → (node < length h) ⊎ (length h ≤ node) →
+    max (owned_end ends node gone) (owned_start ends node r) ≤ length h
+bar_within h r node gone ends inside lines (inl l) =
+    let size = lines.size in
+    let most = lines.within node l in
+    rw (lt-ltb node (length ends) (omega arith)) (omega arith)
+bar_within h r node gone ends inside lines (inr l) =
+    let size = lines.size in
+    rw (le-ltb node (length ends) (omega arith)) (omega arith)
+
+module _ (h : List Event) (r node : ℕ) (accepted : option_and_then node_of_accept (slice_get h r) ≡ Some node) where
+  owned_prefix : (gone k : ℕ) → IsTurn h (was_removed r) (length h) (length h) gone → r < k
+      → k ≤ length h → is_owned (take k h) r ≡ (is_open (take k h) node && not (nat_lt gone k))
+  unfolding is_owned
+  owned_prefix gone k removed l m =
+      ap (λ (o : Option Event). option_map_or (is_open (take k h)) (option_and_then node_of_accept o) false && not (list_any (is_remove_of r) (take k h)))
+      (get_prefix h k r l m)
+      ∙ ap (λ (o : Option ℕ). option_map_or (is_open (take k h)) o false && not (list_any (is_remove_of r) (take k h))) accepted
+      ∙ ap (λ (x : Bool). is_open (take k h) node && not x) (removed.turns k m)
+
+  bar_owned : (gone : ℕ) (ends : List ℕ) → IsTurn h (was_removed r) (length h) (length h) gone → AreLines h (length h) ends →
+      Spans h (λ k. is_owned k r) (owned_start ends node r) (max (owned_end ends node gone) (owned_start ends node r))
+  bar_owned gone ends removed lines k m = by_place (cases_lt r k) where
+    by_node : r < k → (node < length h) ⊎ (length h ≤ node) →
+        (is_open (take k h) node && not (nat_lt gone k))
+        ≡ (nat_lt (owned_start ends node r) k && not (nat_lt (max (owned_end ends node gone) (owned_start ends node r)) k))
+    by_node l (inl inside) =
+        let size = lines.size in
+        ap (λ (x : Bool). x && not (nat_lt gone k)) (lines.spans node inside k m) ∙ bar_cut node (get_or ends node 0) gone r k l
+        ∙ sym (ap (λ (x : Bool). nat_lt (cond x (max node r) r) k && not (nat_lt (max (cond x (min (get_or ends node 0) gone) 0) (cond x (max node r) r)) k))
+        (lt-ltb node (length ends) (omega arith)))
+    by_node l (inr past) =
+        let size = lines.size in
+        let none : max 0 r ≡ r = omega arith in
+        and_left _ _ (is_open_past (take k h) node (past_prefix h k node (omega arith) m))
+        ∙ sym (ap (λ (x : Bool). nat_lt (cond x (max node r) r) k && not (nat_lt (max (cond x (min (get_or ends node 0) gone) 0) (cond x (max node r) r)) k))
+        (le-ltb node (length ends) (omega arith))
+        ∙ ap (λ (j : ℕ). nat_lt r k && not (nat_lt j k)) none ∙ and_not (nat_lt r k))
+
+    by_place : (r < k) ⊎ (k ≤ r) → is_owned (take k h) r
+        ≡ (nat_lt (owned_start ends node r) k && not (nat_lt (max (owned_end ends node gone) (owned_start ends node r)) k))
+    by_place (inl l) = owned_prefix gone k removed l m ∙ by_node l (cases_lt node (length h))
+    by_place (inr l) = let later =
+        start_after ends node r in is_owned_past (take k h) r (past_prefix h k r l m) ∙ sym (and_left _ _ (le-ltb (owned_start ends node r) k (omega arith)))
+
+  taken_prefix : (out k : ℕ) → IsTurn h (was_taken r) (length h) (length h) out → r < k → k ≤ length h → is_taken (take k h) r ≡ nat_lt out k
+  unfolding is_taken
+  taken_prefix out k taken l m =
+      ap (λ (x : Bool). x && list_any (is_take_of r) (take k h))
+      (at_prefix makes_resource h k r l m ∙ accepted_makes (slice_get h r) node accepted) ∙ taken.turns k m
+
+  bar_taken : (out : ℕ) → IsTurn h (was_taken r) (length h) (length h) out → Begins h (λ k. is_taken k r) (max out r)
+  bar_taken out taken k m = by_place (cases_lt r k) where
+    by_place : (r < k) ⊎ (k ≤ r) → is_taken (take k h) r ≡ nat_lt (max out r) k
+    by_place (inl l) = taken_prefix out k taken l m ∙ sym (cut_alone out r k l)
+    by_place (inr l) = is_taken_past (take k h) r (past_prefix h k r l m) ∙ sym (le-ltb (max out r) k (omega arith))
+
+  pub bar_is : (gone out : ℕ) (ends : List ℕ) → r < length h → IsTurn h (was_removed r) (length h) (length h) gone
+      → IsTurn h (was_taken r) (length h) (length h) out → AreLines h (length h) ends →
+      IsBar h r (owned_start ends node r) (max (owned_end ends node gone) (owned_start ends node r)) (max out r)
+  bar_is gone out ends inside removed taken lines = record {
+    accepted = start_after ends node r;
+    in_order = omega arith;
+    owned_within = bar_within h r node gone ends inside lines (cases_lt node (length h));
+    owned = bar_owned gone ends removed lines;
+    accepted_before = omega arith;
+    taken_within = let most = turn_within h (was_taken r) out taken in omega arith;
+    takes = bar_taken out taken;
+  }

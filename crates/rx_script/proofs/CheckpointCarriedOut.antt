@@ -1,0 +1,124 @@
+-- A checkpoint, carried out by an engine: what is to be reported is gathered, and then the book lets its events go.
+use Rattle.std.proofs.Common.{◌≡◌, ◌++◌, ℕ, List, [], length, drop, refl, sym, ap, subst, ◌∙◌, arith, append-nil}
+use Rattle.std.specs.List.{Contains}
+use Rattle.std.proofs.Math.Seq.{drop-append_seam}
+use Rattle.rx_event.specs.declared.event.Event.{Event}
+use Rattle.rx_event.specs.Kept.{nothing_kept, shown}
+use Rattle.rx_event.specs.Notes.{notes}
+use Rattle.rx_event.specs.Tree.{is_open}
+use Rattle.rx_event.specs.Resources.{is_held, is_out}
+use Rattle.rx_event.proofs.Laws.SameForcedAndAllowed.{agree_back, settled_too}
+use Rattle.rx_event.proofs.Laws.Bases.{base_length}
+use Rattle.rx_event.proofs.Laws.Checkpoints.{checkpoints_agree}
+use Rattle.rx_book.specs.declared.key.Key.{Key}
+use Rattle.rx_book.specs.declared.key.ResKey.{ResKey}
+use Rattle.rx_book.specs.declared.key.LeaseKey.{LeaseKey}
+use Rattle.rx_book.specs.State.{State, IsPromised}
+use Rattle.rx_book.specs.Checkpoints.{Checkpoints}
+use Rattle.rx_agenda.specs.declared.answer.Answer.TheVariants.{Accepted}
+use Rattle.rx_scenario.specs.Scenario.{checkpoint}
+use Rattle.rx_report.specs.declared.tallies.Tallies.{Tallies}
+use Rattle.rx_report.specs.Tallies.{AreNotesOf, AreTalliesOf, GoesOn, Gathers}
+use Rattle.rx_report.specs.Keys.{IsNodeKey, IsHeldKey, IsLeaseKey}
+use Rattle.rx_script.specs.declared.engine.Engine.{Engine}
+use Rattle.rx_script.specs.Course.{limited, Executes, checkpointed}
+use Rattle.rx_script.specs.Engine.{stage_of, IsHistoryOf, IsSound, Carries}
+use Rattle.rx_script.proofs.EngineCarriesOut.{stored_lawful, history_lawful, history_agrees}
+use Rattle.rx_script.proofs.WholeHistory.{shown_length, kept_length, notes_whole}
+
+-- what was gathered is that of the whole history
+module _ {t : Tallies} {s : State} {h : List Event} (w : IsHistoryOf h t s) (kept : IsPromised s) where
+  goes_on : GoesOn w.front h s
+  goes_on = record {
+    stored = let same = kept_length w.front w.lawful w.settled s.base w.base in omega arith;
+    rest = w.whole ∙ ap (λ (l : List Event). w.front ++ l) (sym since);
+  } where
+    since : drop (length w.front) s.history ≡ w.since
+    since =
+        ap (drop (length w.front)) w.history ∙ ap (λ (n : ℕ). drop n (shown s.base ++ w.since)) (sym (shown_length w.front w.lawful w.settled s.base w.base))
+        ∙ drop-append_seam (shown s.base) w.since
+
+  told : notes w.front ++ drop s.given (notes s.history) ≡ notes h
+  told =
+      ap (λ (n : ℕ). notes w.front ++ drop n (notes s.history)) w.given ∙ ap (λ (l : List Event). notes w.front ++ notes l) w.history
+      ∙ sym (notes_whole w.front w.lawful w.settled s.base w.base w.since (stored_lawful w kept)) ∙ ap notes (sym w.whole)
+
+  pub gathered : (u : Tallies) → Gathers t u s → AreTalliesOf h u
+  gathered u gathers = record {
+    counts = gathers.counts w.front h w.tallies.counts goes_on (history_lawful w kept);
+    notes = subst (λ mail. AreNotesOf mail u) told (gathers.notes (notes w.front) w.tallies.notes);
+  }
+
+-- keys that a book gave stay so
+module _ (s mid new : State) (same : mid.history ≡ s.history) (same_keys : mid.keys ≡ s.keys) (same_res : mid.res_keys ≡ s.res_keys)
+    (same_leases : mid.lease_keys ≡ s.lease_keys)
+    (made : Checkpoints mid new) where
+  long : length s.history ≡ length new.history
+  long = ap length (sym same) ∙ made.agree.alike.same_length
+
+  node_key_stays : (k : Key) → IsNodeKey s k → IsNodeKey new k
+  node_key_stays k known = record {
+    within = let less = known.within in let l = long in omega arith;
+    found = λ alive. subst (λ keys. Contains keys k) (sym (made.keys ∙ same_keys))
+        (known.found (ap (λ l. is_open l k.number) (sym same) ∙ made.agree.alike.same_open k.number ∙ alive));
+  }
+
+  held_key_stays : (k : ResKey) → IsHeldKey s k → IsHeldKey new k
+  held_key_stays k known = record {
+    within = let less = known.within in let l = long in omega arith;
+    found = λ held. subst (λ keys. Contains keys k) (sym (made.res_keys ∙ same_res))
+        (known.found (ap (λ l. is_held l k.number) (sym same) ∙ made.agree.held k.number ∙ held));
+  }
+
+  lease_key_stays : (k : LeaseKey) → IsLeaseKey s k → IsLeaseKey new k
+  lease_key_stays k known = record {
+    within = let less = known.within in let l = long in omega arith;
+    found = λ out. subst (λ keys. Contains keys k) (sym (made.lease_keys ∙ same_leases))
+        (known.found (ap (λ l. is_out l k.number) (sym same) ∙ made.agree.out k.number ∙ out));
+  }
+
+-- the engine after it
+module _ {R : Type 0} (e : Engine R) (t : Tallies) (given : ℕ) (book : State) (sound : IsSound e) (kept : IsPromised book)
+    (gathers : Gathers e.tallies t e.book) (made : Checkpoints (record e.book { given = given }) book) where
+  abbrev pub checked_engine : Engine R
+  checked_engine =
+      record { book = book; nodes = e.nodes; hubs = e.hubs; resources = e.resources; leases = e.leases; stock = e.stock; tallies = t; faults = e.faults }
+
+  module _ (h : List Event) (w : IsHistoryOf h e.tallies e.book) where
+    here : book.base.at_length ≡ length h
+    here = ap (λ b. b.at_length) made.base ∙ base_length e.book.base e.book.history ∙ sym (history_agrees w sound.kept).alike.same_length
+
+    checked_history : IsHistoryOf h t book
+    checked_history = record {
+      front = h;
+      since = [];
+      whole = sym (append-nil h);
+      lawful = history_lawful w sound.kept;
+      settled = settled_too e.book.base e.book.history nothing_kept h
+          (agree_back nothing_kept h e.book.base e.book.history (history_agrees w sound.kept)) sound.kept.settled;
+      base = made.base ∙ sym (checkpoints_agree.one_base nothing_kept h e.book.base e.book.history (history_agrees w sound.kept));
+      history = made.history ∙ sym (append-nil (shown book.base));
+      tallies = gathered w sound.kept t gathers;
+      given = made.given;
+    }
+
+  checks : (h : List Event) → IsHistoryOf h e.tallies e.book
+      → (k : List Event) × Executes (limited e.book.limit) (stage_of e h) checkpoint Accepted (stage_of checked_engine k) × IsHistoryOf k t book
+  checks h w = (
+    h,
+    subst (λ n. Executes (limited e.book.limit) (stage_of e h) checkpoint Accepted (record (stage_of e h) { checked = n })) (sym (here h w)) checkpointed,
+    checked_history h w,
+  )
+
+  pub checkpointed_to : Carries e checkpoint Accepted checked_engine
+  checkpointed_to = record {
+    executes = checks;
+    sound = record {
+      kept = kept;
+      nodes = λ i d lt. node_key_stays e.book (record e.book { given = given }) book refl refl refl refl made _ (sound.nodes i d lt);
+      resources = λ i d lt. held_key_stays e.book (record e.book { given = given }) book refl refl refl refl made _ (sound.resources i d lt);
+      leases = λ i d lt. lease_key_stays e.book (record e.book { given = given }) book refl refl refl refl made _ (sound.leases i d lt);
+      faults = let taken = made.agree.taken_total in let few = sound.faults in omega arith;
+    };
+    limit = made.limit;
+  }

@@ -1,0 +1,249 @@
+-- An engine carries out a step: it is refused by the scenario, refused by the book, or accepted. The book goes by its stored history,
+-- and the course by the whole one.
+use Rattle.std.proofs.Common.{◌≡◌, ◌≤◌, ◌+◌, ◌++◌, ℕ, List, [], Bool, true, false, refl, sym, ap, subst, ◌∙◌, arith, append_assoc, length}
+use Rattle.std.specs.Prelude.{Some, None}
+use Rattle.std.specs.List.{All}
+use Rattle.std.proofs.lemmas.Option.{none-some}
+use Rattle.rx_event.specs.declared.event.Event.{Event}
+use Rattle.rx_event.specs.declared.refusal.Refusal.{Refusal}
+use Rattle.rx_event.specs.declared.refusal.Refusal.TheVariants.{Gone}
+use Rattle.rx_event.specs.Kept.{nothing_kept, shown, stored}
+use Rattle.rx_event.specs.Bases.{Agree}
+use Rattle.rx_event.specs.Totals.{taken_count}
+use Rattle.rx_event.specs.Lawful.{IsLawful}
+use Rattle.rx_event.specs.Calls.{Call, IsStepOf}
+use Rattle.rx_event.specs.Refusals.{first_cause}
+use Rattle.rx_book.specs.State.{State, IsPromised, Continues}
+use Rattle.rx_event.specs.Causes.{by_key, causes}
+use Rattle.rx_book.specs.Requests.{Request, stands}
+use Rattle.rx_book.specs.Answers.{Accepts, connection_made}
+use Rattle.rx_agenda.specs.declared.answer.Answer.{Answer}
+use Rattle.rx_agenda.specs.declared.answer.Answer.TheVariants.{Accepted, Refused}
+use Rattle.rx_agenda.specs.declared.answer.Cause.{Cause}
+use Rattle.rx_agenda.specs.declared.answer.Cause.TheVariants.{Book}
+use Rattle.rx_script.specs.declared.engine.Engine.{Engine}
+use Rattle.rx_scenario.specs.Scenario.{Command, drain, checkpoint}
+use Rattle.rx_script.specs.Stage.{Stage, own_cause, call_of, after, front_is_fresh}
+use Rattle.rx_book.specs.Drains.{Drains}
+use Rattle.rx_script.specs.Course.{limited, Executes, refused, refused_by_book, accepted, drained}
+use Rattle.rx_script.specs.Shelf.{Shelf}
+use Rattle.rx_report.specs.declared.tallies.Tallies.{Tallies}
+use Rattle.rx_report.specs.Tallies.{AreTalliesOf}
+use Rattle.rx_report.specs.Keys.{IsNodeKey, IsHeldKey, IsLeaseKey}
+use Rattle.rx_script.specs.Engine.{stage_of, IsHistoryOf, IsSound, Carries}
+use Rattle.rx_book.proofs.Laws.StepsContinue.{step_taken, accepted_continues}
+use Rattle.rx_script.proofs.GivenKeysStay.{node_keys_kept, held_keys_kept, lease_keys_kept}
+use Rattle.rx_script.proofs.SameRows.{same_row}
+use Rattle.rx_script.proofs.SameNames.{own_kept, call_kept, after_kept, connection_past, with_history}
+use Rattle.rx_script.proofs.WholeHistory.{whole_lawful, whole_agree, StepOver, step_over, DrainOver, drain_over}
+
+-- to look for the key is to look whether the node is open
+pub first_cause-by_key : (known : Bool) (stand : Refusal → Bool) → (known ≡ false → stand Gone ≡ true) → first_cause (by_key known stand) ≡ first_cause stand
+first_cause-by_key true stand gone = refl
+first_cause-by_key false stand gone = let stands_gone : stand Gone ≡ true = gone refl in rw stands_gone refl
+
+-- the step makes the call that is asked for, and the first of the book's causes against it by keys is that by numbers
+pub record Agrees (s : State) (asked : Request) (stage : Stage) (step : Command) : Type 0 where
+  pub called : call_of stage step ≡ Some asked.call
+  pub same : first_cause (stands s asked) ≡ first_cause (causes s.base stage.history s.limit (front_is_fresh stage) asked.call)
+
+-- the stage that the stored history tells of
+abbrev pub stored_stage : {R : Type 0} → Engine R → Stage
+stored_stage e = with_history (stage_of e []) e.book.history 0
+
+-- the engine with another book and stock
+abbrev pub with : {R : Type 0} → Engine R → State → Shelf → Engine R
+with e book stock =
+    record { book = book; nodes = e.nodes; hubs = e.hubs; resources = e.resources; leases = e.leases; stock = stock; tallies = e.tallies; faults = e.faults }
+
+-- no release met a fault, and nothing was gathered for the report
+abbrev pub KeepsRest : {R : Type 0} → Engine R → Engine R → Type 0
+KeepsRest old new = (new.faults ≡ old.faults) × (new.tallies ≡ old.tallies)
+
+-- the whole history and the stored one ---------------------------------------------------------------
+
+module _ {t : Tallies} {s : State} {h : List Event} (w : IsHistoryOf h t s) (kept : IsPromised s) where
+  pub stored_lawful : IsLawful s.base (stored s.base w.since)
+  stored_lawful = subst (IsLawful s.base) w.history kept.lawful
+
+  pub history_lawful : IsLawful nothing_kept h
+  history_lawful = subst (IsLawful nothing_kept) (sym w.whole) (whole_lawful w.front w.lawful w.settled s.base w.base w.since stored_lawful)
+
+  pub history_agrees : Agree nothing_kept h s.base s.history
+  history_agrees = subst (λ (l : List Event). Agree nothing_kept l s.base s.history) (sym w.whole)
+      (subst (Agree nothing_kept (w.front ++ w.since) s.base) (sym w.history) (whole_agree w.front w.lawful w.settled s.base w.base w.since stored_lawful))
+
+  -- the causes against a call are the same
+  cause_same : (fresh : Bool) (call : Call)
+      → first_cause (causes nothing_kept h (s.base.at_length + s.limit) fresh call) ≡ first_cause (causes s.base s.history s.limit fresh call)
+  cause_same fresh call =
+      let same_end : nothing_kept.at_length + (s.base.at_length + s.limit) ≡ s.base.at_length + s.limit = omega arith in
+      same_row nothing_kept h s.base s.history history_agrees history_lawful (s.base.at_length + s.limit) s.limit same_end fresh call
+
+  -- the history with these events more
+  abbrev on : List Event → List Event
+  on events = w.front ++ (w.since ++ events)
+
+  on_whole : (events : List Event) → on events ≡ h ++ events
+  on_whole events = sym (append_assoc w.front w.since events) ∙ ap (λ (l : List Event). l ++ events) (sym w.whole)
+
+  on_stored : (events : List Event) → stored s.base (w.since ++ events) ≡ s.history ++ events
+  on_stored events = sym (append_assoc (shown s.base) w.since events) ∙ ap (λ (l : List Event). l ++ events) (sym w.history)
+
+  history_on : (u : Tallies) (new : State) (events : List Event) → u ≡ t → new.base ≡ s.base → new.given ≡ s.given
+      → new.history ≡ stored s.base (w.since ++ events)
+      → IsHistoryOf (on events) u new
+  history_on u new events same_tallies same_base same_given same_history = record {
+    front = w.front;
+    since = w.since ++ events;
+    whole = refl;
+    lawful = w.lawful;
+    settled = w.settled;
+    base = same_base ∙ w.base;
+    history = same_history ∙ ap (λ b. stored b (w.since ++ events)) (sym same_base);
+    tallies = subst (AreTalliesOf w.front) (sym same_tallies) w.tallies;
+    given = same_given ∙ w.given;
+  }
+
+-- carrying out ---------------------------------------------------------------------------------------
+
+-- nothing was changed
+pub unchanged : {R : Type 0} (e : Engine R) (step : Command) (answer : Answer) (book : State) (stock : Shelf) → IsSound e → book ≡ e.book
+    → stock.wares ≡ e.stock.wares
+    → ((h : List Event) → IsHistoryOf h e.tallies e.book → Executes (limited e.book.limit) (stage_of e h) step answer (stage_of e h))
+    → Carries e step answer (with e book stock)
+unchanged {R} e step answer book stock sound same_book same_stock executes =
+    let at_book : Carries e step answer (with e e.book stock) = record {
+      executes = λ h w. (
+        h,
+        subst (λ wares. Executes (limited e.book.limit) (stage_of e h) step answer (record (stage_of e h) { stock = wares })) (sym same_stock) (executes h w),
+        w,
+      );
+      sound = record { kept = sound.kept; nodes = sound.nodes; resources = sound.resources; leases = sound.leases; faults = sound.faults };
+      limit = refl;
+    } in
+    subst (λ b. Carries e step answer (with e b stock)) (sym same_book) at_book
+
+pub refused_own : {R : Type 0} (e : Engine R) (step : Command) (why : Cause) (book : State) (stock : Shelf) → IsSound e → book ≡ e.book
+    → stock.wares ≡ e.stock.wares
+    → own_cause (stored_stage e) step ≡ Some why → Carries e step (Refused why) (with e book stock)
+refused_own e step why book stock sound same_book same_stock own =
+    unchanged e step (Refused why) book stock sound same_book same_stock (λ h w. refused (own_kept (stored_stage e) h e.book.base.at_length step ∙ own))
+
+pub refused_there : {R : Type 0} (e : Engine R) (step : Command) (asked : Request) (why : Refusal) (book : State) (stock : Shelf) → IsSound e
+    → book ≡ e.book → stock.wares ≡ e.stock.wares
+    → own_cause (stored_stage e) step ≡ None → Agrees e.book asked (stored_stage e) step
+    → first_cause (stands e.book asked) ≡ Some why → Carries e step (Refused (Book why)) (with e book stock)
+refused_there e step asked why book stock sound same_book same_stock own agrees cause =
+    unchanged e step (Refused (Book why)) book stock sound same_book same_stock (λ h w.
+    refused_by_book (own_kept (stored_stage e) h e.book.base.at_length step ∙ own) (call_kept (stored_stage e) h e.book.base.at_length step ∙ agrees.called)
+    (cause_same w sound.kept (front_is_fresh (stored_stage e)) asked.call ∙ sym agrees.same ∙ cause))
+
+-- an accepted call, after which the names are these
+module _ {R : Type 0} (e new : Engine R) (step : Command) (asked : Request) (sound : IsSound e) (own : own_cause (stored_stage e) step ≡ None)
+    (agrees : Agrees e.book asked (stored_stage e) step) (accepts : Accepts e.book asked new.book)
+    (staged : stored_stage new ≡ after (stored_stage e) step new.book.history) (rest : KeepsRest e new) where
+  module _ (h : List Event) (w : IsHistoryOf h e.tallies e.book) where
+    over : StepOver w.front w.lawful w.settled e.book.base w.base w.since asked.call new.book.history
+    over = step_over w.front w.lawful w.settled e.book.base w.base w.since asked.call new.book.history (stored_lawful w sound.kept)
+        (subst (λ (l : List Event). IsStepOf e.book.base l asked.call new.book.history) w.history accepts.step)
+
+    abbrev then : List Event
+    then = on w sound.kept over.events
+
+    calls : call_of (stage_of e h) step ≡ Some asked.call
+    calls = call_kept (stored_stage e) h e.book.base.at_length step ∙ agrees.called
+
+    plain : step ≡ checkpoint → ⊥
+    plain is = none-some asked.call (ap (call_of (stored_stage e)) (sym is) ∙ agrees.called)
+
+    long : length h ≡ length e.book.history
+    long = (history_agrees w sound.kept).alike.same_length
+
+    ends : after (stage_of e h) step then ≡ stage_of new then
+    ends =
+        after_kept (stored_stage e) h e.book.base.at_length step plain then new.book.history long
+        (ap (connection_made h) (on_whole w sound.kept over.events) ∙ connection_past h e.book.history over.events long
+        ∙ ap (connection_made e.book.history) (sym (over.same ∙ on_stored w sound.kept over.events)))
+        ∙ ap (λ (s : Stage). with_history s then e.book.base.at_length) (sym staged)
+        ∙ ap (λ b. with_history (stored_stage new) then b.at_length) (sym accepts.base)
+
+    goes_to : (k : List Event) × Executes (limited e.book.limit) (stage_of e h) step Accepted (stage_of new k) × IsHistoryOf k new.tallies new.book
+    goes_to = (
+      then,
+      subst (λ s. Executes (limited e.book.limit) (stage_of e h) step Accepted s) ends
+          (accepted then (own_kept (stored_stage e) h e.book.base.at_length step ∙ own) calls
+          (cause_same w sound.kept (front_is_fresh (stored_stage e)) asked.call ∙ sym agrees.same ∙ accepts.no_cause)
+          (subst (λ (l : List Event). IsStepOf nothing_kept l asked.call then) (sym w.whole) over.step)),
+      history_on w sound.kept new.tallies new.book over.events rest.1 accepts.base accepts.given over.same,
+    )
+
+pub accepted_to : {R : Type 0} (e new : Engine R) (step : Command) (asked : Request) → IsSound e → IsPromised new.book
+    → own_cause (stored_stage e) step ≡ None → Agrees e.book asked (stored_stage e) step
+    → Accepts e.book asked new.book
+    → stored_stage new ≡ after (stored_stage e) step new.book.history
+    → All (λ n. IsNodeKey new.book n.key) new.nodes → All (λ n. IsHeldKey new.book n.key) new.resources
+    → All (λ n. IsLeaseKey new.book n.key) new.leases → KeepsRest e new
+    → Carries e step Accepted new
+accepted_to e new step asked sound kept own agrees accepts staged nodes resources leases rest = record {
+  executes = goes_to e new step asked sound own agrees accepts staged rest;
+  sound = record {
+    kept = kept;
+    nodes = nodes;
+    resources = resources;
+    leases = leases;
+    faults = let taken = step_taken e.book.base e.book.history new.book.history asked.call accepts.step in
+        let over = ap (λ b. taken_count b new.book.history) accepts.base in
+        let faults = sound.faults in
+        let same = rest.0 in omega arith;
+  };
+  limit = accepts.limit;
+}
+
+-- a call that binds no names
+pub accepted_plain : {R : Type 0} (e : Engine R) (step : Command) (asked : Request) (book : State) → IsSound e → IsPromised book
+    → own_cause (stored_stage e) step ≡ None → Agrees e.book asked (stored_stage e) step
+    → Accepts e.book asked book
+    → ((k : List Event) → after (stored_stage e) step k ≡ record (stored_stage e) { history = k })
+    → Carries e step Accepted (with e book e.stock)
+accepted_plain e step asked book sound kept own agrees accepts plain =
+    let goes = accepted_continues e.book book asked accepts in
+    accepted_to e (with e book e.stock) step asked sound kept own agrees accepts (sym (plain book.history))
+    (node_keys_kept e.book book e.nodes sound.kept kept goes sound.nodes) (held_keys_kept e.book book e.resources sound.kept kept goes sound.resources)
+    (lease_keys_kept e.book book e.leases sound.kept kept goes sound.leases) (refl, refl)
+
+-- taking and releasing all that waits
+module _ {R : Type 0} (e : Engine R) (book : State) (faults : ℕ) (sound : IsSound e) (drains : Drains e.book.base e.book.history book.history)
+    (goes : Continues e.book book) where
+  -- the engine after it
+  abbrev pub drained_engine : Engine R
+  drained_engine =
+      record { book = book; nodes = e.nodes; hubs = e.hubs; resources = e.resources; leases = e.leases; stock = e.stock; tallies = e.tallies; faults = faults }
+
+  drains_to : (h : List Event) → IsHistoryOf h e.tallies e.book
+      → (k : List Event) × Executes (limited e.book.limit) (stage_of e h) drain Accepted (stage_of drained_engine k) × IsHistoryOf k e.tallies book
+  drains_to h w = (
+    on w sound.kept over.events,
+    subst (λ b. Executes (limited e.book.limit) (stage_of e h) drain Accepted (with_history (stage_of e h)
+        (on w sound.kept over.events) b.at_length)) (sym goes.base)
+        (drained (subst (λ (l : List Event). Drains nothing_kept l (on w sound.kept over.events)) (sym w.whole) over.drains)),
+    history_on w sound.kept e.tallies book over.events refl goes.base goes.given over.same,
+  ) where
+    over : DrainOver w.front w.lawful w.settled e.book.base w.base w.since book.history
+    over = drain_over w.front w.lawful w.settled e.book.base w.base w.since book.history (stored_lawful w sound.kept)
+        (subst (λ (l : List Event). Drains e.book.base l book.history) w.history drains)
+
+  pub drained_to : (released : ℕ) → IsPromised book → taken_count book.base book.history ≡ taken_count e.book.base e.book.history + released
+      → faults ≤ e.faults + released
+      → Carries e drain Accepted drained_engine
+  drained_to released kept rose few = record {
+    executes = drains_to;
+    sound = record {
+      kept = kept;
+      nodes = node_keys_kept e.book book e.nodes sound.kept kept goes sound.nodes;
+      resources = held_keys_kept e.book book e.resources sound.kept kept goes sound.resources;
+      leases = lease_keys_kept e.book book e.leases sound.kept kept goes sound.leases;
+      faults = let before = sound.faults in omega arith;
+    };
+    limit = goes.limit;
+  }

@@ -1,0 +1,76 @@
+-- What is written before the closing, of the whole history.
+use Rattle.std.proofs.Common.{◌≡◌, ◌≤◌, ◌++◌, ℕ, List, map, sym, ap, subst, ◌∙◌}
+use Rattle.std.specs.Prelude.{Result, Ok, Err, IfOk, OnOk}
+use Rattle.rx_event.specs.declared.event.Event.{Event}
+use Rattle.rx_event.specs.Kept.{nothing_kept}
+use Rattle.rx_event.specs.Bases.{Agree}
+use Rattle.rx_event.specs.Totals.{taken_count}
+use Rattle.rx_dump.specs.Dump.{dump}
+use Rattle.rx_agenda.specs.declared.answer.Answer.{Answer}
+use Rattle.rx_report.specs.declared.tallies.Tallies.{Tallies}
+use Rattle.rx_report.specs.Tallies.{Gathers, IsWhole}
+use Rattle.rx_report.specs.Keys.{node_binding, res_binding}
+use Rattle.rx_report.specs.Text.{totals_line}
+use Rattle.rx_report.specs.Lines.{refused_lines, node_lines, res_lines, totals_of}
+use Rattle.rx_script.specs.declared.engine.Engine.{Engine}
+use Rattle.rx_script.specs.declared.Form.{Form}
+use Rattle.rx_script.specs.declared.Form.TheVariants.{Dump}
+use Rattle.rx_script.specs.Course.{Manner}
+use Rattle.rx_script.specs.Progress.{Progress, Ends}
+use Rattle.rx_script.specs.Report.{unclosed_report}
+use Rattle.rx_script.specs.Outputs.{unclosed_output, IsCarriedOut}
+use Rattle.rx_script.specs.Engine.{stage_of, IsHistoryOf, IsSound}
+use Rattle.rx_script.proofs.EngineCarriesOut.{history_lawful, history_agrees}
+use Rattle.rx_script.proofs.CheckpointCarriedOut.{gathered}
+use Rattle.rx_script.proofs.AllStored.{no_base, all_stored}
+
+module _ {R : Type 0} (e : Engine R) (sound : IsSound e) (h : List Event) (w : IsHistoryOf h e.tallies e.book) where
+  -- what was gathered is all that the report is written from
+  pub all_gathered : (u : Tallies) (given : ℕ) → Gathers e.tallies u e.book → IsWhole h u (record e.book { given = given })
+  all_gathered u given gathers = record { tallies = gathered w sound.kept u gathers; agree = history_agrees w sound.kept }
+
+  -- the lines, one kind after the other
+  pub lines_report : (answers : List Answer) (a b c d : List ℕ) → a ≡ refused_lines answers → b ≡ a ++ node_lines h (map node_binding e.nodes)
+      → c ≡ b ++ res_lines h (map res_binding e.resources) → d ≡ c ++ totals_line (totals_of nothing_kept h) → d ≡ unclosed_report answers (stage_of e h)
+  unfolding unclosed_report
+  lines_report answers a b c d refusals nodes resources totals =
+      let two : List ℕ = node_lines h (map node_binding e.nodes) in
+      let three : List ℕ = res_lines h (map res_binding e.resources) in
+      let four : List ℕ = totals_line (totals_of nothing_kept h) in
+      totals ∙ ap (λ l. l ++ four) (resources ∙ ap (λ l. l ++ three) (nodes ∙ ap (λ l. l ++ two) refusals))
+
+  -- the dump, where no checkpoint was made
+  pub dump_whole : (text : List ℕ) → e.book.base.at_length ≡ 0 → (e.book.base ≡ nothing_kept → text ≡ dump e.book.history) → text ≡ dump h
+  dump_whole text unchecked dumped = dumped (no_base w unchecked) ∙ ap dump (all_stored w unchecked)
+
+-- what holds where a text was written
+pub written_of : {T E P Q S : Type 0} {A B : T → Type 0} (r : Result T E) → OnOk r P → OnOk r Q → OnOk r S → ((x : T) → P → Q → S → A x → B x) → IfOk r A
+    → IfOk r B
+written_of (Ok x) p q s f a = f x p q s a
+written_of (Err e) p q s f a = a
+
+-- a run that led here, and what is written of it
+pub carried_out : {R : Type 0} (m : Manner) (until : ℕ) (first : Progress) (form : Form) (text : List ℕ) (e new : Engine R)
+    (answers : List Answer) (k : List Event)
+    → IsSound e → Ends m until first answers (stage_of e k) → IsHistoryOf k e.tallies e.book
+    → ((form ≡ Dump → e.book.base.at_length ≡ 0) → text ≡ unclosed_output form answers (stage_of e k))
+    → new.book.base ≡ e.book.base → new.book.history ≡ e.book.history → new.faults ≡ e.faults → IsCarriedOut m until first form text new
+carried_out m until first form text e new answers k sound ends w lines same_base same_history same_faults = record {
+  answers = answers;
+  last = stage_of e k;
+  ends = ends;
+  lines = lines;
+  lawful = history_lawful w sound.kept;
+  agree = subst (λ b. Agree nothing_kept k b new.book.history) base_stays
+      (subst (Agree nothing_kept k e.book.base) history_stays (history_agrees w sound.kept));
+  few_faults = few;
+} where
+  base_stays : e.book.base ≡ new.book.base
+  base_stays = sym same_base
+
+  history_stays : e.book.history ≡ new.book.history
+  history_stays = sym same_history
+
+  few : new.faults ≤ taken_count new.book.base new.book.history
+  few = subst (λ n. n ≤ taken_count new.book.base new.book.history) (sym same_faults)
+      (subst (λ b. e.faults ≤ taken_count b new.book.history) base_stays (subst (λ l. e.faults ≤ taken_count e.book.base l) history_stays sound.faults))
