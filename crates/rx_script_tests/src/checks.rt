@@ -44,7 +44,8 @@ fn assert_fault(rt: &impl Abort, alloc: Global, text: &[u8], fault: &str) {
 const NOTHING_LEFT: &str = "lawful\nlive:\nheld:\nwaiting:\n";
 
 const A_WHOLE_LIFE: &str =
-    "[[\"open\",\"root\",\"pass\"],[\"accept\",0,0],[\"open\",\"source\",0,\"leaf\"],[\"item\",2,5],[\"end\",2,\"completed\"],[\"end\",0,\"completed\"],[\"take\",1]]\n";
+    "[[\"open\",\"root\",\"pass\"],[\"accept\",0,0],[\"open\",\"source\",0,\"leaf\"],[\"item\",2,5],\
+    [\"end\",2,\"completed\"],[\"end\",0,\"completed\"],[\"take\",1]]\n";
 
 #[test]
 fn what_is_no_dump_is_told_from_what_is_no_json(rt: HostRuntime) {
@@ -181,7 +182,10 @@ fn a_writer_that_fails_has_a_front_of_the_text(rt: HostRuntime) {
 // item the hub's subscriber is told, a resource that is held and one that waits; and a root that was
 // opened and closed.
 const A_SHARED_LIFE: &str =
-    "[[\"hub\",\"auto\"],[\"open\",\"root\",\"sub\",0],[\"connect\",0],[\"open\",\"source\",2,\"flat\"],[\"open\",\"source\",3,\"leaf\"],[\"accept\",2,9],[\"accept\",4,8],[\"item\",4,1],[\"open\",\"inner\",3,\"leaf\"],[\"item\",8,2],[\"use\",5],[\"remove\",6],[\"open\",\"root\",\"leaf\"],[\"close\",12]]";
+    "[[\"hub\",\"auto\"],[\"open\",\"root\",\"sub\",0],[\"connect\",0],[\"open\",\"source\",2,\"flat\"],\
+    [\"open\",\"source\",3,\"leaf\"],[\"accept\",2,9],[\"accept\",4,8],[\"item\",4,1],\
+    [\"open\",\"inner\",3,\"leaf\"],[\"item\",8,2],[\"use\",5],[\"remove\",6],[\"open\",\"root\",\"leaf\"],\
+    [\"close\",12]]";
 
 const A_SHARED_LIFE_LEFT: &str = "lawful\nlive: 1 2 3 4 8\nheld: 5\nwaiting: 6\n";
 

@@ -7,7 +7,10 @@ use std::alloc::{AllocError, Global};
 use std::test::Fail;
 
 const FIRST_RUN: &str =
-    "{\"steps\":[{\"do\":\"using\",\"name\":\"a\",\"place\":\"root\",\"res\":\"r\"},{\"do\":\"open\",\"name\":\"b\",\"place\":\"source\",\"of\":\"a\",\"kind\":\"leaf\"},{\"do\":\"next\",\"node\":\"b\",\"value\":5},{\"do\":\"end\",\"node\":\"b\"},{\"do\":\"next\",\"node\":\"b\",\"value\":6},{\"do\":\"drain\"}]}";
+    "{\"steps\":[{\"do\":\"using\",\"name\":\"a\",\"place\":\"root\",\"res\":\"r\"},\
+    {\"do\":\"open\",\"name\":\"b\",\"place\":\"source\",\"of\":\"a\",\"kind\":\"leaf\"},\
+    {\"do\":\"next\",\"node\":\"b\",\"value\":5},{\"do\":\"end\",\"node\":\"b\"},\
+    {\"do\":\"next\",\"node\":\"b\",\"value\":6},{\"do\":\"drain\"}]}";
 
 fn is_syntax(error: &Option<ScriptError>) -> bool {
     matches!(error, Some(ScriptError::Syntax))

@@ -1,4 +1,5 @@
-use Rattle.std.proofs.Common.{◌≡◌, ℕ, Bool, true, false, List, [], ◌∷◌, ◌++◌, length, Some, None, refl, sym, ap, ◌∙◌, arith, slice_get, length-append, append_assoc, append-nil}
+use Rattle.std.proofs.Common.{◌≡◌, ℕ, Bool, true, false, List, [], ◌∷◌, ◌++◌, length, Some, None}
+use Rattle.std.proofs.Common.{refl, sym, ap, ◌∙◌, arith, slice_get, length-append, append_assoc, append-nil}
 use Rattle.std.proofs.Math.Bool.{not}
 use Rattle.std.specs.Option.{option_map_or}
 use Rattle.std.proofs.lemmas.List.{length-map, get_or-map}
@@ -26,7 +27,8 @@ use Rattle.rx_book_tests.proofs.caller.use_once.Goals as goal
 -- what is forced comes behind
 forced_behind : (base : Kept) → {h k : List Event} → IsForcedOn base h k → (t : List Event) × (k ≡ h ++ t)
 forced_behind base (stays {h}) = ([], sym (append-nil h))
-forced_behind base (more {h} {k} {e} before next) = let b = forced_behind base before in (b.0 ++ e ∷ [], ap (λ (m : List Event). m ++ e ∷ []) b.1 ∙ append_assoc h b.0 (e ∷ []))
+forced_behind base (more {h} {k} {e} before next) =
+    let b = forced_behind base before in (b.0 ++ e ∷ [], ap (λ (m : List Event). m ++ e ∷ []) b.1 ∙ append_assoc h b.0 (e ∷ []))
 
 -- a key that a book knows is an open node's
 known_open : (s : State) → IsPromised s → (k : Key) → has_key s.keys k ≡ true → is_open s.history k.number ≡ true
@@ -45,13 +47,15 @@ slice_get_behind (x ∷ h) e t = slice_get_behind h e t
 root_opened : (base : Kept) → (h k : List Event) (tag n : ℕ) → IsStepOf base h (OpeningUsing Root tag) k → n ≡ length h → at is_root k n ≡ true
 root_opened base h k tag n step e =
     let b = forced_behind base step.forced in
-    ap (λ (m : List Event). at is_root m n) b.1 ∙ rw e (at-append is_root (h ++ Open Root Pass ∷ Accept (length h) tag ∷ []) b.0 (length h) (omega (arith, length-append {A = Event})) ∙ at_end h)
+    ap (λ (m : List Event). at is_root m n) b.1
+    ∙ rw e (at-append is_root (h ++ Open Root Pass ∷ Accept (length h) tag ∷ []) b.0 (length h) (omega (arith, length-append {A = Event})) ∙ at_end h)
   where
     at_end : (h : List Event) → at is_root (h ++ Open Root Pass ∷ Accept (length h) tag ∷ []) (length h) ≡ true
     at_end h = ap (λ o. option_map_or is_root o false) (slice_get_behind h (Open Root Pass) (Accept (length h) tag ∷ []))
 
 -- nothing stands against the closing of an open root
-closing_accepted : (s : State) (k : Key) (why : Refusal) → has_key s.keys k ≡ true → is_open s.history k.number ≡ true → at is_root s.history k.number ≡ true → first_cause (stands s (dispose_request s k)) ≡ Some why → ⊥
+closing_accepted : (s : State) (k : Key) (why : Refusal) → has_key s.keys k ≡ true → is_open s.history k.number ≡ true
+    → at is_root s.history k.number ≡ true → first_cause (stands s (dispose_request s k)) ≡ Some why → ⊥
 closing_accepted s k why has alive root e = shape (is_open s.history k.number) (at is_root s.history k.number) why alive root (rw has at e)
   where
     shape : (a b : Bool) (why : Refusal) → a ≡ true → b ≡ true → (if not a then Some Gone else (if not b then Some NotRoot else None)) ≡ Some why → ⊥
@@ -61,6 +65,10 @@ closing_accepted s k why has alive root e = shape (is_open s.history k.number) (
 
 pub unreachable-requires : goal.unreachable-requires
 unreachable-requires g c =
+    let s = c.open_using.new.self in
+    let key = c.in_ok-opened.opened.key in
     let given = c.in_ok-opened.ensures in
-    let refused : first_cause (stands c.open_using.new.self (dispose_request c.open_using.new.self c.in_ok-opened.opened.key)) ≡ Some c.in-Err.field-0 = c.in-Err.ensures.refused in
-    closing_accepted c.open_using.new.self c.in_ok-opened.opened.key c.in-Err.field-0 given.ok.key.listed (known_open c.open_using.new.self c.promise.ensures c.in_ok-opened.opened.key given.ok.key.listed) (root_opened c.args.book.now.base c.args.book.now.history c.open_using.new.self.history _ c.in_ok-opened.opened.key.number given.accepted.step given.ok.key.number) refused
+    let refused : first_cause (stands s (dispose_request s key)) ≡ Some c.in-Err.field-0 = c.in-Err.ensures.refused in
+    closing_accepted s key c.in-Err.field-0 given.ok.key.listed
+    (known_open s c.promise.ensures key given.ok.key.listed)
+    (root_opened c.args.book.now.base c.args.book.now.history s.history _ key.number given.accepted.step given.ok.key.number) refused
