@@ -28,7 +28,7 @@ use Rattle.rx_book.specs.State.{State}
 use Rattle.rx_book.specs.Requests.{Request, stands}
 use Rattle.rx_book.specs.Asked.{request_for}
 use Rattle.rx_book.specs.Shown.{state_of}
-use Rattle.rx_book.specs.Steps.{IsLetIn, IsAdmitted, IsDecided, unless_caused}
+use Rattle.rx_book.specs.Steps.{IsAdmitted, IsDecided, unless_caused}
 use Rattle.rx_book.proofs.CallWithoutCause.{let_in, within_full, state_roomier}
 
 -- what is decided by the first cause and the cost

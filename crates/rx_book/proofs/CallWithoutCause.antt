@@ -1,7 +1,7 @@
 -- A call, from where nothing stands against it: its events may be written, what they force is paid for, and it is accepted.
 use Rattle.std.proofs.Common.{◌≡◌, ◌==◌, ℕ, ◌+◌, ◌≤◌, Bool, true, false, List, [], ◌∷◌, ◌++◌, length, Option, Some, None, is_some, refl, sym, ap, subst, ◌∙◌, arith}
 use Rattle.std.proofs.Common.{length-append, append_assoc, append-nil}
-use Rattle.std.proofs.Math.Bool.{not, ◌&&◌}
+use Rattle.std.proofs.Math.Bool.{not}
 use Rattle.std.specs.List.{list_all}
 use Rattle.std.specs.Option.{option_map_or}
 use Rattle.std.proofs.lemmas.Bool.{and_parts, false≢true, not-false, eqb-true}
@@ -34,7 +34,7 @@ use Rattle.rx_ground.specs.Shown.{Ground}
 use Rattle.rx_ground.specs.Ties.{IsStanding, IsRoomier, IsReady, KeepsOlder, KeepsLeases, HasRoomToConnect}
 use Rattle.rx_ground.specs.Ties.{IsTied, AreTied, AreLeased, KeepsNodes, KeepsHeld}
 use Rattle.rx_ground.proofs.Laws.KeysKept.{KeepsKeys, keeps_on, keeps_settled, keeps_closed, keeps_held, leases_stay}
-use Rattle.rx_book.specs.State.{State, has_key, has_res_key, has_lease_key}
+use Rattle.rx_book.specs.State.{has_key, has_res_key, has_lease_key}
 use Rattle.rx_book.specs.Requests.{Request, stands, is_live, is_fresh_in}
 use Rattle.rx_book.specs.Answers.{Accepts, IsNewLeaseKey}
 use Rattle.rx_book.specs.Steps.{IsLetIn, IsWritten}

@@ -32,7 +32,7 @@ use Rattle.rx_flow.specs.declared.forcing.Due.{Due}
 use Rattle.rx_flow.specs.Due.{IsChained, IsDueAt, IsQuiet as IsQuietTree}
 use Rattle.rx_flow.specs.Records.{AreRecordsOf}
 use Rattle.rx_flow.proofs.Laws.Dues.{due_at_in, due_forced}
-use Rattle.rx_ground.specs.Ties.{AreLeased, IsTied, AreTied, IsReady, WithChain, IsNext, KeepsOlder, Remarks, HasRoomToConnect, is_there, key_due}
+use Rattle.rx_ground.specs.Ties.{AreLeased, AreTied, IsReady, WithChain, IsNext, KeepsOlder, Remarks, HasRoomToConnect, is_there, key_due}
 use Rattle.rx_ground.specs.Memory.{TakesNoMemory}
 use Rattle.rx_ground.proofs.Memory.{memory_on}
 use Rattle.rx_ground.specs.Shown.{Ground}

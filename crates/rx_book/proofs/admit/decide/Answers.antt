@@ -1,4 +1,4 @@
-use Rattle.std.proofs.Common.{true, ◌≤◌, None, Some, sym, ap, ◌∙◌, arith}
+use Rattle.std.proofs.Common.{true, None, Some, sym, ap, ◌∙◌, arith}
 use Rattle.rx_event.specs.Calls.{Opening, OpeningUsing, Holding, Applying, Leasing, Emitting}
 use Rattle.rx_event.specs.Causes.{causes}
 use Rattle.rx_ground.specs.declared.base.Wanted.{Wanted}
