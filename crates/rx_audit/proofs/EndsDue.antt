@@ -96,27 +96,27 @@ ended_last : (h : List Event) (g place : ℕ) → last_below (keyed (hub_ended_a
     → (t : Terminal) × EndsLast h g place t × (terminal_of_word h (suc place) ≡ Some t)
 ended_last h g place found =
     by_event (slice_get h place) refl (is_key_of (hub_ended_at h place) g (last_holds (keyed (hub_ended_at h) g) (length h) place found)) where
-  last : (i : ℕ) (u : Terminal) → EndsConnection h g i u → i ≤ place
-  last i u x = by_order (cases_order i place) where
-    holds : keyed (hub_ended_at h) g i ≡ true
-    holds = key_is (hub_ended_at h i) g (ap (option_and_then (hub_ended h)) x.ended ∙ at_connection h x.connection g x.connects)
+      last : (i : ℕ) (u : Terminal) → EndsConnection h g i u → i ≤ place
+      last i u x = by_order (cases_order i place) where
+        holds : keyed (hub_ended_at h) g i ≡ true
+        holds = key_is (hub_ended_at h i) g (ap (option_and_then (hub_ended h)) x.ended ∙ at_connection h x.connection g x.connects)
 
-    by_order : (i ≡ place) ⊎ ((i < place) ⊎ (place < i)) → i ≤ place
-    by_order (inl same) = omega arith
-    by_order (inr (inl l)) = omega arith
-    by_order (inr (inr l)) = absurd (both_ways _ (last_none (keyed (hub_ended_at h) g) (length h) i (omega arith) (slice_get_within h i _ x.ended)) holds)
+        by_order : (i ≡ place) ⊎ ((i < place) ⊎ (place < i)) → i ≤ place
+        by_order (inl same) = omega arith
+        by_order (inr (inl l)) = omega arith
+        by_order (inr (inr l)) = absurd (both_ways _ (last_none (keyed (hub_ended_at h) g) (length h) i (omega arith) (slice_get_within h i _ x.ended)) holds)
 
-  by_event : (o : Option Event) → slice_get h place ≡ o → option_and_then (hub_ended h) o ≡ Some g
-      → (t : Terminal) × EndsLast h g place t × (terminal_of_word h (suc place) ≡ Some t)
-  by_event None at_place named = absurd (none-some g named)
-  by_event (Some (End c t)) at_place named =
-      (t, record { ends = record { connection = c; connects = connection_at h c g named; ended = at_place }; last = last }, rw at_place refl)
-  by_event (Some _) at_place named = absurd (none-some g named)
+      by_event : (o : Option Event) → slice_get h place ≡ o → option_and_then (hub_ended h) o ≡ Some g
+          → (t : Terminal) × EndsLast h g place t × (terminal_of_word h (suc place) ≡ Some t)
+      by_event None at_place named = absurd (none-some g named)
+      by_event (Some (End c t)) at_place named =
+          (t, record { ends = record { connection = c; connects = connection_at h c g named; ended = at_place }; last = last }, rw at_place refl)
+      by_event (Some _) at_place named = absurd (none-some g named)
 
 -- what the words say of a subscriber
 module _ (h : List Event) (law : IsLawful nothing_kept h) (size : ℕ) (known : Hubs) (w : AreHubs h size known) (room : length h ≤ size) where
   cut_parts : (s : ℕ) (t : Terminal) → cut_so h known.ended.items s t ≡ true
-    → (is_open h s ≡ true) × (is_cut h s ≡ true) × (ends_last_so h known.ended.items s t ≡ true)
+      → (is_open h s ≡ true) × (is_cut h s ≡ true) × (ends_last_so h known.ended.items s t ≡ true)
   unfolding cut_so
   cut_parts s t y =
       let a = and_parts (is_open h s && is_cut h s) (ends_last_so h known.ended.items s t) y in
@@ -127,7 +127,7 @@ module _ (h : List Event) (law : IsLawful nothing_kept h) (size : ℕ) (known : 
       × (last_below (keyed (hub_ended_at h) g) (length h) ≡ suc place)
   by_word s is = by_hub (hub_subscribed_at h s) refl where
     by_hub : (o : Option ℕ) → hub_subscribed_at h s ≡ o → (g : ℕ) × (place : ℕ)
-      × (hub_subscribed_at h s ≡ Some g) × (get_or known.ended.items g 0 ≡ suc place) × (s < place)
+        × (hub_subscribed_at h s ≡ Some g) × (get_or known.ended.items g 0 ≡ suc place) × (s < place)
         × (last_below (keyed (hub_ended_at h) g) (length h) ≡ suc place)
     by_hub None hub = absurd (both_ways (is_cut h s) (sym (uncut h s hub)) is)
     by_hub (Some g) hub =
@@ -139,7 +139,7 @@ module _ (h : List Event) (law : IsLawful nothing_kept h) (size : ℕ) (known : 
         (g, get_or known.ended.items g 0 - 1, hub, some, omega arith, sym word ∙ some)
 
   last_so : (s g place : ℕ) (t u : Terminal) → hub_subscribed_at h s ≡ Some g
-    → get_or known.ended.items g 0 ≡ suc place → terminal_of_word h (suc place) ≡ Some u
+      → get_or known.ended.items g 0 ≡ suc place → terminal_of_word h (suc place) ≡ Some u
       → ends_last_so h known.ended.items s t ≡ same_terminal u t
   last_so s g place t u hub word ends =
       ap (λ o. option_map_or (λ j. option_map_or (λ v. same_terminal v t) (terminal_of_word h (get_or known.ended.items j 0)) false) o false) hub
@@ -155,7 +155,7 @@ module _ (h : List Event) (law : IsLawful nothing_kept h) (size : ℕ) (known : 
       cut p.0 ((cut_by_last nothing_kept h law k.0 s k.1 e.0 t e.1 (subscriber_at h s k.0 k.2) p.0).1 (k.4, sym same))
 
   unfold_cut : (s : ℕ) (t : Terminal) → is_open h s ≡ true → is_cut h s ≡ true
-    → ends_last_so h known.ended.items s t ≡ true → cut_so h known.ended.items s t ≡ true
+      → ends_last_so h known.ended.items s t ≡ true → cut_so h known.ended.items s t ≡ true
   unfolding cut_so
   unfold_cut s t o c e = both (is_open h s && is_cut h s) (ends_last_so h known.ended.items s t) (both (is_open h s) (is_cut h s) o c) e
 

@@ -73,10 +73,10 @@ row_less p q s bound word now before after same gone here within before_room aft
   -- nothing follows s
   ends_here : get_or after s 0 ≡ 0 → last_below p bound ≡ suc s
   ends_here none =
-    last_unique p bound (suc s) (within s here) (λ j l m. past j l (cases_Bool (p j))) (λ j e. let is : j ≡ s = omega arith in ap p is ∙ here) where
-    past : (j : ℕ) → suc s ≤ j → (p j ≡ true) ⊎ (p j ≡ false) → p j ≡ false
-    past j l (inr z) = z
-    past j l (inl y) = absurd (let m = next.none none j y in omega arith)
+      last_unique p bound (suc s) (within s here) (λ j l m. past j l (cases_Bool (p j))) (λ j e. let is : j ≡ s = omega arith in ap p is ∙ here) where
+        past : (j : ℕ) → suc s ≤ j → (p j ≡ true) ⊎ (p j ≡ false) → p j ≡ false
+        past j l (inr z) = z
+        past j l (inl y) = absurd (let m = next.none none j y in omega arith)
 
   -- m follows s
   below_is : (m : ℕ) → get_or after s 0 ≡ suc m → last_below p m ≡ suc s
@@ -163,7 +163,7 @@ row_less p q s bound word now before after same gone here within before_room aft
     by_order : (k ≡ m) ⊎ ((k < m) ⊎ (m < k)) → IsNext q k (get_or (set after m (get_or after s 0)) k 0)
     by_order (inl is) =
         rw (ap (λ j. get_or (set after j (get_or after s 0)) k 0) (sym is)
-          ∙ get_or-set_same after k (get_or after s 0) 0 (after_room k (was p q s same gone k y)))
+        ∙ get_or-set_same after k (get_or after s 0) 0 (after_room k (was p q s same gone k y)))
         (joins k y (found ∙ ap suc (sym is)))
     by_order (inr (inl l)) = other (omega arith)
     by_order (inr (inr l)) = other (omega arith)
@@ -182,7 +182,7 @@ row_more p q n word before after same new most within before_room after_room row
 
   down_is : (k : ℕ) → q k ≡ true → (k ≡ n) ⊎ ((k < n) ⊎ (n < k)) → get_or (set before n word) k 0 ≡ last_below q k
   down_is k y (inl is) =
-    ap (λ j. get_or (set before n word) j 0) is ∙ get_or-set_same before n word 0 before_room ∙ row.top ∙ sym (ap (last_below q) is ∙ early n (omega arith))
+      ap (λ j. get_or (set before n word) j 0) is ∙ get_or-set_same before n word 0 before_room ∙ row.top ∙ sym (ap (last_below q) is ∙ early n (omega arith))
   down_is k y (inr (inl l)) = get_or-set_other before n k word 0 (omega arith) ∙ row.down k (sym (same k l) ∙ y) ∙ sym (early k (omega arith))
   down_is k y (inr (inr l)) = absurd (let m = most k y in omega arith)
 
@@ -224,15 +224,18 @@ row_more p q n word before after same new most within before_room after_room row
   up_is zero e k y (inr (inl l)) = rw (get_or-set_other after n k 0 0 (omega arith)) (up_old k l y (omega arith))
   up_is (suc m) e k y (inl is) =
       let l = word_below m e in
-      rw (get_or-set_other (set after n 0) m k (suc n) 0 (omega arith)
-        ∙ ap (λ j. get_or (set after n 0) j 0) is ∙ get_or-set_same after n 0 0 after_room, is) up_last
+      rw (
+        get_or-set_other (set after n 0) m k (suc n) 0 (omega arith)
+            ∙ ap (λ j. get_or (set after n 0) j 0) is ∙ get_or-set_same after n 0 0 after_room,
+        is,
+      ) up_last
   up_is (suc m) e k y (inr (inl l)) = by_order (cases_order k m) where
     size : length (set after n 0) ≡ length after
     size = length-set after n 0
 
     other : k ≢ m → IsNext q k (get_or (set (set after n 0) m (suc n)) k 0)
     other apart =
-      rw (get_or-set_other (set after n 0) m k (suc n) 0 apart ∙ get_or-set_other after n k 0 0 (omega arith)) (up_old k l y (λ is. apart (omega arith)))
+        rw (get_or-set_other (set after n 0) m k (suc n) 0 apart ∙ get_or-set_other after n k 0 0 (omega arith)) (up_old k l y (λ is. apart (omega arith)))
 
     by_order : (k ≡ m) ⊎ ((k < m) ⊎ (m < k)) → IsNext q k (get_or (set (set after n 0) m (suc n)) k 0)
     by_order (inl is) =
@@ -249,7 +252,7 @@ pub row_apart : (p q : ℕ → Bool) (bound bound' word : ℕ) (before after dow
     → IsRow p bound word before after → IsRow q bound' word down up
 row_apart p q bound bound' word before after down up same longer within kept_down kept_up row = record {
   top = row.top ∙ last_unique p bound (last_below q bound') (below (last_below q bound') refl)
-    (λ j l m. absurd_or j l m) (λ j e. sym (same j) ∙ last_holds q bound' j e);
+      (λ j l m. absurd_or j l m) (λ j e. sym (same j) ∙ last_holds q bound' j e);
   down = λ k y. kept_down k (sym (same k) ∙ y) ∙ row.down k (sym (same k) ∙ y) ∙ sym (last_same q p k (λ j l. same j));
   up = λ k y. rw (kept_up k (sym (same k) ∙ y)) (next k (sym (same k) ∙ y));
 } where

@@ -31,7 +31,8 @@ use Rattle.rx_audit.specs.Tables.{IsMarked, mark_count}
 use Rattle.rx_audit.specs.Rules.{hub_connected_at, has_key, open_connected, is_owing}
 use Rattle.rx_audit.specs.Allowing.{connects_later, is_in_order_at, is_in_order, is_hubbed, is_free, failure_allowed}
 use Rattle.rx_audit.specs.Allowing.{failing_allowed, end_allowed, close_allowed, connect_allowed, decline_allowed, allowed_simply, item_allowed, open_allowed}
-use Rattle.rx_audit.proofs.TestsDecideRules.{both, left, right, either, not_not, is_false, connection_at, at_connection, filter_none, none_filtered, connected_key}
+use Rattle.rx_audit.proofs.TestsDecideRules.{both, left, right, either, not_not, is_false, connection_at}
+use Rattle.rx_audit.proofs.TestsDecideRules.{at_connection, filter_none, none_filtered, connected_key}
 use Rattle.rx_audit.proofs.Due.{child_closed, no_child_open}
 
 -- items ------------------------------------------------------------------------------------------------

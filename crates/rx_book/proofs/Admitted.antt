@@ -32,7 +32,8 @@ use Rattle.rx_book.specs.Steps.{IsAdmitted, IsDecided, unless_caused}
 use Rattle.rx_book.proofs.CallWithoutCause.{let_in, within_full, state_roomier}
 
 -- what is decided by the first cause and the cost
-pub decided : (s : State) (asked : Request) (cause : Option Refusal) (cost : Wanted) → first_cause (stands s asked) ≡ cause → cost ≡ cost_of s.history asked.call →
+pub decided : (s : State) (asked : Request) (cause : Option Refusal) (cost : Wanted) → first_cause (stands s asked) ≡ cause →
+    cost ≡ cost_of s.history asked.call →
     cost.notes ≤ 4294967295 → IsDecided s asked (unless_caused cause cost)
 decided s asked None cost none is few = record { ok = is; few = few; none = none; err = tt }
 decided s asked (Some why) cost first is few = record { ok = tt; few = tt; none = tt; err = first }
@@ -68,7 +69,8 @@ ready s (Publish mode) = tt
 ready s (Connect hub) = tt
 
 -- the cost is within the limit
-pub cost_within : (s : State) (wish : Wish) (cost : Wanted) → first_cause (stands s (request_for s wish)) ≡ None → cost ≡ cost_of s.history (request_for s wish).call →
+pub cost_within : (s : State) (wish : Wish) (cost : Wanted) → first_cause (stands s (request_for s wish)) ≡ None →
+    cost ≡ cost_of s.history (request_for s wish).call →
     length s.history + debt s.base s.history + cost.events ≤ s.base.at_length + s.limit
 cost_within s wish cost none is =
     let asked = request_for s wish in
@@ -78,7 +80,8 @@ cost_within s wish cost none is =
 
 -- with the room for it, it is admitted
 pub admitted : {T : Type 0} (g : Ghosts T) (old b : Ground T) (wish : Wish) (cost : Wanted) → IsRoomier old b → IsStanding g b → IsPromised b.register →
-    first_cause (stands (state_of g old) (request_for (state_of g old) wish)) ≡ None → cost ≡ cost_of old.register.history (request_for (state_of g old) wish).call →
+    first_cause (stands (state_of g old) (request_for (state_of g old) wish)) ≡ None →
+    cost ≡ cost_of old.register.history (request_for (state_of g old) wish).call →
     HasRoomBeside b cost → IsAdmitted g b (request_for (state_of g b) wish)
 admitted g old b wish cost roomier standing promised none is has =
     let same = sym (state_roomier g old b roomier) in

@@ -1,5 +1,6 @@
 -- A call, from where nothing stands against it: its events may be written, what they force is paid for, and it is accepted.
-use Rattle.std.proofs.Common.{◌≡◌, ◌==◌, ℕ, ◌+◌, ◌≤◌, Bool, true, false, List, [], ◌∷◌, ◌++◌, length, Option, Some, None, is_some, refl, sym, ap, subst, ◌∙◌, arith}
+use Rattle.std.proofs.Common.{◌≡◌, ◌==◌, ℕ, ◌+◌, ◌≤◌, Bool, true, false, List, [], ◌∷◌, ◌++◌, length}
+use Rattle.std.proofs.Common.{Option, Some, None, is_some, refl, sym, ap, subst, ◌∙◌, arith}
 use Rattle.std.proofs.Common.{length-append, append_assoc, append-nil}
 use Rattle.std.proofs.Math.Bool.{not}
 use Rattle.std.specs.List.{list_all}
@@ -49,14 +50,16 @@ use Rattle.rx_book.specs.declared.key.Key.{Key}
 use Rattle.rx_book.specs.declared.key.ResKey.{ResKey}
 use Rattle.rx_book.specs.declared.key.LeaseKey.{LeaseKey}
 use Rattle.rx_book.specs.Shown.{tree_key_of, tree_res_key_of, ground_lease_key_of, lease_key_shown, keys_of, res_keys_of, lease_keys_of, state_of}
-use Rattle.rx_book.proofs.ShownKeys.{key_finds, finding_key, res_key_finds, finding_res_key, has_key_is, has_res_key_is, lease_key_finds, finding_lease_key, has_lease_key_is}
+use Rattle.rx_book.proofs.ShownKeys.{key_finds, finding_key, res_key_finds, finding_res_key, has_key_is, has_res_key_is}
+use Rattle.rx_book.proofs.ShownKeys.{lease_key_finds, finding_lease_key, has_lease_key_is}
 use Rattle.rx_book.proofs.CausesByKey.{unstood}
 
 -- histories ---------------------------------------------------------------------------------------
 
 lawful_in_turn : (base : Kept) → (h es : List Event) → IsLawful base h → MayFollowInTurn base h es → IsLawful base (h ++ es)
 lawful_in_turn base h [] law next = subst (IsLawful base) (sym (append-nil h)) law
-lawful_in_turn base h (e ∷ es) law next = subst (IsLawful base) (append_assoc h (e ∷ []) es) (lawful_in_turn base (h ++ e ∷ []) es (IsLawful-push base h e law next.0) next.1)
+lawful_in_turn base h (e ∷ es) law next =
+    subst (IsLawful base) (append_assoc h (e ∷ []) es) (lawful_in_turn base (h ++ e ∷ []) es (IsLawful-push base h e law next.0) next.1)
 
 lawful_forced : (base : Kept) → {h k : List Event} → IsLawful base h → IsForcedOn base h k → IsLawful base k
 lawful_forced base law stays = law
@@ -75,13 +78,15 @@ none_of most is (none_waits none) = none
 none_of most is (one_waits only) = absurd (omega arith)
 
 -- after it no hub waits for its connection, where none did before
-connected_on : (base : Kept) → (h : List Event) (e : Event) → IsLawful base h → IsConnected h → MayFollow base h e → subscribes_none e ≡ true → IsConnected (h ++ e ∷ [])
+connected_on : (base : Kept) → (h : List Event) (e : Event) → IsLawful base h → IsConnected h → MayFollow base h e → subscribes_none e ≡ true →
+    IsConnected (h ++ e ∷ [])
 connected_on base h e law none (forced f) plain = forced_connected base h e 0 (none_waits none) f
 connected_on base h e law none (allowed settled a) plain =
     none_of _ (ap (λ (o : Option ℕ). option_map_or (λ g. 1) o 0) (unsubscribed (hub_subscribed e) plain)) (waits_after base h e law none a)
 connected_on base h e law none (opened_with {n = n} {tag = tag} opened next alive) plain = kept_unsubscribed base h (Accept n tag) law none refl refl
 
-connected_in_turn : (base : Kept) → (h es : List Event) → IsLawful base h → IsConnected h → MayFollowInTurn base h es → list_all subscribes_none es ≡ true → IsConnected (h ++ es)
+connected_in_turn : (base : Kept) → (h es : List Event) → IsLawful base h → IsConnected h → MayFollowInTurn base h es → list_all subscribes_none es ≡ true →
+    IsConnected (h ++ es)
 connected_in_turn base h [] law none next plain = subst IsConnected (sym (append-nil h)) none
 connected_in_turn base h (e ∷ es) law none next plain =
     let parts = and_parts (subscribes_none e) (list_all subscribes_none es) plain in
@@ -91,7 +96,8 @@ connected_in_turn base h (e ∷ es) law none next plain =
 -- calls -------------------------------------------------------------------------------------------
 
 -- what a call was counted to add is within the limit, where nothing stands against it
-pub within_full : (base : Kept) → (call : Call) (known fresh : Bool) (h : List Event) (limit : ℕ) → causes base h limit fresh call Full ≡ is_over base h limit (added_by h call) →
+pub within_full : (base : Kept) → (call : Call) (known fresh : Bool) (h : List Event) (limit : ℕ) →
+    causes base h limit fresh call Full ≡ is_over base h limit (added_by h call) →
     first_cause (by_key_of call known (causes base h limit fresh call)) ≡ None → length h + debt base h + added_by h call ≤ base.at_length + limit
 within_full base call known fresh h limit counted none =
     let over = no_cause (causes base h limit fresh call) (unstood call known (causes base h limit fresh call) none).1 Full in
@@ -125,7 +131,9 @@ module _ {T : Type 0} (g : Ghosts T) (b : Ground T) (asked : Request) where
     known = (unstood asked.call asked.is_known _ l.none).0
 
     follows : (es : List Event) → outside ≡ es → MayFollowInTurn b.register.base h es
-    follows es writes = subst (λ (xs : List Event). MayFollowInTurn b.register.base h xs) writes (call_follows b.register.base h b.register.limit asked.is_fresh asked.call l.may)
+    follows es writes =
+        subst (λ (xs : List Event). MayFollowInTurn b.register.base h xs) writes
+        (call_follows b.register.base h b.register.limit asked.is_fresh asked.call l.may)
 
     fits : (es : List Event) → outside ≡ es → Fits b.register.base h (h ++ es) (added_by h asked.call) (notes_added h asked.call)
     fits es writes = subst (λ (xs : List Event). Fits b.register.base h (h ++ xs) (added_by h asked.call) (notes_added h asked.call)) writes
@@ -170,13 +178,15 @@ module _ {T : Type 0} (g : Ghosts T) (b : Ground T) (asked : Request) where
     pays new w = called_paid b.register new b.register.limit asked.is_fresh asked.call l.may l.has w
 
     -- where they open no subscriber of a hub, none waits for its connection
-    pub connects_none : (new : Register) → Writes b.register outside new → list_all subscribes_none outside ≡ true → {room space : ℕ} → HasRoomToConnect new.history room space
+    pub connects_none : (new : Register) → Writes b.register outside new → list_all subscribes_none outside ≡ true → {room space : ℕ} →
+        HasRoomToConnect new.history room space
     connects_none new w plain = λ n waits. absurd (subst IsConnected (sym w.history) connected n waits) where
       connected : IsConnected (h ++ outside)
       connected = connected_in_turn b.register.base h outside l.may.lawful (settled_connected b.register.base h l.may.settled) (follows outside refl) plain
 
     -- and after what they force it is accepted
-    pub accepts : (mid new : Ground T) → Writes b.register outside mid.register → KeepsKeys b.tree mid.tree (length h) → IsTied mid.register.base g mid.register.history mid.tree →
+    pub accepts : (mid new : Ground T) → Writes b.register outside mid.register → KeepsKeys b.tree mid.tree (length h) →
+        IsTied mid.register.base g mid.register.history mid.tree →
         IsStanding g new → new.register.base ≡ mid.register.base → IsForcedOn mid.register.base mid.register.history new.register.history →
         KeepsOlder new.register.history (length mid.register.history) mid.tree.nodes new.tree.nodes →
         new.tree.resources ≡ mid.tree.resources → new.register.limit ≡ mid.register.limit → new.register.given ≡ mid.register.given →

@@ -37,7 +37,8 @@ module _ {T : Type 0} (tree : Tree T) (stand : Refusal → Bool) (why : Option R
   first_by_place at first = ap (λ b. first_cause (by_key b stand)) (is_known_place_is tree at) ∙ sym first
 
 pub first_by_lease_key : (leases : Slots TreeResKey) (stand : Refusal → Bool) (why : Option Refusal) (k : LeaseKey) →
-    why ≡ first_cause (by_lease_key (is_out_at leases (ground_lease_key_of k)) stand) → first_cause (by_lease_key (has_lease_key (lease_keys_of leases) k) stand) ≡ why
+    why ≡ first_cause (by_lease_key (is_out_at leases (ground_lease_key_of k)) stand) →
+    first_cause (by_lease_key (has_lease_key (lease_keys_of leases) k) stand) ≡ why
 first_by_lease_key leases stand why k first = ap (λ b. first_cause (by_lease_key b stand)) (has_lease_key_is leases k) ∙ sym first
 
 -- what a call is refused for that gets room for itself

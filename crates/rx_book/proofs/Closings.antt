@@ -1,5 +1,6 @@
 -- Taking, disposing, disconnecting and closing.
-use Rattle.std.proofs.Common.{◌≡◌, ◌<◌, ◌+◌, ◌-◌, ◌∷◌, [], ℕ, List, Bool, true, false, refl, sym, ap, subst, ◌∙◌, map, cond, length, filter, slice_get, ⊎_elim, zero-add, arith}
+use Rattle.std.proofs.Common.{◌≡◌, ◌<◌, ◌+◌, ◌-◌, ◌∷◌, [], ℕ, List, Bool, true, false, refl, sym, ap, subst}
+use Rattle.std.proofs.Common.{◌∙◌, map, cond, length, filter, slice_get, ⊎_elim, zero-add, arith}
 use Rattle.std.specs.Prelude.{Option, Some, None, count_by, find}
 use Rattle.std.specs.List.{All, Contains, list_all}
 use Rattle.std.specs.Option.{option_and_then, option_map_or}
@@ -50,14 +51,16 @@ forced_no_accept : (e : Event) → may_be_forced e ≡ true → makes_resource e
 forced_no_accept (Accept n tag) m = absurd (cc)
 forced_no_accept _ m = refl
 
-forced_count : (base : Kept) → (p : Event → Bool) → ((e : Event) → may_be_forced e ≡ true → p e ≡ false) → {h k : List Event} → IsForcedOn base h k → count_by p k ≡ count_by p h
+forced_count : (base : Kept) → (p : Event → Bool) → ((e : Event) → may_be_forced e ≡ true → p e ≡ false) → {h k : List Event} → IsForcedOn base h k →
+    count_by p k ≡ count_by p h
 forced_count base p never stays = refl
 forced_count base p never (more {h} {k} {e} before is_forced) =
     let single : count_by p (e ∷ []) ≡ 0 = ap (λ b. 0 + cond b 1 0) (never e (forced_kind base is_forced)) in
     let rest = forced_count base p never before in
     omega (arith, count_by-append p k (e ∷ []))
 
-step_count : (base : Kept) → (p : Event → Bool) → ((e : Event) → may_be_forced e ≡ true → p e ≡ false) → (h k : List Event) (call : Call) → IsStepOf base h call k → count_by p k ≡ count_by p h + count_by p (outside_of h call)
+step_count : (base : Kept) → (p : Event → Bool) → ((e : Event) → may_be_forced e ≡ true → p e ≡ false) → (h k : List Event) (call : Call) →
+    IsStepOf base h call k → count_by p k ≡ count_by p h + count_by p (outside_of h call)
 step_count base p never h k call step = forced_count base p never step.forced ∙ count_by-append p h (outside_of h call)
 
 pub disposed_taken : (base : Kept) → (h k : List Event) (n : ℕ) → IsStepOf base h (Disposing n) k → taken_count base k ≡ taken_count base h
@@ -71,7 +74,8 @@ taken_one base h k r step = let e = step_count base is_take forced_no_take h k (
 
 pub takes_accepted : (base : Kept) → {h k : List Event} → Takes base h k → accepted_count base k ≡ accepted_count base h
 takes_accepted base none_taken = refl
-takes_accepted base (next_taken {m} {k} {r} before step) = let e = step_count base makes_resource forced_no_accept m k (Taking r) step in let rest = takes_accepted base before in omega arith
+takes_accepted base (next_taken {m} {k} {r} before step) =
+    let e = step_count base makes_resource forced_no_accept m k (Taking r) step in let rest = takes_accepted base before in omega arith
 
 pub returned_taken : (base : Kept) → (h k : List Event) (l : ℕ) → IsStepOf base h (GivingBack l) k → taken_count base k ≡ taken_count base h
 returned_taken base h k l step = let e = step_count base is_take forced_no_take h k (GivingBack l) step in omega arith
@@ -152,7 +156,8 @@ roots_older base {h} g step = roots_before (step_neither base (Disconnecting g) 
 none_owned : (h : List Event) → ((n : ℕ) → is_open h n ≡ false) → (r : ℕ) → is_owned h r ≡ false
 unfolding is_owned
 none_owned h closed r =
-    let nowhere : (o : Option ℕ) → option_map_or (is_open h) o false ≡ false = λ o. elim o as (λ o. option_map_or (is_open h) o false ≡ false) [ None ↦ refl | Some n ↦ closed n ] in
+    let nowhere : (o : Option ℕ) → option_map_or (is_open h) o false ≡ false =
+    λ o. elim o as (λ o. option_map_or (is_open h) o false ≡ false) [ None ↦ refl | Some n ↦ closed n ] in
     and_left _ _ (nowhere (option_and_then node_of_accept (slice_get h r)))
 
 counted_none : (p : ℕ → Bool) → ((n : ℕ) → p n ≡ false) → (ns : List ℕ) → count_by p ns ≡ 0
@@ -166,10 +171,14 @@ counted_none p never (n ∷ ns) =
 none_held : (h : List Event) → ((n : ℕ) → is_open h n ≡ false) → ((l : ℕ) → is_out h l ≡ false) → (r : ℕ) → is_held h r ≡ false
 none_held h closed returned r =
     let no_leases = none_leased h (counted_none (is_out h) returned (places h)) r in
-    held_is h r ∙ ap (λ b. b || is_leased h r) (none_owned h closed r) ∙ ap (λ k. at makes_resource h r && nat_lt 0 k) no_leases ∙ and_false (at makes_resource h r) where
-      and_false : (b : Bool) → (b && false) ≡ false
-      and_false true = refl
-      and_false false = refl
+    held_is h r ∙
+    ap (λ b. b || is_leased h r) (none_owned h closed r) ∙
+    ap (λ k. at makes_resource h r && nat_lt 0 k) no_leases ∙
+    and_false (at makes_resource h r)
+  where
+    and_false : (b : Bool) → (b && false) ≡ false
+    and_false true = refl
+    and_false false = refl
 
 -- a list whose numbers pass a test that nothing passes
 none_listed : {A : Type 0} (number : A → ℕ) (test : ℕ → Bool) (xs : List A) → AreJust test (map number xs) → ((n : ℕ) → test n ≡ false) → xs ≡ []
@@ -182,7 +191,8 @@ pub closed_book : (mid new : State) → IsLetGo mid.history → ((l : ℕ) → i
     (new.keys ≡ []) × (new.held ≡ []) × (new.lease_keys ≡ [])
 closed_book mid new free returned takes kept =
     let closed = nothing_open new.base new.history kept.lawful kept.settled (takes_let_go mid.base takes free) in
-    let out : (l : ℕ) → is_out new.history l ≡ false = λ l. false_from_ne_true _ (λ found. both_ways (is_out mid.history l) (returned l) (takes_out mid.base takes l found)) in (
+    let out : (l : ℕ) → is_out new.history l ≡ false =
+    λ l. false_from_ne_true _ (λ found. both_ways (is_out mid.history l) (returned l) (takes_out mid.base takes l found)) in (
       none_listed (λ k. k.number) (is_open new.history) new.keys kept.keys closed,
       none_listed (λ b. b.number) (is_held new.history) new.held kept.held (none_held new.history closed out),
       none_listed (λ k. k.number) (is_out new.history) new.lease_keys kept.lease_keys out,
@@ -213,14 +223,16 @@ find_holds : {A : Type 0} (p : A → Bool) (xs : List A) (x : A) → find p xs �
 find_holds p [] x found = absurd (cc)
 find_holds p (y ∷ ys) x found =
     let branch : (b : Bool) → p y ≡ b → cond b (Some y) (find p ys) ≡ Some x → p x ≡ true =
-    λ b. elim b as (λ b. p y ≡ b → cond b (Some y) (find p ys) ≡ Some x → p x ≡ true) [ true ↦ λ is here. let same : y ≡ x = cc in subst (λ z. p z ≡ true) same is | false ↦ λ is rest. find_holds p ys x rest ] in
+    λ b. elim b as (λ b. p y ≡ b → cond b (Some y) (find p ys) ≡ Some x → p x ≡ true)
+    [ true ↦ λ is here. let same : y ≡ x = cc in subst (λ z. p z ≡ true) same is | false ↦ λ is rest. find_holds p ys x rest ] in
     branch (p y) refl found
 
 find_none : {A : Type 0} (p : A → Bool) (xs : List A) → find p xs ≡ None → All (λ x. p x ≡ false) xs
 find_none p [] missing = λ k d lt. absurd (omega arith)
 find_none p (x ∷ xs) missing =
     let branch : (b : Bool) → p x ≡ b → cond b (Some x) (find p xs) ≡ None → All (λ y. p y ≡ false) (x ∷ xs) =
-    λ b. elim b as (λ b. p x ≡ b → cond b (Some x) (find p xs) ≡ None → All (λ y. p y ≡ false) (x ∷ xs)) [ true ↦ λ is here. absurd (cc) | false ↦ λ is rest. All-cons (λ y. p y ≡ false) x xs is (find_none p xs rest) ] in
+    λ b. elim b as (λ b. p x ≡ b → cond b (Some x) (find p xs) ≡ None → All (λ y. p y ≡ false) (x ∷ xs))
+    [ true ↦ λ is here. absurd (cc) | false ↦ λ is rest. All-cons (λ y. p y ≡ false) x xs is (find_none p xs rest) ] in
     branch (p x) refl missing
 
 -- giving leases back -------------------------------------------------------------------------------
@@ -251,12 +263,14 @@ root_found h n found = find_holds (is_open_root h) (places h) n (sym found)
 pub root_missing : (h : List Event) → None ≡ find (is_open_root h) (places h) → (n : ℕ) → is_open_root h n ≡ false
 root_missing h missing n =
     ⊎_elim
-    (λ within. let listed = place_listed h n within in ap (is_open_root h) (sym listed.2) ∙ find_none (is_open_root h) (places h) (sym missing) listed.0 n listed.1)
+    (λ within. let listed = place_listed h n within in
+    ap (is_open_root h) (sym listed.2) ∙ find_none (is_open_root h) (places h) (sym missing) listed.0 n listed.1)
     (λ past. and_left _ _ (is_open_past h n past))
     (cases_lt n (length h))
 
 -- no cause stands against the disposal of an open root
-pub disposable : (s : State) (k : Key) (why : Refusal) → has_key s.keys k ≡ true → is_open_root s.history k.number ≡ true → first_cause (stands s (dispose_request s k)) ≡ Some why → ⊥
+pub disposable : (s : State) (k : Key) (why : Refusal) → has_key s.keys k ≡ true → is_open_root s.history k.number ≡ true →
+    first_cause (stands s (dispose_request s k)) ≡ Some why → ⊥
 disposable s k why known root cause =
     let parts = and_parts (is_open s.history k.number) (at is_root s.history k.number) root in
     let open_now : is_open s.history k.number ≡ true = parts.0 in
@@ -296,7 +310,8 @@ pub hub_missing : (h : List Event) → None ≡ find (is_connected_manual h) (pl
 hub_missing h missing g manual =
     let within = at_within is_manual_hub h g manual in
     let listed = place_listed h g within in
-    let out : is_connected_manual h g ≡ false = ap (is_connected_manual h) (sym listed.2) ∙ find_none (is_connected_manual h) (places h) (sym missing) listed.0 g listed.1 in
+    let out : is_connected_manual h g ≡ false =
+    ap (is_connected_manual h) (sym listed.2) ∙ find_none (is_connected_manual h) (places h) (sym missing) listed.0 g listed.1 in
     let here : has_connection h g ≡ is_connected_manual h g = rw manual refl in
     connects_none h g (here ∙ out)
 

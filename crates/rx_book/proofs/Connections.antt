@@ -1,5 +1,6 @@
 -- The connection that an opening forces: it comes directly after the opening, and is its hub's only one after all that is forced.
-use Rattle.std.proofs.Common.{◌≡◌, ℕ, ◌+◌, ◌<◌, ◌≤◌, Bool, true, false, List, [], ◌∷◌, ◌++◌, length, Option, Some, None, cond, slice_get, refl, sym, ap, subst, ◌∙◌, inl, inr, ◌⊎◌, arith}
+use Rattle.std.proofs.Common.{◌≡◌, ℕ, ◌+◌, ◌<◌, ◌≤◌, Bool, true, false, List, [], ◌∷◌, ◌++◌, length, Option}
+use Rattle.std.proofs.Common.{Some, None, cond, slice_get, refl, sym, ap, subst, ◌∙◌, inl, inr, ◌⊎◌, arith}
 use Rattle.std.proofs.Common.{length-append, append_assoc, append-nil}
 use Rattle.std.specs.Prelude.{◌≢◌}
 use Rattle.std.proofs.Math.Bool.{◌&&◌, not}
@@ -14,7 +15,8 @@ use Rattle.rx_event.specs.declared.event.Event.{Event}
 use Rattle.rx_event.specs.declared.event.Event.TheVariants.{Open, Connect}
 use Rattle.rx_event.specs.Events.{is_auto_hub, is_subscriber_of}
 use Rattle.rx_event.specs.Tree.{at, is_open, open_subscribers, open_connections}
-use Rattle.rx_event.specs.Forced.{mirrored, fired, failed, completed, cut, left, connecting, due, none_waits, IsConnected, IsConnectDue, IsDue, IsForced, IsSettled}
+use Rattle.rx_event.specs.Forced.{mirrored, fired, failed, completed, cut, left, connecting, due, none_waits}
+use Rattle.rx_event.specs.Forced.{IsConnected, IsConnectDue, IsDue, IsForced, IsSettled}
 use Rattle.rx_event.specs.Lawful.{stays, more, MayFollow, IsForcedOn, IsLawful}
 use Rattle.rx_event.proofs.Laws.Lists.{filter_nonempty}
 use Rattle.rx_event.proofs.Laws.Places.{slice_get-append, slice_get_last, at-append, at_within}
@@ -57,7 +59,8 @@ one_more base {h = h} {k = k} {e = e} before f = record { none_wait = forced_con
   none_come n past = by_place (cases_order n (length k)) where
     by_place : (n ≡ length k) ⊎ ((n < length k) ⊎ (length k < n)) → at makes_connection (k ++ e ∷ []) n ≡ false
     by_place (inl same) =
-        ap (λ (o : Option Event). option_map_or makes_connection o false) (ap (slice_get (k ++ e ∷ [])) same ∙ slice_get_last k e) ∙ forced_none base before.none_wait f
+        ap (λ (o : Option Event). option_map_or makes_connection o false) (ap (slice_get (k ++ e ∷ [])) same ∙ slice_get_last k e) ∙
+        forced_none base before.none_wait f
     by_place (inr (inl l)) = at-append makes_connection k (e ∷ []) n l ∙ before.none_come n past
     by_place (inr (inr l)) = past_none (k ++ e ∷ []) n (omega (arith, length-append k (e ∷ [])))
 
@@ -66,7 +69,8 @@ no_more base {h = h} none stays = record { none_wait = none; none_come = past_no
 no_more base none (more on f) = one_more base (no_more base none on) f
 
 -- where a connection alone is forced, it comes first
-connects_first : (base : Kept) → {h k : List Event} {g : ℕ} → ((e : Event) → IsForced base h e → e ≡ Connect g) → IsForcedOn base h k → (k ≡ h) ⊎ IsForcedOn base (h ++ Connect g ∷ []) k
+connects_first : (base : Kept) → {h k : List Event} {g : ℕ} → ((e : Event) → IsForced base h e → e ≡ Connect g) → IsForcedOn base h k →
+    (k ≡ h) ⊎ IsForcedOn base (h ++ Connect g ∷ []) k
 connects_first base alone stays = inl refl
 connects_first base {h = h} {g = g} alone (more {k = k} {e = e} on f) = by_first (connects_first base alone on) where
   by_first : (k ≡ h) ⊎ IsForcedOn base (h ++ Connect g ∷ []) k → ((k ++ e ∷ []) ≡ h) ⊎ IsForcedOn base (h ++ Connect g ∷ []) (k ++ e ∷ [])
@@ -83,7 +87,8 @@ added_on base {h = h} (more {e = e} on f) =
 
 -- the opening of a subscriber -----------------------------------------------------------------------
 
-module _ (base : Kept) (h : List Event) (place : Place) (g : ℕ) (law : IsLawful base h) (next : MayFollow base h (Open place (Sub g))) (forces : forces_connect h (Sub g) ≡ true) where
+module _ (base : Kept) (h : List Event) (place : Place) (g : ℕ) (law : IsLawful base h) (next : MayFollow base h (Open place (Sub g)))
+    (forces : forces_connect h (Sub g) ≡ true) where
   abbrev m : List Event
   m = h ++ Open place (Sub g) ∷ []
 
@@ -103,7 +108,9 @@ module _ (base : Kept) (h : List Event) (place : Place) (g : ℕ) (law : IsLawfu
     by_place (inr (inr l)) = let w = is_open_within m c alive in let n = long in absurd (omega arith)
     by_place (inr (inl l)) = by_test (is_open h c) refl where
       by_test : (b : Bool) → is_open h c ≡ b → ⊥
-      by_test true was = connection_listed h g c (sym (slice_get-append h (Open place (Sub g) ∷ []) c l) ∙ connects) was (connects_none h g (not-true (has_connection h g) parts.1))
+      by_test true was =
+          connection_listed h g c (sym (slice_get-append h (Open place (Sub g) ∷ []) c l) ∙ connects) was
+          (connects_none h g (not-true (has_connection h g) parts.1))
       by_test false was = both_ways (is_open m c) (stays_closed_after h (Open place (Sub g) ∷ []) c l was) alive
 
   unconnected : open_connections m g ≡ []
@@ -148,7 +155,9 @@ module _ (base : Kept) (h : List Event) (place : Place) (g : ℕ) (law : IsLawfu
     here =
         let grown = added_on base connected in
         let within : length m < length (m ++ Connect g ∷ []) = omega (arith, length-append m (Connect g ∷ [])) in
-        ap (λ (q : List Event). slice_get q (length m)) grown.1 ∙ slice_get-append (m ++ Connect g ∷ []) grown.0 (length m) within ∙ slice_get_last m (Connect g)
+        ap (λ (q : List Event). slice_get q (length m)) grown.1 ∙
+        slice_get-append (m ++ Connect g ∷ []) grown.0 (length m) within ∙
+        slice_get_last m (Connect g)
 
     pub connection_comes : at makes_connection k (length h + 1) ≡ true
     connection_comes = ap (λ n. at makes_connection k n) (sym long) ∙ ap (λ (o : Option Event). option_map_or makes_connection o false) here
@@ -175,7 +184,8 @@ module _ (base : Kept) (h : List Event) (place : Place) (g : ℕ) (law : IsLawfu
         let near : length h < length m = let n = long in omega arith in
         let alive = opened_stays base h k place (Sub g) law next on in
         let within = is_open_within k (length h) alive in
-        let listed : at (is_subscriber_of g) k (length h) ≡ true = ap (λ (o : Option Event). option_map_or (is_subscriber_of g) o false) (kept (length h) near) ∙ subscribes in
+        let listed : at (is_subscriber_of g) k (length h) ≡ true =
+        ap (λ (o : Option Event). option_map_or (is_subscriber_of g) o false) (kept (length h) near) ∙ subscribes in
         filter_nonempty (λ n. at (is_subscriber_of g) k n && is_open k n) 0 (length k) (length h) (omega arith) (omega arith) (and_from _ _ listed alive) none
 
     pub connection_stays : open_connections k g ≡ (length h + 1) ∷ []
@@ -196,13 +206,15 @@ listed_one (Some k) n listed = let same : k ≡ n = cc in ap (λ q. Some q) same
 
 module _ (base : Kept) (h : List Event) (place : Place) (law : IsLawful base h) (k : List Event) (law_on : IsLawful base k) (settled : IsSettled base k) where
   -- the connection that comes directly after the opening is the open one of its hub, where one was forced, and else there is none
-  pub connection_answered : (kind : Kind) (connects : Bool) (o : Option ℕ) → MayFollow base h (Open place kind) → IsForcedOn base (h ++ Open place kind ∷ []) k → connects ≡ forces_connect h kind →
+  pub connection_answered : (kind : Kind) (connects : Bool) (o : Option ℕ) → MayFollow base h (Open place kind) →
+      IsForcedOn base (h ++ Open place kind ∷ []) k → connects ≡ forces_connect h kind →
       ((g : ℕ) → kind ≡ Sub g → connects ≡ true → option_to_list o ≡ open_connections k g) → (connects ≡ false → o ≡ None) → o ≡ connection_made h k
   connection_answered kind false o next on is forced quiet =
       let m = h ++ Open place kind ∷ [] in
       let settled_before = opened_settled base next in
       let none_waits_then : IsConnected m = λ g d. false≢true (is ∙ opening_connects base h place kind g law settled_before (may_subscribe base next) d) in
-      let out : at makes_connection k (length h + 1) ≡ false = (no_more base none_waits_then on).none_come (length h + 1) (omega (arith, length-append h (Open place kind ∷ []))) in
+      let out : at makes_connection k (length h + 1) ≡ false =
+      (no_more base none_waits_then on).none_come (length h + 1) (omega (arith, length-append h (Open place kind ∷ []))) in
       quiet refl ∙ sym (ap (λ (b : Bool). cond b (Some (length h + 1)) None) out)
   connection_answered (Sub g) true o next on is forced quiet =
       let one = connection_stays base h place g law next (sym is) k on law_on settled in

@@ -18,7 +18,8 @@ use Rattle.rx_ground.proofs.Laws.JustOpenHeldWaiting.{just_waiting, length-waiti
 use Rattle.rx_ground.proofs.Laws.Members.{Contains-map, Contains-from_map}
 
 module _ {T : Type 0} (g : Ghosts T) where
-  pub listed_waits : (base : Base) → (h : List Event) (tree : Tree T) → IsTied base g h tree → AreApart tree.resources → (handed : ℕ × T) → IsListed g tree handed →
+  pub listed_waits : (base : Base) → (h : List Event) (tree : Tree T) → IsTied base g h tree → AreApart tree.resources → (handed : ℕ × T) →
+      IsListed g tree handed →
       is_waiting h handed.0 ≡ true
   listed_waits base h tree tied apart handed is =
       let m = Contains-from_map (label_in g) (waiting_in tree) (label_of g handed.0 handed.1) is.listed in
@@ -26,9 +27,12 @@ module _ {T : Type 0} (g : Ghosts T) where
       sym (ap (λ (l : Label). is_waiting h l.number) m.2) ∙ All-contains (λ (n : ℕ). is_waiting h n ≡ true) (map number (waiting_in tree)) m.0.key.number
       (just_waiting base g h tree tied apart).each (Contains-map number (waiting_in tree) m.0 m.1)
 
-  pub fewer_wait : (old new : Ground T) (r : ℕ) → IsTied old.register.base g old.register.history old.tree → IsTied new.register.base g new.register.history new.tree →
-      AreApart old.tree.resources → AreApart new.tree.resources → IsLawful old.register.base old.register.history → MayFollow old.register.base old.register.history (Take r) →
-      new.register.history ≡ old.register.history ++ Take r ∷ [] → length (map (label_in g) (waiting_in new.tree)) < length (map (label_in g) (waiting_in old.tree))
+  pub fewer_wait : (old new : Ground T) (r : ℕ) → IsTied old.register.base g old.register.history old.tree →
+      IsTied new.register.base g new.register.history new.tree →
+      AreApart old.tree.resources → AreApart new.tree.resources → IsLawful old.register.base old.register.history →
+      MayFollow old.register.base old.register.history (Take r) →
+      new.register.history ≡ old.register.history ++ Take r ∷ [] →
+      length (map (label_in g) (waiting_in new.tree)) < length (map (label_in g) (waiting_in old.tree))
   fewer_wait old new r tied tied_after apart apart_after law next grown =
       let shown = length-map (waiting_in old.tree) (label_in g) in
       let shown_after = length-map (waiting_in new.tree) (label_in g) in

@@ -34,12 +34,14 @@ checkpointed {T = T} g old new promised standing no_cause checkpoint = record {
   given = checkpoint.register.given;
 }
   where
-    agree : Agree old.register.base old.register.history (base_of old.register.base old.register.history) (shown (base_of old.register.base old.register.history))
+    agree : Agree old.register.base old.register.history (base_of old.register.base old.register.history)
+        (shown (base_of old.register.base old.register.history))
     agree = kept_agrees old.register.base old.register.history promised.lawful standing.settled
 
 -- what is answered where it was made, and where it was refused
 pub answers_made : (old new : State) (place : ℕ) → place ≡ length old.history → Checkpoints old new → AnswersCheckpoint old new (Ok place)
 answers_made old new place counted made = record { ok = counted; made = made; refused = tt; kept = tt }
 
-pub answers_refused : (old new : State) (why : Refusal) → IsRefusal (checkpoint_causes old.history old.given) why → new ≡ old → AnswersCheckpoint old new (Err why)
+pub answers_refused : (old new : State) (why : Refusal) → IsRefusal (checkpoint_causes old.history old.given) why → new ≡ old →
+    AnswersCheckpoint old new (Err why)
 answers_refused old new why refused kept = record { ok = tt; made = tt; refused = refused; kept = kept }

@@ -27,7 +27,8 @@ use Rattle.rx_event.specs.Causes.{has_connection}
 use Rattle.rx_ground.specs.Shown.{Ground, Label, Kept, kept_in, held_in, waiting_in, label_in}
 use Rattle.rx_ground.specs.Ties.{IsStored, IsStanding}
 use Rattle.rx_ground.proofs.Laws.Numbers.{ListsJust}
-use Rattle.rx_ground.proofs.Laws.JustOpenHeldWaiting.{numbers, stored_held, stored_waiting, just_nodes, just_held, just_waiting, just_out, length-held, length-waiting}
+use Rattle.rx_ground.proofs.Laws.JustOpenHeldWaiting.{numbers, stored_held, stored_waiting, just_nodes, just_held}
+use Rattle.rx_ground.proofs.Laws.JustOpenHeldWaiting.{just_waiting, just_out, length-held, length-waiting}
 use Rattle.rx_book.specs.declared.key.Key.{Key}
 use Rattle.rx_book.specs.declared.key.ResKey.{ResKey}
 use Rattle.rx_book.specs.declared.key.LeaseKey.{LeaseKey}
@@ -47,7 +48,8 @@ module _ {X : Type 0} where
   shown_just : {Y : Type 0} (test : ℕ → Bool) (f : Kept X → Y) (of : Y → ℕ) → ((k : Kept X) → of (f k) ≡ k.key.number) →
       (ks : List (Kept X)) → ListsJust test (numbers ks) → AreJust test (map of (map f ks))
   shown_just test f of same ks just =
-      subst (λ (ns : List ℕ). AreJust test ns) (sym (map-map f of (λ (k : Kept X). k.key.number) same ks)) (record { each = just.each; every = just.every; once = just.once })
+      subst (λ (ns : List ℕ). AreJust test ns) (sym (map-map f of (λ (k : Kept X). k.key.number) same ks))
+      (record { each = just.each; every = just.every; once = just.once })
 
 -- hubs --------------------------------------------------------------------------------------------
 
@@ -66,9 +68,10 @@ module _ {T : Type 0} (g : Ghosts T) where
   -- what is stored as its history says has the label that it should
   labels : (base : Base) → (h : List Event) (nodes : Slots Node) (ks : List (Kept (Stowed T))) →
       ((k : Kept (Stowed T)) → Contains ks k → IsStored base g h nodes k.key.number k.value) → All (IsLabelOf base h) (map (label_in g) ks)
-  labels base h nodes ks stored = All-map (IsLabelOf base h) (label_in g) ks (All-members (λ (k : Kept (Stowed T)). IsLabelOf base h (label_in g k)) ks label) where
-    label : (k : Kept (Stowed T)) → Contains ks k → IsLabelOf base h (label_in g k)
-    label k c = let is = stored k c in record { live = is.live; tag = ap (option_and_then accepted_tag) is.accepted; uses = is.uses }
+  labels base h nodes ks stored = All-map (IsLabelOf base h) (label_in g) ks (All-members (λ (k : Kept (Stowed T)). IsLabelOf base h (label_in g k)) ks label)
+    where
+      label : (k : Kept (Stowed T)) → Contains ks k → IsLabelOf base h (label_in g k)
+      label k c = let is = stored k c in record { live = is.live; tag = ap (option_and_then accepted_tag) is.accepted; uses = is.uses }
 
   module _ (b : Ground T) (register : IsRegisterPromised b.register) (tree : IsTreePromised b.tree) (apart : AreApart b.leases) (standing : IsStanding g b) where
     abbrev h : List Event
@@ -92,7 +95,8 @@ module _ {T : Type 0} (g : Ghosts T) where
     waiting_numbers : ListsJust (is_waiting h) (numbers (waiting_in b.tree))
     waiting_numbers = just_waiting b.register.base g h b.tree standing.tied.of_tree tree.resources_apart
 
-    counted : accepted_count b.register.base h ≡ length (map (label_in g) (held_in b.tree)) + length (map (label_in g) (waiting_in b.tree)) + taken_count b.register.base h
+    counted : accepted_count b.register.base h ≡
+        length (map (label_in g) (held_in b.tree)) + length (map (label_in g) (waiting_in b.tree)) + taken_count b.register.base h
     counted =
         let as_held = length-map (held_in b.tree) (label_in g) in
         let as_waiting = length-map (waiting_in b.tree) (label_in g) in

@@ -11,7 +11,8 @@ use Rattle.rx_event.specs.declared.event.Mode.{Mode}
 use Rattle.rx_event.specs.declared.event.Event.{Event}
 use Rattle.rx_event.specs.declared.event.Event.TheVariants.{Connect}
 use Rattle.rx_event.specs.declared.refusal.Refusal.{Refusal}
-use Rattle.rx_event.specs.declared.refusal.Refusal.TheVariants.{Full, Gone, WrongKind, PlaceTaken, NothingOwed, NotRoot, NoHub, HubOrder, Connected, NotConnected}
+use Rattle.rx_event.specs.declared.refusal.Refusal.TheVariants.{Full, Gone, WrongKind, PlaceTaken, NothingOwed, NotRoot}
+use Rattle.rx_event.specs.declared.refusal.Refusal.TheVariants.{NoHub, HubOrder, Connected, NotConnected}
 use Rattle.rx_event.specs.declared.refusal.Refusal.TheVariants.{NotFresh, NoLease, NotHeld, Leased, HasChild, MailLeft, TooMany}
 use Rattle.rx_event.specs.Events.{makes_hub, named_by, has_source, is_leaf, is_merging, is_until, is_root, is_auto_hub, is_manual_hub}
 use Rattle.rx_event.specs.Kept.{Kept}

@@ -28,15 +28,28 @@ use Rattle.rx_ground.proofs.StandsAfterCheckpoint.{standing_still}
 
 -- what is kept of all that is there is the base of the history
 pub whole_base : {T : Type 0} (g : Ghosts T) (b : Ground T) → IsStanding g b → IsRegisterPromised b.register → IsTreePromised b.tree → IsHubsPromised b.hubs →
-    AreApart b.leases → (events items accepted taken : ℕ) (hs : List BaseHub) (nodes : List BaseNode) (resources : List BaseResource) (leases : List BaseLease) →
+    AreApart b.leases →
+    (events items accepted taken : ℕ) (hs : List BaseHub) (nodes : List BaseNode) (resources : List BaseResource) (leases : List BaseLease) →
     events ≡ length b.register.history → items ≡ item_count b.register.base b.register.history → accepted ≡ accepted_count b.register.base b.register.history →
     taken ≡ taken_count b.register.base b.register.history → hs ≡ map hub_as_kept b.hubs.hubs →
     IsByNumber (λ k. k.number) (kept_by node_as_kept b.tree.nodes) nodes →
     IsByNumber (λ k. k.number) (kept_by (resource_as_kept g b.tree.nodes) b.tree.resources) resources →
     IsByNumber (λ k. k.number) (kept_by lease_as_kept b.leases) leases →
-    (let whole : Base = record { at_length = events; items = items; accepted = accepted; taken = taken; hubs = hs; nodes = nodes; resources = resources; leases = leases } in whole)
+    (let whole : Base =
+    record {
+      at_length = events;
+      items = items;
+      accepted = accepted;
+      taken = taken;
+      hubs = hs;
+      nodes = nodes;
+      resources = resources;
+      leases = leases;
+    } in
+    whole)
     ≡ base_of b.register.base b.register.history
-whole_base g b standing promised tree hubs apart events items accepted taken hs nodes resources leases same_at same_items same_accepted same_taken same_hubs of_nodes of_resources of_leases =
+whole_base g b standing promised tree hubs apart events items accepted taken hs nodes resources leases same_at same_items same_accepted same_taken same_hubs
+    of_nodes of_resources of_leases =
     base_built b.register.base b.register.history events items accepted taken hs nodes resources leases same_at same_items same_accepted same_taken
     (same_hubs ∙ hubs_kept b.register.history b.hubs hubs standing.tied.published)
     (nodes_kept b.register.base g b.register.history b.tree standing.tied.of_tree tree.sound.apart nodes of_nodes)
@@ -53,20 +66,28 @@ pub record MayRebase (s : Register) (reserved : ℕ) : Type 0 where
   pub within : reserved ≤ s.limit
 
 pub may_rebase : {T : Type 0} (g : Ghosts T) (b : Ground T) (reserved : ℕ) → IsStanding g b → IsRegisterPromised b.register →
-    first_cause (checkpoint_causes b.register.history b.register.given) ≡ None → reserved ≡ debt b.register.base b.register.history → MayRebase b.register reserved
+    first_cause (checkpoint_causes b.register.history b.register.given) ≡ None → reserved ≡ debt b.register.base b.register.history →
+    MayRebase b.register reserved
 may_rebase g b reserved standing promised none same = record {
   settled = standing.settled;
   handed = let given = promised.given in
-      let all = ltb-false b.register.given (length (notes b.register.history)) (no_cause (checkpoint_causes b.register.history b.register.given) none MailLeft) in omega arith;
+      let all =
+      ltb-false b.register.given (length (notes b.register.history))
+      (no_cause (checkpoint_causes b.register.history b.register.given) none MailLeft) in
+      omega arith;
   pending = standing.paid.pending;
-  placed = let few = ltb-false 9223372036854775807 (length b.register.history) (no_cause (checkpoint_causes b.register.history b.register.given) none TooMany) in omega arith;
+  placed =
+      let few = ltb-false 9223372036854775807 (length b.register.history) (no_cause (checkpoint_causes b.register.history b.register.given) none TooMany) in
+      omega arith;
   closing = omega arith;
   within = let e = standing.paid.events in let r = promised.room in let l = promised.begun in omega arith;
 }
 
 -- the register over its base, with the hubs that forgot their ends, is a checkpoint
-pub checkpoint_made : {T : Type 0} (old new : Ground T) (reserved : ℕ) → Rebases old.register new.register reserved → reserved ≡ debt old.register.base old.register.history →
-    new.tree ≡ old.tree → new.hubs ≡ record old.hubs { hubs = map without_end old.hubs.hubs } → new.leases ≡ old.leases → new.space ≡ old.space → IsCheckpoint old new
+pub checkpoint_made : {T : Type 0} (old new : Ground T) (reserved : ℕ) → Rebases old.register new.register reserved →
+    reserved ≡ debt old.register.base old.register.history →
+    new.tree ≡ old.tree → new.hubs ≡ record old.hubs { hubs = map without_end old.hubs.hubs } → new.leases ≡ old.leases → new.space ≡ old.space →
+    IsCheckpoint old new
 checkpoint_made old new reserved rebases same tree hubs leases space = record {
   register = subst (Rebases old.register new.register) same rebases;
   tree = tree;

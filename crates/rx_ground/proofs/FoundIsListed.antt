@@ -1,5 +1,6 @@
 -- The lists of what stands in slots.
-use Rattle.std.proofs.Common.{◌≡◌, ℕ, zero, suc, ◌+◌, Bool, true, false, cond, List, [], ◌∷◌, get_or, Option, Some, None, refl, sym, ap, subst, ◌∙◌, inl, inr, ◌⊎◌, arith}
+use Rattle.std.proofs.Common.{◌≡◌, ℕ, zero, suc, ◌+◌, Bool, true, false, cond, List, [], ◌∷◌, get_or}
+use Rattle.std.proofs.Common.{Option, Some, None, refl, sym, ap, subst, ◌∙◌, inl, inr, ◌⊎◌, arith}
 use Rattle.std.specs.List.{Contains, filter}
 use Rattle.std.proofs.lemmas.Option.{none-some, same_Some}
 use Rattle.rx_slots.specs.declared.Entry.{Entry}
@@ -15,7 +16,8 @@ module _ {X : Type 0} where
   pub filter_member : (p : X → Bool) (xs : List X) (y : X) → Contains (filter p xs) y → Contains xs y × (p y ≡ true)
   filter_member p [] y c = absurd (Contains-none y c)
   filter_member p (x ∷ xs) y c = by_test (filter_member p xs y) (p x) refl c where
-    by_test : (Contains (filter p xs) y → Contains xs y × (p y ≡ true)) → (b : Bool) → p x ≡ b → Contains (cond b (x ∷ filter p xs) (filter p xs)) y → Contains (x ∷ xs) y × (p y ≡ true)
+    by_test : (Contains (filter p xs) y → Contains xs y × (p y ≡ true)) → (b : Bool) → p x ≡ b → Contains (cond b (x ∷ filter p xs) (filter p xs)) y →
+        Contains (x ∷ xs) y × (p y ≡ true)
     by_test rest false e c = let r = rest c in (Contains-later x xs y r.0, r.1)
     by_test rest true e c = by_place (Contains-cases x (filter p xs) y c) where
       by_place : (x ≡ y) ⊎ Contains (filter p xs) y → Contains (x ∷ xs) y × (p y ≡ true)
@@ -35,21 +37,29 @@ module _ {X : Type 0} where
 
   -- the list of some slots --------------------------------------------------------------------------
 
-  pub stands_from : (first : ℕ) (es : List (Option (Entry X))) (k : Kept X) → Contains (kept_from first es) k → (i : ℕ) × (k.key.slot ≡ first + i) × (get_or es i None ≡ Some (entry_of k.key.number k.value))
+  pub stands_from : (first : ℕ) (es : List (Option (Entry X))) (k : Kept X) → Contains (kept_from first es) k →
+      (i : ℕ) × (k.key.slot ≡ first + i) × (get_or es i None ≡ Some (entry_of k.key.number k.value))
   stands_from first [] k c = absurd (Contains-none k c)
   stands_from first (None ∷ es) k c = let r = stands_from (suc first) es k c in (suc r.0, (let e = r.1 in omega arith), r.2)
-  stands_from first (Some e ∷ es) k c = by_place (stands_from (suc first) es k) (Contains-cases (record { key = record { slot = first; number = e.number }; value = e.value }) (kept_from (suc first) es) k c) where
-    by_place : (Contains (kept_from (suc first) es) k → (i : ℕ) × (k.key.slot ≡ suc first + i) ×
-        (get_or es i None ≡ Some (entry_of k.key.number k.value))) →
-        ((let here : Kept X = record { key = record { slot = first; number = e.number }; value = e.value } in here) ≡ k) ⊎
-        Contains (kept_from (suc first) es) k → (i : ℕ) × (k.key.slot ≡ first + i) × (get_or (Some e ∷ es) i None ≡ Some (entry_of k.key.number k.value))
-    by_place rest (inl same) = (0, (let s = ap (λ (j : Kept X). j.key.slot) same in omega arith), ap (λ (j : Kept X). Some (entry_of j.key.number j.value)) same)
-    by_place rest (inr later) = let r = rest later in (suc r.0, (let s = r.1 in omega arith), r.2)
+  stands_from first (Some e ∷ es) k c =
+      by_place (stands_from (suc first) es k)
+      (Contains-cases (record { key = record { slot = first; number = e.number }; value = e.value }) (kept_from (suc first) es) k c)
+    where
+      by_place : (Contains (kept_from (suc first) es) k → (i : ℕ) × (k.key.slot ≡ suc first + i) ×
+          (get_or es i None ≡ Some (entry_of k.key.number k.value))) →
+          ((let here : Kept X = record { key = record { slot = first; number = e.number }; value = e.value } in here) ≡ k) ⊎
+          Contains (kept_from (suc first) es) k → (i : ℕ) × (k.key.slot ≡ first + i) × (get_or (Some e ∷ es) i None ≡ Some (entry_of k.key.number k.value))
+      by_place rest (inl same) =
+          (0, (let s = ap (λ (j : Kept X). j.key.slot) same in omega arith), ap (λ (j : Kept X). Some (entry_of j.key.number j.value)) same)
+      by_place rest (inr later) = let r = rest later in (suc r.0, (let s = r.1 in omega arith), r.2)
 
-  listed_from : (first : ℕ) (es : List (Option (Entry X))) (i : ℕ) (e : Entry X) → get_or es i None ≡ Some e → Contains (kept_from first es) (record { key = record { slot = first + i; number = e.number }; value = e.value })
+  listed_from : (first : ℕ) (es : List (Option (Entry X))) (i : ℕ) (e : Entry X) → get_or es i None ≡ Some e →
+      Contains (kept_from first es) (record { key = record { slot = first + i; number = e.number }; value = e.value })
   listed_from first [] i e at = absurd (none-some e at)
   listed_from first (None ∷ es) zero e at = absurd (none-some e at)
-  listed_from first (None ∷ es) (suc i) e at = subst (λ (s : ℕ). Contains (kept_from (suc first) es) (record { key = record { slot = s; number = e.number }; value = e.value })) (omega arith) (listed_from (suc first) es i e at)
+  listed_from first (None ∷ es) (suc i) e at =
+      subst (λ (s : ℕ). Contains (kept_from (suc first) es) (record { key = record { slot = s; number = e.number }; value = e.value })) (omega arith)
+      (listed_from (suc first) es i e at)
   listed_from first (Some d ∷ es) zero e at =
       subst (λ (x : Entry X). Contains (kept_from first (Some d ∷ es)) (record {
         key = record { slot = first + 0; number = x.number };

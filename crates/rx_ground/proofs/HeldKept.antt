@@ -24,8 +24,10 @@ module _ {T : Type 0} (old new : Tree T) (number : ℕ) (nodes : new.nodes ≡ o
         ap (λ (o : Option (Stowed T)). option_map_or (is_held old.nodes) o false) (others (store_key res) differs)) ∙ held
 
 -- a new one is no older one
-pub held_new : {T : Type 0} (old new : Tree T) (number : ℕ) (k : Key) → new.nodes ≡ old.nodes → KeepsOthers old.resources new.resources k → k.number ≡ number → KeepsHeld old new number
-held_new old new number k nodes others numbered = held_but old new number nodes k others (λ res same held l. absurd (let n = ap (λ (j : Key). j.number) same in omega arith))
+pub held_new : {T : Type 0} (old new : Tree T) (number : ℕ) (k : Key) → new.nodes ≡ old.nodes → KeepsOthers old.resources new.resources k →
+    k.number ≡ number → KeepsHeld old new number
+held_new old new number k nodes others numbered =
+    held_but old new number nodes k others (λ res same held l. absurd (let n = ap (λ (j : Key). j.number) same in omega arith))
 
 -- one that is rewritten was there, and was held where the change leaves it held
 pub held_rewritten : {T : Type 0} (old new : Tree T) (number : ℕ) (k : Key) (change : Stowed T → Stowed T) → new.nodes ≡ old.nodes →
@@ -68,7 +70,8 @@ held_owned {T = T} old new number res nodes others owned = held_but old new numb
       by_value (Some x) e = ap (λ b. b || is_lent x) e
 
 -- one that is out is not held
-pub held_gone : {T : Type 0} (old new : Tree T) (number : ℕ) (k : Key) → new.nodes ≡ old.nodes → KeepsOthers old.resources new.resources k → find new.resources k ≡ None → KeepsHeld old new number
+pub held_gone : {T : Type 0} (old new : Tree T) (number : ℕ) (k : Key) → new.nodes ≡ old.nodes → KeepsOthers old.resources new.resources k →
+    find new.resources k ≡ None → KeepsHeld old new number
 held_gone {T = T} old new number k nodes others gone = held_but old new number nodes k others
     (λ res same held l. absurd (false≢true (sym (ap (λ (j : Key). option_map_or (is_held new.nodes) (find new.resources j) false) same ∙
     ap (λ (o : Option (Stowed T)). option_map_or (is_held new.nodes) o false) gone) ∙ held)))

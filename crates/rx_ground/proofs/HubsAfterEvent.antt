@@ -84,10 +84,13 @@ hub_told h hub is g same = subst (λ (n : ℕ). IsHubTold h n (published_of hub)
 -- what is found of a hub is so, and where none is found none was made
 pub hub_known : (h : List Event) (hubs : List Hub) → AreHubsOf h hubs → (g : ℕ) (o : Option Published) → o ≡ option_map published_of (find_hub hubs g) →
     IfSome o (IsHubTold h g) × IfNone o (at makes_hub h g ≡ false)
-hub_known h hubs of g o is = subst (λ (o : Option Published). IfSome o (IsHubTold h g) × IfNone o (at makes_hub h g ≡ false)) (sym is) (by_hub (find_hub hubs g) refl) where
-  by_hub : (x : Option Hub) → find_hub hubs g ≡ x → IfSome (option_map published_of x) (IsHubTold h g) × IfNone (option_map published_of x) (at makes_hub h g ≡ false)
-  by_hub None none = (tt, sym (found_made h hubs of g) ∙ ap is_some none)
-  by_hub (Some hub) found = let at_i = found_hub hubs g hub found in (hub_told h hub (of.each at_i.0 hub at_i.1.0) g at_i.1.1, tt)
+hub_known h hubs of g o is =
+    subst (λ (o : Option Published). IfSome o (IsHubTold h g) × IfNone o (at makes_hub h g ≡ false)) (sym is) (by_hub (find_hub hubs g) refl)
+  where
+    by_hub : (x : Option Hub) → find_hub hubs g ≡ x →
+        IfSome (option_map published_of x) (IsHubTold h g) × IfNone (option_map published_of x) (at makes_hub h g ≡ false)
+    by_hub None none = (tt, sym (found_made h hubs of g) ∙ ap is_some none)
+    by_hub (Some hub) found = let at_i = found_hub hubs g hub found in (hub_told h hub (of.each at_i.0 hub at_i.1.0) g at_i.1.1, tt)
 
 pub no_auto_hub : (h : List Event) (g : ℕ) → at makes_hub h g ≡ false → at is_auto_hub h g ≡ false
 no_auto_hub h g none = by_place (slice_get h g) none where
@@ -120,7 +123,8 @@ hubs_counted h s promised of =
     every : (n : ℕ) → at makes_hub h n ≡ true → Contains (map number s.hubs) n
     every n is =
         let has = of.every n is in
-        let there : Contains s.hubs has.hub = (has.index, slice_get_within s.hubs has.index has.hub has.there, get_or_from_slice_get s.hubs has.index has.hub has.hub has.there) in
+        let there : Contains s.hubs has.hub =
+        (has.index, slice_get_within s.hubs has.index has.hub has.there, get_or_from_slice_get s.hubs has.index has.hub has.hub has.there) in
         subst (Contains (map number s.hubs)) has.numbered (Contains-map number s.hubs has.hub there)
 
     apart : AllPairs (λ a b. number a ≢ number b) s.hubs
@@ -206,7 +210,8 @@ module _ {T : Type 0} (g : Ghosts T) where
       tied_on base e law next was grown joins shuts (λ key some. still_there u marked.nodes key some) tied
 
   -- after one that closes nodes, which leave the hubs
-  pub tied_closed : (base : Kept) → {h k : List Event} {old new : Tree T} {hubs later : Hubs} (e : Event) (gone : Key → Bool) (ended : Option LastEnd) → IsLawful base h → MayFollow base h e →
+  pub tied_closed : (base : Kept) → {h k : List Event} {old new : Tree T} {hubs later : Hubs} (e : Event) (gone : Key → Bool) (ended : Option LastEnd) →
+      IsLawful base h → MayFollow base h e →
       AreTied base g h old hubs → k ≡ h ++ e ∷ [] → hubs_after h e 0 hubs.hubs ≡ map (without_gone gone ended) hubs.hubs →
       later.hubs ≡ map (without_gone gone ended) hubs.hubs → KeepsNodes k old.nodes new.nodes → IsTied base g k new → AreTied base g k new later
   tied_closed base {h = h} {k = k} {old = old} {new = new} {hubs = hubs} {later = later} e gone ended law next was grown after left kept tied = record {
@@ -221,7 +226,8 @@ module _ {T : Type 0} (g : Ghosts T) where
           (subst (AreHubsOf (h ++ e ∷ [])) (after ∙ sym left) (hubs_follow base h e 0 hubs.hubs law next was.published))
 
   -- after one that makes a connection, which its hub has from then on
-  pub tied_connected : (base : Kept) → {h : List Event} {old new : Tree T} {hubs later : Hubs} (n : ℕ) (key : Key) → IsLawful base h → MayFollow base h (Connect n) → AreTied base g h old hubs →
+  pub tied_connected : (base : Kept) → {h : List Event} {old new : Tree T} {hubs later : Hubs} (n : ℕ) (key : Key) → IsLawful base h →
+      MayFollow base h (Connect n) → AreTied base g h old hubs →
       key.number ≡ length h → later.hubs ≡ at_hub n (connected key) hubs.hubs → ((k : Key) → IsSome (find old.nodes k) → IsSome (find new.nodes k)) →
       IsSome (find new.nodes key) → IsTied base g (h ++ Connect n ∷ []) new → AreTied base g (h ++ Connect n ∷ []) new later
   tied_connected base {h = h} {old = old} {new = new} {hubs = hubs} n key law next was numbered made still there tied = record {
@@ -241,8 +247,11 @@ module _ {T : Type 0} (g : Ghosts T) where
     published = subst (AreHubsOf (h ++ Publish mode ∷ [])) (hubs_published h mode 0 hubs.hubs was.published ∙ sym added)
         (hubs_follow base h (Publish mode) 0 hubs.hubs law next was.published);
     joined = record {
-      subscribers = λ i hub at_i. by_place i hub (pushed_from hubs.hubs (new_hub (length h) mode) hub i (ap (λ (hs : List Hub). slice_get hs i) (sym added) ∙ at_i));
-      connection = λ i hub at_i. by_place_too i hub (pushed_from hubs.hubs (new_hub (length h) mode) hub i (ap (λ (hs : List Hub). slice_get hs i) (sym added) ∙ at_i));
+      subscribers =
+          λ i hub at_i. by_place i hub (pushed_from hubs.hubs (new_hub (length h) mode) hub i (ap (λ (hs : List Hub). slice_get hs i) (sym added) ∙ at_i));
+      connection =
+          λ i hub at_i. by_place_too i hub
+          (pushed_from hubs.hubs (new_hub (length h) mode) hub i (ap (λ (hs : List Hub). slice_get hs i) (sym added) ∙ at_i));
     };
   }
     where

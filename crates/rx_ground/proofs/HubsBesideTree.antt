@@ -152,7 +152,8 @@ joined_still k old new hubs of still joined = record {
     by_connection hub is (Some key) own there = still key there (own_connection k hub is key own).1
 
 -- and in one that has all that another has
-pub joined_found : (old new : Slots Node) (hubs : List Hub) → ((key : Key) → IsSome (find old key) → IsSome (find new key)) → AreJoined old hubs → AreJoined new hubs
+pub joined_found : (old new : Slots Node) (hubs : List Hub) → ((key : Key) → IsSome (find old key) → IsSome (find new key)) → AreJoined old hubs →
+    AreJoined new hubs
 joined_found old new hubs still joined = record {
   subscribers = λ i hub at_i. all_weaker (λ key. IsSome (find old key)) (λ key. IsSome (find new key)) still hub.subscribers (joined.subscribers i hub at_i);
   connection = λ i hub at_i. by_option hub.connection (joined.connection i hub at_i);
@@ -191,7 +192,8 @@ connected_hub base h law c g at_c =
     let made : at makes_hub (take c h) g ≡ true = hub_before base h law c g at_c in
     ap (λ k. at makes_hub k g) (sym (take-append-drop c h)) ∙ at-append makes_hub (take c h) (drop c h) g (at_within makes_hub (take c h) g made) ∙ made
 
-module _ (base : Kept) {T : Type 0} (g : Ghosts T) (h : List Event) (tree : Tree T) (hubs : Hubs) (tied : AreTied base g h tree hubs) (law : IsLawful base h) (sound : IsSound tree.nodes) where
+module _ (base : Kept) {T : Type 0} (g : Ghosts T) (h : List Event) (tree : Tree T) (hubs : Hubs) (tied : AreTied base g h tree hubs) (law : IsLawful base h)
+    (sound : IsSound tree.nodes) where
   -- a record's node is known to the hubs as what its event made it
   known : (c : Closed) → find tree.nodes c.key ≡ Some c.node → IsKnown hubs.hubs c
   known c found = record {
@@ -214,7 +216,8 @@ module _ (base : Kept) {T : Type 0} (g : Ghosts T) (h : List Event) (tree : Tree
       same : (key : Key) → IsSome (find tree.nodes key) → key.number ≡ c.key.number → key ≡ c.key
       same key some numbered = sound.apart key c.key some (ap is_some found) numbered
 
-      subscribes_now : (i : ℕ) (hub : Hub) → slice_get hubs.hubs i ≡ Some hub → is_on c.key hub.subscribers ≡ true → is_subscriber_of hub.number c.node.made ≡ true
+      subscribes_now : (i : ℕ) (hub : Hub) → slice_get hubs.hubs i ≡ Some hub → is_on c.key hub.subscribers ≡ true →
+          is_subscriber_of hub.number c.node.made ≡ true
       subscribes_now i hub at_i on =
           let one = any_from (is_key c.key) hub.subscribers on in
           let opened : IsOpenAt h hub.number one.0.number =
@@ -222,9 +225,11 @@ module _ (base : Kept) {T : Type 0} (g : Ghosts T) (h : List Event) (tree : Tree
           let subscribes = (and_parts (at (is_subscriber_of hub.number) h one.0.number) (is_open h one.0.number) opened).0 in
           made (is_subscriber_of hub.number) (ap (λ (key : Key). at (is_subscriber_of hub.number) h key.number) (key_is c.key one.0 one.2) ∙ subscribes)
 
-      subscriber_there : (i : ℕ) (hub : Hub) → slice_get hubs.hubs i ≡ Some hub → is_subscriber_of hub.number c.node.made ≡ true → is_on c.key hub.subscribers ≡ true
+      subscriber_there : (i : ℕ) (hub : Hub) → slice_get hubs.hubs i ≡ Some hub → is_subscriber_of hub.number c.node.made ≡ true →
+          is_on c.key hub.subscribers ≡ true
       subscriber_there i hub at_i subscribes =
-          let both = and_from (at (is_subscriber_of hub.number) h c.key.number) (is_open h c.key.number) (told (is_subscriber_of hub.number) subscribes) is.alive in
+          let both =
+          and_from (at (is_subscriber_of hub.number) h c.key.number) (is_open h c.key.number) (told (is_subscriber_of hub.number) subscribes) is.alive in
           let listed = filter_has (λ n. at (is_subscriber_of hub.number) h n && is_open h n) (places h) c.key.number
           (place_listed h c.key.number (is_open_within h c.key.number is.alive)) both in
           let one = Contains-from_map (λ (key : Key). key.number) hub.subscribers c.key.number
@@ -269,7 +274,8 @@ module _ (base : Kept) {T : Type 0} (g : Ghosts T) (h : List Event) (tree : Tree
           ap is_some (cuts.nodes key ∙ ap (λ b. cond b None (find tree.nodes key)) outside) ∙ some
 
       by_option : (x : Hub) (o : Option Key) → IfSome o (λ key. IsSome (find tree.nodes key)) → (b : Bool) → option_map_or (is_inside h top) o false ≡ b →
-          IfSome (cond b (disconnected ended (remaining (is_inside h top) (record x { connection = o }))) (remaining (is_inside h top) (record x { connection = o }))).connection
+          IfSome (cond b (disconnected ended (remaining (is_inside h top) (record x { connection = o })))
+          (remaining (is_inside h top) (record x { connection = o }))).connection
           (λ key. IsSome (find left.nodes key))
       by_option x o there true e = tt
       by_option x None there false e = tt
@@ -330,7 +336,8 @@ module _ (nodes : Slots Node) where
       by_test x true all = keeps x all
       by_test x false all = all
 
-      by_test_too : (x : Hub) (b : Bool) → IfSome x.connection (λ key. IsSome (find nodes key)) → IfSome (cond b (change x) x).connection (λ key. IsSome (find nodes key))
+      by_test_too : (x : Hub) (b : Bool) → IfSome x.connection (λ key. IsSome (find nodes key)) →
+          IfSome (cond b (change x) x).connection (λ key. IsSome (find nodes key))
       by_test_too x true there = keeps_too x there
       by_test_too x false there = there
 
@@ -347,7 +354,8 @@ module _ (nodes : Slots Node) where
       (λ hub all. AllByRecursion-both (λ k. IsSome (find nodes k)) hub.subscribers (key ∷ []) all (there, tt)) (λ hub there. there) joined
 
   -- and so has a connection
-  pub joined_connected : (key : Key) (g : ℕ) (hubs : List Hub) → IsSome (find nodes key) → AreJoined nodes hubs → AreJoined nodes (at_hub g (connected key) hubs)
+  pub joined_connected : (key : Key) (g : ℕ) (hubs : List Hub) → IsSome (find nodes key) → AreJoined nodes hubs →
+      AreJoined nodes (at_hub g (connected key) hubs)
   joined_connected key g hubs there joined = joined_at g (connected key) hubs (λ hub all. all) (λ hub before. there) joined
 
   -- at a slot that is free no subscriber stands

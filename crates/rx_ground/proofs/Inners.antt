@@ -1,6 +1,7 @@
 -- The children of a Switch: its source, and one inner.
 use Rattle.std.specs.Prelude.{IfNone}
-use Rattle.std.proofs.Common.{◌≡◌, ℕ, ◌+◌, true, false, List, Option, Some, None, is_some, IsSome, IfSome, option_map, slice_get, refl, sym, ap, ◌∙◌, inl, inr, ◌⊎◌, arith}
+use Rattle.std.proofs.Common.{◌≡◌, ℕ, ◌+◌, true, false, List, Option, Some, None, is_some, IsSome, IfSome}
+use Rattle.std.proofs.Common.{option_map, slice_get, refl, sym, ap, ◌∙◌, inl, inr, ◌⊎◌, arith}
 use Rattle.std.specs.Option.{option_map_or}
 use Rattle.std.proofs.lemmas.Bool.{false≢true, both_ways, eq-eqb, false_from_ne_true}
 use Rattle.std.proofs.lemmas.Option.{none-some, same_Some}
@@ -36,7 +37,8 @@ no_until (Some (Open place Until)) s u = absurd (false≢true s)
 no_until (Some _) s u = absurd (false≢true s)
 
 -- what stands below a Switch is a source or an inner
-child_of_switch : (base : Kept) → (h : List Event) → IsLawful base h → (f n : ℕ) → at is_switch h f ≡ true → parent h n ≡ Some f → (at (is_source_of f) h n ≡ true) ⊎ (at (is_inner_of f) h n ≡ true)
+child_of_switch : (base : Kept) → (h : List Event) → IsLawful base h → (f n : ℕ) → at is_switch h f ≡ true → parent h n ≡ Some f →
+    (at (is_source_of f) h n ≡ true) ⊎ (at (is_inner_of f) h n ≡ true)
 child_of_switch base h law f n switch below = by_event e.0 e.1 (parent_name h n f e.0 below e.1) where
   e : (e : Event) × (slice_get h n ≡ Some e)
   e = event_at h n (parent_within h n f below)
@@ -45,13 +47,15 @@ child_of_switch base h law f n switch below = by_event e.0 e.1 (parent_name h n 
   by_event (Open Root kind) at_n named = absurd (none-some f named)
   by_event (Open (Source q) kind) at_n named = inl (ap (λ (o : Option Event). option_map_or (is_source_of f) o false) at_n ∙ eq-eqb q f (same_Some q f named))
   by_event (Open (Inner q) kind) at_n named = inr (ap (λ (o : Option Event). option_map_or (is_inner_of f) o false) at_n ∙ eq-eqb q f (same_Some q f named))
-  by_event (Open (Notifier q) kind) at_n named = absurd (no_until (slice_get h f) switch (ap (at is_until h) (sym (same_Some q f named)) ∙ notifier_stands base h law n q kind at_n))
+  by_event (Open (Notifier q) kind) at_n named =
+      absurd (no_until (slice_get h f) switch (ap (at is_until h) (sym (same_Some q f named)) ∙ notifier_stands base h law n q kind at_n))
   by_event _ at_n named = absurd (none-some f named)
 
 module _ (base : Kept) (h : List Event) (law : IsLawful base h) (nodes : Slots Node) (chain : List Key) (r : AreRecords base h nodes chain)
     (switch : Key) (there : IsSome (find nodes switch)) (switches : at is_switch h switch.number ≡ true) where
   -- a child of the tree stands there in the history, at one of the two places
-  child_place : (key : Key) → IsChild nodes switch key → (at (is_source_of switch.number) h key.number ≡ true) ⊎ (at (is_inner_of switch.number) h key.number ≡ true)
+  child_place : (key : Key) → IsChild nodes switch key →
+      (at (is_source_of switch.number) h key.number ≡ true) ⊎ (at (is_inner_of switch.number) h key.number ≡ true)
   child_place key child =
       let x = some_of (find nodes key) (child_found nodes key switch.number child.named) in
       child_of_switch base h law switch.number key.number switches (sym (parent_in_tree base h nodes chain r key x.0 x.1) ∙ child.named)
@@ -59,8 +63,17 @@ module _ (base : Kept) (h : List Event) (law : IsLawful base h) (nodes : Slots N
   -- an open inner is a child of the tree
   inner_child : (n : ℕ) → at (is_inner_of switch.number) h n ≡ true → is_open h n ≡ true → (key : Key) × IsChild nodes switch key × (key.number ≡ n)
   inner_child n inner alive =
-      let has = r.every n alive in
-      (has.key, record { there = there; named = parent_in_tree base h nodes chain r has.key has.value has.found ∙ ap (parent h) has.numbered ∙ switched_parent base h law switch.number n inner }, has.numbered)
+      let has = r.every n alive in (
+        has.key,
+        record {
+          there = there;
+          named =
+              parent_in_tree base h nodes chain r has.key has.value has.found ∙
+              ap (parent h) has.numbered ∙
+              switched_parent base h law switch.number n inner;
+        },
+        has.numbered,
+      )
 
   -- without a child it has no inner
   pub no_child : HasNone (IsChild nodes switch) 0 → HasNoInner h switch.number
@@ -70,7 +83,8 @@ module _ (base : Kept) (h : List Event) (law : IsLawful base h) (nodes : Slots N
       absurd (omega arith))
 
   -- a child whose event opened an inner is one
-  pub inner_first : (first : Key) (node : Node) → IsChild nodes switch first → find nodes first ≡ Some node → is_some (inner_named node.made) ≡ true → IsInner h nodes switch.number first
+  pub inner_first : (first : Key) (node : Node) → IsChild nodes switch first → find nodes first ≡ Some node → is_some (inner_named node.made) ≡ true →
+      IsInner h nodes switch.number first
   inner_first first node child found inner = by_place (child_place first child) where
     made : slice_get h first.number ≡ Some node.made
     made = (r.each first node found).made
@@ -82,31 +96,40 @@ module _ (base : Kept) (h : List Event) (law : IsLawful base h) (nodes : Slots N
     source_inner (Open (Inner q) kind) s i = absurd (false≢true s)
     source_inner _ s i = absurd (false≢true i)
 
-    by_place : (at (is_source_of switch.number) h first.number ≡ true) ⊎ (at (is_inner_of switch.number) h first.number ≡ true) → IsInner h nodes switch.number first
-    by_place (inl source) = absurd (source_inner node.made (sym (ap (λ (o : Option Event). option_map_or (is_source_of switch.number) o false) made) ∙ source) inner)
+    by_place : (at (is_source_of switch.number) h first.number ≡ true) ⊎ (at (is_inner_of switch.number) h first.number ≡ true) →
+        IsInner h nodes switch.number first
+    by_place (inl source) =
+        absurd (source_inner node.made (sym (ap (λ (o : Option Event). option_map_or (is_source_of switch.number) o false) made) ∙ source) inner)
     by_place (inr stands) = record { stands = stands; found = ap is_some found }
 
-  module _ (first : Key) (node : Node) (oldest : IsFirst (IsChild nodes switch) 0 first) (found : find nodes first ≡ Some node) (not_inner : is_some (inner_named node.made) ≡ false) where
+  module _ (first : Key) (node : Node) (oldest : IsFirst (IsChild nodes switch) 0 first) (found : find nodes first ≡ Some node)
+      (not_inner : is_some (inner_named node.made) ≡ false) where
     no_inner : at (is_inner_of switch.number) h first.number ≡ true → ⊥
-    no_inner inner = of_event node.made (sym (ap (λ (o : Option Event). option_map_or (is_inner_of switch.number) o false) (r.each first node found).made) ∙ inner) not_inner where
-      of_event : (e : Event) → is_inner_of switch.number e ≡ true → is_some (inner_named e) ≡ false → ⊥
-      of_event (Open (Inner q) kind) s i = absurd (false≢true (sym i))
-      of_event (Open (Source q) kind) s i = absurd (false≢true s)
-      of_event (Open Root kind) s i = absurd (false≢true s)
-      of_event (Open (Notifier q) kind) s i = absurd (false≢true s)
-      of_event _ s i = absurd (false≢true s)
+    no_inner inner =
+        of_event node.made (sym (ap (λ (o : Option Event). option_map_or (is_inner_of switch.number) o false) (r.each first node found).made) ∙ inner)
+        not_inner
+      where
+        of_event : (e : Event) → is_inner_of switch.number e ≡ true → is_some (inner_named e) ≡ false → ⊥
+        of_event (Open (Inner q) kind) s i = absurd (false≢true (sym i))
+        of_event (Open (Source q) kind) s i = absurd (false≢true s)
+        of_event (Open Root kind) s i = absurd (false≢true s)
+        of_event (Open (Notifier q) kind) s i = absurd (false≢true s)
+        of_event _ s i = absurd (false≢true s)
 
     source_first : at (is_source_of switch.number) h first.number ≡ true
     source_first = by_place (child_place first oldest.one) where
-      by_place : (at (is_source_of switch.number) h first.number ≡ true) ⊎ (at (is_inner_of switch.number) h first.number ≡ true) → at (is_source_of switch.number) h first.number ≡ true
+      by_place : (at (is_source_of switch.number) h first.number ≡ true) ⊎ (at (is_inner_of switch.number) h first.number ≡ true) →
+          at (is_source_of switch.number) h first.number ≡ true
       by_place (inl source) = source
       by_place (inr inner) = absurd (no_inner inner)
 
     -- after the source comes the inner
     pub inner_next : (next : Key) → IsFirst (IsChild nodes switch) (first.number + 1) next → IsInner h nodes switch.number next
     inner_next next younger = by_place (child_place next younger.one) where
-      by_place : (at (is_source_of switch.number) h next.number ≡ true) ⊎ (at (is_inner_of switch.number) h next.number ≡ true) → IsInner h nodes switch.number next
-      by_place (inl source) = absurd (let same = one_source base h law switch.number first.number next.number source_first source in let more = younger.at_least in omega arith)
+      by_place : (at (is_source_of switch.number) h next.number ≡ true) ⊎ (at (is_inner_of switch.number) h next.number ≡ true) →
+          IsInner h nodes switch.number next
+      by_place (inl source) =
+          absurd (let same = one_source base h law switch.number first.number next.number source_first source in let more = younger.at_least in omega arith)
       by_place (inr inner) = record { stands = inner; found = child_found nodes next switch.number younger.one.named }
 
     -- or nothing
@@ -144,4 +167,6 @@ pub no_switch : (base : Kept) → (h : List Event) (nodes : Slots Node) (chain :
 no_switch base h nodes chain r place above merging made named at_above read flat f inner switch =
     let x = made_found (find nodes merging) made read in
     let same : f ≡ merging.number = same_Some f merging.number (sym (ap named_by inner) ∙ named ∙ ap (option_map (λ (k : Key). k.number)) at_above) in
-    absurd (both_ways (at is_switch h f) (ap (at is_switch h) same ∙ ap (λ (o : Option Event). option_map_or is_switch o false) (r.each merging x.0 x.1).made ∙ ap is_switch x.2 ∙ sym flat) switch)
+    absurd (both_ways (at is_switch h f)
+    (ap (at is_switch h) same ∙ ap (λ (o : Option Event). option_map_or is_switch o false) (r.each merging x.0 x.1).made ∙ ap is_switch x.2 ∙ sym flat)
+    switch)

@@ -56,7 +56,8 @@ module _ (h : List Event) (g : ℕ) (from : Option Key) (key : Key) (is : from �
   climb_on elsewhere above named =
       ap (is_inside_up_to h g) named ∙ sym (inside_above h g key.number elsewhere) ∙ ap (λ (o : Option Key). is_inside_up_to h g (number_of o)) (sym is)
 
-pub climb_nearer : (h : List Event) (from above : Option Key) (key : Key) → from ≡ Some key → number_of above ≡ parent h key.number → steps_from above < steps_from from
+pub climb_nearer : (h : List Event) (from above : Option Key) (key : Key) → from ≡ Some key → number_of above ≡ parent h key.number →
+    steps_from above < steps_from from
 climb_nearer h from above key is named = subst (λ (o : Option Key). steps_from above < steps_from o) (sym is) (by_above above named) where
   by_above : (o : Option Key) → number_of o ≡ parent h key.number → steps_from o < suc key.number
   by_above None named = omega arith

@@ -15,7 +15,8 @@ use Rattle.rx_ground.specs.Passing.{ArePassed, IsPassing}
 use Rattle.rx_ground.proofs.RecordsAfterItem.{tied_item}
 use Rattle.rx_ground.proofs.RegisterAfterWrite.{writes_told}
 
-module _ {T : Type 0} (first : Register) (start : Tree T) (leaf : ℕ) (value : ℤ) (register : Register) (tree : Tree T) (passed : IsPassing first start leaf value register tree []) where
+module _ {T : Type 0} (first : Register) (start : Tree T) (leaf : ℕ) (value : ℤ) (register : Register) (tree : Tree T)
+    (passed : IsPassing first start leaf value register tree []) where
   all_done : passed.done ≡ stops first.history leaf
   all_done = sym (passed.whole ∙ append-nil passed.done)
 
@@ -31,5 +32,6 @@ module _ {T : Type 0} (first : Register) (start : Tree T) (leaf : ℕ) (value : 
       (h : List Event) → h ≡ register.history ++ Item leaf value ∷ [] → AreTied first.base g h tree hubs
   arrived_tied g hubs law next tied h grown =
       subst (λ (k : List Event). AreTied first.base g k tree hubs) (sym (grown ∙ ap (λ (r : Register). r.history ++ Item leaf value ∷ []) passed.same))
-      (tied_item first.base g first.history leaf value law next start tree hubs tied (subst (λ (ss : List NumberedStop). ArePassed first.base first.history ss tree.nodes tree.chain) all_done passed.records)
+      (tied_item first.base g first.history leaf value law next start tree hubs tied
+      (subst (λ (ss : List NumberedStop). ArePassed first.base first.history ss tree.nodes tree.chain) all_done passed.records)
       (λ key there. passed.there key ∙ there) passed.resources)

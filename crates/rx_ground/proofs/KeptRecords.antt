@@ -1,5 +1,6 @@
 -- What is kept of the records that are there is the base of their history.
-use Rattle.std.proofs.Common.{◌≡◌, ℕ, zero, suc, ◌+◌, ◌<◌, Bool, true, false, cond, List, [], ◌∷◌, map, length, get_or, slice_get, Option, Some, None, option_map, refl, sym, ap, subst, ◌∙◌, inl, inr, ◌⊎◌, arith}
+use Rattle.std.proofs.Common.{◌≡◌, ℕ, zero, suc, ◌+◌, ◌<◌, Bool, true, false, cond, List, [], ◌∷◌, map, length, get_or, slice_get}
+use Rattle.std.proofs.Common.{Option, Some, None, option_map, refl, sym, ap, subst, ◌∙◌, inl, inr, ◌⊎◌, arith}
 use Rattle.std.proofs.Math.Bool.{not, ◌&&◌, ◌||◌}
 use Rattle.std.specs.List.{Contains, cons_option, filter, filter_map, list_any, range_with_len}
 use Rattle.std.specs.Option.{option_map_or}
@@ -75,11 +76,13 @@ module _ {X Y : Type 0} (keep : Entry X → Y) where
   kept_listed_by slots = from_slots slots.entries slots.entries 0 (λ i. ap (λ s. get_or slots.entries s None) (let e : 0 + i ≡ i = omega arith in e))
 
   -- in the order of their numbers they are what is kept of the numbers that pass
-  pub slots_in_order : (number : Y → ℕ) → ((k : Kept X) → number (keep_kept k) ≡ k.key.number) → (slots : Slots X) (keep_number : ℕ → Y) (test : ℕ → Bool) (m : ℕ) (ys : List Y) →
+  pub slots_in_order : (number : Y → ℕ) → ((k : Kept X) → number (keep_kept k) ≡ k.key.number) →
+      (slots : Slots X) (keep_number : ℕ → Y) (test : ℕ → Bool) (m : ℕ) (ys : List Y) →
       IsByNumber number (kept_by keep slots) ys → ((k : Kept X) → Contains (kept_in slots) k → keep_kept k ≡ keep_number k.key.number) →
       ListsJust test (numbers (kept_in slots)) → ((n : ℕ) → test n ≡ true → n < m) → ys ≡ map keep_number (filter test (range_with_len 0 m))
   slots_in_order number numbered slots keep_number test m ys order each just below =
-      in_order number keep_number test m (map keep_kept (kept_in slots)) ys (subst (λ (xs : List Y). IsByNumber number xs ys) (kept_listed_by slots) order) each_kept
+      in_order number keep_number test m (map keep_kept (kept_in slots)) ys (subst (λ (xs : List Y). IsByNumber number xs ys) (kept_listed_by slots) order)
+      each_kept
       (subst (ListsJust test) (sym (same_numbers (kept_in slots))) just) below
     where
       same_numbers : (ks : List (Kept X)) → map number (map keep_kept ks) ≡ numbers ks
@@ -115,7 +118,8 @@ module _ (base : Base) {T : Type 0} (g : Ghosts T) (h : List Event) (tree : Tree
     made : option_map_or (λ e. e) (slice_get h k.key.number) (Close k.key.number) ≡ k.value.made
     made = ap (λ o. option_map_or (λ e. e) o (Close k.key.number)) is.made
 
-  pub nodes_kept : AreApart tree.nodes → (ys : List BaseNode) → IsByNumber (λ k. k.number) (kept_by node_as_kept tree.nodes) ys → ys ≡ map (keep_node base h) (open_nodes h)
+  pub nodes_kept : AreApart tree.nodes → (ys : List BaseNode) → IsByNumber (λ k. k.number) (kept_by node_as_kept tree.nodes) ys →
+      ys ≡ map (keep_node base h) (open_nodes h)
   nodes_kept apart ys order = slots_in_order node_as_kept (λ k. k.number) (λ k. refl) tree.nodes (keep_node base h) (is_open h) (length h) ys order node_kept
       (just_nodes base g h tree tied apart) (is_open_within h)
 
@@ -143,7 +147,8 @@ module _ (base : Base) {T : Type 0} (g : Ghosts T) (h : List Event) (tree : Tree
     by_state true held passes = let made = held_resource h r held in tied.stored.every r made (untaken made (held_not_taken base h law r held))
     by_state false free waits = let parts = waiting_parts h r waits in tied.stored.every r parts.0 (untaken parts.0 parts.2)
 
-  resource_kept : (k : Kept (Stowed T)) → Contains (kept_in tree.resources) k → resource_as_kept g tree.nodes (entry_of k.key.number k.value) ≡ keep_resource base h k.key.number
+  resource_kept : (k : Kept (Stowed T)) → Contains (kept_in tree.resources) k →
+      resource_as_kept g tree.nodes (entry_of k.key.number k.value) ≡ keep_resource base h k.key.number
   resource_kept k c = (λ i. record {
     number = k.key.number;
     node = sym (ap (λ o. option_map_or accept_node o 0) is.accepted) i;
@@ -163,16 +168,21 @@ module _ (base : Base) {T : Type 0} (g : Ghosts T) (h : List Event) (tree : Tree
 
     state : state_in tree.nodes k.value ≡ cond (is_owned_in h k.key.number) Owned (cond (is_held_in h k.key.number) Leased Waiting)
     state = shape (is_owned tree.nodes k.value) (is_lent k.value) ∙
-        (λ i. cond (sym (owned_agrees base g h tree tied k.key k.value found) i) Owned (cond (sym (held_agrees base g h tree tied k.key k.value found) i) Leased Waiting))
+        (λ i. cond (sym (owned_agrees base g h tree tied k.key k.value found) i) Owned
+        (cond (sym (held_agrees base g h tree tied k.key k.value found) i) Leased Waiting))
 
-  pub resources_kept : AreApart tree.resources → IsLawful base h → (ys : List BaseResource) → IsByNumber (λ k. k.number) (kept_by (resource_as_kept g tree.nodes) tree.resources) ys →
+  pub resources_kept : AreApart tree.resources → IsLawful base h → (ys : List BaseResource) →
+      IsByNumber (λ k. k.number) (kept_by (resource_as_kept g tree.nodes) tree.resources) ys →
       ys ≡ map (keep_resource base h) (filter (is_untaken h) (places h))
-  resources_kept apart law ys order = slots_in_order (resource_as_kept g tree.nodes) (λ k. k.number) (λ k. refl) tree.resources (keep_resource base h) (is_untaken h) (length h) ys order
+  resources_kept apart law ys order =
+      slots_in_order (resource_as_kept g tree.nodes) (λ k. k.number) (λ k. refl) tree.resources (keep_resource base h) (is_untaken h) (length h) ys order
       resource_kept (just_all tree.resources (is_untaken h) apart (record { each = stored_untaken; every = untaken_stored law })) (untaken_within h)
 
-pub leases_kept : {T : Type 0} (h : List Event) (resources : Slots (Stowed T)) (leases : Slots ResKey) → AreLeased h resources leases → AreApart leases → (ys : List BaseLease) →
+pub leases_kept : {T : Type 0} (h : List Event) (resources : Slots (Stowed T)) (leases : Slots ResKey) → AreLeased h resources leases → AreApart leases →
+    (ys : List BaseLease) →
     IsByNumber (λ k. k.number) (kept_by lease_as_kept leases) ys → ys ≡ map (keep_lease h) (filter (is_out h) (places h))
-leases_kept h resources leases leased apart ys order = slots_in_order lease_as_kept (λ k. k.number) (λ k. refl) leases (keep_lease h) (is_out h) (length h) ys order one
+leases_kept h resources leases leased apart ys order =
+    slots_in_order lease_as_kept (λ k. k.number) (λ k. refl) leases (keep_lease h) (is_out h) (length h) ys order one
     (just_out h resources leases leased apart) (is_out_within h)
   where
     one : (k : Kept ResKey) → Contains (kept_in leases) k → lease_as_kept (entry_of k.key.number k.value) ≡ keep_lease h k.key.number
@@ -208,7 +218,9 @@ hubs_rise (hub ∷ hs) rising = (above, hubs_rise hs (λ i j a b at_i at_j l. ri
 
 pub hubs_kept : (h : List Event) (all : Hubs) → AreHubsPromised all → AreHubsOf h all.hubs → map hub_as_kept all.hubs ≡ map (keep_hub h) (hubs h)
 hubs_kept h all promised are =
-    by_numbers all.hubs one ∙ ap (map (keep_hub h)) (rising_just (at makes_hub h) (length h) (map number all.hubs) (hubs_rise all.hubs promised.rising) each every (at_within makes_hub h))
+    by_numbers all.hubs one ∙
+    ap (map (keep_hub h))
+    (rising_just (at makes_hub h) (length h) (map number all.hubs) (hubs_rise all.hubs promised.rising) each every (at_within makes_hub h))
   where
     number : Hub → ℕ
     number hub = hub.number
@@ -216,9 +228,13 @@ hubs_kept h all promised are =
     one : (hub : Hub) → Contains all.hubs hub → hub_as_kept hub ≡ keep_hub h hub.number
     one hub c =
         let place = contains_get all.hubs hub c in
-        (λ i. record { number = hub.number; mode = sym (ap (λ o. mode_of (option_map_or (λ e. e) o (Close hub.number))) (are.each place.0 hub place.1).made) i })
+        (λ i. record {
+          number = hub.number;
+          mode = sym (ap (λ o. mode_of (option_map_or (λ e. e) o (Close hub.number))) (are.each place.0 hub place.1).made) i;
+        })
 
-    by_numbers : (hs : List Hub) → ((hub : Hub) → Contains hs hub → hub_as_kept hub ≡ keep_hub h hub.number) → map hub_as_kept hs ≡ map (keep_hub h) (map number hs)
+    by_numbers : (hs : List Hub) → ((hub : Hub) → Contains hs hub → hub_as_kept hub ≡ keep_hub h hub.number) →
+        map hub_as_kept hs ≡ map (keep_hub h) (map number hs)
     by_numbers [] same = refl
     by_numbers (hub ∷ hs) same = λ i. same hub (Contains-head hub hs) i ∷ by_numbers hs (λ other c. same other (Contains-later hub hs other c)) i
 
@@ -236,19 +252,33 @@ hubs_kept h all promised are =
 -- the base ---------------------------------------------------------------------------------------------
 
 -- counts and lists of these make just the base
-pub base_built : (b : Base) (h : List Event) (events items accepted taken : ℕ) (hs : List BaseHub) (nodes : List BaseNode) (resources : List BaseResource) (leases : List BaseLease) →
+pub base_built : (b : Base) (h : List Event) (events items accepted taken : ℕ) (hs : List BaseHub) (nodes : List BaseNode) (resources : List BaseResource)
+    (leases : List BaseLease) →
     events ≡ length h → items ≡ item_count b h → accepted ≡ accepted_count b h → taken ≡ taken_count b h →
     hs ≡ map (keep_hub h) (hubs h) → nodes ≡ map (keep_node b h) (open_nodes h) → resources ≡ map (keep_resource b h) (filter (is_untaken h) (places h)) →
     leases ≡ map (keep_lease h) (filter (is_out h) (places h)) →
-    (let whole : Base = record { at_length = events; items = items; accepted = accepted; taken = taken; hubs = hs; nodes = nodes; resources = resources; leases = leases } in whole) ≡ base_of b h
+    (let whole : Base =
+    record {
+      at_length = events;
+      items = items;
+      accepted = accepted;
+      taken = taken;
+      hubs = hs;
+      nodes = nodes;
+      resources = resources;
+      leases = leases;
+    } in
+    whole) ≡ base_of b h
 unfolding base_of
-base_built b h events items accepted taken hs nodes resources leases same_at same_items same_accepted same_taken same_hubs same_nodes same_resources same_leases = λ i. record {
-  at_length = same_at i;
-  items = same_items i;
-  accepted = same_accepted i;
-  taken = same_taken i;
-  hubs = same_hubs i;
-  nodes = same_nodes i;
-  resources = same_resources i;
-  leases = same_leases i;
-}
+base_built b h events items accepted taken hs nodes resources leases same_at same_items same_accepted same_taken same_hubs same_nodes same_resources
+    same_leases =
+    λ i. record {
+      at_length = same_at i;
+      items = same_items i;
+      accepted = same_accepted i;
+      taken = same_taken i;
+      hubs = same_hubs i;
+      nodes = same_nodes i;
+      resources = same_resources i;
+      leases = same_leases i;
+    }

@@ -54,7 +54,8 @@ module _ {T : Type 0} (h : List Event) (resources : Slots (Stowed T)) (leases : 
   out_in_history lease out = let res = some_of (find leases (lease_key lease)) out in (leased.each (lease_key lease) res.0 res.1).out
 
   -- slots that find the same, and resources that are there still where leases of them are out
-  pub leased_same : (later : Slots (Stowed T)) (new : Slots ResKey) → ((l : ℕ) (res : ResKey) → IsLeaseOf h resources l res → IsSome (find later (store_key res))) →
+  pub leased_same : (later : Slots (Stowed T)) (new : Slots ResKey) →
+      ((l : ℕ) (res : ResKey) → IsLeaseOf h resources l res → IsSome (find later (store_key res))) →
       ((key : Key) → find new key ≡ find leases key) → AreLeased h later new
   leased_same later new kept same = record {
     each = λ key res found. of key.number res (leased.each key res (sym (same key) ∙ found));

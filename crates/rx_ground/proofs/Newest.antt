@@ -16,7 +16,8 @@ use Rattle.rx_tree.proofs.Laws.Keys.{some_of}
 use Rattle.rx_ground.specs.Ties.{IsTied}
 use Rattle.rx_ground.proofs.ResourcesAfterEvent.{stored_within}
 
-module _ (base : Kept) {T : Type 0} (g : Ghosts T) (h : List Event) (tree : Tree T) (tied : IsTied base g h tree) (law : IsLawful base h) (n : ℕ) (at_end : n ≡ length h) where
+module _ (base : Kept) {T : Type 0} (g : Ghosts T) (h : List Event) (tree : Tree T) (tied : IsTied base g h tree) (law : IsLawful base h) (n : ℕ)
+    (at_end : n ≡ length h) where
   pub past_resources : IsPast tree.resources n
   past_resources key some =
       let x = some_of (find tree.resources key) some in

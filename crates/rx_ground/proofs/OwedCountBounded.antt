@@ -1,5 +1,6 @@
 -- What all open FlatMaps and Switches owe together, by the history and by the records of a tree, and that it stays within 64 bits.
-use Rattle.std.proofs.Common.{◌≡◌, ℕ, zero, suc, ◌+◌, ◌*◌, ◌<◌, ◌≤◌, Bool, true, false, cond, List, [], ◌∷◌, ◌++◌, length, Option, Some, None, is_some, IsSome, option_map, refl, sym, ap, ◌∙◌, arith, length-append}
+use Rattle.std.proofs.Common.{◌≡◌, ℕ, zero, suc, ◌+◌, ◌*◌, ◌<◌, ◌≤◌, Bool, true, false, cond, List, [], ◌∷◌, ◌++◌, length}
+use Rattle.std.proofs.Common.{Option, Some, None, is_some, IsSome, option_map, refl, sym, ap, ◌∙◌, arith, length-append}
 use Rattle.std.proofs.Math.Bool.{not, ◌&&◌}
 use Rattle.std.specs.List.{AllByRecursion, count_by, filter_map, cons_option}
 use Rattle.std.proofs.lemmas.Option.{none-some, same_Some}
@@ -77,10 +78,12 @@ owed_count-rise : (base : Kept) → (h : List Event) (e : Event) → IsLawful ba
     owed_count base (h ++ e ∷ []) ≤ owed_count base h + count_by is_projection (stops_of h e)
 owed_count-rise base h e law next =
     let last = sum_by-places-push (owed_open base (h ++ e ∷ [])) h e in
-    let new = owes_none (is_open (h ++ e ∷ []) (length h) && at is_merging (h ++ e ∷ []) (length h)) (owed base (h ++ e ∷ []) (length h)) (owed_new base h law e) in
+    let new =
+    owes_none (is_open (h ++ e ∷ []) (length h) && at is_merging (h ++ e ∷ []) (length h)) (owed base (h ++ e ∷ []) (length h)) (owed_new base h law e) in
     let less = sum_by_no_rise (λ n. owed_open base h n + projected_open h (stops_of h e) n) (owed_open base (h ++ e ∷ [])) (length h) (λ n l.
     rw (is_open_cut h e n l, at-append is_merging h (e ∷ []) n l)
-    (shape (is_open h n) (is_cut h e n) (at is_merging h n) (pays n e) (owed base (h ++ e ∷ []) n) (owed base h n) (count_by (is_projection_to n) (stops_of h e))
+    (shape (is_open h n) (is_cut h e n) (at is_merging h n) (pays n e) (owed base (h ++ e ∷ []) n) (owed base h n)
+    (count_by (is_projection_to n) (stops_of h e))
     (owed-push base h e law next n))) in
     let parts = sum_by-plus (owed_open base h) (projected_open h (stops_of h e)) (length h) in
     let projected = projected_count h (stops_of h e) (well e next) in
@@ -103,7 +106,8 @@ owed_count-rise base h e law next =
 -- so all that is owed is bounded by what the base owes and the number of events since
 owed_count-le : (base : Kept) → (h : List Event) → IsLawful base h →
     owed_count base h + 1048577 * length (shown base) ≤ owed_count base (shown base) + 1048577 * length h
-owed_count-le base = by_events base (λ h. owed_count base h + 1048577 * length (shown base) ≤ owed_count base (shown base) + 1048577 * length h) (λ started. omega arith)
+owed_count-le base =
+    by_events base (λ h. owed_count base h + 1048577 * length (shown base) ≤ owed_count base (shown base) + 1048577 * length h) (λ started. omega arith)
     (λ h e law next before.
     let rise = owed_count-rise base h e law next in
     let few = few_projected h e 1048577 limit_is in

@@ -1,5 +1,6 @@
 -- An item on its way over a tree and its hubs, from stop to stop.
-use Rattle.std.proofs.Common.{◌≡◌, ◌≢◌, ℕ, ℤ, zero, suc, ◌+◌, ◌<◌, ◌≤◌, Bool, true, false, cond, List, [], ◌∷◌, ◌++◌, length, Option, Some, None, is_some, IsSome, IfSome, option_map, count_by}
+use Rattle.std.proofs.Common.{◌≡◌, ◌≢◌, ℕ, ℤ, zero, suc, ◌+◌, ◌<◌, ◌≤◌, Bool, true, false, cond, List, [], ◌∷◌}
+use Rattle.std.proofs.Common.{◌++◌, length, Option, Some, None, is_some, IsSome, IfSome, option_map, count_by}
 use Rattle.std.proofs.Common.{refl, sym, ap, subst, ◌∙◌, inl, inr, ◌⊎◌, arith, length-append, append_assoc}
 use Rattle.std.specs.Prelude.{if◌then◌else◌}
 use Rattle.std.specs.List.{AllByRecursion, filter_map, cons_option}
@@ -49,7 +50,8 @@ use Rattle.rx_ground.proofs.WayAsInHistory.{told_sum}
 abbrev AreFound : Slots Node → List Key → Type 0
 AreFound nodes keys = AllByRecursion (λ key. IsSome (find nodes key)) keys
 
-module _ (nodes : Slots Node) (hubs : List Hub) (sound : IsSound nodes) (subscribed : (g : ℕ) (hub : Hub) → find_hub hubs g ≡ Some hub → AreFound nodes hub.subscribers) where
+module _ (nodes : Slots Node) (hubs : List Hub) (sound : IsSound nodes)
+    (subscribed : (g : ℕ) (hub : Hub) → find_hub hubs g ≡ Some hub → AreFound nodes hub.subscribers) where
   subscribers_found : (made : Option Event) → AreFound nodes (subscribers_of hubs made)
   subscribers_found made = by_hub (option_and_then hub_connected made) where
     by_number : (g : ℕ) (o : Option Hub) → find_hub hubs g ≡ o → AreFound nodes (option_map_or (λ (hub : Hub). hub.subscribers) o [])
@@ -123,7 +125,8 @@ record IsNumbered (stop : Stop) (last : NumberedStop) : Type 0 where
   owed_is : owed_at stop ≡ count_by is_projection (last ∷ [])
 
 -- what is marked there leaves everything else as it was
-record IsFurther (base : Kept) {T : Type 0} (h : List Event) (done : List NumberedStop) (hubs : List Hub) (route : Route) (stop : Stop) (last : NumberedStop) (old new : Tree T) : Type 0 where
+record IsFurther (base : Kept) {T : Type 0} (h : List Event) (done : List NumberedStop) (hubs : List Hub) (route : Route) (stop : Stop) (last : NumberedStop)
+    (old new : Tree T) : Type 0 where
   records : ArePassed base h (done ++ last ∷ []) new.nodes new.chain
   ordered : IsOrdered new.nodes hubs
   under_way : IsUnderWay new.nodes hubs route
@@ -171,7 +174,10 @@ module _ (base : Kept) {T : Type 0} (h : List Event) (done : List NumberedStop) 
 
       fixed : Rewrites old.nodes new.nodes key (with_marks marks)
       fixed = record {
-        changed = marked.nodes.changed ∙ ap (option_map (λ (node : Node). with_marks (change node.marks) node)) before.1 ∙ sym (ap (option_map (with_marks marks)) before.1);
+        changed =
+            marked.nodes.changed ∙
+            ap (option_map (λ (node : Node). with_marks (change node.marks) node)) before.1 ∙
+            sym (ap (option_map (with_marks marks)) before.1);
         others = marked.nodes.others;
         rest = marked.nodes.rest;
       }
@@ -189,7 +195,8 @@ module _ (base : Kept) {T : Type 0} (h : List Event) (done : List NumberedStop) 
 
   further : (stop : Stop) → IsThere old.nodes stop → IsMarkedAt stop old new →
       (last : NumberedStop) × IsNumbered stop last × IsFurther base h done hubs route stop last old new
-  further (Delivery key) there marks = (DeliveryTo key.number, record { named = refl; mail = λ place v. refl; told_is = λ place v. refl; owed_is = refl }, further_told key marks)
+  further (Delivery key) there marks =
+      (DeliveryTo key.number, record { named = refl; mail = λ place v. refl; told_is = λ place v. refl; owed_is = refl }, further_told key marks)
   further (Projection key) there marks = (
     ProjectionTo key.number,
     record { named = refl; mail = λ place v. refl; told_is = λ place v. refl; owed_is = refl },
@@ -205,7 +212,8 @@ module _ (base : Kept) {T : Type 0} (h : List Event) (done : List NumberedStop) 
 -- the whole way -----------------------------------------------------------------------------------
 
 -- it told and marked what it had to, and goes on to the stops that are left
-pub record IsGoing {T : Type 0} (first : Register) (start : Tree T) (hubs : List Hub) (room leaf : ℕ) (value : ℤ) (register : Register) (tree : Tree T) (route : Route) : Type 0 where
+pub record IsGoing {T : Type 0} (first : Register) (start : Tree T) (hubs : List Hub) (room leaf : ℕ) (value : ℤ) (register : Register) (tree : Tree T)
+    (route : Route) : Type 0 where
   pub passing : IsPassing first start leaf value register tree (filter_map numbered (stops_left tree.nodes hubs route))
   pub ordered : IsOrdered tree.nodes hubs
   pub under_way : IsUnderWay tree.nodes hubs route
@@ -244,7 +252,8 @@ module _ {T : Type 0} (first : Register) (start : Tree T) (hubs : List Hub) (roo
       all_stops : stops first.history leaf.number ≡ filter_map numbered (stops_over start.nodes hubs leaf)
       all_stops = all_stops_told first.base first.history start.nodes hubs leaf walk found
 
-  module _ (register : Register) (tree : Tree T) (route next : Route) (stop : Stop) (going : IsGoing first start hubs room leaf.number value register tree route) (arrives : Arrives tree.nodes hubs route next (Some stop)) where
+  module _ (register : Register) (tree : Tree T) (route next : Route) (stop : Stop)
+      (going : IsGoing first start hubs room leaf.number value register tree route) (arrives : Arrives tree.nodes hubs route next (Some stop)) where
     ahead : AllByRecursion (IsThere tree.nodes) (stop ∷ stops_left tree.nodes hubs next)
     ahead = subst (AllByRecursion (IsThere tree.nodes)) arrives.stops going.there
 
@@ -279,7 +288,8 @@ module _ {T : Type 0} (first : Register) (start : Tree T) (hubs : List Hub) (roo
             sym (append_assoc p.done (last ∷ []) (filter_map numbered (stops_left tree.nodes hubs next))) ∙
             ap (λ (ss : List Stop). (p.done ++ last ∷ []) ++ filter_map numbered ss) (sym further.left);
         same = same ∙ ap (λ (r : Register). record r { pending = told_register.pending; mail_room = told_register.mail_room }) p.same;
-        pending = pending ∙ ap (λ (k : List Event). register.pending ++ option_to_list (mail_at (length k) value stop)) (ap (λ (r : Register). r.history) p.same) ∙
+        pending =
+            pending ∙ ap (λ (k : List Event). register.pending ++ option_to_list (mail_at (length k) value stop)) (ap (λ (r : Register). r.history) p.same) ∙
             ap (λ (ms : List Mail). register.pending ++ ms) (is.mail place value) ∙ ap (λ (ms : List Mail). ms ++ filter_map f (last ∷ [])) p.pending ∙
             sym (filter_map-append f p.done (last ∷ []));
         mail_room = let a = p.mail_room in let b = is.told_is place value in let c = ap (length {A = Mail}) (filter_map-append f p.done (last ∷ [])) in
@@ -326,7 +336,8 @@ module _ {T : Type 0} (first : Register) (start : Tree T) (hubs : List Hub) (roo
     (route next : Route) (stop : Stop) (going : IsGoing first start hubs room leaf.number value register tree route)
     (arrives : Arrives tree.nodes hubs route next (Some stop)) (marks : IsMarkedAt stop tree marked) where
   marked_further : (last : NumberedStop) × IsNumbered stop last × IsFurther first.base first.history going.passing.done hubs next stop last tree marked
-  marked_further = further first.base first.history going.passing.done hubs next tree marked going.passing.records going.apart going.ordered arrives.under_way stop
+  marked_further =
+      further first.base first.history going.passing.done hubs next tree marked going.passing.records going.apart going.ordered arrives.under_way stop
       (stop_there first start hubs room leaf value register tree route next stop going arrives) marks
 
   pub going_on : (told_register : Register) → told_register ≡ record register { pending = told_register.pending; mail_room = told_register.mail_room } →

@@ -1,5 +1,6 @@
 -- What an opening leaves of the tie, where it takes the place of an open inner and where it does not.
-use Rattle.std.proofs.Common.{◌≡◌, ◌≢◌, ℕ, suc, ◌+◌, ◌<◌, ◌≤◌, Bool, true, false, List, [], ◌∷◌, ◌++◌, length, Option, Some, None, is_some, IsSome, IfSome, option_map, refl, sym, ap, subst, ◌∙◌, arith, inl, inr, ◌⊎◌}
+use Rattle.std.proofs.Common.{◌≡◌, ◌≢◌, ℕ, suc, ◌+◌, ◌<◌, ◌≤◌, Bool, true, false, List, [], ◌∷◌, ◌++◌, length, Option, Some}
+use Rattle.std.proofs.Common.{None, is_some, IsSome, IfSome, option_map, refl, sym, ap, subst, ◌∙◌, arith, inl, inr, ◌⊎◌}
 use Rattle.std.specs.Prelude.{IfNone}
 use Rattle.std.proofs.Math.Bool.{not, ◌&&◌}
 use Rattle.std.proofs.lemmas.Bool.{ne_eqb, cases_Bool}
@@ -40,7 +41,8 @@ use Rattle.rx_ground.proofs.StaysTied.{IsOpenedIn, found_still, still_there, rew
 -- what an opening closes --------------------------------------------------------------------------
 
 -- where it takes the place of none it closes none
-pub none_closed : (h : List Event) (place : Place) (kind : Kind) → ReplacesNone h place → (n : ℕ) → n < length h → is_open (h ++ Open place kind ∷ []) n ≡ is_open h n
+pub none_closed : (h : List Event) (place : Place) (kind : Kind) → ReplacesNone h place → (n : ℕ) → n < length h →
+    is_open (h ++ Open place kind ∷ []) n ≡ is_open h n
 none_closed h Root kind none n l = is_open_kept h (Open Root kind) n l refl
 none_closed h (Source f) kind none n l = is_open_kept h (Open (Source f) kind) n l refl
 none_closed h (Notifier f) kind none n l = is_open_kept h (Open (Notifier f) kind) n l refl
@@ -50,11 +52,13 @@ none_closed h (Inner f) kind none n l = by_test (cases_Bool (at is_switch h f)) 
   by_test (inr flat) = is_open-inner_flat h f kind flat n l
 
 -- the node above stays open
-above_open : (base : Kept) → (h : List Event) (place : Place) (kind : Kind) (p : ℕ) → MayFollow base h (Open place kind) → named_by place ≡ Some p → is_open (h ++ Open place kind ∷ []) p ≡ true
+above_open : (base : Kept) → (h : List Event) (place : Place) (kind : Kind) (p : ℕ) → MayFollow base h (Open place kind) → named_by place ≡ Some p →
+    is_open (h ++ Open place kind ∷ []) p ≡ true
 above_open base h Root kind p next named = absurd (none-some p named)
 above_open base h (Source f) kind p next named = let alive = may_name base next named in
     is_open_kept h (Open (Source f) kind) p (is_open_within h p alive) refl ∙ alive
-above_open base h (Notifier f) kind p next named = let alive = may_name base next named in is_open_kept h (Open (Notifier f) kind) p (is_open_within h p alive) refl ∙ alive
+above_open base h (Notifier f) kind p next named =
+    let alive = may_name base next named in is_open_kept h (Open (Notifier f) kind) p (is_open_within h p alive) refl ∙ alive
 above_open base h (Inner f) kind p next named =
     let alive = may_name base next named in
     let same = same_Some f p named in

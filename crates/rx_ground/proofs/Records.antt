@@ -1,5 +1,6 @@
 -- What one event leaves of the records of open nodes.
-use Rattle.std.proofs.Common.{◌≡◌, ◌≢◌, ℕ, zero, suc, ◌<◌, ◌==◌, Bool, true, false, cond, List, [], ◌∷◌, ◌++◌, length, Option, Some, None, is_some, option_map, slice_get, refl, sym, ap, subst, ◌∙◌, inl, inr, ◌⊎◌, arith, length-append}
+use Rattle.std.proofs.Common.{◌≡◌, ◌≢◌, ℕ, zero, suc, ◌<◌, ◌==◌, Bool, true, false, cond, List, [], ◌∷◌, ◌++◌, length, Option, Some}
+use Rattle.std.proofs.Common.{None, is_some, option_map, slice_get, refl, sym, ap, subst, ◌∙◌, inl, inr, ◌⊎◌, arith, length-append}
 use Rattle.std.proofs.Math.Bool.{not, ◌&&◌, ◌||◌}
 use Rattle.std.specs.List.{list_any}
 use Rattle.std.specs.Option.{option_and_then, option_map_or}
@@ -83,10 +84,12 @@ undue nodes p node chain found off =
     by_test false is e = is
 
 -- what stays open and is not on the chain that stays was not on it
-pub off_outside : (nodes : Slots Node) (top : ℕ) (k : Key) (chain : List Key) → is_below nodes top k.number ≡ false → is_on k (outside nodes top chain) ≡ false → is_on k chain ≡ false
+pub off_outside : (nodes : Slots Node) (top : ℕ) (k : Key) (chain : List Key) → is_below nodes top k.number ≡ false →
+    is_on k (outside nodes top chain) ≡ false → is_on k chain ≡ false
 off_outside nodes top k [] apart off = refl
 off_outside nodes top k (x ∷ chain) apart off = by_test (off_outside nodes top k chain apart) (is_below nodes top x.number) refl off where
-  by_key : (is_on k (outside nodes top chain) ≡ false → is_on k chain ≡ false) → is_below nodes top x.number ≡ true → is_on k (outside nodes top chain) ≡ false → (b : Bool) → is_key k x ≡ b → (b || is_on k chain) ≡ false
+  by_key : (is_on k (outside nodes top chain) ≡ false → is_on k chain ≡ false) → is_below nodes top x.number ≡ true →
+      is_on k (outside nodes top chain) ≡ false → (b : Bool) → is_key k x ≡ b → (b || is_on k chain) ≡ false
   by_key rest e off true same = absurd (false≢true (sym apart ∙ ap (λ (j : Key). is_below nodes top j.number) (key_is k x same) ∙ e))
   by_key rest e off false other = rest off
 
@@ -103,11 +106,17 @@ pub record AreNearly (base : Kept) (h : List Event) (stale : Option ℕ) (nodes 
   pub alive : (key : Key) (node : Node) → find nodes key ≡ Some node → is_open h key.number ≡ true
   pub marks : (key : Key) (node : Node) → find nodes key ≡ Some node → stale ≢ Some key.number → node.marks ≡ marks_of base h key.number
   pub every : (n : ℕ) → is_open h n ≡ true → HasKey nodes n
-  pub quiet : (key : Key) (node : Node) → find nodes key ≡ Some node → stale ≢ Some key.number → is_on key chain ≡ false → due_at node.made node.marks key.number ≡ None
+  pub quiet : (key : Key) (node : Node) → find nodes key ≡ Some node → stale ≢ Some key.number → is_on key chain ≡ false →
+      due_at node.made node.marks key.number ≡ None
 
 pub all_fresh : (base : Kept) → (h : List Event) (nodes : Slots Node) (chain : List Key) → AreNearly base h None nodes chain → AreRecords base h nodes chain
 all_fresh base h nodes chain near = record {
-  each = λ key node found. record { made = near.made key node found; alive = near.alive key node found; marks = near.marks key node found (λ e. none-some key.number e) };
+  each =
+      λ key node found. record {
+        made = near.made key node found;
+        alive = near.alive key node found;
+        marks = near.marks key node found (λ e. none-some key.number e);
+      };
   every = near.every;
   quiet = λ key node found off. near.quiet key node found (λ e. none-some key.number e) off;
 }
@@ -146,7 +155,8 @@ remarked base h nodes new chain p before change near apart at_p marked rewrites 
     by_key : HasKey nodes n → HasKey new n
     by_key has = by_cases (cases_key has.key p) where
       by_cases : (has.key ≡ p) ⊎ (has.key ≢ p) → HasKey new n
-      by_cases (inl same) = record { key = p; value = with_marks (change before.marks) before; found = here; numbered = ap (λ (k : Key). k.number) (sym same) ∙ has.numbered }
+      by_cases (inl same) =
+          record { key = p; value = with_marks (change before.marks) before; found = here; numbered = ap (λ (k : Key). k.number) (sym same) ∙ has.numbered }
       by_cases (inr differs) = record { key = has.key; value = has.value; found = rewrites.others has.key differs ∙ has.found; numbered = has.numbered }
 
   quiet : (key : Key) (node : Node) → find new key ≡ Some node → is_on key (with_due new p chain) ≡ false → due_at node.made node.marks key.number ≡ None
@@ -199,7 +209,8 @@ module _ (base : Kept) (h : List Event) (nodes : Slots Node) (chain : List Key) 
 
   module _ (sound : IsSound nodes) where
     up_is_parent : (has_key : Key) (node : Node) → find nodes has_key ≡ Some node → up nodes has_key.number ≡ parent h has_key.number
-    up_is_parent key node found = ap (option_and_then (named_above key.number)) (record_found nodes sound key node found) ∙ named_parent h key.number node (r.each key node found).made
+    up_is_parent key node found =
+        ap (option_and_then (named_above key.number)) (record_found nodes sound key node found) ∙ named_parent h key.number node (r.each key node found).made
 
     climbs_agree : (k n : ℕ) → n < k → is_open h n ≡ true → tree_ancestors nodes n ≡ ancestors h n
     climbs_agree zero n l alive = absurd (omega arith)
@@ -211,7 +222,8 @@ module _ (base : Kept) (h : List Event) (nodes : Slots Node) (chain : List Key) 
         (λ p below. let s : p < n = parent-lt h n p below in climbs_agree k p (omega arith) (parent_open h n p alive below))) ∙ sym (ancestors_step h n)
 
     -- what is below a node of the tree is within it in the history
-    pub below_is_within : (key : Key) (node : Node) → find nodes key ≡ Some node → (top : ℕ) → is_below nodes top key.number ≡ list_any (λ a. top == a) (ancestors h key.number)
+    pub below_is_within : (key : Key) (node : Node) → find nodes key ≡ Some node → (top : ℕ) →
+        is_below nodes top key.number ≡ list_any (λ a. top == a) (ancestors h key.number)
     below_is_within key node found top = ap (list_any (λ a. top == a)) (climbs_agree (suc key.number) key.number (omega arith) (r.each key node found).alive)
 
 -- what stays ------------------------------------------------------------------------------------------
@@ -225,7 +237,8 @@ pub record AreLeft (h : List Event) (e : Event) (nodes left : Slots Node) (chain
 
 -- events ------------------------------------------------------------------------------------------
 
-module _ (base : Kept) (h : List Event) (e : Event) (law : IsLawful base h) (next : MayFollow base h e) (nodes : Slots Node) (chain : List Key) (r : AreRecords base h nodes chain) where
+module _ (base : Kept) (h : List Event) (e : Event) (law : IsLawful base h) (next : MayFollow base h e) (nodes : Slots Node) (chain : List Key)
+    (r : AreRecords base h nodes chain) where
   -- what was made is still made
   made_still : (key : Key) (node : Node) → find nodes key ≡ Some node → slice_get (h ++ e ∷ []) key.number ≡ Some node.made
   made_still key node found = let is = r.each key node found in slice_get-append h (e ∷ []) key.number (is_open_within h key.number is.alive) ∙ is.made
@@ -237,19 +250,25 @@ module _ (base : Kept) (h : List Event) (e : Event) (law : IsLawful base h) (nex
         record {
           made = made_still key node found;
           alive = is_open_unchanged h e shuts makes key.number ∙ is.alive;
-          marks = is.marks ∙ sym (marks_untouched base h e law next key.number (is_open_within h key.number is.alive) (is_open_unchanged h e shuts makes key.number ∙ is.alive) (untouched key.number));
+          marks =
+              is.marks ∙
+              sym (marks_untouched base h e law next key.number (is_open_within h key.number is.alive)
+              (is_open_unchanged h e shuts makes key.number ∙ is.alive) (untouched key.number));
         };
     every = λ n alive. r.every n (sym (is_open_unchanged h e shuts makes n) ∙ alive);
     quiet = r.quiet;
   }
 
   -- one that touches the marks of one node alone
-  pub records_touched : (p : ℕ) → shuts_none e ≡ true → makes_node e ≡ false → ((n : ℕ) → p ≢ n → touches h n e ≡ false) → AreNearly base (h ++ e ∷ []) (Some p) nodes chain
+  pub records_touched : (p : ℕ) → shuts_none e ≡ true → makes_node e ≡ false → ((n : ℕ) → p ≢ n → touches h n e ≡ false) →
+      AreNearly base (h ++ e ∷ []) (Some p) nodes chain
   records_touched p shuts makes untouched = record {
     made = made_still;
     alive = alive;
     marks = λ key node found fresh. let is = r.each key node found in
-        is.marks ∙ sym (marks_untouched base h e law next key.number (is_open_within h key.number is.alive) (alive key node found) (untouched key.number (λ same. fresh (ap (λ (n : ℕ). Some n) same))));
+        is.marks ∙
+        sym (marks_untouched base h e law next key.number (is_open_within h key.number is.alive) (alive key node found)
+        (untouched key.number (λ same. fresh (ap (λ (n : ℕ). Some n) same))));
     every = λ n open_now. r.every n (sym (is_open_unchanged h e shuts makes n) ∙ open_now);
     quiet = λ key node found fresh off. r.quiet key node found off;
   }
@@ -281,14 +300,20 @@ module _ (base : Kept) (h : List Event) (e : Event) (law : IsLawful base h) (nex
     where
       was : (k : Key) (node : Node) → find left k ≡ Some node → (is_below nodes top k.number ≡ false) × (find nodes k ≡ Some node)
       was k node f = by_test (is_below nodes top k.number) refl (sym (cuts k) ∙ f) where
-        by_test : (b : Bool) → is_below nodes top k.number ≡ b → cond b None (find nodes k) ≡ Some node → (is_below nodes top k.number ≡ false) × (find nodes k ≡ Some node)
+        by_test : (b : Bool) → is_below nodes top k.number ≡ b → cond b None (find nodes k) ≡ Some node →
+            (is_below nodes top k.number ≡ false) × (find nodes k ≡ Some node)
         by_test true e f = absurd (none-some node f)
         by_test false e f = (e, f)
 
       still : (k : Key) (node : Node) → find nodes k ≡ Some node → is_open (h ++ e ∷ []) k.number ≡ true → find left k ≡ Some node
       still k node f alive =
-          let parts = and_parts (is_open h k.number) (not (list_any (λ a. top == a) (ancestors h k.number))) (sym (opens k.number (is_open_within h k.number (r.each k node f).alive)) ∙ alive) in
-          cuts k ∙ ap (λ b. cond b None (find nodes k)) (below_is_within base h nodes chain r sound k node f top ∙ not-true (list_any (λ a. top == a) (ancestors h k.number)) parts.1) ∙ f
+          let parts =
+          and_parts (is_open h k.number) (not (list_any (λ a. top == a) (ancestors h k.number)))
+          (sym (opens k.number (is_open_within h k.number (r.each k node f).alive)) ∙ alive) in
+          cuts k ∙
+          ap (λ b. cond b None (find nodes k))
+          (below_is_within base h nodes chain r sound k node f top ∙ not-true (list_any (λ a. top == a) (ancestors h k.number)) parts.1) ∙
+          f
 
   -- a new node beside those that stay
   pub records_opened : (left : Slots Node) (rest : List Key) → AreLeft h e nodes left chain rest →
@@ -327,11 +352,15 @@ module _ (base : Kept) (h : List Event) (e : Event) (law : IsLawful base h) (nex
       marks : (k : Key) (node : Node) → find new k ≡ Some node → parent_named e ≢ Some k.number → node.marks ≡ marks_of base (h ++ e ∷ []) k.number
       marks k node f fresh = by_key (cases_key k key) where
         by_key : (k ≡ key) ⊎ (k ≢ key) → node.marks ≡ marks_of base (h ++ e ∷ []) k.number
-        by_key (inl same) = sym (ap (λ (x : Node). x.marks) (is_blank k node same f)) ∙ sym (marks-new base h e law next) ∙ ap (marks_of base (h ++ e ∷ [])) (sym (at_end k same))
+        by_key (inl same) =
+            sym (ap (λ (x : Node). x.marks) (is_blank k node same f)) ∙
+            sym (marks-new base h e law next) ∙
+            ap (marks_of base (h ++ e ∷ [])) (sym (at_end k same))
         by_key (inr differs) =
             let here = old k node differs f in
             let is = r.each k node (stays.was k node here) in
-            is.marks ∙ sym (marks_untouched base h e law next k.number (is_open_within h k.number is.alive) (stays.alive k node here) (untouched k.number fresh))
+            is.marks ∙
+            sym (marks_untouched base h e law next k.number (is_open_within h k.number is.alive) (stays.alive k node here) (untouched k.number fresh))
 
       every : (n : ℕ) → is_open (h ++ e ∷ []) n ≡ true → HasKey new n
       every n open_now = by_place (cases_order n (length h)) where
@@ -340,10 +369,17 @@ module _ (base : Kept) (h : List Event) (e : Event) (law : IsLawful base h) (nex
         by_place (inr (inl l)) =
             let has = r.every n (and_parts (is_open h n) _ (sym (is_open_cut h e n l) ∙ open_now)).0 in
             let here = stays.still has.key has.value has.found (ap (is_open (h ++ e ∷ [])) has.numbered ∙ open_now) in
-            record { key = has.key; value = has.value; found = others has.key (λ same. none-some has.value (sym (ap (λ (k : Key). find left k) same ∙ ap (with_number key.number) free) ∙ here)) ∙ here; numbered = has.numbered }
+            record {
+              key = has.key;
+              value = has.value;
+              found =
+                  others has.key (λ same. none-some has.value (sym (ap (λ (k : Key). find left k) same ∙ ap (with_number key.number) free) ∙ here)) ∙ here;
+              numbered = has.numbered;
+            }
         by_place (inr (inr g)) = absurd (let w = is_open_within (h ++ e ∷ []) n open_now in omega (arith, length-append h (e ∷ [])))
 
-      quiet : (k : Key) (node : Node) → find new k ≡ Some node → parent_named e ≢ Some k.number → is_on k rest ≡ false → due_at node.made node.marks k.number ≡ None
+      quiet : (k : Key) (node : Node) → find new k ≡ Some node → parent_named e ≢ Some k.number → is_on k rest ≡ false →
+          due_at node.made node.marks k.number ≡ None
       quiet k node f fresh off = by_key (cases_key k key) where
         by_key : (k ≡ key) ⊎ (k ≢ key) → due_at node.made node.marks k.number ≡ None
         by_key (inl same) = ap (λ (x : Node). due_at x.made x.marks k.number) (sym (is_blank k node same f)) ∙ blank_quiet e k.number
@@ -365,16 +401,26 @@ module _ (base : Kept) (h : List Event) (e : Event) (law : IsLawful base h) (nex
     where
       was : (k : Key) (node : Node) → find new k ≡ Some node → (is_below nodes top k.number ≡ false) × (find nodes k ≡ Some node)
       was k node f = by_test (is_below nodes top k.number) refl (sym (cuts k) ∙ f) where
-        by_test : (b : Bool) → is_below nodes top k.number ≡ b → cond b None (find nodes k) ≡ Some node → (is_below nodes top k.number ≡ false) × (find nodes k ≡ Some node)
+        by_test : (b : Bool) → is_below nodes top k.number ≡ b → cond b None (find nodes k) ≡ Some node →
+            (is_below nodes top k.number ≡ false) × (find nodes k ≡ Some node)
         by_test true e f = absurd (none-some node f)
         by_test false e f = (e, f)
 
       alive : (k : Key) (node : Node) → find nodes k ≡ Some node → is_below nodes top k.number ≡ false → is_open (h ++ e ∷ []) k.number ≡ true
-      alive k node f apart = opens k.number ∙ and_from _ _ (r.each k node f).alive (not_from_false _ (sym (below_is_within base h nodes chain r sound k node f top) ∙ apart))
+      alive k node f apart =
+          opens k.number ∙ and_from _ _ (r.each k node f).alive (not_from_false _ (sym (below_is_within base h nodes chain r sound k node f top) ∙ apart))
 
       every : (n : ℕ) → is_open (h ++ e ∷ []) n ≡ true → HasKey new n
       every n open_now =
           let parts = and_parts _ _ (sym (opens n) ∙ open_now) in
           let has = r.every n parts.0 in
-          let apart : is_below nodes top has.key.number ≡ false = below_is_within base h nodes chain r sound has.key has.value has.found top ∙ ap (λ m. list_any (λ a. top == a) (ancestors h m)) has.numbered ∙ not-true _ parts.1 in
-          record { key = has.key; value = has.value; found = cuts has.key ∙ ap (λ b. cond b None (find nodes has.key)) apart ∙ has.found; numbered = has.numbered }
+          let apart : is_below nodes top has.key.number ≡ false =
+          below_is_within base h nodes chain r sound has.key has.value has.found top ∙
+          ap (λ m. list_any (λ a. top == a) (ancestors h m)) has.numbered ∙
+          not-true _ parts.1 in
+          record {
+            key = has.key;
+            value = has.value;
+            found = cuts has.key ∙ ap (λ b. cond b None (find nodes has.key)) apart ∙ has.found;
+            numbered = has.numbered;
+          }

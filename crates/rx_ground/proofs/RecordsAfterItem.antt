@@ -76,7 +76,8 @@ passed_told base h done nodes chain root p = record {
 }
 
 -- at one that changes those of one record
-pub passed_marked : (base : Kept) → (h : List Event) (done : List NumberedStop) (nodes new : Slots Node) (chain : List Key) (p : Key) (s : NumberedStop) (change : Marks → Marks) →
+pub passed_marked : (base : Kept) →
+    (h : List Event) (done : List NumberedStop) (nodes new : Slots Node) (chain : List Key) (p : Key) (s : NumberedStop) (change : Marks → Marks) →
     ArePassed base h done nodes chain → AreApart nodes → IsSome (find nodes p) → Changes p.number s change →
     Rewrites nodes new p (λ node. with_marks (change node.marks) node) → ArePassed base h (done ++ s ∷ []) new (with_due new p chain)
 passed_marked base h done nodes new chain p s change was apart there changes rewrites =
@@ -170,6 +171,8 @@ pub tied_item : (base : Kept) → {T : Type 0} (g : Ghosts T) (h : List Event) (
 tied_item base g h leaf v law next old new hubs tied passed still same =
     tied_on g base (Item leaf v) law next tied refl refl refl still (record {
       records = passed_all base h leaf v new.nodes new.chain law next passed;
-      stored = all_stored base g h law (Item leaf v) old new tied.of_tree.stored same refl (λ r. record { removes = refl; takes = refl; uses = refl; leases = refl; returns = refl })
+      stored =
+          all_stored base g h law (Item leaf v) old new tied.of_tree.stored same refl
+          (λ r. record { removes = refl; takes = refl; uses = refl; leases = refl; returns = refl })
           (λ key there alive. still key there);
     })

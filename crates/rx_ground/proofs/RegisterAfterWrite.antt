@@ -17,7 +17,11 @@ writes_told old told new e same notes_told base history pending room limit given
   given = given ∙ ap (λ (s : State). s.given) same;
   pending = pending;
   room = let r = ap (λ (s : State). s.room) same in omega arith;
-  mail_room = let n = ap (λ (k : List Event). length (notes k)) grown in let p = ap (λ (m : List Mail). length m) (notes-push old.history e) in let l = length-append (notes old.history) (mail_of old.history e) in omega arith;
+  mail_room =
+      let n = ap (λ (k : List Event). length (notes k)) grown in
+      let p = ap (λ (m : List Mail). length m) (notes-push old.history e) in
+      let l = length-append (notes old.history) (mail_of old.history e) in
+      omega arith;
 }
   where
     grown : new.history ≡ old.history ++ e ∷ []
@@ -26,4 +30,5 @@ writes_told old told new e same notes_told base history pending room limit given
 -- one that tells nothing
 pub writes_silent : (old new : State) (e : Event) → mail_of old.history e ≡ [] → new.base ≡ old.base → new.history ≡ old.history ++ e ∷ [] →
     new.pending ≡ [] → new.room + 1 ≡ old.room → new.limit ≡ old.limit → new.given ≡ old.given → new.mail_room ≡ old.mail_room → Writes old (e ∷ []) new
-writes_silent old new e silent base history pending room limit given mail_room = writes_told old old new e refl (let n = ap (λ (m : List Mail). length m) silent in omega arith) base history pending room limit given mail_room
+writes_silent old new e silent base history pending room limit given mail_room =
+    writes_told old old new e refl (let n = ap (λ (m : List Mail). length m) silent in omega arith) base history pending room limit given mail_room

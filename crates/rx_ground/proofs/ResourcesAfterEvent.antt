@@ -1,5 +1,6 @@
 -- What one event leaves of the resources in the store.
-use Rattle.std.proofs.Common.{◌≡◌, ◌≢◌, ℕ, ◌+◌, ◌-◌, ◌<◌, ◌≤◌, Bool, true, false, cond, List, [], ◌∷◌, ◌++◌, length, Option, Some, None, is_some, IsSome, option_map, slice_get, refl, sym, ap, subst, ◌∙◌, inl, inr, ◌⊎◌, arith, length-append}
+use Rattle.std.proofs.Common.{◌≡◌, ◌≢◌, ℕ, ◌+◌, ◌-◌, ◌<◌, ◌≤◌, Bool, true, false, cond, List, [], ◌∷◌, ◌++◌, length, Option, Some, None}
+use Rattle.std.proofs.Common.{is_some, IsSome, option_map, slice_get, refl, sym, ap, subst, ◌∙◌, inl, inr, ◌⊎◌, arith, length-append}
 use Rattle.std.proofs.Math.Bool.{not, ◌&&◌, ◌||◌}
 use Rattle.std.specs.List.{list_any}
 use Rattle.std.specs.Option.{option_and_then, option_map_or}
@@ -125,13 +126,15 @@ module _ (base : Kept) {T : Type 0} (g : Ghosts T) (h : List Event) (law : IsLaw
     pub stored_still : (nodes new : Slots Node) (r : ℕ) (s : Stowed T) → IsStored base g h nodes r s → IsApart r e →
         ((key : Key) → IsSome (find nodes key) → is_open (h ++ e ∷ []) key.number ≡ true → IsSome (find new key)) → IsStored base g (h ++ e ∷ []) new r s
     stored_still nodes new r s is apart kept =
-        stored_so nodes new r s.leases s is apart.removes apart.takes apart.uses (is.lent ∙ sym (leases_of_still base h e law apart.returns r apart.leases)) kept
+        stored_so nodes new r s.leases s is apart.removes apart.takes apart.uses (is.lent ∙ sym (leases_of_still base h e law apart.returns r apart.leases))
+        kept
 
     -- an acceptance is not of this event
     accepted_before : (r : ℕ) → makes_resource e ≡ false → at makes_resource (h ++ e ∷ []) r ≡ true → at makes_resource h r ≡ true
     accepted_before r none made = by_place (cases_order r (length h)) where
       by_place : (r ≡ length h) ⊎ ((r < length h) ⊎ (length h < r)) → at makes_resource h r ≡ true
-      by_place (inl same) = absurd (both_ways _ none (sym (ap (λ o. option_map_or makes_resource o false) (ap (slice_get (h ++ e ∷ [])) same ∙ slice_get_last h e)) ∙ made))
+      by_place (inl same) =
+          absurd (both_ways _ none (sym (ap (λ o. option_map_or makes_resource o false) (ap (slice_get (h ++ e ∷ [])) same ∙ slice_get_last h e)) ∙ made))
       by_place (inr (inl l)) = sym (at-append makes_resource h (e ∷ []) r l) ∙ made
       by_place (inr (inr gr)) = absurd (let w = within_now r made in omega (arith, length-append h (e ∷ []))) where
         within_now : (r : ℕ) → at makes_resource (h ++ e ∷ []) r ≡ true → r < length (h ++ e ∷ [])
@@ -148,7 +151,9 @@ module _ (base : Kept) {T : Type 0} (g : Ghosts T) (h : List Event) (law : IsLaw
         ((r : ℕ) → IsApart r e) → ((key : Key) → IsSome (find old.nodes key) → is_open (h ++ e ∷ []) key.number ≡ true →
         IsSome (find new.nodes key)) → AreStored base g (h ++ e ∷ []) new
     all_stored old new s same none apart kept = record {
-      each = λ key x found. stored_still old.nodes new.nodes key.number x (s.each key x (sym (ap (λ (r : Slots (Stowed T)). find r key) same) ∙ found)) (apart key.number) kept;
+      each =
+          λ key x found. stored_still old.nodes new.nodes key.number x (s.each key x (sym (ap (λ (r : Slots (Stowed T)). find r key) same) ∙ found))
+          (apart key.number) kept;
       every = λ r made untaken. let has = s.every r (accepted_before r none made) (untaken_before r untaken) in
           record { key = has.key; value = has.value; found = ap (λ (x : Slots (Stowed T)). find x has.key) same ∙ has.found; numbered = has.numbered };
     }
@@ -182,7 +187,8 @@ module _ (base : Kept) {T : Type 0} (g : Ghosts T) (h : List Event) (law : IsLaw
 
 -- each event --------------------------------------------------------------------------------------
 
-module _ (base : Kept) {T : Type 0} (g : Ghosts T) (h : List Event) (law : IsLawful base h) (old new : Tree T) (s : AreStored base g h old) (unique : AreApart old.resources) (nodes : new.nodes ≡ old.nodes) where
+module _ (base : Kept) {T : Type 0} (g : Ghosts T) (h : List Event) (law : IsLawful base h) (old new : Tree T) (s : AreStored base g h old)
+    (unique : AreApart old.resources) (nodes : new.nodes ≡ old.nodes) where
   kept_all : (e : Event) (key : Key) → IsSome (find old.nodes key) → is_open (h ++ e ∷ []) key.number ≡ true → IsSome (find old.nodes key)
   kept_all e key some alive = some
 
@@ -229,46 +235,50 @@ module _ (base : Kept) {T : Type 0} (g : Ghosts T) (h : List Event) (law : IsLaw
       here x f = subst (IsStored base g (h ++ Use k.number ∷ []) old.nodes k.number) (same_Some _ x (sym now ∙ f)) after_it
 
   -- a resource is removed
-  pub stored_removed : (k : Key) (before : Stowed T) → find old.resources k ≡ Some before → Rewrites old.resources new.resources k removed → AreStored base g (h ++ Remove k.number ∷ []) new
-  stored_removed k before found w = all_stored_but base g h law (Remove k.number) old new k s unique (ap is_some found) nodes w.others refl (others_still (Remove k.number) k.number apart) here (λ untaken. ap is_some now) where
-    now : find new.resources k ≡ Some (removed before)
-    now = w.changed ∙ ap (option_map removed) found
+  pub stored_removed : (k : Key) (before : Stowed T) → find old.resources k ≡ Some before → Rewrites old.resources new.resources k removed →
+      AreStored base g (h ++ Remove k.number ∷ []) new
+  stored_removed k before found w =
+      all_stored_but base g h law (Remove k.number) old new k s unique (ap is_some found) nodes w.others refl (others_still (Remove k.number) k.number apart)
+      here (λ untaken. ap is_some now)
+    where
+      now : find new.resources k ≡ Some (removed before)
+      now = w.changed ∙ ap (option_map removed) found
 
-    was : IsStored base g h old.nodes k.number before
-    was = s.each k before found
+      was : IsStored base g h old.nodes k.number before
+      was = s.each k before found
 
-    within : (k.number < length h) × (before.node.number < k.number)
-    within = stored_within base g h law old.nodes k.number before was
+      within : (k.number < length h) × (before.node.number < k.number)
+      within = stored_within base g h law old.nodes k.number before was
 
-    apart : (r : ℕ) → r ≢ k.number → IsApart r (Remove k.number)
-    apart r differs = record { removes = ne_eqb k.number r (λ same. differs (sym same)); takes = refl; uses = refl; leases = refl; returns = refl }
+      apart : (r : ℕ) → r ≢ k.number → IsApart r (Remove k.number)
+      apart r differs = record { removes = ne_eqb k.number r (λ same. differs (sym same)); takes = refl; uses = refl; leases = refl; returns = refl }
 
-    no_more : (n : ℕ) → n + 0 ≡ n
-    no_more n = omega arith
+      no_more : (n : ℕ) → n + 0 ≡ n
+      no_more n = omega arith
 
-    both_false : (a b : Bool) → (a && false) ≡ (b && false)
-    both_false true true = refl
-    both_false true false = refl
-    both_false false true = refl
-    both_false false false = refl
+      both_false : (a b : Bool) → (a && false) ≡ (b && false)
+      both_false true true = refl
+      both_false true false = refl
+      both_false false true = refl
+      both_false false false = refl
 
-    after_it : IsStored base g (h ++ Remove k.number ∷ []) old.nodes k.number (removed before)
-    after_it = record {
-      made = at-append makes_resource h (Remove k.number ∷ []) k.number within.0 ∙ was.made;
-      accepted = accepted_by-push base h (Remove k.number) k.number within.0 ∙ was.accepted;
-      older = was.older;
-      owned = is_owned-remove base h k.number law k.number within.0 ∙ ap (λ b. is_owned h k.number && not b) (eq-eqb k.number k.number refl) ∙
-          both_false (is_owned h k.number) (is_open (h ++ Remove k.number ∷ []) before.node.number);
-      lent = was.lent ∙ sym (leases_of_still base h (Remove k.number) law refl k.number refl);
-      untaken = still base g h law (Remove k.number) (is_take_of k.number) refl ∙ was.untaken;
-      home = λ alive. was.home (open_before base g h law (Remove k.number) before.node.number (let a = within.0 in let b = within.1 in omega arith) alive);
-      live = was.live;
-      few = few_after base g h law (Remove k.number) k.number was.few;
-      uses = was.uses ∙ sym (uses-push base h (Remove k.number) k.number ∙ no_more (uses base h k.number));
-    }
+      after_it : IsStored base g (h ++ Remove k.number ∷ []) old.nodes k.number (removed before)
+      after_it = record {
+        made = at-append makes_resource h (Remove k.number ∷ []) k.number within.0 ∙ was.made;
+        accepted = accepted_by-push base h (Remove k.number) k.number within.0 ∙ was.accepted;
+        older = was.older;
+        owned = is_owned-remove base h k.number law k.number within.0 ∙ ap (λ b. is_owned h k.number && not b) (eq-eqb k.number k.number refl) ∙
+            both_false (is_owned h k.number) (is_open (h ++ Remove k.number ∷ []) before.node.number);
+        lent = was.lent ∙ sym (leases_of_still base h (Remove k.number) law refl k.number refl);
+        untaken = still base g h law (Remove k.number) (is_take_of k.number) refl ∙ was.untaken;
+        home = λ alive. was.home (open_before base g h law (Remove k.number) before.node.number (let a = within.0 in let b = within.1 in omega arith) alive);
+        live = was.live;
+        few = few_after base g h law (Remove k.number) k.number was.few;
+        uses = was.uses ∙ sym (uses-push base h (Remove k.number) k.number ∙ no_more (uses base h k.number));
+      }
 
-    here : (x : Stowed T) → find new.resources k ≡ Some x → IsStored base g (h ++ Remove k.number ∷ []) old.nodes k.number x
-    here x f = subst (IsStored base g (h ++ Remove k.number ∷ []) old.nodes k.number) (same_Some _ x (sym now ∙ f)) after_it
+      here : (x : Stowed T) → find new.resources k ≡ Some x → IsStored base g (h ++ Remove k.number ∷ []) old.nodes k.number x
+      here x f = subst (IsStored base g (h ++ Remove k.number ∷ []) old.nodes k.number) (same_Some _ x (sym now ∙ f)) after_it
 
   -- so many leases of a resource are out after an event that is about its leases alone
   stored_lent : (e : Event) (k : Key) (before after : Stowed T) → find old.resources k ≡ Some before → find new.resources k ≡ Some after →
@@ -330,7 +340,8 @@ module _ (base : Kept) {T : Type 0} (g : Ghosts T) (h : List Event) (law : IsLaw
             stored_so base g h law e old.nodes old.nodes r x.leases x is refl refl refl (is.lent ∙ sym (same_leases r differs)) (kept_all e)
 
   -- a resource is taken
-  pub stored_taken : (k : Key) → IsSome (find old.resources k) → find new.resources k ≡ None → KeepsOthers old.resources new.resources k → AreStored base g (h ++ Take k.number ∷ []) new
+  pub stored_taken : (k : Key) → IsSome (find old.resources k) → find new.resources k ≡ None → KeepsOthers old.resources new.resources k →
+      AreStored base g (h ++ Take k.number ∷ []) new
   stored_taken k there gone others = all_stored_but base g h law (Take k.number) old new k s unique there nodes others refl
       (others_still (Take k.number) k.number apart) (λ x f. absurd (none-some x (sym gone ∙ f)))
       (λ untaken. absurd (both_ways _ untaken (list_any_push (is_take_of k.number) h (Take k.number) ∙
@@ -373,8 +384,11 @@ module _ (base : Kept) {T : Type 0} (g : Ghosts T) (h : List Event) (law : IsLaw
       by_key : (key ≡ k) ⊎ (key ≢ k) → IsStored base g (h ++ e ∷ []) old.nodes key.number y
       by_key (inl same) =
           let at_end : key.number ≡ length h = ap (λ (j : Key). j.number) same ∙ numbered in
-          subst (λ (n : ℕ). IsStored base g (h ++ e ∷ []) old.nodes n y) (sym at_end) (subst (IsStored base g (h ++ e ∷ []) old.nodes (length h)) (same_Some _ y (sym found ∙ sym (ap (find new.resources) same) ∙ f)) after_it)
-      by_key (inr differs) = stored_still base g h law e old.nodes old.nodes key.number y (s.each key y (sym (others key differs) ∙ f)) (record { removes = refl; takes = refl; uses = refl; leases = refl; returns = refl }) kept
+          subst (λ (n : ℕ). IsStored base g (h ++ e ∷ []) old.nodes n y) (sym at_end)
+          (subst (IsStored base g (h ++ e ∷ []) old.nodes (length h)) (same_Some _ y (sym found ∙ sym (ap (find new.resources) same) ∙ f)) after_it)
+      by_key (inr differs) =
+          stored_still base g h law e old.nodes old.nodes key.number y (s.each key y (sym (others key differs) ∙ f))
+          (record { removes = refl; takes = refl; uses = refl; leases = refl; returns = refl }) kept
 
     every : (r : ℕ) → at makes_resource (h ++ e ∷ []) r ≡ true → list_any (is_take_of r) (h ++ e ∷ []) ≡ false → HasKey new.resources r
     every r made untaken = by_place (cases_order r (length h)) where
@@ -382,7 +396,13 @@ module _ (base : Kept) {T : Type 0} (g : Ghosts T) (h : List Event) (law : IsLaw
       by_place (inl same) = record { key = k; value = stowed_at home x; found = found; numbered = numbered ∙ sym same }
       by_place (inr (inl l)) =
           let has = s.every r (sym (at-append makes_resource h (e ∷ []) r l) ∙ made) (untaken_before base g h law e r untaken) in
-          record { key = has.key; value = has.value; found = others has.key (λ same. none-some has.value (sym (ap (find old.resources) same ∙ ap (with_number k.number) free) ∙ has.found)) ∙ has.found; numbered = has.numbered }
+          record {
+            key = has.key;
+            value = has.value;
+            found =
+                others has.key (λ same. none-some has.value (sym (ap (find old.resources) same ∙ ap (with_number k.number) free) ∙ has.found)) ∙ has.found;
+            numbered = has.numbered;
+          }
       by_place (inr (inr gr)) = absurd (let w = within_now in omega (arith, length-append h (e ∷ []))) where
         within_now : r < length (h ++ e ∷ [])
         within_now = by_event (slice_get (h ++ e ∷ []) r) refl made where

@@ -1,5 +1,6 @@
 -- Lists by rising number are told by what their members are.
-use Rattle.std.proofs.Common.{◌≡◌, ◌≢◌, ℕ, zero, suc, ◌+◌, ◌<◌, ◌≤◌, ◌==◌, Bool, true, false, cond, List, [], ◌∷◌, map, get_or, IsTrue, refl, sym, ap, subst, ◌∙◌, inl, inr, ◌⊎◌, arith}
+use Rattle.std.proofs.Common.{◌≡◌, ◌≢◌, ℕ, zero, suc, ◌+◌, ◌<◌, ◌≤◌, ◌==◌, Bool, true, false, cond, List, []}
+use Rattle.std.proofs.Common.{◌∷◌, map, get_or, IsTrue, refl, sym, ap, subst, ◌∙◌, inl, inr, ◌⊎◌, arith}
 use Rattle.std.specs.List.{AllPairs, Contains, AllByRecursion, IsDistinct, filter, range_with_len}
 use Rattle.std.specs.List.Sorted.{IsPermutation, IsNonDecreasingBy}
 use Rattle.std.proofs.lemmas.Bool.{both_ways, eqb-true, eq-eqb, ne_eqb}
@@ -131,7 +132,8 @@ module _ {X : Type 0} (number : X → ℕ) where
     above k c =
         let m = Contains-from_map number xs k c in
         let l : number x ≤ number m.0 = head_up x xs up m.0 m.1 in
-        let other : (number x == k) ≡ false = member_of (λ y. (number x == y) ≡ false) (map number xs) (IsDistinct-head (λ a b. a == b) (number x) (map number xs) apart) k c in
+        let other : (number x == k) ≡ false =
+        member_of (λ y. (number x == y) ≡ false) (map number xs) (IsDistinct-head (λ a b. a == b) (number x) (map number xs) apart) k c in
         strictly (number x) (number m.0) k l m.2 (λ e. both_ways (number x == k) other (eq-eqb (number x) k e))
 
   rebuilt : (keep : ℕ → X) (xs : List X) → ((x : X) → Contains xs x → x ≡ keep (number x)) → xs ≡ map keep (map number xs)
@@ -154,7 +156,9 @@ module _ {X : Type 0} (number : X → ℕ) where
       up = rises ys order.rising (IsDistinct-IsPermutation (λ a b. a == b) flips (map number xs) (map number ys) same (distinct (map number xs) just.once))
 
       passes : (k : ℕ) → Contains (map number ys) k → test k ≡ true
-      passes k c = All-contains (λ n. IsTrue (test n)) (map number xs) k just.each (Contains-permutation (map number ys) (map number xs) k (IsPermutation-sym (map number xs) (map number ys) same) c)
+      passes k c =
+          All-contains (λ n. IsTrue (test n)) (map number xs) k just.each
+          (Contains-permutation (map number ys) (map number xs) k (IsPermutation-sym (map number xs) (map number ys) same) c)
 
       listed : (k : ℕ) → test k ≡ true → Contains (map number ys) k
       listed k is = Contains-permutation (map number xs) (map number ys) k same (just.every k is)

@@ -57,7 +57,8 @@ settled_quiet_hubs base h hubs are settled = record { connected = connected; qui
     by_due (Some d) gives = absurd (settled.none (event_of d) (hubs_forced base h hubs d are (acts i hub connected at_i gives)))
 
 -- what was not taken was accepted, and what was accepted and not taken is held or waits
-untaken_parts : (base : Base) (h : List Event) → IsLawful base h → (r : ℕ) → is_untaken h r ≡ true → (at makes_resource h r ≡ true) × (list_any (is_take_of r) h ≡ false)
+untaken_parts : (base : Base) (h : List Event) → IsLawful base h → (r : ℕ) → is_untaken h r ≡ true →
+    (at makes_resource h r ≡ true) × (list_any (is_take_of r) h ≡ false)
 unfolding is_taken
 untaken_parts base h law r u = by_state (is_held h r) refl u where
   untaken : at makes_resource h r ≡ true → (at makes_resource h r && list_any (is_take_of r) h) ≡ false → list_any (is_take_of r) h ≡ false
@@ -167,7 +168,8 @@ module _ (b : Base) (h : List Event) (law : IsLawful b h) (settled : IsSettled b
       joined = subst (AreJoined tree.nodes) (sym same) (joined_still tree.nodes hubs.hubs tied.joined);
     }
 
-pub standing_still : {T : Type 0} (g : Ghosts T) (old new : Ground T) → IsRegisterPromised old.register → IsCheckpoint old new → IsStanding g old → IsStanding g new
+pub standing_still : {T : Type 0} (g : Ghosts T) (old new : Ground T) → IsRegisterPromised old.register → IsCheckpoint old new → IsStanding g old →
+    IsStanding g new
 standing_still {T = T} g old new promised checkpoint standing = record {
   tied = subst (λ (t : Tree T). AreTied new.register.base g new.register.history t new.hubs) (sym checkpoint.tree) (rw (is.history, is.base) tied);
   leased = subst (λ (t : Tree T). AreLeased new.register.history t.resources new.leases) (sym checkpoint.tree)
@@ -177,7 +179,9 @@ standing_still {T = T} g old new promised checkpoint standing = record {
     waits = 0;
     may_wait = rw (is.history, is.base) (none_waits (settled_connected (base_of b h) (shown (base_of b h)) settled));
     events = rw (is.history, is.base) (let room = is.room in let same = same_debts b h promised.lawful standing.settled in omega arith);
-    notes = rw (is.history, is.base) (let same = same_open_count b h promised.lawful standing.settled in let room = is.mail_room in let paid = standing.paid.notes in omega arith);
+    notes =
+        rw (is.history, is.base)
+        (let same = same_open_count b h promised.lawful standing.settled in let room = is.mail_room in let paid = standing.paid.notes in omega arith);
     pending = is.pending;
   };
 }

@@ -68,7 +68,9 @@ module _ {T : Type 0} (g : Ghosts T) where
   pub standing_empty : (b : Ground T) → b.register.history ≡ [] → b.register.pending ≡ [] → b.tree.nodes.entries ≡ [] →
       b.tree.resources.entries ≡ [] → b.hubs.hubs ≡ [] → b.leases.entries ≡ [] → IsStanding g b
   standing_empty b empty told nodes resources none no_leases = record {
-    tied = subst (λ (h : List Event). AreTied b.register.base g h b.tree b.hubs) (sym empty) (hubs_empty b.register.base b.tree b.hubs none (tied_empty b.register.base b.tree nodes resources));
+    tied =
+        subst (λ (h : List Event). AreTied b.register.base g h b.tree b.hubs) (sym empty)
+        (hubs_empty b.register.base b.tree b.hubs none (tied_empty b.register.base b.tree nodes resources));
     leased = leased_empty b.register.history b.tree.resources b.leases empty (none_found b.leases no_leases);
     settled = subst (IsSettled b.register.base) (sym empty) (settled_empty b.register.base);
     paid = paid_empty b.register empty told;
@@ -142,8 +144,11 @@ module _ {T : Type 0} (g : Ghosts T) where
 
       leased : AreLeased old.register.history new.tree.resources new.leases
       leased = leased_same old.register.history old.tree.resources old.leases s.leased new.tree.resources new.leases
-          (λ l res is. ap is_some (same_finds old.tree.resources new.tree.resources resources (store_key res)) ∙ is.stored) (same_finds old.leases new.leases leases)
+          (λ l res is. ap is_some (same_finds old.tree.resources new.tree.resources resources (store_key res)) ∙ is.stored)
+          (same_finds old.leases new.leases leases)
 
       tied : AreTied old.register.base g old.register.history new.tree new.hubs
-      tied = tied_beside g old.register.base (ap (λ (hubs : Hubs). hubs.hubs) more.hubs) (λ key some. ap is_some (same_finds old.tree.nodes new.tree.nodes nodes key) ∙ some) s.tied
+      tied =
+          tied_beside g old.register.base (ap (λ (hubs : Hubs). hubs.hubs) more.hubs)
+          (λ key some. ap is_some (same_finds old.tree.nodes new.tree.nodes nodes key) ∙ some) s.tied
           (tied_same_entries old.register.base old.register.history old.tree new.tree nodes resources more.chain s.tied.of_tree)

@@ -1,5 +1,6 @@
 -- A tree that is tied to a history is tied to the longer one, after an event is written on both.
-use Rattle.std.proofs.Common.{◌≡◌, ◌≢◌, ℕ, ◌==◌, Bool, true, false, cond, List, [], ◌∷◌, ◌++◌, length, Option, Some, None, is_some, IsSome, option_map, slice_get, refl, sym, ap, subst, ◌∙◌, inl, inr, ◌⊎◌, arith}
+use Rattle.std.proofs.Common.{◌≡◌, ◌≢◌, ℕ, ◌==◌, Bool, true, false, cond, List, [], ◌∷◌, ◌++◌, length, Option, Some, None}
+use Rattle.std.proofs.Common.{is_some, IsSome, option_map, slice_get, refl, sym, ap, subst, ◌∙◌, inl, inr, ◌⊎◌, arith}
 use Rattle.std.proofs.Math.Bool.{not, ◌&&◌}
 use Rattle.std.specs.List.{list_any}
 use Rattle.std.proofs.lemmas.Bool.{false≢true, and_parts, eq-eqb, ne_eqb, not-true, false_from_ne_true}
@@ -35,24 +36,29 @@ use Rattle.rx_ground.proofs.ResourcesAfterEvent.{IsApart, all_stored}
 -- nodes that are kept -----------------------------------------------------------------------------
 
 -- a value that is written over is there before and after
-pub rewritten_there : {X : Type 0} {old new : Slots X} {change : X → X} (k : Key) → Rewrites old new k change → (key : Key) → IsSome (find new key) → IsSome (find old key)
+pub rewritten_there : {X : Type 0} {old new : Slots X} {change : X → X} (k : Key) → Rewrites old new k change → (key : Key) → IsSome (find new key) →
+    IsSome (find old key)
 rewritten_there {X = X} {old = old} {new = new} {change = change} k w key some = by_key (cases_key key k) where
   mapped : (o : Option X) → IsSome (option_map change o) → IsSome o
   mapped None e = absurd (false≢true e)
   mapped (Some x) e = refl
 
   by_key : (key ≡ k) ⊎ (key ≢ k) → IsSome (find old key)
-  by_key (inl same) = ap (λ (j : Key). is_some (find old j)) same ∙ mapped (find old k) (ap is_some (sym w.changed) ∙ ap (λ (j : Key). is_some (find new j)) (sym same) ∙ some)
+  by_key (inl same) =
+      ap (λ (j : Key). is_some (find old j)) same ∙
+      mapped (find old k) (ap is_some (sym w.changed) ∙ ap (λ (j : Key). is_some (find new j)) (sym same) ∙ some)
   by_key (inr differs) = ap is_some (sym (w.others key differs)) ∙ some
 
-pub still_there : {X : Type 0} {old new : Slots X} {change : X → X} (k : Key) → Rewrites old new k change → (key : Key) → IsSome (find old key) → IsSome (find new key)
+pub still_there : {X : Type 0} {old new : Slots X} {change : X → X} (k : Key) → Rewrites old new k change → (key : Key) → IsSome (find old key) →
+    IsSome (find new key)
 still_there {X = X} {old = old} {new = new} {change = change} k w key some = by_key (cases_key key k) where
   mapped : (o : Option X) → IsSome o → IsSome (option_map change o)
   mapped None e = absurd (false≢true e)
   mapped (Some x) e = refl
 
   by_key : (key ≡ k) ⊎ (key ≢ k) → IsSome (find new key)
-  by_key (inl same) = ap (λ (j : Key). is_some (find new j)) same ∙ ap is_some w.changed ∙ mapped (find old k) (ap (λ (j : Key). is_some (find old j)) (sym same) ∙ some)
+  by_key (inl same) =
+      ap (λ (j : Key). is_some (find new j)) same ∙ ap is_some w.changed ∙ mapped (find old k) (ap (λ (j : Key). is_some (find old j)) (sym same) ∙ some)
   by_key (inr differs) = ap is_some (w.others key differs) ∙ some
 
 -- what writes the marks of one record over keeps the nodes
@@ -72,17 +78,21 @@ source_at (Open (Inner f) kind) p named = refl
 source_at (Open (Notifier f) kind) p named = refl
 source_at _ p named = refl
 
-module _ (base : Kept) {T : Type 0} (g : Ghosts T) (h : List Event) (e : Event) (law : IsLawful base h) (next : MayFollow base h e) (old : Tree T) (tied : IsTied base g h old) where
+module _ (base : Kept) {T : Type 0} (g : Ghosts T) (h : List Event) (e : Event) (law : IsLawful base h) (next : MayFollow base h e) (old : Tree T)
+    (tied : IsTied base g h old) where
   -- an event that leaves the records as they are
-  pub tied_still : (new : Tree T) → shuts_none e ≡ true → makes_node e ≡ false → ((n : ℕ) → touches h n e ≡ false) → new.nodes ≡ old.nodes → new.chain ≡ old.chain → AreStored base g (h ++ e ∷ []) new → IsTied base g (h ++ e ∷ []) new
+  pub tied_still : (new : Tree T) → shuts_none e ≡ true → makes_node e ≡ false → ((n : ℕ) → touches h n e ≡ false) → new.nodes ≡ old.nodes →
+      new.chain ≡ old.chain → AreStored base g (h ++ e ∷ []) new → IsTied base g (h ++ e ∷ []) new
   tied_still new shuts makes untouched nodes chain stored = record {
     records = rw (nodes, chain) (records_still base h e law next old.nodes old.chain tied.records shuts makes untouched);
     stored = stored;
   }
 
   -- one that is about no resource either
-  pub tied_same : shuts_none e ≡ true → makes_node e ≡ false → makes_resource e ≡ false → ((n : ℕ) → touches h n e ≡ false) → ((r : ℕ) → IsApart r e) → IsTied base g (h ++ e ∷ []) old
-  tied_same shuts makes none untouched apart = tied_still old shuts makes untouched refl refl (all_stored base g h law e old old tied.stored refl none apart (λ key some alive. some))
+  pub tied_same : shuts_none e ≡ true → makes_node e ≡ false → makes_resource e ≡ false → ((n : ℕ) → touches h n e ≡ false) → ((r : ℕ) → IsApart r e) →
+      IsTied base g (h ++ e ∷ []) old
+  tied_same shuts makes none untouched apart =
+      tied_still old shuts makes untouched refl refl (all_stored base g h law e old old tied.stored refl none apart (λ key some alive. some))
 
   -- one that is about no resource, and changes the marks of one node alone
   pub tied_marked : (new : Tree T) → IsSound old.nodes → (u : Key) → IsSome (find old.nodes u) → (change : Marks → Marks) → shuts_none e ≡ true →
@@ -116,10 +126,13 @@ pub record IsOpenedIn {T : Type 0} (h : List Event) (made : Event) (above : Opti
 
 module _ (base : Kept) {T : Type 0} (g : Ghosts T) (h : List Event) (law : IsLawful base h) (old left mid : Tree T) (tied : IsTied base g h old) (key : Key) where
   -- what was found is found in the tree with the new node
-  pub found_still : (e : Event) (above : Option Key) → IsOpenedIn h e above left mid key → (k : Key) → IsSome (find left.nodes k) → find mid.nodes k ≡ find left.nodes k
-  found_still e above opened k some = opened.others k (λ same. true_false (sym some ∙ ap is_some (ap (find left.nodes) same ∙ ap (with_number key.number) opened.free))) where
-    true_false : true ≡ false → ⊥
-    true_false e = absurd (false≢true (sym e))
+  pub found_still : (e : Event) (above : Option Key) → IsOpenedIn h e above left mid key → (k : Key) → IsSome (find left.nodes k) →
+      find mid.nodes k ≡ find left.nodes k
+  found_still e above opened k some =
+      opened.others k (λ same. true_false (sym some ∙ ap is_some (ap (find left.nodes) same ∙ ap (with_number key.number) opened.free)))
+    where
+      true_false : true ≡ false → ⊥
+      true_false e = absurd (false≢true (sym e))
 
   -- what stays open stands in the tree with the new node
   pub opened_there : (e : Event) (above : Option Key) → AreLeft h e old.nodes left.nodes old.chain left.chain → IsOpenedIn h e above left mid key →
@@ -141,7 +154,8 @@ module _ (base : Kept) {T : Type 0} (g : Ghosts T) (h : List Event) (law : IsLaw
     stored = all_stored base g h law e old mid tied.stored (opened.resources ∙ same) none apart (opened_there e None stays opened);
   }
 
-module _ (base : Kept) {T : Type 0} (g : Ghosts T) (h : List Event) (kind : Kind) (law : IsLawful base h) (old left mid new : Tree T) (tied : IsTied base g h old) (key : Key) where
+module _ (base : Kept) {T : Type 0} (g : Ghosts T) (h : List Event) (kind : Kind) (law : IsLawful base h) (old left mid new : Tree T)
+    (tied : IsTied base g h old) (key : Key) where
   apart_all : (place : Place) (r : ℕ) → IsApart r (Open place kind)
   apart_all place r = record { removes = refl; takes = refl; uses = refl; leases = refl; returns = refl }
 
@@ -151,12 +165,15 @@ module _ (base : Kept) {T : Type 0} (g : Ghosts T) (h : List Event) (kind : Kind
       tied_top base g h law old left mid tied key (Open Root kind) next refl refl refl (λ n. refl) (apart_all Root) stays same opened
 
   -- one below another, which is marked
-  pub tied_below : (place : Place) (p : Key) (change : Marks → Marks) → (let e : Event = Open place kind in MayFollow base h e → AreLeft h e old.nodes left.nodes old.chain left.chain → left.resources ≡ old.resources
+  pub tied_below : (place : Place) (p : Key) (change : Marks → Marks) →
+      (let e : Event = Open place kind in MayFollow base h e → AreLeft h e old.nodes left.nodes old.chain left.chain → left.resources ≡ old.resources
       → parent_named e ≡ Some p.number → ((n : ℕ) → p.number ≢ n → touches h n e ≡ false) →
       marks_of base (h ++ e ∷ []) p.number ≡ change (marks_of base h p.number)
       → AreApart mid.nodes → IsSome (find left.nodes p) → IsOpenedIn h e (Some p) left mid key → Remarks mid new p change → IsTied base g (h ++ e ∷ []) new)
   tied_below place p change next stays same named apart_marks changed apart there opened marked = record {
-    records = subst (AreRecords base (h ++ e ∷ []) new.nodes) (ap (with_due new.nodes p) (sym opened.chain) ∙ sym marked.chain) (remarked base (h ++ e ∷ []) mid.nodes new.nodes left.chain p before.0 change near apart at_p marks marked.nodes);
+    records =
+        subst (AreRecords base (h ++ e ∷ []) new.nodes) (ap (with_due new.nodes p) (sym opened.chain) ∙ sym marked.chain)
+        (remarked base (h ++ e ∷ []) mid.nodes new.nodes left.chain p before.0 change near apart at_p marks marked.nodes);
     stored = all_stored base g h law e old new tied.stored (marked.resources ∙ opened.resources ∙
         same) refl (apart_all place) (λ k some alive. still_there p marked.nodes k
         (opened_there base g h law old left mid tied key e (Some p) stays opened k some alive));
@@ -181,7 +198,8 @@ module _ (base : Kept) {T : Type 0} (g : Ghosts T) (h : List Event) (kind : Kind
 
 -- an item that is declined ------------------------------------------------------------------------
 
-module _ (base : Kept) {T : Type 0} (g : Ghosts T) (h : List Event) (law : IsLawful base h) (old new : Tree T) (tied : IsTied base g h old) (sound : IsSound old.nodes) (u : Key)
+module _ (base : Kept) {T : Type 0} (g : Ghosts T) (h : List Event) (law : IsLawful base h) (old new : Tree T) (tied : IsTied base g h old)
+    (sound : IsSound old.nodes) (u : Key)
     (there : IsSome (find old.nodes u)) where
   -- a FlatMap or Switch owes it no more
   pub tied_decline : MayFollow base h (Decline u.number) → Remarks old new u after_decline → IsTied base g (h ++ Decline u.number ∷ []) new
@@ -210,7 +228,10 @@ module _ (base : Kept) {T : Type 0} (h : List Event) (e : Event) (old mid : Tree
       outside_found key some alive =
           let found = some_of (find old.nodes key) some in
           let parts = and_parts (is_open h key.number) (not (list_any (λ a. top == a) (ancestors h key.number))) (sym (opens key.number) ∙ alive) in
-          cuts.nodes key ∙ ap (λ b. cond b None (find old.nodes key)) (below_is_within base h old.nodes old.chain r sound key found.0 found.1 top ∙ not-true (list_any (λ a. top == a) (ancestors h key.number)) parts.1)
+          cuts.nodes key ∙
+          ap (λ b. cond b None (find old.nodes key))
+          (below_is_within base h old.nodes old.chain r sound key found.0 found.1 top ∙
+          not-true (list_any (λ a. top == a) (ancestors h key.number)) parts.1)
 
   -- so does the marking of the one above
   pub keeps_marked : (new : Tree T) (p : Key) (change : Marks → Marks) → Remarks mid new p change → KeepsNodes (h ++ e ∷ []) old.nodes new.nodes
@@ -222,8 +243,12 @@ module _ (base : Kept) {T : Type 0} (h : List Event) (e : Event) (old mid : Tree
 
 module _ (base : Kept) {T : Type 0} (g : Ghosts T) (h : List Event) (c : ℕ) (t : Terminal) (law : IsLawful base h) (next : MayFollow base h (End c t))
     (old mid new : Tree T) (tied : IsTied base g h old) (sound : IsSound old.nodes) (cuts : Cuts old mid c) where
-  near_end : (stale : Option ℕ) → ((n : ℕ) → stale ≢ Some n → is_open (h ++ End c t ∷ []) n ≡ true → marks_of base (h ++ End c t ∷ []) n ≡ marks_of base h n) → AreNearly base (h ++ End c t ∷ []) stale mid.nodes mid.chain
-  near_end stale kept = records_cut base h (End c t) law next old.nodes old.chain tied.records mid.nodes mid.chain c stale sound kept (is_open_outside-end h c t) cuts.nodes cuts.chain
+  near_end : (stale : Option ℕ) →
+      ((n : ℕ) → stale ≢ Some n → is_open (h ++ End c t ∷ []) n ≡ true → marks_of base (h ++ End c t ∷ []) n ≡ marks_of base h n) →
+      AreNearly base (h ++ End c t ∷ []) stale mid.nodes mid.chain
+  near_end stale kept =
+      records_cut base h (End c t) law next old.nodes old.chain tied.records mid.nodes mid.chain c stale sound kept (is_open_outside-end h c t) cuts.nodes
+      cuts.chain
 
   no_child : (o : Option ℕ) → parent h c ≡ o → (n : ℕ) → o ≢ Some n → is_child_of h n c ≡ false
   no_child o above n differs = false_from_ne_true (is_child_of h n c) (λ child. differs (sym above ∙ is_child_parent h n c child))
@@ -234,8 +259,12 @@ module _ (base : Kept) {T : Type 0} (g : Ghosts T) (h : List Event) (c : ℕ) (t
   -- the end of a node that stands below none
   pub tied_end_top : parent h c ≡ None → IsTied base g (h ++ End c t ∷ []) mid
   tied_end_top above = record {
-    records = all_fresh _ _ mid.nodes mid.chain (near_end None (λ n fresh alive. marks-end_other base h c t law next n alive (no_child None above n (λ e. none-some n e))));
-    stored = all_stored base g h law (End c t) old mid tied.stored cuts.resources refl apart_end (cut_keeps base h (End c t) old mid tied.records sound c (is_open_outside-end h c t) cuts).still;
+    records =
+        all_fresh _ _ mid.nodes mid.chain
+        (near_end None (λ n fresh alive. marks-end_other base h c t law next n alive (no_child None above n (λ e. none-some n e))));
+    stored =
+        all_stored base g h law (End c t) old mid tied.stored cuts.resources refl apart_end
+        (cut_keeps base h (End c t) old mid tied.records sound c (is_open_outside-end h c t) cuts).still;
   }
 
   -- and that of one that stands below another, which remembers it
@@ -247,7 +276,9 @@ module _ (base : Kept) {T : Type 0} (g : Ghosts T) (h : List Event) (c : ℕ) (t
         (remarked base (h ++ End c t ∷ []) mid.nodes new.nodes mid.chain p above (after_child (is_some (source_named made)) (is_merging above.made) t)
         (near_end (Some p.number) (λ n fresh alive. marks-end_other base h c t law next n alive (no_child (Some p.number) below n fresh)))
         apart at_p marks marked.nodes);
-    stored = all_stored base g h law (End c t) old new tied.stored (marked.resources ∙ cuts.resources) refl apart_end (keeps_marked base h (End c t) old mid tied.records sound c (is_open_outside-end h c t) cuts new p _ marked).still;
+    stored =
+        all_stored base g h law (End c t) old new tied.stored (marked.resources ∙ cuts.resources) refl apart_end
+        (keeps_marked base h (End c t) old mid tied.records sound c (is_open_outside-end h c t) cuts new p _ marked).still;
   }
     where
       is : slice_get h p.number ≡ Some above.made

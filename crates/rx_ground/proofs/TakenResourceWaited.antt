@@ -41,22 +41,28 @@ module _ (base : Base) {T : Type 0} (g : Ghosts T) (h : List Event) (tree : Tree
 
   pub waits_agrees : (k : Kept (Stowed T)) → Contains (kept_in tree.resources) k → is_waiting h k.key.number ≡ not (is_held tree.nodes k.value)
   unfolding is_waiting is_taken
-  waits_agrees k c = shape (at makes_resource h k.key.number) (is_held_in h k.key.number) (list_any (is_take_of k.key.number) h) (is_held tree.nodes k.value) is.made is.untaken (held_agrees k c) where
-    is : IsStored base g h tree.nodes k.key.number k.value
-    is = tied.stored.each k.key k.value (kept_found tree.resources k c)
+  waits_agrees k c =
+      shape (at makes_resource h k.key.number) (is_held_in h k.key.number) (list_any (is_take_of k.key.number) h) (is_held tree.nodes k.value) is.made
+      is.untaken (held_agrees k c)
+    where
+      is : IsStored base g h tree.nodes k.key.number k.value
+      is = tied.stored.each k.key k.value (kept_found tree.resources k c)
 
-    shape : (a b d e : Bool) → a ≡ true → d ≡ false → b ≡ e → (a && not b && not (a && d)) ≡ not e
-    shape true true false true x y z = refl
-    shape true false false false x y z = refl
-    shape true true false false x y z = absurd (false≢true (sym z))
-    shape true false false true x y z = absurd (false≢true z)
-    shape false b d e x y z = absurd (false≢true x)
-    shape true b true e x y z = absurd (false≢true (sym y))
+      shape : (a b d e : Bool) → a ≡ true → d ≡ false → b ≡ e → (a && not b && not (a && d)) ≡ not e
+      shape true true false true x y z = refl
+      shape true false false false x y z = refl
+      shape true true false false x y z = absurd (false≢true (sym z))
+      shape true false false true x y z = absurd (false≢true z)
+      shape false b d e x y z = absurd (false≢true x)
+      shape true b true e x y z = absurd (false≢true (sym y))
 
 module _ {T : Type 0} (g : Ghosts T) (h : List Event) (old new : Tree T) (number : ℕ) (x : T) where
   -- it waits in the history too
   pub takes_waiting : (base : Base) → IsTied base g h old → Takes old new number x → is_waiting h number ≡ true
-  takes_waiting base tied t = ap (is_waiting h) (sym t.numbered) ∙ waits_agrees base g h old tied (record { key = t.key; value = t.stowed }) (kept_listed old.resources t.key t.stowed t.found) ∙ ap not t.waited
+  takes_waiting base tied t =
+      ap (is_waiting h) (sym t.numbered) ∙
+      waits_agrees base g h old tied (record { key = t.key; value = t.stowed }) (kept_listed old.resources t.key t.stowed t.found) ∙
+      ap not t.waited
 
   pub takes_live : (base : Base) → IsTied base g h old → Takes old new number x → g.life_of x ≡ Live
   takes_live base tied t = ap g.life_of (sym t.handed) ∙ (tied.stored.each t.key t.stowed t.found).live
@@ -76,10 +82,13 @@ takes_listed {T = T} g old new number x t = record {
     same = ap (λ (n : ℕ). label_of g n t.stowed.resource) t.numbered ∙ ap (label_of g number) t.handed
 
 -- where all that is stored is held none waits
-pub none_waits : {T : Type 0} (old : Tree T) → ((key : Key) (s : Stowed T) → find old.resources key ≡ Some s → IsTrue (is_held old.nodes s)) → waiting_in old ≡ []
+pub none_waits : {T : Type 0} (old : Tree T) → ((key : Key) (s : Stowed T) → find old.resources key ≡ Some s → IsTrue (is_held old.nodes s)) →
+    waiting_in old ≡ []
 none_waits {T = T} old held = by_list (waiting_in old) refl where
   by_list : (ks : List (Kept (Stowed T))) → waiting_in old ≡ ks → ks ≡ []
   by_list [] e = refl
   by_list (k ∷ ks) e =
-      let m = filter_member (λ (j : Kept (Stowed T)). not (is_held old.nodes j.value)) (kept_in old.resources) k (subst (λ (l : List (Kept (Stowed T))). Contains l k) (sym e) (Contains-head k ks)) in
+      let m =
+      filter_member (λ (j : Kept (Stowed T)). not (is_held old.nodes j.value)) (kept_in old.resources) k
+      (subst (λ (l : List (Kept (Stowed T))). Contains l k) (sym e) (Contains-head k ks)) in
       absurd (false≢true (sym (ap not (held k.key k.value (kept_found old.resources k m.0))) ∙ m.1))

@@ -52,7 +52,8 @@ connect_due base (connecting d) = d
 connect_due base (due none d) = absurd (elim d [ ])
 
 -- a key that is among those that are found is found
-found_on : (nodes : Slots Node) (key : Key) (keys : List Key) → AllByRecursion (λ k. IsSome (find nodes k)) keys → is_on key keys ≡ true → IsSome (find nodes key)
+found_on : (nodes : Slots Node) (key : Key) (keys : List Key) → AllByRecursion (λ k. IsSome (find nodes k)) keys → is_on key keys ≡ true →
+    IsSome (find nodes key)
 found_on nodes key [] all on = absurd (false≢true on)
 found_on nodes key (k ∷ keys) all on = by_test (is_key key k) refl (found_on nodes key keys all.1) where
   by_test : (b : Bool) → is_key key k ≡ b → (is_on key keys ≡ true → IsSome (find nodes key)) → IsSome (find nodes key)
@@ -110,7 +111,8 @@ open_before h e n l alive = by_test (is_open h n) refl where
   by_test true was = refl
   by_test false was = absurd (false≢true (sym (stays_closed h e n l was) ∙ alive))
 
-older_on : (h : List Event) (e : Event) (number : ℕ) (old mid new : Slots Node) → number ≤ length h → ((key : Key) → IsSome (find old key) → key.number < length h) →
+older_on : (h : List Event) (e : Event) (number : ℕ) (old mid new : Slots Node) → number ≤ length h →
+    ((key : Key) → IsSome (find old key) → key.number < length h) →
     KeepsOlder h number old mid → KeepsOlder (h ++ e ∷ []) (length h) mid new → KeepsOlder (h ++ e ∷ []) number old new
 older_on h e number old mid new le within first then = record {
   from = λ key some l. first.from key (then.from key some (omega arith)) l;
@@ -148,7 +150,8 @@ way_starts g b tied leased paid room = record {
   base = refl;
   forced = stays;
   grown = omega arith;
-  within = λ key some. let x = some_of (find b.tree.nodes key) some in is_open_within b.register.history key.number (tied.of_tree.records.each key x.0 x.1).alive;
+  within =
+      λ key some. let x = some_of (find b.tree.nodes key) some in is_open_within b.register.history key.number (tied.of_tree.records.each key x.0 x.1).alive;
   nodes = record { from = λ key some l. some; still = λ key some alive. some };
   resources = refl;
   same_leases = refl;
@@ -159,7 +162,8 @@ way_starts g b tied leased paid room = record {
 }
 
 -- another chain is no other way
-pub way_rechained : {T : Type 0} (g : Ghosts T) (start old new : Ground T) → IsOnTheWay g start old → WithChain old new → AreTied new.register.base g new.register.history new.tree new.hubs → IsOnTheWay g start new
+pub way_rechained : {T : Type 0} (g : Ghosts T) (start old new : Ground T) → IsOnTheWay g start old → WithChain old new →
+    AreTied new.register.base g new.register.history new.tree new.hubs → IsOnTheWay g start new
 way_rechained {T = T} g start old new w kept tied = record {
   tied = tied;
   leased = subst (λ (b : Ground T). AreLeased b.register.history b.tree.resources b.leases) (sym kept.same) w.leased;
@@ -192,7 +196,8 @@ way_rechained {T = T} g start old new w kept tied = record {
 -- what comes next, if it is a Connect, has room
 pub next_room : {T : Type 0} (b : Ground T) (d : HubDue) → IsNext b d → HasRoomToConnect b.register.history b.tree.nodes.room b.space →
     (n : ℕ) → d ≡ ConnectDue n → (0 < b.tree.nodes.room) × (0 < b.space)
-next_room b d next room n is = room n (connect_due b.register.base (subst (λ (x : HubDue). IsForced b.register.base b.register.history (event_of x)) is next.forced))
+next_room b d next room n is =
+    room n (connect_due b.register.base (subst (λ (x : HubDue). IsForced b.register.base b.register.history (event_of x)) is next.forced))
 
 -- one event more
 pub way_on : {T : Type 0} (g : Ghosts T) (start old new : Ground T) (d : HubDue) → IsOnTheWay g start old → IsLawful old.register.base old.register.history →
@@ -242,8 +247,10 @@ tied_rechained base {T = T} g h old new hubs later chain tied calm same off =
     }))
 
 -- marks that were read and set anew change so
-pub set_remarks : {T : Type 0} (old new : Tree T) (key : Key) (marks after : Marks) (change : Marks → Marks) → option_map (λ (node : Node). node.marks) (find old.nodes key) ≡ Some marks → after ≡ change marks →
-    Rewrites old.nodes new.nodes key (with_marks after) → new.chain ≡ with_due new.nodes key old.chain → new.resources ≡ old.resources → Remarks old new key change
+pub set_remarks : {T : Type 0} (old new : Tree T) (key : Key) (marks after : Marks) (change : Marks → Marks) →
+    option_map (λ (node : Node). node.marks) (find old.nodes key) ≡ Some marks → after ≡ change marks →
+    Rewrites old.nodes new.nodes key (with_marks after) → new.chain ≡ with_due new.nodes key old.chain → new.resources ≡ old.resources →
+    Remarks old new key change
 set_remarks {T = T} old new key marks after change at_marks changes w chain resources = by_value (find old.nodes key) refl where
   by_value : (o : Option Node) → find old.nodes key ≡ o → Remarks old new key change
   by_value None e = absurd (none-some marks (sym (ap (option_map (λ (node : Node). node.marks)) e) ∙ at_marks))
@@ -252,7 +259,11 @@ set_remarks {T = T} old new key marks after change at_marks changes w chain reso
       let now : with_marks after x ≡ with_marks (change x.marks) x = ap (λ (m : Marks). with_marks m x) (changes ∙ ap change is_marks) in
       record {
         nodes = record {
-          changed = w.changed ∙ ap (option_map (with_marks after)) e ∙ ap (λ (y : Node). Some y) now ∙ sym (ap (option_map (λ (node : Node). with_marks (change node.marks) node)) e);
+          changed =
+              w.changed ∙
+              ap (option_map (with_marks after)) e ∙
+              ap (λ (y : Node). Some y) now ∙
+              sym (ap (option_map (λ (node : Node). with_marks (change node.marks) node)) e);
           others = w.others;
           rest = w.rest;
         };
@@ -272,4 +283,5 @@ found_end {T = T} old new key made marks source merging t at_made at_marks merge
   by_value None e = tt
   by_value (Some x) e =
       let is_made : made ≡ x.made = same_Some made x.made (sym at_made ∙ ap (option_map (λ (node : Node). node.made)) e) in
-      set_remarks old new key marks _ (after_child source (is_merging x.made) t) at_marks (ap (λ b. after_child source b t marks) (merges ∙ ap is_merging is_made)) w chain resources
+      set_remarks old new key marks _ (after_child source (is_merging x.made) t) at_marks
+      (ap (λ b. after_child source b t marks) (merges ∙ ap is_merging is_made)) w chain resources

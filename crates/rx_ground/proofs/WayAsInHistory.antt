@@ -39,7 +39,8 @@ use Rattle.rx_ground.proofs.Records.{as_records}
 use Rattle.rx_ground.specs.Passing.{IsMeasured, IsOnly, owed_at, told_at, sum_at}
 
 -- an item may go over a tree and hubs of one history
-pub walk_tied : (base : Kept) → {T : Type 0} {g : Ghosts T} {h : List Event} {tree : Tree T} {hubs : Hubs} → AreTied base g h tree hubs → IsSound tree.nodes → IsWalk base h tree.nodes hubs.hubs
+pub walk_tied : (base : Kept) → {T : Type 0} {g : Ghosts T} {h : List Event} {tree : Tree T} {hubs : Hubs} → AreTied base g h tree hubs → IsSound tree.nodes →
+    IsWalk base h tree.nodes hubs.hubs
 walk_tied base {h = h} {tree = tree} {hubs = hubs} tied sound = record {
   sound = sound;
   records = as_records base h tree.nodes tree.chain tied.of_tree.records;
@@ -51,9 +52,12 @@ walk_tied base {h = h} {tree = tree} {hubs = hubs} tied sound = record {
 
 owed_sum : (ss : List Stop) → sum_at owed_at ss ≡ count_by is_projection (filter_map numbered ss)
 owed_sum [] = refl
-owed_sum (Delivery key ∷ ss) = let rest = owed_sum ss in let all = sum_by-cons (λ t. cond (is_projection t) 1 0) (DeliveryTo key.number) (filter_map numbered ss) in omega arith
-owed_sum (Projection key ∷ ss) = let rest = owed_sum ss in let all = sum_by-cons (λ t. cond (is_projection t) 1 0) (ProjectionTo key.number) (filter_map numbered ss) in omega arith
-owed_sum (Firing key ∷ ss) = let rest = owed_sum ss in let all = sum_by-cons (λ t. cond (is_projection t) 1 0) (FiringOf key.number) (filter_map numbered ss) in omega arith
+owed_sum (Delivery key ∷ ss) =
+    let rest = owed_sum ss in let all = sum_by-cons (λ t. cond (is_projection t) 1 0) (DeliveryTo key.number) (filter_map numbered ss) in omega arith
+owed_sum (Projection key ∷ ss) =
+    let rest = owed_sum ss in let all = sum_by-cons (λ t. cond (is_projection t) 1 0) (ProjectionTo key.number) (filter_map numbered ss) in omega arith
+owed_sum (Firing key ∷ ss) =
+    let rest = owed_sum ss in let all = sum_by-cons (λ t. cond (is_projection t) 1 0) (FiringOf key.number) (filter_map numbered ss) in omega arith
 owed_sum (Connection key ∷ ss) = let rest = owed_sum ss in omega arith
 
 pub told_sum : (place : ℕ) (value : ℤ) (ss : List Stop) → length (filter_map (told place value) (filter_map numbered ss)) ≡ sum_at told_at ss
@@ -70,7 +74,8 @@ pub reach_told : (base : Kept) → (h : List Event) (nodes : Slots Node) (hubs :
 reach_told base h nodes hubs key walk there reach is = record {
   there = there;
   events = is.events ∙ ap (λ (n : ℕ). 1 + n) (owed_sum (stops_over nodes hubs key)) ∙ ap (λ (ss : List NumberedStop). 1 + count_by is_projection ss) (sym same);
-  notes = λ value. ap (λ (ss : List NumberedStop). length (filter_map (told (length h) value) ss)) same ∙ told_sum (length h) value (stops_over nodes hubs key) ∙
+  notes =
+      λ value. ap (λ (ss : List NumberedStop). length (filter_map (told (length h) value) ss)) same ∙ told_sum (length h) value (stops_over nodes hubs key) ∙
       sym is.notes;
   few = is.few;
 }

@@ -1,5 +1,6 @@
 -- Names that are bound where a call is accepted, and a session that stays alike where one is refused.
-use Rattle.std.proofs.Common.{◌≡◌, ℕ, ◌==◌, ◌<◌, ◌≤◌, Bool, true, false, cond, List, length, Option, Some, None, option_map, Result, Ok, Err, refl, sym, ap, ◌∙◌, arith, subst, inl, inr, ◌⊎◌, String, Global, string_bytes}
+use Rattle.std.proofs.Common.{◌≡◌, ℕ, ◌==◌, ◌<◌, ◌≤◌, Bool, true, false, cond, List, length, Option, Some, None, option_map, Result}
+use Rattle.std.proofs.Common.{Ok, Err, refl, sym, ap, ◌∙◌, arith, subst, inl, inr, ◌⊎◌, String, Global, string_bytes}
 use Rattle.std.specs.Prelude.{IfOk, IfSome, is_some}
 use Rattle.std.proofs.Math.Bool.{◌||◌, ◌&&◌}
 use Rattle.std.specs.Str.{bytes_eq}
@@ -63,12 +64,14 @@ or_false false b p = (refl, p)
 
 pub not_unnamed : (s : Session) (name n : Name) → has_resource s name ≡ false → s.unnamed ≡ Some n → bytes_eq name n ≡ false
 not_unnamed s name n free is =
-    sym (ap (λ (o : Option Name). option_map_or (bytes_eq name) o false) is) ∙ (or_false (is_some (spot_of s.resources name)) (option_map_or (bytes_eq name) s.unnamed false) free).1
+    sym (ap (λ (o : Option Name). option_map_or (bytes_eq name) o false) is) ∙
+    (or_false (is_some (spot_of s.resources name)) (option_map_or (bytes_eq name) s.unnamed false) free).1
 
 -- a number that is not given yet has no name
 pub unnamed_resource : (s : Session) → IsSound s → name_of s.resources (length s.book.history) ≡ None
 unnamed_resource s sound =
-    none_of (name_of s.resources (length s.book.history)) (sound.resources (length s.book.history) ∙ kept_past s.book.history (length s.book.history) (omega arith))
+    none_of (name_of s.resources (length s.book.history))
+    (sound.resources (length s.book.history) ∙ kept_past s.book.history (length s.book.history) (omega arith))
 
 pub unnamed_lease : (s : Session) → IsSound s → name_of s.leases (length s.book.history) ≡ None
 unnamed_lease s sound =
@@ -77,7 +80,8 @@ unnamed_lease s sound =
 pub placed_longer : (h k : List Event) (t : Names) → IsPlaced h t → length h ≤ length k → IsPlaced k t
 placed_longer h k t placed longer n past = placed n (omega arith)
 
-pub placed_bound : (h k : List Event) (old new : Names) (name : Name) (spot : Spot) → IsPlaced h old → Binds old name spot new → length h ≤ length k → spot.number < length k → IsPlaced k new
+pub placed_bound : (h k : List Event) (old new : Names) (name : Name) (spot : Spot) → IsPlaced h old → Binds old name spot new → length h ≤ length k →
+    spot.number < length k → IsPlaced k new
 placed_bound h k old new name spot placed binds longer within n past =
     let apart : (spot.number == n) ≡ false = ne_eqb spot.number n (omega arith) in
     binds.names n ∙ ap (λ (b : Bool). cond b (Some name) (name_of old n)) apart ∙ placed n (omega arith)
@@ -103,14 +107,17 @@ lost : (a b : Option Name) → (a ≡ b) ⊎ (a ≡ None) → b ≡ None → a �
 lost a b (inl same) none = same ∙ none
 lost a b (inr gone) none = gone
 
-pub sound_alike : (old new : Session) → IsSound old → IsAlike old new → IsPaired new.nodes → IsPaired new.hubs → IsPaired new.resources → IsPaired new.leases → IsSound new
+pub sound_alike : (old new : Session) → IsSound old → IsAlike old new → IsPaired new.nodes → IsPaired new.hubs → IsPaired new.resources →
+    IsPaired new.leases → IsSound new
 sound_alike old new sound alike nodes hubs resources leases = record {
   kept = subst (λ (b : State). IsPromised b) (sym alike.book) sound.kept;
   node_pairs = nodes;
   hub_pairs = hubs;
   resource_pairs = resources;
   lease_pairs = leases;
-  nodes = λ n past. lost (name_of new.nodes n) (name_of old.nodes n) (alike.nodes.names n) (sound.nodes n (subst (λ (b : State). length b.history ≤ n) alike.book past));
+  nodes =
+      λ n past. lost (name_of new.nodes n) (name_of old.nodes n) (alike.nodes.names n)
+      (sound.nodes n (subst (λ (b : State). length b.history ≤ n) alike.book past));
   hubs = λ n past. alike.hubs.names n ∙ sound.hubs n (subst (λ (b : State). length b.history ≤ n) alike.book past);
   resources = λ r. ap is_some (alike.resources.names r) ∙ sound.resources r ∙ ap (λ (b : State). is_kept b.history r) (sym alike.book);
   leases = λ l. ap is_some (alike.leases.names l) ∙ sound.leases l ∙ ap (λ (b : State). is_out b.history l) (sym alike.book);
@@ -120,14 +127,16 @@ sound_alike old new sound alike nodes hubs resources leases = record {
 -- outcomes -------------------------------------------------------------------------------------------
 
 -- the book refuses
-pub given_refused : (s t : Session) (asked : Option Request) (call : Request) (taken : Bool) (bound : Session → Type 0) (why : Refusal) (result : Result Outcome AllocError) →
+pub given_refused : (s t : Session) (asked : Option Request) (call : Request) (taken : Bool) (bound : Session → Type 0) (why : Refusal)
+    (result : Result Outcome AllocError) →
     asked ≡ Some call → taken ≡ false → IsCauseOrWant s.book call why → IsUnchanged s t → IfOk result (λ o. o ≡ Refused (Book why)) →
     IfOk result (λ o. GivesNames s asked taken bound o t)
 given_refused s t asked call taken bound why (Err e) known is cause unchanged told = told
 given_refused s t asked call taken bound why (Ok o) known is cause unchanged told =
     subst (λ (p : Outcome). GivesNames s asked taken bound p t) (sym told)
     (subst (λ (j : Option Request). GivesNames s j taken bound (Refused (Book why)) t) (sym known)
-    (subst (λ (b : Bool). GivesNames s (Some call) b bound (Refused (Book why)) t) (sym is) (record { gives = (cause, unchanged.alike); sound = unchanged.sound })))
+    (subst (λ (b : Bool). GivesNames s (Some call) b bound (Refused (Book why)) t) (sym is)
+    (record { gives = (cause, unchanged.alike); sound = unchanged.sound })))
 
 -- it accepts
 pub given_accepted : (s t : Session) (asked : Option Request) (call : Request) (taken : Bool) (bound : Session → Type 0) →
@@ -142,10 +151,13 @@ module _ (s : Session) (book : State) (name : Name) (spot : Spot) (mid t : Names
   abbrev after_binding : Call → Bool → Type 0
   after_binding call known = Accepts s.book (record { call = call; is_known = known; is_fresh = true }) book
 
-  pub held_bound : AreSame s.resources mid → Binds mid name spot t → spot.number ≡ length s.book.history → BindsResource s name (record s { book = book; resources = t })
-  held_bound same binds number = record { resource = record { spot = spot; is = number; binds = bound_after s.resources mid t name spot same binds }; rest = refl }
+  pub held_bound : AreSame s.resources mid → Binds mid name spot t → spot.number ≡ length s.book.history →
+      BindsResource s name (record s { book = book; resources = t })
+  held_bound same binds number =
+      record { resource = record { spot = spot; is = number; binds = bound_after s.resources mid t name spot same binds }; rest = refl }
 
-  pub held_sound : (node tag : ℕ) (known : Bool) → AreSame s.resources mid → Binds mid name spot t → spot.number ≡ length s.book.history → has_resource s name ≡ false →
+  pub held_sound : (node tag : ℕ) (known : Bool) → AreSame s.resources mid → Binds mid name spot t → spot.number ≡ length s.book.history →
+      has_resource s name ≡ false →
       after_binding (Holding node tag) known → IsSound (record s { book = book; resources = t })
   held_sound node tag known same after number free accepts =
       let asked : Request = record { call = Holding node tag; is_known = known; is_fresh = true } in
@@ -160,12 +172,15 @@ module _ (s : Session) (book : State) (name : Name) (spot : Spot) (mid t : Names
         nodes = placed_longer s.book.history book.history s.nodes sound.nodes longer;
         hubs = placed_longer s.book.history book.history s.hubs sound.hubs longer;
         resources = λ r. ap is_some (binds.names r) ∙ some_cond (spot.number == r) name (name_of s.resources r)
-            ∙ (λ i. cond (number i == r) true (sound.resources r i)) ∙ sym (kept_held s.book.base s.book.history book.history node tag sound.kept.lawful accepts.step r);
+            ∙
+            (λ i. cond (number i == r) true (sound.resources r i)) ∙
+            sym (kept_held s.book.base s.book.history book.history node tag sound.kept.lawful accepts.step r);
         leases = λ l. sound.leases l ∙ sym (out_same s.book.base s.book.history book.history (Holding node tag) accepts.step refl l);
         unnamed = λ n is. binds.spots n ∙ ap (λ (b : Bool). cond b (Some spot) (spot_of s.resources n)) (not_unnamed s name n free is) ∙ sound.unnamed n is;
       }
 
-  pub leased_bound : AreSame s.leases mid → Binds mid name spot t → spot.number ≡ length s.book.history → BindsLease s name (record s { book = book; leases = t })
+  pub leased_bound : AreSame s.leases mid → Binds mid name spot t → spot.number ≡ length s.book.history →
+      BindsLease s name (record s { book = book; leases = t })
   leased_bound same binds number = record { lease = record { spot = spot; is = number; binds = bound_after s.leases mid t name spot same binds }; rest = refl }
 
   pub leased_sound : (q : ℕ) (known : Bool) → AreSame s.leases mid → Binds mid name spot t → spot.number ≡ length s.book.history →
@@ -192,7 +207,8 @@ module _ (s : Session) (book : State) (name : Name) (spot : Spot) (mid t : Names
   hub_bound same binds number = record { hub = record { spot = spot; is = number; binds = bound_after s.hubs mid t name spot same binds }; rest = refl }
 
   pub hub_sound : (asked : Request) → AreSame s.hubs mid → Binds mid name spot t → spot.number ≡ length s.book.history → Accepts s.book asked book →
-      keeps_resources asked.call ≡ true → keeps_leases asked.call ≡ true → length s.book.history < length book.history → IsSound (record s { book = book; hubs = t })
+      keeps_resources asked.call ≡ true → keeps_leases asked.call ≡ true → length s.book.history < length book.history →
+      IsSound (record s { book = book; hubs = t })
   hub_sound asked same after number accepts resources leases longer =
       let binds : Binds s.hubs name spot t = bound_after s.hubs mid t name spot same after in
       record {
@@ -210,12 +226,14 @@ module _ (s : Session) (book : State) (name : Name) (spot : Spot) (mid t : Names
 
 -- a lease that is given back -------------------------------------------------------------------------
 
-pub forgot : (old new : Names) (number : ℕ) (name : Name) (result : Option (String Global)) → name_of old number ≡ Some name → option_map string_bytes result ≡ name_of old number →
+pub forgot : (old new : Names) (number : ℕ) (name : Name) (result : Option (String Global)) → name_of old number ≡ Some name →
+    option_map string_bytes result ≡ name_of old number →
     IfSome result (λ n. Forgets old number (string_bytes n) new) → Forgets old number name new
 forgot old new number name None known value some = absurd (none-some name (value ∙ known))
 forgot old new number name (Some n) known value some = subst (λ (m : Name). Forgets old number m new) (same_Some (string_bytes n) name (value ∙ known)) some
 
-pub returned_sound : (s : Session) (book : State) (q : ℕ) (known : Bool) (name : Name) (t : Names) → IsSound s → IsPromised book → IsPaired t → Forgets s.leases q name t →
+pub returned_sound : (s : Session) (book : State) (q : ℕ) (known : Bool) (name : Name) (t : Names) → IsSound s → IsPromised book → IsPaired t →
+    Forgets s.leases q name t →
     Accepts s.book (record { call = GivingBack q; is_known = known; is_fresh = true }) book → IsSound (record s { book = book; leases = t })
 returned_sound s book q known name t sound kept paired forgets accepts =
     let asked : Request = record { call = GivingBack q; is_known = known; is_fresh = true } in
@@ -235,7 +253,8 @@ returned_sound s book q known name t sound kept paired forgets accepts =
     }
 
 -- the name of a lease that is out
-by_spot : (s : Session) (name : Name) (k : LeaseKey) (o : Option Spot) → IsSound s → spot_of s.leases name ≡ o → option_map lease_key_at o ≡ Some k → name_of s.leases k.number ≡ Some name
+by_spot : (s : Session) (name : Name) (k : LeaseKey) (o : Option Spot) → IsSound s → spot_of s.leases name ≡ o → option_map lease_key_at o ≡ Some k →
+    name_of s.leases k.number ≡ Some name
 by_spot s name k None sound found is = absurd (none-some k is)
 by_spot s name k (Some spot) sound found is =
     let number : spot.number ≡ k.number = ap (λ (j : LeaseKey). j.number) (same_Some (lease_key_at spot) k is) in

@@ -4,7 +4,8 @@ use Rattle.std.specs.Prelude.{is_some}
 use Rattle.std.proofs.Math.Bool.{◌||◌}
 use Rattle.std.specs.Str.{bytes_eq}
 use Rattle.std.specs.Option.{option_map_or}
-use Rattle.rx_scenario.specs.Scenario.{Name, Command, using, open_node, hold, apply, remove, lease, give_back, next, end, abort, decline, fail, dispose, make_hub, connect, disconnect, drain, checkpoint}
+use Rattle.rx_scenario.specs.Scenario.{Name, Command, using, open_node, hold, apply, remove, lease, give_back, next, end}
+use Rattle.rx_scenario.specs.Scenario.{abort, decline, fail, dispose, make_hub, connect, disconnect, drain, checkpoint}
 use Rattle.rx_book.specs.Requests.{Request, hub_request}
 use Rattle.rx_line.specs.declared.outcome.Cause.{Cause}
 use Rattle.rx_line.specs.declared.outcome.Cause.TheVariants.{NoName, NameTaken, Book}
@@ -25,7 +26,8 @@ pub record HasGiven (taken : Bool) (bound : Type 0) : Type 0 where
   pub free : taken ≡ false
   pub binds : bound
 
-gave : (old new : Session) (asked : Option Request) (taken : Bool) (bound : Session → Type 0) → Gives old asked taken bound Accepted new → HasGiven taken (bound new)
+gave : (old new : Session) (asked : Option Request) (taken : Bool) (bound : Session → Type 0) → Gives old asked taken bound Accepted new →
+    HasGiven taken (bound new)
 gave old new None taken bound gives = let e = gives.0 in absurd (cc)
 gave old new (Some call) true bound gives = let e = gives.0 in absurd (cc)
 gave old new (Some call) false bound gives = record { free = refl; binds = gives.1 }
@@ -41,10 +43,12 @@ same_held old new resources unnamed n = λ i. is_some (spot_of (resources i) n) 
 
 one_held : (old new : Session) (name : Name) (number : ℕ) → NamesOne old.resources name number new.resources → new.unnamed ≡ old.unnamed →
     (n : Name) → has_resource new n ≡ with_held true name (has_resource old) n
-one_held old new name number one unnamed n = (λ i. is_some (one.binds.spots n i) || option_map_or (bytes_eq n) (unnamed i) false) ∙ shape (bytes_eq name n) where
-  shape : (b : Bool) → (is_some (cond b (Some one.spot) (spot_of old.resources n)) || option_map_or (bytes_eq n) old.unnamed false) ≡ cond b true (has_resource old n)
-  shape true = refl
-  shape false = refl
+one_held old new name number one unnamed n = (λ i. is_some (one.binds.spots n i) || option_map_or (bytes_eq n) (unnamed i) false) ∙ shape (bytes_eq name n)
+  where
+    shape : (b : Bool) →
+        (is_some (cond b (Some one.spot) (spot_of old.resources n)) || option_map_or (bytes_eq n) old.unnamed false) ≡ cond b true (has_resource old n)
+    shape true = refl
+    shape false = refl
 
 keeps : (old new : Session) → ((n : Name) → has_resource new n ≡ has_resource old n) → Leads (has_resource old) [] (has_resource new)
 keeps old new same = no_act same
@@ -64,15 +68,20 @@ runs_hands old new (hold node res) runs =
     let given = gave old new _ _ _ runs.gives in
     hands_in res given.free (no_act (one_held old new res _ given.binds.resource (ap (λ (s : Session). s.unnamed) given.binds.rest)))
 runs_hands old new (open_node name site sort) runs =
-    let is = (gave old new _ _ _ runs.gives).binds.rest in no_act (same_held old new (ap (λ (s : Session). s.resources) is) (ap (λ (s : Session). s.unnamed) is))
+    let is = (gave old new _ _ _ runs.gives).binds.rest in
+    no_act (same_held old new (ap (λ (s : Session). s.resources) is) (ap (λ (s : Session). s.unnamed) is))
 runs_hands old new (lease res name) runs =
-    let is = (gave old new _ _ _ runs.gives).binds.rest in no_act (same_held old new (ap (λ (s : Session). s.resources) is) (ap (λ (s : Session). s.unnamed) is))
+    let is = (gave old new _ _ _ runs.gives).binds.rest in
+    no_act (same_held old new (ap (λ (s : Session). s.resources) is) (ap (λ (s : Session). s.unnamed) is))
 runs_hands old new (give_back name) runs =
-    let is = (gave old new _ _ _ runs.gives).binds.rest in no_act (same_held old new (ap (λ (s : Session). s.resources) is) (ap (λ (s : Session). s.unnamed) is))
+    let is = (gave old new _ _ _ runs.gives).binds.rest in
+    no_act (same_held old new (ap (λ (s : Session). s.resources) is) (ap (λ (s : Session). s.unnamed) is))
 runs_hands old new (make_hub name mode) runs =
-    let is = (gave old new (Some (hub_request mode)) (is_some (hub_of old name)) (BindsHub old name) runs.gives).binds.rest in no_act (same_held old new (ap (λ (s : Session). s.resources) is) (ap (λ (s : Session). s.unnamed) is))
+    let is = (gave old new (Some (hub_request mode)) (is_some (hub_of old name)) (BindsHub old name) runs.gives).binds.rest in
+    no_act (same_held old new (ap (λ (s : Session). s.resources) is) (ap (λ (s : Session). s.unnamed) is))
 runs_hands old new (connect hub name) runs =
-    let is = (gave old new _ _ _ runs.gives).binds.rest in no_act (same_held old new (ap (λ (s : Session). s.resources) is) (ap (λ (s : Session). s.unnamed) is))
+    let is = (gave old new _ _ _ runs.gives).binds.rest in
+    no_act (same_held old new (ap (λ (s : Session). s.resources) is) (ap (λ (s : Session). s.unnamed) is))
 runs_hands old new (apply res word) runs = by_goes old new _ runs
 runs_hands old new (remove res) runs = by_goes old new _ runs
 runs_hands old new (next node value) runs = by_goes old new _ runs
@@ -86,14 +95,17 @@ runs_hands old new drain runs = no_act (λ n. ap (λ (s : Session). has_resource
 runs_hands old new checkpoint runs = no_act (same_held old new (ap (λ (s : Session). s.resources) runs.rest) (ap (λ (s : Session). s.unnamed) runs.rest))
 
 -- all of a carried line
-pub carried_leads : (old new : Session) (c : Command) (text : List ℕ) (acts : List Act) → IsCarried old c text acts new → Leads (has_resource old) acts (has_resource new)
+pub carried_leads : (old new : Session) (c : Command) (text : List ℕ) (acts : List Act) → IsCarried old c text acts new →
+    Leads (has_resource old) acts (has_resource new)
 carried_leads old new c text acts carried =
     let tells = carried.tells in
     let told : (n : Name) → has_resource tells.mid n ≡ has_resource carried.done n = λ n. ap (λ (s : Session). has_resource s n) tells.tells.rest in
-    let after = leads_same (has_resource carried.done) (has_resource tells.mid) (has_resource carried.left) (map released tells.names) told tells.releases.leads in
+    let after =
+    leads_same (has_resource carried.done) (has_resource tells.mid) (has_resource carried.left) (map released tells.names) told tells.releases.leads in
     let all = leads_on (runs_hands old carried.done c carried.runs) after in
     subst (λ (done : List Act). Leads (has_resource old) done (has_resource new)) (sym carried.acts_are)
-    (subst (λ (last : Name → Bool). Leads (has_resource old) (handed_by c ++ map released tells.names) last) (λ i n. sym (alike_held carried.left new carried.alike n) i) all)
+    (subst (λ (last : Name → Bool). Leads (has_resource old) (handed_by c ++ map released tells.names) last)
+    (λ i n. sym (alike_held carried.left new carried.alike n) i) all)
 
 -- sessions --------------------------------------------------------------------------------------------
 
@@ -102,13 +114,15 @@ goes_leads no_line = no_act (λ n. refl)
 goes_leads (one_line line text new sent rest) = leads_on sent.leads (goes_leads rest)
 
 -- every name that is handed in is released once, to the last line
-pub session_kept : (first last new : Session) (acts : List Act) (text : List ℕ) → IsFresh first → GoesOn first acts last → (ends : Ends last text new) → IsKept (acts ++ map released ends.names)
+pub session_kept : (first last new : Session) (acts : List Act) (text : List ℕ) → IsFresh first → GoesOn first acts last → (ends : Ends last text new) →
+    IsKept (acts ++ map released ends.names)
 session_kept first last new acts text fresh goes ends =
     leads_same (λ n. false) (has_resource first) (λ n. false) (acts ++ map released ends.names) (fresh_held first fresh) (leads_on (goes_leads goes) ends.leads)
 
 -- a refused command ----------------------------------------------------------------------------------
 
-gave_none : (old new : Session) (asked : Option Request) (taken : Bool) (bound : Session → Type 0) (why : Cause) → Gives old asked taken bound (Refused why) new → IsAlike old new
+gave_none : (old new : Session) (asked : Option Request) (taken : Bool) (bound : Session → Type 0) (why : Cause) →
+    Gives old asked taken bound (Refused why) new → IsAlike old new
 gave_none old new None taken bound why gives = gives.1
 gave_none old new (Some call) true bound why gives = gives.1
 gave_none old new (Some call) false bound NoName gives = absurd gives

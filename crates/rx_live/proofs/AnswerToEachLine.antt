@@ -1,5 +1,6 @@
 -- What a line's answer says of the session.
-use Rattle.std.proofs.Common.{◌≡◌, ℕ, List, [], ◌++◌, codes, length, map, Option, Some, None, Result, Ok, Err, refl, ap, ◌∙◌, subst, String, Global, string_bytes}
+use Rattle.std.proofs.Common.{◌≡◌, ℕ, List, [], ◌++◌, codes, length, map, Option, Some, None, Result}
+use Rattle.std.proofs.Common.{Ok, Err, refl, ap, ◌∙◌, subst, String, Global, string_bytes}
 use Rattle.std.specs.Prelude.{IfOk, IfSome, is_some}
 use Rattle.std.specs.declared.alloc.AllocError.{AllocError}
 use Rattle.rx_scenario.specs.Scenario.{Name, Command}
@@ -14,7 +15,8 @@ use Rattle.rx_live.specs.Listed.{all_names}
 use Rattle.rx_live.specs.Given.{IsAlike}
 use Rattle.rx_live.specs.Renewals.{Renews, as_it_was, renewed, IsFullByOpen}
 use Rattle.rx_live.specs.Dumps.{dump_text}
-use Rattle.rx_live.specs.Lines.{Runs, handed_by, TellsAll, CarriesOut, refuses, carries, is_faulty, is_refused, is_carried, is_listed, is_dumped, Sends, Ends, IsClosed}
+use Rattle.rx_live.specs.Lines.{Runs, handed_by, TellsAll, CarriesOut, refuses, carries, is_faulty, is_refused}
+use Rattle.rx_live.specs.Lines.{is_carried, is_listed, is_dumped, Sends, Ends, IsClosed}
 use Rattle.rx_live.specs.Taken.{Answered}
 use Rattle.rx_live.proofs.Laws.HeldStaysHeld.{leads_same, alike_held, renewed_held}
 use Rattle.rx_live.proofs.AcceptedBindsNames.{alike_same}
@@ -22,7 +24,8 @@ use Rattle.rx_live.proofs.Acts.{carried_leads, refused_alike}
 use Rattle.rx_live.proofs.Listings.{leads_all}
 
 -- a command that is carried out
-pub carried_out : (old done new : Session) (c : Command) (front text : List ℕ) → Runs old c Accepted done → front ≡ ok_text (length old.book.history) → TellsAll done front new text →
+pub carried_out : (old done new : Session) (c : Command) (front text : List ℕ) → Runs old c Accepted done → front ≡ ok_text (length old.book.history) →
+    TellsAll done front new text →
     CarriesOut old c text new
 carried_out old done new c front text runs is tells =
     let all : TellsAll done (ok_text (length old.book.history)) new text = subst (λ (t : List ℕ). TellsAll done t new text) is tells in
@@ -57,7 +60,8 @@ pub sent_first : (old new : Session) (line text : List ℕ) → Answered old lin
 sent_first old new line text answered sound =
     record { aged = old; ages = as_it_was; acts = answered.acts; answer = answered.answer; leads = answered.leads; sound = sound }
 
-pub sent_again : (old mid aged new : Session) (line text : List ℕ) → IsAlike old mid → Renews mid aged → Answered aged line text new → IsSound new → Sends old line text new
+pub sent_again : (old mid aged new : Session) (line text : List ℕ) → IsAlike old mid → Renews mid aged → Answered aged line text new → IsSound new →
+    Sends old line text new
 sent_again old mid aged new line text alike renews answered sound =
     let same : (n : Name) → has_resource aged n ≡ has_resource old n = renewed_held old mid aged alike renews in
     record {
@@ -70,7 +74,8 @@ sent_again old mid aged new line text alike renews answered sound =
     }
 
 -- the last line
-pub ended : (old left new : Session) (front after text : List ℕ) → IsSound old → front ≡ codes "{\"closed\":true" ++ member_text (codes "release") (map name_text (all_names old)) →
+pub ended : (old left new : Session) (front after text : List ℕ) → IsSound old →
+    front ≡ codes "{\"closed\":true" ++ member_text (codes "release") (map name_text (all_names old)) →
     WritesNotes old front left after → text ≡ after ++ late_text (is_some left.untold) ++ codes "}" → IsClosed new → Ends old text new
 ended old left new front after text sound is notes closing closed = record {
   names = all_names old;
@@ -79,10 +84,12 @@ ended old left new front after text sound is notes closing closed = record {
   left = left;
   tells = notes.tells;
   all_notes = notes.all;
-  written = closing ∙ ap (λ (t : List ℕ). t ++ late_text (is_some left.untold) ++ codes "}") (notes.written ∙ ap (λ (t : List ℕ). t ++ member_text (codes "notes") (map told_text notes.told)) is);
+  written = closing ∙ ap (λ (t : List ℕ). t ++ late_text (is_some left.untold) ++ codes "}")
+      (notes.written ∙ ap (λ (t : List ℕ). t ++ member_text (codes "notes") (map told_text notes.told)) is);
   closed = closed;
 }
 
 -- one that is refused
-pub refused_out : (old new : Session) (c : Command) (why : Cause) (text : List ℕ) → Runs old c (Refused why) new → IsFullByOpen old why → text ≡ refused_text why → CarriesOut old c text new
+pub refused_out : (old new : Session) (c : Command) (why : Cause) (text : List ℕ) → Runs old c (Refused why) new → IsFullByOpen old why →
+    text ≡ refused_text why → CarriesOut old c text new
 refused_out old new c why text runs alive is = refuses why runs alive is

@@ -1,5 +1,6 @@
 -- The notes of a session's events, and those that its answers tell.
-use Rattle.std.proofs.Common.{◌≡◌, ℕ, ◌≤◌, Bool, true, false, List, [], ◌∷◌, ◌++◌, drop, length, Option, Some, None, refl, sym, ap, ◌∙◌, arith, subst, append_assoc}
+use Rattle.std.proofs.Common.{◌≡◌, ℕ, ◌≤◌, Bool, true, false, List, [], ◌∷◌, ◌++◌, drop, length, Option}
+use Rattle.std.proofs.Common.{Some, None, refl, sym, ap, ◌∙◌, arith, subst, append_assoc}
 use Rattle.std.specs.Prelude.{is_some}
 use Rattle.std.specs.Option.{option_to_list}
 use Rattle.std.proofs.lemmas.List.{append-nil, drop_at, drop-append-le}
@@ -11,7 +12,8 @@ use Rattle.rx_event.specs.Moments.{moments}
 use Rattle.rx_event.specs.Calls.{Call, outside_of, IsStepOf}
 use Rattle.rx_event.specs.Lawful.{IsForcedOn, stays, more}
 use Rattle.rx_event.proofs.Laws.Counts.{notes-push}
-use Rattle.rx_scenario.specs.Scenario.{Command, using, open_node, hold, apply, remove, lease, give_back, next, end, abort, decline, fail, dispose, make_hub, connect, disconnect, drain, checkpoint}
+use Rattle.rx_scenario.specs.Scenario.{Command, using, open_node, hold, apply, remove, lease, give_back, next, end, abort}
+use Rattle.rx_scenario.specs.Scenario.{decline, fail, dispose, make_hub, connect, disconnect, drain, checkpoint}
 use Rattle.rx_book.specs.State.{State}
 use Rattle.rx_book.specs.Requests.{Request, hub_request, take_request}
 use Rattle.rx_book.specs.Answers.{Accepts}
@@ -63,7 +65,8 @@ record Owes (old new : Session) : Type 0 where
   pub goes : GoesOnNoted old.book.history new.book.history
   pub owed : to_tell new ≡ to_tell old ++ goes.rest
 
-owes_more : (old new : Session) → GoesOnNoted old.book.history new.book.history → new.book.given ≡ old.book.given → new.untold ≡ old.untold → IsBehind old → Owes old new
+owes_more : (old new : Session) → GoesOnNoted old.book.history new.book.history → new.book.given ≡ old.book.given → new.untold ≡ old.untold → IsBehind old →
+    Owes old new
 owes_more old new goes given untold behind =
     let before : List Mail = notes old.book.history in
     let front : List Mail = option_to_list old.untold in
@@ -75,11 +78,13 @@ owes_more old new goes given untold behind =
     }
 
 owes_call : (old new : Session) (asked : Request) → Accepts old.book asked new.book → new.untold ≡ old.untold → IsBehind old → Owes old new
-owes_call old new asked accepts untold behind = owes_more old new (noted_step old.book.base old.book.history new.book.history asked.call accepts.step) accepts.given untold behind
+owes_call old new asked accepts untold behind =
+    owes_more old new (noted_step old.book.base old.book.history new.book.history asked.call accepts.step) accepts.given untold behind
 
 -- a command -------------------------------------------------------------------------------------------
 
-owes_given : (old new : Session) (asked : Option Request) (taken : Bool) (bound : Session → Type 0) → Gives old asked taken bound Accepted new → (bound new → new.untold ≡ old.untold) →
+owes_given : (old new : Session) (asked : Option Request) (taken : Bool) (bound : Session → Type 0) → Gives old asked taken bound Accepted new →
+    (bound new → new.untold ≡ old.untold) →
     IsBehind old → Owes old new
 owes_given old new None taken bound gives untold behind = let e = gives.0 in absurd (cc)
 owes_given old new (Some call) true bound gives untold behind = let e = gives.0 in absurd (cc)
@@ -92,7 +97,8 @@ owes_carried old new asked goes = by_asked asked goes.carries where
   by_asked (Some call) carries behind = owes_call old new call carries.0 (ap (λ (s : Session). s.untold) carries.1) behind
 
 owes_same : (old new : Session) → new ≡ old → IsBehind old → Owes old new
-owes_same old new same behind = owes_more old new (subst (λ (s : Session). GoesOnNoted old.book.history s.book.history) (sym same) (noted_none old.book.history))
+owes_same old new same behind =
+    owes_more old new (subst (λ (s : Session). GoesOnNoted old.book.history s.book.history) (sym same) (noted_none old.book.history))
     (ap (λ (s : Session). s.book.given) same) (ap (λ (s : Session). s.untold) same) behind
 
 -- a command goes on with the notes, or begins anew behind a checkpoint
@@ -101,14 +107,21 @@ data RunsNoted (old new : Session) (c : Command) : Type 0 where
   begins : ((before after : List Mail) → written_of c before after ≡ after) → Renews old new → RunsNoted old new c
 
 noted_run : (old new : Session) (c : Command) → Runs old c Accepted new → IsBehind old → RunsNoted old new c
-noted_run old new (using name site res) runs behind = goes_on (λ b a. refl) (owes_given old new _ _ _ runs.gives (λ binds. ap (λ (s : Session). s.untold) binds.rest) behind)
-noted_run old new (hold node res) runs behind = goes_on (λ b a. refl) (owes_given old new _ _ _ runs.gives (λ binds. ap (λ (s : Session). s.untold) binds.rest) behind)
-noted_run old new (open_node name site sort) runs behind = goes_on (λ b a. refl) (owes_given old new _ _ _ runs.gives (λ binds. ap (λ (s : Session). s.untold) binds.rest) behind)
-noted_run old new (lease res name) runs behind = goes_on (λ b a. refl) (owes_given old new _ _ _ runs.gives (λ binds. ap (λ (s : Session). s.untold) binds.rest) behind)
-noted_run old new (give_back name) runs behind = goes_on (λ b a. refl) (owes_given old new _ _ _ runs.gives (λ binds. ap (λ (s : Session). s.untold) binds.rest) behind)
+noted_run old new (using name site res) runs behind =
+    goes_on (λ b a. refl) (owes_given old new _ _ _ runs.gives (λ binds. ap (λ (s : Session). s.untold) binds.rest) behind)
+noted_run old new (hold node res) runs behind =
+    goes_on (λ b a. refl) (owes_given old new _ _ _ runs.gives (λ binds. ap (λ (s : Session). s.untold) binds.rest) behind)
+noted_run old new (open_node name site sort) runs behind =
+    goes_on (λ b a. refl) (owes_given old new _ _ _ runs.gives (λ binds. ap (λ (s : Session). s.untold) binds.rest) behind)
+noted_run old new (lease res name) runs behind =
+    goes_on (λ b a. refl) (owes_given old new _ _ _ runs.gives (λ binds. ap (λ (s : Session). s.untold) binds.rest) behind)
+noted_run old new (give_back name) runs behind =
+    goes_on (λ b a. refl) (owes_given old new _ _ _ runs.gives (λ binds. ap (λ (s : Session). s.untold) binds.rest) behind)
 noted_run old new (make_hub name mode) runs behind =
-    goes_on (λ b a. refl) (owes_given old new (Some (hub_request mode)) (is_some (hub_of old name)) (BindsHub old name) runs.gives (λ binds. ap (λ (s : Session). s.untold) binds.rest) behind)
-noted_run old new (connect hub name) runs behind = goes_on (λ b a. refl) (owes_given old new _ _ _ runs.gives (λ binds. ap (λ (s : Session). s.untold) binds.rest) behind)
+    goes_on (λ b a. refl) (owes_given old new (Some (hub_request mode)) (is_some (hub_of old name)) (BindsHub old name) runs.gives
+    (λ binds. ap (λ (s : Session). s.untold) binds.rest) behind)
+noted_run old new (connect hub name) runs behind =
+    goes_on (λ b a. refl) (owes_given old new _ _ _ runs.gives (λ binds. ap (λ (s : Session). s.untold) binds.rest) behind)
 noted_run old new (apply res word) runs behind = goes_on (λ b a. refl) (owes_carried old new _ runs behind)
 noted_run old new (remove res) runs behind = goes_on (λ b a. refl) (owes_carried old new _ runs behind)
 noted_run old new (next node value) runs behind = goes_on (λ b a. refl) (owes_carried old new _ runs behind)
@@ -125,7 +138,8 @@ noted_run old new checkpoint runs behind = begins (λ b a. refl) runs
 
 noted_takes : {a b : State} → Takes a b → GoesOnNoted a.history b.history
 noted_takes {a} none_taken = noted_none a.history
-noted_takes {a} {b} (one_taken mid r before accepts) = noted_on (noted_takes before) (noted_step mid.base mid.history b.history (take_request r).call accepts.step)
+noted_takes {a} {b} (one_taken mid r before accepts) =
+    noted_on (noted_takes before) (noted_step mid.base mid.history b.history (take_request r).call accepts.step)
 
 given_takes : {a b : State} → Takes a b → b.given ≡ a.given
 given_takes none_taken = refl
@@ -211,12 +225,14 @@ aged_behind old aged (renewed mid alike renews) behind = let none = renews.book.
 
 -- many lines ------------------------------------------------------------------------------------------
 
-all_balance : {first last : Session} {acts : List Act} → IsBehind first → (goes : GoesOn first acts last) → to_tell first ++ written_in goes ≡ told_in goes ++ to_tell last
+all_balance : {first last : Session} {acts : List Act} → IsBehind first → (goes : GoesOn first acts last) →
+    to_tell first ++ written_in goes ≡ told_in goes ++ to_tell last
 all_balance {first} behind no_line = append-nil (to_tell first)
 all_balance {first} {last} behind (one_line line text new sent rest) =
     let told : List Mail = told_by sent.aged new line text sent.acts sent.answer in
     let wrote : List Mail = written_by sent.aged new line text sent.acts sent.answer in
-    let one : Balances sent.aged new wrote told = answer_balances sent.aged new line text sent.acts (aged_behind first sent.aged sent.ages behind) sent.answer in
+    let one : Balances sent.aged new wrote told =
+    answer_balances sent.aged new line text sent.acts (aged_behind first sent.aged sent.ages behind) sent.answer in
     ap (λ (ms : List Mail). ms ++ (wrote ++ written_in rest)) (sym (aged_tells first sent.aged sent.ages))
     ∙ sym (append_assoc (to_tell sent.aged) wrote (written_in rest))
     ∙ ap (λ (ms : List Mail). ms ++ written_in rest) one.is

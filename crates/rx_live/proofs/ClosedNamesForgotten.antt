@@ -1,5 +1,6 @@
 -- Names of closed nodes are forgotten, one after another.
-use Rattle.std.proofs.Common.{◌≡◌, ℕ, ◌==◌, Bool, true, false, cond, List, [], ◌∷◌, ◌++◌, length, arith, Option, Some, None, option_map, refl, sym, ap, ◌∙◌, subst, inl, inr, ◌⊎◌, String, Global, string_bytes}
+use Rattle.std.proofs.Common.{◌≡◌, ℕ, ◌==◌, Bool, true, false, cond, List, [], ◌∷◌, ◌++◌, length, arith, Option, Some, None}
+use Rattle.std.proofs.Common.{option_map, refl, sym, ap, ◌∙◌, subst, inl, inr, ◌⊎◌, String, Global, string_bytes}
 use Rattle.std.specs.Prelude.{IfSome, is_some}
 use Rattle.std.specs.Bool.{nat_eq}
 use Rattle.std.specs.List.{list_any}
@@ -40,7 +41,8 @@ stands nodes number spot paired = by_name (name_of nodes number) refl where
       record { name = name; known = known; found = found; is = same_Some spot.number number number_is }
 
 -- one that has none
-pub left_nameless : (book : State) (nodes : Names) (number : ℕ) → IsPaired nodes → spot_at nodes number ≡ None → (name : Name) → name_of nodes number ≡ Some name → is_some (node_in book nodes name) ≡ true
+pub left_nameless : (book : State) (nodes : Names) (number : ℕ) → IsPaired nodes → spot_at nodes number ≡ None → (name : Name) →
+    name_of nodes number ≡ Some name → is_some (node_in book nodes name) ≡ true
 left_nameless book nodes number paired none name known =
     let nowhere : spot_of nodes name ≡ None = sym (ap (option_and_then (spot_of nodes)) known) ∙ none in
     let clash : None ≡ Some number = sym (ap (option_map (λ (s : Spot). s.number)) nowhere) ∙ paired.numbered number name known in
@@ -54,28 +56,35 @@ left_open book nodes number spot found alive name known =
 
 -- a closed one
 pub forgot_one : (book : State) (old new : Names) (number : ℕ) (spot : Spot) (result : Option (String Global)) → IsPaired old → spot_at old number ≡ Some spot →
-    has_key book.keys (key_at spot) ≡ false → option_map string_bytes result ≡ name_of old number → IfSome result (λ n. Forgets old number (string_bytes n) new) →
+    has_key book.keys (key_at spot) ≡ false → option_map string_bytes result ≡ name_of old number →
+    IfSome result (λ n. Forgets old number (string_bytes n) new) →
     AreOpenSame None book old new × (name_of new number ≡ None)
 forgot_one book old new number spot result paired found closed value some =
     let s = stands old number spot paired found in
     let forgets : Forgets old number s.name new = forgot old new number s.name result s.known value some in
-    let at_spot : Forgets old spot.number s.name new = subst (λ (k : ℕ). Forgets old k s.name new) (sym s.is) forgets in
-    (open_forgot None book old new s.name spot refl s.found closed at_spot, forgets.names number ∙ gone (number == number) (eq-eqb number number refl) (name_of old number))
+    let at_spot : Forgets old spot.number s.name new = subst (λ (k : ℕ). Forgets old k s.name new) (sym s.is) forgets in (
+      open_forgot None book old new s.name spot refl s.found closed at_spot,
+      forgets.names number ∙
+          gone (number == number) (eq-eqb number number refl) (name_of old number),
+    )
   where
     gone : (b : Bool) → b ≡ true → (o : Option Name) → cond b None o ≡ None
     gone true is o = refl
     gone false is o = absurd (cc)
 
-pub left_forgotten : (book : State) (nodes : Names) (number : ℕ) → name_of nodes number ≡ None → (name : Name) → name_of nodes number ≡ Some name → is_some (node_in book nodes name) ≡ true
+pub left_forgotten : (book : State) (nodes : Names) (number : ℕ) → name_of nodes number ≡ None → (name : Name) → name_of nodes number ≡ Some name →
+    is_some (node_in book nodes name) ≡ true
 left_forgotten book nodes number none name known = absurd (none-some name (sym none ∙ known))
 
 -- many ------------------------------------------------------------------------------------------------
 
 -- what has a name is open, or among the numbers that are still to be looked at
 abbrev pub AreLeft : State → Names → List ℕ → Type 0
-AreLeft book nodes numbers = (k : ℕ) (name : Name) → name_of nodes k ≡ Some name → (is_some (node_in book nodes name) ≡ true) ⊎ (list_any (nat_eq k) numbers ≡ true)
+AreLeft book nodes numbers =
+    (k : ℕ) (name : Name) → name_of nodes k ≡ Some name → (is_some (node_in book nodes name) ≡ true) ⊎ (list_any (nat_eq k) numbers ≡ true)
 
-pub left_all : (book : State) (nodes : Names) (numbers : List ℕ) → ((k : ℕ) → is_some (name_of nodes k) ≡ list_any (nat_eq k) numbers) → AreLeft book nodes numbers
+pub left_all : (book : State) (nodes : Names) (numbers : List ℕ) → ((k : ℕ) → is_some (name_of nodes k) ≡ list_any (nat_eq k) numbers) →
+    AreLeft book nodes numbers
 left_all book nodes numbers named k name known = inr (sym (named k) ∙ ap is_some known)
 
 or_cases : (a b : Bool) → (a || b) ≡ true → (a ≡ true) ⊎ (b ≡ true)
@@ -89,7 +98,8 @@ left_one book old new numbers n same mine left k name known = by_old (same.names
   by_place (inl there) = inr there
   by_place (inr here) = inl (mine name (ap (name_of new) (sym (eqb-true k n here)) ∙ known))
 
-  by_left : (is_some (node_in book old name) ≡ true) ⊎ (list_any (nat_eq k) (numbers ++ n ∷ []) ≡ true) → (is_some (node_in book new name) ≡ true) ⊎ (list_any (nat_eq k) numbers ≡ true)
+  by_left : (is_some (node_in book old name) ≡ true) ⊎ (list_any (nat_eq k) (numbers ++ n ∷ []) ≡ true) →
+      (is_some (node_in book new name) ≡ true) ⊎ (list_any (nat_eq k) numbers ≡ true)
   by_left (inl alive) = inl (ap is_some (same.nodes name) ∙ alive)
   by_left (inr there) = by_place (or_cases (list_any (nat_eq k) numbers) (nat_eq k n) (sym (list_any_push (nat_eq k) numbers n) ∙ there))
 

@@ -1,5 +1,6 @@
 -- Names that are released one after another.
-use Rattle.std.proofs.Common.{◌≡◌, ℕ, ◌≤◌, ◌==◌, zero, suc, Bool, true, false, cond, List, [], ◌∷◌, ◌++◌, codes, length, map, Option, Some, None, option_map, refl, sym, ap, ◌∙◌, arith, subst, String, Global, string_bytes}
+use Rattle.std.proofs.Common.{◌≡◌, ℕ, ◌≤◌, ◌==◌, zero, suc, Bool, true, false, cond, List, [], ◌∷◌, ◌++◌, codes, length, map}
+use Rattle.std.proofs.Common.{Option, Some, None, option_map, refl, sym, ap, ◌∙◌, arith, subst, String, Global, string_bytes}
 use Rattle.std.specs.Prelude.{IfSome, IfNone, is_some, IsTrue}
 use Rattle.std.proofs.Math.Bool.{not, ◌&&◌, ◌||◌}
 use Rattle.std.specs.Str.{bytes_eq}
@@ -55,14 +56,19 @@ contains_number number ls l r within is = subst (λ (n : ℕ). Contains (map num
 
 pub waiting_named : (s : Session) (r : ℕ) → IsSound s → Contains (map (λ l. l.number) s.book.waiting) r → is_some (name_of s.resources r) ≡ true
 waiting_named s r sound member =
-    sound.resources r ∙ waiting_kept s.book.history r (All-contains (λ (n : ℕ). IsTrue (is_waiting s.book.history n)) (map (λ l. l.number) s.book.waiting) r sound.kept.waiting.each member)
+    sound.resources r ∙
+    waiting_kept s.book.history r
+    (All-contains (λ (n : ℕ). IsTrue (is_waiting s.book.history n)) (map (λ l. l.number) s.book.waiting) r sound.kept.waiting.each member)
 
-pub never_none : (result : Option (String Global)) (named : Option Name) (P : Type 0) → option_map string_bytes result ≡ named → is_some named ≡ true → IfNone result P
+pub never_none : (result : Option (String Global)) (named : Option Name) (P : Type 0) → option_map string_bytes result ≡ named → is_some named ≡ true →
+    IfNone result P
 never_none None named P value some = let e : false ≡ true = ap is_some value ∙ some in absurd (cc)
 never_none (Some n) named P value some = tt
 
-pub taken_sound : (s : Session) (book : State) (q : ℕ) (t : Names) (result : Option (String Global)) → IsSound s → IsPromised book → IsPaired t → Accepts s.book (take_request q) book →
-    is_some (name_of s.resources q) ≡ true → option_map string_bytes result ≡ name_of s.resources q → IfSome result (λ n. Forgets s.resources q (string_bytes n) t) →
+pub taken_sound : (s : Session) (book : State) (q : ℕ) (t : Names) (result : Option (String Global)) → IsSound s → IsPromised book → IsPaired t →
+    Accepts s.book (take_request q) book →
+    is_some (name_of s.resources q) ≡ true → option_map string_bytes result ≡ name_of s.resources q →
+    IfSome result (λ n. Forgets s.resources q (string_bytes n) t) →
     IsSound (record s { book = book; resources = t })
 taken_sound s book q t None sound kept paired accepts named value forgets = let e : false ≡ true = ap is_some value ∙ named in absurd (cc)
 taken_sound s book q t (Some n) sound kept paired accepts named value forgets =
@@ -106,28 +112,36 @@ or_none true b p = refl
 or_none false b p = p
 
 -- the name of a resource that was taken before
-pub dropped_unnamed : (s : Session) (name : Name) (rest : Option Name) → IsSound s → s.unnamed ≡ Some name → rest ≡ None → DropsName s name (record s { unnamed = rest })
+pub dropped_unnamed : (s : Session) (name : Name) (rest : Option Name) → IsSound s → s.unnamed ≡ Some name → rest ≡ None →
+    DropsName s name (record s { unnamed = rest })
 dropped_unnamed s name rest sound is none = record {
-  was = or_true (is_some (spot_of s.resources name)) _ (ap (λ (o : Option Name). option_map_or (bytes_eq name) o false) is ∙ (bytes_eq-Decides name name).1 refl);
+  was =
+      or_true (is_some (spot_of s.resources name)) _
+      (ap (λ (o : Option Name). option_map_or (bytes_eq name) o false) is ∙ (bytes_eq-Decides name name).1 refl);
   held = λ n. by_name n (bytes_eq name n) refl;
   free = free;
   gone = none;
   takes = none_taken;
   rest = refl;
   fewer = let one : ◌≡◌ {A = ℕ} (option_map_or (λ (n : Name). 1) s.unnamed 0) 1 = ap (λ (o : Option Name). option_map_or (λ (n : Name). 1) o 0) is in
-      let none_there : ◌≡◌ {A = ℕ} (option_map_or (λ (n : Name). 1) rest 0) 0 = ap (λ (o : Option Name). option_map_or (λ (n : Name). 1) o 0) none in omega (arith, one, none_there);
+      let none_there : ◌≡◌ {A = ℕ} (option_map_or (λ (n : Name). 1) rest 0) 0 = ap (λ (o : Option Name). option_map_or (λ (n : Name). 1) o 0) none in
+      omega (arith, one, none_there);
 } where
   free : spot_of s.resources name ≡ None
   free = sound.unnamed name is
 
-  by_name : (n : Name) (b : Bool) → bytes_eq name n ≡ b → (is_some (spot_of s.resources n) || option_map_or (bytes_eq n) rest false) ≡ cond (bytes_eq name n) false (has_resource s n)
+  by_name : (n : Name) (b : Bool) → bytes_eq name n ≡ b →
+      (is_some (spot_of s.resources n) || option_map_or (bytes_eq n) rest false) ≡ cond (bytes_eq name n) false (has_resource s n)
   by_name n true same =
       let there : spot_of s.resources n ≡ None = ap (spot_of s.resources) (sym ((bytes_eq-Decides name n).0 same)) ∙ free in
       (λ i. is_some (there i) || option_map_or (bytes_eq n) (none i) false) ∙ sym (ap (λ (b : Bool). cond b false (has_resource s n)) same)
   by_name n false apart =
-      let other : option_map_or (bytes_eq n) s.unnamed false ≡ false = ap (λ (o : Option Name). option_map_or (bytes_eq n) o false) is ∙ apart_sym name n apart in
+      let other : option_map_or (bytes_eq n) s.unnamed false ≡ false =
+      ap (λ (o : Option Name). option_map_or (bytes_eq n) o false) is ∙ apart_sym name n apart in
       let gone : option_map_or (bytes_eq n) rest false ≡ false = ap (λ (o : Option Name). option_map_or (bytes_eq n) o false) none in
-      or_none (is_some (spot_of s.resources n)) _ gone ∙ sym (or_none (is_some (spot_of s.resources n)) _ other) ∙ sym (ap (λ (b : Bool). cond b false (has_resource s n)) apart)
+      or_none (is_some (spot_of s.resources n)) _ gone ∙
+      sym (or_none (is_some (spot_of s.resources n)) _ other) ∙
+      sym (ap (λ (b : Bool). cond b false (has_resource s n)) apart)
 
 known_spot : (s : Session) (number : ℕ) (name : Name) → IsSound s → name_of s.resources number ≡ Some name → is_some (spot_of s.resources name) ≡ true
 known_spot s number name sound known = by_spot (spot_of s.resources name) (sound.resource_pairs.numbered number name known) where
@@ -150,7 +164,8 @@ dropped_one s new name none sound taken = record {
   rest = taken.rest ∙ (λ i. record s { book = new.book; resources = new.resources; unnamed = (none ∙ sym unnamed) i });
   fewer = let fewer = taken.fewer in
       let before : ◌≡◌ {A = ℕ} (option_map_or (λ (n : Name). 1) s.unnamed 0) 0 = ap (λ (o : Option Name). option_map_or (λ (n : Name). 1) o 0) none in
-      let after : ◌≡◌ {A = ℕ} (option_map_or (λ (n : Name). 1) new.unnamed 0) 0 = ap (λ (o : Option Name). option_map_or (λ (n : Name). 1) o 0) unnamed in omega (arith, before, after);
+      let after : ◌≡◌ {A = ℕ} (option_map_or (λ (n : Name). 1) new.unnamed 0) 0 = ap (λ (o : Option Name). option_map_or (λ (n : Name). 1) o 0) unnamed in
+      omega (arith, before, after);
 } where
   unnamed : new.unnamed ≡ None
   unnamed = ap (λ (t : Session). t.unnamed) taken.rest ∙ none
@@ -166,7 +181,8 @@ dropped_one s new name none sound taken = record {
       gone_spot true o = refl
       gone_spot false o = refl
 
-pub dropped_taken : (s mid new : Session) (result : Option (String Global)) → mid ≡ s → s.unnamed ≡ None → IsSound s → IfSome result (λ n. TakesName mid (string_bytes n) new) →
+pub dropped_taken : (s mid new : Session) (result : Option (String Global)) → mid ≡ s → s.unnamed ≡ None → IsSound s →
+    IfSome result (λ n. TakesName mid (string_bytes n) new) →
     IfSome result (λ n. DropsName s (string_bytes n) new)
 dropped_taken s mid new None same none sound taken = tt
 dropped_taken s mid new (Some n) same none sound taken =
@@ -174,7 +190,8 @@ dropped_taken s mid new (Some n) same none sound taken =
 
 pub wrote_no_name : (s new : Session) (begun : List ℕ) → new ≡ s → s.book.waiting ≡ [] → WritesNoName s begun new begun
 wrote_no_name s new begun same none =
-    subst (λ (t : Session). WritesNoName s begun t begun) (sym same) (record { held = λ n. refl; takes = none_taken; all = λ told. none; rest = refl; written = refl })
+    subst (λ (t : Session). WritesNoName s begun t begun) (sym same)
+    (record { held = λ n. refl; takes = none_taken; all = λ told. none; rest = refl; written = refl })
 
 -- many ------------------------------------------------------------------------------------------------
 
@@ -182,7 +199,8 @@ takes_on : {a b c : State} → Takes a b → Takes b c → Takes a c
 takes_on p none_taken = p
 takes_on p (one_taken mid r before accepts) = one_taken mid r (takes_on p before) accepts
 
-names_rest : (a b c : Session) → b ≡ record a { book = b.book; resources = b.resources; unnamed = b.unnamed } → c ≡ record b { book = c.book; resources = c.resources; unnamed = c.unnamed } →
+names_rest : (a b c : Session) → b ≡ record a { book = b.book; resources = b.resources; unnamed = b.unnamed } →
+    c ≡ record b { book = c.book; resources = c.resources; unnamed = c.unnamed } →
     c ≡ record a { book = c.book; resources = c.resources; unnamed = c.unnamed }
 names_rest a b c p q = q ∙ ap (λ (s : Session). record s { book = c.book; resources = c.resources; unnamed = c.unnamed }) p
 
@@ -197,7 +215,8 @@ names_begun old now begun text one = record {
   written = one.written ∙ ap (λ (t : List ℕ). begun ++ codes ",\"release\":[" ++ t) (sym (append-nil (name_text one.name)));
 }
 
-pub names_more : (old mid now : Session) (begun before text : List ℕ) → AreNamesWritten old begun mid before → WritesName mid before (codes ",") now text → AreNamesWritten old begun now text
+pub names_more : (old mid now : Session) (begun before text : List ℕ) → AreNamesWritten old begun mid before → WritesName mid before (codes ",") now text →
+    AreNamesWritten old begun now text
 names_more old mid now begun before text so_far one =
     let all = so_far.first ∷ so_far.more in
     record {
@@ -212,13 +231,16 @@ names_more old mid now begun before text so_far one =
       written = one.written ∙ array_more name_text begun (codes ",\"release\":[") so_far.first so_far.more one.name before so_far.written;
     }
 
-pub names_ended : (old mid now : Session) (begun before text : List ℕ) → AreNamesWritten old begun mid before → WritesNoName mid before now text → WritesNames old begun now (text ++ codes "]")
+pub names_ended : (old mid now : Session) (begun before text : List ℕ) → AreNamesWritten old begun mid before → WritesNoName mid before now text →
+    WritesNames old begun now (text ++ codes "]")
 names_ended old mid now begun before text so_far none =
     let all = so_far.first ∷ so_far.more in
     record {
       names = all;
       releases = record {
-        leads = subst (λ (acts : List Act). Leads (has_resource old) acts (has_resource now)) (append-nil (map released all)) (leads_on so_far.releases.leads (no_act none.held));
+        leads =
+            subst (λ (acts : List Act). Leads (has_resource old) acts (has_resource now)) (append-nil (map released all))
+            (leads_on so_far.releases.leads (no_act none.held));
         takes = takes_on so_far.releases.takes none.takes;
         rest = names_rest old mid now so_far.releases.rest none.rest;
       };

@@ -1,5 +1,6 @@
 -- What an event of one sort makes and one of another takes away, and what a step of the book leaves of it.
-use Rattle.std.proofs.Common.{◌≡◌, ℕ, ◌+◌, ◌<◌, ◌≤◌, Bool, true, false, List, [], ◌∷◌, ◌++◌, length, map, cond, refl, sym, ap, ◌∙◌, arith, inl, inr, ◌⊎◌, ◌==◌, append_assoc, length-append, slice_get}
+use Rattle.std.proofs.Common.{◌≡◌, ℕ, ◌+◌, ◌<◌, ◌≤◌, Bool, true, false, List, [], ◌∷◌, ◌++◌, length, map, cond, refl}
+use Rattle.std.proofs.Common.{sym, ap, ◌∙◌, arith, inl, inr, ◌⊎◌, ◌==◌, append_assoc, length-append, slice_get}
 use Rattle.std.proofs.Math.Bool.{not, ◌&&◌, ◌||◌}
 use Rattle.std.specs.List.{list_any, list_all}
 use Rattle.std.specs.Option.{option_map_or}
@@ -15,7 +16,8 @@ use Rattle.rx_event.specs.Tree.{at, open_connections}
 use Rattle.rx_event.specs.Resources.{is_out}
 use Rattle.rx_event.specs.Lawful.{IsLawful, IsForcedOn, stays, more}
 use Rattle.rx_event.specs.Calls.{Call, outside_of, IsStepOf}
-use Rattle.rx_event.specs.Calls.{Opening, OpeningUsing, Holding, Applying, Removing, Leasing, GivingBack, Emitting, Ending, Aborting, Declining, Failing, Disposing, Publishing, Connecting, Disconnecting, Taking}
+use Rattle.rx_event.specs.Calls.{Opening, OpeningUsing, Holding, Applying, Removing, Leasing, GivingBack, Emitting, Ending}
+use Rattle.rx_event.specs.Calls.{Aborting, Declining, Failing, Disposing, Publishing, Connecting, Disconnecting, Taking}
 use Rattle.rx_event.proofs.Laws.Places.{slice_get_last, at-append, at_within}
 use Rattle.rx_event.proofs.Laws.Waits.{at_before}
 use Rattle.rx_event.proofs.Laws.Searches.{list_any_push}
@@ -71,7 +73,9 @@ module _ (made : Event → Bool) (gone : ℕ → Event → Bool) (plain : Event 
   lasts_all : (h es : List Event) → list_all plain es ≡ true → (n : ℕ) → lasts made gone (h ++ es) n ≡ lasts made gone h n
   lasts_all h [] p n = ap (λ (k : List Event). lasts made gone k n) (append-nil h)
   lasts_all h (e ∷ es) p n =
-      ap (λ (k : List Event). lasts made gone k n) (sym (append_assoc h (e ∷ []) es)) ∙ lasts_all (h ++ e ∷ []) es (and_parts _ _ p).1 n ∙ lasts_plain h e (and_parts _ _ p).0 n
+      ap (λ (k : List Event). lasts made gone k n) (sym (append_assoc h (e ∷ []) es)) ∙
+      lasts_all (h ++ e ∷ []) es (and_parts _ _ p).1 n ∙
+      lasts_plain h e (and_parts _ _ p).0 n
 
   lasts_forced : (base : Kept) → {h k : List Event} → IsForcedOn base h k → (n : ℕ) → lasts made gone k n ≡ lasts made gone h n
   lasts_forced base stays n = refl
@@ -92,7 +96,8 @@ module _ (made : Event → Bool) (gone : ℕ → Event → Bool) (plain : Event 
   all_closed (c ∷ cs) = ap (λ (b : Bool). b && list_all plain (map (λ d. Close d) cs)) (closes c) ∙ all_closed cs
 
 -- one more is made
-lasts_made : (made : Event → Bool) (gone : ℕ → Event → Bool) (h : List Event) (e : Event) → made e ≡ true → ((n : ℕ) → gone n e ≡ false) → list_any (gone (length h)) h ≡ false →
+lasts_made : (made : Event → Bool) (gone : ℕ → Event → Bool) (h : List Event) (e : Event) → made e ≡ true → ((n : ℕ) → gone n e ≡ false) →
+    list_any (gone (length h)) h ≡ false →
     (n : ℕ) → lasts made gone (h ++ e ∷ []) n ≡ cond (length h == n) true (lasts made gone h n)
 lasts_made made gone h e makes keeps fresh n = by_test (length h == n) refl where
   any : list_any (gone n) (h ++ e ∷ []) ≡ list_any (gone n) h
@@ -112,7 +117,8 @@ lasts_made made gone h e makes keeps fresh n = by_test (length h == n) refl wher
 lasts_gone : (made : Event → Bool) (gone : ℕ → Event → Bool) (h : List Event) (e : Event) (q : ℕ) → made e ≡ false → ((n : ℕ) → gone n e ≡ (q == n)) →
     (n : ℕ) → lasts made gone (h ++ e ∷ []) n ≡ cond (q == n) false (lasts made gone h n)
 lasts_gone made gone h e q makes takes n =
-    let any : list_any (gone n) (h ++ e ∷ []) ≡ (list_any (gone n) h || (q == n)) = list_any_push (gone n) h e ∙ ap (λ (b : Bool). list_any (gone n) h || b) (takes n) in
+    let any : list_any (gone n) (h ++ e ∷ []) ≡ (list_any (gone n) h || (q == n)) =
+    list_any_push (gone n) h e ∙ ap (λ (b : Bool). list_any (gone n) h || b) (takes n) in
     (λ i. at_same made h e n makes i && not (any i)) ∙ shape (at made h n) (list_any (gone n) h) (q == n)
   where
     shape : (a b c : Bool) → (a && not (b || c)) ≡ cond c false (a && not b)
@@ -186,7 +192,8 @@ resources_outside : (h : List Event) (call : Call) → keeps_resources call ≡ 
 resources_outside h (OpeningUsing place tag) p = p
 resources_outside h (Holding node tag) p = p
 resources_outside h (Taking r) p = p
-resources_outside h (Disconnecting g) p = all_closed makes_resource is_take_of plain_for_resources accepts_none takes_none resource_forced (λ c. refl) (open_connections h g)
+resources_outside h (Disconnecting g) p =
+    all_closed makes_resource is_take_of plain_for_resources accepts_none takes_none resource_forced (λ c. refl) (open_connections h g)
 resources_outside h (Opening place kind) p = refl
 resources_outside h (Applying r) p = refl
 resources_outside h (Removing r) p = refl
@@ -204,7 +211,8 @@ resources_outside h (Connecting g) p = refl
 leases_outside : (h : List Event) (call : Call) → keeps_leases call ≡ true → list_all plain_for_leases (outside_of h call) ≡ true
 leases_outside h (Leasing r) p = p
 leases_outside h (GivingBack l) p = p
-leases_outside h (Disconnecting g) p = all_closed makes_lease is_return_of plain_for_leases leases_none returns_none lease_forced (λ c. refl) (open_connections h g)
+leases_outside h (Disconnecting g) p =
+    all_closed makes_lease is_return_of plain_for_leases leases_none returns_none lease_forced (λ c. refl) (open_connections h g)
 leases_outside h (OpeningUsing place tag) p = refl
 leases_outside h (Holding node tag) p = refl
 leases_outside h (Taking r) p = refl
@@ -224,7 +232,8 @@ leases_outside h (Connecting g) p = refl
 pub kept_same : (base : Kept) → (h k : List Event) (call : Call) → IsStepOf base h call k → keeps_resources call ≡ true → (r : ℕ) → is_kept k r ≡ is_kept h r
 unfolding is_kept
 kept_same base h k call step plain r =
-    lasts_step makes_resource is_take_of plain_for_resources accepts_none takes_none resource_forced (λ c. refl) base h k call step (resources_outside h call plain) r
+    lasts_step makes_resource is_take_of plain_for_resources accepts_none takes_none resource_forced (λ c. refl) base h k call step
+    (resources_outside h call plain) r
 
 pub out_same : (base : Kept) → (h k : List Event) (call : Call) → IsStepOf base h call k → keeps_leases call ≡ true → (l : ℕ) → is_out k l ≡ is_out h l
 unfolding is_out
@@ -239,10 +248,12 @@ kept_taken base h k q step r =
     ∙ lasts_gone makes_resource is_take_of h (Take q) q refl (λ n. refl) r
 
 -- one that accepts a resource
-pub kept_held : (base : Kept) → (h k : List Event) (node tag : ℕ) → IsLawful base h → IsStepOf base h (Holding node tag) k → (r : ℕ) → is_kept k r ≡ cond (length h == r) true (is_kept h r)
+pub kept_held : (base : Kept) → (h k : List Event) (node tag : ℕ) → IsLawful base h → IsStepOf base h (Holding node tag) k → (r : ℕ) →
+    is_kept k r ≡ cond (length h == r) true (is_kept h r)
 unfolding is_kept
 kept_held base h k node tag law step r =
-    lasts_one makes_resource is_take_of plain_for_resources accepts_none takes_none resource_forced (λ c. refl) base h k (Accept node tag) (Holding node tag) step refl r
+    lasts_one makes_resource is_take_of plain_for_resources accepts_none takes_none resource_forced (λ c. refl) base h k (Accept node tag) (Holding node tag)
+    step refl r
     ∙ lasts_made makes_resource is_take_of h (Accept node tag) refl (λ n. refl) (no_take base h law (length h) (omega arith)) r
 
 -- one that accepts a resource with a node of its own
@@ -259,10 +270,13 @@ kept_used base h k place tag law step r =
     lasts_forced makes_resource is_take_of plain_for_resources accepts_none takes_none resource_forced (λ c. refl) base step.forced r
     ∙ ap (λ (es : List Event). lasts makes_resource is_take_of es r) both
     ∙ lasts_made makes_resource is_take_of opened accept refl (λ n. refl) untaken r
-    ∙ (λ i. cond (longer i == r) true (lasts_plain makes_resource is_take_of plain_for_resources accepts_none takes_none resource_forced (λ c. refl) h (Open place Pass) refl r i))
+    ∙
+    (λ i. cond (longer i == r) true
+    (lasts_plain makes_resource is_take_of plain_for_resources accepts_none takes_none resource_forced (λ c. refl) h (Open place Pass) refl r i))
 
 -- one that gives a lease out, and one that takes it back
-pub out_leased : (base : Kept) → (h k : List Event) (q : ℕ) → IsLawful base h → IsStepOf base h (Leasing q) k → (l : ℕ) → is_out k l ≡ cond (length h == l) true (is_out h l)
+pub out_leased : (base : Kept) → (h k : List Event) (q : ℕ) → IsLawful base h → IsStepOf base h (Leasing q) k → (l : ℕ) →
+    is_out k l ≡ cond (length h == l) true (is_out h l)
 unfolding is_out
 out_leased base h k q law step l =
     lasts_one makes_lease is_return_of plain_for_leases leases_none returns_none lease_forced (λ c. refl) base h k (Lease q) (Leasing q) step refl l
@@ -278,5 +292,6 @@ out_returned base h k q step l =
 pub kept_past : (h : List Event) (r : ℕ) → length h ≤ r → is_kept h r ≡ false
 unfolding is_kept
 kept_past h r past =
-    let none : at makes_resource h r ≡ false = false_from_ne_true (at makes_resource h r) (λ there. let w = at_within makes_resource h r there in omega arith) in
+    let none : at makes_resource h r ≡ false =
+    false_from_ne_true (at makes_resource h r) (λ there. let w = at_within makes_resource h r there in omega arith) in
     ap (λ (b : Bool). b && not (list_any (is_take_of r) h)) none

@@ -129,18 +129,21 @@ module _ (s : Session) (sound : IsSound s) where
         ap not (lt_other spot.number k (λ same. none-some n (sym none ∙ ap (name_of s.resources) (sym same) ∙ sound.resource_pairs.named n spot found)))
 
   -- one with a name
-  name_spot : (k : ℕ) (name : Name) → name_of s.resources k ≡ Some name → (n : Name) (spot : Spot) → spot_of s.resources n ≡ Some spot → spot.number ≡ k → name ≡ n
+  name_spot : (k : ℕ) (name : Name) → name_of s.resources k ≡ Some name → (n : Name) (spot : Spot) → spot_of s.resources n ≡ Some spot → spot.number ≡ k →
+      name ≡ n
   name_spot k name known n spot found same = same_Some name n (sym known ∙ ap (name_of s.resources) (sym same) ∙ sound.resource_pairs.named n spot found)
 
   here : (k : ℕ) (name : Name) → name_of s.resources k ≡ Some name → bound_from s k name ≡ true
   here k name known = by_spot (spot_of s.resources name) (sound.resource_pairs.numbered k name known) where
-    by_spot : (o : Option Spot) → option_map (λ (spot : Spot). spot.number) o ≡ Some k → option_map_or (λ (spot : Spot). not (nat_lt spot.number k)) o false ≡ true
+    by_spot : (o : Option Spot) → option_map (λ (spot : Spot). spot.number) o ≡ Some k →
+        option_map_or (λ (spot : Spot). not (nat_lt spot.number k)) o false ≡ true
     by_spot None is = absurd (none-some k is)
     by_spot (Some spot) is = let number : spot.number ≡ k = same_Some spot.number k is in ap not (le-ltb spot.number k (omega arith))
 
   gone_here : (k : ℕ) (name : Name) → name_of s.resources k ≡ Some name → bound_from s (suc k) name ≡ false
   gone_here k name known = by_spot (spot_of s.resources name) (sound.resource_pairs.numbered k name known) where
-    by_spot : (o : Option Spot) → option_map (λ (spot : Spot). spot.number) o ≡ Some k → option_map_or (λ (spot : Spot). not (nat_lt spot.number (suc k))) o false ≡ false
+    by_spot : (o : Option Spot) → option_map (λ (spot : Spot). spot.number) o ≡ Some k →
+        option_map_or (λ (spot : Spot). not (nat_lt spot.number (suc k))) o false ≡ false
     by_spot None is = refl
     by_spot (Some spot) is = let number : spot.number ≡ k = same_Some spot.number k is in ap not (lt-ltb spot.number (suc k) (omega (arith, add-one k)))
 
@@ -148,13 +151,16 @@ module _ (s : Session) (sound : IsSound s) where
   some_step k name known n = by_name (bytes_eq name n) refl where
     by_name : (b : Bool) → bytes_eq name n ≡ b → bound_from s (suc k) n ≡ cond (bytes_eq name n) false (bound_from s k n)
     by_name true same =
-        ap (bound_from s (suc k)) (sym ((bytes_eq-Decides name n).0 same)) ∙ gone_here k name known ∙ sym (ap (λ (b : Bool). cond b false (bound_from s k n)) same)
+        ap (bound_from s (suc k)) (sym ((bytes_eq-Decides name n).0 same)) ∙
+        gone_here k name known ∙
+        sym (ap (λ (b : Bool). cond b false (bound_from s k n)) same)
     by_name false apart = by_spot (spot_of s.resources n) refl ∙ sym (ap (λ (b : Bool). cond b false (bound_from s k n)) apart) where
       by_spot : (o : Option Spot) → spot_of s.resources n ≡ o →
           option_map_or (λ (spot : Spot). not (nat_lt spot.number (suc k))) o false ≡ option_map_or (λ (spot : Spot). not (nat_lt spot.number k)) o false
       by_spot None found = refl
       by_spot (Some spot) found =
-          ap not (lt_other spot.number k (λ same. (let e : false ≡ true = sym apart ∙ (bytes_eq-Decides name n).1 (name_spot k name known n spot found same) in absurd (cc))))
+          ap not (lt_other spot.number k
+          (λ same. (let e : false ≡ true = sym apart ∙ (bytes_eq-Decides name n).1 (name_spot k name known n spot found same) in absurd (cc))))
 
   leads_one : (k : ℕ) (o : Option Name) → name_of s.resources k ≡ o → Leads (bound_from s k) (map released (option_to_list o)) (bound_from s (suc k))
   leads_one k None none = no_act (none_step k none)
@@ -163,7 +169,8 @@ module _ (s : Session) (sound : IsSound s) where
   leads_below : (k : ℕ) → Leads (bound_from s 0) (map released (names_below s k)) (bound_from s k)
   leads_below zero = no_act (λ n. refl)
   leads_below (suc k) =
-      subst (λ (acts : List Act). Leads (bound_from s 0) acts (bound_from s (suc k))) (sym (map-append released (names_below s k) (option_to_list (name_of s.resources k))))
+      subst (λ (acts : List Act). Leads (bound_from s 0) acts (bound_from s (suc k)))
+      (sym (map-append released (names_below s k) (option_to_list (name_of s.resources k))))
       (leads_on (leads_below k) (leads_one k (name_of s.resources k) refl))
 
   from_zero : (n : Name) → bound_from s 0 n ≡ is_some (spot_of s.resources n)
@@ -184,18 +191,23 @@ module _ (s : Session) (sound : IsSound s) where
           let there : is_kept s.book.history spot.number ≡ true = sym (sound.resources spot.number) ∙ ap is_some (sound.resource_pairs.named n spot found) in
           let e : false ≡ true = sym gone ∙ there in absurd (cc)
 
-  leads_bound : (held : Name → Bool) → ((n : Name) → is_some (spot_of s.resources n) ≡ held n) → Leads held (map released (names_below s (length s.book.history))) (λ n. false)
+  leads_bound : (held : Name → Bool) → ((n : Name) → is_some (spot_of s.resources n) ≡ held n) →
+      Leads held (map released (names_below s (length s.book.history))) (λ n. false)
   leads_bound held same =
       let start : (n : Name) → bound_from s 0 n ≡ held n = λ n. from_zero n ∙ same n in
-      let all = leads_same held (bound_from s 0) (bound_from s (length s.book.history)) (map released (names_below s (length s.book.history))) start (leads_below (length s.book.history)) in
+      let all =
+      leads_same held (bound_from s 0) (bound_from s (length s.book.history)) (map released (names_below s (length s.book.history))) start
+      (leads_below (length s.book.history)) in
       subst (λ (last : Name → Bool). Leads held (map released (names_below s (length s.book.history))) last) (λ i n. none_left n i) all
 
-  by_unnamed : (o : Option Name) → s.unnamed ≡ o → Leads (has_resource s) (map released (option_to_list o ++ names_below s (length s.book.history))) (λ n. false)
+  by_unnamed : (o : Option Name) → s.unnamed ≡ o →
+      Leads (has_resource s) (map released (option_to_list o ++ names_below s (length s.book.history))) (λ n. false)
   by_unnamed None none =
       leads_bound (has_resource s) (λ n. sym (or_none (is_some (spot_of s.resources n)) _ (ap (λ (o : Option Name). option_map_or (bytes_eq n) o false) none)))
   by_unnamed (Some name) is =
       let drops = dropped_unnamed s name None sound is refl in
-      releases name drops.was (leads_bound (with_held false name (has_resource s)) (λ n. sym (or_none (is_some (spot_of s.resources n)) false refl) ∙ drops.held n))
+      releases name drops.was
+      (leads_bound (with_held false name (has_resource s)) (λ n. sym (or_none (is_some (spot_of s.resources n)) false refl) ∙ drops.held n))
 
   pub leads_all : Leads (has_resource s) (map released (all_names s)) (λ n. false)
   leads_all = by_unnamed s.unnamed refl

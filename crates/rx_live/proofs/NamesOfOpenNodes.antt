@@ -25,7 +25,8 @@ pub no_node : (book : State) (t : Names) (name : Name) → spot_of t name ≡ No
 unfolding node_in
 no_node book t name none = ap (option_and_then (λ (s : Spot). if_open book (key_at s))) none
 
-pub node_found : (book : State) (t : Names) (name : Name) (s : Spot) (b : Bool) → spot_of t name ≡ Some s → has_key book.keys (key_at s) ≡ b → is_some (node_in book t name) ≡ b
+pub node_found : (book : State) (t : Names) (name : Name) (s : Spot) (b : Bool) → spot_of t name ≡ Some s → has_key book.keys (key_at s) ≡ b →
+    is_some (node_in book t name) ≡ b
 unfolding node_in
 node_found book t name s true found is = ap (λ (o : Option Spot). is_some (option_and_then (λ (p : Spot). if_open book (key_at p)) o)) found ∙ rw is refl
 node_found book t name s false found is = ap (λ (o : Option Spot). is_some (option_and_then (λ (p : Spot). if_open book (key_at p)) o)) found ∙ rw is refl
@@ -47,11 +48,13 @@ is_late_name false false is = is
 pub unbound_name : (untold : Option Mail) (book : State) (t : Names) (name : Name) → spot_of t name ≡ None → is_node_in untold book t name ≡ false
 unbound_name untold book t name none = (λ i. is_some (no_node book t name none i) || (is_some untold && is_some (none i))) ∙ no_late (is_some untold)
 
-pub late_name : (untold : Option Mail) (book : State) (t : Names) (name : Name) (s : Spot) → spot_of t name ≡ Some s → is_some untold ≡ true → is_node_in untold book t name ≡ true
+pub late_name : (untold : Option Mail) (book : State) (t : Names) (name : Name) (s : Spot) → spot_of t name ≡ Some s → is_some untold ≡ true →
+    is_node_in untold book t name ≡ true
 late_name untold book t name s found late =
     (λ i. is_some (node_in book t name) || (is_some untold && is_some (found i))) ∙ is_late_name (is_some (node_in book t name)) (is_some untold) late
 
-pub known_name : (untold : Option Mail) (book : State) (t : Names) (name : Name) (s : Spot) (b : Bool) → spot_of t name ≡ Some s → is_some untold ≡ false → has_key book.keys (key_at s) ≡ b →
+pub known_name : (untold : Option Mail) (book : State) (t : Names) (name : Name) (s : Spot) (b : Bool) → spot_of t name ≡ Some s → is_some untold ≡ false →
+    has_key book.keys (key_at s) ≡ b →
     is_node_in untold book t name ≡ b
 known_name untold book t name s b found told is =
     (λ i. node_found book t name s b found is i || (told i && is_some (spot_of t name))) ∙ or_nothing b where
@@ -73,13 +76,18 @@ either_same a b c is (inl same) = inl (is ∙ same)
 either_same a b c is (inr none) = inr (is ∙ none)
 
 -- as the name of a closed node is forgotten
-pub open_forgot : (untold : Option Mail) (book : State) (old new : Names) (name : Name) (s : Spot) → is_some untold ≡ false → spot_of old name ≡ Some s → has_key book.keys (key_at s) ≡ false →
+pub open_forgot : (untold : Option Mail) (book : State) (old new : Names) (name : Name) (s : Spot) → is_some untold ≡ false → spot_of old name ≡ Some s →
+    has_key book.keys (key_at s) ≡ false →
     Forgets old s.number name new → AreOpenSame untold book old new
 open_forgot untold book old new name s told found closed forgets = record {
   kept = λ late. (let e : false ≡ true = sym told ∙ late in absurd (cc));
   nodes = λ n. by_name n (bytes_eq name n) refl;
-  spots = λ n. either_same (spot_of new n) (cond (bytes_eq name n) None (spot_of old n)) (spot_of old n) (forgets.spots n) (cond_either (bytes_eq name n) (spot_of old n));
-  names = λ n. either_same (name_of new n) (cond (s.number == n) None (name_of old n)) (name_of old n) (forgets.names n) (cond_either (s.number == n) (name_of old n));
+  spots =
+      λ n. either_same (spot_of new n) (cond (bytes_eq name n) None (spot_of old n)) (spot_of old n) (forgets.spots n)
+      (cond_either (bytes_eq name n) (spot_of old n));
+  names =
+      λ n. either_same (name_of new n) (cond (s.number == n) None (name_of old n)) (name_of old n) (forgets.names n)
+      (cond_either (s.number == n) (name_of old n));
 } where
   by_name : (n : Name) (b : Bool) → bytes_eq name n ≡ b → node_in book new n ≡ node_in book old n
   by_name n true same =
@@ -92,7 +100,8 @@ pub free_forgot : (old new : Names) (number : ℕ) (name : Name) → Forgets old
 free_forgot old new number name forgets = forgets.spots name ∙ ap (λ (b : Bool). cond b None (spot_of old name)) ((bytes_eq-Decides name name).1 refl)
 
 pub open_same : (untold : Option Mail) (book : State) (old new : Names) → AreSame old new → AreOpenSame untold book old new
-open_same untold book old new same = record { kept = λ late. same; nodes = λ n. same_node book old new n (same.spots n); spots = λ n. inl (same.spots n); names = λ n. inl (same.names n) }
+open_same untold book old new same =
+    record { kept = λ late. same; nodes = λ n. same_node book old new n (same.spots n); spots = λ n. inl (same.spots n); names = λ n. inl (same.names n) }
 
 either_on : {A : Type 0} (a b c : Option A) → (c ≡ b) ⊎ (c ≡ None) → (b ≡ a) ⊎ (b ≡ None) → (c ≡ a) ⊎ (c ≡ None)
 either_on a b c (inr none) q = inr none
@@ -114,7 +123,8 @@ placed_open untold h book old new same placed n past = by_case (same.names n) wh
   by_case (inr none) = none
 
 -- a name for what was made
-pub made_placed : (h k : List Event) (old new : Names) (name : Option Name) (made : Option ℕ) → BindsMade old name made new → IsPlaced h old → length h ≤ length k →
+pub made_placed : (h k : List Event) (old new : Names) (name : Option Name) (made : Option ℕ) → BindsMade old name made new → IsPlaced h old →
+    length h ≤ length k →
     ((n : ℕ) → made ≡ Some n → n < length k) → IsPlaced k new
 made_placed h k old new (Some name) (Some n) binds placed longer within =
     let inside : binds.spot.number < length k = let w = within n refl in omega (arith, binds.is) in
@@ -125,5 +135,6 @@ made_placed h k old new None made binds placed longer within = λ n past. ap (λ
 pub made_within : (h k : List Event) (n : ℕ) → connection_made h k ≡ Some n → n < length k
 made_within h k n is = by_test (at makes_connection k (length h + 1)) refl is where
   by_test : (b : Bool) → at makes_connection k (length h + 1) ≡ b → cond b (Some (length h + 1)) None ≡ Some n → n < length k
-  by_test true there one = let here : length h + 1 ≡ n = same_Some (length h + 1) n one in let w = at_within makes_connection k (length h + 1) there in omega arith
+  by_test true there one =
+      let here : length h + 1 ≡ n = same_Some (length h + 1) n one in let w = at_within makes_connection k (length h + 1) there in omega arith
   by_test false none one = absurd (none-some n one)

@@ -1,5 +1,6 @@
 -- Nodes that are opened and connected, and the names that they get.
-use Rattle.std.proofs.Common.{◌≡◌, ℕ, ◌+◌, ◌==◌, ◌<◌, Bool, true, false, cond, List, length, Option, Some, None, option_map, Result, Ok, Err, refl, sym, ap, ◌∙◌, arith, subst}
+use Rattle.std.proofs.Common.{◌≡◌, ℕ, ◌+◌, ◌==◌, ◌<◌, Bool, true, false, cond, List, length, Option, Some}
+use Rattle.std.proofs.Common.{None, option_map, Result, Ok, Err, refl, sym, ap, ◌∙◌, arith, subst}
 use Rattle.std.specs.Prelude.{IfSome, OnErr, is_some}
 use Rattle.std.proofs.Math.Bool.{◌||◌}
 use Rattle.std.proofs.lemmas.Bool.{or_parts}
@@ -47,10 +48,13 @@ unchanged_nodes s t sound same paired = record {
 }
 
 -- and where room was made, too
-pub unchanged_room : (s : Session) (mid t : Names) → IsSound s → AreOpenSame s.untold s.book s.nodes mid → AreSame mid t → IsPaired t → IsUnchanged s (record s { nodes = t })
-unchanged_room s mid t sound same room paired = unchanged_nodes s t sound (open_on s.untold s.book s.nodes mid t same (open_same s.untold s.book mid t room)) paired
+pub unchanged_room : (s : Session) (mid t : Names) → IsSound s → AreOpenSame s.untold s.book s.nodes mid → AreSame mid t → IsPaired t →
+    IsUnchanged s (record s { nodes = t })
+unchanged_room s mid t sound same room paired =
+    unchanged_nodes s t sound (open_on s.untold s.book s.nodes mid t same (open_same s.untold s.book mid t room)) paired
 
-pub unchanged_rooms : (s : Session) (mid t r : Names) → IsSound s → AreOpenSame s.untold s.book s.nodes mid → AreSame mid t → AreSame s.resources r → IsPaired t → IsPaired r →
+pub unchanged_rooms : (s : Session) (mid t r : Names) → IsSound s → AreOpenSame s.untold s.book s.nodes mid → AreSame mid t → AreSame s.resources r →
+    IsPaired t → IsPaired r →
     IsUnchanged s (record s { nodes = t; resources = r })
 unchanged_rooms s mid t r sound same room more paired pairs =
     let alike : IsAlike s (record s { nodes = t; resources = r }) = record {
@@ -79,10 +83,13 @@ apart_of : (a b c : Bool) → (a || b || c) ≡ false → b ≡ false
 apart_of a b c none = (or_parts a b (or_parts (a || b) c none).0).1
 
 -- behind a node's own name that of its connection is free still
-pub connection_free : (s : Session) (name : Name) (spot : Spot) (mid t with_node : Names) (other : Option Name) → is_open_taken s name other ≡ false → AreSame mid t → Binds t name spot with_node →
+pub connection_free : (s : Session) (name : Name) (spot : Spot) (mid t with_node : Names) (other : Option Name) → is_open_taken s name other ≡ false →
+    AreSame mid t → Binds t name spot with_node →
     IfSome other (λ n. spot_of mid n ≡ None) → IfSome other (λ n. spot_of with_node n ≡ None)
 connection_free s name spot mid t with_node other taken room binds free =
-    other_free name spot t with_node other binds (apart_of (is_node s name) (option_map_or (bytes_eq name) other false) (option_map_or (is_node s) other false) taken) (room_free mid t other room free)
+    other_free name spot t with_node other binds
+    (apart_of (is_node s name) (option_map_or (bytes_eq name) other false) (option_map_or (is_node s) other false) taken)
+    (room_free mid t other room free)
 
 made_number : (h k : List Event) (n : ℕ) → connection_made h k ≡ Some n → n ≡ length h + 1
 made_number h k n is = by_test (at makes_connection k (length h + 1)) is where
@@ -92,7 +99,8 @@ made_number h k n is = by_test (at makes_connection k (length h + 1)) is where
 
 -- an opened node -------------------------------------------------------------------------------------
 
-nodes_sound : (s : Session) (asked : Request) (book : State) (t : Names) → IsSound s → IsPromised book → IsPaired t → IsPlaced book.history t → Accepts s.book asked book →
+nodes_sound : (s : Session) (asked : Request) (book : State) (t : Names) → IsSound s → IsPromised book → IsPaired t → IsPlaced book.history t →
+    Accepts s.book asked book →
     keeps_resources asked.call ≡ true → keeps_leases asked.call ≡ true → IsSound (record s { book = book; nodes = t })
 nodes_sound s asked book t sound kept paired placed accepts resources leases = record {
   kept = kept;
@@ -115,9 +123,11 @@ module _ (s : Session) (mid t : Names) (sound : IsSound s) (same : AreOpenSame s
   placed : IsPlaced s.book.history t
   placed = placed_open s.untold s.book.history s.book s.nodes t all_same sound.nodes
 
-  module _ (book : State) (name : Name) (spot : Spot) (with_node new : Names) (kept : IsPromised book) (paired : IsPaired new) (binds : Binds t name spot with_node)
+  module _ (book : State) (name : Name) (spot : Spot) (with_node new : Names) (kept : IsPromised book) (paired : IsPaired new)
+      (binds : Binds t name spot with_node)
       (number : spot.number ≡ length s.book.history) where
-    pub opened_bound : (o : Opened) (connection : Option Name) → IsOpened s.book book o → BindsMade with_node connection (option_map (λ k. k.number) o.connected) new →
+    pub opened_bound : (o : Opened) (connection : Option Name) → IsOpened s.book book o →
+        BindsMade with_node connection (option_map (λ k. k.number) o.connected) new →
         BindsNode s name connection (record s { book = book; nodes = new })
     opened_bound o connection opened made = record {
       nodes = t;
@@ -129,24 +139,29 @@ module _ (s : Session) (mid t : Names) (sound : IsSound s) (same : AreOpenSame s
     }
 
     pub opened_sound : (place : At) (kind : Kind) (o : Opened) (connection : Option Name) → IsOpened s.book book o →
-        BindsMade with_node connection (option_map (λ k. k.number) o.connected) new → Accepts s.book (open_request s.book place kind) book → IsSound (record s { book = book; nodes = new })
+        BindsMade with_node connection (option_map (λ k. k.number) o.connected) new → Accepts s.book (open_request s.book place kind) book →
+        IsSound (record s { book = book; nodes = new })
     opened_sound place kind o connection opened made accepts =
         let asked : Request = open_request s.book place kind in
         let steps = step_longer s.book.base s.book.history book.history asked.call accepts.step in
         let longer : length s.book.history < length book.history = omega arith in
         let one : IsPlaced book.history with_node =
-        placed_bound s.book.history book.history t with_node name spot placed binds (omega arith) (let l : spot.number ≡ length s.book.history = number in omega arith) in
+        placed_bound s.book.history book.history t with_node name spot placed binds (omega arith)
+        (let l : spot.number ≡ length s.book.history = number in omega arith) in
         let made_there : BindsMade with_node connection (connection_made s.book.history book.history) new =
         subst (λ (m : Option ℕ). BindsMade with_node connection m new) opened.connection made in
         let two : IsPlaced book.history new =
-        made_placed book.history book.history with_node new connection (connection_made s.book.history book.history) made_there one (omega arith) (made_within s.book.history book.history) in
+        made_placed book.history book.history with_node new connection (connection_made s.book.history book.history) made_there one (omega arith)
+        (made_within s.book.history book.history) in
         nodes_sound s asked book new sound kept paired two accepts refl refl
 
 -- one with a resource --------------------------------------------------------------------------------
 
 module _ (s : Session) (mid t : Names) (sound : IsSound s) (same : AreOpenSame s.untold s.book s.nodes mid) (room : AreSame mid t)
-    (book : State) (name res : Name) (spot held : Spot) (more nodes resources : Names) (kept : IsPromised book) (pairs : IsPaired nodes) (paired : IsPaired resources)
-    (binds : Binds t name spot nodes) (number : spot.number ≡ length s.book.history) (grown : AreSame s.resources more) (binds_res : Binds more res held resources)
+    (book : State) (name res : Name) (spot held : Spot) (more nodes resources : Names) (kept : IsPromised book) (pairs : IsPaired nodes)
+    (paired : IsPaired resources)
+    (binds : Binds t name spot nodes) (number : spot.number ≡ length s.book.history) (grown : AreSame s.resources more)
+    (binds_res : Binds more res held resources)
     (number_res : held.number ≡ length s.book.history + 1) where
   pub used_bound : BindsUsing s name res (record s { book = book; nodes = nodes; resources = resources })
   used_bound = record {
@@ -157,7 +172,8 @@ module _ (s : Session) (mid t : Names) (sound : IsSound s) (same : AreOpenSame s
     rest = refl;
   }
 
-  pub used_sound : (place : At) → has_resource s res ≡ false → Accepts s.book (using_at s.book place) book → IsSound (record s { book = book; nodes = nodes; resources = resources })
+  pub used_sound : (place : At) → has_resource s res ≡ false → Accepts s.book (using_at s.book place) book →
+      IsSound (record s { book = book; nodes = nodes; resources = resources })
   used_sound place free accepts =
       let asked : Request = using_at s.book place in
       let steps = step_longer s.book.base s.book.history book.history asked.call accepts.step in
@@ -169,10 +185,14 @@ module _ (s : Session) (mid t : Names) (sound : IsSound s) (same : AreOpenSame s
         hub_pairs = sound.hub_pairs;
         resource_pairs = paired;
         lease_pairs = sound.lease_pairs;
-        nodes = placed_bound s.book.history book.history t nodes name spot (placed s mid t sound same room) binds (omega arith) (let l : spot.number ≡ length s.book.history = number in omega arith);
+        nodes =
+            placed_bound s.book.history book.history t nodes name spot (placed s mid t sound same room) binds (omega arith)
+            (let l : spot.number ≡ length s.book.history = number in omega arith);
         hubs = placed_longer s.book.history book.history s.hubs sound.hubs (omega arith);
         resources = λ r. ap is_some (bound.names r) ∙ some_cond (held.number == r) res (name_of s.resources r)
-            ∙ (λ i. cond (number_res i == r) true (sound.resources r i)) ∙ sym (kept_used s.book.base s.book.history book.history (place_of place) 0 sound.kept.lawful accepts.step r);
+            ∙
+            (λ i. cond (number_res i == r) true (sound.resources r i)) ∙
+            sym (kept_used s.book.base s.book.history book.history (place_of place) 0 sound.kept.lawful accepts.step r);
         leases = λ l. sound.leases l ∙ sym (out_same s.book.base s.book.history book.history asked.call accepts.step refl l);
         unnamed = λ n is. bound.spots n ∙ ap (λ (b : Bool). cond b (Some held) (spot_of s.resources n)) (not_unnamed s res n free is) ∙ sound.unnamed n is;
       }
@@ -180,24 +200,28 @@ module _ (s : Session) (mid t : Names) (sound : IsSound s) (same : AreOpenSame s
 pub unnamed_used : (s : Session) (more : Names) → IsSound s → AreSame s.resources more → name_of more (length s.book.history + 1) ≡ None
 unnamed_used s more sound grown =
     grown.names (length s.book.history + 1)
-    ∙ none_of (name_of s.resources (length s.book.history + 1)) (sound.resources (length s.book.history + 1) ∙ kept_past s.book.history (length s.book.history + 1) (omega arith))
+    ∙
+    none_of (name_of s.resources (length s.book.history + 1))
+    (sound.resources (length s.book.history + 1) ∙ kept_past s.book.history (length s.book.history + 1) (omega arith))
 
 -- a connection ---------------------------------------------------------------------------------------
 
 module _ (s : Session) (mid t : Names) (sound : IsSound s) (same : AreOpenSame s.untold s.book s.nodes mid) (room : AreSame mid t)
-    (book : State) (new : Names) (kept : IsPromised book) (paired : IsPaired new) (name : Option Name) (made : BindsMade t name (Some (length s.book.history)) new) where
-  pub connected_bound : BindsConnection s name (record s { book = book; nodes = new })
-  connected_bound = record { nodes = t; alike = alike_nodes s t (all_same s mid t sound same room); made = made; rest = refl }
+    (book : State) (new : Names) (kept : IsPromised book) (paired : IsPaired new) (name : Option Name)
+    (made : BindsMade t name (Some (length s.book.history)) new)
+  where
+    pub connected_bound : BindsConnection s name (record s { book = book; nodes = new })
+    connected_bound = record { nodes = t; alike = alike_nodes s t (all_same s mid t sound same room); made = made; rest = refl }
 
-  pub connected_sound : (hub : ℕ) → Accepts s.book (connect_request hub) book → IsSound (record s { book = book; nodes = new })
-  connected_sound hub accepts =
-      let asked : Request = connect_request hub in
-      let steps = step_longer s.book.base s.book.history book.history asked.call accepts.step in
-      let longer : length s.book.history < length book.history = omega arith in
-      let all : IsPlaced book.history new =
-      made_placed s.book.history book.history t new name (Some (length s.book.history)) made (placed s mid t sound same room) (omega arith)
-      (λ n is. let l : length s.book.history ≡ n = same_Some (length s.book.history) n is in omega arith) in
-      nodes_sound s asked book new sound kept paired all accepts refl refl
+    pub connected_sound : (hub : ℕ) → Accepts s.book (connect_request hub) book → IsSound (record s { book = book; nodes = new })
+    connected_sound hub accepts =
+        let asked : Request = connect_request hub in
+        let steps = step_longer s.book.base s.book.history book.history asked.call accepts.step in
+        let longer : length s.book.history < length book.history = omega arith in
+        let all : IsPlaced book.history new =
+        made_placed s.book.history book.history t new name (Some (length s.book.history)) made (placed s mid t sound same room) (omega arith)
+        (λ n is. let l : length s.book.history ≡ n = same_Some (length s.book.history) n is in omega arith) in
+        nodes_sound s asked book new sound kept paired all accepts refl refl
 
 -- what is asked --------------------------------------------------------------------------------------
 
@@ -210,4 +234,5 @@ on_err (Err e) P p = p
 -- the book stays as it was
 pub with_book : (s : Session) (book : State) (nodes resources : Names) → book ≡ s.book → IsUnchanged s (record s { nodes = nodes; resources = resources }) →
     IsUnchanged s (record s { book = book; nodes = nodes; resources = resources })
-with_book s book nodes resources same unchanged = subst (λ (b : State). IsUnchanged s (record s { book = b; nodes = nodes; resources = resources })) (sym same) unchanged
+with_book s book nodes resources same unchanged =
+    subst (λ (b : State). IsUnchanged s (record s { book = b; nodes = nodes; resources = resources })) (sym same) unchanged

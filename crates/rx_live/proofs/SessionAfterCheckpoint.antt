@@ -1,5 +1,6 @@
 -- What a checkpoint makes of a session.
-use Rattle.std.proofs.Common.{◌≡◌, ℕ, ◌-◌, ◌<◌, ◌≤◌, suc, Bool, true, false, List, [], ◌++◌, length, drop, Option, Some, None, Result, Ok, Err, refl, sym, ap, ◌∙◌, arith, subst, inl, inr, ◌⊎◌}
+use Rattle.std.proofs.Common.{◌≡◌, ℕ, ◌-◌, ◌<◌, ◌≤◌, suc, Bool, true, false, List, [], ◌++◌, length, drop, Option}
+use Rattle.std.proofs.Common.{Some, None, Result, Ok, Err, refl, sym, ap, ◌∙◌, arith, subst, inl, inr, ◌⊎◌}
 use Rattle.std.specs.Prelude.{IfOk, is_some, nat_lt}
 use Rattle.std.specs.List.{list_any}
 use Rattle.std.specs.Option.{option_to_list}
@@ -39,7 +40,8 @@ use Rattle.rx_live.specs.Taken.{is_full, may_renew, IsFullByAge}
 
 -- what is kept ----------------------------------------------------------------------------------------
 
-kept_shape : (made gone held : Bool) → (held ≡ true → (made ≡ true) × ((made && gone) ≡ false)) → (made && not gone) ≡ (held || (made && not held && not (made && gone)))
+kept_shape : (made gone held : Bool) → (held ≡ true → (made ≡ true) × ((made && gone) ≡ false)) →
+    (made && not gone) ≡ (held || (made && not held && not (made && gone)))
 kept_shape true true true p = let e : true ≡ false = (p refl).1 in absurd (cc)
 kept_shape true false true p = refl
 kept_shape false gone true p = let e : false ≡ true = (p refl).0 in absurd (cc)
@@ -50,11 +52,13 @@ kept_shape false gone false p = refl
 -- what is kept is held or waits
 kept_is : (base : Kept) (h : List Event) → IsLawful base h → (r : ℕ) → is_kept h r ≡ (is_held h r || is_waiting h r)
 unfolding is_waiting is_taken is_kept
-kept_is base h law r = kept_shape (at makes_resource h r) (list_any (is_take_of r) h) (is_held h r) (λ held. (held_resource h r held, held_not_taken base h law r held))
+kept_is base h law r =
+    kept_shape (at makes_resource h r) (list_any (is_take_of r) h) (is_held h r) (λ held. (held_resource h r held, held_not_taken base h law r held))
 
 -- a session that is sound stays so --------------------------------------------------------------------
 
-pub renewed_sound : (s : Session) (book : State) (nodes : Names) → IsSound s → IsPromised book → Checkpoints s.book book → IsPaired nodes → AreOpenSame None book s.nodes nodes →
+pub renewed_sound : (s : Session) (book : State) (nodes : Names) → IsSound s → IsPromised book → Checkpoints s.book book → IsPaired nodes →
+    AreOpenSame None book s.nodes nodes →
     IsSound (record s { book = book; nodes = nodes })
 renewed_sound s book nodes sound kept made paired same = record {
   kept = kept;
@@ -81,13 +85,15 @@ told_before s none free =
     ltb-false s.book.given (length (notes s.book.history)) (no_cause (checkpoint_causes s.book.history s.book.given) free MailLeft) in
     (λ i. option_to_list (none i) ++ drop s.book.given (notes s.book.history)) ∙ drop_all s.book.given (notes s.book.history) all
 
-told_after : (s : Session) (book : State) (nodes : Names) → s.untold ≡ None → IsPromised book → Checkpoints s.book book → to_tell (record s { book = book; nodes = nodes }) ≡ []
+told_after : (s : Session) (book : State) (nodes : Names) → s.untold ≡ None → IsPromised book → Checkpoints s.book book →
+    to_tell (record s { book = book; nodes = nodes }) ≡ []
 told_after s book nodes none kept made =
     let silent : notes book.history ≡ [] = ap notes made.history ∙ made_untold (shown book.base) kept.lawful.started.making in
     let all : length (notes book.history) ≤ book.given = let e = ap (length {A = Mail}) silent in omega (arith, e) in
     (λ i. option_to_list (none i) ++ drop book.given (notes book.history)) ∙ drop_all book.given (notes book.history) all
 
-pub renews : (s : Session) (book : State) (nodes : Names) → s.untold ≡ None → IsPromised book → Checkpoints s.book book → AreOpenSame None book s.nodes nodes → AreOpen book nodes →
+pub renews : (s : Session) (book : State) (nodes : Names) → s.untold ≡ None → IsPromised book → Checkpoints s.book book →
+    AreOpenSame None book s.nodes nodes → AreOpen book nodes →
     Renews s (record s { book = book; nodes = nodes })
 renews s book nodes none kept made same alive = record {
   told = told_before s none made.no_cause;
@@ -114,7 +120,8 @@ same_cause s none MailLeft =
 same_cause s none TooMany = refl
 same_cause s none _ = refl
 
-pub refused_cause : (s : Session) (why : Refusal) → s.untold ≡ None → IsRefusal (checkpoint_causes s.book.history s.book.given) why → IsRefusal (renewing_causes s) why
+pub refused_cause : (s : Session) (why : Refusal) → s.untold ≡ None → IsRefusal (checkpoint_causes s.book.history s.book.given) why →
+    IsRefusal (renewing_causes s) why
 refused_cause s why none refusal = subst (λ (stands : Refusal → Bool). IsRefusal stands why) (λ i w. same_cause s none w i) refusal
 
 left_over : (s : Session) (o : Option Mail) → s.untold ≡ o → is_some o ≡ true → nat_lt 0 (length (to_tell s)) ≡ true
@@ -127,7 +134,8 @@ pub mail_left : (s : Session) → is_some s.untold ≡ true → IsRefusal (renew
 mail_left s some = let left : renewing_causes s MailLeft ≡ true = left_over s s.untold refl some in inl (rw left refl)
 
 -- where the book refuses it
-pub renewing_refused : (s : Session) (book : State) (why : Refusal) (result : Result Outcome AllocError) → IfOk result (λ o. o ≡ Refused (Book why)) → IsRefusal (renewing_causes s) why →
+pub renewing_refused : (s : Session) (book : State) (why : Refusal) (result : Result Outcome AllocError) → IfOk result (λ o. o ≡ Refused (Book why)) →
+    IsRefusal (renewing_causes s) why →
     book ≡ s.book → IfOk result (λ o. Renewing s o (record s { book = book }))
 renewing_refused s book why (Err e) told refusal same = told
 renewing_refused s book why (Ok o) told refusal same =
@@ -141,10 +149,13 @@ refused_same old new (Book why) r = r.1
 -- by age ----------------------------------------------------------------------------------------------
 
 by_open : (s : Session) (why : Cause) → IsPromised s.book → (is_full why && may_renew s) ≡ false → IsFullByOpen s why
-by_open s (Book Full) kept none = by_case (and_cases (not (nat_lt most_places (length s.book.history))) (nat_lt s.book.base.at_length (length s.book.history)) none) where
-  by_case : (not (nat_lt most_places (length s.book.history)) ≡ false) ⊎ (nat_lt s.book.base.at_length (length s.book.history) ≡ false) → IsFullByOpen s (Book Full)
-  by_case (inl past) = inr (ltb-true most_places (length s.book.history) (not-false (nat_lt most_places (length s.book.history)) past))
-  by_case (inr young) = let l = ltb-false s.book.base.at_length (length s.book.history) young in let b = kept.begun in inl (omega arith)
+by_open s (Book Full) kept none =
+    by_case (and_cases (not (nat_lt most_places (length s.book.history))) (nat_lt s.book.base.at_length (length s.book.history)) none)
+  where
+    by_case : (not (nat_lt most_places (length s.book.history)) ≡ false) ⊎ (nat_lt s.book.base.at_length (length s.book.history) ≡ false) →
+        IsFullByOpen s (Book Full)
+    by_case (inl past) = inr (ltb-true most_places (length s.book.history) (not-false (nat_lt most_places (length s.book.history)) past))
+    by_case (inr young) = let l = ltb-false s.book.base.at_length (length s.book.history) young in let b = kept.begun in inl (omega arith)
 by_open s _ kept none = tt
 
 -- after a refusal, which changed nothing
@@ -155,7 +166,8 @@ full_by_age old new why alike both = record {
 }
 
 pub full_by_open : (old new : Session) (why : Cause) → IsPromised old.book → IsAlike old new → (is_full why && may_renew new) ≡ false → IsFullByOpen old why
-full_by_open old new why kept alike none = by_open old why kept (subst (λ (b : State). (is_full why && may_renew (record old { book = b })) ≡ false) alike.book none)
+full_by_open old new why kept alike none =
+    by_open old why kept (subst (λ (b : State). (is_full why && may_renew (record old { book = b })) ≡ false) alike.book none)
 
 -- behind a checkpoint a history is young
 at_base : (b : Kept) (h : List Event) → (base_of b h).at_length ≡ length h
@@ -166,6 +178,8 @@ pub young : (old new : Session) → Renews old new → may_renew new ≡ true �
 young old new renews aged =
     let same : length new.book.history ≡ new.book.base.at_length =
     sym renews.book.agree.alike.same_length ∙ sym (at_base old.book.base old.book.history) ∙ ap (λ (b : Kept). b.at_length) (sym renews.book.base) in
-    let none : nat_lt new.book.base.at_length (length new.book.history) ≡ false = le-ltb new.book.base.at_length (length new.book.history) (omega (arith, same)) in
-    let both : may_renew new ≡ false = and_right (not (nat_lt most_places (length new.book.history))) (nat_lt new.book.base.at_length (length new.book.history)) none in
+    let none : nat_lt new.book.base.at_length (length new.book.history) ≡ false =
+    le-ltb new.book.base.at_length (length new.book.history) (omega (arith, same)) in
+    let both : may_renew new ≡ false =
+    and_right (not (nat_lt most_places (length new.book.history))) (nat_lt new.book.base.at_length (length new.book.history)) none in
     let clash : false ≡ true = sym both ∙ aged in absurd (cc)

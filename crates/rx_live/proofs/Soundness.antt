@@ -1,5 +1,6 @@
 -- A session stays sound as its book goes on.
-use Rattle.std.proofs.Common.{◌≡◌, ℕ, ◌≤◌, true, false, Option, Some, None, Result, Ok, Err, length, refl, sym, ap, ◌∙◌, arith, subst, inl, option_map, List, []}
+use Rattle.std.proofs.Common.{◌≡◌, ℕ, ◌≤◌, true, false, Option, Some, None, Result, Ok, Err, length}
+use Rattle.std.proofs.Common.{refl, sym, ap, ◌∙◌, arith, subst, inl, option_map, List, []}
 use Rattle.std.specs.Prelude.{IfOk, IfErr, OnOk, OnErr, is_some}
 use Rattle.std.specs.declared.alloc.AllocError.{AllocError}
 use Rattle.rx_event.specs.declared.refusal.Refusal.{Refusal}
@@ -21,7 +22,8 @@ pub accepted_longer : (old new : State) (asked : Request) → Accepts old asked 
 accepted_longer old new asked accepts = let l = step_longer old.base old.history new.history asked.call accepts.step in omega arith
 
 -- a call that accepts and takes no resource, and gives and takes back no lease
-pub sound_on : (s : Session) (asked : Request) (book : State) → IsSound s → IsPromised book → Accepts s.book asked book → keeps_resources asked.call ≡ true → keeps_leases asked.call ≡ true →
+pub sound_on : (s : Session) (asked : Request) (book : State) → IsSound s → IsPromised book → Accepts s.book asked book → keeps_resources asked.call ≡ true →
+    keeps_leases asked.call ≡ true →
     IsSound (record s { book = book })
 sound_on s asked book sound kept accepts resources leases = record {
   kept = kept;
@@ -49,7 +51,8 @@ goes_on s asked book (Err why) outcome sound kept resources leases accepts refus
     (record { carries = (refuses, stays); sound = subst (λ (t : Session). IsSound t) (sym stays) sound })
 
 -- a call that takes no memory is refused for its first cause
-pub of_cause : {A : Type 0} (old : State) (asked : Request) (answer : Result A Refusal) → IfErr answer (IsCause old asked) → IfErr answer (IsCauseOrWant old asked)
+pub of_cause : {A : Type 0} (old : State) (asked : Request) (answer : Result A Refusal) → IfErr answer (IsCause old asked) →
+    IfErr answer (IsCauseOrWant old asked)
 of_cause old asked (Ok a) refuses = refuses
 of_cause old asked (Err why) refuses = inl refuses
 
@@ -63,8 +66,10 @@ pub record Called {A : Type 0} (old : State) (asked : Request) (answer : Result 
   pub same : OnErr answer (new ≡ old)
 
 -- the whole answer, where the name is bound
-pub call_ok : {A K : Type 0} (s : Session) (f : K → Request) (k : K) (key : Option K) → key ≡ Some k → (book : State) (answer : Result A Refusal) (result : Result Outcome AllocError) →
-    IsSound s → Called s.book (f k) answer book → IfOk result (λ o. o ≡ outcome_of answer) → IfOk result (λ o. Goes s (option_map f key) o (record s { book = book }))
+pub call_ok : {A K : Type 0} (s : Session) (f : K → Request) (k : K) (key : Option K) → key ≡ Some k →
+    (book : State) (answer : Result A Refusal) (result : Result Outcome AllocError) →
+    IsSound s → Called s.book (f k) answer book → IfOk result (λ o. o ≡ outcome_of answer) →
+    IfOk result (λ o. Goes s (option_map f key) o (record s { book = book }))
 call_ok s f k key found book answer (Err e) sound called told = told
 call_ok s f k key found book answer (Ok o) sound called told =
     subst (λ (j : Option _). Goes s (option_map f j) o (record s { book = book })) (sym found)

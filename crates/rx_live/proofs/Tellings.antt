@@ -1,5 +1,6 @@
 -- Notes that are told one after another.
-use Rattle.std.proofs.Common.{◌≡◌, ℕ, ◌+◌, ◌<◌, ◌≤◌, suc, List, [], ◌∷◌, ◌++◌, codes, length, map, drop, Option, Some, None, refl, sym, ap, ◌∙◌, append_assoc, add-one, drop-cons, inl, inr, ◌⊎◌}
+use Rattle.std.proofs.Common.{◌≡◌, ℕ, ◌+◌, ◌<◌, ◌≤◌, suc, List, [], ◌∷◌, ◌++◌, codes, length, map, drop, Option}
+use Rattle.std.proofs.Common.{Some, None, refl, sym, ap, ◌∙◌, append_assoc, add-one, drop-cons, inl, inr, ◌⊎◌}
 use Rattle.std.specs.Prelude.{IfSome, IfNone, is_some, slice_get, get_or, if◌then◌else◌}
 use Rattle.std.specs.List.{flat_map}
 use Rattle.std.specs.Option.{option_to_list}
@@ -28,7 +29,8 @@ next_told s None book untold none gone next given = tt
 next_told s (Some m) book untold none gone next given =
     let all : List Mail = notes s.book.history in
     let old : to_tell s ≡ drop s.book.given all = ap (λ (o : Option Mail). option_to_list o ++ drop s.book.given all) none in
-    let new : to_tell (record s { book = book; untold = untold }) ≡ drop (s.book.given + 1) all = λ i. option_to_list (gone i) ++ drop (given i).given (notes (given i).history) in
+    let new : to_tell (record s { book = book; untold = untold }) ≡ drop (s.book.given + 1) all =
+    λ i. option_to_list (gone i) ++ drop (given i).given (notes (given i).history) in
     let alone : book ≡ record s.book { given = book.given } = given ∙ ap (λ (k : ℕ). record s.book { given = k }) (sym (ap (λ (b : State). b.given) given)) in
     record {
       next = old ∙ dropped_one all s.book.given m (sym next) ∙ ap (λ (ms : List Mail). m ∷ ms) (sym new);
@@ -63,14 +65,17 @@ joined_more p ps q =
     append_assoc (p ++ flat_map comma ps) (codes ",") q ∙ append_assoc p (flat_map comma ps) (codes "," ++ q)
     ∙ ap (λ (t : List ℕ). p ++ t) (ap (λ (t : List ℕ). flat_map comma ps ++ t) (sym one) ∙ sym (flat_map-append comma ps (q ∷ [])))
 
-pub array_more : {A : Type 0} (f : A → List ℕ) (begun front : List ℕ) (first : A) (more : List A) (x : A) (text : List ℕ) → text ≡ begun ++ front ++ joined (map f (first ∷ more)) →
+pub array_more : {A : Type 0} (f : A → List ℕ) (begun front : List ℕ) (first : A) (more : List A) (x : A) (text : List ℕ) →
+    text ≡ begun ++ front ++ joined (map f (first ∷ more)) →
     text ++ codes "," ++ f x ≡ begun ++ front ++ joined (map f (first ∷ (more ++ x ∷ [])))
 array_more f begun front first more x text is =
     let body = joined (map f (first ∷ more)) in
     ap (λ (t : List ℕ). t ++ codes "," ++ f x) is
     ∙ append_assoc (begun ++ front ++ body) (codes ",") (f x) ∙ append_assoc (begun ++ front) body (codes "," ++ f x)
     ∙ ap (λ (t : List ℕ). (begun ++ front) ++ t)
-    (sym (append_assoc body (codes ",") (f x)) ∙ joined_more (f first) (map f more) (f x) ∙ ap (λ (ps : List (List ℕ)). joined (f first ∷ ps)) (sym (map-append f more (x ∷ []))))
+    (sym (append_assoc body (codes ",") (f x)) ∙
+    joined_more (f first) (map f more) (f x) ∙
+    ap (λ (ps : List (List ℕ)). joined (f first ∷ ps)) (sym (map-append f more (x ∷ []))))
 
 pub array_end : (begun front body : List ℕ) (text : List ℕ) → text ≡ begun ++ front ++ body → text ++ codes "]" ≡ begun ++ (front ++ body ++ codes "]")
 array_end begun front body text is =
@@ -88,7 +93,8 @@ notes_begun old now begun text one =
       written = one.written ∙ ap (λ (t : List ℕ). begun ++ codes ",\"notes\":[" ++ t) (sym (append-nil (told_text first)));
     }
 
-pub notes_more : (old mid now : Session) (begun before text : List ℕ) → AreNotesWritten old begun mid before → WritesNote mid before (codes ",") now text → AreNotesWritten old begun now text
+pub notes_more : (old mid now : Session) (begun before text : List ℕ) → AreNotesWritten old begun mid before → WritesNote mid before (codes ",") now text →
+    AreNotesWritten old begun now text
 notes_more old mid now begun before text so_far one =
     let names : mid.nodes ≡ old.nodes = telling_names old mid so_far.tells.rest in
     let next : Told = told_of old.nodes one.mail in
@@ -107,7 +113,8 @@ notes_more old mid now begun before text so_far one =
           ∙ array_more told_text begun (codes ",\"notes\":[") so_far.first so_far.more next before so_far.written;
     }
 
-pub notes_ended : (old mid now : Session) (begun before text : List ℕ) → AreNotesWritten old begun mid before → WritesNoNote mid before now text → WritesNotes old begun now (text ++ codes "]")
+pub notes_ended : (old mid now : Session) (begun before text : List ℕ) → AreNotesWritten old begun mid before → WritesNoNote mid before now text →
+    WritesNotes old begun now (text ++ codes "]")
 notes_ended old mid now begun before text so_far none =
     let all = so_far.first ∷ so_far.more in
     record {

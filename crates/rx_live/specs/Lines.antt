@@ -1,8 +1,10 @@
 -- What a line is answered, and what the last line says.
 use Rattle.std.specs.Prelude.{◌≡◌, ℕ, false, List, [], ◌∷◌, ◌++◌, codes, map, length, Some, None, is_some, option_map}
 use Rattle.std.specs.Option.{option_map_or}
-use Rattle.rx_scenario.specs.Scenario.{Name, Command, using, open_node, hold, apply, remove, lease, give_back, next, end, abort, decline, fail, dispose, make_hub, connect, disconnect, drain, checkpoint}
-use Rattle.rx_book.specs.Requests.{apply_request, remove_request, lease_request, give_back_request, next_request, end_request, abort_request, decline_request, fail_request, dispose_request, hub_request, connect_request, disconnect_request}
+use Rattle.rx_scenario.specs.Scenario.{Name, Command, using, open_node, hold, apply, remove, lease, give_back, next, end}
+use Rattle.rx_scenario.specs.Scenario.{abort, decline, fail, dispose, make_hub, connect, disconnect, drain, checkpoint}
+use Rattle.rx_book.specs.Requests.{apply_request, remove_request, lease_request, give_back_request, next_request, end_request, abort_request}
+use Rattle.rx_book.specs.Requests.{decline_request, fail_request, dispose_request, hub_request, connect_request, disconnect_request}
 use Rattle.rx_line.specs.Orders.{command, list, dump, IsOrderOf, IsFaulty}
 use Rattle.rx_line.specs.Names.{AreNone}
 use Rattle.rx_line.specs.Pieces.{ok_text, refused_text, faulty_text, name_text, member_text}
@@ -23,7 +25,8 @@ use Rattle.rx_live.specs.Answers.{Told, told_text, TellsNotes, IsTold, ReleasesN
 -- what a command comes to, by its own relation
 abbrev pub Runs : Session → Command → Outcome → Session → Type 0
 Runs old (using name site res) o new = GivesNames old (using_asked old site) (is_using_taken old name res) (BindsUsing old name res) o new
-Runs old (open_node name site sort) o new = GivesNames old (open_asked old site sort) (is_open_taken old name (connection_of sort)) (BindsNode old name (connection_of sort)) o new
+Runs old (open_node name site sort) o new =
+    GivesNames old (open_asked old site sort) (is_open_taken old name (connection_of sort)) (BindsNode old name (connection_of sort)) o new
 Runs old (hold node res) o new = GivesNames old (option_map (hold_asked old.book) (node_of old node)) (has_resource old res) (BindsResource old res) o new
 Runs old (apply res word) o new = Goes old (option_map (apply_request old.book) (resource_of old res)) o new
 Runs old (remove res) o new = Goes old (option_map (remove_request old.book) (resource_of old res)) o new
@@ -37,7 +40,8 @@ Runs old (decline node) o new = Goes old (option_map (λ k. decline_request old.
 Runs old (fail node code) o new = Goes old (option_map (λ k. fail_request old.book k code) (node_of old node)) o new
 Runs old (dispose node) o new = Goes old (option_map (λ k. dispose_request old.book k) (node_of old node)) o new
 Runs old (make_hub name mode) o new = GivesNames old (Some (hub_request mode)) (is_some (hub_of old name)) (BindsHub old name) o new
-Runs old (connect hub name) o new = GivesNames old (option_map connect_request (hub_of old hub)) (option_map_or (is_node old) name false) (BindsConnection old name) o new
+Runs old (connect hub name) o new =
+    GivesNames old (option_map connect_request (hub_of old hub)) (option_map_or (is_node old) name false) (BindsConnection old name) o new
 Runs old (disconnect hub) o new = Goes old (option_map (λ g. disconnect_request g) (hub_of old hub)) o new
 -- nothing waits between two lines
 Runs old drain o new = (o ≡ Accepted) × (new ≡ old)
@@ -81,7 +85,8 @@ pub data CarriesOut (old : Session) (c : Command) (text : List ℕ) (new : Sessi
 -- a line, with what its answer hands in and releases
 pub data IsAnswer (old : Session) (line text : List ℕ) : List Act → Session → Type 0 where
   is_faulty : (told : List ℕ) → IsFaulty line → text ≡ faulty_text told → IsAnswer old line text [] old
-  is_refused : {new : Session} (c : Command) (why : Cause) → IsOrderOf line (command c) → Runs old c (Refused why) new → IsFullByOpen old why → text ≡ refused_text why → IsAnswer old line text [] new
+  is_refused : {new : Session} (c : Command) (why : Cause) → IsOrderOf line (command c) → Runs old c (Refused why) new → IsFullByOpen old why →
+      text ≡ refused_text why → IsAnswer old line text [] new
   is_carried : {new : Session} {acts : List Act} (c : Command) → IsOrderOf line (command c) → IsCarried old c text acts new → IsAnswer old line text acts new
   is_listed : IsOrderOf line list → IsAnswer old line text [] old
   is_dumped : IsOrderOf line dump → text ≡ dump_text old → IsAnswer old line text [] old
@@ -119,7 +124,8 @@ pub record Ends (old : Session) (text : List ℕ) (new : Session) : Type 0 where
   pub tells : TellsNotes old told left
   pub all_notes : IsTold left
   pub written : text ≡
-      codes "{\"closed\":true" ++ member_text (codes "release") (map name_text names) ++ member_text (codes "notes") (map told_text told) ++ late_text (is_some left.untold)
+      codes "{\"closed\":true" ++ member_text (codes "release") (map name_text names) ++ member_text (codes "notes") (map told_text told) ++
+      late_text (is_some left.untold)
       ++ codes "}"
   pub closed : IsClosed new
 
@@ -128,7 +134,8 @@ pub record Ends (old : Session) (text : List ℕ) (new : Session) : Type 0 where
 -- lines that are sent one after another, and what they hand in and release
 pub data GoesOn : Session → List Act → Session → Type 0 where
   no_line : {s : Session} → GoesOn s [] s
-  one_line : {old last : Session} {more : List Act} (line text : List ℕ) (new : Session) → (sent : Sends old line text new) → GoesOn new more last → GoesOn old (sent.acts ++ more) last
+  one_line : {old last : Session} {more : List Act} (line text : List ℕ) (new : Session) → (sent : Sends old line text new) → GoesOn new more last →
+      GoesOn old (sent.acts ++ more) last
 
 -- before the first line no name is bound
 pub record IsFresh (s : Session) : Type 0 where

@@ -1,5 +1,6 @@
 -- What a live book is: its book, and which names are bound.
-use Rattle.std.specs.Prelude.{◌≡◌, ℕ, ◌≤◌, ◌&&◌, ◌||◌, Bool, false, Option, Some, None, List, length, is_some, option_map, option_and_then, string_bytes, if◌then◌else◌}
+use Rattle.std.specs.Prelude.{◌≡◌, ℕ, ◌≤◌, ◌&&◌, ◌||◌, Bool, false, Option, Some, None, List, length}
+use Rattle.std.specs.Prelude.{is_some, option_map, option_and_then, string_bytes, if◌then◌else◌}
 use Rattle.std.proofs.Math.Bool.{not}
 use Rattle.std.specs.Str.{bytes_eq}
 use Rattle.std.specs.List.{list_any}
@@ -31,7 +32,16 @@ pub record Session : Type 0 where
 
 -- the session that an engine is at
 abbrev pub session_of : Engine → Session
-session_of l = record { book = l.book; nodes = l.nodes; hubs = l.hubs; resources = l.resources; leases = l.leases; untold = l.untold; unnamed = option_map string_bytes l.unnamed }
+session_of l =
+    record {
+      book = l.book;
+      nodes = l.nodes;
+      hubs = l.hubs;
+      resources = l.resources;
+      leases = l.leases;
+      untold = l.untold;
+      unnamed = option_map string_bytes l.unnamed;
+    }
 
 -- what a name is bound to ----------------------------------------------------------------------------
 

@@ -10,7 +10,9 @@ use Rattle.rx_live.specs.Lines.{IsAnswer, is_carried, GoesOn, no_line, one_line,
 
 -- from the first line to the last, each name that was handed in is released once, and no other
 abbrev pub AreNamesKept : Type 0
-AreNamesKept = (first last new : Session) (acts : List Act) (text : List ℕ) → IsFresh first → GoesOn first acts last → (ends : Ends last text new) → IsKept (acts ++ map released ends.names)
+AreNamesKept =
+    (first last new : Session) (acts : List Act) (text : List ℕ) → IsFresh first → GoesOn first acts last → (ends : Ends last text new) →
+    IsKept (acts ++ map released ends.names)
 
 -- notes ------------------------------------------------------------------------------------------------
 

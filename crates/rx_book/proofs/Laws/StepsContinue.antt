@@ -27,7 +27,8 @@ forced_taken base (more {h} {k} {e} before forced) = let rest = forced_taken bas
 pub step_longer : (base : Kept) → (h k : List Event) (call : Call) → IsStepOf base h call k → length h + length (outside_of h call) ≤ length k
 step_longer base h k call step = omega (arith, forced_longer base step.forced, length-append h (outside_of h call))
 
-pub step_taken : (base : Kept) → (h k : List Event) (call : Call) → IsStepOf base h call k → taken_count base h + count_by is_take (outside_of h call) ≤ taken_count base k
+pub step_taken : (base : Kept) → (h k : List Event) (call : Call) → IsStepOf base h call k →
+    taken_count base h + count_by is_take (outside_of h call) ≤ taken_count base k
 step_taken base h k call step = omega (arith, forced_taken base step.forced, count_by-append is_take h (outside_of h call))
 
 pub accepted_continues : (old new : State) (asked : Request) → Accepts old asked new → Continues old new
@@ -42,7 +43,16 @@ accepted_continues old new asked accepted = record {
 }
 
 pub continues_none : (s : State) → Continues s s
-continues_none s = record { base = refl; limit = refl; given = refl; longer = omega arith; keys = λ k listed old. listed; res_keys = λ k listed old. listed; lease_keys = λ k listed old. listed }
+continues_none s =
+    record {
+      base = refl;
+      limit = refl;
+      given = refl;
+      longer = omega arith;
+      keys = λ k listed old. listed;
+      res_keys = λ k listed old. listed;
+      lease_keys = λ k listed old. listed;
+    }
 
 pub continues_more : (a b c : State) → Continues a b → Continues b c → Continues a c
 continues_more a b c p q = record {

@@ -241,28 +241,30 @@ visited_way base h nodes t (suc left) key there = by_onward (onward_of nodes key
 stops_way : (base : Kept) → (h : List Event) (nodes : Slots Node) → IsTold base h nodes → (left : ℕ) (key : Key) → IsSome (find nodes key) →
     filter_map (stop_at h) (numbers (way_within left nodes key)) ≡ option_to_list (option_and_then numbered (end_of nodes (way_within left nodes key)))
 stops_way base h nodes t zero key there = refl
-stops_way base h nodes t (suc left) key there = by_stop (stop_of nodes key) refl (onward_of nodes key) refl (λ up found. stops_way base h nodes t left up found) where
-  node : (x : Node) × (find nodes key ≡ Some x)
-  node = some_of (find nodes key) there
+stops_way base h nodes t (suc left) key there =
+    by_stop (stop_of nodes key) refl (onward_of nodes key) refl (λ up found. stops_way base h nodes t left up found)
+  where
+    node : (x : Node) × (find nodes key ≡ Some x)
+    node = some_of (find nodes key) there
 
-  goal : Option Stop → List Key → Type 0
-  goal s keys = filter_map (stop_at h) (key.number ∷ numbers keys) ≡ option_to_list (option_and_then numbered (option_or s (end_of nodes keys)))
+    goal : Option Stop → List Key → Type 0
+    goal s keys = filter_map (stop_at h) (key.number ∷ numbers keys) ≡ option_to_list (option_and_then numbered (option_or s (end_of nodes keys)))
 
-  here : (s : Option Stop) → stop_of nodes key ≡ s → stop_at h key.number ≡ option_and_then numbered s
-  here s stop = stop_seen base h nodes t key node.0 node.1 ∙ ap (option_and_then numbered) stop
+    here : (s : Option Stop) → stop_of nodes key ≡ s → stop_at h key.number ≡ option_and_then numbered s
+    here s stop = stop_seen base h nodes t key node.0 node.1 ∙ ap (option_and_then numbered) stop
 
-  one : (o : Option NumberedStop) → stop_at h key.number ≡ o → filter_map (stop_at h) (key.number ∷ []) ≡ option_to_list o
-  one None stop = rw stop refl
-  one (Some x) stop = rw stop refl
+    one : (o : Option NumberedStop) → stop_at h key.number ≡ o → filter_map (stop_at h) (key.number ∷ []) ≡ option_to_list o
+    one None stop = rw stop refl
+    one (Some x) stop = rw stop refl
 
-  by_stop : (s : Option Stop) → stop_of nodes key ≡ s → (o : Option Key) → onward_of nodes key ≡ o →
-      ((up : Key) → IsSome (find nodes up) →
-      filter_map (stop_at h) (numbers (way_within left nodes up)) ≡ option_to_list (option_and_then numbered (end_of nodes (way_within left nodes up)))) →
-      goal (stop_of nodes key) (option_map_or (way_within left nodes) o [])
-  by_stop s stop None ended rest = one (option_and_then numbered (stop_of nodes key)) (here (stop_of nodes key) refl) ∙
-      ap (λ (x : Option Stop). option_to_list (option_and_then numbered x)) (sym (or_none (stop_of nodes key)))
-  by_stop None stop (Some up) on rest = rw (here None stop, stop) (rest up (above_found nodes key up t.sound (onward_some nodes key up on).1))
-  by_stop (Some s) stop (Some up) on rest = absurd (none-some s (sym (onward_some nodes key up on).0 ∙ stop))
+    by_stop : (s : Option Stop) → stop_of nodes key ≡ s → (o : Option Key) → onward_of nodes key ≡ o →
+        ((up : Key) → IsSome (find nodes up) →
+        filter_map (stop_at h) (numbers (way_within left nodes up)) ≡ option_to_list (option_and_then numbered (end_of nodes (way_within left nodes up)))) →
+        goal (stop_of nodes key) (option_map_or (way_within left nodes) o [])
+    by_stop s stop None ended rest = one (option_and_then numbered (stop_of nodes key)) (here (stop_of nodes key) refl) ∙
+        ap (λ (x : Option Stop). option_to_list (option_and_then numbered x)) (sym (or_none (stop_of nodes key)))
+    by_stop None stop (Some up) on rest = rw (here None stop, stop) (rest up (above_found nodes key up t.sound (onward_some nodes key up on).1))
+    by_stop (Some s) stop (Some up) on rest = absurd (none-some s (sym (onward_some nodes key up on).0 ∙ stop))
 
 -- in the history ------------------------------------------------------------------------------------
 

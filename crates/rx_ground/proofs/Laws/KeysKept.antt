@@ -79,7 +79,8 @@ module _ {T : Type 0} where
 
   -- an opening, or more than one: each resource is held at an older node
   pub keeps_older : (base : Kept) → (g : Ghosts T) (h : List Event) (old new : Tree T) → IsLawful base h → IsTied base g h old →
-      ((key : Key) → IsSome (find new.nodes key) → key.number < length h → IsSome (find old.nodes key)) → new.resources ≡ old.resources → KeepsKeys old new (length h)
+      ((key : Key) → IsSome (find new.nodes key) → key.number < length h → IsSome (find old.nodes key)) → new.resources ≡ old.resources →
+      KeepsKeys old new (length h)
   keeps_older base g h old new law tied from same = record {
     nodes = from;
     held = λ res held l. held_before old new same res (λ s found there. from s.node there (older (store_key res) s found)) held;

@@ -29,7 +29,8 @@ alike_held old new alike n = λ i. is_some (alike.resources.spots n i) || option
 
 pub renewed_held : (old mid aged : Session) → IsAlike old mid → Renews mid aged → (n : Name) → has_resource aged n ≡ has_resource old n
 renewed_held old mid aged alike renews n =
-    (λ i. is_some (spot_of (ap (λ (s : Session). s.resources) renews.rest i) n) || option_map_or (bytes_eq n) (ap (λ (s : Session). s.unnamed) renews.rest i) false)
+    (λ i. is_some (spot_of (ap (λ (s : Session). s.resources) renews.rest i) n) ||
+    option_map_or (bytes_eq n) (ap (λ (s : Session). s.unnamed) renews.rest i) false)
     ∙ alike_held old mid alike n
 
 pub aged_held : {old aged : Session} → IsAged old aged → (n : Name) → has_resource aged n ≡ has_resource old n

@@ -137,7 +137,8 @@ module _ {X : Type 0} where
   number_at_index [] k has = absurd (false≢true has)
   number_at_index (None ∷ es) k has = let r = number_at_index es k has in (suc r.0, r.1, r.2, r.3)
   number_at_index (Some e ∷ es) k has = of (number_at_index es k) (cases_eq e.number k) where
-    of : (has_number es k ≡ true → (i : ℕ) × (d : Entry X) × (get_or es i None ≡ Some d) × (d.number ≡ k)) → (e.number ≡ k) ⊎ (e.number ≢ k) → (i : ℕ) × (d : Entry X) × (get_or (Some e ∷ es) i None ≡ Some d) × (d.number ≡ k)
+    of : (has_number es k ≡ true → (i : ℕ) × (d : Entry X) × (get_or es i None ≡ Some d) × (d.number ≡ k)) → (e.number ≡ k) ⊎ (e.number ≢ k) →
+        (i : ℕ) × (d : Entry X) × (get_or (Some e ∷ es) i None ≡ Some d) × (d.number ≡ k)
     of later (inl same) = (0, e, refl, same)
     of later (inr apart) =
         let off : (e.number == k) ≡ false = grind (arith, nat_tests, apart) in

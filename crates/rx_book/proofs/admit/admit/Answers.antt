@@ -28,7 +28,8 @@ pub make_room-requires-clause-within : goal.make_room-requires-clause-within
 make_room-requires-clause-within g c κs within =
     let d = c.in_ok-cost.ensures.decided in
     let cost = c.in_ok-cost.cost in
-    subst (λ (x : Ground g.row.R.Denot). length x.register.history + debt x.register.base x.register.history + cost.events ≤ x.register.base.at_length + x.register.limit)
+    subst (λ (x : Ground g.row.R.Denot). length x.register.history + debt x.register.base x.register.history + cost.events ≤
+    x.register.base.at_length + x.register.limit)
     (sym c.in_ok-cost.ensures.kept) (cost_within (state_of g.R.Resource c.args.ground.now) c.args.wish cost d.none d.ok)
 
 pub returns-in_err-make_room-clause-err : goal.returns-in_err-make_room-clause-err

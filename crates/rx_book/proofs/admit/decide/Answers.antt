@@ -13,7 +13,8 @@ returns-in-Open-clause-decided g c =
     let b = c.args.ground.now in
     let at = c.in-Open.at in
     let stand = causes b.register.base b.register.history b.register.limit true (Opening (place_of at) c.in-Open.kind) in
-    let first = first_by_place b.tree stand c.opening_cause.result at (rw (c.spot_of-spot.ensures.place, c.spot_of-spot.ensures.above) at c.opening_cause.ensures) in
+    let first =
+    first_by_place b.tree stand c.opening_cause.result at (rw (c.spot_of-spot.ensures.place, c.spot_of-spot.ensures.above) at c.opening_cause.ensures) in
     let cost = rw c.spot_of-spot.ensures.place at c.opening_cost.ensures in
     let few = few_opened b.register.history c.in-Open.kind in
     let notes = ap (λ (w : Wanted). w.notes) cost in
@@ -28,7 +29,8 @@ returns-in-OpenUsing-clause-decided g c =
     let first = first_by_place b.tree stand c.using_cause.result at (rw (spot.place, spot.above) at c.using_cause.ensures) in
     let cost = rw spot.place at c.of_using.ensures in
     let notes = ap (λ (w : Wanted). w.notes) cost in
-    rw c.in-OpenUsing.is (rw c.unless-in-OpenUsing.ensures (decided (state_of g.R.Resource b) _ c.using_cause.result c.of_using.result first cost (omega arith)))
+    rw c.in-OpenUsing.is
+    (rw c.unless-in-OpenUsing.ensures (decided (state_of g.R.Resource b) _ c.using_cause.result c.of_using.result first cost (omega arith)))
 
 pub returns-in-Hold-clause-decided : goal.returns-in-Hold-clause-decided
 returns-in-Hold-clause-decided g c =
@@ -71,7 +73,8 @@ returns-in-Connect-clause-decided g c =
     let first = sym c.connecting_cause.ensures in
     let cost = c.of_connecting.ensures in
     let notes = ap (λ (w : Wanted). w.notes) cost in
-    rw c.in-Connect.is (rw c.unless-in-Connect.ensures (decided (state_of g.R.Resource b) _ c.connecting_cause.result c.of_connecting.result first cost (omega arith)))
+    rw c.in-Connect.is
+    (rw c.unless-in-Connect.ensures (decided (state_of g.R.Resource b) _ c.connecting_cause.result c.of_connecting.result first cost (omega arith)))
 
 pub returns-in_err-reach-in-Emit-clause-decided : goal.returns-in_err-reach-in-Emit-clause-decided
 returns-in_err-reach-in-Emit-clause-decided g c =

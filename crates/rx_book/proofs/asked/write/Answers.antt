@@ -15,56 +15,70 @@ pub write_end-requires-clause-ready : goal.write_end-requires-clause-ready
 write_end-requires-clause-ready g c κs within = rw c.tree_key.ensures (one_ready g.R.Resource c.args.ground.now _ (rw c.in-End.is at c.requires.let_in) _ refl)
 
 pub write_end-requires-clause-open : goal.write_end-requires-clause-open
-write_end-requires-clause-open g c κs within = rw c.tree_key.ensures (open_asked g.R.Resource c.args.ground.now _ (rw c.in-End.is at c.requires.let_in) c.in-End.leaf refl)
+write_end-requires-clause-open g c κs within =
+    rw c.tree_key.ensures (open_asked g.R.Resource c.args.ground.now _ (rw c.in-End.is at c.requires.let_in) c.in-End.leaf refl)
 
 pub returns-in-End : goal.returns-in-End
 returns-in-End g c =
     let u = c.write_end.ensures in
-    rw c.in-End.is (written_closed g.R.Resource c.args.ground.now c.write_end.new.self _ (rw c.tree_key.ensures at u.written) u.tied u.leased u.kept u.resources u.leases)
+    rw c.in-End.is (written_closed g.R.Resource c.args.ground.now c.write_end.new.self _ (rw c.tree_key.ensures at u.written) u.tied u.leased u.kept
+    u.resources u.leases)
 
 pub write_end-requires-in-Abort-clause-ready : goal.write_end-requires-in-Abort-clause-ready
-write_end-requires-in-Abort-clause-ready g c κs within = rw c.tree_key-in-Abort.ensures (one_ready g.R.Resource c.args.ground.now _ (rw c.in-Abort.is at c.requires.let_in) _ refl)
+write_end-requires-in-Abort-clause-ready g c κs within =
+    rw c.tree_key-in-Abort.ensures (one_ready g.R.Resource c.args.ground.now _ (rw c.in-Abort.is at c.requires.let_in) _ refl)
 
 pub write_end-requires-in-Abort-clause-open : goal.write_end-requires-in-Abort-clause-open
-write_end-requires-in-Abort-clause-open g c κs within = rw c.tree_key-in-Abort.ensures (open_asked g.R.Resource c.args.ground.now _ (rw c.in-Abort.is at c.requires.let_in) c.in-Abort.node refl)
+write_end-requires-in-Abort-clause-open g c κs within =
+    rw c.tree_key-in-Abort.ensures (open_asked g.R.Resource c.args.ground.now _ (rw c.in-Abort.is at c.requires.let_in) c.in-Abort.node refl)
 
 pub returns-in-Abort : goal.returns-in-Abort
 returns-in-Abort g c =
     let u = c.write_end-in-Abort.ensures in
-    rw c.in-Abort.is (written_closed g.R.Resource c.args.ground.now c.write_end-in-Abort.new.self _ (rw c.tree_key-in-Abort.ensures at u.written) u.tied u.leased u.kept u.resources u.leases)
+    rw c.in-Abort.is (written_closed g.R.Resource c.args.ground.now c.write_end-in-Abort.new.self _ (rw c.tree_key-in-Abort.ensures at u.written) u.tied
+    u.leased u.kept u.resources u.leases)
 
 pub write_decline-requires-clause-ready : goal.write_decline-requires-clause-ready
-write_decline-requires-clause-ready g c κs within = rw c.tree_key-in-Decline.ensures (one_ready g.R.Resource c.args.ground.now _ (rw c.in-Decline.is at c.requires.let_in) _ refl)
+write_decline-requires-clause-ready g c κs within =
+    rw c.tree_key-in-Decline.ensures (one_ready g.R.Resource c.args.ground.now _ (rw c.in-Decline.is at c.requires.let_in) _ refl)
 
 pub write_decline-requires-clause-open : goal.write_decline-requires-clause-open
-write_decline-requires-clause-open g c κs within = rw c.tree_key-in-Decline.ensures (open_asked g.R.Resource c.args.ground.now _ (rw c.in-Decline.is at c.requires.let_in) c.in-Decline.merging refl)
+write_decline-requires-clause-open g c κs within =
+    rw c.tree_key-in-Decline.ensures (open_asked g.R.Resource c.args.ground.now _ (rw c.in-Decline.is at c.requires.let_in) c.in-Decline.merging refl)
 
 pub returns-in-Decline : goal.returns-in-Decline
 returns-in-Decline g c =
     let u = c.write_decline.ensures in
-    rw c.in-Decline.is (written_closed g.R.Resource c.args.ground.now c.write_decline.new.self _ (rw c.tree_key-in-Decline.ensures at u.written) u.tied u.leased u.kept u.resources u.leases)
+    rw c.in-Decline.is (written_closed g.R.Resource c.args.ground.now c.write_decline.new.self _ (rw c.tree_key-in-Decline.ensures at u.written) u.tied
+    u.leased u.kept u.resources u.leases)
 
 pub write_end-requires-in-Fail-clause-ready : goal.write_end-requires-in-Fail-clause-ready
-write_end-requires-in-Fail-clause-ready g c κs within = rw c.tree_key-in-Fail.ensures (one_ready g.R.Resource c.args.ground.now _ (rw c.in-Fail.is at c.requires.let_in) _ refl)
+write_end-requires-in-Fail-clause-ready g c κs within =
+    rw c.tree_key-in-Fail.ensures (one_ready g.R.Resource c.args.ground.now _ (rw c.in-Fail.is at c.requires.let_in) _ refl)
 
 pub write_end-requires-in-Fail-clause-open : goal.write_end-requires-in-Fail-clause-open
-write_end-requires-in-Fail-clause-open g c κs within = rw c.tree_key-in-Fail.ensures (open_asked g.R.Resource c.args.ground.now _ (rw c.in-Fail.is at c.requires.let_in) c.in-Fail.merging refl)
+write_end-requires-in-Fail-clause-open g c κs within =
+    rw c.tree_key-in-Fail.ensures (open_asked g.R.Resource c.args.ground.now _ (rw c.in-Fail.is at c.requires.let_in) c.in-Fail.merging refl)
 
 pub returns-in-Fail : goal.returns-in-Fail
 returns-in-Fail g c =
     let u = c.write_end-in-Fail.ensures in
-    rw c.in-Fail.is (written_closed g.R.Resource c.args.ground.now c.write_end-in-Fail.new.self _ (rw c.tree_key-in-Fail.ensures at u.written) u.tied u.leased u.kept u.resources u.leases)
+    rw c.in-Fail.is (written_closed g.R.Resource c.args.ground.now c.write_end-in-Fail.new.self _ (rw c.tree_key-in-Fail.ensures at u.written) u.tied u.leased
+    u.kept u.resources u.leases)
 
 pub write_close-requires-clause-ready : goal.write_close-requires-clause-ready
-write_close-requires-clause-ready g c κs within = rw c.tree_key-in-Dispose.ensures (one_ready g.R.Resource c.args.ground.now _ (rw c.in-Dispose.is at c.requires.let_in) _ refl)
+write_close-requires-clause-ready g c κs within =
+    rw c.tree_key-in-Dispose.ensures (one_ready g.R.Resource c.args.ground.now _ (rw c.in-Dispose.is at c.requires.let_in) _ refl)
 
 pub write_close-requires-clause-open : goal.write_close-requires-clause-open
-write_close-requires-clause-open g c κs within = rw c.tree_key-in-Dispose.ensures (open_asked g.R.Resource c.args.ground.now _ (rw c.in-Dispose.is at c.requires.let_in) c.in-Dispose.root refl)
+write_close-requires-clause-open g c κs within =
+    rw c.tree_key-in-Dispose.ensures (open_asked g.R.Resource c.args.ground.now _ (rw c.in-Dispose.is at c.requires.let_in) c.in-Dispose.root refl)
 
 pub returns-in-Dispose : goal.returns-in-Dispose
 returns-in-Dispose g c =
     let u = c.write_close.ensures in
-    rw c.in-Dispose.is (written_closed g.R.Resource c.args.ground.now c.write_close.new.self _ (rw c.tree_key-in-Dispose.ensures at u.written) u.tied u.leased u.kept u.resources u.leases)
+    rw c.in-Dispose.is (written_closed g.R.Resource c.args.ground.now c.write_close.new.self _ (rw c.tree_key-in-Dispose.ensures at u.written) u.tied u.leased
+    u.kept u.resources u.leases)
 
 -- the hub's open connection is closed, and nothing else
 pub write_close-requires-in-Some-clause-ready : goal.write_close-requires-in-Some-clause-ready
@@ -82,7 +96,8 @@ returns-in-Some g c =
     rw c.in-Disconnect.is (written_closed g.R.Resource b mid _ w u.tied u.leased u.kept u.resources u.leases)
 
 pub write_remove-requires-clause-ready : goal.write_remove-requires-clause-ready
-write_remove-requires-clause-ready g c κs within = rw c.tree_res_key.ensures (one_ready g.R.Resource c.args.ground.now _ (rw c.in-Remove.is at c.requires.let_in) _ refl)
+write_remove-requires-clause-ready g c κs within =
+    rw c.tree_res_key.ensures (one_ready g.R.Resource c.args.ground.now _ (rw c.in-Remove.is at c.requires.let_in) _ refl)
 
 pub write_remove-requires-clause-owned : goal.write_remove-requires-clause-owned
 write_remove-requires-clause-owned g c κs within =
@@ -94,11 +109,13 @@ write_remove-requires-clause-owned g c κs within =
 pub returns-in-Remove : goal.returns-in-Remove
 returns-in-Remove g c =
     let u = c.write_remove.ensures in
-    rw c.in-Remove.is (written_held g.R.Resource c.args.ground.now c.write_remove.new.self _ (rw c.tree_res_key.ensures at u.written) u.tied u.leased u.nodes u.kept
+    rw c.in-Remove.is
+    (written_held g.R.Resource c.args.ground.now c.write_remove.new.self _ (rw c.tree_res_key.ensures at u.written) u.tied u.leased u.nodes u.kept
     (leases_stay _ _ _ u.leases))
 
 pub write_return-requires-clause-ready : goal.write_return-requires-clause-ready
-write_return-requires-clause-ready g c κs within = rw c.ground_lease_key.ensures (one_ready g.R.Resource c.args.ground.now _ (rw c.in-GiveBack.is at c.requires.let_in) _ refl)
+write_return-requires-clause-ready g c κs within =
+    rw c.ground_lease_key.ensures (one_ready g.R.Resource c.args.ground.now _ (rw c.in-GiveBack.is at c.requires.let_in) _ refl)
 
 pub write_return-requires-clause-out : goal.write_return-requires-clause-out
 write_return-requires-clause-out g c κs within =
@@ -107,4 +124,5 @@ write_return-requires-clause-out g c κs within =
 pub returns-in-GiveBack : goal.returns-in-GiveBack
 returns-in-GiveBack g c =
     let u = c.write_return.ensures in
-    rw c.in-GiveBack.is (written_held g.R.Resource c.args.ground.now c.write_return.new.self _ (rw c.ground_lease_key.ensures at u.written) u.tied u.leased u.nodes u.kept u.leases)
+    rw c.in-GiveBack.is (written_held g.R.Resource c.args.ground.now c.write_return.new.self _ (rw c.ground_lease_key.ensures at u.written) u.tied u.leased
+    u.nodes u.kept u.leases)

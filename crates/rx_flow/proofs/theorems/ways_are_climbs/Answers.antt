@@ -2,4 +2,10 @@ use Rattle.rx_flow.proofs.Laws.Ways.{climb_whole_way, stops_whole_way, climb_con
 use Rattle.rx_flow.proofs.theorems.ways_are_climbs.Goals as goal
 
 pub returns : goal.returns
-returns c base = record { whole = climb_whole_way base; alone = stops_whole_way base; connected_climb = climb_connected_way base; connected_stops = stops_connected_way base }
+returns c base =
+    record {
+      whole = climb_whole_way base;
+      alone = stops_whole_way base;
+      connected_climb = climb_connected_way base;
+      connected_stops = stops_connected_way base;
+    }

@@ -7,7 +7,15 @@ use Rattle.rx_live.proofs.closing.close.Goals as goal
 pub returns-clause-sound : goal.returns-clause-sound
 returns-clause-sound c =
     let s = session_of c.args.engine.now in
-    let t : Session = record s { book = c.close-closed.new.self; nodes = c.new.result; hubs = c.new-2.result; resources = c.new-3.result; leases = c.new-4.result; unnamed = None } in
+    let t : Session =
+    record s {
+      book = c.close-closed.new.self;
+      nodes = c.new.result;
+      hubs = c.new-2.result;
+      resources = c.new-3.result;
+      leases = c.new-4.result;
+      unnamed = None;
+    } in
     let closed : IsClosed t = record {
       none_open = c.close-closed.ensures.none_open;
       none_held = c.close-closed.ensures.none_held;

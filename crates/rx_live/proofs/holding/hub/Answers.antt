@@ -22,7 +22,8 @@ returns-in-Ok-clause-ok c =
     let spot : Spot = record { slot = 0; number = c.in-Ok.number } in
     let t : Session = record s { book = book; hubs = new } in
     let number : spot.number ≡ length s.book.history = c.in-Ok.ensures.ok in
-    let free : is_some (hub_of s name) ≡ false = ap is_some (ap (hub_of s) (sym c.as_str.ensures.value) ∙ sym c.hub_of.ensures) ∙ sym c.is_some.ensures ∙ c.if-is_some.false in
+    let free : is_some (hub_of s name) ≡ false =
+    ap is_some (ap (hub_of s) (sym c.as_str.ensures.value) ∙ sym c.hub_of.ensures) ∙ sym c.is_some.ensures ∙ c.if-is_some.false in
     let binds : Binds mid name spot new = subst (λ (n : Name). Binds mid n spot new) c.in_ok-name.ensures c.bind.ensures.binds in
     let accepts : Accepts s.book asked book = c.in-Ok.ensures.accepted in
     let paired = c.bind.ensures.paired (c.make_room.ensures.paired c.requires.hub_pairs) in

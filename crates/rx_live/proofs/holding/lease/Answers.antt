@@ -28,11 +28,14 @@ returns-in-Ok-clause-ok c =
     let t : Session = record s { book = book; leases = new } in
     let number : spot.number ≡ length s.book.history = c.in-Ok.ensures.ok.number in
     let found : resource_of s c.args.res.now ≡ Some key = sym c.resource.ensures ∙ c.in-Some.is in
-    let free : is_some (lease_of s name) ≡ false = ap is_some (ap (lease_of s) (sym c.as_str.ensures.value) ∙ sym c.lease_of.ensures) ∙ sym c.is_some.ensures ∙ c.if-is_some.false in
+    let free : is_some (lease_of s name) ≡ false =
+    ap is_some (ap (lease_of s) (sym c.as_str.ensures.value) ∙ sym c.lease_of.ensures) ∙ sym c.is_some.ensures ∙ c.if-is_some.false in
     let binds : Binds mid name spot new = subst (λ (n : Name). Binds mid n spot new) c.in_ok-name.ensures c.bind.ensures.binds in
     let accepts : Accepts s.book (lease_request s.book key) book = c.in-Ok.ensures.accepted in
     let paired = c.bind.ensures.paired (c.make_room.ensures.paired c.requires.lease_pairs) in
-    given_accepted s t (option_map (lease_request s.book) (resource_of s c.args.res.now)) (lease_request s.book key) (is_some (lease_of s name)) (BindsLease s name)
+    given_accepted s t (option_map (lease_request s.book) (resource_of s c.args.res.now)) (lease_request s.book key) (is_some (lease_of s name))
+    (BindsLease s name)
     (ap (option_map (lease_request s.book)) found) free accepts
     (leased_bound s book name spot mid new c.requires c.promise.ensures paired c.make_room.ensures.same binds number)
-    (leased_sound s book name spot mid new c.requires c.promise.ensures paired key.number (has_res_key s.book.res_keys key) c.make_room.ensures.same binds number accepts)
+    (leased_sound s book name spot mid new c.requires c.promise.ensures paired key.number (has_res_key s.book.res_keys key) c.make_room.ensures.same binds
+    number accepts)

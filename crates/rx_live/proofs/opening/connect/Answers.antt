@@ -21,7 +21,8 @@ returns-in-Err-clause-err c =
     let s = session_of c.args.engine.now in
     let t = c.make_room.new.self in
     on_err c.answered.result _ (with_book s c.connect.new.self t s.resources c.in-Err.ensures.kept
-    (unchanged_room s c.is_other_taken.new.nodes t c.requires c.is_other_taken.ensures.same c.make_room.ensures.same (c.make_room.ensures.paired c.is_other_taken.ensures.paired)))
+    (unchanged_room s c.is_other_taken.new.nodes t c.requires c.is_other_taken.ensures.same c.make_room.ensures.same
+    (c.make_room.ensures.paired c.is_other_taken.ensures.paired)))
 
 pub returns-in-Err-clause-ok : goal.returns-in-Err-clause-ok
 returns-in-Err-clause-ok c =
@@ -30,11 +31,13 @@ returns-in-Err-clause-ok c =
     let name : Option Name = option_map string_bytes c.args.name in
     let found : hub_of s c.args.hub.now ≡ Some c.in-Some.number = sym c.hub_of.ensures ∙ c.in-Some.is in
     let free : option_map_or (is_node s) name false ≡ false = sym c.is_other_taken.ensures.answer ∙ c.if-is_other_taken.false in
-    given_refused s (record s { book = c.connect.new.self; nodes = t }) (option_map connect_request (hub_of s c.args.hub.now)) (connect_request c.in-Some.number)
+    given_refused s (record s { book = c.connect.new.self; nodes = t }) (option_map connect_request (hub_of s c.args.hub.now))
+    (connect_request c.in-Some.number)
     (option_map_or (is_node s) name false) (BindsConnection s name) c.in-Err.why c.answered.result
     (ap (option_map connect_request) found) free c.in-Err.ensures.refused
     (with_book s c.connect.new.self t s.resources c.in-Err.ensures.kept
-    (unchanged_room s c.is_other_taken.new.nodes t c.requires c.is_other_taken.ensures.same c.make_room.ensures.same (c.make_room.ensures.paired c.is_other_taken.ensures.paired)))
+    (unchanged_room s c.is_other_taken.new.nodes t c.requires c.is_other_taken.ensures.same c.make_room.ensures.same
+    (c.make_room.ensures.paired c.is_other_taken.ensures.paired)))
     c.answered.ensures.ok
 
 pub returns-in-Ok-clause-ok : goal.returns-in-Ok-clause-ok
@@ -55,4 +58,5 @@ returns-in-Ok-clause-ok c =
     given_accepted s (record s { book = book; nodes = new }) (option_map connect_request (hub_of s c.args.hub.now)) (connect_request c.in-Some.number)
     (option_map_or (is_node s) name false) (BindsConnection s name) (ap (option_map connect_request) found) free accepts
     (connected_bound s mid t c.requires c.is_other_taken.ensures.same c.make_room.ensures.same book new c.promise.ensures paired name made)
-    (connected_sound s mid t c.requires c.is_other_taken.ensures.same c.make_room.ensures.same book new c.promise.ensures paired name made c.in-Some.number accepts)
+    (connected_sound s mid t c.requires c.is_other_taken.ensures.same c.make_room.ensures.same book new c.promise.ensures paired name made c.in-Some.number
+    accepts)

@@ -32,5 +32,6 @@ returns-clause-same c =
     let spot = c.in-Some.spot in
     let found : spot_of old name ≡ Some spot = sym c.get.ensures ∙ c.in-Some.is in
     let known : name_of old spot.number ≡ Some name = c.requires.named name spot found in
-    open_forgot c.args.untold.now c.args.book.now old new name spot (sym c.is_some.ensures ∙ c.if-is_some.false) found (sym c.is_open.ensures ∙ c.if-is_open.false)
+    open_forgot c.args.untold.now c.args.book.now old new name spot (sym c.is_some.ensures ∙ c.if-is_some.false) found
+    (sym c.is_open.ensures ∙ c.if-is_open.false)
     (forgot old new spot.number name c.forget-name.result known c.forget-name.ensures.value c.forget-name.ensures.some)

@@ -16,14 +16,16 @@ pub returns-in_err-make_room-clause-err : goal.returns-in_err-make_room-clause-e
 returns-in_err-make_room-clause-err c =
     let s = session_of c.args.engine.now in
     on_err c.from_residual-in_err-make_room.result _
-    (unchanged_room s c.are_taken.new.nodes c.make_room.new.self c.requires c.are_taken.ensures.same c.make_room.ensures.same (c.make_room.ensures.paired c.are_taken.ensures.paired))
+    (unchanged_room s c.are_taken.new.nodes c.make_room.new.self c.requires c.are_taken.ensures.same c.make_room.ensures.same
+    (c.make_room.ensures.paired c.are_taken.ensures.paired))
 
 pub returns-in-Err-clause-err : goal.returns-in-Err-clause-err
 returns-in-Err-clause-err c =
     let s = session_of c.args.engine.now in
     let t = c.make_room.new.self in
     on_err c.answered.result _ (with_book s c.open.new.self t s.resources c.in-Err.ensures.kept
-    (unchanged_room s c.are_taken.new.nodes t c.requires c.are_taken.ensures.same c.make_room.ensures.same (c.make_room.ensures.paired c.are_taken.ensures.paired)))
+    (unchanged_room s c.are_taken.new.nodes t c.requires c.are_taken.ensures.same c.make_room.ensures.same
+    (c.make_room.ensures.paired c.are_taken.ensures.paired)))
 
 pub returns-in-Err-clause-ok : goal.returns-in-Err-clause-ok
 returns-in-Err-clause-ok c =
@@ -34,10 +36,12 @@ returns-in-Err-clause-ok c =
     let call = open_request s.book c.args.place c.args.kind in
     let free : is_open_taken s name connection ≡ false =
     ap (λ (n : Name). is_open_taken s n connection) (sym c.as_str.ensures.value) ∙ sym c.are_taken.ensures.answer ∙ c.if-are_taken.false in
-    given_refused s (record s { book = c.open.new.self; nodes = t }) (Some call) call (is_open_taken s name connection) (BindsNode s name connection) c.in-Err.why c.answered.result
+    given_refused s (record s { book = c.open.new.self; nodes = t }) (Some call) call (is_open_taken s name connection) (BindsNode s name connection)
+    c.in-Err.why c.answered.result
     refl free c.in-Err.ensures.refused
     (with_book s c.open.new.self t s.resources c.in-Err.ensures.kept
-    (unchanged_room s c.are_taken.new.nodes t c.requires c.are_taken.ensures.same c.make_room.ensures.same (c.make_room.ensures.paired c.are_taken.ensures.paired)))
+    (unchanged_room s c.are_taken.new.nodes t c.requires c.are_taken.ensures.same c.make_room.ensures.same
+    (c.make_room.ensures.paired c.are_taken.ensures.paired)))
     c.answered.ensures.ok
 
 pub returns-in-Ok-clause-ok : goal.returns-in-Ok-clause-ok
@@ -58,7 +62,8 @@ returns-in-Ok-clause-ok c =
     let number : spot.number ≡ length s.book.history = ap (λ (p : Spot). p.number) c.spot_of.ensures ∙ c.in-Ok.ensures.ok.key.number in
     let binds : Binds t name spot with_node = subst (λ (n : Name). Binds t n spot with_node) c.in_ok-name.ensures c.bind.ensures.binds in
     let made : BindsMade with_node connection (option_map (λ (k : Key). k.number) opened.connected) new =
-    subst (λ (n : Option Name). BindsMade with_node n (option_map (λ (k : Key). k.number) opened.connected) new) c.in_ok-connection.ensures c.bind_made.ensures.binds in
+    subst (λ (n : Option Name). BindsMade with_node n (option_map (λ (k : Key). k.number) opened.connected) new) c.in_ok-connection.ensures
+    c.bind_made.ensures.binds in
     let paired = c.bind_made.ensures.paired (c.bind.ensures.paired (c.make_room.ensures.paired c.are_taken.ensures.paired)) in
     let accepts : Accepts s.book call book = c.in-Ok.ensures.accepted in
     given_accepted s (record s { book = book; nodes = new }) (Some call) call (is_open_taken s name connection) (BindsNode s name connection) refl free accepts
@@ -79,4 +84,5 @@ bind_made-requires-clause-free c =
     ap (λ (n : Name). is_open_taken s n connection) (sym c.as_str.ensures.value) ∙ sym c.are_taken.ensures.answer ∙ c.if-are_taken.false in
     let binds : Binds t name spot with_node = subst (λ (n : Name). Binds t n spot with_node) c.in_ok-name.ensures c.bind.ensures.binds in
     subst (λ (o : Option Name). IfSome o (λ n. spot_of with_node n ≡ None)) (sym c.in_ok-connection.ensures)
-    (connection_free s name spot c.are_taken.new.nodes t with_node connection free c.make_room.ensures.same binds (c.are_taken.ensures.other_free c.if-are_taken.false))
+    (connection_free s name spot c.are_taken.new.nodes t with_node connection free c.make_room.ensures.same binds
+    (c.are_taken.ensures.other_free c.if-are_taken.false))

@@ -16,13 +16,15 @@ pub returns-in_err-make_room-clause-err : goal.returns-in_err-make_room-clause-e
 returns-in_err-make_room-clause-err c =
     let s = session_of c.args.engine.now in
     on_err c.from_residual-in_err-make_room.result _
-    (unchanged_room s c.is_taken.new.nodes c.make_room.new.self c.requires c.is_taken.ensures.same c.make_room.ensures.same (c.make_room.ensures.paired c.is_taken.ensures.paired))
+    (unchanged_room s c.is_taken.new.nodes c.make_room.new.self c.requires c.is_taken.ensures.same c.make_room.ensures.same
+    (c.make_room.ensures.paired c.is_taken.ensures.paired))
 
 pub returns-in_err-make_room-2-clause-err : goal.returns-in_err-make_room-2-clause-err
 returns-in_err-make_room-2-clause-err c =
     let s = session_of c.args.engine.now in
     on_err c.from_residual-in_err-make_room-2.result _
-    (unchanged_rooms s c.is_taken.new.nodes c.make_room.new.self c.make_room-2.new.self c.requires c.is_taken.ensures.same c.make_room.ensures.same c.make_room-2.ensures.same
+    (unchanged_rooms s c.is_taken.new.nodes c.make_room.new.self c.make_room-2.new.self c.requires c.is_taken.ensures.same c.make_room.ensures.same
+    c.make_room-2.ensures.same
     (c.make_room.ensures.paired c.is_taken.ensures.paired) (c.make_room-2.ensures.paired c.requires.resource_pairs))
 
 pub bind-requires-in-Ok-clause-unnamed : goal.bind-requires-in-Ok-clause-unnamed
@@ -34,7 +36,8 @@ pub returns-in-Err-clause-err : goal.returns-in-Err-clause-err
 returns-in-Err-clause-err c =
     let s = session_of c.args.engine.now in
     on_err c.answered.result _ (with_book s c.open_using.new.self c.make_room.new.self c.make_room-2.new.self c.in-Err.ensures.kept
-    (unchanged_rooms s c.is_taken.new.nodes c.make_room.new.self c.make_room-2.new.self c.requires c.is_taken.ensures.same c.make_room.ensures.same c.make_room-2.ensures.same
+    (unchanged_rooms s c.is_taken.new.nodes c.make_room.new.self c.make_room-2.new.self c.requires c.is_taken.ensures.same c.make_room.ensures.same
+    c.make_room-2.ensures.same
     (c.make_room.ensures.paired c.is_taken.ensures.paired) (c.make_room-2.ensures.paired c.requires.resource_pairs)))
 
 pub returns-in-Err-clause-ok : goal.returns-in-Err-clause-ok
@@ -49,13 +52,16 @@ returns-in-Err-clause-ok c =
     let free : has_resource s res ≡ false = ap (has_resource s) (sym c.as_str.ensures.value) ∙ sym c.has_resource.ensures ∙ c.if-has_resource.false in
     let fresh = is_new c.new-3.result.life c.new-3.result.uses c.new-3.ensures.live c.new-3.ensures.unused in
     let cause : IsCauseOrWant s.book (using_at s.book place) c.in-Err.unheld.why =
-    subst (λ (b : Bool). IsCauseOrWant s.book (record { call = OpeningUsing (place_of place) 0; is_known = is_known_place s.book.keys place; is_fresh = b }) c.in-Err.unheld.why)
+    subst (λ (b : Bool). IsCauseOrWant s.book (record { call = OpeningUsing (place_of place) 0; is_known = is_known_place s.book.keys place; is_fresh = b })
+    c.in-Err.unheld.why)
     fresh c.in-Err.ensures.refused.why in
-    given_refused s (record s { book = c.open_using.new.self; nodes = c.make_room.new.self; resources = c.make_room-2.new.self }) (using_asked s site) (using_at s.book place)
+    given_refused s (record s { book = c.open_using.new.self; nodes = c.make_room.new.self; resources = c.make_room-2.new.self }) (using_asked s site)
+    (using_at s.book place)
     (is_using_taken s name res) (BindsUsing s name res) c.in-Err.unheld.why c.answered.result
     (ap (option_map (using_at s.book)) found) (λ i. no_node i || free i) cause
     (with_book s c.open_using.new.self c.make_room.new.self c.make_room-2.new.self c.in-Err.ensures.kept
-    (unchanged_rooms s c.is_taken.new.nodes c.make_room.new.self c.make_room-2.new.self c.requires c.is_taken.ensures.same c.make_room.ensures.same c.make_room-2.ensures.same
+    (unchanged_rooms s c.is_taken.new.nodes c.make_room.new.self c.make_room-2.new.self c.requires c.is_taken.ensures.same c.make_room.ensures.same
+    c.make_room-2.ensures.same
     (c.make_room.ensures.paired c.is_taken.ensures.paired) (c.make_room-2.ensures.paired c.requires.resource_pairs)))
     c.answered.ensures.ok
 
@@ -86,9 +92,12 @@ returns-in-Ok-clause-ok c =
     let binds_res : Binds more res held resources = subst (λ (n : Name). Binds more n held resources) c.in_ok-res.ensures c.bind-in-Ok.ensures.binds in
     let pairs = c.bind.ensures.paired (c.make_room.ensures.paired c.is_taken.ensures.paired) in
     let paired = c.bind-in-Ok.ensures.paired (c.make_room-2.ensures.paired c.requires.resource_pairs) in
-    given_accepted s (record s { book = book; nodes = nodes; resources = resources }) (using_asked s site) (using_at s.book place) (is_using_taken s name res) (BindsUsing s name res)
+    given_accepted s (record s { book = book; nodes = nodes; resources = resources }) (using_asked s site) (using_at s.book place) (is_using_taken s name res)
+    (BindsUsing s name res)
     (ap (option_map (using_at s.book)) found) (λ i. no_node i || free i) accepts
-    (used_bound s mid t c.requires c.is_taken.ensures.same c.make_room.ensures.same book name res spot held more nodes resources c.promise.ensures pairs paired binds number
+    (used_bound s mid t c.requires c.is_taken.ensures.same c.make_room.ensures.same book name res spot held more nodes resources c.promise.ensures pairs
+    paired binds number
     c.make_room-2.ensures.same binds_res c.in-Ok.ensures.ok.res.number)
-    (used_sound s mid t c.requires c.is_taken.ensures.same c.make_room.ensures.same book name res spot held more nodes resources c.promise.ensures pairs paired binds number
+    (used_sound s mid t c.requires c.is_taken.ensures.same c.make_room.ensures.same book name res spot held more nodes resources c.promise.ensures pairs
+    paired binds number
     c.make_room-2.ensures.same binds_res c.in-Ok.ensures.ok.res.number place free accepts)

@@ -9,11 +9,14 @@ numbers-preserved c =
     record {
       same = open_on None book c.args.nodes.now c.numbers.nodes c.forget_closed.new.nodes c.numbers.invariant.same c.forget_closed.ensures.same;
       paired = c.forget_closed.ensures.paired;
-      left = left_one book c.numbers.nodes c.forget_closed.new.nodes c.pop.new.self.items c.in-Some.number c.forget_closed.ensures.same c.forget_closed.ensures.left
+      left =
+          left_one book c.numbers.nodes c.forget_closed.new.nodes c.pop.new.self.items c.in-Some.number c.forget_closed.ensures.same
+          c.forget_closed.ensures.left
           (subst (λ (ns : List ℕ). AreLeft book c.numbers.nodes ns) c.in-Some.ensures.items c.numbers.invariant.left);
     }
 
 pub returns-clause-open_alone : goal.returns-clause-open_alone
 returns-clause-open_alone c =
     let none : length c.numbers.numbers.items ≡ 0 = search (rules, c.in_default.ensures.cases.0) in
-    left_none c.args.book.now c.numbers.nodes c.numbers.invariant.paired (left_end c.args.book.now c.numbers.nodes c.numbers.numbers.items none c.numbers.invariant.left)
+    left_none c.args.book.now c.numbers.nodes c.numbers.invariant.paired
+    (left_end c.args.book.now c.numbers.nodes c.numbers.numbers.items none c.numbers.invariant.left)

@@ -10,7 +10,8 @@ returns-then-is_some-clause-ok c = (mail_left (session_of c.args.engine.now) (sy
 pub returns-in-Ok-clause-ok : goal.returns-in-Ok-clause-ok
 returns-in-Ok-clause-ok c =
     let s = session_of c.args.engine.now in
-    renews s c.checkpoint.new.self c.forget_all_closed.new.nodes (none_of s.untold (sym c.is_some.ensures ∙ c.if-is_some.false)) c.promise.ensures c.in-Ok.ensures.made
+    renews s c.checkpoint.new.self c.forget_all_closed.new.nodes (none_of s.untold (sym c.is_some.ensures ∙ c.if-is_some.false)) c.promise.ensures
+    c.in-Ok.ensures.made
     c.forget_all_closed.ensures.same c.forget_all_closed.ensures.open_alone
 
 pub returns-in-Ok-clause-sound : goal.returns-in-Ok-clause-sound
@@ -22,4 +23,5 @@ pub returns-in-Err-clause-ok : goal.returns-in-Err-clause-ok
 returns-in-Err-clause-ok c =
     let s = session_of c.args.engine.now in
     let none = none_of s.untold (sym c.is_some.ensures ∙ c.if-is_some.false) in
-    renewing_refused s c.checkpoint.new.self c.in-Err.why c.answered.result c.answered.ensures.ok (refused_cause s c.in-Err.why none c.in-Err.ensures.refused) c.in-Err.ensures.kept
+    renewing_refused s c.checkpoint.new.self c.in-Err.why c.answered.result c.answered.ensures.ok (refused_cause s c.in-Err.why none c.in-Err.ensures.refused)
+    c.in-Err.ensures.kept

@@ -12,7 +12,8 @@ returns-in-Ok-Command-clause-some c =
     let line = c.args.line.now in
     let order : IsOrderOf line (command (command_of c.in-Ok-Command.command)) =
     subst (λ (o : OrderInCode). IsOrderOf line (order_of o)) c.in-Ok-Command.field-0-is c.in-Ok-Command.ensures.ok in
-    answered_command (session_of c.args.engine.now) (session_of c.carry_out.new.engine) line (command_of c.in-Ok-Command.command) c.carry_out.result order c.carry_out.ensures.some
+    answered_command (session_of c.args.engine.now) (session_of c.carry_out.new.engine) line (command_of c.in-Ok-Command.command) c.carry_out.result order
+    c.carry_out.ensures.some
 
 pub returns-in_ok-list_text-in-Ok-List-clause-some : goal.returns-in_ok-list_text-in-Ok-List-clause-some
 returns-in_ok-list_text-in-Ok-List-clause-some c =

@@ -16,7 +16,8 @@ returns-then-is_full_by_age-clause-none c =
     let new = session_of c.run.new.engine in
     let runs : Runs old (command_of c.args.command) (Refused c.in-Refused.why) new =
     subst (λ (o : Outcome). Runs old (command_of c.args.command) o new) c.in-Refused.is c.in_ok-run.ensures.ok in
-    full_by_age old new c.in-Refused.why (refused_alike old new (command_of c.args.command) c.in-Refused.why runs) (sym c.is_full_by_age.ensures ∙ c.if-is_full_by_age.true)
+    full_by_age old new c.in-Refused.why (refused_alike old new (command_of c.args.command) c.in-Refused.why runs)
+    (sym c.is_full_by_age.ensures ∙ c.if-is_full_by_age.true)
 
 pub returns-in_err-refused_text-in-Refused-clause-err : goal.returns-in_err-refused_text-in-Refused-clause-err
 returns-in_err-refused_text-in-Refused-clause-err c =
@@ -33,7 +34,8 @@ returns-in-Accepted-clause-some c =
     let done = session_of c.run.new.engine in
     let runs : Runs old (command_of c.args.command) Accepted done =
     subst (λ (o : Outcome). Runs old (command_of c.args.command) o done) c.in-Accepted.is c.in_ok-run.ensures.ok in
-    carried_out old done (session_of c.tell.new.engine) (command_of c.args.command) (string_bytes c.in_ok-text.text) (string_bytes c.tell.result) runs c.in_ok-text.ensures.text
+    carried_out old done (session_of c.tell.new.engine) (command_of c.args.command) (string_bytes c.in_ok-text.text) (string_bytes c.tell.result) runs
+    c.in_ok-text.ensures.text
     c.tell.ensures.tells
 
 pub returns-in_ok-refused_text-in-Refused-clause-some : goal.returns-in_ok-refused_text-in-Refused-clause-some
@@ -41,7 +43,9 @@ returns-in_ok-refused_text-in-Refused-clause-some c =
     let old = session_of c.args.engine.now in
     let new = session_of c.run.new.engine in
     let why = c.in-Refused.why in
-    let runs : Runs old (command_of c.args.command) (Refused why) new = subst (λ (o : Outcome). Runs old (command_of c.args.command) o new) c.in-Refused.is c.in_ok-run.ensures.ok in
+    let runs : Runs old (command_of c.args.command) (Refused why) new =
+    subst (λ (o : Outcome). Runs old (command_of c.args.command) o new) c.in-Refused.is c.in_ok-run.ensures.ok in
     refused_out old new (command_of c.args.command) why (string_bytes c.in_ok-refused_text-in-Refused.field-0) runs
-    (full_by_open old new why c.requires.kept (refused_alike old new (command_of c.args.command) why runs) (sym c.is_full_by_age.ensures ∙ c.if-is_full_by_age.false))
+    (full_by_open old new why c.requires.kept (refused_alike old new (command_of c.args.command) why runs)
+    (sym c.is_full_by_age.ensures ∙ c.if-is_full_by_age.false))
     c.in_ok-refused_text-in-Refused.ensures

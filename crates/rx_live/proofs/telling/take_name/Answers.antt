@@ -11,20 +11,24 @@ pub returns-clause-none : goal.returns-clause-none
 returns-clause-none c =
     let s = session_of c.args.engine.now in
     let named : is_some (name_of s.resources c.number-number.result) ≡ true =
-    waiting_named s c.number-number.result c.requires (contains_number (λ l. l.number) s.book.waiting _ c.number-number.result c.in_ok-handed.ensures.cases c.number-number.ensures) in
+    waiting_named s c.number-number.result c.requires
+    (contains_number (λ l. l.number) s.book.waiting _ c.number-number.result c.in_ok-handed.ensures.cases c.number-number.ensures) in
     never_none c.forget.result (name_of s.resources c.number-number.result) _ c.forget.ensures.value named
 
 pub returns-clause-all : goal.returns-clause-all
 returns-clause-all c =
     let s = session_of c.args.engine.now in
     let named : is_some (name_of s.resources c.number-number.result) ≡ true =
-    waiting_named s c.number-number.result c.requires (contains_number (λ l. l.number) s.book.waiting _ c.number-number.result c.in_ok-handed.ensures.cases c.number-number.ensures) in
+    waiting_named s c.number-number.result c.requires
+    (contains_number (λ l. l.number) s.book.waiting _ c.number-number.result c.in_ok-handed.ensures.cases c.number-number.ensures) in
     never_none c.forget.result (name_of s.resources c.number-number.result) _ c.forget.ensures.value named
 
 pub returns-clause-sound : goal.returns-clause-sound
 returns-clause-sound c =
     let s = session_of c.args.engine.now in
     let named : is_some (name_of s.resources c.number-number.result) ≡ true =
-    waiting_named s c.number-number.result c.requires (contains_number (λ l. l.number) s.book.waiting _ c.number-number.result c.in_ok-handed.ensures.cases c.number-number.ensures) in
+    waiting_named s c.number-number.result c.requires
+    (contains_number (λ l. l.number) s.book.waiting _ c.number-number.result c.in_ok-handed.ensures.cases c.number-number.ensures) in
     taken_sound s c.take.new.self c.number-number.result c.forget.new.self c.forget.result c.requires c.promise-2.ensures c.forget.ensures.paired
-    (subst (λ (q : ℕ). Accepts s.book (take_request q) c.take.new.self) (sym c.number-number.ensures) c.in_ok-handed.ensures.accepted) named c.forget.ensures.value c.forget.ensures.some
+    (subst (λ (q : ℕ). Accepts s.book (take_request q) c.take.new.self) (sym c.number-number.ensures) c.in_ok-handed.ensures.accepted) named
+    c.forget.ensures.value c.forget.ensures.some

@@ -7,14 +7,18 @@ use Rattle.rx_live.proofs.telling.tell_notes.Goals as goal
 
 pub notes-init : goal.notes-init
 notes-init c = record {
-  written = notes_begun (session_of c.args.engine.now) (session_of c.push_next.new.engine) (string_bytes c.args.text.now) (string_bytes c.push_next.new.text) c.if-not-push_next.ensures.told;
+  written =
+      notes_begun (session_of c.args.engine.now) (session_of c.push_next.new.engine) (string_bytes c.args.text.now) (string_bytes c.push_next.new.text)
+      c.if-not-push_next.ensures.told;
   sound = c.push_next.ensures.sound;
   room = c.push_next.ensures.room 15 (omega arith) c.requires.room;
 }
 
 pub notes-preserved : goal.notes-preserved
 notes-preserved c = record {
-  written = notes_more (session_of c.args.engine.now) (session_of c.notes.engine) (session_of c.push_next-in-notes.new.engine) (string_bytes c.args.text.now) (string_bytes c.notes.text)
+  written =
+      notes_more (session_of c.args.engine.now) (session_of c.notes.engine) (session_of c.push_next-in-notes.new.engine) (string_bytes c.args.text.now)
+      (string_bytes c.notes.text)
       (string_bytes c.push_next-in-notes.new.text) c.notes.invariant.written c.notes-test.ensures.told;
   sound = c.push_next-in-notes.ensures.sound;
   room = c.push_next-in-notes.ensures.room 15 (omega arith) c.notes.invariant.room;
@@ -26,7 +30,8 @@ returns-clause-told c =
     let now = session_of c.push_next-in-notes.new.engine in
     let begun : List ℕ = string_bytes c.args.text.now in
     subst (λ (t : List ℕ). WritesNotes old begun now t) (sym c.put.ensures.bytes)
-    (notes_ended old (session_of c.notes.engine) now begun (string_bytes c.notes.text) (string_bytes c.push_next-in-notes.new.text) c.notes.invariant.written c.notes-test.ensures.told)
+    (notes_ended old (session_of c.notes.engine) now begun (string_bytes c.notes.text) (string_bytes c.push_next-in-notes.new.text) c.notes.invariant.written
+    c.notes-test.ensures.told)
 
 pub returns-then-not-push_next-clause-room : goal.returns-then-not-push_next-clause-room
 returns-then-not-push_next-clause-room c = let r : HasRoom 15 c.args.text.now = c.requires.room in c.push_next.ensures.room 14 (omega arith) (omega (arith, r))

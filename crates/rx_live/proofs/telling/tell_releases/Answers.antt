@@ -7,14 +7,18 @@ use Rattle.rx_live.proofs.telling.tell_releases.Goals as goal
 
 pub names-init : goal.names-init
 names-init c = record {
-  written = names_begun (session_of c.args.engine.now) (session_of c.push_name.new.engine) (string_bytes c.args.text.now) (string_bytes c.push_name.new.text) c.if-not-push_name.ensures.told;
+  written =
+      names_begun (session_of c.args.engine.now) (session_of c.push_name.new.engine) (string_bytes c.args.text.now) (string_bytes c.push_name.new.text)
+      c.if-not-push_name.ensures.told;
   sound = c.push_name.ensures.sound;
   room = c.push_name.ensures.room 14 (omega arith) c.requires.room;
 }
 
 pub names-preserved : goal.names-preserved
 names-preserved c = record {
-  written = names_more (session_of c.args.engine.now) (session_of c.names.engine) (session_of c.push_name-in-names.new.engine) (string_bytes c.args.text.now) (string_bytes c.names.text)
+  written =
+      names_more (session_of c.args.engine.now) (session_of c.names.engine) (session_of c.push_name-in-names.new.engine) (string_bytes c.args.text.now)
+      (string_bytes c.names.text)
       (string_bytes c.push_name-in-names.new.text) c.names.invariant.written c.names-test.ensures.told;
   sound = c.push_name-in-names.ensures.sound;
   room = c.push_name-in-names.ensures.room 14 (omega arith) c.names.invariant.room;
@@ -26,7 +30,8 @@ returns-clause-told c =
     let now = session_of c.push_name-in-names.new.engine in
     let begun : List ℕ = string_bytes c.args.text.now in
     subst (λ (t : List ℕ). WritesNames old begun now t) (sym c.put.ensures.bytes)
-    (names_ended old (session_of c.names.engine) now begun (string_bytes c.names.text) (string_bytes c.push_name-in-names.new.text) c.names.invariant.written c.names-test.ensures.told)
+    (names_ended old (session_of c.names.engine) now begun (string_bytes c.names.text) (string_bytes c.push_name-in-names.new.text) c.names.invariant.written
+    c.names-test.ensures.told)
 
 pub returns-then-not-push_name-clause-room : goal.returns-then-not-push_name-clause-room
 returns-then-not-push_name-clause-room c = let r : HasRoom 14 c.args.text.now = c.requires.room in c.push_name.ensures.room 13 (omega arith) (omega (arith, r))
@@ -43,4 +48,5 @@ returns-clause-room c =
 
 pub returns-then-not-push_name-clause-told : goal.returns-then-not-push_name-clause-told
 returns-then-not-push_name-clause-told c =
-    names_none (session_of c.args.engine.now) (session_of c.push_name.new.engine) (string_bytes c.args.text.now) (string_bytes c.push_name.new.text) c.if-not-push_name.ensures.told
+    names_none (session_of c.args.engine.now) (session_of c.push_name.new.engine) (string_bytes c.args.text.now) (string_bytes c.push_name.new.text)
+    c.if-not-push_name.ensures.told

@@ -38,5 +38,7 @@ pub returns : goal.returns
 returns g c =
     let s = c.settle.ensures in
     let l = called g (goal.at.returns g c).In_default in
-    let done = accepts_written g.R.Resource c.self.inside.ground _ l c.write.new.ground c.settle.new.self c.write.ensures s.standing s.base s.forced s.nodes s.resources s.limit s.given s.leases in
+    let done =
+    accepts_written g.R.Resource c.self.inside.ground _ l c.write.new.ground c.settle.new.self c.write.ensures s.standing s.base s.forced s.nodes
+    s.resources s.limit s.given s.leases in
     rw (← c.self.view_is) (answers_ok c.len-place.ensures done)

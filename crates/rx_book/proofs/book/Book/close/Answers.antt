@@ -15,12 +15,17 @@ none_out g c l = false_from_ne_true _ (λ found. both_ways (is_out c.return_leas
 
 let_go : (g : given.Over) (c : After-promise-2 g) → IsLetGo c.disconnect_hubs.new.self.history
 let_go g c = record {
-  unsubscribed = λ n. false_from_ne_true _ (λ found. both_ways (is_open_root c.dispose_roots.new.self.history n) (c.dispose_roots.ensures.none_open n) (c.disconnect_hubs.ensures.roots n found));
+  unsubscribed =
+      λ n. false_from_ne_true _ (λ found. both_ways (is_open_root c.dispose_roots.new.self.history n) (c.dispose_roots.ensures.none_open n)
+      (c.disconnect_hubs.ensures.roots n found));
   disconnected = c.disconnect_hubs.ensures.disconnected;
 }
 
-closed : (g : given.Over) (c : After-promise-2 g) → (c.release_waiting-closed.new.self.keys ≡ []) × (c.release_waiting-closed.new.self.held ≡ []) × (c.release_waiting-closed.new.self.lease_keys ≡ [])
-closed g c = closed_book c.disconnect_hubs.new.self c.release_waiting-closed.new.self (let_go g c) (none_out g c) c.release_waiting-closed.ensures.drains.takes c.promise-2.ensures
+closed : (g : given.Over) (c : After-promise-2 g) →
+    (c.release_waiting-closed.new.self.keys ≡ []) × (c.release_waiting-closed.new.self.held ≡ []) × (c.release_waiting-closed.new.self.lease_keys ≡ [])
+closed g c =
+    closed_book c.disconnect_hubs.new.self c.release_waiting-closed.new.self (let_go g c) (none_out g c) c.release_waiting-closed.ensures.drains.takes
+    c.promise-2.ensures
 
 pub returns-clause-none_open : goal.returns-clause-none_open
 returns-clause-none_open g c = (closed g (goal.at.returns-clause-none_open g c).After-promise-2).0

@@ -26,7 +26,8 @@ settle-requires-clause-paid g c κs within =
 
 pub settle-requires-clause-room : goal.settle-requires-clause-room
 settle-requires-clause-room g c κs within =
-    connects_none g.R.Resource c.admit.new.ground _ c.in_ok-admit.ensures.ok.let_in c.write_connect-key.new.self.register c.write_connect-key.ensures.written refl
+    connects_none g.R.Resource c.admit.new.ground _ c.in_ok-admit.ensures.ok.let_in c.write_connect-key.new.self.register c.write_connect-key.ensures.written
+    refl
 
 pub returns : goal.returns
 returns g c =
@@ -39,8 +40,12 @@ returns g c =
     let s = c.settle.ensures in
     let l = c.in_ok-admit.ensures.ok.let_in in
     let kept = keeps_opened b.register.base R h b.tree mid.tree c.write_connect-key.result l.may.lawful l.standing.tied.of_tree u.new u.resources in
-    let done = accepts R b _ l mid new u.written kept u.tied.of_tree s.standing s.base s.forced s.nodes s.resources s.limit s.given s.leases (leases_stay _ _ _ u.leases) in
-    let alive = connected_stays b.register.base h new.register.history c.args.hub l.may.lawful l.may.settled (one_ready R b _ l (Connect c.args.hub) refl).next done.step.forced in
+    let done =
+    accepts R b _ l mid new u.written kept u.tied.of_tree s.standing s.base s.forced s.nodes s.resources s.limit s.given s.leases
+    (leases_stay _ _ _ u.leases) in
+    let alive =
+    connected_stays b.register.base h new.register.history c.args.hub l.may.lawful l.may.settled (one_ready R b _ l (Connect c.args.hub) refl).next
+    done.step.forced in
     let key = key_listed R mid new s.nodes (length h) c.write_connect-key.result c.shown_key.result c.shown_key.ensures u.new.numbered u.new.found alive in
     subst (λ (x : State). AnswersKey x (connect_request c.args.hub) (state_of R new) (Ok c.shown_key.result))
     (c.in_ok-admit.ensures.same ∙ c.self.view_is) (answers_ok key done)

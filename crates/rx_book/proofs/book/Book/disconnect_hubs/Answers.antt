@@ -1,13 +1,15 @@
 use Rattle.std.proofs.Common.{ap, ◌∙◌}
 use Rattle.rx_event.specs.Kept.{Kept}
 use Rattle.rx_event.specs.Totals.{accepted_count, taken_count}
-use Rattle.rx_book.proofs.Closings.{disconnected_out, disconnected_taken, disconnected_accepted, roots_older, hub_found, hub_missing, disconnectable, closes_some, less_room}
+use Rattle.rx_book.proofs.Closings.{disconnected_out, disconnected_taken, disconnected_accepted, roots_older}
+use Rattle.rx_book.proofs.Closings.{hub_found, hub_missing, disconnectable, closes_some, less_room}
 use Rattle.rx_book.proofs.book.Book.disconnect_hubs.Goals as goal
 
 pub loop-hub-smaller : goal.loop-hub-smaller
 loop-hub-smaller g c =
     let linked = hub_found c.loop-hub.self.history c.in-Some.hub c.in-Some.ensures in
-    less_room c.loop-hub.self c.disconnect.new.self _ c.in-Ok.ensures.accepted c.promise-in-Ok.ensures (closes_some c.loop-hub.self.history c.in-Some.hub linked)
+    less_room c.loop-hub.self c.disconnect.new.self _ c.in-Ok.ensures.accepted c.promise-in-Ok.ensures
+    (closes_some c.loop-hub.self.history c.in-Some.hub linked)
 
 pub loop-hub-preserved : goal.loop-hub-preserved
 loop-hub-preserved g c = record {
@@ -17,8 +19,14 @@ loop-hub-preserved g c = record {
   given = c.in-Ok.ensures.accepted.given ∙ c.loop-hub.invariant.given;
   roots = λ n found. c.loop-hub.invariant.roots n (roots_older _ c.in-Some.hub c.in-Ok.ensures.accepted.step n found);
   out = λ l found. c.loop-hub.invariant.out l (disconnected_out _ c.in-Some.hub c.in-Ok.ensures.accepted.step l found);
-  accepted = ap (λ (b : Kept). accepted_count b c.disconnect.new.self.history) c.in-Ok.ensures.accepted.base ∙ disconnected_accepted _ _ _ _ c.in-Ok.ensures.accepted.step ∙ c.loop-hub.invariant.accepted;
-  taken = ap (λ (b : Kept). taken_count b c.disconnect.new.self.history) c.in-Ok.ensures.accepted.base ∙ disconnected_taken _ _ _ _ c.in-Ok.ensures.accepted.step ∙ c.loop-hub.invariant.taken;
+  accepted =
+      ap (λ (b : Kept). accepted_count b c.disconnect.new.self.history) c.in-Ok.ensures.accepted.base ∙
+      disconnected_accepted _ _ _ _ c.in-Ok.ensures.accepted.step ∙
+      c.loop-hub.invariant.accepted;
+  taken =
+      ap (λ (b : Kept). taken_count b c.disconnect.new.self.history) c.in-Ok.ensures.accepted.base ∙
+      disconnected_taken _ _ _ _ c.in-Ok.ensures.accepted.step ∙
+      c.loop-hub.invariant.taken;
 }
 
 pub unreachable-requires : goal.unreachable-requires

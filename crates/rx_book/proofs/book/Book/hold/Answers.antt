@@ -24,7 +24,8 @@ returns-in-Err g c =
     let why = rw (c.tag-tag.ensures, c.is_fresh-fresh.ensures) at c.in-Err.ensures.err in
     rw (← c.self.view_is) (answers_err (record { why = why; back = refl }) c.in-Err.ensures.same)
 
-called : (g : given.Over) (c : In_default g) → (let b = c.admit.new.ground in IsLetIn g.R.Resource b (hold_request g.R.Resource (state_of g.R.Resource b) c.args.node c.args.resource))
+called : (g : given.Over) (c : In_default g) →
+    (let b = c.admit.new.ground in IsLetIn g.R.Resource b (hold_request g.R.Resource (state_of g.R.Resource b) c.args.node c.args.resource))
 called g c = rw (c.tag-tag.ensures, c.is_fresh-fresh.ensures) at c.in_default.ensures.ok.let_in
 
 pub write_accept-res-requires-clause-ready : goal.write_accept-res-requires-clause-ready

@@ -35,6 +35,8 @@ returns g c =
     let s = c.settle.ensures in
     let l = c.in_ok-admit.ensures.ok.let_in in
     let kept = keeps_same b.tree mid.tree (length b.register.history) u.tree in
-    let done = accepts R b _ l mid new u.written kept u.tied.of_tree s.standing s.base s.forced s.nodes s.resources s.limit s.given s.leases (leases_stay _ _ _ u.leases) in
+    let done =
+    accepts R b _ l mid new u.written kept u.tied.of_tree s.standing s.base s.forced s.nodes s.resources s.limit s.given s.leases
+    (leases_stay _ _ _ u.leases) in
     subst (λ (x : State). AnswersPlaceOrWant x (hub_request c.args.mode) (state_of R new) (Ok c.write_hub-number.result))
     (c.in_ok-admit.ensures.same ∙ c.self.view_is) (answers_ok u.number done)

@@ -51,6 +51,8 @@ returns g c =
     let w = rw c.tree_res_key.ensures at u.written in
     let written = written_held R b mid _ w u.tied u.leased u.nodes u.kept u.leases in
     let done = accepts_written R b _ l mid new written s.standing s.base s.forced s.nodes s.resources s.limit s.given s.leases in
-    let key = lease_key_new R mid new (length b.register.history) c.write_lease-lease.result c.shown_lease_key.result c.shown_lease_key.ensures u.number u.out s.leases in
+    let key =
+    lease_key_new R mid new (length b.register.history) c.write_lease-lease.result c.shown_lease_key.result c.shown_lease_key.ensures u.number u.out
+    s.leases in
     subst (λ (x : State). AnswersLeaseKey x (lease_request x c.args.res) (state_of R new) (Ok c.shown_lease_key.result))
     (c.in_ok-admit.ensures.same ∙ c.self.view_is) (answers_ok key done)

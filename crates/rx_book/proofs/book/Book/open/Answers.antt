@@ -60,7 +60,8 @@ returns g c =
     let l = c.in_ok-admit.ensures.ok.let_in in
     let next = (one_ready R b _ l (Open (place_of c.args.at) c.args.kind) refl).next in
     let kept = keeps_opened b.register.base R h b.tree mid.tree c.write_open-key.result l.may.lawful l.standing.tied.of_tree o.new o.resources in
-    let done = accepts R b _ l mid new w kept o.tied.of_tree s.standing s.base s.forced s.nodes s.resources s.limit s.given s.leases (leases_stay _ _ _ o.leases) in
+    let done =
+    accepts R b _ l mid new w kept o.tied.of_tree s.standing s.base s.forced s.nodes s.resources s.limit s.given s.leases (leases_stay _ _ _ o.leases) in
     let alive = opened_stays b.register.base h new.register.history (place_of c.args.at) c.args.kind l.may.lawful next done.step.forced in
     let key = key_listed R mid new s.nodes (length h) c.write_open-key.result c.shown_key.result c.shown_key.ensures o.new.numbered o.new.found alive in
     let of = c.connection_of.ensures in

@@ -6,7 +6,8 @@ use Rattle.rx_book.proofs.book.Book.open_lease.Goals as goal
 pub returns-in_err-lease-clause-least : goal.returns-in_err-lease-clause-least
 returns-in_err-lease-clause-least g c =
     let b = c.self.inside.ground in
-    rw (c.from_residual.ensures, ← c.self.view_is) (sym (open_lease_none b.register.history b.tree.resources b.leases c.self.invariant.leased c.in_err-lease.ensures.none))
+    rw (c.from_residual.ensures, ← c.self.view_is)
+    (sym (open_lease_none b.register.history b.tree.resources b.leases c.self.invariant.leased c.in_err-lease.ensures.none))
 
 pub returns-clause-least : goal.returns-clause-least
 returns-clause-least g c =
@@ -15,4 +16,5 @@ returns-clause-least g c =
     (sym (open_lease_some b.register.history b.tree.resources b.leases c.self.invariant.leased (lease_key c.in_ok-lease.lease) c.in_ok-lease.ensures.some))
 
 pub returns-clause-key : goal.returns-clause-key
-returns-clause-key g c = rw (c.shown_lease_key.ensures, ← c.self.view_is) (lease_listed c.self.inside.ground.leases c.in_ok-lease.lease c.in_ok-lease.ensures.some)
+returns-clause-key g c =
+    rw (c.shown_lease_key.ensures, ← c.self.view_is) (lease_listed c.self.inside.ground.leases c.in_ok-lease.lease c.in_ok-lease.ensures.some)

@@ -33,14 +33,16 @@ returns-in-Err g c =
     let why = rw (c.tag-tag.ensures, c.is_fresh-fresh.ensures) at c.in-Err.ensures.err in
     rw (← c.self.view_is) (answers_err (record { why = why; back = refl }) c.in-Err.ensures.same)
 
-called : (g : given.Over) (c : In_default g) → (let b = c.admit.new.ground in IsLetIn g.R.Resource b (using_request g.R.Resource (state_of g.R.Resource b) c.args.at c.args.resource))
+called : (g : given.Over) (c : In_default g) →
+    (let b = c.admit.new.ground in IsLetIn g.R.Resource b (using_request g.R.Resource (state_of g.R.Resource b) c.args.at c.args.resource))
 called g c = rw (c.tag-tag.ensures, c.is_fresh-fresh.ensures) at c.in_default.ensures.ok.let_in
 
 -- the opening may be written
 opens : (g : given.Over) (c : In_default g) → (let b = c.admit.new.ground in IsReady b.register (Open (place_of c.args.at) Pass))
 opens g c =
     let b = c.admit.new.ground in
-    first_ready g.R.Resource b _ (called g c) (Open (place_of c.args.at) Pass) (Accept (length b.register.history) (g.R.Resource.tag_of c.args.resource)) refl refl
+    first_ready g.R.Resource b _ (called g c) (Open (place_of c.args.at) Pass) (Accept (length b.register.history) (g.R.Resource.tag_of c.args.resource)) refl
+    refl
 
 -- and then the acceptance
 holds : (g : given.Over) (c : In_default g) (mid : Register) → (let b = c.admit.new.ground in Writes b.register (Open (place_of c.args.at) Pass ∷ []) mid →
@@ -58,7 +60,8 @@ write_open-node-requires-clause-placed g c κs within =
     let b = c.admit.new.ground in
     let l = called g (goal.at.write_open-node-requires-clause-placed g c).In_default in
     let there = sym (is_known_place_is b.tree c.args.at) ∙ known g.R.Resource b _ l in
-    rw (c.spot_of-spot.ensures.place, c.spot_of-spot.ensures.above) (placed_at b.register.base g.R.Resource b.register.history b.tree l.standing.tied.of_tree Pass c.args.at there)
+    rw (c.spot_of-spot.ensures.place, c.spot_of-spot.ensures.above)
+    (placed_at b.register.base g.R.Resource b.register.history b.tree l.standing.tied.of_tree Pass c.args.at there)
 
 pub write_accept-res-requires-clause-live : goal.write_accept-res-requires-clause-live
 write_accept-res-requires-clause-live g c κs within =
@@ -113,12 +116,17 @@ returns g c =
     let kept = keeps_on b.tree mid.tree last.tree (length h) (length mid.register.history) (omega arith) opened
     (keeps_held mid.tree last.tree (length mid.register.history) a.nodes a.kept) in
     let both = Writes-append b.register mid.register last.register (e ∷ []) (f ∷ []) w v in
-    let done = accepts R b _ l last new both kept a.tied.of_tree s.standing s.base s.forced s.nodes s.resources s.limit s.given s.leases (leases_stay _ _ _ (a.leases ∙ o.leases)) in
-    let alive = opened_using_stays b.register.base h new.register.history (place_of c.args.at) (R.tag_of c.args.resource) l.may.lawful (opens g p).next done.step.forced in
+    let done =
+    accepts R b _ l last new both kept a.tied.of_tree s.standing s.base s.forced s.nodes s.resources s.limit s.given s.leases
+    (leases_stay _ _ _ (a.leases ∙ o.leases)) in
+    let alive =
+    opened_using_stays b.register.base h new.register.history (place_of c.args.at) (R.tag_of c.args.resource) l.may.lawful (opens g p).next
+    done.step.forced in
     let found = ap (λ (nodes : Slots Node). is_some (find nodes c.write_open-node.result)) a.nodes ∙ o.new.found in
     let key = key_listed R last new s.nodes (length h) c.write_open-node.result c.shown_key.result c.shown_key.ensures o.new.numbered found alive in
     let law = IsLawful-push b.register.base h e l.may.lawful (opens g p).next in
-    let at_last = ap (accepted_by b.register.base ((h ++ e ∷ []) ++ f ∷ [])) (sym (length-append h (e ∷ []))) ∙ accepted_by_new b.register.base (h ++ e ∷ []) f law in
+    let at_last =
+    ap (accepted_by b.register.base ((h ++ e ∷ []) ++ f ∷ [])) (sym (length-append h (e ∷ []))) ∙ accepted_by_new b.register.base (h ++ e ∷ []) f law in
     let grown = v.history ∙ ap (λ (k : List Event). k ++ f ∷ []) w.history in
     let accepted = ap (λ (k : Kept). accepted_by k last.register.history (length h + 1)) (v.base ∙ w.base) ∙
     ap (λ (k : List Event). accepted_by b.register.base k (length h + 1)) grown ∙ at_last in

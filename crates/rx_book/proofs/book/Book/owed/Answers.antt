@@ -12,4 +12,5 @@ returns g c =
     let h = b.register.history in
     let n = c.args.merging.number in
     let answer = rw c.tree_key.ensures at c.owed.ensures in
-    rw (← c.self.view_is) (answer ∙ ap (λ known. if known && at is_merging h n then Some (owed b.register.base h n) else None) (sym (has_key_is b.tree c.args.merging)))
+    rw (← c.self.view_is)
+    (answer ∙ ap (λ known. if known && at is_merging h n then Some (owed b.register.base h n) else None) (sym (has_key_is b.tree c.args.merging)))

@@ -27,12 +27,16 @@ loop-handed-preserved g c =
     record {
       kept = c.promise-in-Some.ensures;
       takes = next_taken c.loop-handed.invariant.takes
-          (subst (λ (b : Kept). IsStepOf b c.loop-handed.self.history (Taking c.in-Some.handed.0) c.take.new.self.history) c.loop-handed.invariant.continues.base c.in-Some.ensures.accepted.step);
-      continues = continues_more c.args.self.now c.loop-handed.self c.take.new.self c.loop-handed.invariant.continues (accepted_continues c.loop-handed.self c.take.new.self _ c.in-Some.ensures.accepted);
+          (subst (λ (b : Kept). IsStepOf b c.loop-handed.self.history (Taking c.in-Some.handed.0) c.take.new.self.history)
+          c.loop-handed.invariant.continues.base c.in-Some.ensures.accepted.step);
+      continues =
+          continues_more c.args.self.now c.loop-handed.self c.take.new.self c.loop-handed.invariant.continues
+          (accepted_continues c.loop-handed.self c.take.new.self _ c.in-Some.ensures.accepted);
       faults = elim c.if-is_some.branch [ then-is_some w ↦ omega arith | else-is_some w ↦ omega arith ];
     }
 
 pub returns-clause-drains : goal.returns-clause-drains
 returns-clause-drains g c =
     let same = c.in_default.ensures.kept in
-    subst (λ b. Drains c.args.self.now.base c.args.self.now.history b.history) (sym same) (record { takes = c.loop-handed.invariant.takes; none_waits = none_waits c.loop-handed.self c.loop-handed.invariant.kept c.in_default.ensures.cases })
+    subst (λ b. Drains c.args.self.now.base c.args.self.now.history b.history) (sym same)
+    (record { takes = c.loop-handed.invariant.takes; none_waits = none_waits c.loop-handed.self c.loop-handed.invariant.kept c.in_default.ensures.cases })

@@ -13,7 +13,9 @@ loop-lease-preserved g c = record {
   base = c.in-Ok.ensures.accepted.base ∙ c.loop-lease.invariant.base;
   limit = c.in-Ok.ensures.accepted.limit ∙ c.loop-lease.invariant.limit;
   given = c.in-Ok.ensures.accepted.given ∙ c.loop-lease.invariant.given;
-  accepted = ap (λ (b : Kept). accepted_count b c.give_back.new.self.history) c.in-Ok.ensures.accepted.base ∙ returned_accepted _ _ _ _ c.in-Ok.ensures.accepted.step ∙
+  accepted =
+      ap (λ (b : Kept). accepted_count b c.give_back.new.self.history) c.in-Ok.ensures.accepted.base ∙
+      returned_accepted _ _ _ _ c.in-Ok.ensures.accepted.step ∙
       c.loop-lease.invariant.accepted;
   taken = ap (λ (b : Kept). taken_count b c.give_back.new.self.history) c.in-Ok.ensures.accepted.base ∙ returned_taken _ _ _ _ c.in-Ok.ensures.accepted.step ∙
       c.loop-lease.invariant.taken;

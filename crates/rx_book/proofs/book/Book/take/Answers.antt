@@ -21,7 +21,9 @@ write_take-requires-clause-room g c κs within = λ r waits.
 called : (g : given.Over) (c : In_ok-handed g) → IsLetIn g.R.Resource c.self.inside.ground (take_request c.in_ok-handed.handed.0)
 called g c =
     let b = c.self.inside.ground in
-    let waits = listed_waits g.R.Resource b.register.base b.register.history b.tree c.self.invariant.tied.of_tree c.promise.ensures.tree.resources_apart c.in_ok-handed.handed
+    let waits =
+    listed_waits g.R.Resource b.register.base b.register.history b.tree c.self.invariant.tied.of_tree c.promise.ensures.tree.resources_apart
+    c.in_ok-handed.handed
     c.in_ok-handed.ensures.waited in
     let_in_free g.R.Resource b _ c.self.invariant c.promise.ensures.register refl waits refl refl
 
@@ -48,13 +50,17 @@ returns g c =
     let ready = one_ready R b _ l (Take r) refl in
     let h = b.register.history in
     let rests = settled_on b.register.base h (Take r) l.may.lawful ready.next l.may.settled refl (λ n. refl) (closes_none_kept h (Take r) refl) refl in
-    let settled = subst (λ (k : Kept). IsSettled k mid.register.history) (sym t.written.base) (subst (IsSettled b.register.base) (sym t.written.history) rests) in
+    let settled =
+    subst (λ (k : Kept). IsSettled k mid.register.history) (sym t.written.base) (subst (IsSettled b.register.base) (sym t.written.history) rests) in
     let grown = unforced mid.register.base s.forced settled ∙ t.written.history in
     rw (← c.self.view_is) (record {
       cases = t.waited.listed;
-      accepted = accepts R b _ l mid new t.written (keeps_held b.tree mid.tree (length b.register.history) t.nodes t.kept) t.tied.of_tree s.standing s.base s.forced s.nodes
+      accepted =
+          accepts R b _ l mid new t.written (keeps_held b.tree mid.tree (length b.register.history) t.nodes t.kept) t.tied.of_tree s.standing s.base s.forced
+          s.nodes
           s.resources s.limit s.given s.leases (leases_stay _ _ _ t.leases);
       kept = tt;
-      fewer = fewer_wait R b new r l.standing.tied.of_tree s.standing.tied.of_tree c.promise.ensures.tree.resources_apart c.promise-2.ensures.tree.resources_apart
+      fewer =
+          fewer_wait R b new r l.standing.tied.of_tree s.standing.tied.of_tree c.promise.ensures.tree.resources_apart c.promise-2.ensures.tree.resources_apart
           l.may.lawful ready.next grown;
     })

@@ -14,16 +14,25 @@ whole nodes top before after empty moved = subst (λ (xs : List Closed). IsSubtr
 
 pub leave_closed-requires : goal.leave_closed-requires
 leave_closed-requires g c =
-    let moved = whole c.self.inside.tree.nodes c.args.node.number c.self.inside.closed.items c.close_below.new.closed.items c.self.invariant.0 c.close_below.ensures.moved in
-    let was : AreTied c.self.inside.register.base g.R.Resource c.self.inside.register.history c.self.inside.tree c.self.inside.hubs = rw (← c.self.view_is) at c.requires.tied in
-    let closing = are_closing c.self.inside.register.base g.R.Resource c.self.inside.register.history c.self.inside.tree c.self.inside.hubs was c.promise.ensures.lawful c.promise-2.ensures.sound
+    let moved =
+    whole c.self.inside.tree.nodes c.args.node.number c.self.inside.closed.items c.close_below.new.closed.items c.self.invariant.0
+    c.close_below.ensures.moved in
+    let was : AreTied c.self.inside.register.base g.R.Resource c.self.inside.register.history c.self.inside.tree c.self.inside.hubs =
+    rw (← c.self.view_is) at c.requires.tied in
+    let closing =
+    are_closing c.self.inside.register.base g.R.Resource c.self.inside.register.history c.self.inside.tree c.self.inside.hubs was c.promise.ensures.lawful
+    c.promise-2.ensures.sound
     c.args.node.number c.close_below.new.closed.items moved in
     record { closing = rw c.deref.ensures.value closing }
 
 pub returns-clause-hubs : goal.returns-clause-hubs
 returns-clause-hubs g c =
-    let moved = whole c.self.inside.tree.nodes c.args.node.number c.self.inside.closed.items c.close_below.new.closed.items c.self.invariant.0 c.close_below.ensures.moved in
-    let was : AreTied c.self.inside.register.base g.R.Resource c.self.inside.register.history c.self.inside.tree c.self.inside.hubs = rw (← c.self.view_is) at c.requires.tied in
-    let left = moved_left c.self.inside.register.base g.R.Resource c.self.inside.register.history c.self.inside.tree c.self.inside.hubs was c.promise.ensures.lawful
+    let moved =
+    whole c.self.inside.tree.nodes c.args.node.number c.self.inside.closed.items c.close_below.new.closed.items c.self.invariant.0
+    c.close_below.ensures.moved in
+    let was : AreTied c.self.inside.register.base g.R.Resource c.self.inside.register.history c.self.inside.tree c.self.inside.hubs =
+    rw (← c.self.view_is) at c.requires.tied in
+    let left =
+    moved_left c.self.inside.register.base g.R.Resource c.self.inside.register.history c.self.inside.tree c.self.inside.hubs was c.promise.ensures.lawful
     c.promise-2.ensures.sound c.args.node.number c.close_below.new.closed.items moved c.args.ended in
     rw (← c.self.view_is) ((rw c.deref.ensures.value at c.leave_closed.ensures) ∙ ap (λ (hs : List Hub). record c.self.inside.hubs { hubs = hs }) left)

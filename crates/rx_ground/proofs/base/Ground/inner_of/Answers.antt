@@ -15,7 +15,9 @@ returns-in_err-first-clause-none g c =
     let tied : IsTied c.self.inside.register.base g.R.Resource h tree = rw (← c.self.view_is) at c.requires.tied.of_tree in
     let there : IsSome (find tree.nodes c.args.switch) = rw (← c.self.view_is) at c.requires.open in
     let switches : at is_switch h c.args.switch.number ≡ true = rw (← c.self.view_is) at c.requires.switches in
-    if_none c.from_residual.result _ (rw (← c.self.view_is) (no_child c.self.inside.register.base h c.promise.ensures.lawful tree.nodes tree.chain tied.records c.args.switch there switches c.in_err-first.ensures.none))
+    if_none c.from_residual.result _
+    (rw (← c.self.view_is) (no_child c.self.inside.register.base h c.promise.ensures.lawful tree.nodes tree.chain tied.records c.args.switch there
+    switches c.in_err-first.ensures.none))
 
 pub returns-then-is_some-clause-some : goal.returns-then-is_some-clause-some
 returns-then-is_some-clause-some g c =
@@ -26,7 +28,8 @@ returns-then-is_some-clause-some g c =
     let switches : at is_switch h c.args.switch.number ≡ true = rw (← c.self.view_is) at c.requires.switches in
     let x = made_found (find tree.nodes c.in_ok-first.first) c.in_ok-made.made (sym c.made.ensures ∙ c.in_ok-made.was) in
     let inner = ap (λ (e : Event). is_some (inner_named e)) x.2 ∙ ap is_some (sym c.inner_of.ensures) ∙ sym c.is_some.ensures ∙ c.if-is_some.true in
-    rw (← c.self.view_is) (inner_first c.self.inside.register.base h c.promise.ensures.lawful tree.nodes tree.chain tied.records c.args.switch there switches c.in_ok-first.first x.0 c.in_ok-first.ensures.some.one x.1 inner)
+    rw (← c.self.view_is) (inner_first c.self.inside.register.base h c.promise.ensures.lawful tree.nodes tree.chain tied.records c.args.switch there switches
+    c.in_ok-first.first x.0 c.in_ok-first.ensures.some.one x.1 inner)
 
 pub returns-clause-some : goal.returns-clause-some
 returns-clause-some g c =

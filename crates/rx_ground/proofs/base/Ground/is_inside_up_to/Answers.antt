@@ -13,5 +13,6 @@ loop-at-smaller g c = climb_nearer c.args.self.now.register.history c.loop-at.at
 pub loop-at-preserved : goal.loop-at-preserved
 loop-at-preserved g c =
     let elsewhere = sym c.is_connection_up_to.ensures ∙ c.if-is_connection_up_to.false in
-    let on = climb_on c.args.self.now.register.history c.args.hub c.loop-at.at c.in-Some.key c.in-Some.is elsewhere c.above-at.result c.above-at.ensures.number in
+    let on =
+    climb_on c.args.self.now.register.history c.args.hub c.loop-at.at c.in-Some.key c.in-Some.is elsewhere c.above-at.result c.above-at.ensures.number in
     record { there = c.above-at.ensures.there; same = on ∙ c.loop-at.invariant.same }

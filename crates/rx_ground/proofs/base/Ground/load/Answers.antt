@@ -23,23 +23,31 @@ overflow_sub-held-2 g c =
     let parts = accepted_count-parts c.args.self.now.register.base c.args.self.now.register.history c.promise.ensures.register.lawful in
     omega (arith, c.accepted.ensures, c.taken.ensures, c.waiting_count-waiting.ensures)
 
-alone_of : (g : Over) (c : goal.After-owed-owed g) → c.lent_alone-alone.result ≡ count_by (is_alone c.args.self.now.register.history) (places c.args.self.now.register.history)
+alone_of : (g : Over) (c : goal.After-owed-owed g) →
+    c.lent_alone-alone.result ≡ count_by (is_alone c.args.self.now.register.history) (places c.args.self.now.register.history)
 alone_of g c =
     let b = c.args.self.now in
     c.lent_alone-alone.ensures ∙ ap (λ (s : Ground _). lent_alone_count s.tree) c.self.view_is ∙
-    length-alone b.register.base g.R.Resource b.register.history b.tree c.requires.standing.tied.of_tree c.promise.ensures.register.lawful c.promise.ensures.tree.resources_apart
+    length-alone b.register.base g.R.Resource b.register.history b.tree c.requires.standing.tied.of_tree c.promise.ensures.register.lawful
+    c.promise.ensures.tree.resources_apart
 
 counted : (g : Over) (c : goal.After-owed-owed g) →
     (let waiting = c.waiting_count-waiting.result in
     let alone = c.lent_alone-alone.result in
-    c.open_count-open.result + 2 * ((c.accepted.result - c.taken.result - waiting) - alone) + alone + waiting + c.lease_count-leases.result + c.owed-owed.result) ≡ debt c.args.self.now.register.base c.args.self.now.register.history
+    c.open_count-open.result + 2 * ((c.accepted.result - c.taken.result - waiting) - alone) + alone + waiting + c.lease_count-leases.result +
+    c.owed-owed.result) ≡ debt c.args.self.now.register.base c.args.self.now.register.history
 counted g c =
     let b = c.args.self.now in
     let records = c.requires.standing.tied.of_tree.records in
     let same = ap (λ (s : Ground _). owed_in s.tree.nodes) c.self.view_is in
-    let owing = c.owed-owed.ensures ∙ same ∙ owed_in-count b.register.base b.register.history c.promise.ensures.register.lawful b.tree.nodes b.tree.chain records c.promise.ensures.tree.sound.apart in
+    let owing =
+    c.owed-owed.ensures ∙
+    same ∙
+    owed_in-count b.register.base b.register.history c.promise.ensures.register.lawful b.tree.nodes b.tree.chain records
+    c.promise.ensures.tree.sound.apart in
     let of = debt_counted b.register.base b.register.history c.promise.ensures.register.lawful in
-    of _ _ _ _ _ _ _ c.open_count-open.ensures c.waiting_count-waiting.ensures c.accepted.ensures c.taken.ensures (alone_of g c) c.lease_count-leases.ensures owing
+    of _ _ _ _ _ _ _ c.open_count-open.ensures c.waiting_count-waiting.ensures c.accepted.ensures c.taken.ensures (alone_of g c) c.lease_count-leases.ensures
+    owing
 
 pub overflow_mul-result : goal.overflow_mul-result
 overflow_mul-result g c =

@@ -8,20 +8,29 @@ loop-due-init g c = record { way = way_starts g.R.Resource c.args.self.now c.req
 
 pub write_due-requires-clause-ready : goal.write_due-requires-clause-ready
 write_due-requires-clause-ready g c κs within =
-    let w = way_rechained g.R.Resource c.args.self.now c.loop-due.self c.next_forced.new.self c.loop-due.invariant.way c.in-Some.ensures.kept c.in-Some.ensures.tied in
+    let w =
+    way_rechained g.R.Resource c.args.self.now c.loop-due.self c.next_forced.new.self c.loop-due.invariant.way c.in-Some.ensures.kept
+    c.in-Some.ensures.tied in
     next_ready g.R.Resource c.next_forced.new.self w.tied c.in-Some.due c.promise.ensures.register.lawful c.in-Some.ensures.next w.paid
 
 pub write_due-requires-clause-room : goal.write_due-requires-clause-room
 write_due-requires-clause-room g c κs within =
-    let w = way_rechained g.R.Resource c.args.self.now c.loop-due.self c.next_forced.new.self c.loop-due.invariant.way c.in-Some.ensures.kept c.in-Some.ensures.tied in
+    let w =
+    way_rechained g.R.Resource c.args.self.now c.loop-due.self c.next_forced.new.self c.loop-due.invariant.way c.in-Some.ensures.kept
+    c.in-Some.ensures.tied in
     next_room c.next_forced.new.self c.in-Some.due c.in-Some.ensures.next w.room
 
 pub loop-due-preserved : goal.loop-due-preserved
 loop-due-preserved g c =
-    let w = way_rechained g.R.Resource c.args.self.now c.loop-due.self c.next_forced.new.self c.loop-due.invariant.way c.in-Some.ensures.kept c.in-Some.ensures.tied in
+    let w =
+    way_rechained g.R.Resource c.args.self.now c.loop-due.self c.next_forced.new.self c.loop-due.invariant.way c.in-Some.ensures.kept
+    c.in-Some.ensures.tied in
     record {
-      way = way_on g.R.Resource c.args.self.now c.next_forced.new.self c.write_due.new.self c.in-Some.due w c.promise.ensures.register.lawful c.in-Some.ensures.next
-          c.write_due.ensures.written c.write_due.ensures.tied c.write_due.ensures.leased c.write_due.ensures.nodes c.write_due.ensures.resources c.write_due.ensures.hubs c.write_due.ensures.leases c.write_due.ensures.memory;
+      way =
+          way_on g.R.Resource c.args.self.now c.next_forced.new.self c.write_due.new.self c.in-Some.due w c.promise.ensures.register.lawful
+          c.in-Some.ensures.next
+          c.write_due.ensures.written c.write_due.ensures.tied c.write_due.ensures.leased c.write_due.ensures.nodes c.write_due.ensures.resources
+          c.write_due.ensures.hubs c.write_due.ensures.leases c.write_due.ensures.memory;
     }
 
 pub loop-due-smaller : goal.loop-due-smaller
@@ -32,32 +41,52 @@ loop-due-smaller g c =
 
 pub returns-clause-standing : goal.returns-clause-standing
 returns-clause-standing g c =
-    let w = way_rechained g.R.Resource c.args.self.now c.loop-due.self c.next_forced.new.self c.loop-due.invariant.way c.in_default.ensures.kept c.in_default.ensures.tied in
+    let w =
+    way_rechained g.R.Resource c.args.self.now c.loop-due.self c.next_forced.new.self c.loop-due.invariant.way c.in_default.ensures.kept
+    c.in_default.ensures.tied in
     record { tied = w.tied; leased = w.leased; settled = c.in_default.ensures.next; paid = w.paid }
 
 pub returns-clause-base : goal.returns-clause-base
-returns-clause-base g c = (way_rechained g.R.Resource c.args.self.now c.loop-due.self c.next_forced.new.self c.loop-due.invariant.way c.in_default.ensures.kept c.in_default.ensures.tied).base
+returns-clause-base g c =
+    (way_rechained g.R.Resource c.args.self.now c.loop-due.self c.next_forced.new.self c.loop-due.invariant.way c.in_default.ensures.kept
+    c.in_default.ensures.tied).base
 
 pub returns-clause-forced : goal.returns-clause-forced
-returns-clause-forced g c = (way_rechained g.R.Resource c.args.self.now c.loop-due.self c.next_forced.new.self c.loop-due.invariant.way c.in_default.ensures.kept c.in_default.ensures.tied).forced
+returns-clause-forced g c =
+    (way_rechained g.R.Resource c.args.self.now c.loop-due.self c.next_forced.new.self c.loop-due.invariant.way c.in_default.ensures.kept
+    c.in_default.ensures.tied).forced
 
 pub returns-clause-nodes : goal.returns-clause-nodes
-returns-clause-nodes g c = (way_rechained g.R.Resource c.args.self.now c.loop-due.self c.next_forced.new.self c.loop-due.invariant.way c.in_default.ensures.kept c.in_default.ensures.tied).nodes
+returns-clause-nodes g c =
+    (way_rechained g.R.Resource c.args.self.now c.loop-due.self c.next_forced.new.self c.loop-due.invariant.way c.in_default.ensures.kept
+    c.in_default.ensures.tied).nodes
 
 pub returns-clause-resources : goal.returns-clause-resources
-returns-clause-resources g c = (way_rechained g.R.Resource c.args.self.now c.loop-due.self c.next_forced.new.self c.loop-due.invariant.way c.in_default.ensures.kept c.in_default.ensures.tied).resources
+returns-clause-resources g c =
+    (way_rechained g.R.Resource c.args.self.now c.loop-due.self c.next_forced.new.self c.loop-due.invariant.way c.in_default.ensures.kept
+    c.in_default.ensures.tied).resources
 
 pub returns-clause-hubs : goal.returns-clause-hubs
-returns-clause-hubs g c = (way_rechained g.R.Resource c.args.self.now c.loop-due.self c.next_forced.new.self c.loop-due.invariant.way c.in_default.ensures.kept c.in_default.ensures.tied).hubs
+returns-clause-hubs g c =
+    (way_rechained g.R.Resource c.args.self.now c.loop-due.self c.next_forced.new.self c.loop-due.invariant.way c.in_default.ensures.kept
+    c.in_default.ensures.tied).hubs
 
 pub returns-clause-limit : goal.returns-clause-limit
-returns-clause-limit g c = (way_rechained g.R.Resource c.args.self.now c.loop-due.self c.next_forced.new.self c.loop-due.invariant.way c.in_default.ensures.kept c.in_default.ensures.tied).limit
+returns-clause-limit g c =
+    (way_rechained g.R.Resource c.args.self.now c.loop-due.self c.next_forced.new.self c.loop-due.invariant.way c.in_default.ensures.kept
+    c.in_default.ensures.tied).limit
 
 pub returns-clause-given : goal.returns-clause-given
-returns-clause-given g c = (way_rechained g.R.Resource c.args.self.now c.loop-due.self c.next_forced.new.self c.loop-due.invariant.way c.in_default.ensures.kept c.in_default.ensures.tied).given
+returns-clause-given g c =
+    (way_rechained g.R.Resource c.args.self.now c.loop-due.self c.next_forced.new.self c.loop-due.invariant.way c.in_default.ensures.kept
+    c.in_default.ensures.tied).given
 
 pub returns-clause-memory : goal.returns-clause-memory
-returns-clause-memory g c = (way_rechained g.R.Resource c.args.self.now c.loop-due.self c.next_forced.new.self c.loop-due.invariant.way c.in_default.ensures.kept c.in_default.ensures.tied).memory
+returns-clause-memory g c =
+    (way_rechained g.R.Resource c.args.self.now c.loop-due.self c.next_forced.new.self c.loop-due.invariant.way c.in_default.ensures.kept
+    c.in_default.ensures.tied).memory
 
 pub returns-clause-leases : goal.returns-clause-leases
-returns-clause-leases g c = (way_rechained g.R.Resource c.args.self.now c.loop-due.self c.next_forced.new.self c.loop-due.invariant.way c.in_default.ensures.kept c.in_default.ensures.tied).same_leases
+returns-clause-leases g c =
+    (way_rechained g.R.Resource c.args.self.now c.loop-due.self c.next_forced.new.self c.loop-due.invariant.way c.in_default.ensures.kept
+    c.in_default.ensures.tied).same_leases

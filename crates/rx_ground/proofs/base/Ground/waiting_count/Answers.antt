@@ -11,4 +11,5 @@ returns g c =
     let tree = c.self.inside.tree in
     let tied : IsTied c.self.inside.register.base g.R.Resource h tree = rw (← c.self.view_is) at c.requires.standing.tied.of_tree in
     let listed = length-filter_kept tree.resources (λ s. not (is_held tree.nodes s)) in
-    rw (← c.self.view_is) (c.waiting.ensures ∙ sym listed ∙ length-waiting c.self.inside.register.base g.R.Resource h tree tied c.promise.ensures.resources_apart)
+    rw (← c.self.view_is)
+    (c.waiting.ensures ∙ sym listed ∙ length-waiting c.self.inside.register.base g.R.Resource h tree tied c.promise.ensures.resources_apart)

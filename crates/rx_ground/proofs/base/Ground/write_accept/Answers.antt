@@ -36,8 +36,10 @@ returns-clause-tied g c =
     let there : IsSome (find c.self.inside.tree.nodes c.args.node) = rw (← c.self.view_is) at c.requires.open in
     let grown : c.write.new.self.history ≡ h ++ e ∷ [] = rw c.tag-tag.ensures at c.write.ensures.events in
     let held = c.in-Ok.ensures in
-    let was : AreTied c.self.inside.register.base g.R.Resource c.self.inside.register.history c.self.inside.tree c.self.inside.hubs = rw (← c.self.view_is) at c.requires.tied in
-    rebased g.R.Resource (c.write.ensures.base) (tied_on_same g.R.Resource c.self.inside.register.base e c.promise.ensures.lawful next was grown refl refl held.nodes
+    let was : AreTied c.self.inside.register.base g.R.Resource c.self.inside.register.history c.self.inside.tree c.self.inside.hubs =
+    rw (← c.self.view_is) at c.requires.tied in
+    rebased g.R.Resource (c.write.ensures.base)
+    (tied_on_same g.R.Resource c.self.inside.register.base e c.promise.ensures.lawful next was grown refl refl held.nodes
     (subst (λ (k : List Event). IsTied c.self.inside.register.base g.R.Resource k c.hold.new.self) (sym grown)
     (tied_still c.self.inside.register.base g.R.Resource h e c.promise.ensures.lawful next c.self.inside.tree tied c.hold.new.self refl refl
     (λ n. refl) held.nodes held.chain (stored_accepted c.self.inside.register.base g.R.Resource h c.promise.ensures.lawful c.self.inside.tree

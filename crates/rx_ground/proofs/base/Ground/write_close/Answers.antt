@@ -43,7 +43,8 @@ nodes_kept : (g : Over) (c : goal.After-write g) →
 nodes_kept g c =
     let h = c.self.inside.register.history in
     let tied : IsTied c.self.inside.register.base g.R.Resource h c.self.inside.tree = rw (← c.self.view_is) at c.requires.tied.of_tree in
-    cut_keeps c.self.inside.register.base h (Close c.args.node.number) c.self.inside.tree c.self-2.inside.tree tied.records c.promise-2.ensures.sound c.args.node.number
+    cut_keeps c.self.inside.register.base h (Close c.args.node.number) c.self.inside.tree c.self-2.inside.tree tied.records c.promise-2.ensures.sound
+    c.args.node.number
     (is_open_outside-close h c.args.node.number) (cut_tree g c)
 
 pub returns-clause-written : goal.returns-clause-written
@@ -59,11 +60,14 @@ returns-clause-tied g c =
     let was : AreTied c.self.inside.register.base g.R.Resource h c.self.inside.tree c.self.inside.hubs = rw (← c.self.view_is) at c.requires.tied in
     let next : MayFollow c.self.inside.register.base h e = rw (← c.self.view_is) at c.requires.ready.next in
     let law = c.promise.ensures.lawful in
-    let tied = tied_close c.self.inside.register.base g.R.Resource h c.args.node.number law next c.self.inside.tree c.self-2.inside.tree was.of_tree c.promise-2.ensures.sound (cut_tree g c) in
+    let tied =
+    tied_close c.self.inside.register.base g.R.Resource h c.args.node.number law next c.self.inside.tree c.self-2.inside.tree was.of_tree
+    c.promise-2.ensures.sound (cut_tree g c) in
     let after = hubs_closed h c.args.node.number 0 c.self.inside.hubs.hubs was.published in
     let left = ap (λ (hubs : Hubs). hubs.hubs) (left_hubs g c) in
     let all = tied_closed g.R.Resource c.self.inside.register.base e (is_inside h c.args.node.number) None law next was refl after left (nodes_kept g c) tied in
-    rebased g.R.Resource (c.write.ensures.base ∙ ap (λ (s : State). s.base) (registered g c)) (subst (λ (k : List Event). AreTied c.self.inside.register.base g.R.Resource k c.self-2.inside.tree c.self-2.inside.hubs) (sym (grown g c)) all)
+    rebased g.R.Resource (c.write.ensures.base ∙ ap (λ (s : State). s.base) (registered g c))
+    (subst (λ (k : List Event). AreTied c.self.inside.register.base g.R.Resource k c.self-2.inside.tree c.self-2.inside.hubs) (sym (grown g c)) all)
 
 pub returns-clause-kept : goal.returns-clause-kept
 returns-clause-kept g c =
@@ -85,7 +89,8 @@ returns-clause-memory g c =
     let nodes : mid.tree.nodes.count + mid.tree.nodes.room ≡ old.tree.nodes.count + old.tree.nodes.room = rw (← c.self-2.view_is) at same_nodes in
     let same_space : after.tree.nodes.count + after.space ≡ old.tree.nodes.count + (vec_capacity old.closed - old.tree.nodes.count) =
     rw (← c.self.view_is) at c.cut.ensures.memory.closing in
-    let closing : mid.tree.nodes.count + (vec_capacity mid.closed - mid.tree.nodes.count) ≡ old.tree.nodes.count + (vec_capacity old.closed - old.tree.nodes.count) =
+    let closing : mid.tree.nodes.count + (vec_capacity mid.closed - mid.tree.nodes.count) ≡
+    old.tree.nodes.count + (vec_capacity old.closed - old.tree.nodes.count) =
     rw (← c.self-2.view_is) at same_space in
     let same_hubs : length after.hubs.hubs + after.hubs.room ≡ length old.hubs.hubs + old.hubs.room = rw (← c.self.view_is) at c.cut.ensures.memory.hubs in
     let hubs : length mid.hubs.hubs + mid.hubs.room ≡ length old.hubs.hubs + old.hubs.room = rw (← c.self-2.view_is) at same_hubs in
@@ -106,4 +111,5 @@ returns-clause-leased g c =
     (rw (← c.self.view_is) at c.cut.ensures.leases)) (cut_tree g c).resources
 
 pub returns-clause-leases : goal.returns-clause-leases
-returns-clause-leases g c = rw (← c.self.view_is) (ap (λ (b : Ground g.row.R.Denot). b.leases) c.self-2.view_is ∙ (rw (← c.self.view_is) at c.cut.ensures.leases))
+returns-clause-leases g c =
+    rw (← c.self.view_is) (ap (λ (b : Ground g.row.R.Denot). b.leases) c.self-2.view_is ∙ (rw (← c.self.view_is) at c.cut.ensures.leases))

@@ -1,4 +1,5 @@
-use Rattle.std.proofs.Common.{is_some, Option, None, ◌≡◌, ℕ, List, refl, sym, subst, ◌∙◌, arith, ◌∷◌, [], ◌+◌, ◌-◌, ◌<◌, ap, vec_capacity, IfSome, IsSome, length}
+use Rattle.std.proofs.Common.{is_some, Option, None, ◌≡◌, ℕ, List, refl, sym, subst, ◌∙◌, arith}
+use Rattle.std.proofs.Common.{◌∷◌, [], ◌+◌, ◌-◌, ◌<◌, ap, vec_capacity, IfSome, IsSome, length}
 use Rattle.rx_event.specs.declared.event.Event.{Event}
 use Rattle.rx_event.specs.declared.event.Event.TheVariants.{Connect}
 use Rattle.rx_event.specs.Lawful.{MayFollow}
@@ -48,11 +49,13 @@ connect-requires-clause-unconnected g c =
     subst (λ (o : Option Hub). IfSome o (λ (x : Hub). x.connection ≡ None)) (sym r.1) r.2
 
 pub returns-clause-written : goal.returns-clause-written
-returns-clause-written g c = rw (← c.self.view_is) (writes_silent c.self.inside.register c.write.new.self (Connect c.args.hub) refl c.write.ensures.base c.write.ensures.events
+returns-clause-written g c =
+    rw (← c.self.view_is) (writes_silent c.self.inside.register c.write.new.self (Connect c.args.hub) refl c.write.ensures.base c.write.ensures.events
     c.write.ensures.pending c.write.ensures.room c.write.ensures.limit c.write.ensures.given c.write.ensures.mail_room)
 
 -- the tree has the connection's node
-opened_in : (g : Over) (c : goal.After-write g) → IsOpenedIn c.self.inside.register.history (Connect c.args.hub) None c.self.inside.tree c.open.new.self c.in-Ok.key
+opened_in : (g : Over) (c : goal.After-write g) →
+    IsOpenedIn c.self.inside.register.history (Connect c.args.hub) None c.self.inside.tree c.open.new.self c.in-Ok.key
 opened_in g c =
     let o = c.in-Ok.ensures in
     record { numbered = o.numbered ∙ c.len-number.ensures; free = o.was_free; found = o.opened; others = o.kept; resources = o.resources; chain = o.chain }
@@ -97,7 +100,10 @@ returns-clause-nodes g c =
     let was : AreTied c.self.inside.register.base g.R.Resource h old c.self.inside.hubs = rw (← c.self.view_is) at c.requires.tied in
     let kept : KeepsOlder c.write.new.self.history (length h) old.nodes c.open.new.self.nodes = record {
       from = before g c;
-      still = λ k some alive. ap is_some (found_still c.self.inside.register.base g.R.Resource h c.promise.ensures.lawful old old c.open.new.self was.of_tree c.in-Ok.key (Connect c.args.hub) None (opened_in g c) k some) ∙ some;
+      still =
+          λ k some alive. ap is_some (found_still c.self.inside.register.base g.R.Resource h c.promise.ensures.lawful old old c.open.new.self was.of_tree
+          c.in-Ok.key (Connect c.args.hub) None (opened_in g c) k some) ∙
+          some;
     } in
     rw (← c.self.view_is) kept
 
@@ -138,4 +144,5 @@ pub returns-clause-leased : goal.returns-clause-leased
 returns-clause-leased g c =
     let h = c.self.inside.register.history in
     let was : AreLeased h c.self.inside.tree.resources c.self.inside.leases = rw (← c.self.view_is) at c.requires.leased in
-    leased_quiet c.self.inside.register.base h _ (Connect c.args.hub) c.self.inside.tree.resources _ c.self.inside.leases _ c.promise.ensures.lawful was refl refl (c.write.ensures.events) (refl) c.in-Ok.ensures.resources
+    leased_quiet c.self.inside.register.base h _ (Connect c.args.hub) c.self.inside.tree.resources _ c.self.inside.leases _ c.promise.ensures.lawful was refl
+    refl (c.write.ensures.events) (refl) c.in-Ok.ensures.resources

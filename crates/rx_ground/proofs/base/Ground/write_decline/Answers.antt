@@ -25,12 +25,15 @@ after_decline-requires g c =
     let tied : IsTied c.self.inside.register.base g.R.Resource h c.self.inside.tree = rw (← c.self.view_is) at c.requires.tied.of_tree in
     let next : MayFollow c.self.inside.register.base h (Decline c.args.merging.number) = rw (← c.self.view_is) at c.requires.ready.next in
     let some = (may_decline _ next).2 in
-    let owes = owed_told c.self.inside.register.base h c.self.inside.tree.nodes c.self.inside.tree.chain tied.records c.args.merging c.in-Some.marks (sym c.in-Some.ensures) in
+    let owes =
+    owed_told c.self.inside.register.base h c.self.inside.tree.nodes c.self.inside.tree.chain tied.records c.args.merging c.in-Some.marks
+    (sym c.in-Some.ensures) in
     omega arith
 
 pub set_marks-requires-clause-countable : goal.set_marks-requires-clause-countable
 set_marks-requires-clause-countable g c =
-    let tied : IsTied c.self.inside.register.base g.R.Resource c.self.inside.register.history c.self.inside.tree = rw (← c.self.view_is) at c.requires.tied.of_tree in
+    let tied : IsTied c.self.inside.register.base g.R.Resource c.self.inside.register.history c.self.inside.tree =
+    rw (← c.self.view_is) at c.requires.tied.of_tree in
     let all = owed_in-bounded g.R.Resource c.self.inside.register c.self.inside.tree tied c.promise.ensures c.promise-2.ensures.sound.apart in
     let one = owed_marks-le c.self.inside.tree.nodes c.args.merging c.in-Some.marks (sym c.in-Some.ensures) in
     let less = ap (λ (m : Marks). m.owed) c.after_decline.ensures in
@@ -39,7 +42,8 @@ set_marks-requires-clause-countable g c =
 marked : (g : Over) (c : goal.After-write g) → Remarks c.self.inside.tree c.set_marks.new.self c.args.merging after_decline
 marked g c =
     let at_marks : option_map (λ (node : Node). node.marks) (find c.self.inside.tree.nodes c.args.merging) ≡ Some c.in-Some.marks = sym c.in-Some.ensures in
-    set_remarks c.self.inside.tree c.set_marks.new.self c.args.merging c.in-Some.marks c.after_decline.result after_decline at_marks c.after_decline.ensures c.set_marks.ensures.nodes c.set_marks.ensures.chain c.set_marks.ensures.resources
+    set_remarks c.self.inside.tree c.set_marks.new.self c.args.merging c.in-Some.marks c.after_decline.result after_decline at_marks c.after_decline.ensures
+    c.set_marks.ensures.nodes c.set_marks.ensures.chain c.set_marks.ensures.resources
 
 pub returns-clause-tied : goal.returns-clause-tied
 returns-clause-tied g c =
@@ -48,14 +52,18 @@ returns-clause-tied g c =
     let tied : IsTied c.self.inside.register.base g.R.Resource h c.self.inside.tree = rw (← c.self.view_is) at c.requires.tied.of_tree in
     let next : MayFollow c.self.inside.register.base h e = rw (← c.self.view_is) at c.requires.ready.next in
     let there : IsSome (find c.self.inside.tree.nodes c.args.merging) = rw (← c.self.view_is) at c.requires.open in
-    let was : AreTied c.self.inside.register.base g.R.Resource c.self.inside.register.history c.self.inside.tree c.self.inside.hubs = rw (← c.self.view_is) at c.requires.tied in
-    rebased g.R.Resource (c.write.ensures.base) (tied_on_marked g.R.Resource c.self.inside.register.base e c.promise.ensures.lawful next was c.write.ensures.events refl refl c.args.merging after_decline (marked g c)
+    let was : AreTied c.self.inside.register.base g.R.Resource c.self.inside.register.history c.self.inside.tree c.self.inside.hubs =
+    rw (← c.self.view_is) at c.requires.tied in
+    rebased g.R.Resource (c.write.ensures.base)
+    (tied_on_marked g.R.Resource c.self.inside.register.base e c.promise.ensures.lawful next was c.write.ensures.events refl refl c.args.merging
+    after_decline (marked g c)
     (subst (λ (k : List Event). IsTied c.self.inside.register.base g.R.Resource k c.set_marks.new.self) (sym c.write.ensures.events)
     (tied_decline c.self.inside.register.base g.R.Resource h c.promise.ensures.lawful c.self.inside.tree c.set_marks.new.self tied
     c.promise-2.ensures.sound c.args.merging there next (marked g c))))
 
 pub returns-clause-kept : goal.returns-clause-kept
-returns-clause-kept g c = rw (← c.self.view_is) (remarked_keeps c.write.new.self.history c.self.inside.tree c.set_marks.new.self c.args.merging after_decline (marked g c))
+returns-clause-kept g c =
+    rw (← c.self.view_is) (remarked_keeps c.write.new.self.history c.self.inside.tree c.set_marks.new.self c.args.merging after_decline (marked g c))
 
 pub returns-clause-written : goal.returns-clause-written
 returns-clause-written g c = rw (← c.self.view_is) (writes_silent c.self.inside.register c.write.new.self (Decline c.args.merging.number) refl
@@ -75,4 +83,5 @@ pub returns-clause-leased : goal.returns-clause-leased
 returns-clause-leased g c =
     let h = c.self.inside.register.history in
     let was : AreLeased h c.self.inside.tree.resources c.self.inside.leases = rw (← c.self.view_is) at c.requires.leased in
-    leased_quiet c.self.inside.register.base h _ (Decline c.args.merging.number) c.self.inside.tree.resources _ c.self.inside.leases _ c.promise.ensures.lawful was refl refl (c.write.ensures.events) (refl) (marked g c).resources
+    leased_quiet c.self.inside.register.base h _ (Decline c.args.merging.number) c.self.inside.tree.resources _ c.self.inside.leases _
+    c.promise.ensures.lawful was refl refl (c.write.ensures.events) (refl) (marked g c).resources

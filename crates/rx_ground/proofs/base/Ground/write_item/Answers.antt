@@ -17,12 +17,14 @@ use Rattle.rx_ground.proofs.base.Ground.write_item.Goals as goal
 
 pub pass-requires-clause-walk : goal.pass-requires-clause-walk
 pass-requires-clause-walk g c κs within =
-    let tied : AreTied c.self.inside.register.base g.R.Resource c.self.inside.register.history c.self.inside.tree c.self.inside.hubs = rw (← c.self.view_is) at c.requires.tied in
+    let tied : AreTied c.self.inside.register.base g.R.Resource c.self.inside.register.history c.self.inside.tree c.self.inside.hubs =
+    rw (← c.self.view_is) at c.requires.tied in
     walk_tied c.self.inside.register.base tied c.promise-2.ensures.sound
 
 pub pass-requires-clause-countable : goal.pass-requires-clause-countable
 pass-requires-clause-countable g c κs within =
-    let tied : AreTied c.self.inside.register.base g.R.Resource c.self.inside.register.history c.self.inside.tree c.self.inside.hubs = rw (← c.self.view_is) at c.requires.tied in
+    let tied : AreTied c.self.inside.register.base g.R.Resource c.self.inside.register.history c.self.inside.tree c.self.inside.hubs =
+    rw (← c.self.view_is) at c.requires.tied in
     owed_in-bounded g.R.Resource c.self.inside.register c.self.inside.tree tied.of_tree c.promise.ensures c.promise-2.ensures.sound.apart
 
 pub returns-clause-written : goal.returns-clause-written
@@ -35,11 +37,14 @@ returns-clause-written g c =
 
 pub returns-clause-tied : goal.returns-clause-tied
 returns-clause-tied g c =
-    let tied : AreTied c.self.inside.register.base g.R.Resource c.self.inside.register.history c.self.inside.tree c.self.inside.hubs = rw (← c.self.view_is) at c.requires.tied in
-    let next : MayFollow c.self.inside.register.base c.self.inside.register.history (Item c.args.leaf.number c.args.value) = rw (← c.self.view_is) at c.requires.ready.next in
+    let tied : AreTied c.self.inside.register.base g.R.Resource c.self.inside.register.history c.self.inside.tree c.self.inside.hubs =
+    rw (← c.self.view_is) at c.requires.tied in
+    let next : MayFollow c.self.inside.register.base c.self.inside.register.history (Item c.args.leaf.number c.args.value) =
+    rw (← c.self.view_is) at c.requires.ready.next in
     let passed = rw (to_z-of_z w64 c.args.value c.ranges.value) at c.pass.ensures.passed in
     let events = rw (to_z-of_z w64 c.args.value c.ranges.value) at c.write.ensures.events in
-    rebased g.R.Resource (c.write.ensures.base ∙ ap (λ (s : Register). s.base) passed.same) (arrived_tied c.self.inside.register c.self.inside.tree c.args.leaf.number c.args.value c.pass.new.register c.pass.new.tree passed
+    rebased g.R.Resource (c.write.ensures.base ∙ ap (λ (s : Register). s.base) passed.same)
+    (arrived_tied c.self.inside.register c.self.inside.tree c.args.leaf.number c.args.value c.pass.new.register c.pass.new.tree passed
     g.R.Resource c.self.inside.hubs c.promise.ensures.lawful next tied c.write.new.self.history events)
 
 pub returns-clause-memory : goal.returns-clause-memory

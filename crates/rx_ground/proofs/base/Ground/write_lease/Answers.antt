@@ -54,7 +54,9 @@ returns-clause-tied g c =
     let f = owned_found old c.args.res owned in
     let was : AreTied base g.R.Resource h old c.self.inside.hubs = rw (← c.self.view_is) at c.requires.tied in
     let nodes = c.lend.ensures.nodes in
-    let stored = stored_leased base g.R.Resource h law old new tied.stored c.promise-2.ensures.resources_apart nodes (store_key c.args.res) f.stowed f.found c.lend.ensures.resources in
+    let stored =
+    stored_leased base g.R.Resource h law old new tied.stored c.promise-2.ensures.resources_apart nodes (store_key c.args.res) f.stowed f.found
+    c.lend.ensures.resources in
     let still = tied_still base g.R.Resource h e law next old tied new refl refl (λ n. refl) nodes c.lend.ensures.chain stored in
     rebased g.R.Resource c.write.ensures.base (tied_on_same g.R.Resource base e law next was c.write.ensures.events refl refl nodes
     (subst (λ (k : List Event). IsTied base g.R.Resource k new) (sym c.write.ensures.events) still))
@@ -86,7 +88,8 @@ pub returns-clause-kept : goal.returns-clause-kept
 returns-clause-kept g c =
     let old = c.self.inside.tree in
     let owned : is_owned_at old c.args.res ≡ true = rw (← c.self.view_is) at c.requires.owned in
-    rw (← c.self.view_is) (held_owned old c.lend.new.self (length c.self.inside.register.history) c.args.res c.lend.ensures.nodes c.lend.ensures.resources.others owned)
+    rw (← c.self.view_is)
+    (held_owned old c.lend.new.self (length c.self.inside.register.history) c.args.res c.lend.ensures.nodes c.lend.ensures.resources.others owned)
 
 pub returns-clause-memory : goal.returns-clause-memory
 returns-clause-memory g c =

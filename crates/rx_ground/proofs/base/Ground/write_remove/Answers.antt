@@ -31,8 +31,10 @@ returns-clause-tied g c =
     let next : MayFollow c.self.inside.register.base h e = rw (← c.self.view_is) at c.requires.ready.next in
     let owned : is_owned_at old c.args.res ≡ true = rw (← c.self.view_is) at c.requires.owned in
     let f = owned_found old c.args.res owned in
-    let was : AreTied c.self.inside.register.base g.R.Resource c.self.inside.register.history c.self.inside.tree c.self.inside.hubs = rw (← c.self.view_is) at c.requires.tied in
-    rebased g.R.Resource (c.write.ensures.base) (tied_on_same g.R.Resource c.self.inside.register.base e c.promise.ensures.lawful next was c.write.ensures.events refl refl c.unhold.ensures.nodes
+    let was : AreTied c.self.inside.register.base g.R.Resource c.self.inside.register.history c.self.inside.tree c.self.inside.hubs =
+    rw (← c.self.view_is) at c.requires.tied in
+    rebased g.R.Resource (c.write.ensures.base)
+    (tied_on_same g.R.Resource c.self.inside.register.base e c.promise.ensures.lawful next was c.write.ensures.events refl refl c.unhold.ensures.nodes
     (subst (λ (k : List Event). IsTied c.self.inside.register.base g.R.Resource k new) (sym c.write.ensures.events)
     (tied_still c.self.inside.register.base g.R.Resource h e c.promise.ensures.lawful next old tied new refl refl (λ n. refl)
     c.unhold.ensures.nodes c.unhold.ensures.chain (stored_removed c.self.inside.register.base g.R.Resource h c.promise.ensures.lawful old new

@@ -19,7 +19,8 @@ use Rattle.rx_ground.proofs.base.Ground.write_return.Goals as goal
 
 pub unlend-requires-clause-lent : goal.unlend-requires-clause-lent
 unlend-requires-clause-lent g c κs within =
-    let tied : IsTied c.self.inside.register.base g.R.Resource c.self.inside.register.history c.self.inside.tree = rw (← c.self.view_is) at c.requires.tied.of_tree in
+    let tied : IsTied c.self.inside.register.base g.R.Resource c.self.inside.register.history c.self.inside.tree =
+    rw (← c.self.view_is) at c.requires.tied.of_tree in
     let was : AreLeased c.self.inside.register.history c.self.inside.tree.resources c.self.inside.leases = rw (← c.self.view_is) at c.requires.leased in
     lent_there c.self.inside.register.base g.R.Resource c.self.inside.register.history c.self.inside.tree tied c.args.lease.number c.in-Some.res
     (was.each (lease_key c.args.lease) c.in-Some.res (sym c.give_back.ensures.value ∙ c.in-Some.is))
@@ -43,7 +44,9 @@ returns-clause-tied g c =
     let of = leased.each (lease_key c.args.lease) c.in-Some.res (sym c.give_back.ensures.value ∙ c.in-Some.is) in
     let x = some_of (find old.resources (store_key c.in-Some.res)) of.stored in
     let nodes = c.unlend.ensures.nodes in
-    let stored = stored_returned base g.R.Resource h law old new tied.stored c.promise-2.ensures.resources_apart nodes c.args.lease.number (store_key c.in-Some.res) x.0 next of.made x.1 c.unlend.ensures.resources in
+    let stored =
+    stored_returned base g.R.Resource h law old new tied.stored c.promise-2.ensures.resources_apart nodes c.args.lease.number (store_key c.in-Some.res)
+    x.0 next of.made x.1 c.unlend.ensures.resources in
     let still = tied_still base g.R.Resource h e law next old tied new refl refl (λ n. refl) nodes c.unlend.ensures.chain stored in
     rebased g.R.Resource c.write.ensures.base (tied_on_same g.R.Resource base e law next was c.write.ensures.events refl refl nodes
     (subst (λ (k : List Event). IsTied base g.R.Resource k new) (sym c.write.ensures.events) still))
@@ -58,7 +61,9 @@ returns-clause-leased g c =
     let was : AreLeased h old c.self.inside.leases = rw (← c.self.view_is) at c.requires.leased in
     let given = c.give_back.ensures in
     let there = ap is_some (sym given.value ∙ c.in-Some.is) in
-    let less = leased_less h old c.self.inside.leases was base c.promise.ensures.lawful c.promise-3.ensures c.give_back.new.self (lease_key c.args.lease) there given.gone given.kept in
+    let less =
+    leased_less h old c.self.inside.leases was base c.promise.ensures.lawful c.promise-3.ensures c.give_back.new.self (lease_key c.args.lease) there
+    given.gone given.kept in
     let still = leased_same (h ++ e ∷ []) old c.give_back.new.self less new c.give_back.new.self
     (λ l res is. still_there (store_key c.in-Some.res) c.unlend.ensures.resources (store_key res) is.stored) (λ key. refl) in
     subst (λ (k : List Event). AreLeased k new c.give_back.new.self) (sym c.write.ensures.events) still

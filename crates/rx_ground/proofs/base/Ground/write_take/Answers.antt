@@ -24,13 +24,16 @@ returns-in_err-number-clause-waited g c = rw (c.from_residual.ensures, ← c.sel
 
 pub write-requires-clause-next : goal.write-requires-clause-next
 write-requires-clause-next g c =
-    let tied : IsTied c.self.inside.register.base g.R.Resource c.self.inside.register.history c.self.inside.tree = rw (← c.self.view_is) at c.requires.tied.of_tree in
+    let tied : IsTied c.self.inside.register.base g.R.Resource c.self.inside.register.history c.self.inside.tree =
+    rw (← c.self.view_is) at c.requires.tied.of_tree in
     let settled : IsSettled c.self.inside.register.base c.self.inside.register.history = rw (← c.self.view_is) at c.requires.settled in
-    allowed settled (taken (takes_waiting g.R.Resource c.self.inside.register.history c.self.inside.tree c.take_waiting.new.self c.in_ok-number.number c.in_ok-number.resource c.self.inside.register.base tied c.in_ok-number.ensures.some))
+    allowed settled (taken (takes_waiting g.R.Resource c.self.inside.register.history c.self.inside.tree c.take_waiting.new.self c.in_ok-number.number
+    c.in_ok-number.resource c.self.inside.register.base tied c.in_ok-number.ensures.some))
 
 ready : (g : Over) (c : goal.After-write-arg-1 g) → IsReady c.self.inside.register (Take c.in_ok-number.number)
 ready g c =
-    let tied : IsTied c.self.inside.register.base g.R.Resource c.self.inside.register.history c.self.inside.tree = rw (← c.self.view_is) at c.requires.tied.of_tree in
+    let tied : IsTied c.self.inside.register.base g.R.Resource c.self.inside.register.history c.self.inside.tree =
+    rw (← c.self.view_is) at c.requires.tied.of_tree in
     (rw (← c.self.view_is) at c.requires.room) c.in_ok-number.number (takes_waiting g.R.Resource c.self.inside.register.history c.self.inside.tree
     c.take_waiting.new.self c.in_ok-number.number c.in_ok-number.resource c.self.inside.register.base tied c.in_ok-number.ensures.some)
 
@@ -42,8 +45,10 @@ write-requires-clause-told g c = (ready g c).pending
 
 pub new-requires-clause-live : goal.new-requires-clause-live
 new-requires-clause-live g c κs within =
-    let tied : IsTied c.self.inside.register.base g.R.Resource c.self.inside.register.history c.self.inside.tree = rw (← c.self.view_is) at c.requires.tied.of_tree in
-    takes_live g.R.Resource c.self.inside.register.history c.self.inside.tree c.take_waiting.new.self c.in_ok-number.number c.in_ok-number.resource c.self.inside.register.base tied c.in_ok-number.ensures.some
+    let tied : IsTied c.self.inside.register.base g.R.Resource c.self.inside.register.history c.self.inside.tree =
+    rw (← c.self.view_is) at c.requires.tied.of_tree in
+    takes_live g.R.Resource c.self.inside.register.history c.self.inside.tree c.take_waiting.new.self c.in_ok-number.number c.in_ok-number.resource
+    c.self.inside.register.base tied c.in_ok-number.ensures.some
 
 pub returns-clause-written : goal.returns-clause-written
 returns-clause-written g c = rw (c.new.ensures, ← c.self.view_is) (writes_silent c.self.inside.register c.write.new.self (Take c.in_ok-number.number)
@@ -61,7 +66,8 @@ returns-clause-tied g c =
     let next : MayFollow c.self.inside.register.base h (Take t.key.number) =
     allowed settled (taken (subst (λ n. is_waiting h n ≡ true) (sym t.numbered)
     (takes_waiting g.R.Resource h old new c.in_ok-number.number c.in_ok-number.resource c.self.inside.register.base tied t))) in
-    let was : AreTied c.self.inside.register.base g.R.Resource c.self.inside.register.history c.self.inside.tree c.self.inside.hubs = rw (← c.self.view_is) at c.requires.tied in
+    let was : AreTied c.self.inside.register.base g.R.Resource c.self.inside.register.history c.self.inside.tree c.self.inside.hubs =
+    rw (← c.self.view_is) at c.requires.tied in
     rebased g.R.Resource (c.write.ensures.base) (tied_on_same g.R.Resource c.self.inside.register.base (Take t.key.number) c.promise.ensures.lawful
     next was (sym (ap (λ n. h ++ Take n ∷ []) t.numbered ∙ sym c.write.ensures.events)) refl refl c.in_ok-number.ensures.nodes
     (subst (λ (k : List Event). IsTied c.self.inside.register.base g.R.Resource k new) (ap (λ n. h ++ Take n ∷ []) t.numbered ∙
@@ -71,10 +77,14 @@ returns-clause-tied g c =
     c.in_ok-number.ensures.nodes t.key (ap is_some t.found) t.gone t.others))))
 
 pub returns-clause-kept : goal.returns-clause-kept
-returns-clause-kept g c = rw (← c.self.view_is) (let t = c.in_ok-number.ensures.some in held_gone c.self.inside.tree c.take_waiting.new.self (length c.self.inside.register.history) t.key c.in_ok-number.ensures.nodes t.others t.gone)
+returns-clause-kept g c =
+    rw (← c.self.view_is) (let t = c.in_ok-number.ensures.some in
+    held_gone c.self.inside.tree c.take_waiting.new.self (length c.self.inside.register.history) t.key c.in_ok-number.ensures.nodes t.others t.gone)
 
 pub returns-clause-waited : goal.returns-clause-waited
-returns-clause-waited g c = rw (c.new.ensures, ← c.self.view_is) (takes_listed g.R.Resource c.self.inside.tree c.take_waiting.new.self c.in_ok-number.number c.in_ok-number.resource c.in_ok-number.ensures.some)
+returns-clause-waited g c =
+    rw (c.new.ensures, ← c.self.view_is)
+    (takes_listed g.R.Resource c.self.inside.tree c.take_waiting.new.self c.in_ok-number.number c.in_ok-number.resource c.in_ok-number.ensures.some)
 
 pub returns-clause-memory : goal.returns-clause-memory
 returns-clause-memory g c =

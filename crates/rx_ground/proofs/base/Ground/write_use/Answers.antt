@@ -19,14 +19,17 @@ use Rattle.rx_ground.proofs.base.Ground.write_use.Goals as goal
 
 pub apply-answer-requires-clause-live : goal.apply-answer-requires-clause-live
 apply-answer-requires-clause-live g c κs within =
-    let tied : IsTied c.self.inside.register.base g.R.Resource c.self.inside.register.history c.self.inside.tree = rw (← c.self.view_is) at c.requires.tied.of_tree in
+    let tied : IsTied c.self.inside.register.base g.R.Resource c.self.inside.register.history c.self.inside.tree =
+    rw (← c.self.view_is) at c.requires.tied.of_tree in
     let held : is_held_at c.self.inside.tree c.args.res ≡ true = rw (← c.self.view_is) at c.requires.held in
     let f = held_found c.self.inside.tree c.args.res held in
-    if_found (stowed_of c.self.inside.tree c.args.res) f.stowed (λ s. g.R.Resource.life_of s.resource ≡ Live) f.found (tied.stored.each (store_key c.args.res) f.stowed f.found).live
+    if_found (stowed_of c.self.inside.tree c.args.res) f.stowed (λ s. g.R.Resource.life_of s.resource ≡ Live) f.found
+    (tied.stored.each (store_key c.args.res) f.stowed f.found).live
 
 pub apply-answer-requires-clause-countable : goal.apply-answer-requires-clause-countable
 apply-answer-requires-clause-countable g c κs within =
-    let tied : IsTied c.self.inside.register.base g.R.Resource c.self.inside.register.history c.self.inside.tree = rw (← c.self.view_is) at c.requires.tied.of_tree in
+    let tied : IsTied c.self.inside.register.base g.R.Resource c.self.inside.register.history c.self.inside.tree =
+    rw (← c.self.view_is) at c.requires.tied.of_tree in
     let held : is_held_at c.self.inside.tree c.args.res ≡ true = rw (← c.self.view_is) at c.requires.held in
     let f = held_found c.self.inside.tree c.args.res held in
     if_found (stowed_of c.self.inside.tree c.args.res) f.stowed (λ s. g.R.Resource.uses_of s.resource + 1 < 18446744073709551616) f.found (
@@ -54,8 +57,10 @@ returns-clause-tied g c =
     let held : is_held_at old c.args.res ≡ true = rw (← c.self.view_is) at c.requires.held in
     let f = held_found old c.args.res held in
     let u = of_found (stowed_of old c.args.res) f.stowed (Uses g.R.Resource old new c.args.res) f.found c.apply-answer.ensures in
-    let was : AreTied c.self.inside.register.base g.R.Resource c.self.inside.register.history c.self.inside.tree c.self.inside.hubs = rw (← c.self.view_is) at c.requires.tied in
-    rebased g.R.Resource (c.write.ensures.base) (tied_on_same g.R.Resource c.self.inside.register.base e c.promise.ensures.lawful next was c.write.ensures.events refl refl u.nodes
+    let was : AreTied c.self.inside.register.base g.R.Resource c.self.inside.register.history c.self.inside.tree c.self.inside.hubs =
+    rw (← c.self.view_is) at c.requires.tied in
+    rebased g.R.Resource (c.write.ensures.base)
+    (tied_on_same g.R.Resource c.self.inside.register.base e c.promise.ensures.lawful next was c.write.ensures.events refl refl u.nodes
     (subst (λ (k : List Event). IsTied c.self.inside.register.base g.R.Resource k new) (sym c.write.ensures.events)
     (tied_still c.self.inside.register.base g.R.Resource h e c.promise.ensures.lawful next old tied new refl refl (λ n. refl) u.nodes u.chain
     (stored_used c.self.inside.register.base g.R.Resource h c.promise.ensures.lawful old new tied.stored c.promise-2.ensures.resources_apart
@@ -68,7 +73,8 @@ returns-clause-kept g c =
     let held : is_held_at old c.args.res ≡ true = rw (← c.self.view_is) at c.requires.held in
     let f = held_found old c.args.res held in
     let u = of_found (stowed_of old c.args.res) f.stowed (Uses g.R.Resource old new c.args.res) f.found c.apply-answer.ensures in
-    rw (← c.self.view_is) (held_rewritten old new (length c.self.inside.register.history) (store_key c.args.res) (with_resource u.after) u.nodes u.written (λ x h. h))
+    rw (← c.self.view_is)
+    (held_rewritten old new (length c.self.inside.register.history) (store_key c.args.res) (with_resource u.after) u.nodes u.written (λ x h. h))
 
 pub returns-clause-memory : goal.returns-clause-memory
 returns-clause-memory g c =
@@ -89,6 +95,8 @@ returns-clause-leased g c =
     let was : AreLeased h c.self.inside.tree.resources c.self.inside.leases = rw (← c.self.view_is) at c.requires.leased in
     let held : is_held_at c.self.inside.tree c.args.res ≡ true = rw (← c.self.view_is) at c.requires.held in
     let f = held_found c.self.inside.tree c.args.res held in
-    let u = of_found (stowed_of c.self.inside.tree c.args.res) f.stowed (Uses g.R.Resource c.self.inside.tree c.apply-answer.new.self c.args.res) f.found c.apply-answer.ensures in
+    let u =
+    of_found (stowed_of c.self.inside.tree c.args.res) f.stowed (Uses g.R.Resource c.self.inside.tree c.apply-answer.new.self c.args.res) f.found
+    c.apply-answer.ensures in
     leased_found c.self.inside.register.base h _ (Use c.args.res.number) c.self.inside.tree.resources _ c.self.inside.leases _
     c.promise.ensures.lawful was refl refl (c.write.ensures.events) (refl) (still_there (store_key c.args.res) u.written)

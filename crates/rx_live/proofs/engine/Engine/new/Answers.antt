@@ -7,7 +7,16 @@ use Rattle.std.specs.Prelude.{None}
 
 pub returns : goal.returns
 returns c =
-    let s : Session = record { book = c.new-book.result; nodes = c.new.result; hubs = c.new-2.result; resources = c.new-3.result; leases = c.new-4.result; untold = None; unnamed = None } in
+    let s : Session =
+    record {
+      book = c.new-book.result;
+      nodes = c.new.result;
+      hubs = c.new-2.result;
+      resources = c.new-3.result;
+      leases = c.new-4.result;
+      untold = None;
+      unnamed = None;
+    } in
     record {
       sound = sound_start s c.promise.ensures (ap (λ (b : State). b.history) c.new-book.ensures)
           c.new.ensures.paired c.new-2.ensures.paired c.new-3.ensures.paired c.new-4.ensures.paired
