@@ -1,9 +1,9 @@
 -- Which cause stands first against a call, by the keys that callers have.
-use Rattle.std.proofs.Common.{◌≡◌, Bool, true, false, Option, Some, None, is_some, refl, sym, ap, ◌∙◌, inl, inr, ◌⊎◌, true≢false}
+use Rattle.std.proofs.Common.{◌≡◌, Bool, true, false, Option, None, is_some, refl, sym, ap, ◌∙◌, inl, inr, ◌⊎◌, true≢false}
 use Rattle.rx_event.specs.declared.refusal.Refusal.{Refusal}
-use Rattle.rx_event.specs.declared.refusal.Refusal.TheVariants.{NoMemory, Gone, NoLease, NotHeld}
+use Rattle.rx_event.specs.declared.refusal.Refusal.TheVariants.{Gone, NoLease, NotHeld}
 use Rattle.rx_event.specs.Calls.{Call, Applying, Removing, Leasing, GivingBack}
-use Rattle.rx_event.specs.Refusals.{first_cause, IsRefusal}
+use Rattle.rx_event.specs.Refusals.{first_cause}
 use Rattle.rx_slots.specs.Slots.{Slots, find}
 use Rattle.rx_tree.specs.declared.node.ResKey.{ResKey as TreeResKey}
 use Rattle.rx_lease.specs.Leases.{is_out_at}
@@ -40,12 +40,6 @@ pub first_by_lease_key : (leases : Slots TreeResKey) (stand : Refusal → Bool) 
     why ≡ first_cause (by_lease_key (is_out_at leases (ground_lease_key_of k)) stand) →
     first_cause (by_lease_key (has_lease_key (lease_keys_of leases) k) stand) ≡ why
 first_by_lease_key leases stand why k first = ap (λ b. first_cause (by_lease_key b stand)) (has_lease_key_is leases k) ∙ sym first
-
--- what a call is refused for that gets room for itself
-pub refused_for : (stand : Refusal → Bool) (cause : Option Refusal) (why : Refusal) → first_cause stand ≡ cause →
-    (cause ≡ Some why) ⊎ ((cause ≡ None) × (why ≡ NoMemory)) → IsRefusal stand why
-refused_for stand cause why first (inl some) = inl (first ∙ some)
-refused_for stand cause why first (inr (none, want)) = inr (first ∙ none, want)
 
 -- where nothing stands the key is known, and nothing stands against the call by numbers
 by_known_key : (known : Bool) (stand : Refusal → Bool) → first_cause (by_key known stand) ≡ None → (known ≡ true) × (first_cause stand ≡ None)

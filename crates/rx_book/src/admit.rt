@@ -95,7 +95,8 @@ fn decide<R: Resource>(ground: &mut Ground<R>, wish: Wish) -> Result<Wanted, Ref
 pub(crate) fn admit<R: Resource>(ground: &mut Ground<R>, wish: Wish) -> Result<(), Refusal>
     requires standing { IsStanding R.Resource ground.old }
     ensures ok { OnOk result (IsAdmitted R.Resource ground.new (request_for (state_of R.Resource ground.new) wish)) }
-    ensures err { IfErr result (IsCauseOrWant (state_of R.Resource ground.old) (request_for (state_of R.Resource ground.old) wish)) }
+    ensures err { IfErr result
+        (IsCauseOrWant (state_of R.Resource ground.old) (request_for (state_of R.Resource ground.old) wish)) }
     ensures same { state_of R.Resource ground.new ≡ state_of R.Resource ground.old }
     ensures standing { IsStanding R.Resource ground.new }
 {

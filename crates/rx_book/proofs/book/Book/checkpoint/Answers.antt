@@ -1,5 +1,5 @@
 use Rattle.std.proofs.Common.{refl, sym, ap, subst, inr}
-use Rattle.std.specs.Prelude.{Result, Ok, Err, ℕ}
+use Rattle.std.specs.Prelude.{Result, ℕ}
 use Rattle.rx_event.specs.declared.refusal.Refusal.{Refusal}
 use Rattle.rx_event.specs.declared.refusal.Refusal.TheVariants.{NoMemory}
 use Rattle.rx_book.specs.State.{State}
