@@ -1,5 +1,5 @@
 -- What made a node is what its words and numbers tell.
-use Rattle.std.proofs.Common.{◌≡◌, ℕ, Option, Some, None, true, false, option_map, is_some, refl, sym, ap, true≢false}
+use Rattle.std.proofs.Common.{◌≡◌, ℕ, Option, Some, None, true, option_map, is_some, refl, sym, ap, true≢false}
 use Rattle.std.specs.Option.{option_map_or}
 use Rattle.rx_event.specs.Events.{makes_node, parent_named}
 use Rattle.rx_event.specs.declared.event.Event.{Event}

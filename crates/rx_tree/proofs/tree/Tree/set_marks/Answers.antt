@@ -1,4 +1,4 @@
-use Rattle.std.proofs.Common.{◌≡◌, Bool, true, false, is_some, option_map, Some, refl, sym, ap, ◌∙◌, true≢false}
+use Rattle.std.proofs.Common.{◌≡◌, Bool, true, false, is_some, option_map, refl, sym, ap, ◌∙◌, true≢false}
 use Rattle.std.proofs.Math.Bool.{not}
 use Rattle.rx_tree.specs.Store.{project, nodes_of, resources_of}
 use Rattle.rx_tree.specs.Store.{next_of, previous_of}
