@@ -53,7 +53,7 @@ pub record IsReadyToEnd (base : Kept) {T : Type 0} (g : Ghosts T) (h : List Even
   pub alive : is_open h n ≡ true
   pub at_n : slice_get h n ≡ Some made
   pub named : option_map (λ k. k.number) above ≡ parent h n
-  pub there : IfSome above (λ k. IsSome (find old.nodes k))
+  pub there : IfSome above (λ key. IsSome (find old.nodes key))
 
 -- what an end leaves
 pub record IsEnded (base : Kept) {T : Type 0} (g : Ghosts T) (h : List Event) (old mid new : Tree T) : Type 0 where
