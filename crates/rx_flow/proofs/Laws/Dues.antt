@@ -9,11 +9,10 @@ use Rattle.rx_event.specs.declared.event.Event.{Event}
 use Rattle.rx_event.specs.declared.event.Event.TheVariants.{End, Close}
 use Rattle.rx_event.specs.Events.{makes_hub}
 use Rattle.rx_event.specs.Tree.{is_open}
-use Rattle.rx_event.specs.Marks.{due_at, terminal_due, marks_of}
+use Rattle.rx_event.specs.Marks.{due_at, marks_of}
 use Rattle.rx_event.specs.Forced.{IsForced, IsSettled, IsConnected, IsDue, SourceEnded}
 use Rattle.rx_event.specs.Lawful.{IsLawful}
 use Rattle.rx_event.proofs.Laws.MarksDue.{due_at_forced, settled_by_marks, settled_hubless, settled_quiet}
-use Rattle.rx_slots.specs.declared.Key.{Key}
 use Rattle.rx_slots.specs.Slots.{Slots, find}
 use Rattle.rx_tree.specs.declared.node.Node.{Node}
 use Rattle.rx_flow.specs.declared.forcing.Due.{Due}
@@ -27,15 +26,6 @@ due_at_in nodes due at = record {
   gives = ap (option_and_then (λ (node : Node). due_at node.made node.marks due.node.number)) at.found ∙
       ap (option_map (λ t. End due.node.number t)) at.gives;
 }
-
--- and where nothing is due at any record, no node has to end
-pub quiet_terminal : (nodes : Slots Node) (key : Key) (node : Node) → IsQuiet nodes → find nodes key ≡ Some node → terminal_due node.made node.marks ≡ None
-quiet_terminal nodes key node quiet found = by_terminal (terminal_due node.made node.marks)
-    (sym (ap (option_and_then (λ (n : Node). due_at n.made n.marks key.number)) found) ∙ quiet key)
-  where
-    by_terminal : (o : Option Terminal) → option_map (λ t. End key.number t) o ≡ None → o ≡ None
-    by_terminal None none = refl
-    by_terminal (Some t) some = absurd (none-some (End key.number t) (sym some))
 
 -- what is due at a record is forced, where no hub waits
 pub due_forced : (base : Kept) → (h : List Event) (nodes : Slots Node) (e : Event) → AreRecordsOf base h nodes → IsConnected h → IsDueIn nodes e →
