@@ -1,4 +1,3 @@
 pub mod Laws
 mod WayWalkedSoFar
 mod FirstDueOnChain
-mod Marked
