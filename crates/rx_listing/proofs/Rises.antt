@@ -1,17 +1,17 @@
 -- Numbers that are sorted, each once.
-use Rattle.std.proofs.Common.{◌≡◌, ℕ, zero, suc, ◌<◌, ◌≤◌, ◌==◌, Bool, true, false, cond, List, [], ◌∷◌, refl, sym, ◌∙◌, inl, inr, ◌⊎◌, arith, filter, nat_lt}
+use Rattle.std.proofs.Common.{◌≡◌, ℕ, zero, suc, ◌+◌, ◌<◌, ◌≤◌, ◌==◌, Bool, true, false, cond, List, [], ◌∷◌, length, refl, sym, ◌∙◌, inl, inr, ◌⊎◌, arith, filter, nat_lt, get_or}
 use Rattle.std.specs.Bool.{nat_eq}
 use Rattle.std.specs.List.{AllByRecursion, Contains, list_any, range_with_len, dedup}
 use Rattle.std.specs.List.Sorted.{IsStrictlySortedBy, IsSorted, IsPermutation}
 use Rattle.std.specs.Ordering.{nat_cmp}
 use Rattle.std.specs.declared.cmp.Ordering.TheVariants.{Less, Equal, Greater}
-use Rattle.std.proofs.lemmas.Bool.{cases_lt, ltb-true, false≢true}
+use Rattle.std.proofs.lemmas.Bool.{cases_Bool, cases_lt, ltb-true, false≢true}
 use Rattle.std.proofs.lemmas.Cmp.{nat_eq_equiv}
 use Rattle.std.proofs.lemmas.List.Kept.{Contains-dedup_nat, Contains-from_dedup}
 use Rattle.std.proofs.lemmas.List.Sorted.{Contains-permutation, IsPermutation-sym}
 use Rattle.std.proofs.lemmas.Map.Keys.{sorted_head, sorted_tail, IsStrictlyIncreasing-dedup, sorted_from_strictly_increasing}
 use Rattle.std.proofs.lemmas.Map.Views.{Contains-from_any, list_any-from_Contains, exact_unsigned_eq}
-use Rattle.rx_event.proofs.Laws.Rising.{In, Rises, rising_same, in_filter, filter_in, filter_rises, in_range, range_rises}
+use Rattle.rx_event.proofs.Laws.Rising.{In, Rises, rising_same, in_filter, filter_in, filter_rises, range_in, in_range, range_rises}
 
 less : (x y : ℕ) → nat_cmp x y ≡ Less → x < y
 less x y is = by_test (nat_lt x y) (x == y) refl is where
@@ -28,19 +28,19 @@ rises_of : (xs : List ℕ) → IsStrictlySortedBy nat_cmp xs → Rises xs
 rises_of [] sorted = tt
 rises_of (x ∷ xs) sorted = (below x xs (sorted_head nat_cmp x xs sorted), rises_of xs (sorted_tail nat_cmp x xs sorted))
 
-contains_in : (xs : List ℕ) (k : ℕ) → Contains xs k → In k xs
+pub contains_in : (xs : List ℕ) (k : ℕ) → Contains xs k → In k xs
 contains_in [] k w = let l = w.1 in absurd (omega arith)
 contains_in (x ∷ xs) k (zero, l, same) = inl same
 contains_in (x ∷ xs) k (suc i, l, same) = inr (contains_in xs k (i, omega arith, same))
 
-in_contains : (xs : List ℕ) (k : ℕ) → In k xs → Contains xs k
+pub in_contains : (xs : List ℕ) (k : ℕ) → In k xs → Contains xs k
 in_contains [] k i = absurd i
 in_contains (x ∷ xs) k (inl same) = (0, omega arith, same)
 in_contains (x ∷ xs) k (inr i) = let w : Contains xs k = in_contains xs k i in let l = w.1 in (suc w.0, omega arith, w.2)
 
 -- a list that rises and has just the numbers below a bound that pass a test
-are_just : (p : ℕ → Bool) (ns : List ℕ) (len : ℕ) → Rises ns → ((k : ℕ) → In k ns → p k ≡ true) → ((k : ℕ) → p k ≡ true → In k ns) →
-    ((k : ℕ) → len ≤ k → p k ≡ false) → ns ≡ filter p (range_with_len 0 len)
+are_just : (p : ℕ → Bool) (ns : List ℕ) (len : ℕ) → Rises ns → ((k : ℕ) → In k ns → p k ≡ true) → ((k : ℕ) → p k ≡ true → In k ns) → ((k : ℕ) → len ≤ k → p k ≡ false) →
+    ns ≡ filter p (range_with_len 0 len)
 are_just p ns len rises pass all past =
     rising_same ns (filter p (range_with_len 0 len)) rises (filter_rises p (range_with_len 0 len) (range_rises 0 len))
     (λ k i. in_filter p (range_with_len 0 len) k (within k (pass k i) (cases_lt k len)) (pass k i)) (λ k i. all k (filter_in p (range_with_len 0 len) k i).1)
@@ -50,11 +50,10 @@ are_just p ns len rises pass all past =
     within k passes (inr l) = absurd (false≢true (sym (past k l) ∙ passes))
 
 -- the numbers of a list, sorted and each once
-pub sorted_once : (p : ℕ → Bool) (first second : List ℕ) (len : ℕ) → ((k : ℕ) → p k ≡ list_any (nat_eq k) first) →
-    IsPermutation first second → IsSorted nat_cmp second → ((k : ℕ) → len ≤ k → p k ≡ false) → dedup nat_eq second ≡ filter p (range_with_len 0 len)
+pub sorted_once : (p : ℕ → Bool) (first second : List ℕ) (len : ℕ) → ((k : ℕ) → p k ≡ list_any (nat_eq k) first) → IsPermutation first second → IsSorted nat_cmp second →
+    ((k : ℕ) → len ≤ k → p k ≡ false) → dedup nat_eq second ≡ filter p (range_with_len 0 len)
 sorted_once p first second len same moved sorted past =
-    are_just p (dedup nat_eq second) len
-    (rises_of (dedup nat_eq second) (sorted_from_strictly_increasing (dedup nat_eq second) (IsStrictlyIncreasing-dedup second sorted)))
+    are_just p (dedup nat_eq second) len (rises_of (dedup nat_eq second) (sorted_from_strictly_increasing (dedup nat_eq second) (IsStrictlyIncreasing-dedup second sorted)))
     (λ k i. same k ∙ list_any-from_Contains nat_eq_equiv k first
     (Contains-permutation second first k (IsPermutation-sym first second moved) (Contains-from_dedup nat_eq second k (in_contains (dedup nat_eq second) k i))))
     (λ k passes. contains_in (dedup nat_eq second) k
@@ -67,3 +66,19 @@ module _ (p : ℕ → Bool) (len : ℕ) where
   listed n l passes =
       list_any-from_Contains nat_eq_equiv n (filter p (range_with_len 0 len))
       (in_contains (filter p (range_with_len 0 len)) n (in_filter p (range_with_len 0 len) n (in_range 0 len n (omega arith) (omega arith)) passes))
+
+  passed : (n : ℕ) → Contains (filter p (range_with_len 0 len)) n → p n ≡ true
+  passed n w = (filter_in p (range_with_len 0 len) n (contains_in (filter p (range_with_len 0 len)) n w)).1
+
+  pub named_there : (n : ℕ) → list_any (nat_eq n) (filter p (range_with_len 0 len)) ≡ true → p n ≡ true
+  named_there n found = passed n (Contains-from_any exact_unsigned_eq n (filter p (range_with_len 0 len)) found)
+
+  pub unlisted : (n : ℕ) → p n ≡ false → list_any (nat_eq n) (filter p (range_with_len 0 len)) ≡ false
+  unlisted n fails = by_test (cases_Bool (list_any (nat_eq n) (filter p (range_with_len 0 len)))) where
+    by_test : (list_any (nat_eq n) (filter p (range_with_len 0 len)) ≡ true) ⊎ (list_any (nat_eq n) (filter p (range_with_len 0 len)) ≡ false) →
+        list_any (nat_eq n) (filter p (range_with_len 0 len)) ≡ false
+    by_test (inl found) = absurd (false≢true (sym fails ∙ named_there n found))
+    by_test (inr none) = none
+
+  pub named_at : (i n : ℕ) → i < length (filter p (range_with_len 0 len)) → get_or (filter p (range_with_len 0 len)) i n ≡ n → p n ≡ true
+  named_at i n l at_i = passed n (i, l, at_i)

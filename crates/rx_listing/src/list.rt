@@ -1,7 +1,11 @@
 //! The whole text.
 
-ghost use Rattle.std.specs.Prelude.{◌≡◌, ◌++◌, string_bytes, OnOk};
-ghost use Rattle.rx_listing.specs.Parts.{hub_by, names_of, lead_of, led_text};
+ghost use Rattle.std.specs.Prelude.{◌≡◌, ℕ, ◌++◌, option_map, string_bytes, unwrap_or, IfOk, OnOk};
+ghost use Rattle.std.specs.Bool.{nat_eq};
+ghost use Rattle.std.specs.HashMap.{get};
+ghost use Rattle.rx_listing.specs.Listed.{node_at, resource_at, lease_at, hub_at, holder_name, leased_name, subscribers, objects, list_text};
+ghost use Rattle.rx_listing.specs.Recalled.{IsKnown};
+ghost use Rattle.rx_listing.specs.Parts.{IsNamed, IsSight, Sees, hub_by, names_of, object_at, lead_of, part_text, led_text};
 
 use crate::counts::{Counts, count, count_of};
 use crate::known::{Known, holder_of, is_manual, made_at, open_name};
@@ -44,7 +48,10 @@ fn subscribers_of<R: Resource>(
     alloc: Global,
     book: &Book<R>,
     known: &Known,
-) -> Result<Counts, AllocError> {
+) -> Result<Counts, AllocError>
+    requires { IsKnown book.now known.now }
+    ensures { IfOk result (λ v. (g : ℕ) → unwrap_or (get nat_eq v g) 0 ≡ subscribers book.now known.now.nodes.now g) }
+{
     let mut subscribers = HashMap::new(alloc);
     let numbers = rising(alloc, known.nodes)?;
     'numbers: for number in &numbers {
@@ -55,11 +62,10 @@ fn subscribers_of<R: Resource>(
     Ok(subscribers)
 }
 
-fn sight_of<R: Resource>(
-    alloc: Global,
-    book: &Book<R>,
-    known: &Known,
-) -> Result<Sight, AllocError> {
+fn sight_of<R: Resource>(alloc: Global, book: &Book<R>, known: &Known) -> Result<Sight, AllocError>
+    requires { IsKnown book.now known.now }
+    ensures { IfOk result (IsSight book.now known.now) }
+{
     Ok(Sight {
         seen: seen_of(book, known)?,
         subscribers: subscribers_of(alloc, book, known)?,
@@ -71,7 +77,10 @@ fn node_at<R: Resource>(
     book: &Book<R>,
     known: &Known,
     number: u64,
-) -> Result<Option<String>, AllocError> {
+) -> Result<Option<String>, AllocError>
+    requires { IsKnown book.now known.now }
+    ensures { IfOk result (λ o. option_map string_bytes o ≡ node_at book.now known.now.nodes.now known.now.hubs.now number) }
+{
     let Some(name) = open_name(book, known.nodes, number) else {
         return Ok(None);
     };
@@ -81,7 +90,11 @@ fn node_at<R: Resource>(
 }
 
 // The name of the node of a resource. One whose node is closed has none; a lease holds it.
-fn holder_name<'a, R: Resource>(book: &Book<R>, known: &Known<'a>, res: u64) -> Option<&'a str> {
+fn holder_name<'a, R: Resource>(book: &Book<R>, known: &Known<'a>, res: u64) -> Option<&'a str>
+    requires known { IsKnown book.now known.now }
+    requires within { IsNamed known.now.resources.now res }
+    ensures { option_map (λ s. s.now) result ≡ holder_name book.now known.now.nodes.now res }
+{
     let node = holder_of(book, known.past, res)?;
     open_name(book, known.nodes, node)
 }
@@ -92,7 +105,11 @@ fn resource_at<R: Resource>(
     known: &Known,
     seen: &Seen,
     number: u64,
-) -> Result<Option<String>, AllocError> {
+) -> Result<Option<String>, AllocError>
+    requires known { IsKnown book.now known.now }
+    requires sees { Sees book.now known.now.resources.now seen.now }
+    ensures { IfOk result (λ o. option_map string_bytes o ≡ resource_at book.now known.now.nodes.now known.now.resources.now number) }
+{
     let Some(name) = known.resources.name_of(number) else {
         return Ok(None);
     };
@@ -102,7 +119,11 @@ fn resource_at<R: Resource>(
 }
 
 // The name of the resource of a lease.
-fn leased_name<'a, R: Resource>(book: &Book<R>, known: &Known<'a>, lease: u64) -> Option<&'a str> {
+fn leased_name<'a, R: Resource>(book: &Book<R>, known: &Known<'a>, lease: u64) -> Option<&'a str>
+    requires known { IsKnown book.now known.now }
+    requires within { IsNamed known.now.leases.now lease }
+    ensures { option_map (λ s. s.now) result ≡ leased_name book.now known.now.resources.now lease }
+{
     let made = made_at(book, known.past, lease)?;
     let res = made.leased()?;
     known.resources.name_of(res)
@@ -113,7 +134,10 @@ fn lease_at<R: Resource>(
     book: &Book<R>,
     known: &Known,
     number: u64,
-) -> Result<Option<String>, AllocError> {
+) -> Result<Option<String>, AllocError>
+    requires { IsKnown book.now known.now }
+    ensures { IfOk result (λ o. option_map string_bytes o ≡ lease_at book.now known.now.resources.now known.now.leases.now number) }
+{
     let Some(name) = known.leases.name_of(number) else {
         return Ok(None);
     };
@@ -127,7 +151,11 @@ fn hub_at<R: Resource>(
     known: &Known,
     sight: &Sight,
     number: u64,
-) -> Result<Option<String>, AllocError> {
+) -> Result<Option<String>, AllocError>
+    requires known { IsKnown book.now known.now }
+    requires sight { IsSight book.now known.now sight.now }
+    ensures { IfOk result (λ o. option_map string_bytes o ≡ hub_at book.now known.now.nodes.now known.now.hubs.now number) }
+{
     let Some(name) = known.hubs.name_of(number) else {
         return Ok(None);
     };
@@ -146,7 +174,11 @@ fn object_at<R: Resource>(
     sight: &Sight,
     part: Part,
     number: u64,
-) -> Result<Option<String>, AllocError> {
+) -> Result<Option<String>, AllocError>
+    requires known { IsKnown book.now known.now }
+    requires sight { IsSight book.now known.now sight.now }
+    ensures { IfOk result (λ o. option_map string_bytes o ≡ object_at book.now known.now part number) }
+{
     match part {
         Part::Nodes => node_at(alloc, book, known, number),
         Part::Resources => resource_at(alloc, book, known, &sight.seen, number),
@@ -185,7 +217,11 @@ fn push_part<R: Resource>(
     known: &Known,
     sight: &Sight,
     part: Part,
-) -> Result<(), AllocError> {
+) -> Result<(), AllocError>
+    requires known { IsKnown book.now known.now }
+    requires sight { IsSight book.now known.now sight.now }
+    ensures { OnOk result (string_bytes text.new ≡ string_bytes text.old ++ objects (object_at book.now known.now part) book.now.history) }
+{
     let numbers = rising(alloc, names_of(known, part))?;
     let mut is_first = true;
     'numbers: for number in &numbers {
@@ -198,6 +234,7 @@ fn push_part<R: Resource>(
 }
 
 // Writes a part, and what leads to it.
+#[tactic(auto, unfolding(crate::specs::Parts::part_text))]
 fn push_led<R: Resource>(
     alloc: Global,
     text: &mut String,
@@ -205,7 +242,11 @@ fn push_led<R: Resource>(
     known: &Known,
     sight: &Sight,
     part: Part,
-) -> Result<(), AllocError> {
+) -> Result<(), AllocError>
+    requires known { IsKnown book.now known.now }
+    requires sight { IsSight book.now known.now sight.now }
+    ensures { OnOk result (string_bytes text.new ≡ string_bytes text.old ++ part_text book.now known.now part) }
+{
     text.push_str(lead_of(part))?;
     push_part(alloc, text, book, known, sight, part)
 }
@@ -228,7 +269,11 @@ pub fn list_text<R: Resource>(
     alloc: Global,
     book: &Book<R>,
     known: &Known,
-) -> Result<String, AllocError> {
+) -> Result<String, AllocError>
+    requires { IsKnown book.now known.now }
+    ensures { IfOk result (λ s. string_bytes s ≡
+        list_text book.now known.now.nodes.now known.now.hubs.now known.now.resources.now known.now.leases.now) }
+{
     let sight = sight_of(alloc, book, known)?;
     let mut text = ok_text(alloc, book.len())?;
     push_led(alloc, &mut text, book, known, &sight, Part::Nodes)?;

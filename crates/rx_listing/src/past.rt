@@ -3,7 +3,7 @@
 ghost use Rattle.std.specs.Prelude.{◌≡◌, ℕ, Some, unwrap_or, IfOk, OnOk};
 ghost use Rattle.std.specs.Bool.{nat_eq};
 ghost use Rattle.std.specs.HashMap.{get};
-ghost use Rattle.rx_listing.specs.Recalled.{made_in, holder_in, IsBlank};
+ghost use Rattle.rx_listing.specs.Recalled.{made_in, holder_in, Recalls, IsKnown, IsBlank};
 ghost use Rattle.rx_listing.specs.Parts.{made_by, holder_by, IsPut, IsKept, HasNamed};
 
 use crate::counts::{Counts, count_of, keep};
@@ -139,7 +139,11 @@ pub fn past_of<R: Resource>(
     alloc: Global,
     book: &Book<R>,
     known: &Known,
-) -> Result<Past, AllocError> {
+) -> Result<Past, AllocError>
+    requires { IsKnown book.now known.now }
+    ensures { IfOk result (λ p. Recalls p book.now.base book.now.history
+        known.now.nodes.now known.now.hubs.now known.now.resources.now known.now.leases.now) }
+{
     let seen = seen_of(book, known)?;
     let numbers = made_numbers(alloc, known)?;
     let made = made_of(alloc, book, known.past, numbers.as_slice())?;

@@ -1,11 +1,12 @@
 //! What the past and one pass over the events since it tell.
 
-ghost use Rattle.std.specs.Prelude.{◌≡◌, ℕ, ◌+◌, ◌<◌, cond, unwrap_or, OnOk};
+ghost use Rattle.std.specs.Prelude.{◌≡◌, ℕ, ◌+◌, ◌<◌, cond, unwrap_or, IfOk, OnOk};
 ghost use Rattle.std.specs.Bool.{nat_eq};
 ghost use Rattle.std.specs.List.{list_any};
-ghost use Rattle.std.specs.HashMap.{get, values};
+ghost use Rattle.std.specs.HashMap.{get, values, IsUnique};
 ghost use Rattle.rx_event.specs.Events.{is_use_of};
-ghost use Rattle.rx_listing.specs.Parts.{connection_after};
+ghost use Rattle.rx_listing.specs.Recalled.{IsKnown};
+ghost use Rattle.rx_listing.specs.Parts.{Sees, connection_after};
 
 use crate::counts::{Counts, count, keep};
 use crate::known::Known;
@@ -47,14 +48,18 @@ impl Seen {
 
     /// Whether a hub has an open connection.
     pub fn is_connected(&self, hub: u64) -> bool
-        ensures { result ≡ list_any (λ one. nat_eq one hub) (values self.now.connections) }
+        ensures any { result ≡ list_any (λ one. nat_eq one hub) (values self.now.connections) }
+        ensures unique { IsUnique nat_eq self.now.connections }
     {
         self.connections.values().any(|one| *one == hub)
     }
 }
 
 /// What the past and the events since tell.
-pub fn seen_of<R: Resource>(book: &Book<R>, known: &Known) -> Result<Seen, AllocError> {
+pub fn seen_of<R: Resource>(book: &Book<R>, known: &Known) -> Result<Seen, AllocError>
+    requires { IsKnown book.now known.now }
+    ensures { IfOk result (Sees book.now known.now.resources.now) }
+{
     let mut seen = known.past.begin()?;
     'places: for place in since(book)..book.len() {
         if let Some(event) = book.event(place) {
