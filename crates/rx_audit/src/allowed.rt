@@ -26,14 +26,8 @@ use crate::nodes::marks_at;
 use crate::openness::parent_of;
 use crate::reach::{Climb, reached};
 use crate::subscribers::{Subscribers, hub_connected_at};
-use rx_event::{Event, Kind, Marks, Place, Terminal};
+use rx_event::{Event, Kind, MOST_HUBS, MOST_NODES, Marks, Place, Terminal};
 use std::alloc::AllocError;
-
-/// How many nodes may be open.
-pub const MOST_NODES: usize = 1_048_576;
-
-/// How many hubs there may be.
-const MOST_HUBS: usize = 1024;
 
 /// How many nodes are open.
 pub fn open_count(past: &[Event], found: &Found) -> usize
@@ -49,7 +43,7 @@ fn has_room(past: &[Event], found: &Found) -> bool
     requires { IsFoundHere past.now found.now }
     ensures { result ≡ nat_lt (length (open_nodes past.now)) 1048576 }
 {
-    open_count(past, found) < MOST_NODES
+    (open_count(past, found) as u64) < MOST_NODES
 }
 
 /// Whether node `a` is no connection of hub `g` or of an earlier one.
@@ -307,7 +301,7 @@ pub fn is_allowed_simply(past: &[Event], found: &Found, nodes: &Nodes, event: Ev
 {
     match event {
         Event::Open { .. } | Event::Item(_, _) => false,
-        Event::Hub(_) => nodes.hubs.count < MOST_HUBS,
+        Event::Hub(_) => (nodes.hubs.count as u64) < MOST_HUBS,
         Event::Connect(g) => connect_allowed(past, found, nodes, g),
         Event::Accept(n, _) => is_marked(found.live.as_slice(), n),
         Event::Use(r) => is_held(past, found, r),

@@ -13,9 +13,6 @@ use crate::subscribers::{Subscribers, subscribers_of};
 use rx_event::{Event, Place};
 use std::alloc::AllocError;
 
-/// How many visits one item may make.
-pub const MOST_VISITS: usize = 1_048_576;
-
 /// The FlatMap or Switch to which an item is projected at node `n`.
 pub fn projected_at(past: &[Event], n: u64) -> Option<u64>
     ensures { result ≡ option_and_then projected_by (stop_at past.now n) }

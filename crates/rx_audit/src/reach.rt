@@ -9,9 +9,9 @@ ghost use Rattle.rx_event.specs.Climb.{onward, visits};
 ghost use Rattle.rx_audit.specs.Listed.{AreLinked, AreOpenListed};
 ghost use Rattle.rx_audit.specs.Flow.{times, IsOften, IsReached};
 
-use crate::climb::{MOST_VISITS, onward};
+use crate::climb::onward;
 use crate::subscribers::Subscribers;
-use rx_event::Event;
+use rx_event::{Event, MOST_VISITS};
 use std::alloc::{AllocError, Global};
 
 /// How often a node is reached, on the paths that were found so far.
@@ -137,7 +137,7 @@ pub fn reached(
         count: 1,
     })?;
     let mut total: u64 = 1;
-    for i in 0..MOST_VISITS {
+    for i in 0..MOST_VISITS as usize {
         if i >= climb.log.len() {
             return Ok(true);
         }
@@ -145,7 +145,7 @@ pub fn reached(
         climb.next.clear();
         onward(past, subs, visit.node, &mut climb.next)?;
         let more = u128::from(visit.count) * climb.next.len() as u128;
-        if more > u128::from(1_048_576 - total) {
+        if more > u128::from(MOST_VISITS - total) {
             return Ok(false);
         }
         total += more as u64;

@@ -16,8 +16,7 @@ ghost use Rattle.rx_audit.specs.Verdict.{IsVerdict, IsFoundUnlawful};
 
 use crate::advance::{Nodes, no_nodes};
 use crate::allowed::{
-    MOST_NODES, is_allowed_simply, is_held, is_item_allowed, is_open_allowed, is_waiting,
-    open_count,
+    is_allowed_simply, is_held, is_item_allowed, is_open_allowed, is_waiting, open_count,
 };
 use crate::duties::settle;
 use crate::event_tests::at;
@@ -25,7 +24,7 @@ use crate::forced::{is_connected, is_forced};
 use crate::found::{Found, follow, nothing_found};
 use crate::marks::is_marked;
 use crate::reach::{Climb, no_climb};
-use rx_event::{Event, Kind, Place};
+use rx_event::{Event, Kind, MOST_NODES, Place};
 use std::alloc::{AllocError, Global};
 
 /// What the audit says of a list of events.
@@ -72,7 +71,7 @@ fn leaves_room(past: &[Event], event: Event, found: &Found, nodes: &Nodes) -> bo
     requires known { IsKnown past.now found.now.live.items nodes.now }
     ensures { result ≡ leaves_room past.now event }
 {
-    open_count(past, found) <= MOST_NODES - 2
+    open_count(past, found) as u64 <= MOST_NODES - 2
         || !needs_connection(past, found.live.as_slice(), nodes, event)
 }
 

@@ -17,6 +17,7 @@
 mod base;
 mod event;
 mod history;
+mod limits;
 mod mail;
 mod marks;
 mod refusal;
@@ -25,6 +26,7 @@ mod theorems;
 pub use base::{Base, BaseCounts, BaseHub, BaseLease, BaseNode, BaseResource, BaseState};
 pub use event::{Event, Kind, Mode, Place};
 pub use history::History;
+pub use limits::{MOST_HUBS, MOST_NODES, MOST_VISITS};
 pub use mail::Mail;
 pub use marks::Marks;
 pub use refusal::Refusal;

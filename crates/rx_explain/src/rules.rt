@@ -3,12 +3,9 @@
 use crate::forced::may_follow;
 use crate::past::{Past, end_of, event_at, last_return_of, lease_out, opening_at, place_of};
 use crate::walk::{Walk, tell};
-use rx_event::{Event, Kind, Place};
+use rx_event::{Event, Kind, MOST_NODES, Place};
 use rx_note::Terminal;
 use std::alloc::{AllocError, Global};
-
-/// How many nodes may be open.
-const MOST_NODES: usize = 1_048_576;
 
 const TOO_MANY: &str = "it would take more than 1048576 open nodes";
 
@@ -75,7 +72,7 @@ fn used_before(alloc: Global, past: Past<'_>, place: Place) -> Walk {
 fn no_subscriber(alloc: Global, past: Past<'_>, place: Place, hub: u64) -> Walk {
     no_hub(alloc, past, hub)?;
     let kind = Kind::Leaf;
-    if past.live.len() + 1 < MOST_NODES
+    if past.live.len() as u64 + 1 < MOST_NODES
         && may_follow(alloc, past.events, Event::Open { place, kind })?
     {
         return tell(format!(in alloc;
@@ -92,7 +89,7 @@ fn open_rule(alloc: Global, past: Past<'_>, place: Place, kind: Kind) -> Walk {
         no_subscriber(alloc, past, place, hub)?;
     }
     match place {
-        Place::Inner(node) if past.live.len() < MOST_NODES => {
+        Place::Inner(node) if (past.live.len() as u64) < MOST_NODES => {
             tell(format!(in alloc; "nothing is owed at node {node}"))
         }
         _ => say(alloc, TOO_MANY),

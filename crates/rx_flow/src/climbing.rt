@@ -5,12 +5,9 @@ ghost use Rattle.rx_slots.specs.Slots.{find};
 ghost use Rattle.rx_flow.specs.Way.{above_of, stop_of, hub_of, way, end_of};
 
 use crate::stop::{Reached, Stop};
-use rx_event::{Event, Place};
+use rx_event::{Event, MOST_VISITS, Place};
 use rx_resource::Resource;
 use rx_tree::{Key, Tree};
-
-// How many visits one item may make.
-const MOST_VISITS: u64 = 1_048_576;
 
 /// The key of the node above.
 fn above<R: Resource>(tree: &Tree<R>, key: Key) -> Option<Key>

@@ -21,13 +21,10 @@ ghost use Rattle.rx_ground.specs.Ties.{AreTied, AreLeased, IsReady, IsStanding, 
 ghost use Rattle.rx_ground.specs.Told.{IsHubTold, is_connected_manual};
 
 use crate::base::{Ground, Wanted};
-use rx_event::{Event, Kind, Mode, Refusal};
+use rx_event::{Event, Kind, MOST_HUBS, Mode, Refusal};
 use rx_hub::Published;
 use rx_resource::Resource;
 use rx_tree::Key;
-
-// Beside so many other hubs there may be one more.
-const MOST_OTHERS: usize = 1_023;
 
 // Whether a caller connects the hub, and it has an open connection.
 fn is_up_by_hand(hub: Published) -> bool
@@ -77,7 +74,7 @@ impl<R: Resource> Ground<R> {
         ensures { result ≡ nat_lt most_hubs (length (hubs self.now.register.history) + 1) }
     {
         self.hubs.promise();
-        MOST_OTHERS < self.hubs.len()
+        MOST_HUBS <= self.hubs.len() as u64
     }
 
     /// What stands first against making a hub: `TooMany` at 1,024 hubs, `Full`.

@@ -22,16 +22,13 @@ ghost use Rattle.rx_ground.specs.Passing.{owed_at, told_at, mail_at, IsThere, Is
 ghost use Rattle.rx_ground.specs.Reached.{IsReach};
 
 use crate::base::{Ground, Only};
-use rx_event::{Mail, Refusal};
+use rx_event::{MOST_VISITS, Mail, Refusal};
 use rx_flow::Stop;
 use rx_hub::{Hubs, Route};
 use rx_note::Note;
 use rx_register::Register;
 use rx_resource::Resource;
 use rx_tree::{Key, Tree};
-
-// How many visits one item may make.
-const MOST_VISITS: u64 = 1_048_576;
 
 /// What an item of a leaf wants, wherever it goes.
 #[derive(Clone, Copy)]

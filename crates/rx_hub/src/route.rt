@@ -9,15 +9,13 @@ ghost use Rattle.rx_hub.specs.Walk.{arrival, climb_over, stops_over};
 ghost use Rattle.rx_hub.specs.Route.{IsFrame, IsBehind, AreFrames, GoesOn, first_keys, hub_keys};
 
 use crate::hubs::Hubs;
+use rx_event::MOST_VISITS;
 use rx_flow::{Stop, climb};
 use rx_resource::Resource;
 use rx_slots::Key;
 use rx_tree::Tree;
 use std::alloc::{AllocError, Global};
 use std::marker::Model;
-
-// How many visits one item may make.
-const MOST_VISITS: u64 = 1_048_576;
 
 /// A subscriber from which an item's way goes on, and its hub.
 #[derive(Clone, Copy)]

@@ -10,12 +10,9 @@ ghost use Rattle.rx_picture.specs.Told.{AreEndsOf};
 
 use crate::firsts::value_at;
 use crate::lines::parent_of;
-use rx_event::{Event, Mail, Place};
+use rx_event::{Event, MOST_VISITS, Mail, Place};
 use rx_note::Note;
 use std::alloc::{AllocError, Global};
-
-/// How many visits one item may make.
-const MOST_VISITS: usize = 1_048_576;
 
 /// Whether there is a FlatMap or a Switch at the place.
 fn is_merging_at(past: &[Event], f: u64) -> bool

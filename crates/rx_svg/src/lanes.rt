@@ -138,7 +138,9 @@ fn push_stretch(
     end: u64,
 ) -> Result<(), AllocError>
     ensures { OnOk result (string_bytes text.new ≡ string_bytes text.old
-        ++ stretch_text drawing.now class.now title.now above.now height.now y after until end) }
+        ++ stretch_text drawing.now
+        (record { class = class.now; title = title.now; above = above.now; height = height.now })
+        y after until end) }
 {
     if after >= until {
         return Ok(());

@@ -81,7 +81,7 @@ pub fn push_line(
     end: u64,
 ) -> Result<(), AllocError>
     ensures { OnOk result (string_bytes text.new ≡ string_bytes text.old
-        ++ line_text class.now title.now from to y after until end) }
+        ++ line_text class.now title.now (record { from = from; to = to; y = y; after = after; until = until; end = end })) }
 {
     push_line_front(text, class, title, from, to, y, after)?;
     push_stretch_end(text, until, end)
@@ -143,7 +143,8 @@ pub fn push_bar(
     end: u64,
 ) -> Result<(), AllocError>
     ensures { OnOk result (string_bytes text.new ≡ string_bytes text.old
-        ++ bar_text class.now title.now above.now height.now from to y after until end) }
+        ++ bar_text (record { class = class.now; title = title.now; above = above.now; height = height.now })
+        (record { from = from; to = to; y = y; after = after; until = until; end = end })) }
 {
     push_bar_front(text, class, title, above, height, from, to, y, after)?;
     push_stretch_end(text, until, end)

@@ -6,9 +6,7 @@ ghost use Rattle.rx_register.specs.State.{IsLoadOf};
 
 use super::Register;
 use crate::load::Load;
-
-/// The greatest number of nodes that are open at once.
-const MOST_NODES: u64 = 1_048_576;
+use rx_event::MOST_NODES;
 
 impl Register {
     /// Whether so many open nodes more would be too many.
