@@ -21,7 +21,7 @@ use Rattle.rx_event.specs.Resources.{is_owned, is_out, is_out_of, leases_of, lea
 use Rattle.rx_event.specs.Notes.{notes_to, mail_of}
 use Rattle.rx_event.specs.Forced.{IsDue, IsConnected, IsSettled}
 use Rattle.rx_event.specs.Lawful.{stays, more, IsLawful, IsForcedOn, IsStep}
-use Rattle.rx_event.specs.Claims.Determined.{is_closing, AreAlike}
+use Rattle.rx_event.specs.Claims.Determined.{is_closing, AreAlike, EndsSince}
 use Rattle.rx_event.proofs.Laws.Lists.{same_filter}
 use Rattle.rx_event.proofs.Laws.Places.{slice_get_last}
 use Rattle.rx_event.proofs.Laws.Parents.{ancestors_step}
@@ -272,16 +272,16 @@ module _ (base : Kept) (b k j : List Event) (law : IsLawful base b) (whole : IsC
   }
 
 -- Two courses of what is forced after one history come to the same
-pub courses_alike : (base : Kept) → (b k j : List Event) → IsLawful base b → IsForcedOn base b k → IsSettled base k → IsForcedOn base b j → IsSettled base j →
+pub courses_alike : {base : Kept} {b k j : List Event} → IsLawful base b → IsForcedOn base b k → IsSettled base k → IsForcedOn base b j → IsSettled base j →
     AreAlike base k j
-courses_alike base b k j law on_k settled_k on_j settled_j =
+courses_alike {base} {b} {k} {j} law on_k settled_k on_j settled_j =
     let s = start_alike base law on_k settled_k on_j settled_j in
     alike base s.start k j s.law s.whole s.one settled_k s.other settled_j
 
 -- and so do two steps
-pub steps_alike : (base : Kept) → (h outside k j : List Event) → IsLawful base h → IsStep base h outside k → IsStep base h outside j → AreAlike base k j
-steps_alike base h outside k j law one other =
-    courses_alike base (h ++ outside) k j
+pub steps_alike : {base : Kept} {h outside k j : List Event} → IsLawful base h → IsStep base h outside k → IsStep base h outside j → AreAlike base k j
+steps_alike {base} {h} {outside} law one other =
+    courses_alike
     (lawful_begun base one.forced (let long = shown_within base h law in omega (arith, length-append h outside)) one.lawful) one.forced one.settled
     other.forced other.settled
 
@@ -320,21 +320,21 @@ nothing_past b k i x same l at_i =
     let w : i < length b = slice_get_within b i x (ap (λ (q : List Event). slice_get q i) (sym same) ∙ at_i) in omega arith
 
 -- all ends of two courses are alike
-pub one_terminal : (base : Kept) → (b k j : List Event) → IsLawful base b → IsForcedOn base b k → IsForcedOn base b j → (n m i l : ℕ) (t u : Terminal) →
-    length b ≤ i →
-    slice_get k i ≡ Some (End n t) → length b ≤ l → slice_get j l ≡ Some (End m u) → t ≡ u
-one_terminal base b k j law on_k on_j n m i l t u far at_i also at_l = by_first (begins_with base on_k) (begins_with base on_j) where
+pub one_terminal : {base : Kept} {b k j : List Event} → IsLawful base b → IsForcedOn base b k → IsForcedOn base b j → {t u : Terminal} →
+    EndsSince b k t → EndsSince b j u → t ≡ u
+one_terminal {base} {b} {k} {j} law on_k on_j {t} {u} x y = by_first (begins_with base on_k) (begins_with base on_j) where
   by_first : (k ≡ b) ⊎ BeginsWith base b k → (j ≡ b) ⊎ BeginsWith base b j → t ≡ u
-  by_first (inl same) other = absurd (nothing_past b k i (End n t) same far at_i)
-  by_first (inr one) (inl same) = absurd (nothing_past b j l (End m u) same also at_l)
+  by_first (inl same) other = absurd (nothing_past b k x.place (End x.node t) same x.since x.ended)
+  by_first (inr one) (inl same) = absurd (nothing_past b j y.place (End y.node u) same y.since y.ended)
   by_first (inr one) (inr other) =
       let s = starts_with base law on_k on_j one.first one.rest other.first other.rest in
-      ends_one base s.start s.law t u (ends_after base s s.one n i t far at_i) (ends_after base s s.other m l u also at_l)
+      ends_one base s.start s.law t u (ends_after base s s.one x.node x.place t x.since x.ended)
+      (ends_after base s s.other y.node y.place u y.since y.ended)
 
 -- a connection comes first
-pub connects_first : (base : Kept) → (b k : List Event) → IsLawful base b → IsForcedOn base b k → (c g : ℕ) → length b ≤ c →
+pub connects_first : {base : Kept} {b k : List Event} → IsLawful base b → IsForcedOn base b k → (c : ℕ) {g : ℕ} → length b ≤ c →
     slice_get k c ≡ Some (Connect g) → c ≡ length b
-connects_first base b k law on c g l at_c = by_first (begins_with base on) where
+connects_first {base} {b} {k} law on c {g} l at_c = by_first (begins_with base on) where
   by_first : (k ≡ b) ⊎ BeginsWith base b k → c ≡ length b
   by_first (inl same) = absurd (nothing_past b k c (Connect g) same l at_c)
   by_first (inr one) =
@@ -349,13 +349,12 @@ closed_forced base (more {k = k} {e = e} on f) n l closed =
     ((let w = within in omega (arith, length-append k (e ∷ []))), stays_closed k e n within before.1)
 
 -- what one course has closed so far, another has closed in the end
-pub closed_in_both : (base : Kept) → (b p k : List Event) → IsLawful base b → IsForcedOn base b p → IsForcedOn base b k → IsSettled base k → (n : ℕ) →
-    n < length b → is_open p n ≡ false →
-    is_open k n ≡ false
-closed_in_both base b p k law on_p on_k settled n l closed = by_first (begins_with base on_p) (begins_with base on_k) where
+pub closed_in_both : {base : Kept} {b p k : List Event} → IsLawful base b → IsForcedOn base b p → IsForcedOn base b k → IsSettled base k → (n : ℕ) →
+    n < length b → is_open p n ≡ false → is_open k n ≡ false
+closed_in_both {base} {b} {p} {k} law on_p on_k settled n l closed = by_first (begins_with base on_p) (begins_with base on_k) where
   by_first : (p ≡ b) ⊎ BeginsWith base b p → (k ≡ b) ⊎ BeginsWith base b k → is_open k n ≡ false
   by_first (inl same) other = (closed_forced base on_k n l (ap (λ (q : List Event). is_open q n) (sym same) ∙ closed)).1
   by_first (inr one) (inl same) = absurd ((subst (λ (q : List Event). IsSettled base q) same settled).none one.event one.first)
   by_first (inr one) (inr other) =
       let s = starts_with base law on_p on_k one.first one.rest other.first other.rest in
-      false_from_ne_true (is_open k n) (λ o. both_ways (is_open p n) closed (spared base s.one k s.law s.whole s.other settled n o))
+      false_from_ne_true (is_open k n) (λ o. both_ways (is_open p n) closed (spared s.one k s.law s.whole s.other settled n o))

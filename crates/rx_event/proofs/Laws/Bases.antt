@@ -215,10 +215,10 @@ inner_parent h f n less inner = ap (option_and_then (if_less n)) (names (slice_g
   names (Some _) inner = absurd (false≢true inner)
 
 -- no later place of the base's list shuts an open node
-not_shut_later : (b : Kept) (h : List Event) → ((f x y : ℕ) → TwoOpenInners h f x y → x ≡ y) → (n m : ℕ) (x : Event) → is_open h n ≡ true → n < m →
+not_shut_later : (b : Kept) {h : List Event} → ((f x y : ℕ) → TwoOpenInners h f x y → x ≡ y) → (n m : ℕ) {x : Event} → is_open h n ≡ true → n < m →
     slice_get (shown (base_of b h)) m ≡ Some x →
     shuts (shown (base_of b h)) n x ≡ true → ⊥
-not_shut_later b h law n m x o later at_m shut = by_event x (kept_at b h m x at_m) shut where
+not_shut_later b {h} law n m {x} o later at_m shut = by_event x (kept_at b h m x at_m) shut where
   s : List Event
   s = shown (base_of b h)
 
@@ -264,7 +264,7 @@ not_shut_here b h law n o = by_test (cases_Bool (list_any (shuts (shown (base_of
   by_test (inr none) = none
   by_test (inl some) =
       let place = list_any_found (shuts (shown (base_of b h)) n) (drop (suc n) (shown (base_of b h))) some in
-      absurd (not_shut_later b h law n (suc n + place.0) place.1 o (omega arith) (sym (slice_get-drop (suc n) (shown (base_of b h)) place.0) ∙ place.2) place.3)
+      absurd (not_shut_later b law n (suc n + place.0) o (omega arith) (sym (slice_get-drop (suc n) (shown (base_of b h)) place.0) ∙ place.2) place.3)
 
 parent_of_event : (s h : List Event) (n : ℕ) → slice_get s n ≡ slice_get h n → parent s n ≡ parent h n
 unfolding parent

@@ -41,10 +41,9 @@ abbrev pub EndsNone : (base : Kept) → List Event → Type 0
 EndsNone base h = (n : ℕ) (t : Terminal) → ¬ IsDue base h (End n t)
 
 -- after such an event what is due to end was so before
-pub due_calm : (base : Kept) → (h : List Event) (e : Event) → IsLawful base h → MayFollow base h e → ends_or_declines e ≡ false → FiresNone h e →
-    (n : ℕ) (t : Terminal) →
-    IsDue base (h ++ e ∷ []) (End n t) → IsDue base h (End n t)
-due_calm base h e law next calm unfired n t d = by_reason (due_before base h e law next n t d) where
+pub due_calm : {base : Kept} {h : List Event} {e : Event} → IsLawful base h → MayFollow base h e → ends_or_declines e ≡ false → FiresNone h e →
+    {n : ℕ} {t : Terminal} → IsDue base (h ++ e ∷ []) (End n t) → IsDue base h (End n t)
+due_calm {base} {h} {e} law next calm unfired {n} {t} d = by_reason (due_before base h e law next n t d) where
   ends_calm : (x : Event) → ends_or_declines x ≡ false → ends_as x ≡ Some t → ⊥
   ends_calm (End c u) still now = false≢true (sym still)
   ends_calm _ still now = none-some t now
@@ -64,7 +63,7 @@ due_calm base h e law next calm unfired n t d = by_reason (due_before base h e l
 pub ends_none_on : (base : Kept) → (h : List Event) (e : Event) → IsLawful base h → MayFollow base h e → ends_or_declines e ≡ false → FiresNone h e →
     EndsNone base h →
     EndsNone base (h ++ e ∷ [])
-ends_none_on base h e law next calm unfired ends_none n t d = ends_none n t (due_calm base h e law next calm unfired n t d)
+ends_none_on base h e law next calm unfired ends_none n t d = ends_none n t (due_calm law next calm unfired d)
 
 pub settled_ends_none : (base : Kept) → (h : List Event) → IsSettled base h → EndsNone base h
 settled_ends_none base h settled n t d = settled.none (End n t) (due (settled_connected base h settled) d)
@@ -78,10 +77,10 @@ quiet_ends_none base h ends_none n made o at_n = by_terminal (terminal_due made 
   by_terminal (Some t) found = absurd (ends_none n t (terminal_due_due base h n made t o at_n found))
 
 -- so none do after such an event
-pub quiet_on : (base : Kept) → (h : List Event) (e : Event) → IsLawful base h → MayFollow base h e → IsSettled base h → ends_or_declines e ≡ false →
-    FiresNone h e → (n : ℕ) (made : Event) →
-    is_open (h ++ e ∷ []) n ≡ true → slice_get (h ++ e ∷ []) n ≡ Some made → due_at made (marks_of base (h ++ e ∷ []) n) n ≡ None
-quiet_on base h e law next settled calm unfired n made o at_n =
+pub quiet_on : {base : Kept} {h : List Event} {e : Event} → IsLawful base h → MayFollow base h e → IsSettled base h → ends_or_declines e ≡ false →
+    FiresNone h e → (n : ℕ) {made : Event} → is_open (h ++ e ∷ []) n ≡ true →
+    slice_get (h ++ e ∷ []) n ≡ Some made → due_at made (marks_of base (h ++ e ∷ []) n) n ≡ None
+quiet_on {base} {h} {e} law next settled calm unfired n {made} o at_n =
     quiet_ends_none base (h ++ e ∷ []) (ends_none_on base h e law next calm unfired (settled_ends_none base h settled)) n made o at_n
 
 -- connections that nobody uses ----------------------------------------------------------------------
@@ -130,9 +129,10 @@ abbrev pub KeepsSubscribers : List Event → List Event → ℕ → Type 0
 KeepsSubscribers h k g = (s : ℕ) → at (is_subscriber_of g) h s ≡ true → is_open h s ≡ true → is_open k s ≡ true
 
 -- then an older connection of g that nobody uses was so before
-pub unused_older : (base : Kept) → (h t k : List Event) → k ≡ h ++ t → IsLawful base k → (c g : ℕ) → IsUnused k c g → c < length h → KeepsSubscribers h k g →
+pub unused_older : {base : Kept} → (h t : List Event) {k : List Event} → k ≡ h ++ t → IsLawful base k → {c : ℕ} (g : ℕ) → IsUnused k c g → c < length h →
+    KeepsSubscribers h k g →
     IsUnused h c g
-unused_older base h t k grown law c g u l keeps = record {
+unused_older {base} h t {k} grown law {c} g u l keeps = record {
   alive = open_older h t c l (ap (λ (q : List Event). is_open q c) (sym grown) ∙ u.alive);
   made = sym (slice_get-append h t c l) ∙ ap (λ (q : List Event). slice_get q c) (sym grown) ∙ u.made;
   auto = sym (at-append is_auto_hub h t g hub_older) ∙ ap (λ (q : List Event). at is_auto_hub q g) (sym grown) ∙ u.auto;
@@ -146,12 +146,12 @@ unused_older base h t k grown law c g u l keeps = record {
       ap (λ (q : List Event). at (is_subscriber_of g) q s) grown ∙ at-append (is_subscriber_of g) h t s (is_open_within h s was) ∙ subscribes
 
 -- after an event that closes nothing only what it connects is unused that was not before
-unused_new : (base : Kept) → (h : List Event) (e : Event) (c g : ℕ) → IsLawful base (h ++ e ∷ []) → ClosesNone h e → HasNoUnused h →
+unused_new : {base : Kept} → (h : List Event) (e : Event) (c g : ℕ) → IsLawful base (h ++ e ∷ []) → ClosesNone h e → HasNoUnused h →
     IsUnused (h ++ e ∷ []) c g → e ≡ Connect g
-unused_new base h e c g law still used u = by_place (cases_order c (length h)) where
+unused_new h e c g law still used u = by_place (cases_order c (length h)) where
   by_place : (c ≡ length h) ⊎ ((c < length h) ⊎ (length h < c)) → e ≡ Connect g
   by_place (inl same) = same_Some e (Connect g) (sym (slice_get_last h e) ∙ ap (slice_get (h ++ e ∷ [])) (sym same) ∙ u.made)
-  by_place (inr (inl l)) = absurd (used c g (unused_older base h (e ∷ []) (h ++ e ∷ []) refl law c g u l (λ s subscribes was. still s was)))
+  by_place (inr (inl l)) = absurd (used c g (unused_older h (e ∷ []) refl law g u l (λ s subscribes was. still s was)))
   by_place (inr (inr past)) = absurd (let w = is_open_within (h ++ e ∷ []) c u.alive in omega (arith, length-append h (e ∷ [])))
 
 -- settled histories ---------------------------------------------------------------------------------
@@ -193,16 +193,15 @@ closes_none_by base h (Close n) next calm still =
 closes_none_by base h _ next calm still = refl
 
 -- After a calm event that closes nothing and subscribes to no hub nothing is forced, where nothing was before
-pub settled_on : (base : Kept) → (h : List Event) (e : Event) → IsLawful base h → MayFollow base h e → IsSettled base h → ends_or_declines e ≡ false →
-    FiresNone h e → ClosesNone h e →
-    hub_subscribed e ≡ None → IsSettled base (h ++ e ∷ [])
-settled_on base h e law next settled calm unfired still unsubscribed =
+pub settled_on : {base : Kept} {h : List Event} {e : Event} → IsLawful base h → MayFollow base h e → IsSettled base h → ends_or_declines e ≡ false →
+    FiresNone h e → ClosesNone h e → hub_subscribed e ≡ None → IsSettled base (h ++ e ∷ [])
+settled_on {base} {h} {e} law next settled calm unfired still unsubscribed =
     settled_undue base (h ++ e ∷ []) (kept_unsubscribed base h e law (settled_connected base h settled) (closes_none_by base h e next calm still) unsubscribed)
     (ends_none_on base h e law next calm unfired (settled_ends_none base h settled)) used
   where
     used : HasNoUnused (h ++ e ∷ [])
     used c g u =
-        let is = unused_new base h e c g (IsLawful-push base h e law next) still (settled_used base h settled) u in
+        let is = unused_new h e c g (IsLawful-push base h e law next) still (settled_used base h settled) u in
         let manual = connect_manual base settled (subst (λ (x : Event). MayFollow base h x) is next) in
         is_both (slice_get h g) manual (sym (at-append is_auto_hub h (e ∷ []) g (at_within is_manual_hub h g manual)) ∙ u.auto)
 
@@ -214,15 +213,15 @@ unforced base (more {e = e} on f) settled = absurd (settled.none e (subst (λ (q
 -- subscribers ---------------------------------------------------------------------------------------
 
 -- where no other hub waits than that of s, and nothing else is due
-connects_at_most : (base : Kept) → (h : List Event) (g s : ℕ) → IsLawful base h → EndsNone base h → HasNoUnused h → ((k : ℕ) → IsConnectDue h k → k ≡ g) →
+connects_at_most : {base : Kept} → {h : List Event} (g s : ℕ) → IsLawful base h → EndsNone base h → HasNoUnused h → ((k : ℕ) → IsConnectDue h k → k ≡ g) →
     at (is_subscriber_of g) h s ≡ true → is_open h s ≡ true → ConnectsAtMost base h g
-connects_at_most base h g s law ends_none used only subscribes o = by_test (at is_auto_hub h g) refl where
+connects_at_most {base} {h} g s law ends_none used only subscribes o = by_test (at is_auto_hub h g) refl where
   still : ClosesNone h (Connect g)
   still = closes_none_kept h (Connect g) refl
 
   used_after : MayFollow base h (Connect g) → HasNoUnused (h ++ Connect g ∷ [])
   used_after next c k u =
-      let is = unused_new base h (Connect g) c k (IsLawful-push base h (Connect g) law next) still used u in
+      let is = unused_new h (Connect g) c k (IsLawful-push base h (Connect g) law next) still used u in
       let same : g ≡ k = cc in
       let subscribes_on = at-append (is_subscriber_of g) h (Connect g ∷ []) s (is_open_within h s o) ∙ subscribes in
       subscriber_listed (h ++ Connect g ∷ []) g s subscribes_on (still s o) (ap (open_subscribers (h ++ Connect g ∷ [])) same ∙ u.unsubscribed)
@@ -257,14 +256,14 @@ opened_settled base (forced f) = absurd (false≢true (forced_kind base f))
 opened_settled base (allowed settled a) = settled
 
 -- After the opening of a subscriber that closes nothing either nothing is forced, or just that its hub is connected, and then nothing
-pub subscribed_on : (base : Kept) → (h : List Event) (place : Place) (g : ℕ) → IsLawful base h → MayFollow base h (Open place (Sub g)) →
+pub subscribed_on : {base : Kept} {h : List Event} {place : Place} {g : ℕ} → IsLawful base h → MayFollow base h (Open place (Sub g)) →
     ClosesNone h (Open place (Sub g)) →
     ConnectsAtMost base (h ++ Open place (Sub g) ∷ []) g
-subscribed_on base h place g law next still =
+subscribed_on {base} {h} {place} {g} law next still =
     let settled = opened_settled base next in
     let law_on = IsLawful-push base h (Open place (Sub g)) law next in
     let ends_none = ends_none_on base h (Open place (Sub g)) law next refl (λ n. refl) (settled_ends_none base h settled) in
     let subscribes : at (is_subscriber_of g) (h ++ Open place (Sub g) ∷ []) (length h) ≡ true = rw (slice_get_last h (Open place (Sub g))) (eq-eqb g g refl) in
-    connects_at_most base (h ++ Open place (Sub g) ∷ []) g (length h) law_on ends_none
-    (λ c k u. let is : Open place (Sub g) ≡ Connect k = unused_new base h (Open place (Sub g)) c k law_on still (settled_used base h settled) u in cc)
+    connects_at_most g (length h) law_on ends_none
+    (λ c k u. let is : Open place (Sub g) ≡ Connect k = unused_new h (Open place (Sub g)) c k law_on still (settled_used base h settled) u in cc)
     (kept_subscribed base h place g law (settled_connected base h settled)) subscribes (is_open_new base h (Open place (Sub g)) next)

@@ -64,12 +64,12 @@ pub record GoesOn (b : Kept) (h : List Event) (c : Kept) (k es : List Event) : T
   pub continues : Continues c k es
   pub agree : Agree b (h ++ es) c (k ++ es)
 
-pub goes_on : (b : Kept) (h : List Event) (c : Kept) (k es : List Event) → IsLawful b h → IsLawful c k → Agree b h c k → Continues b h es → GoesOn b h c k es
-goes_on b h c k [] law law_k a each = record { continues = tt; agree = rw (append-nil h, append-nil k) a }
-goes_on b h c k (e ∷ es) law law_k a each =
+pub goes_on : {b : Kept} (h : List Event) (c : Kept) (k es : List Event) → IsLawful b h → IsLawful c k → Agree b h c k → Continues b h es → GoesOn b h c k es
+goes_on h c k [] law law_k a each = record { continues = tt; agree = rw (append-nil h, append-nil k) a }
+goes_on {b} h c k (e ∷ es) law law_k a each =
     let next : MayFollow c k e = follows_too b h c k a law law_k each.0 in
     let further : GoesOn b (h ++ e ∷ []) c (k ++ e ∷ []) es =
-    goes_on b (h ++ e ∷ []) c (k ++ e ∷ []) es (IsLawful-push b h e law each.0) (IsLawful-push c k e law_k next)
+    goes_on (h ++ e ∷ []) c (k ++ e ∷ []) es (IsLawful-push b h e law each.0) (IsLawful-push c k e law_k next)
     (agree-push b h c k e law law_k each.0 next a) each.1 in
     record { continues = (next, further.continues); agree = rw (← append_assoc h (e ∷ []) es, ← append_assoc k (e ∷ []) es) further.agree }
 
@@ -213,14 +213,14 @@ base_lawful b h law settled = IsLawful_empty (base_of b h) (base_started b h law
 
 after_base : (b : Kept) (h es : List Event) → IsLawful b h → IsSettled b h → IsLawful b (h ++ es) → GoesOn b h (base_of b h) (shown (base_of b h)) es
 after_base b h es law settled longer =
-    goes_on b h (base_of b h) (shown (base_of b h)) es law (base_lawful b h law settled) (kept_agrees b h law settled) (list_continues b h es law longer)
+    goes_on h (base_of b h) (shown (base_of b h)) es law (base_lawful b h law settled) (kept_agrees b h law settled) (list_continues b h es law longer)
 
 before_base : (b : Kept) (h es : List Event) → IsLawful b h → IsSettled b h → IsLawful (base_of b h) (shown (base_of b h) ++ es) → IsLawful b (h ++ es)
 before_base b h es law settled longer =
     let based = base_lawful b h law settled in
     let agree = agree_back b h (base_of b h) (shown (base_of b h)) (kept_agrees b h law settled) in
     let from_base = list_continues (base_of b h) (shown (base_of b h)) es based longer in
-    lawful_on b h es law (goes_on (base_of b h) (shown (base_of b h)) b h es based law agree from_base).continues
+    lawful_on b h es law (goes_on (shown (base_of b h)) b h es based law agree from_base).continues
 
 each_rule : (b : Kept) (h : List Event) (c : Kept) (k : List Event) → Agree b h c k → EachRule b h c k
 each_rule b h c k a =

@@ -97,7 +97,7 @@ ends_from : (base : Kept) → (h : List Event) → IsLawful base h → (d : ℕ)
 ends_from base h law zero = λ g s subscribes o l. absurd (let w = subscriber_hub base h law g s subscribes in omega arith)
 ends_from base h law (suc d) =
     λ g s subscribes o l. ends_below h d (ends_from base h law d) (suc s) s (omega arith) o
-    (λ a k within connects. let m = hubs_in_order base h law g s a k subscribes within connects in omega arith)
+    (λ a k within connects. let m = hubs_in_order law g s a subscribes within connects in omega arith)
 
 -- so the climb from each open node ends
 pub visits_end : (base : Kept) → (h : List Event) → IsLawful base h → (n : ℕ) → is_open h n ≡ true → (vs : List ℕ) × Visits h (n ∷ []) vs
@@ -190,15 +190,15 @@ onward_times h k vs = sum_by (λ v. times k (onward h v)) vs
 -- a node is visited as often as visited nodes go on to it, and as the climbs begin at it
 pub visits_each : (h : List Event) (k : ℕ) {ns vs : List ℕ} → Visits h ns vs → times k vs ≡ times k ns + onward_times h k vs
 visits_each h k nowhere = refl
-visits_each h k (visit {n = n} {others = others} {later = later} {rest = rest} p r) = balance _ _ _ _ _ _ _ _ _ _ _ _
-    (sum_by-cons (λ m. cond (m == k) 1 0) n (later ++ rest)) (sum_by-append (λ m. cond (m == k) 1 0) later rest) (sum_by-cons (λ m. cond (m == k) 1 0) n others)
-    (sum_by-cons (λ v. times k (onward h v)) n (later ++ rest)) (sum_by-append (λ v. times k (onward h v)) later rest)
-    (visits_each h k p) (visits_each h k r)
-  where
-    balance : (here onward_here in_all in_both in_later in_rest in_ns in_others on_all on_both on_later on_rest : ℕ) → in_all ≡ here + in_both →
-        in_both ≡ in_later + in_rest → in_ns ≡ here + in_others → on_all ≡ onward_here + on_both → on_both ≡ on_later + on_rest →
-        in_later ≡ onward_here + on_later → in_rest ≡ in_others + on_rest → in_all ≡ in_ns + on_all
-    balance here onward_here in_all in_both in_later in_rest in_ns in_others on_all on_both on_later on_rest a b c d e f g = omega arith
+visits_each h k (visit {n = n} {others = others} {later = later} {rest = rest} p r) =
+    let in_all = sum_by-cons (λ m. cond (m == k) 1 0) n (later ++ rest) in
+    let in_both = sum_by-append (λ m. cond (m == k) 1 0) later rest in
+    let in_start = sum_by-cons (λ m. cond (m == k) 1 0) n others in
+    let on_all = sum_by-cons (λ v. times k (onward h v)) n (later ++ rest) in
+    let on_both = sum_by-append (λ v. times k (onward h v)) later rest in
+    let in_later = visits_each h k p in
+    let in_rest = visits_each h k r in
+    omega arith
 
 -- a sum over a list by how often each number is in it
 sum_by-by_number : (f : ℕ → ℕ) (n : ℕ) (xs : List ℕ) → AllByRecursion (λ x. x < n) xs → sum_by f xs ≡ sum_by (λ k. times k xs * f k) (range_with_len 0 n)

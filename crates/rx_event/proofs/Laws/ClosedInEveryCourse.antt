@@ -51,9 +51,18 @@ subscriber_fails : (g : ℕ) → Fails (is_subscriber_of g)
 subscriber_fails g = record { at_end = λ c t. refl; at_close = λ c. refl }
 
 -- Two courses of what is due after b: p, which may go on, and k, after which nothing is forced. What k leaves open p has not closed so far
-module _ (base : Kept) (b p k : List Event) (law : IsLawful base b) (whole : IsConnected b) (on_p : IsDueOn base b p) (on_k : IsDueOn base b k)
-    (settled : IsSettled base k)
-    (spares : (n : ℕ) → is_open k n ≡ true → is_open p n ≡ true) where
+-- of two courses of what is due after b, k has come to its end, and what it leaves open p has left open so far
+pub record ArriveApart (base : Kept) (b p k : List Event) : Type 0 where
+  pub law : IsLawful base b
+  pub whole : IsConnected b
+  pub on_p : IsDueOn base b p
+  pub on_k : IsDueOn base b k
+  pub settled : IsSettled base k
+  pub spares : (n : ℕ) → is_open k n ≡ true → is_open p n ≡ true
+
+module _ {base : Kept} {b p k : List Event} (both : ArriveApart base b p k) where
+  open both use {law, whole, on_p, on_k, settled, spares}
+
   closed_in_k : (n : ℕ) → is_open p n ≡ false → is_open k n ≡ false
   closed_in_k n closed = false_from_ne_true (is_open k n) (λ o. both_ways (is_open p n) closed (spares n o))
 
@@ -176,34 +185,34 @@ not_within : (a : Bool) → (a ≡ true → ⊥) → not a ≡ true
 not_within false out = refl
 not_within true out = absurd (out refl)
 
-spared_step : (base : Kept) → (b p k : List Event) → IsLawful base b → IsConnected b → IsDueOn base b p → IsDueOn base b k → IsSettled base k →
-    ((n : ℕ) → is_open k n ≡ true → is_open p n ≡ true) → {e : Event} → IsDue base p e → IsClosing base p e → (n : ℕ) → is_open k n ≡ true →
-    is_open (p ++ e ∷ []) n ≡ true
-spared_step base b p k law whole on_p on_k settled spares d closing n o = by_closing closing d where
+spared_step : {base : Kept} {b p k : List Event} → ArriveApart base b p k → {e : Event} → IsDue base p e → IsClosing base p e → (n : ℕ) →
+    is_open k n ≡ true → is_open (p ++ e ∷ []) n ≡ true
+spared_step {base} {b} {p} {k} both d closing n o = by_closing closing d where
   old : n < length b
-  old = is_open_within b n (was_open_on base on_k n o)
+  old = is_open_within b n (was_open_on base both.on_k n o)
 
   above : (c : ℕ) → is_within p c n ≡ true → is_open k c ≡ true
-  above c inside = open_above k c n o (ap (list_any (λ a. c == a)) (ancestors_on base on_k n old ∙ sym (ancestors_on base on_p n old)) ∙ inside)
+  above c inside = open_above k c n o (ap (list_any (λ a. c == a)) (ancestors_on base both.on_k n old ∙ sym (ancestors_on base both.on_p n old)) ∙ inside)
 
   by_closing : {x : Event} → IsClosing base p x → IsDue base p x → is_open (p ++ x ∷ []) n ≡ true
   by_closing (by_end c {t = t} y alive) d =
       is_open_outside-end p c t n ∙
-      and_from _ _ (spares n o) (not_within (is_within p c n) (λ inside. closes_in_k base b p k law whole on_p on_k settled spares d (above c inside)))
+      and_from _ _ (both.spares n o) (not_within (is_within p c n) (λ inside. closes_in_k both d (above c inside)))
   by_closing (by_close c g at_c none alive) d =
       is_open_outside-close p c n ∙
-      and_from _ _ (spares n o) (not_within (is_within p c n) (λ inside. closes_in_k base b p k law whole on_p on_k settled spares d (above c inside)))
+      and_from _ _ (both.spares n o) (not_within (is_within p c n) (λ inside. closes_in_k both d (above c inside)))
 
 -- what k leaves open no course has closed
-pub spared : (base : Kept) → {b p : List Event} → IsDueOn base b p → (k : List Event) → IsLawful base b → IsConnected b → IsDueOn base b k →
+pub spared : {base : Kept} → {b p : List Event} → IsDueOn base b p → (k : List Event) → IsLawful base b → IsConnected b → IsDueOn base b k →
     IsSettled base k → (n : ℕ) →
     is_open k n ≡ true → is_open p n ≡ true
-spared base none_more k law whole on_k settled = λ n o. was_open_on base on_k n o
-spared base {b = b} (one_more {k = p} on d) k law whole on_k settled =
-    spared_step base b p k law whole on on_k settled (spared base on k law whole on_k settled) d (closing_of base d)
+spared {base} none_more k law whole on_k settled = λ n o. was_open_on base on_k n o
+spared {base} {b = b} (one_more {k = p} on d) k law whole on_k settled =
+    spared_step (record { law = law; whole = whole; on_p = on; on_k = on_k; settled = settled; spares = spared on k law whole on_k settled }) d
+    (closing_of base d)
 
 -- so two that leave nothing to be done leave the same open
 pub same_open : (base : Kept) → {b k j : List Event} → IsLawful base b → IsConnected b → IsDueOn base b k → IsSettled base k → IsDueOn base b j →
     IsSettled base j → (n : ℕ) → is_open k n ≡ is_open j n
 same_open base {k = k} {j = j} law whole on_k settled_k on_j settled_j n =
-    same_test (is_open k n) (is_open j n) (spared base on_j k law whole on_k settled_k n) (spared base on_k j law whole on_j settled_j n)
+    same_test (is_open k n) (is_open j n) (spared on_j k law whole on_k settled_k n) (spared on_k j law whole on_j settled_j n)

@@ -285,10 +285,9 @@ connection_less base h k c connection f =
     omega arith
 
 -- the hub of a connection that is closed is not connected then
-pub hub_disconnected : (base : Kept) → (h k : List Event) (g c : ℕ) → IsLawful base h → at is_manual_hub h g ≡ true → is_open h c ≡ true →
-    slice_get h c ≡ Some (Connect g) →
-    IsForcedOn base (h ++ Close c ∷ []) k → open_connections k g ≡ []
-hub_disconnected base h k g c law manual alive connects f =
+pub hub_disconnected : {base : Kept} {h k : List Event} {g : ℕ} (c : ℕ) → IsLawful base h → at is_manual_hub h g ≡ true → is_open h c ≡ true →
+    slice_get h c ≡ Some (Connect g) → IsForcedOn base (h ++ Close c ∷ []) k → open_connections k g ≡ []
+hub_disconnected {base} {h} {k} {g} c law manual alive connects f =
     unconnected_after (forced_on base f stays_so) g here (by_list (open_connections (h ++ Close c ∷ []) g) refl)
   where
     hub : slice_get h g ≡ Some (Hub Manual)

@@ -33,10 +33,11 @@ use Rattle.rx_event.proofs.Laws.Calm.{subscriber_listed}
 -- the last connection -------------------------------------------------------------------------------
 
 -- an open connection of a hub is the last one that was made
-pub last_connection : (base : Kept) → (h : List Event) → IsLawful base h → (g c d : ℕ) → at (is_connect_of g) h c ≡ true → is_open h c ≡ true →
+pub last_connection : {base : Kept} → (h : List Event) → IsLawful base h → (g c d : ℕ) → at (is_connect_of g) h c ≡ true → is_open h c ≡ true →
     at (is_connect_of g) h d ≡ true → d ≤ c
-last_connection base =
-    by_events base (λ h. (g c d : ℕ) → at (is_connect_of g) h c ≡ true → is_open h c ≡ true → at (is_connect_of g) h d ≡ true → d ≤ c) start after
+last_connection {base} =
+    by_events base (λ h. (g c d : ℕ) → at (is_connect_of g) h c ≡ true → is_open h c ≡ true → at (is_connect_of g) h d ≡ true → d ≤ c) start
+    (λ h e law next. after next)
   where
     start : Started base → (g c d : ℕ) → at (is_connect_of g) (shown base) c ≡ true → is_open (shown base) c ≡ true →
         at (is_connect_of g) (shown base) d ≡ true → d ≤ c
@@ -44,28 +45,27 @@ last_connection base =
         let same = s.one_connection g c d one alive other (s.alive d (Connect g) (at_connect (shown base) g d other) refl) in
         omega arith
 
-    clash : (h : List Event) (e : Event) → MayFollow base h e → (g c d : ℕ) → c < length h → d ≡ length h → at (is_connect_of g) (h ++ e ∷ []) c ≡ true →
+    clash : {h : List Event} {e : Event} → MayFollow base h e → (g c : ℕ) {d : ℕ} → c < length h → d ≡ length h → at (is_connect_of g) (h ++ e ∷ []) c ≡ true →
         is_open (h ++ e ∷ []) c ≡ true →
         at (is_connect_of g) (h ++ e ∷ []) d ≡ true → ⊥
-    clash h e next g c d l last one alive other =
+    clash {h} {e} next g c l last one alive other =
         let new : is_connect_of g e ≡ true =
         sym (ap (λ o. option_map_or (is_connect_of g) o false) (ap (slice_get (h ++ e ∷ [])) last ∙ slice_get_last h e)) ∙ other in
         let connects : at (is_connect_of g) h c ≡ true = sym (at-append (is_connect_of g) h (e ∷ []) c l) ∙ one in
         filter_nonempty (λ n. at (is_connect_of g) h n && is_open h n) 0 (length h) c (omega arith) (omega arith)
         (and_from _ _ connects (open_old h e c l alive)) (connect_free base h e g next new)
 
-    after : (h : List Event) (e : Event) → IsLawful base h → MayFollow base h e →
+    after : {h : List Event} {e : Event} → MayFollow base h e →
         ((g c d : ℕ) → at (is_connect_of g) h c ≡ true → is_open h c ≡ true → at (is_connect_of g) h d ≡ true → d ≤ c) → (g c d : ℕ) →
-        at (is_connect_of g) (h ++ e ∷ []) c ≡ true →
-        is_open (h ++ e ∷ []) c ≡ true → at (is_connect_of g) (h ++ e ∷ []) d ≡ true → d ≤ c
-    after h e law next before g c d one alive other = by_place (cases_order c (length h)) (cases_order d (length h)) where
+        at (is_connect_of g) (h ++ e ∷ []) c ≡ true → is_open (h ++ e ∷ []) c ≡ true → at (is_connect_of g) (h ++ e ∷ []) d ≡ true → d ≤ c
+    after {h} {e} next before g c d one alive other = by_place (cases_order c (length h)) (cases_order d (length h)) where
       within : d < length h + 1
       within = let l = at_within (is_connect_of g) (h ++ e ∷ []) d other in omega (arith, length-append h (e ∷ []))
 
       by_place : (c ≡ length h) ⊎ ((c < length h) ⊎ (length h < c)) → (d ≡ length h) ⊎ ((d < length h) ⊎ (length h < d)) → d ≤ c
       by_place (inl p) q = let w = within in omega arith
       by_place (inr (inr l)) q = let w = within in omega arith
-      by_place (inr (inl l)) (inl q) = absurd (clash h e next g c d l q one alive other)
+      by_place (inr (inl l)) (inl q) = absurd (clash next g c l q one alive other)
       by_place (inr (inl l)) (inr (inr m)) = absurd (let w = within in omega arith)
       by_place (inr (inl l)) (inr (inl m)) =
           before g c d (sym (at-append (is_connect_of g) h (e ∷ []) c l) ∙ one) (open_old h e c l alive)
@@ -105,16 +105,15 @@ source_ended_by h g s place t subscribes x l = record {
 }
 
 -- an open subscriber is cut by the last end, where that stands after it, and by no other
-pub cut_by_last : (base : Kept) → (h : List Event) → IsLawful base h → (g s place : ℕ) (t u : Terminal) → EndsLast h g place t →
-    at (is_subscriber_of g) h s ≡ true → is_open h s ≡ true →
-    SourceEnded h s u ↔ ((s < place) × (u ≡ t))
-cut_by_last base h law g s place t u x subscribes alive = (to, back) where
+pub cut_by_last : {base : Kept} {h : List Event} → IsLawful base h → {g place : ℕ} {t : Terminal} → EndsLast h g place t → (s : ℕ) (u : Terminal) →
+    at (is_subscriber_of g) h s ≡ true → is_open h s ≡ true → SourceEnded h s u ↔ ((s < place) × (u ≡ t))
+cut_by_last {h = h} law {g} {place} {t} x s u subscribes alive = (to, back) where
   to : SourceEnded h s u → (s < place) × (u ≡ t)
   to y =
       let le = x.last y.place u (ends_of_source h g s u subscribes y) in
       let after = y.later in
       let l : s < place = omega arith in
-      (l, one_end base h law s s u t (cut alive y) (cut alive (source_ended_by h g s place t subscribes x.ends l)))
+      (l, one_end h law s s u t (cut alive y) (cut alive (source_ended_by h g s place t subscribes x.ends l)))
 
   back : (s < place) × (u ≡ t) → SourceEnded h s u
   back p = subst (λ (v : Terminal). SourceEnded h s v) (sym p.1) (source_ended_by h g s place t subscribes x.ends p.0)

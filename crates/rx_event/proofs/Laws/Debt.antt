@@ -197,51 +197,87 @@ no_loss h e whole keeps = unowned_none h e (λ r. by_node (node_of h r) (keeps r
   by_node None none = none
   by_node (Some n) none = rw (whole n) none
 
--- an event that only makes a node or a lease, or nothing
-debt_made : (base : Kept) → (h : List Event) (e : Event) → IsLawful base h → MayFollow base h e → shuts_none e ≡ true → makes_resource e ≡ false →
-    is_take e ≡ false →
-    is_return e ≡ false → ((r : ℕ) → is_remove_of r e ≡ false) → ((n : ℕ) → pays n e ≡ false) → stops_of h e ≡ [] →
+-- The event takes nothing away and makes no resource, and it neither pays nor projects
+record TakesNone (h : List Event) (e : Event) : Type 0 where
+  pub shuts : shuts_none e ≡ true
+  pub accepts : makes_resource e ≡ false
+  pub takes : is_take e ≡ false
+  pub returns : is_return e ≡ false
+  pub removes_none : (r : ℕ) → is_remove_of r e ≡ false
+  pub declines : (n : ℕ) → pays n e ≡ false
+  pub climbs : stops_of h e ≡ []
+
+-- it does no more than to make a node or a lease
+abbrev only_makes : Event → Bool
+only_makes (Open Root kind) = true
+only_makes (Open (Source p) kind) = true
+only_makes (Open (Notifier p) kind) = true
+only_makes (Connect g) = true
+only_makes (Hub mode) = true
+only_makes (Use r) = true
+only_makes (Lease r) = true
+only_makes _ = false
+
+takes_none : (h : List Event) (e : Event) → only_makes e ≡ true → TakesNone h e
+takes_none h (Open Root kind) only =
+    record { shuts = refl; accepts = refl; takes = refl; returns = refl; removes_none = λ r. refl; declines = λ n. refl; climbs = refl }
+takes_none h (Open (Source p) kind) only =
+    record { shuts = refl; accepts = refl; takes = refl; returns = refl; removes_none = λ r. refl; declines = λ n. refl; climbs = refl }
+takes_none h (Open (Notifier p) kind) only =
+    record { shuts = refl; accepts = refl; takes = refl; returns = refl; removes_none = λ r. refl; declines = λ n. refl; climbs = refl }
+takes_none h (Open (Inner p) kind) only = absurd (false≢true only)
+takes_none h (Connect g) only =
+    record { shuts = refl; accepts = refl; takes = refl; returns = refl; removes_none = λ r. refl; declines = λ n. refl; climbs = refl }
+takes_none h (Hub mode) only =
+    record { shuts = refl; accepts = refl; takes = refl; returns = refl; removes_none = λ r. refl; declines = λ n. refl; climbs = refl }
+takes_none h (Use q) only =
+    record { shuts = refl; accepts = refl; takes = refl; returns = refl; removes_none = λ r. refl; declines = λ n. refl; climbs = refl }
+takes_none h (Lease q) only =
+    record { shuts = refl; accepts = refl; takes = refl; returns = refl; removes_none = λ r. refl; declines = λ n. refl; climbs = refl }
+takes_none h _ only = absurd (false≢true only)
+
+debt_made : (base : Kept) → (h : List Event) (e : Event) → IsLawful base h → MayFollow base h e → only_makes e ≡ true →
     debt base (h ++ e ∷ []) ≡ debt base h + cond (makes_node e) 1 0 + cond (makes_lease e) 1 0
-debt_made base h e law next s no_accept no_take no_return no_remove no_pay no_stops =
-    let whole : (n : ℕ) → is_cut h e n ≡ false = λ n. is_cut_none h e n s in
+debt_made base h e law next only =
+    let plain = takes_none h e only in
+    let whole : (n : ℕ) → is_cut h e n ≡ false = λ n. is_cut_none h e n plain.shuts in
     let b = debt-push base h e law next in
     let c = no_cut_count h e whole in
-    let d = no_loss h e whole no_remove in
-    let t = one_if no_take in
-    let l = one_if no_return in
-    let a = one_if no_accept in
+    let d = no_loss h e whole plain.removes_none in
+    let t = one_if plain.takes in
+    let l = one_if plain.returns in
+    let a = one_if plain.accepts in
     let w = owed_count-push base h e law next whole in
-    let p = paid_none h e no_pay in
-    let q : sum_by (projected_open h (stops_of h e)) (places h) ≡ 0 = ap (λ ss. sum_by (projected_open h ss) (places h)) no_stops ∙ projects_nothing h in
+    let p = paid_none h e plain.declines in
+    let q : sum_by (projected_open h (stops_of h e)) (places h) ≡ 0 = ap (λ ss. sum_by (projected_open h ss) (places h)) plain.climbs ∙ projects_nothing h in
     omega arith
 
 -- one more open node
 pub debt-root : (base : Kept) → (h : List Event) (kind : Kind) → IsLawful base h → MayFollow base h (Open Root kind) →
     debt base (h ++ Open Root kind ∷ []) ≡ debt base h + 1
-debt-root base h kind law next = let b = debt_made base h (Open Root kind) law next refl refl refl refl (λ r. refl) (λ n. refl) refl in omega arith
+debt-root base h kind law next = let b = debt_made base h (Open Root kind) law next refl in omega arith
 
 pub debt-source : (base : Kept) → (h : List Event) (p : ℕ) (kind : Kind) → IsLawful base h → MayFollow base h (Open (Source p) kind) →
     debt base (h ++ Open (Source p) kind ∷ []) ≡ debt base h + 1
-debt-source base h p kind law next = let b = debt_made base h (Open (Source p) kind) law next refl refl refl refl (λ r. refl) (λ n. refl) refl in omega arith
+debt-source base h p kind law next = let b = debt_made base h (Open (Source p) kind) law next refl in omega arith
 
 pub debt-notifier : (base : Kept) → (h : List Event) (p : ℕ) (kind : Kind) → IsLawful base h → MayFollow base h (Open (Notifier p) kind) →
     debt base (h ++ Open (Notifier p) kind ∷ []) ≡ debt base h + 1
-debt-notifier base h p kind law next = let b = debt_made base h (Open (Notifier p) kind) law next refl refl refl refl (λ r. refl) (λ n. refl) refl in omega
-    arith
+debt-notifier base h p kind law next = let b = debt_made base h (Open (Notifier p) kind) law next refl in omega arith
 
 pub debt-connect : (base : Kept) → (h : List Event) (g : ℕ) → IsLawful base h → MayFollow base h (Connect g) → debt base (h ++ Connect g ∷ []) ≡ debt base h + 1
-debt-connect base h g law next = let b = debt_made base h (Connect g) law next refl refl refl refl (λ r. refl) (λ n. refl) refl in omega arith
+debt-connect base h g law next = let b = debt_made base h (Connect g) law next refl in omega arith
 
 -- a hub and a use cost nothing
 pub debt-hub : (base : Kept) → (h : List Event) (mode : Mode) → IsLawful base h → MayFollow base h (Hub mode) → debt base (h ++ Hub mode ∷ []) ≡ debt base h
-debt-hub base h mode law next = let b = debt_made base h (Hub mode) law next refl refl refl refl (λ r. refl) (λ n. refl) refl in omega arith
+debt-hub base h mode law next = let b = debt_made base h (Hub mode) law next refl in omega arith
 
 pub debt-use : (base : Kept) → (h : List Event) (r : ℕ) → IsLawful base h → MayFollow base h (Use r) → debt base (h ++ Use r ∷ []) ≡ debt base h
-debt-use base h r law next = let b = debt_made base h (Use r) law next refl refl refl refl (λ r. refl) (λ n. refl) refl in omega arith
+debt-use base h r law next = let b = debt_made base h (Use r) law next refl in omega arith
 
 -- a lease costs one: its return
 pub debt-lease : (base : Kept) → (h : List Event) (r : ℕ) → IsLawful base h → MayFollow base h (Lease r) → debt base (h ++ Lease r ∷ []) ≡ debt base h + 1
-debt-lease base h r law next = let b = debt_made base h (Lease r) law next refl refl refl refl (λ q. refl) (λ n. refl) refl in omega arith
+debt-lease base h r law next = let b = debt_made base h (Lease r) law next refl in omega arith
 
 -- a resource costs two: its removal and its taking
 pub debt-accept : (base : Kept) → (h : List Event) (n tag : ℕ) → IsLawful base h → MayFollow base h (Accept n tag) →

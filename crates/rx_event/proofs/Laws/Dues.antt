@@ -202,12 +202,12 @@ pub record EndsSo (base : Kept) (h : List Event) (t : Terminal) : Type 0 where
 
 -- in one way alone
 pub ends_one : (base : Kept) → (b : List Event) → IsLawful base b → (t u : Terminal) → EndsSo base b t → EndsSo base b u → t ≡ u
-ends_one base b law t u a c = one_end base b law a.node c.node t u a.ends_due c.ends_due
+ends_one base b law t u a c = one_end b law a.node c.node t u a.ends_due c.ends_due
 
-begun_step : (base : Kept) → (b k : List Event) (e : Event) → IsLawful base k → IsConnected k → IsDue base k e →
+begun_step : {base : Kept} → {b k : List Event} (e : Event) → IsLawful base k → IsConnected k → IsDue base k e →
     ((n : ℕ) (t : Terminal) → IsDue base k (End n t) → EndsSo base b t) →
     (n : ℕ) (t : Terminal) → IsDue base (k ++ e ∷ []) (End n t) → EndsSo base b t
-begun_step base b k e law whole d before n t now = by_reason (due_before base k e law (forced (due whole d)) n t now) where
+begun_step {base} {b} {k} e law whole d before n t now = by_reason (due_before base k e law (forced (due whole d)) n t now) where
   by_end_of : {x : Event} → IsClosing base k x → ends_as x ≡ Some t → EndsSo base b t
   by_end_of (by_end c {t = u} y o) same = subst (λ (v : Terminal). EndsSo base b v) (same_Some u t same) (before c u y)
   by_end_of (by_close c g at_c none o) same = absurd (none-some t same)
@@ -232,7 +232,7 @@ pub begun_on : (base : Kept) → {b k : List Event} → IsDueOn base b k → IsL
     EndsSo base b t
 begun_on base none_more law whole = λ n t d. record { node = n; ends_due = d }
 begun_on base {b = b} (one_more {k = k} {e = e} on d) law whole =
-    begun_step base b k e (lawful_on base on law whole) (connected_on base on whole) d (begun_on base on law whole)
+    begun_step e (lawful_on base on law whole) (connected_on base on whole) d (begun_on base on law whole)
 
 -- where an end stands: in b, or it ended what was open
 pub data EndStands (base : Kept) (b k : List Event) (n : ℕ) (t : Terminal) (place : ℕ) : Type 0 where

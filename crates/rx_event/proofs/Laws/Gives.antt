@@ -70,7 +70,7 @@ module _ (b : Kept) (h : List Event) (c : Kept) (k : List Event) (e : Event) (la
   ended_here : (n : ℕ) (t : Terminal) → (i : ℕ) → slice_get (h ++ e ∷ []) i ≡ Some (End n t) → n < length h
   ended_here n t i at_i = by_place (cases_push h e (End n t) i at_i) where
     by_place : (slice_get h i ≡ Some (End n t)) ⊎ (e ≡ End n t) → n < length h
-    by_place (inl old) = ended_older b h law i (End n t) old n t refl
+    by_place (inl old) = ended_older h law i (End n t) old n t refl
     by_place (inr new) = is_open_within h n (ends n t new)
 
   -- the child that ended

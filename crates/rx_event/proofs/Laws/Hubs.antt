@@ -70,23 +70,23 @@ pub record TwoConnections (h : List Event) (g a b : ℕ) : Type 0 where
 pub one_connection : (base : Kept) → (h : List Event) → IsLawful base h → (g a b : ℕ) → TwoConnections h g a b → a ≡ b
 one_connection base =
     by_events base (λ h. (g a b : ℕ) → TwoConnections h g a b → a ≡ b) (λ s g a b two. s.one_connection g a b two.one two.one_open two.other two.other_open)
-    after
+    (λ h e law next. after next)
   where
     before_open : (h : List Event) (e : Event) (a : ℕ) → a < length h → is_open (h ++ e ∷ []) a ≡ true → is_open h a ≡ true
     before_open h e a l o = (and_parts _ _ (sym (is_open_cut h e a l) ∙ o)).0
 
-    clash : (h : List Event) (e : Event) → MayFollow base h e → (g a b : ℕ) → a < length h → b ≡ length h → at (is_connect_of g) (h ++ e ∷ []) a ≡ true →
+    clash : {h : List Event} {e : Event} → MayFollow base h e → (g a : ℕ) {b : ℕ} → a < length h → b ≡ length h → at (is_connect_of g) (h ++ e ∷ []) a ≡ true →
         is_open (h ++ e ∷ []) a ≡ true → at (is_connect_of g) (h ++ e ∷ []) b ≡ true → ⊥
-    clash h e next g a b l last one one_open other =
+    clash {h} {e} next g a l last one one_open other =
         let new : is_connect_of g e ≡ true =
         sym (ap (λ o. option_map_or (is_connect_of g) o false) (ap (slice_get (h ++ e ∷ [])) last ∙ slice_get_last h e)) ∙ other in
         let connects : at (is_connect_of g) h a ≡ true = sym (at-append (is_connect_of g) h (e ∷ []) a l) ∙ one in
         filter_nonempty (λ n. at (is_connect_of g) h n && is_open h n) 0 (length h) a (omega arith) (omega arith)
         (and_from _ _ connects (before_open h e a l one_open)) (connect_free base h e g next new)
 
-    after : (h : List Event) (e : Event) → IsLawful base h → MayFollow base h e → ((g a b : ℕ) → TwoConnections h g a b → a ≡ b) → (g a b : ℕ) →
+    after : {h : List Event} {e : Event} → MayFollow base h e → ((g a b : ℕ) → TwoConnections h g a b → a ≡ b) → (g a b : ℕ) →
         TwoConnections (h ++ e ∷ []) g a b → a ≡ b
-    after h e law next before g a b two = by_place (cases_order a (length h)) (cases_order b (length h)) where
+    after {h} {e} next before g a b two = by_place (cases_order a (length h)) (cases_order b (length h)) where
       within : (n : ℕ) → is_open (h ++ e ∷ []) n ≡ true → n < length h + 1
       within n o = let l = is_open_within (h ++ e ∷ []) n o in omega (arith, length-append h (e ∷ []))
 
@@ -95,8 +95,8 @@ one_connection base =
       by_place (inr (inr l)) q = absurd (let w = within a two.one_open in omega arith)
       by_place (inl p) (inr (inr l)) = absurd (let w = within b two.other_open in omega arith)
       by_place (inr (inl l)) (inr (inr m)) = absurd (let w = within b two.other_open in omega arith)
-      by_place (inr (inl l)) (inl q) = absurd (clash h e next g a b l q two.one two.one_open two.other)
-      by_place (inl p) (inr (inl l)) = absurd (clash h e next g b a l p two.other two.other_open two.one)
+      by_place (inr (inl l)) (inl q) = absurd (clash next g a l q two.one two.one_open two.other)
+      by_place (inl p) (inr (inl l)) = absurd (clash next g b l p two.other two.other_open two.one)
       by_place (inr (inl l)) (inr (inl m)) =
           before g a b (record {
             one = sym (at-append (is_connect_of g) h (e ∷ []) a l) ∙ two.one;
@@ -234,9 +234,9 @@ subscriber_hub base h law g s subscribes =
     omega (arith, length-take s h)
 
 -- the connections above an old node were there when it was a new one
-older_order : (h : List Event) (g s q a k : ℕ) → IsInOrderAt (take s h) g q → q < s → s < length h → is_within h a q ≡ true → slice_get h a ≡ Some (Connect k) →
-    g < k
-older_order h g s q a k order l m within connects =
+older_order : (h : List Event) {g : ℕ} (s : ℕ) {q : ℕ} (a : ℕ) {k : ℕ} → IsInOrderAt (take s h) g q → q < s → s < length h → is_within h a q ≡ true →
+    slice_get h a ≡ Some (Connect k) → g < k
+older_order h s {q} a {k} order l m within connects =
     let same : take s h ++ drop s h ≡ h = take-append-drop s h in
     let room : length (take s h) ≡ s = length-take-le s h (omega arith) in
     let above : ancestors (take s h) q ≡ ancestors h q = sym (ancestors-append (take s h) (drop s h) q (omega arith)) ∙ ap (λ t. ancestors t q) same in
@@ -245,9 +245,9 @@ older_order h g s q a k order l m within connects =
     order a k (ap (list_any (λ b. a == b)) above ∙ within) (here ∙ connects)
 
 -- every connection above a subscriber is of a later hub, so that no item goes round in a circle
-pub hubs_in_order : (base : Kept) → (h : List Event) → IsLawful base h → (g s a k : ℕ) → at (is_subscriber_of g) h s ≡ true → is_within h a s ≡ true →
+pub hubs_in_order : {base : Kept} {h : List Event} → IsLawful base h → (g s a : ℕ) {k : ℕ} → at (is_subscriber_of g) h s ≡ true → is_within h a s ≡ true →
     slice_get h a ≡ Some (Connect k) → g < k
-hubs_in_order base h law g s a k subscribes within connects =
+hubs_in_order {base} {h} law g s a {k} subscribes within connects =
     by_place found.0 found.1 (hubbed_before base h law s found.0 (Sub g) found.1).1 (within_cases h a s within)
   where
     found : (place : Place) × (slice_get h s ≡ Some (Open place (Sub g)))
@@ -262,7 +262,7 @@ hubs_in_order base h law g s a k subscribes within connects =
     named place q p at_s order name below above =
         let number : q ≡ p = same_Some q p name in
         let l : p < s = parent-lt h s p below in
-        older_order h g s q a k order (omega arith) (slice_get_within h s (Open place (Sub g)) at_s) (ap (is_within h a) number ∙ above) connects
+        older_order h s a order (omega arith) (slice_get_within h s (Open place (Sub g)) at_s) (ap (is_within h a) number ∙ above) connects
 
     by_place : (place : Place) → slice_get h s ≡ Some (Open place (Sub g)) → IsInOrder (take s h) g place →
         (a ≡ s) ⊎ ((p : ℕ) × (parent h s ≡ Some p) × (is_within h a p ≡ true)) → g < k

@@ -61,9 +61,9 @@ subscribed_event (Open place (Sub k)) g same = eq-eqb k g (same_Some k g same)
 subscribed_event (Open place kind) g same = absurd (cc)
 subscribed_event _ g same = absurd (none-some g same)
 
-source_found : (h : List Event) (s g place c : ℕ) (x y : Event) (t : Terminal) → slice_get h s ≡ Some x → hub_subscribed x ≡ Some g → s < place →
+source_found : {h : List Event} {s g place c : ℕ} {x : Event} (y : Event) (t : Terminal) → slice_get h s ≡ Some x → hub_subscribed x ≡ Some g → s < place →
     slice_get h place ≡ Some y → y ≡ End c t → slice_get h c ≡ Some (Connect g) → SourceEnded h s t
-source_found h s g place c x y t at_s subscribes later at_place ends connects = record {
+source_found {g} {place} {c} {x} y t at_s subscribes later at_place ends connects = record {
   hub = g;
   connection = c;
   place = place;
@@ -82,7 +82,7 @@ source_end_some h s t found =
     let w = if_some (nat_lt s r.1) (option_and_then (ends_connection h one.0) (slice_get h r.1)) t r.3 in
     let e = and_then_some (ends_connection h one.0) (slice_get h r.1) t w.1 in
     let c = connection_ends h one.0 e.0 t e.2 in
-    source_found h s one.0 r.1 c.0 sub.0 e.0 t sub.1 sub.2 (ltb-true s r.1 w.0) e.1 c.1 c.2
+    source_found e.0 t sub.1 sub.2 (ltb-true s r.1 w.0) e.1 c.1 c.2
 
 pub source_end_none : (h : List Event) (s : ℕ) (t : Terminal) → source_end h s ≡ None → ¬ SourceEnded h s t
 unfolding source_end

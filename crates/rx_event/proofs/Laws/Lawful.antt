@@ -70,13 +70,13 @@ take-front (x ∷ xs) ys zero l = refl
 take-front (x ∷ xs) ys (suc i) l = ap (λ k. x ∷ k) (take-front xs ys i (omega arith))
 
 -- past the front, what is taken goes on after it
-split_at : (base : Kept) → (front b h : List Event) → ((k : List Event) (e : Event) → MayFollow base (b ++ k) e → MayFollow base (b ++ k) e) →
+split_at : {base : Kept} → (front b h : List Event) → ((k : List Event) (e : Event) → MayFollow base (b ++ k) e → MayFollow base (b ++ k) e) →
     AllByRecursion (λ (m : Moment). MayFollow base m.before m.event) (moments_after (b ++ front) h) →
     (i : ℕ) (e : Event) → slice_get (front ++ h) i ≡ Some e → ((slice_get front i ≡ Some e) × (i < length front)) ⊎ MayFollow base (b ++ take i (front ++ h)) e
-split_at base [] b h same each i e at_i = inr (lawful_after base b h (rw (append-nil b) at each) i e at_i)
-split_at base (x ∷ front) b h same each zero e at_i = inl (at_i, omega arith)
-split_at base (x ∷ front) b h same each (suc i) e at_i =
-    by_case (split_at base front (b ++ x ∷ []) h (λ k e f. f) (rw (append_assoc b (x ∷ []) front) each) i e at_i)
+split_at {base} [] b h same each i e at_i = inr (lawful_after base b h (rw (append-nil b) at each) i e at_i)
+split_at (x ∷ front) b h same each zero e at_i = inl (at_i, omega arith)
+split_at {base} (x ∷ front) b h same each (suc i) e at_i =
+    by_case (split_at front (b ++ x ∷ []) h (λ k e f. f) (rw (append_assoc b (x ∷ []) front) each) i e at_i)
   where
     by_case : ((slice_get front i ≡ Some e) × (i < length front)) ⊎ MayFollow base ((b ++ x ∷ []) ++ take i (front ++ h)) e →
         ((slice_get front i ≡ Some e) × (suc i < length (x ∷ front))) ⊎ MayFollow base (b ++ x ∷ take i (front ++ h)) e
@@ -84,7 +84,7 @@ split_at base (x ∷ front) b h same each (suc i) e at_i =
     by_case (inr next) = inr (subst (λ k. MayFollow base k e) (append_assoc b (x ∷ []) (take i (front ++ h))) next)
 
 pub found_at : (base : Kept) → (h : List Event) → IsLawful base h → (i : ℕ) (e : Event) → slice_get h i ≡ Some e → FoundAt base h i e
-found_at base h law i e at_i = by_case (split_at base (shown base) [] law.since (λ k e f. f) law.each i e (ap (λ k. slice_get k i) (sym law.reads) ∙ at_i))
+found_at base h law i e at_i = by_case (split_at (shown base) [] law.since (λ k e f. f) law.each i e (ap (λ k. slice_get k i) (sym law.reads) ∙ at_i))
   where
     by_case : ((slice_get (shown base) i ≡ Some e) × (i < length (shown base))) ⊎ MayFollow base (take i (shown base ++ law.since)) e → FoundAt base h i e
     by_case (inl found) = in_base found.0 (ap (take i) law.reads ∙ take-front (shown base) law.since i (let l = found.1 in omega arith))

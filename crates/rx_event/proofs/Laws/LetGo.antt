@@ -82,40 +82,39 @@ pub connected_hub : (base : Kept) → (h : List Event) → IsLawful base h → (
 connected_hub base h law g c connects =
     sym (at-take makes_hub h c g (connection_hub base h law g c connects) (slice_get_within h c (Connect g) connects)) ∙ hub_before base h law c g connects
 
--- where a caller holds nothing open, no hub is connected
-let_go_unconnected : (base : Kept) → (h : List Event) → IsLawful base h → IsSettled base h → IsLetGo h → (steps g c : ℕ) → length h ≤ g + steps →
-    slice_get h c ≡ Some (Connect g) →
+-- where a caller holds nothing open, no hub is connected: one that were would have a subscriber below a connection of a later hub
+let_go_unconnected : {base : Kept} → {h : List Event} → IsLawful base h → IsSettled base h → IsLetGo h → (g c : ℕ) → slice_get h c ≡ Some (Connect g) →
     is_open h c ≡ true → ⊥
-let_go_unconnected base h law settled free zero g c l connects alive =
-    let s = connection_hub base h law g c connects in
-    let w = slice_get_within h c (Connect g) connects in
-    absurd (omega arith)
-let_go_unconnected base h law settled free (suc steps) g c l connects alive =
-    by_hub (let_go_unconnected base h law settled free steps) (slice_get h g) refl (connected_hub base h law g c connects)
-  where
+let_go_unconnected {base} {h} law settled free g c connects alive = from_hub (length h) g c (omega arith) connects alive where
+  from_hub : (steps i d : ℕ) → length h ≤ i + steps → slice_get h d ≡ Some (Connect i) → is_open h d ≡ true → ⊥
+  from_hub zero i d l at_d open_d =
+      let s = connection_hub base h law i d at_d in
+      let w = slice_get_within h d (Connect i) at_d in
+      absurd (omega arith)
+  from_hub (suc steps) i d l at_d open_d = by_hub (from_hub steps) (slice_get h i) refl (connected_hub base h law i d at_d) where
     by_top : ((k a : ℕ) → length h ≤ k + steps → slice_get h a ≡ Some (Connect k) → is_open h a ≡ true → ⊥) → (s a : ℕ) →
-        at (is_subscriber_of g) h s ≡ true → IsTopOf h s a → (at is_root h a ≡ true) ⊎ ((k : ℕ) × (slice_get h a ≡ Some (Connect k))) → ⊥
+        at (is_subscriber_of i) h s ≡ true → IsTopOf h s a → (at is_root h a ≡ true) ⊎ ((k : ℕ) × (slice_get h a ≡ Some (Connect k))) → ⊥
     by_top rest s a subscribes top (inl root) = both_ways _ (free.unsubscribed a) (and_from _ _ top.alive root)
     by_top rest s a subscribes top (inr (k, at_a)) =
-        let later : g < k = hubs_in_order base h law g s a k subscribes top.above at_a in
+        let later : i < k = hubs_in_order law i s a subscribes top.above at_a in
         rest k a (omega arith) at_a top.alive
 
     by_subscribers : ((k a : ℕ) → length h ≤ k + steps → slice_get h a ≡ Some (Connect k) → is_open h a ≡ true → ⊥) →
-        at is_auto_hub h g ≡ true → (ss : List ℕ) → open_subscribers h g ≡ ss → ⊥
-    by_subscribers rest auto [] none = connection_listed h g c connects alive (unsubscribed_unconnected base h g settled auto none)
+        at is_auto_hub h i ≡ true → (ss : List ℕ) → open_subscribers h i ≡ ss → ⊥
+    by_subscribers rest auto [] none = connection_listed h i d at_d open_d (unsubscribed_unconnected base h i settled auto none)
     by_subscribers rest auto (s ∷ ss) found =
-        let first : (at (is_subscriber_of g) h s && is_open h s) ≡ true =
-        first_passes (λ n. at (is_subscriber_of g) h n && is_open h n) (places h) s ss found in
-        let parts : (at (is_subscriber_of g) h s ≡ true) × (is_open h s ≡ true) = and_parts _ _ first in
+        let first : (at (is_subscriber_of i) h s && is_open h s) ≡ true =
+        first_passes (λ n. at (is_subscriber_of i) h n && is_open h n) (places h) s ss found in
+        let parts : (at (is_subscriber_of i) h s ≡ true) × (is_open h s ≡ true) = and_parts _ _ first in
         let top : (a : ℕ) × IsTopOf h s a = topmost base h law s parts.1 in
         by_top rest s top.0 parts.0 top.1 top.1.sort
 
     by_hub : ((k a : ℕ) → length h ≤ k + steps → slice_get h a ≡ Some (Connect k) → is_open h a ≡ true → ⊥) → (e : Option Event) →
-        slice_get h g ≡ e → option_map_or makes_hub e false ≡ true → ⊥
-    by_hub rest None at_g hub = false≢true hub
-    by_hub rest (Some (Hub Manual)) at_g hub = connection_listed h g c connects alive (free.disconnected g (rw at_g refl))
-    by_hub rest (Some (Hub Auto)) at_g hub = by_subscribers rest (rw at_g refl) (open_subscribers h g) refl
-    by_hub rest (Some _) at_g hub = false≢true hub
+        slice_get h i ≡ e → option_map_or makes_hub e false ≡ true → ⊥
+    by_hub rest None at_i hub = false≢true hub
+    by_hub rest (Some (Hub Manual)) at_i hub = connection_listed h i d at_d open_d (free.disconnected i (rw at_i refl))
+    by_hub rest (Some (Hub Auto)) at_i hub = by_subscribers rest (rw at_i refl) (open_subscribers h i) refl
+    by_hub rest (Some _) at_i hub = false≢true hub
 
 -- nothing open -------------------------------------------------------------------------------------
 
@@ -126,7 +125,7 @@ nothing_open base h law settled free n =
   where
     by_top : (a : ℕ) → IsTopOf h n a → (at is_root h a ≡ true) ⊎ ((g : ℕ) × (slice_get h a ≡ Some (Connect g))) → ⊥
     by_top a top (inl root) = both_ways _ (free.unsubscribed a) (and_from _ _ top.alive root)
-    by_top a top (inr (g, at_a)) = let_go_unconnected base h law settled free (length h) g a (omega arith) at_a top.alive
+    by_top a top (inr (g, at_a)) = let_go_unconnected law settled free g a at_a top.alive
 
 pub nothing_open_counted : (base : Kept) → (h : List Event) → IsLawful base h → IsSettled base h → IsLetGo h → open_count h ≡ 0
 nothing_open_counted base h law settled free =

@@ -37,9 +37,9 @@ use Rattle.rx_event.proofs.Laws.Searches.{or_false, list_any_push, list_any_same
 ended_old : (base : Kept) → (h : List Event) (e : Event) → MayFollow base h e → (c : ℕ) (u : Terminal) → e ≡ End c u → c < length h
 ended_old base h e next c u same = let now : MayFollow base h (End c u) = rw (← same) next in is_open_within h c (may_end base now)
 
-pub ended_older : (base : Kept) → (h : List Event) → IsLawful base h → (i : ℕ) (x : Event) → slice_get h i ≡ Some x → (c : ℕ) (u : Terminal) → x ≡ End c u →
+pub ended_older : {base : Kept} → (h : List Event) → IsLawful base h → (i : ℕ) (x : Event) → slice_get h i ≡ Some x → (c : ℕ) (u : Terminal) → x ≡ End c u →
     c < length h
-ended_older base h law i x at_i c u same =
+ended_older {base} h law i x at_i c u same =
     let a : c < i = ended_after base h law i c u (at_i ∙ ap Some same) in
     let b : i < length h = slice_get_within h i x at_i in
     omega arith
@@ -61,7 +61,7 @@ unfolding child_terminal
 child_terminal-push base h e law next n l =
     first_some_push (ends_by (h ++ e ∷ []) n) h e ∙
     ap (λ o. option_or o (ends_by (h ++ e ∷ []) n e))
-    (first_some_same_at (ends_by (h ++ e ∷ []) n) (ends_by h n) h (λ i x at_i. ends_by_kept h (e ∷ []) n l x (ended_older base h law i x at_i))) ∙
+    (first_some_same_at (ends_by (h ++ e ∷ []) n) (ends_by h n) h (λ i x at_i. ends_by_kept h (e ∷ []) n l x (ended_older h law i x at_i))) ∙
     ap (option_or (first_some (ends_by h n) h)) (ends_by_kept h (e ∷ []) n l e (ended_old base h e next))
 
 or_assoc : (a b c : Bool) → (a || (b || c)) ≡ ((a || b) || c)
@@ -87,7 +87,7 @@ source_completed-push base h e law next n =
     ap (λ c. option_map_or (λ k. k.source_completed) (node_kept base n) false || c) (list_any_push (completes_source (h ++ e ∷ []) n) h e ∙
     ap (λ b. b || completes_source (h ++ e ∷ []) n e)
     (list_any_same_at (completes_source (h ++ e ∷ []) n) (completes_source h n) h
-    (λ i x at_i. completes_kept h (e ∷ []) n x (ended_older base h law i x at_i))) ∙
+    (λ i x at_i. completes_kept h (e ∷ []) n x (ended_older h law i x at_i))) ∙
     ap (λ b. list_any (completes_source h n) h || b) (completes_kept h (e ∷ []) n e (ended_old base h e next))) ∙
     or_assoc (option_map_or (λ k. k.source_completed) (node_kept base n) false) (list_any (completes_source h n) h) (completes_source h n e)
 
@@ -213,37 +213,55 @@ is_still (Return l) = true
 is_still (Take r) = true
 is_still _ = false
 
-marks_still : (base : Kept) → (h : List Event) (e : Event) → IsLawful base h → MayFollow base h e → (n : ℕ) → n < length h → shuts_none e ≡ true →
-    is_source_of n e ≡ false →
-    is_notifier_of n e ≡ false → stops_of h e ≡ [] → completes_source h n e ≡ false → ends_by h n e ≡ None → pays n e ≡ false → adds_child n e ≡ false →
-    marks_of base (h ++ e ∷ []) n ≡ marks_of base h n
-marks_still base h e law next n l s source notifier no_stops no_end no_terminal no_pay no_child =
-    let z = cut_children_none h e n (λ k. is_cut_none h e k s) in
-    let p : count_by (is_projection_to n) (stops_of h e) ≡ 0 = ap (count_by (is_projection_to n)) no_stops in
-    let w : cond {A = ℕ} (pays n e) 1 0 ≡ 0 = ap (λ b. cond {A = ℕ} b 1 0) no_pay in
-    let y : cond {A = ℕ} (adds_child n e) 1 0 ≡ 0 = ap (λ b. cond {A = ℕ} b 1 0) no_child in
-    marks-push base h e law next n l ∙
-    same_marks base (ap (λ b. source_opened base h n || b) source ∙ or_false (source_opened base h n))
-    (ap (λ b. notifier_opened base h n || b) notifier ∙ or_false (notifier_opened base h n))
-    (ap (λ ss. is_fired h n || list_any (is_firing_of n) ss) no_stops ∙ or_false (is_fired h n))
-    (ap (λ b. source_completed base h n || b) no_end ∙ or_false (source_completed base h n))
-    (ap (option_or (child_terminal h n)) no_terminal ∙ or_nothing (child_terminal h n)) (omega arith) (omega arith)
+-- The event shuts nothing and projects nothing, and is of no mark of n: no child of it, no end of one, and no payment
+record SparesMarks (h : List Event) (e : Event) (n : ℕ) : Type 0 where
+  pub shuts : shuts_none e ≡ true
+  pub source : is_source_of n e ≡ false
+  pub notifier : is_notifier_of n e ≡ false
+  pub climbs : stops_of h e ≡ []
+  pub completes : completes_source h n e ≡ false
+  pub ends : ends_by h n e ≡ None
+  pub declines : pays n e ≡ false
+  pub adds : adds_child n e ≡ false
+
+spares_marks : (h : List Event) (e : Event) (n : ℕ) → is_still e ≡ true → SparesMarks h e n
+spares_marks h (Hub mode) n still =
+    record { shuts = refl; source = refl; notifier = refl; climbs = refl; completes = refl; ends = refl; declines = refl; adds = refl }
+spares_marks h (Connect g) n still =
+    record { shuts = refl; source = refl; notifier = refl; climbs = refl; completes = refl; ends = refl; declines = refl; adds = refl }
+spares_marks h (Open Root kind) n still =
+    record { shuts = refl; source = refl; notifier = refl; climbs = refl; completes = refl; ends = refl; declines = refl; adds = refl }
+spares_marks h (Accept m tag) n still =
+    record { shuts = refl; source = refl; notifier = refl; climbs = refl; completes = refl; ends = refl; declines = refl; adds = refl }
+spares_marks h (Use r) n still =
+    record { shuts = refl; source = refl; notifier = refl; climbs = refl; completes = refl; ends = refl; declines = refl; adds = refl }
+spares_marks h (Remove r) n still =
+    record { shuts = refl; source = refl; notifier = refl; climbs = refl; completes = refl; ends = refl; declines = refl; adds = refl }
+spares_marks h (Lease r) n still =
+    record { shuts = refl; source = refl; notifier = refl; climbs = refl; completes = refl; ends = refl; declines = refl; adds = refl }
+spares_marks h (Return m) n still =
+    record { shuts = refl; source = refl; notifier = refl; climbs = refl; completes = refl; ends = refl; declines = refl; adds = refl }
+spares_marks h (Take r) n still =
+    record { shuts = refl; source = refl; notifier = refl; climbs = refl; completes = refl; ends = refl; declines = refl; adds = refl }
+spares_marks h (Open (Source p) kind) n still = absurd (false≢true still)
+spares_marks h (Open (Inner p) kind) n still = absurd (false≢true still)
+spares_marks h (Open (Notifier p) kind) n still = absurd (false≢true still)
+spares_marks h _ n still = absurd (false≢true still)
 
 pub marks_kept : (base : Kept) → (h : List Event) (e : Event) → IsLawful base h → MayFollow base h e → is_still e ≡ true → (n : ℕ) → n < length h →
     marks_of base (h ++ e ∷ []) n ≡ marks_of base h n
-marks_kept base h (Hub mode) law next still n l = marks_still base h (Hub mode) law next n l refl refl refl refl refl refl refl refl
-marks_kept base h (Connect g) law next still n l = marks_still base h (Connect g) law next n l refl refl refl refl refl refl refl refl
-marks_kept base h (Open Root kind) law next still n l = marks_still base h (Open Root kind) law next n l refl refl refl refl refl refl refl refl
-marks_kept base h (Accept m tag) law next still n l = marks_still base h (Accept m tag) law next n l refl refl refl refl refl refl refl refl
-marks_kept base h (Use r) law next still n l = marks_still base h (Use r) law next n l refl refl refl refl refl refl refl refl
-marks_kept base h (Remove r) law next still n l = marks_still base h (Remove r) law next n l refl refl refl refl refl refl refl refl
-marks_kept base h (Lease r) law next still n l = marks_still base h (Lease r) law next n l refl refl refl refl refl refl refl refl
-marks_kept base h (Return m) law next still n l = marks_still base h (Return m) law next n l refl refl refl refl refl refl refl refl
-marks_kept base h (Take r) law next still n l = marks_still base h (Take r) law next n l refl refl refl refl refl refl refl refl
-marks_kept base h (Open (Source p) kind) law next still n l = absurd (false≢true still)
-marks_kept base h (Open (Inner p) kind) law next still n l = absurd (false≢true still)
-marks_kept base h (Open (Notifier p) kind) law next still n l = absurd (false≢true still)
-marks_kept base h _ law next still n l = absurd (false≢true still)
+marks_kept base h e law next still n l =
+    let same = spares_marks h e n still in
+    let z = cut_children_none h e n (λ k. is_cut_none h e k same.shuts) in
+    let p : count_by (is_projection_to n) (stops_of h e) ≡ 0 = ap (count_by (is_projection_to n)) same.climbs in
+    let w : cond {A = ℕ} (pays n e) 1 0 ≡ 0 = ap (λ b. cond {A = ℕ} b 1 0) same.declines in
+    let y : cond {A = ℕ} (adds_child n e) 1 0 ≡ 0 = ap (λ b. cond {A = ℕ} b 1 0) same.adds in
+    marks-push base h e law next n l ∙
+    same_marks base (ap (λ b. source_opened base h n || b) same.source ∙ or_false (source_opened base h n))
+    (ap (λ b. notifier_opened base h n || b) same.notifier ∙ or_false (notifier_opened base h n))
+    (ap (λ ss. is_fired h n || list_any (is_firing_of n) ss) same.climbs ∙ or_false (is_fired h n))
+    (ap (λ b. source_completed base h n || b) same.completes ∙ or_false (source_completed base h n))
+    (ap (option_or (child_terminal h n)) same.ends ∙ or_nothing (child_terminal h n)) (omega arith) (omega arith)
 
 -- a source, a notifier
 pub marks-source : (base : Kept) → (h : List Event) (p : ℕ) (kind : Kind) → IsLawful base h → MayFollow base h (Open (Source p) kind) → (n : ℕ) →

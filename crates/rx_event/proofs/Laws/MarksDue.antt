@@ -156,10 +156,10 @@ due_at_none base h n made t at_n none d = by_terminal (terminal_due made (marks_
   by_terminal (Some v) ended same = absurd (none-some (End n v) (sym same))
 
 -- what the marks of an open node give is forced, where no hub waits
-pub due_at_forced : (base : Kept) → (h : List Event) (n : ℕ) (made e : Event) → ((g : ℕ) → ¬ IsConnectDue h g) → is_open h n ≡ true →
+pub due_at_forced : {base : Kept} → (h : List Event) (n : ℕ) (made e : Event) → ((g : ℕ) → ¬ IsConnectDue h g) → is_open h n ≡ true →
     slice_get h n ≡ Some made →
     due_at made (marks_of base h n) n ≡ Some e → IsForced base h e
-due_at_forced base h n made e none_waits o at_n found = due none_waits (due_at_due base h n made e o at_n found)
+due_at_forced {base} h n made e none_waits o at_n found = due none_waits (due_at_due base h n made e o at_n found)
 
 -- a settled history -------------------------------------------------------------------------------
 
@@ -256,7 +256,7 @@ pub settled_quiet : (base : Kept) → (h : List Event) → IsSettled base h → 
 settled_quiet base h settled n made o at_n = by_event (due_at made (marks_of base h n) n) refl where
   by_event : (x : Option Event) → due_at made (marks_of base h n) n ≡ x → x ≡ None
   by_event None none = refl
-  by_event (Some e) found = absurd (settled.none e (due_at_forced base h n made e (λ g d. settled.none (Connect g) (connecting d)) o at_n found))
+  by_event (Some e) found = absurd (settled.none e (due_at_forced h n made e (λ g d. settled.none (Connect g) (connecting d)) o at_n found))
 
 -- what is due at a node, if not by the end of a connection, its marks give an end of it
 pub due_by_marks : (base : Kept) → (h : List Event) (n : ℕ) (made : Event) (t : Terminal) → slice_get h n ≡ Some made → ¬ SourceEnded h n t →

@@ -96,10 +96,10 @@ marks-close base h c law next n o =
     same_marks base (or_false _) (or_false _) (or_false _) (or_false _) (or_nothing _) (omega arith) (omega arith)
 
 -- the marks of a node that is not above what ended stay, and of its parent alone do they change
-pub marks-end_other : (base : Kept) → (h : List Event) (c : ℕ) (t : Terminal) → IsLawful base h → MayFollow base h (End c t) → (n : ℕ) →
+pub marks-end_other : {base : Kept} → (h : List Event) (c : ℕ) (t : Terminal) → IsLawful base h → MayFollow base h (End c t) → (n : ℕ) →
     is_open (h ++ End c t ∷ []) n ≡ true →
     is_child_of h n c ≡ false → marks_of base (h ++ End c t ∷ []) n ≡ marks_of base h n
-marks-end_other base h c t law next n o other =
+marks-end_other {base} h c t law next n o other =
     let z : cond {A = ℕ} (is_child_of h n c) 1 0 ≡ 0 = ap (λ b. cond {A = ℕ} b 1 0) other in
     marks-end base h c t law next n o ∙
     same_marks base refl refl refl (ap (λ b. source_completed base h n || b) (no_source t) ∙ or_false (source_completed base h n))

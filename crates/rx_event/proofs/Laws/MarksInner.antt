@@ -76,10 +76,10 @@ marks_inner base h f kind law next n l =
     marks-push base h (Open (Inner f) kind) law next n l ∙ same_marks base (or_false _) (or_false _) (or_false _) (or_false _) (or_nothing _) (omega arith) refl
 
 -- no other node that stays open changes
-pub marks-inner_other : (base : Kept) → (h : List Event) (f : ℕ) (kind : Kind) → IsLawful base h → MayFollow base h (Open (Inner f) kind) → (n : ℕ) →
+pub marks-inner_other : {base : Kept} → {h : List Event} (f : ℕ) (kind : Kind) → IsLawful base h → MayFollow base h (Open (Inner f) kind) → (n : ℕ) →
     n < length h →
     is_open (h ++ Open (Inner f) kind ∷ []) n ≡ true → (f == n) ≡ false → marks_of base (h ++ Open (Inner f) kind ∷ []) n ≡ marks_of base h n
-marks-inner_other base h f kind law next n l o other =
+marks-inner_other {base} {h} f kind law next n l o other =
     let parts = and_parts (is_open h n) (not (is_cut h (Open (Inner f) kind) n)) (sym (is_open_cut h (Open (Inner f) kind) n l) ∙ o) in
     let z = inner_cut_none base h f kind law n (not_false (is_cut h (Open (Inner f) kind) n) parts.1) other in
     let w : cond {A = ℕ} (f == n) 1 0 ≡ 0 = ap (λ b. cond {A = ℕ} b 1 0) other in
@@ -132,10 +132,10 @@ marks-inner_first base h f kind law next closed =
     by_test k true both = absurd (let w = cut_child_is_inner h f kind k both in both_ways (is_open h k) (closed k w.1) w.0)
 
 -- of one that had an open inner another takes the place
-pub marks-inner_next : (base : Kept) → (h : List Event) (f old : ℕ) (kind : Kind) → IsLawful base h → MayFollow base h (Open (Inner f) kind) →
+pub marks-inner_next : {base : Kept} → {h : List Event} (f old : ℕ) (kind : Kind) → IsLawful base h → MayFollow base h (Open (Inner f) kind) →
     at is_switch h f ≡ true → at (is_inner_of f) h old ≡ true → is_open h old ≡ true →
     marks_of base (h ++ Open (Inner f) kind ∷ []) f ≡ record (marks_of base h f) { owed = owed base h f - 1 }
-marks-inner_next base h f old kind law next switch inner o =
+marks-inner_next {base} {h} f old kind law next switch inner o =
     let z : cut_children h (Open (Inner f) kind) f ≡ 1 =
     sum_by-same (λ k. cond (old == k) 1 0) (λ k. cond (is_open_child_of h f k && is_cut h (Open (Inner f) kind) k) 1 0) (length h)
     (λ k l. each k (old == k) refl) ∙

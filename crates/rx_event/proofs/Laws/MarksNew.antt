@@ -31,9 +31,9 @@ use Rattle.rx_event.proofs.Laws.MakingRemovesNothing.{made_unfired}
 
 -- a new node --------------------------------------------------------------------------------------
 
-names_new : (base : Kept) → (h : List Event) (e : Event) → IsLawful base h → MayFollow base h e → (i : ℕ) (x : Event) → slice_get (h ++ e ∷ []) i ≡ Some x →
+names_new : {base : Kept} → (h : List Event) (e : Event) → IsLawful base h → MayFollow base h e → (i : ℕ) (x : Event) → slice_get (h ++ e ∷ []) i ≡ Some x →
     parent_named x ≡ Some (length h) → ⊥
-names_new base h e law next i x at_i named =
+names_new {base} h e law next i x at_i named =
     let a : length h < i = named_below base (h ++ e ∷ []) (IsLawful-push base h e law next) i (length h) x at_i named in
     let b : i < length (h ++ e ∷ []) = slice_get_within (h ++ e ∷ []) i x at_i in
     absurd (omega (arith, length-append h (e ∷ [])))
@@ -93,10 +93,10 @@ marks-new base h e law next =
     same_marks base
     (λ i. option_map_or (λ k. k.source_opened) (unkept i) false ||
     never _ (λ s. let r = list_any_found (is_source_of (length h)) (h ++ e ∷ []) s in
-    names_new base h e law next r.0 r.1 r.2 (source_names (length h) r.1 r.3)) i)
+    names_new h e law next r.0 r.1 r.2 (source_names (length h) r.1 r.3)) i)
     (λ i. option_map_or (λ k. k.notifier_opened) (unkept i) false ||
     never _ (λ s. let r = list_any_found (is_notifier_of (length h)) (h ++ e ∷ []) s in
-    names_new base h e law next r.0 r.1 r.2 (notifier_names (length h) r.1 r.3)) i)
+    names_new h e law next r.0 r.1 r.2 (notifier_names (length h) r.1 r.3)) i)
     (is_fired-push h e (length h) ∙ rw (fired_past base h law (length h) (omega arith), fires_old base h e law next (length h) (omega arith)) refl)
     completed_new
     (terminal_new (child_terminal (h ++ e ∷ []) (length h)) refl)
@@ -108,7 +108,7 @@ marks-new base h e law next =
 
     source_new : (s : ℕ) (x : Option Event) → slice_get (h ++ e ∷ []) s ≡ x → option_map_or (is_source_of (length h)) x false ≡ true → ⊥
     source_new s None at_s source = false≢true source
-    source_new s (Some x) at_s source = names_new base h e law next s x at_s (source_names (length h) x source)
+    source_new s (Some x) at_s source = names_new h e law next s x at_s (source_names (length h) x source)
 
     completed_new : source_completed base (h ++ e ∷ []) (length h) ≡ false
     completed_new =

@@ -24,6 +24,7 @@ use Rattle.rx_event.specs.Moments.{is_fired, is_firing_of, is_projection_to}
 use Rattle.rx_event.specs.Marks.{touches, after_source, after_notifier, after_inner, after_decline, after_child, after_stops, blank_marks}
 use Rattle.rx_event.specs.Marks.{completes_source, passes_on, child_terminal, source_completed, open_children, marks_of, due_at}
 use Rattle.rx_event.specs.Lawful.{MayFollow, IsLawful}
+use Rattle.rx_event.specs.Claims.Nodes.{IsOpenInner}
 use Rattle.rx_event.proofs.Laws.Openness.{is_open_within}
 use Rattle.rx_event.proofs.Laws.Steps.{may_open, may_decline}
 use Rattle.rx_event.proofs.Laws.Searches.{or_false}
@@ -50,39 +51,39 @@ stops_apart n (s ∷ ss) apart =
     (rw (b.0, rest.0) refl, sum_by-cons (λ x. cond (is_projection_to n x) 1 0) s ss ∙ rw (b.1, rest.1) refl)
 
 -- All marks of a node that stays open, and that the event does not touch, stay
-pub marks_untouched : (base : Kept) → (h : List Event) (e : Event) → IsLawful base h → MayFollow base h e → (n : ℕ) → n < length h →
+pub marks_untouched : {base : Kept} → (h : List Event) (e : Event) → IsLawful base h → MayFollow base h e → (n : ℕ) → n < length h →
     is_open (h ++ e ∷ []) n ≡ true →
     touches h n e ≡ false → marks_of base (h ++ e ∷ []) n ≡ marks_of base h n
-marks_untouched base h (Open (Source p) kind) law next n l o apart =
+marks_untouched {base} h (Open (Source p) kind) law next n l o apart =
     let w : cond {A = ℕ} (p == n) 1 0 ≡ 0 = ap (λ b. cond {A = ℕ} b 1 0) apart in
     marks-source base h p kind law next n l ∙
     same_marks base (ap (λ b. source_opened base h n || b) apart ∙ or_false (source_opened base h n)) refl refl refl refl refl (omega arith)
-marks_untouched base h (Open (Notifier p) kind) law next n l o apart =
+marks_untouched {base} h (Open (Notifier p) kind) law next n l o apart =
     let w : cond {A = ℕ} (p == n) 1 0 ≡ 0 = ap (λ b. cond {A = ℕ} b 1 0) apart in
     marks-notifier base h p kind law next n l ∙
     same_marks base refl (ap (λ b. notifier_opened base h n || b) apart ∙ or_false (notifier_opened base h n)) refl refl refl refl (omega arith)
-marks_untouched base h (Open (Inner f) kind) law next n l o apart = marks-inner_other base h f kind law next n l o apart
-marks_untouched base h (Open Root kind) law next n l o apart = marks_kept base h (Open Root kind) law next refl n l
-marks_untouched base h (Item leaf v) law next n l o apart =
+marks_untouched h (Open (Inner f) kind) law next n l o apart = marks-inner_other f kind law next n l o apart
+marks_untouched {base} h (Open Root kind) law next n l o apart = marks_kept base h (Open Root kind) law next refl n l
+marks_untouched {base} h (Item leaf v) law next n l o apart =
     let w = stops_apart n (stops h leaf) apart in
     let k = w.1 in
     marks-item base h leaf v law next n l ∙ same_marks base refl refl (ap (λ b. is_fired h n || b) w.0 ∙ or_false (is_fired h n)) refl refl (omega arith) refl
-marks_untouched base h (Decline f) law next n l o apart =
+marks_untouched {base} h (Decline f) law next n l o apart =
     let w : cond {A = ℕ} (f == n) 1 0 ≡ 0 = ap (λ b. cond {A = ℕ} b 1 0) apart in
     marks-decline base h f law next n l ∙ same_marks base refl refl refl refl refl (omega arith) refl
-marks_untouched base h (End c t) law next n l o apart = marks-end_other base h c t law next n o apart
-marks_untouched base h (Close c) law next n l o apart = marks-close_other base h c law next n o apart
-marks_untouched base h (Hub mode) law next n l o apart = marks_kept base h (Hub mode) law next refl n l
-marks_untouched base h (Connect g) law next n l o apart = marks_kept base h (Connect g) law next refl n l
-marks_untouched base h (Accept m tag) law next n l o apart = marks_kept base h (Accept m tag) law next refl n l
-marks_untouched base h (Use r) law next n l o apart = marks_kept base h (Use r) law next refl n l
-marks_untouched base h (Remove r) law next n l o apart = marks_kept base h (Remove r) law next refl n l
-marks_untouched base h (Lease r) law next n l o apart = marks_kept base h (Lease r) law next refl n l
-marks_untouched base h (Return m) law next n l o apart = marks_kept base h (Return m) law next refl n l
-marks_untouched base h (Take r) law next n l o apart = marks_kept base h (Take r) law next refl n l
+marks_untouched h (End c t) law next n l o apart = marks-end_other h c t law next n o apart
+marks_untouched {base} h (Close c) law next n l o apart = marks-close_other base h c law next n o apart
+marks_untouched {base} h (Hub mode) law next n l o apart = marks_kept base h (Hub mode) law next refl n l
+marks_untouched {base} h (Connect g) law next n l o apart = marks_kept base h (Connect g) law next refl n l
+marks_untouched {base} h (Accept m tag) law next n l o apart = marks_kept base h (Accept m tag) law next refl n l
+marks_untouched {base} h (Use r) law next n l o apart = marks_kept base h (Use r) law next refl n l
+marks_untouched {base} h (Remove r) law next n l o apart = marks_kept base h (Remove r) law next refl n l
+marks_untouched {base} h (Lease r) law next n l o apart = marks_kept base h (Lease r) law next refl n l
+marks_untouched {base} h (Return m) law next n l o apart = marks_kept base h (Return m) law next refl n l
+marks_untouched {base} h (Take r) law next n l o apart = marks_kept base h (Take r) law next refl n l
 
 -- of the parent of what ended, by the events of both
-pub marks-end_parent_at : (base : Kept) → (h : List Event) (c p : ℕ) (made above : Event) (t : Terminal) → IsLawful base h → MayFollow base h (End c t) →
+pub marks-end_parent_at : {base : Kept} → {h : List Event} {c p : ℕ} (made above : Event) (t : Terminal) → IsLawful base h → MayFollow base h (End c t) →
     parent h c ≡ Some p → slice_get h c ≡ Some made → slice_get h p ≡ Some above →
     marks_of base (h ++ End c t ∷ []) p ≡
     record (marks_of base h p) {
@@ -90,7 +91,7 @@ pub marks-end_parent_at : (base : Kept) → (h : List Event) (c p : ℕ) (made a
       child_terminal = option_or (child_terminal h p) (if passes_on (is_merging above) t then Some t else None);
       open_children = open_children h p - 1;
     }
-marks-end_parent_at base h c p made above t law next below at_c at_p =
+marks-end_parent_at {base} {h} {c} {p} made above t law next below at_c at_p =
     marks-end_parent base h c p t law next below ∙
     same_marks base refl refl refl (ap (λ b. source_completed base h p || b) (source_is t))
     (ap (λ o. option_or (child_terminal h p) (if passes_on (option_map_or is_merging o false) t then Some t else None)) at_p) refl refl
@@ -135,11 +136,10 @@ marks-decline_at base h f law next =
     let w : cond {A = ℕ} (f == f) 1 0 ≡ 1 = ap (λ b. cond {A = ℕ} b 1 0) (eq-eqb f f refl) in
     marks-decline base h f law next f (is_open_within h f (may_decline base next).0) ∙ same_marks base refl refl refl refl refl (omega arith) refl
 
-pub marks-end_at : (base : Kept) → (h : List Event) (c p : ℕ) (made above : Event) (t : Terminal) → IsLawful base h → MayFollow base h (End c t) →
-    parent h c ≡ Some p →
-    slice_get h c ≡ Some made → slice_get h p ≡ Some above →
+pub marks-end_at : {base : Kept} {h : List Event} {c p : ℕ} {made above : Event} {t : Terminal} → IsLawful base h → MayFollow base h (End c t) →
+    parent h c ≡ Some p → slice_get h c ≡ Some made → slice_get h p ≡ Some above →
     marks_of base (h ++ End c t ∷ []) p ≡ after_child (is_source_of p made) (is_merging above) t (marks_of base h p)
-marks-end_at base h c p made above t law next below at_c at_p = marks-end_parent_at base h c p made above t law next below at_c at_p
+marks-end_at {made = made} {above = above} {t = t} law next below at_c at_p = marks-end_parent_at made above t law next below at_c at_p
 
 -- stops one at a time say what all together do
 stops_together : (base : Kept) → (n : ℕ) (ss : List Stop) (m : Marks) →
@@ -188,10 +188,9 @@ pub marks-inner_at_first : (base : Kept) → (h : List Event) (f : ℕ) (kind : 
     ((k : ℕ) → at (is_inner_of f) h k ≡ true → is_open h k ≡ false) → marks_of base (h ++ Open (Inner f) kind ∷ []) f ≡ after_inner false (marks_of base h f)
 marks-inner_at_first base h f kind law next closed = marks-inner_first base h f kind law next closed
 
-pub marks-inner_at_next : (base : Kept) → (h : List Event) (f old : ℕ) (kind : Kind) → IsLawful base h → MayFollow base h (Open (Inner f) kind) →
-    at is_switch h f ≡ true →
-    at (is_inner_of f) h old ≡ true → is_open h old ≡ true → marks_of base (h ++ Open (Inner f) kind ∷ []) f ≡ after_inner true (marks_of base h f)
-marks-inner_at_next base h f old kind law next switch inner o = marks-inner_next base h f old kind law next switch inner o
+pub marks-inner_at_next : {base : Kept} {h : List Event} {f old : ℕ} {kind : Kind} → IsLawful base h → MayFollow base h (Open (Inner f) kind) →
+    IsOpenInner h f old → marks_of base (h ++ Open (Inner f) kind ∷ []) f ≡ after_inner true (marks_of base h f)
+marks-inner_at_next {f = f} {old = old} {kind = kind} law next i = marks-inner_next f old kind law next i.switch i.inner i.alive
 
 -- a new node has nothing to do
 pub blank_quiet : (made : Event) (n : ℕ) → due_at made blank_marks n ≡ None

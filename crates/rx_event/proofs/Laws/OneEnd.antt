@@ -25,6 +25,7 @@ use Rattle.rx_event.specs.Tree.{at, parent, is_open, shuts}
 use Rattle.rx_event.specs.Moments.{owed, is_fired, is_firing_of, stops_of}
 use Rattle.rx_event.specs.Forced.{mirrored, fired, failed, completed, cut, due, ChildEnded, SourceEnded, IsDue, IsForced, IsSettled}
 use Rattle.rx_event.specs.Marks.{due_at, marks_of, is_child_of}
+use Rattle.rx_event.specs.Bases.{Completes}
 use Rattle.rx_event.specs.Lawful.{forced, allowed, opened_with, MayFollow, IsLawful}
 use Rattle.rx_event.proofs.Laws.Places.{slice_get-append, slice_get_last, at-append, cases_push}
 use Rattle.rx_event.proofs.Laws.Parents.{parent-append, parent-lt, parent_within, parent_name, ancestors_step}
@@ -75,7 +76,7 @@ child_ended_before base h e law n u c = by_place (cases_push h e (End c.child u)
   by_place : (slice_get h c.ended.place ≡ Some (End c.child u)) ⊎ (e ≡ End c.child u) → (ChildEnded h n u × (n < length h)) ⊎ (ends_as e ≡ Some u)
   by_place (inr same) = inr (ap ends_as same)
   by_place (inl found) =
-      let l : c.child < length h = ended_older base h law c.ended.place (End c.child u) found c.child u refl in
+      let l : c.child < length h = ended_older h law c.ended.place (End c.child u) found c.child u refl in
       let below : parent h c.child ≡ Some n = sym (parent-append h (e ∷ []) c.child l) ∙ c.below in
       inl (
         record { child = c.child; below = below; ended = record { place = c.ended.place; found = found } },
@@ -126,21 +127,21 @@ pays_none h (Open (Notifier f) kind) n silent opens = refl
 pays_none h _ n silent opens = refl
 
 -- what takes a child of n away, but not n
-child_shut : (base : Kept) → (h : List Event) (e : Event) → IsLawful base h → MayFollow base h e → (n k : ℕ) → parent h k ≡ Some n → shuts h k e ≡ true →
+child_shut : {base : Kept} → {h : List Event} {e : Event} → IsLawful base h → MayFollow base h e → (n k : ℕ) → parent h k ≡ Some n → shuts h k e ≡ true →
     completes e ≡ false → (adds_child n e ≡ true → ⊥) → (code : ℕ) × (e ≡ End k (Error code))
-child_shut base h (End c Completed) law next n k below shut silent opens = absurd (false≢true (sym silent))
-child_shut base h (End c (Error code)) law next n k below shut silent opens = (code, ap (λ q. End q (Error code)) (eqb-true c k shut))
-child_shut base h (Close c) law next n k below shut silent opens =
+child_shut {e = End c Completed} law next n k below shut silent opens = absurd (false≢true (sym silent))
+child_shut {e = End c (Error code)} law next n k below shut silent opens = (code, ap (λ q. End q (Error code)) (eqb-true c k shut))
+child_shut {base} {h} {e = Close c} law next n k below shut silent opens =
     let made = event_at h k (parent_within h k n below) in
     absurd (none-some n (sym (may_close_none base next made.0 (ap (slice_get h) (eqb-true c k shut) ∙ made.1)) ∙ parent_name h k n made.0 below made.1))
-child_shut base h (Open (Inner f) kind) law next n k below shut silent opens =
+child_shut {base} {h} {e = Open (Inner f) kind} law next n k below shut silent opens =
     let inner : at (is_inner_of f) h k ≡ true = (and_parts _ _ shut).1 in
     let same : f ≡ n = same_Some f n (sym (switched_parent base h law f k inner) ∙ below) in
     absurd (opens (eq-eqb f n same))
-child_shut base h (Open Root kind) law next n k below shut silent opens = absurd (false≢true shut)
-child_shut base h (Open (Source f) kind) law next n k below shut silent opens = absurd (false≢true shut)
-child_shut base h (Open (Notifier f) kind) law next n k below shut silent opens = absurd (false≢true shut)
-child_shut base h _ law next n k below shut silent opens = absurd (false≢true shut)
+child_shut {e = Open Root kind} law next n k below shut silent opens = absurd (false≢true shut)
+child_shut {e = Open (Source f) kind} law next n k below shut silent opens = absurd (false≢true shut)
+child_shut {e = Open (Notifier f) kind} law next n k below shut silent opens = absurd (false≢true shut)
+child_shut law next n k below shut silent opens = absurd (false≢true shut)
 
 not_false : (b : Bool) → not b ≡ true → b ≡ false
 not_false false n = refl
@@ -169,13 +170,13 @@ not_completing h n _ silent = refl
 
 -- a completion that is due without such an event was due before
 completed_before : (base : Kept) → (h : List Event) (e : Event) → IsLawful base h → MayFollow base h e → (n : ℕ) → completes e ≡ false →
-    is_open (h ++ e ∷ []) n ≡ true →
-    at is_merging (h ++ e ∷ []) n ≡ true → ((code : ℕ) → ¬ ChildEnded (h ++ e ∷ []) n (Error code)) → source_completed base (h ++ e ∷ []) n ≡ true →
-    ((c : ℕ) → parent (h ++ e ∷ []) c ≡ Some n → is_open (h ++ e ∷ []) c ≡ false) → owed base (h ++ e ∷ []) n ≡ 0 →
-    IsDue base h (End n Completed)
-completed_before base h e law next n silent o merging unfailed source closed paid = whole_case (cases_lt n (length h)) where
+    Completes base (h ++ e ∷ []) n → IsDue base h (End n Completed)
+completed_before base h e law next n silent now = whole_case (cases_lt n (length h)) where
+  unfailed : (code : ℕ) → ChildEnded (h ++ e ∷ []) n (Error code) → ⊥
+  unfailed code child = now.fails_not code (now.alive, now.merging, child)
+
   opens : adds_child n e ≡ true → ⊥
-  opens = opens_none base h e law next n closed
+  opens = opens_none base h e law next n now.childless
 
   from_child : (k : ℕ) → k < length h → parent h k ≡ Some n → parent (h ++ e ∷ []) k ≡ Some n
   from_child k l below = parent-append h (e ∷ []) k l ∙ below
@@ -193,7 +194,7 @@ completed_before base h e law next n silent o merging unfailed source closed pai
 
   shut_apart : (k : ℕ) → parent h k ≡ Some n → shuts h k e ≡ true → ⊥
   shut_apart k below shut =
-      let w = child_shut base h e law next n k below shut silent opens in
+      let w = child_shut law next n k below shut silent opens in
       unfailed w.0 (record {
         child = k;
         below = from_child k (parent_within h k n below) below;
@@ -212,7 +213,7 @@ completed_before base h e law next n silent o merging unfailed source closed pai
       sym (or_false (source_completed base h n)) ∙
       ap (λ x. source_completed base h n || x) (sym not_now) ∙
       sym (source_completed-push base h e law next n) ∙
-      source
+      now.source
 
   whole_case : (n < length h) ⊎ (length h ≤ n) → IsDue base h (End n Completed)
   whole_case (inr past) = absurd (by_child (source_completed_is base h n)) where
@@ -230,13 +231,14 @@ completed_before base h e law next n silent o merging unfailed source closed pai
         sym split ∙
         source_old)
   whole_case (inl n_old) =
-      let stays = and_parts (is_open h n) (not (is_cut h e n)) (sym (is_open_cut h e n n_old) ∙ o) in
+      let stays = and_parts (is_open h n) (not (is_cut h e n)) (sym (is_open_cut h e n n_old) ∙ now.alive) in
       let whole : is_cut h e n ≡ false = not_false (is_cut h e n) stays.1 in
       let push = owed-push base h e law next n in
       let unpaid : cond {A = ℕ} (pays n e) 1 0 ≡ 0 = ap (λ b. cond {A = ℕ} b 1 0) (pays_none h e n silent opens) in
-      completed stays.0 (sym (at-append is_merging h (e ∷ []) n n_old) ∙ merging) failed_after source_old (λ k below.
+      let paid = now.paid in
+      completed stays.0 (sym (at-append is_merging h (e ∷ []) n n_old) ∙ now.merging) failed_after source_old (λ k below.
       let k_old = parent_within h k n below in
-      let gone = closed k (from_child k k_old below) in
+      let gone = now.childless k (from_child k k_old below) in
       now_closed (is_open h k) (is_cut h e k) (sym (is_open_cut h e k k_old) ∙ gone) (cut_apart k below whole (shuts h k e) refl)) (omega arith)
 
 -- what is due after the event was due before, or the event is its reason
@@ -263,7 +265,9 @@ due_before base h e law next n u (fired o m f) = by_fired (or_cases (is_fired h 
 due_before base h e law next n u (completed o m unfailed source closed paid) = by_test (completes e) refl where
   by_test : (b : Bool) → completes e ≡ b → IsDue base h (End n Completed) ⊎ IsReason h e n Completed
   by_test true now = inr (completes_one now refl)
-  by_test false silent = inl (completed_before base h e law next n silent o m unfailed source closed paid)
+  by_test false silent =
+      inl (completed_before base h e law next n silent
+      (record { alive = o; merging = m; fails_not = λ code fails. unfailed code fails.2; source = source; childless = closed; paid = paid }))
 due_before base h e law next n u (cut o s) = by_case (source_ended_before base h e law n u s) where
   by_case : (SourceEnded h n u × (n < length h)) ⊎ (ends_as e ≡ Some u) → IsDue base h (End n u) ⊎ IsReason h e n u
   by_case (inr now) = inr (ends_so now)
@@ -295,12 +299,12 @@ none_due : (base : Kept) → (h : List Event) (e : Event) → IsSettled base h �
 none_due base h e settled d = settled.none e (due (settled_connected base h settled) d)
 
 -- what an event makes due ends as what was due before it
-end_alike : (base : Kept) → (h : List Event) (e : Event) → MayFollow base h e →
+end_alike : {base : Kept} → {h : List Event} (e : Event) → MayFollow base h e →
     ((n m : ℕ) (t u : Terminal) → IsDue base h (End n t) → IsDue base h (End m u) → t ≡ u) →
     (n : ℕ) (t u : Terminal) → IsDue base h (End n t) → end_by e ≡ Some u → u ≡ t
-end_alike base h e (allowed settled a) before n t u d now = absurd (none_due base h (End n t) settled d)
-end_alike base h e (opened_with at_n l o) before n t u d now = absurd (none-some u now)
-end_alike base h e (forced f) before n t u d now = by_forced e f now where
+end_alike {base} {h} e (allowed settled a) before n t u d now = absurd (none_due base h (End n t) settled d)
+end_alike e (opened_with at_n l o) before n t u d now = absurd (none-some u now)
+end_alike {base} {h} e (forced f) before n t u d now = by_forced e f now where
   by_forced : (x : Event) → IsForced base h x → end_by x ≡ Some u → u ≡ t
   by_forced (End c v) (due none x) same = same_Some u v (sym same) ∙ before c n v t x d
   by_forced (Item leaf v) f same = absurd (false≢true (forced_kind base f))
@@ -311,25 +315,24 @@ nothing_due : (base : Kept) → (n : ℕ) (t : Terminal) → IsDue base [] (End 
 nothing_due base n t d = let l = is_open_within [] n (due_open base d) in omega arith
 
 -- the ways in which two that are due now came to be so
-same_end : (base : Kept) → (h : List Event) (e : Event) → MayFollow base h e →
+same_end : {base : Kept} → {h : List Event} {e : Event} → MayFollow base h e →
     ((n m : ℕ) (t u : Terminal) → IsDue base h (End n t) → IsDue base h (End m u) → t ≡ u) →
     (n m : ℕ) (t u : Terminal) → IsDue base h (End n t) ⊎ (end_by e ≡ Some t) → IsDue base h (End m u) ⊎ (end_by e ≡ Some u) → t ≡ u
-same_end base h e next before n m t u (inl a) (inl b) = before n m t u a b
-same_end base h e next before n m t u (inr a) (inr b) = same_Some t u (sym a ∙ b)
-same_end base h e next before n m t u (inl a) (inr b) = sym (end_alike base h e next before n t u a b)
-same_end base h e next before n m t u (inr a) (inl b) = end_alike base h e next before m u t b a
+same_end next before n m t u (inl a) (inl b) = before n m t u a b
+same_end next before n m t u (inr a) (inr b) = same_Some t u (sym a ∙ b)
+same_end {e} next before n m t u (inl a) (inr b) = sym (end_alike e next before n t u a b)
+same_end {e} next before n m t u (inr a) (inl b) = end_alike e next before m u t b a
 
 -- two ends that are due in a lawful history are alike
-pub one_end : (base : Kept) → (h : List Event) → IsLawful base h → (n m : ℕ) (t u : Terminal) → IsDue base h (End n t) → IsDue base h (End m u) → t ≡ u
-one_end base =
+pub one_end : {base : Kept} → (h : List Event) → IsLawful base h → (n m : ℕ) (t u : Terminal) → IsDue base h (End n t) → IsDue base h (End m u) → t ≡ u
+one_end {base} =
     by_events base (λ h. (n m : ℕ) (t u : Terminal) → IsDue base h (End n t) → IsDue base h (End m u) → t ≡ u) (λ s n m t u a c. absurd (s.undue n t a))
-    (λ h e law next before n m t u a b. same_end base h e next before n m t u (due_or_now base h e n t (due_before base h e law next n t a))
+    (λ h e law next before n m t u a b. same_end next before n m t u (due_or_now base h e n t (due_before base h e law next n t a))
     (due_or_now base h e m u (due_before base h e law next m u b)))
 
 -- what is due to end a node in a lawful history, but for the end of a connection, is what its marks say
-pub due_by_marks_alone : (base : Kept) → (h : List Event) → IsLawful base h → (n : ℕ) (made : Event) (t : Terminal) → is_open h n ≡ true →
-    slice_get h n ≡ Some made →
-    ¬ SourceEnded h n t → IsDue base h (End n t) → due_at made (marks_of base h n) n ≡ Some (End n t)
-due_by_marks_alone base h law n made t o at_n whole d =
+pub due_by_marks_alone : {base : Kept} {h : List Event} → IsLawful base h → {n : ℕ} {made : Event} {t : Terminal} → is_open h n ≡ true →
+    slice_get h n ≡ Some made → ¬ SourceEnded h n t → IsDue base h (End n t) → due_at made (marks_of base h n) n ≡ Some (End n t)
+due_by_marks_alone {base} {h} law {n} {made} {t} o at_n whole d =
     let w = due_by_marks base h n made t at_n whole d in
-    w.1 ∙ ap (λ v. Some (End n v)) (one_end base h law n n w.0 t (due_at_due base h n made (End n w.0) o at_n w.1) d)
+    w.1 ∙ ap (λ v. Some (End n v)) (one_end h law n n w.0 t (due_at_due base h n made (End n w.0) o at_n w.1) d)

@@ -85,28 +85,35 @@ until_by r _ holds = absurd (false≢true holds)
 
 -- lists of numbers ------------------------------------------------------------------------------------------------------------------------
 
-pub same_list : (r s : ℕ → ℕ) (p q : ℕ → Bool) (m n : ℕ) → ((k : ℕ) → p k ≡ true → k < m) → ((k : ℕ) → q k ≡ true → k < n) →
-    ((k : ℕ) → p k ≡ true → q (r k) ≡ true) → ((k : ℕ) → q k ≡ true → (p (s k) ≡ true) × (r (s k) ≡ k)) →
-    ((j k : ℕ) → p j ≡ true → p k ≡ true → j < k → r j < r k) → filter q (range_with_len 0 n) ≡ map r (filter p (range_with_len 0 m))
-same_list r s p q m n within_p within_q there back grows = rising_same (filter q (range_with_len 0 n)) (map r (filter p (range_with_len 0 m)))
+-- r leads from the numbers below m that pass p to those below n that pass q, in their order, and s leads back
+pub record LeadsInOrder (r s : ℕ → ℕ) (p q : ℕ → Bool) (m n : ℕ) : Type 0 where
+  pub within : (k : ℕ) → p k ≡ true → k < m
+  pub within_there : (k : ℕ) → q k ≡ true → k < n
+  pub there : (k : ℕ) → p k ≡ true → q (r k) ≡ true
+  pub back : (k : ℕ) → q k ≡ true → (p (s k) ≡ true) × (r (s k) ≡ k)
+  pub grows : (j k : ℕ) → p j ≡ true → p k ≡ true → j < k → r j < r k
+
+pub same_list : (r s : ℕ → ℕ) (p q : ℕ → Bool) (m n : ℕ) → LeadsInOrder r s p q m n →
+    filter q (range_with_len 0 n) ≡ map r (filter p (range_with_len 0 m))
+same_list r s p q m n leads = rising_same (filter q (range_with_len 0 n)) (map r (filter p (range_with_len 0 m)))
     (filter_rises q (range_with_len 0 n) (range_rises 0 n))
-    (map_rises r (filter p (range_with_len 0 m)) (λ j k i l. grows j k (filter_in p (range_with_len 0 m) j i).1 (filter_in p (range_with_len 0 m) k l).1)
+    (map_rises r (filter p (range_with_len 0 m)) (λ j k i l. leads.grows j k (filter_in p (range_with_len 0 m) j i).1 (filter_in p (range_with_len 0 m) k l).1)
     (filter_rises p (range_with_len 0 m) (range_rises 0 m)))
     onwards backwards
   where
     onwards : (k : ℕ) → In k (filter q (range_with_len 0 n)) → In k (map r (filter p (range_with_len 0 m)))
     onwards k i =
         let w = filter_in q (range_with_len 0 n) k i in
-        let b = back k w.1 in
-        let l : s k < m = within_p (s k) b.0 in
+        let b = leads.back k w.1 in
+        let l : s k < m = leads.within (s k) b.0 in
         subst (λ (j : ℕ). In j (map r (filter p (range_with_len 0 m)))) b.1
         (in_map r (filter p (range_with_len 0 m)) (s k) (in_filter p (range_with_len 0 m) (s k) (in_range 0 m (s k) (omega arith) (omega arith)) b.0))
 
     backwards : (k : ℕ) → In k (map r (filter p (range_with_len 0 m))) → In k (filter q (range_with_len 0 n))
     backwards k i =
         let w = map_in r (filter p (range_with_len 0 m)) k i in
-        let holds : q (r w.0) ≡ true = there w.0 (filter_in p (range_with_len 0 m) w.0 w.1).1 in
-        let l : r w.0 < n = within_q (r w.0) holds in
+        let holds : q (r w.0) ≡ true = leads.there w.0 (filter_in p (range_with_len 0 m) w.0 w.1).1 in
+        let l : r w.0 < n = leads.within_there (r w.0) holds in
         subst (λ (j : ℕ). In j (filter q (range_with_len 0 n))) w.2
         (in_filter q (range_with_len 0 n) (r w.0) (in_range 0 n (r w.0) (omega arith) (omega arith)) holds)
 
@@ -117,8 +124,13 @@ hub_named _ made = absurd (false≢true made)
 module _ (base : Kept) (r s : ℕ → ℕ) (h c : List Event) (a : AreSameBy base r s h c) where
   -- the same nodes, and as many hubs
   pub open_nodes_read : open_nodes c ≡ map r (open_nodes h)
-  open_nodes_read = same_list r s (is_open h) (is_open c) (length h) (length c) (is_open_within h) (is_open_within c) a.numbers.there.alive
-      (λ k o. (a.numbers.back.alive k o, a.numbers.back.undone k o)) a.numbers.there.order
+  open_nodes_read = same_list r s (is_open h) (is_open c) (length h) (length c) (record {
+    within = is_open_within h;
+    within_there = is_open_within c;
+    there = a.numbers.there.alive;
+    back = λ k o. (a.numbers.back.alive k o, a.numbers.back.undone k o);
+    grows = a.numbers.there.order;
+  })
 
   pub hub_read : (k : ℕ) → at makes_hub h k ≡ true → at makes_hub c (r k) ≡ true
   hub_read k hub = let w = hub_made h k hub in ap (λ (x : Option Event). option_map_or makes_hub x false) (a.numbers.there.hub k w.0 w.1)
@@ -129,8 +141,13 @@ module _ (base : Kept) (r s : ℕ → ℕ) (h c : List Event) (a : AreSameBy bas
       (ap (λ (x : Option Event). option_map_or makes_hub x false) (a.numbers.back.hub k w.0 w.1), a.numbers.back.hub_undone k w.0 w.1)
 
   pub hubs_read : hubs c ≡ map r (hubs h)
-  hubs_read = same_list r s (at makes_hub h) (at makes_hub c) (length h) (length c) (at_within makes_hub h) (at_within makes_hub c) hub_read hub_back
-      (λ j k hub also l. a.shown.in_order j k (made_at makes_hub is_named hub_named h j hub) (made_at makes_hub is_named hub_named h k also) l)
+  hubs_read = same_list r s (at makes_hub h) (at makes_hub c) (length h) (length c) (record {
+    within = at_within makes_hub h;
+    within_there = at_within makes_hub c;
+    there = hub_read;
+    back = hub_back;
+    grows = λ j k hub also l. a.shown.in_order j k (made_at makes_hub is_named hub_named h j hub) (made_at makes_hub is_named hub_named h k also) l;
+  })
 
   open_count_read : length (open_nodes c) ≡ length (open_nodes h)
   open_count_read = ap length open_nodes_read ∙ length-map (open_nodes h) r
@@ -217,9 +234,9 @@ module _ (base : Kept) (r s : ℕ → ℕ) (h c : List Event) (a : AreSameBy bas
 
 -- a hub that would wait there would wait here --------------------------------------------------------------------------------------------
 
-still_unconnected : (base : Kept) → (r s : ℕ → ℕ) (h c : List Event) (a : AreSameBy base r s h c) (place : Place) (g : ℕ) →
+still_unconnected : {base : Kept} → (r s : ℕ → ℕ) (h c : List Event) (a : AreSameBy base r s h c) (place : Place) (g : ℕ) →
     open_connections (c ++ Open (place_by r place) (Sub (r g)) ∷ []) (r g) ≡ [] → open_connections (h ++ Open place (Sub g) ∷ []) g ≡ []
-still_unconnected base r s h c a place g none = by_list (open_connections (h ++ Open place (Sub g) ∷ []) g) refl where
+still_unconnected {base} r s h c a place g none = by_list (open_connections (h ++ Open place (Sub g) ∷ []) g) refl where
   old_connection : (m : ℕ) → (slice_get h m ≡ Some (Connect g)) ⊎ (Open place (Sub g) ≡ Connect g) → slice_get h m ≡ Some (Connect g)
   old_connection m (inl old) = old
   old_connection m (inr same) = absurd (cc)
@@ -240,10 +257,10 @@ still_unconnected base r s h c a place g none = by_list (open_connections (h ++ 
       absurd (connection_listed (c ++ Open (place_by r place) (Sub (r g)) ∷ []) (r g) (r m)
       (slice_get-append c (Open (place_by r place) (Sub (r g)) ∷ []) (r m) (slice_get_within c (r m) _ there) ∙ there) stays_open none)
 
-waits_here : (base : Kept) → (r s : ℕ → ℕ) (h c : List Event) (a : AreSameBy base r s h c) → IsConnected c → (place : Place) (kind : Kind) →
+waits_here : {base : Kept} → {r s : ℕ → ℕ} {h : List Event} (c : List Event) (a : AreSameBy base r s h c) → IsConnected c → (place : Place) (kind : Kind) →
     MayFollow base h (Open place kind) → (k : ℕ) →
     IsConnectDue (c ++ Open (place_by r place) (kind_by r kind) ∷ []) k → (g : ℕ) × IsConnectDue (h ++ Open place kind ∷ []) g
-waits_here base r s h c a whole place (Sub g) next k d = (g, due_here same d) where
+waits_here {base} {r} {s} {h} c a whole place (Sub g) next k d = (g, due_here same d) where
   same : k ≡ r g
   same = kept_subscribed base c (place_by r place) (r g) a.numbers.other_law whole k d
 
@@ -261,18 +278,18 @@ waits_here base r s h c a whole place (Sub g) next k d = (g, due_here same d) wh
         subscribes = ap (λ (x : Option Event). option_map_or (is_subscriber_of g) x false) (slice_get_last h (Open place (Sub g))) ∙ eq-eqb g g refl;
         subscribed = is_open_new base h (Open place (Sub g)) next;
         waits = λ t ended. no_source t (source_ended_before base h (Open place (Sub g)) a.numbers.law (length h) t ended);
-        unconnected = still_unconnected base r s h c a place g (ap (open_connections (c ++ Open (place_by r place) (Sub (r g)) ∷ [])) (sym is) ∙ d.unconnected);
+        unconnected = still_unconnected r s h c a place g (ap (open_connections (c ++ Open (place_by r place) (Sub (r g)) ∷ [])) (sym is) ∙ d.unconnected);
       }
     where
       no_source : (t : Terminal) → (SourceEnded h (length h) t × (length h < length h)) ⊎ (ends_as (Open place (Sub g)) ≡ Some t) → ⊥
       no_source t (inl (x, l)) = absurd (omega arith)
       no_source t (inr ends) = none-some t ends
-waits_here base r s h c a whole place Leaf next k d = absurd (kept_unsubscribed base c (Open (place_by r place) Leaf) a.numbers.other_law whole refl refl k d)
-waits_here base r s h c a whole place Pass next k d = absurd (kept_unsubscribed base c (Open (place_by r place) Pass) a.numbers.other_law whole refl refl k d)
-waits_here base r s h c a whole place Flat next k d = absurd (kept_unsubscribed base c (Open (place_by r place) Flat) a.numbers.other_law whole refl refl k d)
-waits_here base r s h c a whole place Switch next k d =
+waits_here {base} {r} c a whole place Leaf next k d = absurd (kept_unsubscribed base c (Open (place_by r place) Leaf) a.numbers.other_law whole refl refl k d)
+waits_here {base} {r} c a whole place Pass next k d = absurd (kept_unsubscribed base c (Open (place_by r place) Pass) a.numbers.other_law whole refl refl k d)
+waits_here {base} {r} c a whole place Flat next k d = absurd (kept_unsubscribed base c (Open (place_by r place) Flat) a.numbers.other_law whole refl refl k d)
+waits_here {base} {r} c a whole place Switch next k d =
     absurd (kept_unsubscribed base c (Open (place_by r place) Switch) a.numbers.other_law whole refl refl k d)
-waits_here base r s h c a whole place Until next k d = absurd (kept_unsubscribed base c (Open (place_by r place) Until) a.numbers.other_law whole refl refl k d)
+waits_here {base} {r} c a whole place Until next k d = absurd (kept_unsubscribed base c (Open (place_by r place) Until) a.numbers.other_law whole refl refl k d)
 
 manual_made : (h : List Event) (g : ℕ) → at is_manual_hub h g ≡ true → slice_get h g ≡ Some (Hub Manual)
 manual_made h g = by_event (slice_get h g) where
@@ -305,7 +322,7 @@ module _ (base : Kept) (r s : ℕ → ℕ) (h c : List Event) (a : AreSameBy bas
   allowed_read settled settled_there (opened {place = place} {kind = kind} free hubbed few room) =
       opened (free_read base r s h c a place free) (hubbed_read base r s h c a place kind free hubbed)
       (let same = open_count_read base r s h c a in let l = few in omega arith)
-      (λ k d. let w = waits_here base r s h c a (settled_connected base c settled_there) place kind (allowed settled (opened free hubbed few room)) k d in
+      (λ k d. let w = waits_here c a (settled_connected base c settled_there) place kind (allowed settled (opened free hubbed few room)) k d in
       let l = room w.0 w.1 in
       let same = open_count_read base r s h c a in
       omega arith)

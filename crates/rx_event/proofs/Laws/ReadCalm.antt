@@ -49,10 +49,10 @@ module _ (base : Kept) (r s : ℕ → ℕ) (h c : List Event) (a : AreRenumbered
         by_case (inr ends) = absurd (calm.ends t ends)
 
 -- both ways
-renumbered_calm : (base : Kept) → {r s : ℕ → ℕ} {h c : List Event} → AreRenumbered base r s h c → (e x : Event) → IsCalm e → IsCalm x → MayFollow base h e →
+renumbered_calm : {base : Kept} → {r s : ℕ → ℕ} {h c : List Event} → AreRenumbered base r s h c → (e x : Event) → IsCalm e → IsCalm x → MayFollow base h e →
     MayFollow base c x →
     ((m : ℕ) → is_open h m ≡ true → marks_of base (c ++ x ∷ []) (r m) ≡ marks_of base (h ++ e ∷ []) m) → AreRenumbered base r s (h ++ e ∷ []) (c ++ x ∷ [])
-renumbered_calm base {r = r} {s = s} {h = h} {c = c} a e x calm also next other remembers = record {
+renumbered_calm {base} {r = r} {s = s} {h = h} {c = c} a e x calm also next other remembers = record {
   law = IsLawful-push base h e a.law next;
   other_law = IsLawful-push base c x a.other_law other;
   there = is_read_calm base r s h c a e x calm also remembers;
@@ -61,10 +61,11 @@ renumbered_calm base {r = r} {s = s} {h = h} {c = c} a e x calm also next other 
 }
 
 -- those that leave all marks
-renumbered_still : (base : Kept) → {r s : ℕ → ℕ} {h c : List Event} → AreRenumbered base r s h c → (e x : Event) → IsCalm e → IsCalm x → is_still e ≡ true →
+renumbered_still : {base : Kept} → {r s : ℕ → ℕ} {h c : List Event} → AreRenumbered base r s h c → {e : Event} (x : Event) → IsCalm e → IsCalm x →
+    is_still e ≡ true →
     is_still x ≡ true →
     MayFollow base h e → MayFollow base c x → AreRenumbered base r s (h ++ e ∷ []) (c ++ x ∷ [])
-renumbered_still base {r = r} {h = h} {c = c} a e x calm also still too next other = renumbered_calm base a e x calm also next other (λ m o.
+renumbered_still {base} {r = r} {h = h} {c = c} a {e} x calm also still too next other = renumbered_calm a e x calm also next other (λ m o.
     marks_kept base c x a.other_law other too (r m) (is_open_within c (r m) (a.there.alive m o)) ∙ a.there.marks m o ∙ sym (marks_kept base h e a.law next
     still m (is_open_within h m o)))
 
@@ -89,28 +90,28 @@ decline_calm f = record { node = refl; hub = refl; shuts = refl; ends = λ t sam
 pub renumbered_use : (base : Kept) → {r s : ℕ → ℕ} {h c : List Event} → AreRenumbered base r s h c → (q p : ℕ) → MayFollow base h (Use q) →
     MayFollow base c (Use p) →
     AreRenumbered base r s (h ++ Use q ∷ []) (c ++ Use p ∷ [])
-renumbered_use base a q p next other = renumbered_still base a (Use q) (Use p) (use_calm q) (use_calm p) refl refl next other
+renumbered_use base a q p next other = renumbered_still a (Use p) (use_calm q) (use_calm p) refl refl next other
 
 pub renumbered_remove : (base : Kept) → {r s : ℕ → ℕ} {h c : List Event} → AreRenumbered base r s h c → (q p : ℕ) → MayFollow base h (Remove q) →
     MayFollow base c (Remove p) →
     AreRenumbered base r s (h ++ Remove q ∷ []) (c ++ Remove p ∷ [])
-renumbered_remove base a q p next other = renumbered_still base a (Remove q) (Remove p) (remove_calm q) (remove_calm p) refl refl next other
+renumbered_remove base a q p next other = renumbered_still a (Remove p) (remove_calm q) (remove_calm p) refl refl next other
 
 pub renumbered_return : (base : Kept) → {r s : ℕ → ℕ} {h c : List Event} → AreRenumbered base r s h c → (l m : ℕ) → MayFollow base h (Return l) → MayFollow
     base c (Return m) →
     AreRenumbered base r s (h ++ Return l ∷ []) (c ++ Return m ∷ [])
-renumbered_return base a l m next other = renumbered_still base a (Return l) (Return m) (return_calm l) (return_calm m) refl refl next other
+renumbered_return base a l m next other = renumbered_still a (Return m) (return_calm l) (return_calm m) refl refl next other
 
 pub renumbered_take : (base : Kept) → {r s : ℕ → ℕ} {h c : List Event} → AreRenumbered base r s h c → (q p : ℕ) → MayFollow base h (Take q) →
     MayFollow base c (Take p) →
     AreRenumbered base r s (h ++ Take q ∷ []) (c ++ Take p ∷ [])
-renumbered_take base a q p next other = renumbered_still base a (Take q) (Take p) (take_calm q) (take_calm p) refl refl next other
+renumbered_take base a q p next other = renumbered_still a (Take p) (take_calm q) (take_calm p) refl refl next other
 
 pub renumbered_decline : (base : Kept) → {r s : ℕ → ℕ} {h c : List Event} → AreRenumbered base r s h c → (f : ℕ) → MayFollow base h (Decline f) →
     MayFollow base c (Decline (r f)) →
     AreRenumbered base r s (h ++ Decline f ∷ []) (c ++ Decline (r f) ∷ [])
 renumbered_decline base {r = r} {h = h} {c = c} a f next other =
-    renumbered_calm base a (Decline f) (Decline (r f)) (decline_calm f) (decline_calm (r f)) next other remembers
+    renumbered_calm a (Decline f) (Decline (r f)) (decline_calm f) (decline_calm (r f)) next other remembers
   where
     remembers : (m : ℕ) → is_open h m ≡ true → marks_of base (c ++ Decline (r f) ∷ []) (r m) ≡ marks_of base (h ++ Decline f ∷ []) m
     remembers m o = by_number (cases_Bool (f == m)) where
@@ -124,15 +125,15 @@ renumbered_decline base {r = r} {h = h} {c = c} a f next other =
       by_number (inr apart) =
           let still : is_open (h ++ Decline f ∷ []) m ≡ true = is_open_unchanged h (Decline f) refl refl m ∙ o in
           let also : is_open (c ++ Decline (r f) ∷ []) (r m) ≡ true = is_open_unchanged c (Decline (r f)) refl refl (r m) ∙ a.there.alive m o in
-          marks_untouched base c (Decline (r f)) a.other_law other (r m) (is_open_within c (r m) (a.there.alive m o)) also
+          marks_untouched c (Decline (r f)) a.other_law other (r m) (is_open_within c (r m) (a.there.alive m o)) also
           (apart_read base a.there f m (may_decline base next).0 o apart) ∙
-          a.there.marks m o ∙ sym (marks_untouched base h (Decline f) a.law next m (is_open_within h m o) still apart)
+          a.there.marks m o ∙ sym (marks_untouched h (Decline f) a.law next m (is_open_within h m o) still apart)
 
 pub renumbered_item : (base : Kept) → {r s : ℕ → ℕ} {h c : List Event} → AreRenumbered base r s h c → (l : ℕ) (v : ℤ) → MayFollow base h (Item l v) →
     MayFollow base c (Item (r l) v) →
     AreRenumbered base r s (h ++ Item l v ∷ []) (c ++ Item (r l) v ∷ [])
 renumbered_item base {r = r} {s = s} {h = h} {c = c} a l v next other =
-    renumbered_calm base a (Item l v) (Item (r l) v) (item_calm l v) (item_calm (r l) v) next other (λ m o.
+    renumbered_calm a (Item l v) (Item (r l) v) (item_calm l v) (item_calm (r l) v) next other (λ m o.
     marks-item_at base c (r l) v a.other_law other (r m) (is_open_within c (r m) (a.there.alive m o)) ∙
     (λ i. after_stops (r m) (stops_read base r s h c a l (may_emit base next) i) (a.there.marks m o i)) ∙
     after_stops_read base r s h c a m o (stops h l) (stops_open base h l a.law (may_emit base next)) (marks_of base h m) ∙

@@ -134,7 +134,7 @@ module _ (base : Kept) (r s : ℕ → ℕ) (h c : List Event) (shown : IsShownBu
     told = λ n node. shown.told n (at_before makes_node h (Take q) n refl node) ∙ sym (notes_take h q n);
     held = λ p made.
         let was : at makes_resource h p ≡ true = at_before makes_resource h (Take q) p refl made in
-        shown.held p was ∙ sym (is_held_kept base h (Take q) law p (at_within makes_resource h p was) refl refl refl refl);
+        shown.held p was ∙ sym (is_held_kept (Take q) law p (at_within makes_resource h p was) refl refl refl refl);
     owned = λ p made.
         let was : at makes_resource h p ≡ true = at_before makes_resource h (Take q) p refl made in
         shown.owned p was ∙ sym (is_owned_kept base h (Take q) law p (at_within makes_resource h p was) refl refl);
@@ -155,7 +155,7 @@ module _ (base : Kept) (r s : ℕ → ℕ) (h c : List Event) (shown : IsShownBu
     told = λ n node. notes_take c q (r n) ∙ shown.told n node;
     held = λ p made.
         let w = resource_made h p made in
-        is_held_kept base c (Take q) law (r p) (slice_get_within c (r p) _ (shown.kept p (Accept w.0 w.1) refl w.2)) refl refl refl refl ∙ shown.held p made;
+        is_held_kept (Take q) law (r p) (slice_get_within c (r p) _ (shown.kept p (Accept w.0 w.1) refl w.2)) refl refl refl refl ∙ shown.held p made;
     owned = λ p made.
         let w = resource_made h p made in
         is_owned_kept base c (Take q) law (r p) (slice_get_within c (r p) _ (shown.kept p (Accept w.0 w.1) refl w.2)) refl refl ∙ shown.owned p made;
@@ -232,10 +232,14 @@ held_back base r s k j b p held =
     (b.shown_back.held p made ∙ held, b.shown_back.apart p (made_at makes_resource is_named resource_named j p made))
 
 held_lists : (base : Kept) → (r s : ℕ → ℕ) (k j : List Event) (b : SameBut base r s k j) → held_resources j ≡ map r (held_resources k)
-held_lists base r s k j b = same_list r s (is_held k) (is_held j) (length k) (length j) (is_held_within k) (is_held_within j)
-    (λ p held. b.shown.held p (held_resource k p held) ∙ held) (held_back base r s k j b)
-    (λ m n held also l. b.shown.in_order m n (made_at makes_resource is_named resource_named k m (held_resource k m held))
-    (made_at makes_resource is_named resource_named k n (held_resource k n also)) l)
+held_lists base r s k j b = same_list r s (is_held k) (is_held j) (length k) (length j) (record {
+  within = is_held_within k;
+  within_there = is_held_within j;
+  there = λ p held. b.shown.held p (held_resource k p held) ∙ held;
+  back = held_back base r s k j b;
+  grows = λ m n held also l. b.shown.in_order m n (made_at makes_resource is_named resource_named k m (held_resource k m held))
+      (made_at makes_resource is_named resource_named k n (held_resource k n also)) l;
+})
 
 taken_totals : (base : Kept) → (r s : ℕ → ℕ) (k j : List Event) (b : SameBut base r s k j) → waiting_resources k ≡ [] → waiting_resources j ≡ [] →
     taken_count base j ≡ taken_count base k
@@ -286,10 +290,10 @@ but base shown = record {
 }
 
 -- Two drains, in whatever orders
-pub drained_same : (base : Kept) → (r s : ℕ → ℕ) (h c k j : List Event) → AreSameBy base r s h c → TakesOn base h k → waiting_resources k ≡ [] →
+pub drained_same : {base : Kept} → {r s : ℕ → ℕ} {h : List Event} (c k j : List Event) → AreSameBy base r s h c → TakesOn base h k → waiting_resources k ≡ [] →
     TakesOn base c j → waiting_resources j ≡ [] →
     AreSameBy base r s k j
-drained_same base r s h c k j a on_k none on_j none_there =
+drained_same {base} {r} {s} c k j a on_k none on_j none_there =
     record { numbers = b.numbers; shown = shown_again base r s k j b none none_there; shown_back = shown_again base s r j k (swapped base b) none_there none }
   where
     b : SameBut base r s k j

@@ -123,7 +123,7 @@ module _ (base : Kept) (r s : ℕ → ℕ) (h c : List Event) (law : IsLawful ba
   by_marks n t plain d =
       let o : is_open h n ≡ true = due_open base d in
       let made : (e : Event) × (slice_get h n ≡ Some e) = event_at h n (is_open_within h n o) in
-      let by = due_by_marks_alone base h law n made.0 t o made.1 (λ x. plain x.hub x.subscribes) d in
+      let by = due_by_marks_alone law o made.1 (λ x. plain x.hub x.subscribes) d in
       let terminal : terminal_due made.0 (marks_of base h n) ≡ Some t = ended_by n (terminal_due made.0 (marks_of base h n)) t by in
       terminal_due_due base c (r n) (event_by r made.0) t (there.alive n o) (there.made n made.0 o made.1)
       (terminal_due_by r made.0 (marks_of base c (r n)) ∙ ap (terminal_due made.0) (there.marks n o) ∙ terminal)

@@ -65,10 +65,10 @@ event_by_below base r q h (Connect g) same next node = ap Connect (same g (at_wi
 event_by_below base r q h _ same next node = absurd (false≢true node)
 
 -- and so does an event that stands in a lawful history
-place_below : (base : Kept) → (r q : ℕ → ℕ) (h : List Event) (n : ℕ) (p : Place) (kind : Kind) → Started base → ((k : ℕ) → k < length h → q k ≡ r k) →
+place_below : {base : Kept} → (r q : ℕ → ℕ) (h : List Event) (n : ℕ) {p : Place} {kind : Kind} → Started base → ((k : ℕ) → k < length h → q k ≡ r k) →
     n < length h →
     slice_get (shown base) n ≡ Some (Open p kind) → place_by q p ≡ place_by r p
-place_below base r q h n p kind started same l found = by_place p found where
+place_below {base} r q h n {p} {kind} started same l found = by_place p found where
   near : (m : ℕ) → is_open (take n (shown base)) m ≡ true → q m ≡ r m
   near m o =
       same m (let w = is_open_within (take n (shown base)) m o in
@@ -82,10 +82,10 @@ place_below base r q h n p kind started same l found = by_place p found where
   by_place (Inner m) at_n = ap Inner (near m (started.names n m _ at_n refl))
   by_place (Notifier m) at_n = ap Notifier (near m (started.names n m _ at_n refl))
 
-pub names_below : (base : Kept) → (r q : ℕ → ℕ) (h : List Event) (n : ℕ) (e : Event) → IsLawful base h → ((k : ℕ) → k < length h → q k ≡ r k) →
+pub names_below : {base : Kept} → (r q : ℕ → ℕ) {h : List Event} (n : ℕ) (e : Event) → IsLawful base h → ((k : ℕ) → k < length h → q k ≡ r k) →
     slice_get h n ≡ Some e → makes_node e ≡ true →
     event_by q e ≡ event_by r e
-names_below base r q h n e law same at_n node = by_case (found_at base h law n e at_n) where
+names_below {base} r q {h} n e law same at_n node = by_case (found_at base h law n e at_n) where
   l : n < length h
   l = slice_get_within h n e at_n
 
@@ -105,7 +105,7 @@ names_below base r q h n e law same at_n node = by_case (found_at base h law n e
   kind_below p (Sub g) found = ap Sub (hub_near g (slice_get_within (shown base) n _ found) (law.started.hubbed n p (Sub g) found).0)
 
   by_base : (x : Event) → slice_get (shown base) n ≡ Some x → makes_node x ≡ true → event_by q x ≡ event_by r x
-  by_base (Open p kind) found made = λ i. Open (place_below base r q h n p kind law.started same l found i) (kind_below p kind found i)
+  by_base (Open p kind) found made = λ i. Open (place_below r q h n law.started same l found i) (kind_below p kind found i)
   by_base (Connect g) found made = ap Connect (hub_near g (slice_get_within (shown base) n _ found) (law.started.connects n g found))
   by_base _ found made = absurd (false≢true made)
 
@@ -202,7 +202,7 @@ module _ (base : Kept) (r s : ℕ → ℕ) (h c : List Event) (a : AreRenumbered
           let old : slice_get h m ≡ Some y = sym (slice_get-append h (e ∷ []) m l) ∙ at_m in
           let node : makes_node y ≡ true = sym (ap (λ (x : Option Event). option_map_or makes_node x false) old) ∙ open_node h m was in
           ap (slice_get C) number ∙ slice_get-append c (event_by r e ∷ []) (r m) near ∙ a.there.made m y was old ∙
-          ap (λ (z : Event). Some z) (sym (names_below base r R h m y a.law (λ k j. number_old (length h) (length c) r k j) old node))
+          ap (λ (z : Event). Some z) (sym (names_below r R m y a.law (λ k j. number_old (length h) (length c) r k j) old node))
 
     marks_made : (m : ℕ) → is_open H m ≡ true → marks_of base C (R m) ≡ marks_of base H m
     marks_made m o = by_where (where_open m o) where

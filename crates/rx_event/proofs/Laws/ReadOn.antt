@@ -95,9 +95,9 @@ same_ended : (n m : ℕ) (t u : Terminal) → End n t ≡ End m u → (n ≡ m) 
 same_ended n m t u same = (cc, cc)
 
 -- an end that stands in the older history ended the source there
-source_older : (base : Kept) → (h : List Event) (e : Event) → IsLawful base h → (m : ℕ) (u : Terminal) → m < length h → (x : SourceEnded (h ++ e ∷ []) m u) →
+source_older : {base : Kept} → (h : List Event) (e : Event) → IsLawful base h → (m : ℕ) (u : Terminal) → m < length h → (x : SourceEnded (h ++ e ∷ []) m u) →
     slice_get h x.place ≡ Some (End x.connection u) → SourceEnded h m u
-source_older base h e law m u l x found =
+source_older {base} h e law m u l x found =
     let before : x.connection < x.place = ended_after base h law x.place x.connection u found in
     let within : x.place < length h = slice_get_within h x.place _ found in
     record {
@@ -142,16 +142,16 @@ module _ (base : Kept) (r s : ℕ → ℕ) (h c : List Event) (a : AreRenumbered
 
       by_child : (is_child_of h m n ≡ true) ⊎ (is_child_of h m n ≡ false) → marks_of base (c ++ End (r n) t ∷ []) (r m) ≡ marks_of base (h ++ End n t ∷ []) m
       by_child (inr apart) =
-          marks_untouched base c (End (r n) t) a.other_law other (r m) (is_open_within c (r m) (a.there.alive m was)) (alive_end m p)
+          marks_untouched c (End (r n) t) a.other_law other (r m) (is_open_within c (r m) (a.there.alive m was)) (alive_end m p)
           (not_child_read m was apart) ∙
-          a.there.marks m was ∙ sym (marks_untouched base h (End n t) a.law next m (is_open_within h m was) p apart)
+          a.there.marks m was ∙ sym (marks_untouched h (End n t) a.law next m (is_open_within h m was) p apart)
       by_child (inl child) =
           let below : parent h n ≡ Some m = is_child_parent h m n child in
           let made : (e : Event) × (slice_get h n ≡ Some e) = event_at h n (is_open_within h n o) in
           let above : (e : Event) × (slice_get h m ≡ Some e) = event_at h m (is_open_within h m was) in
-          let one = marks-end_at base h n m made.0 above.0 t a.law next below made.1 above.1 in
+          let one = marks-end_at a.law next below made.1 above.1 in
           let also =
-          marks-end_at base c (r n) (r m) (event_by r made.0) (event_by r above.0) t a.other_law other
+          marks-end_at a.other_law other
           (parent_read base r s h c a.law a.other_law a.there a.back n m o below) (a.there.made n made.0 o made.1)
           (a.there.made m above.0 was above.1) in
           also ∙
@@ -177,7 +177,7 @@ module _ (base : Kept) (r s : ℕ → ℕ) (h c : List Event) (a : AreRenumbered
 
       by_place : (slice_get h x.place ≡ Some (End x.connection u)) ⊎ (End n t ≡ End x.connection u) → SourceEnded (c ++ End (r n) t ∷ []) (r m) u
       by_place (inl found) =
-          source_ended-push base c (End (r n) t) (r m) u (a.there.ended m u p (source_older base h (End n t) a.law m u (is_open_within h m p) x found))
+          source_ended-push base c (End (r n) t) (r m) u (a.there.ended m u p (source_older h (End n t) a.law m u (is_open_within h m p) x found))
       by_place (inr same) = now (same_ended n x.connection t u same)
 
     pub is_read_end : IsRead base r s (h ++ End n t ∷ []) (c ++ End (r n) t ∷ [])

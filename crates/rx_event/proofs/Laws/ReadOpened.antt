@@ -19,6 +19,7 @@ use Rattle.rx_event.specs.Events.{makes_hub, makes_lease, is_merging, is_switch,
 use Rattle.rx_event.specs.Tree.{at, places, parent, ancestors, is_open, shuts, is_switched_inner}
 use Rattle.rx_event.specs.Marks.{marks_of, after_source, after_notifier, after_inner}
 use Rattle.rx_event.specs.Lawful.{MayFollow}
+use Rattle.rx_event.specs.Claims.Nodes.{IsOpenInner}
 use Rattle.rx_event.specs.Renumbered.{place_by, kind_by, event_by, IsRead, AreRenumbered}
 use Rattle.rx_event.proofs.Laws.Lists.{first_passes, filter_nonempty}
 use Rattle.rx_event.proofs.Laws.Parents.{ancestors_step, parent-lt}
@@ -72,11 +73,11 @@ pub record CarriesOn (base : Kept) (r : ℕ → ℕ) (h c : List Event) (e : Eve
       marks_of base (c ++ event_by r e ∷ []) (r m) ≡ marks_of base (h ++ e ∷ []) m
 
 -- so both have the new numbers
-renumbered_made : (base : Kept) → {r s : ℕ → ℕ} {h c : List Event} → AreRenumbered base r s h c → (e : Event) → makes e ≡ true → makes (event_by r e) ≡ true →
+renumbered_made : {base : Kept} → {r s : ℕ → ℕ} {h c : List Event} → AreRenumbered base r s h c → {e : Event} → makes e ≡ true → makes (event_by r e) ≡ true →
     MayFollow base h e →
     MayFollow base c (event_by r e) → event_by s (event_by r e) ≡ e → CarriesOn base r h c e → CarriesOn base s c h (event_by r e) →
     AreRenumbered base (with_number (length h) (length c) r) (with_number (length c) (length h) s) (h ++ e ∷ []) (c ++ event_by r e ∷ [])
-renumbered_made base {r = r} {s = s} {h = h} {c = c} a e made too next other same one also = record {
+renumbered_made {base} {r = r} {s = s} {h = h} {c = c} a {e} made too next other same one also = record {
   law = IsLawful-push base h e a.law next;
   other_law = IsLawful-push base c (event_by r e) a.other_law other;
   there = is_read_made base r s h c a e made next other one.still one.remembers;
@@ -101,7 +102,7 @@ pub renumbered_connect : (base : Kept) → {r s : ℕ → ℕ} {h c : List Event
     MayFollow base c (Connect (r g)) →
     AreRenumbered base (with_number (length h) (length c) r) (with_number (length c) (length h) s) (h ++ Connect g ∷ []) (c ++ Connect (r g) ∷ [])
 renumbered_connect base {r = r} {s = s} {h = h} {c = c} a g next other =
-    renumbered_made base a (Connect g) refl refl next other (event_undone base a.there (Connect g) refl refl next) (carries_connect base a g next other)
+    renumbered_made a refl refl next other (event_undone base a.there (Connect g) refl refl next) (carries_connect base a g next other)
     (carries_connect base (renumbered_back base a) (r g) other (subst (λ (x : Event). MayFollow base h x)
     (sym (event_undone base a.there (Connect g) refl refl next)) next))
 
@@ -116,7 +117,7 @@ carries_hub base {r = r} {h = h} {c = c} a mode next other = record {
 pub renumbered_hub : (base : Kept) → {r s : ℕ → ℕ} {h c : List Event} → AreRenumbered base r s h c → (mode : Mode) → MayFollow base h (Hub mode) →
     MayFollow base c (Hub mode) →
     AreRenumbered base (with_number (length h) (length c) r) (with_number (length c) (length h) s) (h ++ Hub mode ∷ []) (c ++ Hub mode ∷ [])
-renumbered_hub base a mode next other = renumbered_made base a (Hub mode) refl refl next other refl (carries_hub base a mode next other)
+renumbered_hub base a mode next other = renumbered_made a refl refl next other refl (carries_hub base a mode next other)
     (carries_hub base (renumbered_back base a) mode other next)
 
 carries_accept : (base : Kept) → {r s : ℕ → ℕ} {h c : List Event} → AreRenumbered base r s h c → (n tag : ℕ) → MayFollow base h (Accept n tag) →
@@ -134,7 +135,7 @@ pub renumbered_accept : (base : Kept) → {r s : ℕ → ℕ} {h c : List Event}
     MayFollow base c (Accept (r n) tag) →
     AreRenumbered base (with_number (length h) (length c) r) (with_number (length c) (length h) s) (h ++ Accept n tag ∷ []) (c ++ Accept (r n) tag ∷ [])
 renumbered_accept base {r = r} {s = s} {h = h} {c = c} a n tag next other =
-    renumbered_made base a (Accept n tag) refl refl next other (event_undone base a.there (Accept n tag) refl refl next)
+    renumbered_made a refl refl next other (event_undone base a.there (Accept n tag) refl refl next)
     (carries_accept base a n tag next other)
     (carries_accept base (renumbered_back base a) (r n) tag other (subst (λ (x : Event). MayFollow base h x)
     (sym (event_undone base a.there (Accept n tag) refl refl next)) next))
@@ -152,7 +153,7 @@ pub renumbered_lease : (base : Kept) → {r s : ℕ → ℕ} {h c : List Event} 
     c (Lease (r q)) → s (r q) ≡ q →
     AreRenumbered base (with_number (length h) (length c) r) (with_number (length c) (length h) s) (h ++ Lease q ∷ []) (c ++ Lease (r q) ∷ [])
 renumbered_lease base {r = r} {s = s} {h = h} {c = c} a q next other back =
-    renumbered_made base a (Lease q) refl refl next other (ap Lease back) (carries_lease base a q next other)
+    renumbered_made a refl refl next other (ap Lease back) (carries_lease base a q next other)
     (carries_lease base (renumbered_back base a) (r q) other (subst (λ (x : Event). MayFollow base h x) (sym (ap Lease back)) next))
 
 -- nodes ---------------------------------------------------------------------------------------------------------------------
@@ -197,9 +198,9 @@ carries_source base p kind r s h c a next other = record { still = still; rememb
         sym (marks-source_at base h p kind a.law next) ∙
         ap (marks_of base (h ++ Open (Source p) kind ∷ [])) is
     by_number (inr apart) =
-        marks_untouched base c (Open (Source (r p)) (kind_by r kind)) a.other_law other (r m) (is_open_within c (r m) (a.there.alive m was)) (still m was o)
+        marks_untouched c (Open (Source (r p)) (kind_by r kind)) a.other_law other (r m) (is_open_within c (r m) (a.there.alive m was)) (still m was o)
         (apart_read base a.there p m (may_name base next refl) was apart) ∙
-        a.there.marks m was ∙ sym (marks_untouched base h (Open (Source p) kind) a.law next m (is_open_within h m was) o apart)
+        a.there.marks m was ∙ sym (marks_untouched h (Open (Source p) kind) a.law next m (is_open_within h m was) o apart)
 
 carries_notifier : (base : Kept) → (p : ℕ) (kind : Kind) → Carries base (Notifier p) kind
 carries_notifier base p kind r s h c a next other = record { still = still; remembers = remembers } where
@@ -220,9 +221,9 @@ carries_notifier base p kind r s h c a next other = record { still = still; reme
         sym (marks-notifier_at base h p kind a.law next) ∙
         ap (marks_of base (h ++ Open (Notifier p) kind ∷ [])) is
     by_number (inr apart) =
-        marks_untouched base c (Open (Notifier (r p)) (kind_by r kind)) a.other_law other (r m) (is_open_within c (r m) (a.there.alive m was)) (still m was o)
+        marks_untouched c (Open (Notifier (r p)) (kind_by r kind)) a.other_law other (r m) (is_open_within c (r m) (a.there.alive m was)) (still m was o)
         (apart_read base a.there p m (may_name base next refl) was apart) ∙
-        a.there.marks m was ∙ sym (marks_untouched base h (Open (Notifier p) kind) a.law next m (is_open_within h m was) o apart)
+        a.there.marks m was ∙ sym (marks_untouched h (Open (Notifier p) kind) a.law next m (is_open_within h m was) o apart)
 
 -- an inner takes the same away --------------------------------------------------------------------------------------------
 
@@ -285,27 +286,28 @@ cut_cases h e n cuts =
 cut_above : (h : List Event) (e : Event) (n p : ℕ) → parent h n ≡ Some p → is_cut h e p ≡ true → is_cut h e n ≡ true
 cut_above h e n p below cuts = ap (list_any (λ a. shuts h a e)) (ancestors_step h n) ∙ rw below (or_right (shuts h n e) (is_cut h e p) cuts)
 
-cut_read : (base : Kept) → {r s : ℕ → ℕ} {h c : List Event} → AreRenumbered base r s h c → (f : ℕ) (kind other : Kind) → is_open h f ≡ true → (steps n : ℕ) →
-    n < steps → is_open h n ≡ true →
-    is_cut h (Open (Inner f) kind) n ≡ true → is_cut c (Open (Inner (r f)) other) (r n) ≡ true
-cut_read base a f kind other o zero n l p cuts = absurd (omega arith)
-cut_read base {r = r} {s = s} {h = h} {c = c} a f kind other o (suc steps) n l p cuts =
-    by_case (cut_cases h (Open (Inner f) kind) n cuts)
-    (λ q less op above. cut_read base a f kind other o steps q (let j = l in let i = less in omega arith) op above)
-  where
-    by_case : (shuts h n (Open (Inner f) kind) ≡ true) ⊎ ((q : ℕ) × (parent h n ≡ Some q) × (is_cut h (Open (Inner f) kind) q ≡ true)) →
-        ((q : ℕ) → q < n → is_open h q ≡ true → is_cut h (Open (Inner f) kind) q ≡ true → is_cut c (Open (Inner (r f)) other) (r q) ≡ true) →
-        is_cut c (Open (Inner (r f)) other) (r n) ≡ true
-    by_case (inl here) rest = self_cut c (Open (Inner (r f)) other) (r n) (switched_read base a.there f n o p here)
-    by_case (inr (q, below, above)) rest =
-        cut_above c (Open (Inner (r f)) other) (r n) (r q) (parent_read base r s h c a.law a.other_law a.there a.back n q p below)
-        (rest q (parent-lt h n q below) (parent_open h n q p below) above)
+-- what an inner takes away there, its like takes away here
+cut_read : {base : Kept} → {r s : ℕ → ℕ} {h c : List Event} → AreRenumbered base r s h c → (f : ℕ) (kind other : Kind) → is_open h f ≡ true → (n : ℕ) →
+    is_open h n ≡ true → is_cut h (Open (Inner f) kind) n ≡ true → is_cut c (Open (Inner (r f)) other) (r n) ≡ true
+cut_read {base} {r} {s} {h} {c} a f kind other o n alive cuts = climb (suc n) n (omega arith) alive cuts where
+  climb : (steps m : ℕ) → m < steps → is_open h m ≡ true → is_cut h (Open (Inner f) kind) m ≡ true → is_cut c (Open (Inner (r f)) other) (r m) ≡ true
+  climb zero m l p cuts = absurd (omega arith)
+  climb (suc steps) m l p cuts =
+      by_case (cut_cases h (Open (Inner f) kind) m cuts) (λ q less op above. climb steps q (let j = l in let i = less in omega arith) op above)
+    where
+      by_case : (shuts h m (Open (Inner f) kind) ≡ true) ⊎ ((q : ℕ) × (parent h m ≡ Some q) × (is_cut h (Open (Inner f) kind) q ≡ true)) →
+          ((q : ℕ) → q < m → is_open h q ≡ true → is_cut h (Open (Inner f) kind) q ≡ true → is_cut c (Open (Inner (r f)) other) (r q) ≡ true) →
+          is_cut c (Open (Inner (r f)) other) (r m) ≡ true
+      by_case (inl here) rest = self_cut c (Open (Inner (r f)) other) (r m) (switched_read base a.there f m o p here)
+      by_case (inr (q, below, above)) rest =
+          cut_above c (Open (Inner (r f)) other) (r m) (r q) (parent_read base r s h c a.law a.other_law a.there a.back m q p below)
+          (rest q (parent-lt h m q below) (parent_open h m q p below) above)
 
 -- which marks an inner leaves, by what it finds
 data FindsInner (h : List Event) (f : ℕ) : Type 0 where
   finds_flat : at is_switch h f ≡ false → FindsInner h f
   finds_none : at is_switch h f ≡ true → ((k : ℕ) → at (is_inner_of f) h k ≡ true → is_open h k ≡ false) → FindsInner h f
-  finds_one : (k : ℕ) → at is_switch h f ≡ true → at (is_inner_of f) h k ≡ true → is_open h k ≡ true → FindsInner h f
+  finds_one : {k : ℕ} → IsOpenInner h f k → FindsInner h f
 
 finds_inner : (h : List Event) (f : ℕ) → FindsInner h f
 finds_inner h f = by_switch (at is_switch h f) refl where
@@ -315,7 +317,7 @@ finds_inner h f = by_switch (at is_switch h f) refl where
   by_list : at is_switch h f ≡ true → (ks : List ℕ) → filter passes (places h) ≡ ks → FindsInner h f
   by_list switch (k ∷ ks) found =
       let parts = and_parts (at (is_inner_of f) h k) (is_open h k) (first_passes passes (places h) k ks found) in
-      finds_one k switch parts.0 parts.1
+      finds_one (record { switch = switch; inner = parts.0; alive = parts.1 })
   by_list switch [] none = finds_none switch (λ k inner. false_from_ne_true (is_open h k) (λ o.
       let l : k < length h = is_open_within h k o in
       filter_nonempty passes 0 (length h) k (omega arith) (omega arith) (and_from _ _ inner o) none))
@@ -342,7 +344,7 @@ carries_inner base f kind r s h c a next other = record { still = still; remembe
       is_open_cut c (Open (Inner (r f)) (kind_by r kind)) (r m) (is_open_within c (r m) (a.there.alive m was)) ∙
       and_from _ _ (a.there.alive m was) (ap not (false_from_ne_true (is_cut c (Open (Inner (r f)) (kind_by r kind)) (r m)) (λ cuts.
       let back : is_cut h (Open (Inner (s (r f))) kind) (s (r m)) ≡ true =
-      cut_read base (renumbered_back base a) (r f) (kind_by r kind) kind (a.there.alive f o) (suc (r m)) (r m) (omega arith) (a.there.alive m was) cuts in
+      cut_read (renumbered_back base a) (r f) (kind_by r kind) kind (a.there.alive f o) (r m) (a.there.alive m was) cuts in
       let here : is_cut h (Open (Inner f) kind) m ≡ true =
       (λ i. is_cut h (Open (Inner (sym (a.there.undone f o) i)) kind) (sym (a.there.undone m was) i)) ∙ back in
       both_ways (is_cut h (Open (Inner f) kind) m) (not_false (is_cut h (Open (Inner f) kind) m) parts.1) here)))
@@ -367,10 +369,15 @@ carries_inner base f kind r s h c a next other = record { still = still; remembe
       marks-inner_at_first base c (r f) (kind_by r kind) a.other_law other (none_there none) ∙
       ap (after_inner false) (a.there.marks f o) ∙
       sym (marks-inner_at_first base h f kind a.law next none)
-  at_parent (finds_one k switch inner alive) =
-      marks-inner_at_next base c (r f) (r k) (kind_by r kind) a.other_law other (at_read base a.there is_switch is_switch (switch_by r) f o switch)
-      (at_read base a.there (is_inner_of f) (is_inner_of (r f)) (inner_by r f) k alive inner) (a.there.alive k alive) ∙
-      ap (after_inner true) (a.there.marks f o) ∙ sym (marks-inner_at_next base h f k kind a.law next switch inner alive)
+  at_parent (finds_one {k} i) =
+      marks-inner_at_next a.other_law other inner_there ∙ ap (after_inner true) (a.there.marks f o) ∙ sym (marks-inner_at_next a.law next i)
+    where
+      inner_there : IsOpenInner c (r f) (r k)
+      inner_there = record {
+        switch = at_read base a.there is_switch is_switch (switch_by r) f o i.switch;
+        inner = at_read base a.there (is_inner_of f) (is_inner_of (r f)) (inner_by r f) k i.alive i.inner;
+        alive = a.there.alive k i.alive;
+      }
 
   remembers : (m : ℕ) → is_open h m ≡ true → is_open (h ++ Open (Inner f) kind ∷ []) m ≡ true →
       marks_of base (c ++ Open (Inner (r f)) (kind_by r kind) ∷ []) (r m) ≡ marks_of base (h ++ Open (Inner f) kind ∷ []) m
@@ -383,9 +390,9 @@ carries_inner base f kind r s h c a next other = record { still = still; remembe
         at_parent (finds_inner h f) ∙
         ap (marks_of base (h ++ Open (Inner f) kind ∷ [])) is
     by_number (inr apart) =
-        marks_untouched base c (Open (Inner (r f)) (kind_by r kind)) a.other_law other (r m) (is_open_within c (r m) (a.there.alive m was)) (still m was now)
+        marks_untouched c (Open (Inner (r f)) (kind_by r kind)) a.other_law other (r m) (is_open_within c (r m) (a.there.alive m was)) (still m was now)
         (apart_read base a.there f m o was apart) ∙
-        a.there.marks m was ∙ sym (marks_untouched base h (Open (Inner f) kind) a.law next m (is_open_within h m was) now apart)
+        a.there.marks m was ∙ sym (marks_untouched h (Open (Inner f) kind) a.law next m (is_open_within h m was) now apart)
 
 carries_at : (base : Kept) → (place : Place) (kind : Kind) → Carries base place kind
 carries_at base Root kind = carries_root base kind
@@ -399,7 +406,7 @@ pub renumbered_open : (base : Kept) → {r s : ℕ → ℕ} {h c : List Event} �
     AreRenumbered base (with_number (length h) (length c) r) (with_number (length c) (length h) s) (h ++ Open place kind ∷ [])
     (c ++ Open (place_by r place) (kind_by r kind) ∷ [])
 renumbered_open base {r = r} {s = s} {h = h} {c = c} a place kind next other =
-    renumbered_made base a (Open place kind) refl refl next other (event_undone base a.there (Open place kind) refl refl next)
+    renumbered_made a refl refl next other (event_undone base a.there (Open place kind) refl refl next)
     (carries_at base place kind r s h c a next other)
     (carries_at base (place_by r place) (kind_by r kind) s r c h (renumbered_back base a) other
     (subst (λ (x : Event). MayFollow base h x) (sym (event_undone base a.there (Open place kind) refl refl next)) next))

@@ -75,9 +75,9 @@ children_same base r s h c a n o = same_test (has_open_child c (r n)) (has_open_
     (λ found. ap (has_open_child h) (sym (a.numbers.there.undone n o)) ∙
     children_there base s r c h (same_back base a) (r n) (a.numbers.there.alive n o) found) (children_there base r s h c a n o)
 
-ordered_back : (base : Kept) → (r s : ℕ → ℕ) (h c : List Event) (a : AreSameBy base r s h c) (g p : ℕ) → at makes_hub h g ≡ true → is_open h p ≡ true →
+ordered_back : {base : Kept} {r s : ℕ → ℕ} {h c : List Event} → AreSameBy base r s h c → (g p : ℕ) → at makes_hub h g ≡ true → is_open h p ≡ true →
     IsInOrderAt c (r g) (r p) → IsInOrderAt h g p
-ordered_back base r s h c a g p hub o ordered =
+ordered_back {base} {r} {s} {h} {c} a g p hub o ordered =
     subst (λ (i : ℕ). IsInOrderAt h i p) (undone_hub base r s h c a g hub)
     (subst (λ (n : ℕ). IsInOrderAt h (s (r g)) n) (a.numbers.there.undone p o)
     (in_order_read base s r c h (same_back base a) (r g) (r p) (hub_read base r s h c a g hub) (a.numbers.there.alive p o) ordered))
@@ -103,7 +103,7 @@ callers_see base r s h c a = record {
   connections = λ g hub. connections_read base r s h c a g (undone_hub base r s h c a g hub);
   subscribers = λ g hub. subscribers_read base r s h c a.numbers g (undone_hub base r s h c a g hub);
   ordered = in_order_read base r s h c a;
-  ordered_back = ordered_back base r s h c a;
+  ordered_back = ordered_back a;
   owned = a.shown.owned;
   leases = a.shown.leases;
   out = a.shown.out;

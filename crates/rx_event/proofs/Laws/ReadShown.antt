@@ -120,18 +120,18 @@ named_by_below base r q h (Lease m) same next named = ap Lease (same m (at_withi
 named_by_below base r q h _ same next named = absurd (false≢true named)
 
 -- and so does an event that stands in a lawful history
-stands_below : (base : Kept) → (r q : ℕ → ℕ) (h : List Event) (n : ℕ) (e : Event) → IsLawful base h → ((k : ℕ) → k < length h → q k ≡ r k) →
+stands_below : {base : Kept} → (r q : ℕ → ℕ) {h : List Event} (n : ℕ) (e : Event) → IsLawful base h → ((k : ℕ) → k < length h → q k ≡ r k) →
     slice_get h n ≡ Some e → is_named e ≡ true →
     event_by q e ≡ event_by r e
-stands_below base r q h n (Open place kind) law same at_n named = names_below base r q h n (Open place kind) law same at_n refl
-stands_below base r q h n (Connect g) law same at_n named = names_below base r q h n (Connect g) law same at_n refl
-stands_below base r q h n (Hub mode) law same at_n named = refl
-stands_below base r q h n (Accept m tag) law same at_n named =
+stands_below r q n (Open place kind) law same at_n named = names_below r q n (Open place kind) law same at_n refl
+stands_below r q n (Connect g) law same at_n named = names_below r q n (Connect g) law same at_n refl
+stands_below r q n (Hub mode) law same at_n named = refl
+stands_below {base} r q {h} n (Accept m tag) law same at_n named =
     ap (λ k. Accept k tag)
     (same m (let w = node_of-lt base h law n m (ap (option_and_then node_of_accept) at_n) in let l = slice_get_within h n _ at_n in omega arith))
-stands_below base r q h n (Lease m) law same at_n named =
+stands_below {base} r q {h} n (Lease m) law same at_n named =
     ap Lease (same m (let w = lease_older base h law n m at_n in let l = slice_get_within h n _ at_n in omega arith))
-stands_below base r q h n _ law same at_n named = absurd (false≢true named)
+stands_below r q n _ law same at_n named = absurd (false≢true named)
 
 module _ (base : Kept) (r s : ℕ → ℕ) (h c : List Event) (a : AreRenumbered base r s h c) (sh : IsShown base r s h c) where
   -- numbers of what is named are apart
@@ -246,7 +246,7 @@ module _ (base : Kept) (r s q t : ℕ → ℕ) (h c : List Event) (e : Event) (a
       let l : n < length h = slice_get_within h n y at_n in
       let was : slice_get c (r n) ≡ Some (event_by r y) = sh.kept n y named at_n in
       ap (slice_get C) (older n l) ∙ slice_get-append c (event_by r e ∷ []) (r n) (slice_get_within c (r n) _ was) ∙ was ∙
-      ap (λ (z : Event). Some z) (sym (stands_below base r q h n y a.law older at_n named))
+      ap (λ (z : Event). Some z) (sym (stands_below r q n y a.law older at_n named))
 
   kept_on : (n : ℕ) (y : Event) → is_named y ≡ true → slice_get H n ≡ Some y → slice_get C (q n) ≡ Some (event_by q y)
   kept_on n y named at_n = by_place (cases_order n (length h)) where

@@ -35,7 +35,7 @@ single base {r = r} {h = h} {c = c} a e k j one other =
     let next = lawful_last base h e long (lawful_begun base one.forced (omega (arith, length-append h (e ∷ []))) one.lawful) in
     let also =
     lawful_last base c (event_by r e) long_there (lawful_begun base other.forced (omega (arith, length-append c (event_by r e ∷ []))) other.lawful) in
-    courses_since base r h c (h ++ e ∷ []) (c ++ event_by r e ∷ []) k j (goes_one_on base (goes_nowhere base a) e next also) one.forced one.settled
+    courses_since k j (goes_one_on base (goes_nowhere base a) e next also) one.forced one.settled
     other.forced other.settled other.lawful
 
 -- a node with its resource
@@ -43,8 +43,7 @@ using : (base : Kept) → {r s : ℕ → ℕ} {h c : List Event} → AreSameBy b
     IsStep base h (Open place Pass ∷ Accept (length h) tag ∷ []) k →
     IsStep base c (Open (place_by r place) Pass ∷ Accept (length c) tag ∷ []) j → AreSameSince base r h c k j
 using base {r = r} {s = s} {h = h} {c = c} a place tag k j one other =
-    courses_since base r h c ((h ++ Open place Pass ∷ []) ++ Accept (length h) tag ∷ [])
-    ((c ++ Open (place_by r place) Pass ∷ []) ++ Accept (length c) tag ∷ []) k j
+    courses_since k j
     (subst (λ (m : ℕ). GoesAlike base r h c ((h ++ Open place Pass ∷ []) ++ Accept (length h) tag ∷ [])
     ((c ++ Open (place_by r place) Pass ∷ []) ++ Accept m tag ∷ [])) number
     (goes_one_on base opened (Accept (length h) tag) (lawful_last base (h ++ Open place Pass ∷ []) (Accept (length h) tag) longer law)
@@ -97,10 +96,14 @@ pub connections_read : (base : Kept) → (r s : ℕ → ℕ) (h c : List Event) 
     open_connections c (r g) ≡ map r (open_connections h g)
 connections_read base r s h c a g undone =
     same_list r s (λ n. at (is_connect_of g) h n && is_open h n) (λ n. at (is_connect_of (r g)) c n && is_open c n) (length h) (length c)
-    (λ n holds. is_open_within h n (and_parts (at (is_connect_of g) h n) (is_open h n) holds).1)
-    (λ n holds. is_open_within c n (and_parts (at (is_connect_of (r g)) c n) (is_open c n) holds).1)
-    there back (λ m n holds also l. a.numbers.there.order m n (and_parts (at (is_connect_of g) h m) (is_open h m) holds).1
-    (and_parts (at (is_connect_of g) h n) (is_open h n) also).1 l)
+    (record {
+      within = λ n holds. is_open_within h n (and_parts (at (is_connect_of g) h n) (is_open h n) holds).1;
+      within_there = λ n holds. is_open_within c n (and_parts (at (is_connect_of (r g)) c n) (is_open c n) holds).1;
+      there = there;
+      back = back;
+      grows = λ m n holds also l. a.numbers.there.order m n (and_parts (at (is_connect_of g) h m) (is_open h m) holds).1
+          (and_parts (at (is_connect_of g) h n) (is_open h n) also).1 l;
+    })
   where
     there : (n : ℕ) → (at (is_connect_of g) h n && is_open h n) ≡ true → (at (is_connect_of (r g)) c (r n) && is_open c (r n)) ≡ true
     there n holds =
@@ -127,28 +130,28 @@ disconnecting base {r = r} {s = s} {h = h} {c = c} a g hub k j one other =
     by_list : (ns : List ℕ) → length ns ≤ 1 → IsStep base h (map (λ n. Close n) ns) k → IsStep base c (map (λ n. Close n) (map r ns)) j →
         AreSameSince base r h c k j
     by_list [] few one other =
-        courses_same base r s h c k j a (subst (λ (q : List Event). IsForcedOn base q k) (append-nil h) one.forced) one.settled
+        courses_same a (subst (λ (q : List Event). IsForcedOn base q k) (append-nil h) one.forced) one.settled
         (subst (λ (q : List Event). IsForcedOn base q j) (append-nil c) other.forced) other.settled other.lawful
     by_list (n ∷ []) few one other = single base a (Close n) k j one other
     by_list (n ∷ m ∷ ns) few one other = absurd (omega arith)
 
 -- One step after another stays the same but for numbers
-pub steps_same : (base : Kept) → (r s : ℕ → ℕ) (h c k j : List Event) (call : Call) → AreSameBy base r s h c → IsKnown h call → IsStepOf base h call k →
+pub steps_same : {base : Kept} {r s : ℕ → ℕ} {h c k j : List Event} (call : Call) → AreSameBy base r s h c → IsKnown h call → IsStepOf base h call k →
     IsStepOf base c (call_by r call) j → AreSameSince base r h c k j
-steps_same base r s h c k j (Opening place kind) a known one other = single base a (Open place kind) k j one other
-steps_same base r s h c k j (OpeningUsing place tag) a known one other = using base a place tag k j one other
-steps_same base r s h c k j (Holding n tag) a known one other = single base a (Accept n tag) k j one other
-steps_same base r s h c k j (Applying q) a known one other = single base a (Use q) k j one other
-steps_same base r s h c k j (Removing q) a known one other = single base a (Remove q) k j one other
-steps_same base r s h c k j (Leasing q) a known one other = single base a (Lease q) k j one other
-steps_same base r s h c k j (GivingBack l) a known one other = single base a (Return l) k j one other
-steps_same base r s h c k j (Emitting l v) a known one other = single base a (Item l v) k j one other
-steps_same base r s h c k j (Ending l t) a known one other = single base a (End l t) k j one other
-steps_same base r s h c k j (Aborting n code) a known one other = single base a (End n (Error code)) k j one other
-steps_same base r s h c k j (Declining f) a known one other = single base a (Decline f) k j one other
-steps_same base r s h c k j (Failing f code) a known one other = single base a (End f (Error code)) k j one other
-steps_same base r s h c k j (Disposing n) a known one other = single base a (Close n) k j one other
-steps_same base r s h c k j (Publishing mode) a known one other = single base a (Hub mode) k j one other
-steps_same base r s h c k j (Connecting g) a known one other = single base a (Connect g) k j one other
-steps_same base r s h c k j (Disconnecting g) a known one other = disconnecting base a g known k j one other
-steps_same base r s h c k j (Taking q) a known one other = single base a (Take q) k j one other
+steps_same {base} {k = k} {j = j} (Opening place kind) a known one other = single base a (Open place kind) k j one other
+steps_same {base} {k = k} {j = j} (OpeningUsing place tag) a known one other = using base a place tag k j one other
+steps_same {base} {k = k} {j = j} (Holding n tag) a known one other = single base a (Accept n tag) k j one other
+steps_same {base} {k = k} {j = j} (Applying q) a known one other = single base a (Use q) k j one other
+steps_same {base} {k = k} {j = j} (Removing q) a known one other = single base a (Remove q) k j one other
+steps_same {base} {k = k} {j = j} (Leasing q) a known one other = single base a (Lease q) k j one other
+steps_same {base} {k = k} {j = j} (GivingBack l) a known one other = single base a (Return l) k j one other
+steps_same {base} {k = k} {j = j} (Emitting l v) a known one other = single base a (Item l v) k j one other
+steps_same {base} {k = k} {j = j} (Ending l t) a known one other = single base a (End l t) k j one other
+steps_same {base} {k = k} {j = j} (Aborting n code) a known one other = single base a (End n (Error code)) k j one other
+steps_same {base} {k = k} {j = j} (Declining f) a known one other = single base a (Decline f) k j one other
+steps_same {base} {k = k} {j = j} (Failing f code) a known one other = single base a (End f (Error code)) k j one other
+steps_same {base} {k = k} {j = j} (Disposing n) a known one other = single base a (Close n) k j one other
+steps_same {base} {k = k} {j = j} (Publishing mode) a known one other = single base a (Hub mode) k j one other
+steps_same {base} {k = k} {j = j} (Connecting g) a known one other = single base a (Connect g) k j one other
+steps_same {base} {k = k} {j = j} (Disconnecting g) a known one other = disconnecting base a g known k j one other
+steps_same {base} {k = k} {j = j} (Taking q) a known one other = single base a (Take q) k j one other

@@ -305,10 +305,10 @@ shown_alike base {r = r} {s = s} shown alike = record {
 }
 
 -- Two courses of what is forced, after two histories that are the same but for numbers, come to the same but for numbers
-pub courses_since : (base : Kept) → (r : ℕ → ℕ) (h c b d k j : List Event) → GoesAlike base r h c b d → IsForcedOn base b k → IsSettled base k →
+pub courses_since : {base : Kept} → {r : ℕ → ℕ} {h c b d : List Event} (k j : List Event) → GoesAlike base r h c b d → IsForcedOn base b k → IsSettled base k →
     IsForcedOn base d j → IsSettled base j → IsLawful base j →
     AreSameSince base r h c k j
-courses_since base r h c b d k j start on_k settled_k on_j settled_j law = record {
+courses_since {base} {r} {h} {c} {d} k j start on_k settled_k on_j settled_j law = record {
   reads = since.reads;
   reads_back = since.reads_back;
   same = record {
@@ -334,15 +334,14 @@ courses_since base r h c b d k j start on_k settled_k on_j settled_j law = recor
   settled_last = settled_read base since.same.numbers settled_k
 
   one : AreAlike base w.last j
-  one = courses_alike base d w.last j start.since.same.numbers.other_law w.course settled_last on_j settled_j
+  one = courses_alike start.since.same.numbers.other_law w.course settled_last on_j settled_j
 
   other : AreAlike base j w.last
-  other = courses_alike base d j w.last start.since.same.numbers.other_law on_j settled_j w.course settled_last
+  other = courses_alike start.since.same.numbers.other_law on_j settled_j w.course settled_last
 
-pub courses_same : (base : Kept) → (r s : ℕ → ℕ) (h c k j : List Event) → AreSameBy base r s h c → IsForcedOn base h k → IsSettled base k →
-    IsForcedOn base c j → IsSettled base j → IsLawful base j →
-    AreSameSince base r h c k j
-courses_same base r s h c k j a on_k settled_k on_j settled_j law = courses_since base r h c h c k j (goes_nowhere base a) on_k settled_k on_j settled_j law
+pub courses_same : {base : Kept} {r s : ℕ → ℕ} {h c k j : List Event} → AreSameBy base r s h c → IsForcedOn base h k → IsSettled base k →
+    IsForcedOn base c j → IsSettled base j → IsLawful base j → AreSameSince base r h c k j
+courses_same {base} {k = k} {j = j} a on_k settled_k on_j settled_j law = courses_since k j (goes_nowhere base a) on_k settled_k on_j settled_j law
 
 -- the beginning ------------------------------------------------------------------------------------------------------------------------
 

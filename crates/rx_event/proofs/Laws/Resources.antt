@@ -210,9 +210,9 @@ pub is_held_last : (base : Kept) → (h : List Event) (e : Event) → IsLawful b
 is_held_last base h e law = held_is (h ++ e ∷ []) (length h) ∙ (λ i. is_owned_last base h e law i || is_leased_last base h e law i) ∙ or_false _
 
 -- an event that shuts no node leaves what it neither removes, leases nor returns
-pub is_held_kept : (base : Kept) → (h : List Event) (e : Event) → IsLawful base h → (r : ℕ) → r < length h → shuts_none e ≡ true → is_remove_of r e ≡ false →
+pub is_held_kept : {base : Kept} → {h : List Event} (e : Event) → IsLawful base h → (r : ℕ) → r < length h → shuts_none e ≡ true → is_remove_of r e ≡ false →
     is_return e ≡ false → is_lease_of r e ≡ false → is_held (h ++ e ∷ []) r ≡ is_held h r
-is_held_kept base h e law r l s keeps none unleased =
+is_held_kept {base} {h} e law r l s keeps none unleased =
     held_is (h ++ e ∷ []) r ∙ (λ i. is_owned_kept base h e law r l s keeps i || is_leased_kept base h e law r l none unleased i) ∙ sym (held_is h r)
 
 -- an older resource that is held was held, if a lease of it is one of what was owned
@@ -241,10 +241,10 @@ leased_stays base h e law r none leased =
     e law none r in omega arith)
 
 -- after a return just that resource is leased no more of which it was the last lease
-pub is_leased-return : (base : Kept) → (h : List Event) (l q : ℕ) → IsLawful base h → MayFollow base h (Return l) → slice_get h l ≡ Some (Lease q) → (r : ℕ)
+pub is_leased-return : {base : Kept} → (h : List Event) (l q : ℕ) → IsLawful base h → MayFollow base h (Return l) → slice_get h l ≡ Some (Lease q) → (r : ℕ)
     → r < length h →
     is_leased (h ++ Return l ∷ []) r ≡ (is_leased h r && not (q == r && leases_of h r == 1))
-is_leased-return base h l q law next at_l r less =
+is_leased-return {base} h l q law next at_l r less =
     ap (λ a. a && nat_lt 0 (leases_of (h ++ Return l ∷ []) r)) (at-append makes_resource h (Return l ∷ []) r less) ∙
     ap (λ b. at makes_resource h r && b) (by_number (q == r) (leases_of-return base h l q law next at_l r)) ∙
     and_again (at makes_resource h r) (nat_lt 0 (leases_of h r)) (not (q == r && leases_of h r == 1))
@@ -398,9 +398,9 @@ pub is_waiting-unheld : (base : Kept) → (h : List Event) (e : Event) → IsLaw
 is_waiting-unheld base h e law next r l = waiting-held base h e law r l (lease_owned base h e next r)
 
 -- so where nothing is leased or returned: what was owned and has no lease out, where its node loses it
-is_waiting-loses : (base : Kept) → (h : List Event) (e : Event) → IsLawful base h → (r : ℕ) → r < length h → is_return e ≡ false → is_lease_of r e ≡ false →
+is_waiting-loses : {base : Kept} → (h : List Event) (e : Event) → IsLawful base h → (r : ℕ) → r < length h → is_return e ≡ false → is_lease_of r e ≡ false →
     is_take_of r e ≡ false → is_waiting (h ++ e ∷ []) r ≡ (is_waiting h r || (is_owned h r && loses h e r && not (is_leased h r)))
-is_waiting-loses base h e law r l none unleased leaves =
+is_waiting-loses {base} h e law r l none unleased leaves =
     waiting-held base h e law r l (λ leases. absurd (both_ways _ unleased leases)) ∙
     (λ i. (is_waiting h r || (held_is h r i && not (after i))) && not (leaves i)) ∙ shape (is_waiting h r) (is_owned h r) (loses h e r) (is_leased h r)
   where
@@ -420,14 +420,14 @@ is_waiting-loses base h e law r l none unleased leaves =
 pub is_waiting-end : (base : Kept) → (h : List Event) (c : ℕ) (t : Terminal) → IsLawful base h → (r n : ℕ) → node_of h r ≡ Some n →
     is_waiting (h ++ End c t ∷ []) r ≡ (is_waiting h r || (is_owned h r && is_within h c n && not (is_leased h r)))
 is_waiting-end base h c t law r n at_r =
-    is_waiting-loses base h (End c t) law r (node_of_within h r n at_r) refl refl refl ∙
+    is_waiting-loses h (End c t) law r (node_of_within h r n at_r) refl refl refl ∙
     ap (λ k. is_waiting h r || (is_owned h r && k && not (is_leased h r))) (ap (λ o. option_map_or (is_cut h (End c t)) o false || false) at_r ∙ or_false
     (is_within h c n))
 
 pub is_waiting-close : (base : Kept) → (h : List Event) (c : ℕ) → IsLawful base h → (r n : ℕ) → node_of h r ≡ Some n →
     is_waiting (h ++ Close c ∷ []) r ≡ (is_waiting h r || (is_owned h r && is_within h c n && not (is_leased h r)))
 is_waiting-close base h c law r n at_r =
-    is_waiting-loses base h (Close c) law r (node_of_within h r n at_r) refl refl refl ∙
+    is_waiting-loses h (Close c) law r (node_of_within h r n at_r) refl refl refl ∙
     ap (λ k. is_waiting h r || (is_owned h r && k && not (is_leased h r))) (ap (λ o. option_map_or (is_cut h (Close c)) o false || false) at_r ∙ or_false
     (is_within h c n))
 
@@ -448,7 +448,7 @@ is_waiting_new base h e law next = is_waiting_last base h e law ∙ by_event e n
 pub is_waiting-remove : (base : Kept) → (h : List Event) (q : ℕ) → IsLawful base h → (r : ℕ) → r < length h →
     is_waiting (h ++ Remove q ∷ []) r ≡ (is_waiting h r || (is_owned h r && q == r && not (is_leased h r)))
 is_waiting-remove base h q law r l =
-    is_waiting-loses base h (Remove q) law r l refl refl refl ∙
+    is_waiting-loses h (Remove q) law r l refl refl refl ∙
     ap (λ k. is_waiting h r || (is_owned h r && k && not (is_leased h r))) (ap (λ c. c || q == r) (cut_none (node_of h r)))
   where
     cut_none : (o : Option ℕ) → option_map_or (is_cut h (Remove q)) o false ≡ false
@@ -486,7 +486,7 @@ is_waiting-return base h l q law next at_l r = by_place (cases_order r (length h
       (is_waiting h r || (q == r && not (is_owned h r) && leases_of h r == 1))
   by_place (inr (inl less)) =
       is_waiting-unheld base h (Return l) law next r less ∙
-      (λ i. (is_waiting h r || (held_is h r i && not ((held_is (h ++ Return l ∷ []) r ∙ (λ j. owned_return base h l law r less j || is_leased-return base h
+      (λ i. (is_waiting h r || (held_is h r i && not ((held_is (h ++ Return l ∷ []) r ∙ (λ j. owned_return base h l law r less j || is_leased-return h
       l q law next at_l r less j)) i))) && true) ∙
       shape (is_waiting h r) (is_owned h r) (is_leased h r) (q == r) (leases_of h r == 1) leased
   by_place (inl same) = ap (is_waiting (h ++ Return l ∷ [])) same ∙ is_waiting_last base h (Return l) law ∙ sym (beyond (omega arith))

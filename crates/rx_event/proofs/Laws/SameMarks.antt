@@ -100,11 +100,18 @@ module _ (base : Kept) (b k j : List Event) (law : IsLawful base b) (whole : IsC
         (λ c l. ap (λ a. a && option_map_or (λ q. q == n) (parent j c) false) (is_open_past j c l))
 
   -- what completed in one completed in the other
-  completed_in : (p q : List Event) → IsDueOn base b p → IsSettled base p → IsDueOn base b q → IsSettled base q → (n : ℕ) → is_open q n ≡ true →
+  completed_in : {p : List Event} (q : List Event) → IsDueOn base b p → IsSettled base p → IsDueOn base b q → IsSettled base q → (n : ℕ) → is_open q n ≡ true →
       source_completed base p n ≡ true →
       source_completed base q n ≡ true
-  completed_in p q on_p settled_p on_q settled_q n o found =
-      completed_in_k base b p q law whole on_p on_q settled_q (spared base on_p q law whole on_q settled_q) n o found
+  completed_in {p} q on_p settled_p on_q settled_q n o found =
+      completed_in_k (record {
+        law = law;
+        whole = whole;
+        on_p = on_p;
+        on_k = on_q;
+        settled = settled_q;
+        spares = spared on_p q law whole on_q settled_q;
+      }) n o found
 
   any_both : (q : Event → Bool) → Fails q → list_any q k ≡ list_any q j
   any_both q fails = any_on base q fails on_k ∙ sym (any_on base q fails on_j)
@@ -117,8 +124,8 @@ module _ (base : Kept) (b k j : List Event) (law : IsLawful base b) (whole : IsC
       (ap (λ x. option_map_or (λ r. r.notifier_opened) (node_kept base n) false || x)
       (any_both (is_notifier_of n) (record { at_end = λ c t. refl; at_close = λ c. refl })))
       (fired_on base on_k n ∙ sym (fired_on base on_j n))
-      (same_test (source_completed base k n) (source_completed base j n) (completed_in k j on_k settled_k on_j settled_j n also)
-      (completed_in j k on_j settled_j on_k settled_k n o))
+      (same_test (source_completed base k n) (source_completed base j n) (completed_in j on_k settled_k on_j settled_j n also)
+      (completed_in k on_j settled_j on_k settled_k n o))
       (settled_no_terminal base k (lawful_on base on_k law whole) settled_k n o ∙
       sym (settled_no_terminal base j (lawful_on base on_j law whole) settled_j n also))
       (owed_on base on_k n ∙ sym (owed_on base on_j n))

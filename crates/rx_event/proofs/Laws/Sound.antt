@@ -145,8 +145,6 @@ sound_of b h law =
       below = named_below b h law;
       stands = stands_of b h law;
       subscribes = subscribes_of b h law;
-      one_inner =
-          λ f x y two. one_inner b h law f x y
-          (record { switch = two.switch; one = two.one; one_open = two.one_open; other = two.other; other_open = two.other_open });
+      one_inner = one_inner b h law;
       accepted = reads_owned b h law;
     }

@@ -9,6 +9,7 @@ use Rattle.rx_event.specs.Resources.{is_owned, accepted_by}
 use Rattle.rx_event.specs.Allowed.{IsHubbed}
 use Rattle.rx_event.specs.Kept.{Kept}
 
+-- two open inners of one Switch
 pub record TwoOpenInners (h : List Event) (f a b : ℕ) : Type 0 where
   pub switch : IsTrue (at is_switch h f)
   pub one : IsTrue (at (is_inner_of f) h a)

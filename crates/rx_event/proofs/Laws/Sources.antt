@@ -24,8 +24,8 @@ at_any p (x ∷ h) zero passes = ap (λ b. b || list_any p h) passes
 at_any p (x ∷ h) (suc n) passes = or_right (p x) (list_any p h) (at_any p h n passes)
 
 -- a second one is not opened
-no_later : (base : Kept) → (h : List Event) → IsLawful base h → (f a b : ℕ) → a < b → at (is_source_of f) h a ≡ true → at (is_source_of f) h b ≡ true → ⊥
-no_later base h law f a b l one other = by_event (slice_get h b) refl other where
+no_later : {base : Kept} → (h : List Event) → IsLawful base h → (f a b : ℕ) → a < b → at (is_source_of f) h a ≡ true → at (is_source_of f) h b ≡ true → ⊥
+no_later {base} h law f a b l one other = by_event (slice_get h b) refl other where
   before : at (is_source_of f) (take b h) a ≡ true
   before = at-take (is_source_of f) h b a l (at_within (is_source_of f) h b other) ∙ one
 
@@ -53,5 +53,5 @@ pub one_source : (base : Kept) → (h : List Event) → IsLawful base h → (f a
 one_source base h law f a b one other = by_order (cases_order a b) where
   by_order : (a ≡ b) ⊎ ((a < b) ⊎ (b < a)) → a ≡ b
   by_order (inl same) = same
-  by_order (inr (inl l)) = absurd (no_later base h law f a b l one other)
-  by_order (inr (inr l)) = absurd (no_later base h law f b a l other one)
+  by_order (inr (inl l)) = absurd (no_later h law f a b l one other)
+  by_order (inr (inr l)) = absurd (no_later h law f b a l other one)

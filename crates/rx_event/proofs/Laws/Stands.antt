@@ -81,21 +81,19 @@ pub connection_parent : (h : List Event) (c g : ℕ) → slice_get h c ≡ Some 
 unfolding parent
 connection_parent h c g at_c = rw at_c refl
 
-topmost_after : (steps : ℕ) (h : List Event) (a b g n : ℕ) → n < steps → slice_get h a ≡ Some (Connect g) → is_within h a n ≡ true → is_within h b n ≡ true →
-    is_within h a b ≡ true
-topmost_after zero h a b g n l at_a above other = absurd (omega arith)
-topmost_after (suc steps) h a b g n l at_a above other =
-    by_case (within_cases h a n above) (within_cases h b n other)
-    (λ p less one two. topmost_after steps h a b g p (let m = l in let k = less in omega arith) at_a one two)
-  where
-    by_case : (a ≡ n) ⊎ ((p : ℕ) × (parent h n ≡ Some p) × (is_within h a p ≡ true)) → (b ≡ n) ⊎ ((p : ℕ) × (parent h n ≡ Some p) × (is_within h b p ≡ true)) →
-        ((p : ℕ) → p < n → is_within h a p ≡ true → is_within h b p ≡ true → is_within h a b ≡ true) → is_within h a b ≡ true
-    by_case one (inl same) rest = ap (is_within h a) same ∙ above
-    by_case (inl same) (inr (p, below, within)) rest = absurd (none-some p (sym (connection_parent h n g (ap (slice_get h) (sym same) ∙ at_a)) ∙ below))
-    by_case (inr (p, below, within)) (inr (q, other_below, other_within)) rest =
-        rest p (parent-lt h n p below) within (ap (is_within h b) (same_Some p q (sym below ∙ other_below)) ∙ other_within)
-
 -- among the ancestors of a node a connection is the topmost: the others stand below it
 pub connection_topmost : (h : List Event) (a b g n : ℕ) → slice_get h a ≡ Some (Connect g) → is_within h a n ≡ true → is_within h b n ≡ true →
     is_within h a b ≡ true
-connection_topmost h a b g n at_a above other = topmost_after (suc n) h a b g n (omega arith) at_a above other
+connection_topmost h a b g n at_a above other = climb (suc n) n (omega arith) above other where
+  climb : (steps m : ℕ) → m < steps → is_within h a m ≡ true → is_within h b m ≡ true → is_within h a b ≡ true
+  climb zero m l above other = absurd (omega arith)
+  climb (suc steps) m l above other =
+      by_case (within_cases h a m above) (within_cases h b m other) (λ p less one two. climb steps p (let i = l in let k = less in omega arith) one two)
+    where
+      by_case : (a ≡ m) ⊎ ((p : ℕ) × (parent h m ≡ Some p) × (is_within h a p ≡ true)) →
+          (b ≡ m) ⊎ ((p : ℕ) × (parent h m ≡ Some p) × (is_within h b p ≡ true)) →
+          ((p : ℕ) → p < m → is_within h a p ≡ true → is_within h b p ≡ true → is_within h a b ≡ true) → is_within h a b ≡ true
+      by_case one (inl same) rest = ap (is_within h a) same ∙ above
+      by_case (inl same) (inr (p, below, within)) rest = absurd (none-some p (sym (connection_parent h m g (ap (slice_get h) (sym same) ∙ at_a)) ∙ below))
+      by_case (inr (p, below, within)) (inr (q, other_below, other_within)) rest =
+          rest p (parent-lt h m p below) within (ap (is_within h b) (same_Some p q (sym below ∙ other_below)) ∙ other_within)

@@ -53,7 +53,7 @@ pub record IsUnharmed (base : Kept) (h k : List Event) (n : ℕ) : Type 0 where
 module _ (base : Kept) (h k : List Event) (n : ℕ) (w : IsUnharmed base h k n) where
   -- an older connection whose hub keeps its subscribers is used
   used : (c g : ℕ) → c < length h → KeepsSubscribers h k g → ¬ IsUnused k c g
-  used c g l keeps u = settled_used base h w.settled c g (unused_older base h w.added k w.grown w.law c g u l keeps)
+  used c g l keeps u = settled_used base h w.settled c g (unused_older h w.added w.grown w.law g u l keeps)
 
   under_before : (e : Event) (c g : ℕ) → IsUnder (k ++ e ∷ []) n c g → IsUnder k n c g
   under_before e c g under = record { above = before; connection = sym (slice_get-append k (e ∷ []) c near) ∙ under.connection } where
@@ -109,7 +109,7 @@ module _ (base : Kept) (h k : List Event) (n : ℕ) (w : IsUnharmed base h k n) 
         spares_subscriber d i j s under le subscribes inside =
             let l : s < length h = at_within (is_subscriber_of j) h s subscribes in
             let now = ap (λ (q : List Event). at (is_subscriber_of j) q s) w.grown ∙ at-append (is_subscriber_of j) h w.added s l ∙ subscribes in
-            let order : j < g = hubs_in_order base k w.law j s c g now inside u.made in
+            let order : j < g = hubs_in_order w.law j s c now inside u.made in
             let near : c ≤ s = is_within-le k c s inside in
             used c g (omega arith) (w.keeps d i g under (omega arith)) u
 
@@ -169,12 +169,12 @@ cut_within (suc steps) h e c s l each found = by_first (or_cases (shuts h s e) (
       by_first (inr later) rest = by_parent (parent h s) refl later rest
 
 -- what an opening shuts stands below the same node as what it opens
-shut_beside : (base : Kept) → (h : List Event) → IsLawful base h → (place : Place) (kind : Kind) (p a : ℕ) → parent_named (Open place kind) ≡ Some p →
+shut_beside : {base : Kept} → (h : List Event) → IsLawful base h → (place : Place) (kind : Kind) (p a : ℕ) → parent_named (Open place kind) ≡ Some p →
     shuts h a (Open place kind) ≡ true → parent h a ≡ Some p
-shut_beside base h law (Inner f) kind p a named shut = switched_parent base h law f a (and_parts _ _ shut).1 ∙ named
-shut_beside base h law Root kind p a named shut = absurd (false≢true shut)
-shut_beside base h law (Source f) kind p a named shut = absurd (false≢true shut)
-shut_beside base h law (Notifier f) kind p a named shut = absurd (false≢true shut)
+shut_beside {base} h law (Inner f) kind p a named shut = switched_parent base h law f a (and_parts _ _ shut).1 ∙ named
+shut_beside h law Root kind p a named shut = absurd (false≢true shut)
+shut_beside h law (Source f) kind p a named shut = absurd (false≢true shut)
+shut_beside h law (Notifier f) kind p a named shut = absurd (false≢true shut)
 
 module _ (base : Kept) (h : List Event) (place : Place) (kind : Kind) (law : IsLawful base h) (next : MayFollow base h (Open place kind)) where
   abbrev opened_on : List Event
@@ -200,7 +200,7 @@ module _ (base : Kept) (h : List Event) (place : Place) (kind : Kind) (law : IsL
         let named = parent_name opened_on (length h) p (Open place kind) below (slice_get_last h (Open place kind)) in
         let stays_above = ancestors-append h (Open place kind ∷ []) p (parent-lt opened_on (length h) p below) in
         let above : is_within h c p ≡ true = sym (ap (list_any (λ a. c == a)) stays_above) ∙ inside in
-        cut_within (suc s) h (Open place kind) c s (omega arith) (λ a shut. within_parent h c a p (shut_beside base h law place kind p a named shut) above)
+        cut_within (suc s) h (Open place kind) c s (omega arith) (λ a shut. within_parent h c a p (shut_beside h law place kind p a named shut) above)
         cut_off
 
   -- so it takes away no subscriber of the hub of that connection, or of a later one
@@ -211,7 +211,7 @@ module _ (base : Kept) (h : List Event) (place : Place) (kind : Kind) (law : IsL
 
     by_test : (b : Bool) → is_cut h (Open place kind) s ≡ b → (is_open h s && not b) ≡ true
     by_test false apart = rw was refl
-    by_test true cut_off = absurd (let order : j < g = hubs_in_order base h law j s c g subscribes (cut_under c g s under cut_off) at_c in omega arith)
+    by_test true cut_off = absurd (let order : j < g = hubs_in_order law j s c subscribes (cut_under c g s under cut_off) at_c in omega arith)
 
   -- what was just opened
   unharmed_opened : IsUnharmed base h opened_on (length h)
@@ -237,17 +237,16 @@ begun_opened base = by_events base (λ h. (n : ℕ) (place : Place) → slice_ge
     (λ s n place at_n long. record {
       before = shown base;
       unharmed = unharmed_settled base (shown base) n (IsLawful_empty base s) s.settled (s.alive n (Open place Pass) at_n refl);
-    }) after
+    }) (λ h e law next earlier. after law next)
   where
     opened : (h : List Event) (place : Place) → IsLawful base h → MayFollow base h (Open place Pass) → (n : ℕ) → length h ≡ n →
         IsBegun base (h ++ Open place Pass ∷ []) n
     opened h place law next n same =
         subst (λ (m : ℕ). IsBegun base (h ++ Open place Pass ∷ []) m) same (record { before = h; unharmed = unharmed_opened base h place Pass law next })
 
-    after : (h : List Event) (e : Event) → IsLawful base h → MayFollow base h e →
-        ((n : ℕ) (place : Place) → slice_get h n ≡ Some (Open place Pass) → length h ≡ n + 1 → IsBegun base h n) → (n : ℕ) (place : Place) →
+    after : {h : List Event} {e : Event} → IsLawful base h → MayFollow base h e → (n : ℕ) (place : Place) →
         slice_get (h ++ e ∷ []) n ≡ Some (Open place Pass) → length (h ++ e ∷ []) ≡ n + 1 → IsBegun base (h ++ e ∷ []) n
-    after h e law next rest n place at_n long =
+    after {h} {e} law next n place at_n long =
         let same : length h ≡ n = omega (arith, length-append h (e ∷ [])) in
         let is : e ≡ Open place Pass = same_Some e (Open place Pass) (sym (slice_get_last h e) ∙ ap (slice_get (h ++ e ∷ [])) same ∙ at_n) in
         subst (λ (x : Event). IsBegun base (h ++ x ∷ []) n) (sym is) (opened h place law (subst (λ (x : Event). MayFollow base h x) is next) n same)
@@ -286,5 +285,5 @@ pub connected_stays : (base : Kept) → (h k : List Event) (g : ℕ) → IsLawfu
     IsForcedOn base (h ++ Connect g ∷ []) k →
     is_open k (length h) ≡ true
 connected_stays base h k g law settled next on =
-    let settled_after = settled_on base h (Connect g) law next settled refl (λ m. refl) (closes_none_kept h (Connect g) refl) refl in
+    let settled_after = settled_on law next settled refl (λ m. refl) (closes_none_kept h (Connect g) refl) refl in
     ap (λ (q : List Event). is_open q (length h)) (unforced base on settled_after) ∙ is_open_new base h (Connect g) next

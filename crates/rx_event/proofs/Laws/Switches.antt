@@ -12,10 +12,12 @@ use Rattle.rx_event.specs.declared.event.Event.{Event}
 use Rattle.rx_event.specs.declared.event.Event.TheVariants.{Open}
 use Rattle.rx_event.specs.Events.{is_switch, is_inner_of, parent_named}
 use Rattle.rx_event.specs.Tree.{at, ancestors, is_open, is_within, is_switched_inner}
-use Rattle.rx_event.specs.Lawful.{MayFollow, IsLawful}
+use Rattle.rx_event.specs.Lawful.{IsLawful}
+use Rattle.rx_event.specs.Claims.Nodes.{IsOpenInner}
 use Rattle.rx_event.proofs.Laws.Places.{slice_get_last, at-append}
 use Rattle.rx_event.proofs.Laws.Openness.{is_cut, is_cut_inner_flat, is_open_cut, is_open_within, ancestors_open, self_cut}
 use Rattle.rx_event.proofs.Laws.Steps.{by_events, named_below}
+use Rattle.rx_event.proofs.Laws.SoundForm.{TwoOpenInners}
 
 -- one inner ---------------------------------------------------------------------------------------
 
@@ -37,45 +39,41 @@ switched : (base : Kept) → (h : List Event) → IsLawful base h → (f n : ℕ
 switched base h law f n switch inner = and_from _ _ (and_from _ _ (lt-ltb f n (inner_above base h law f n inner)) switch) inner
 
 -- the new inner cuts the older ones
-older_cut : (base : Kept) → (h : List Event) (e : Event) → IsLawful base h → (f a : ℕ) → at is_switch h f ≡ true → at (is_inner_of f) h a ≡ true →
+older_cut : {base : Kept} → (h : List Event) (e : Event) → IsLawful base h → (f a : ℕ) → at is_switch h f ≡ true → at (is_inner_of f) h a ≡ true →
     is_inner_of f e ≡ true →
     is_cut h e a ≡ true
-older_cut base h (Open (Inner g) kind) law f a switch inner new =
+older_cut {base} h (Open (Inner g) kind) law f a switch inner new =
     self_cut h (Open (Inner g) kind) a (ap (λ q. is_switched_inner h q a) (eqb-true g f new) ∙ switched base h law f a switch inner)
-older_cut base h (Open Root kind) law f a switch inner new = absurd (false≢true new)
-older_cut base h (Open (Source g) kind) law f a switch inner new = absurd (false≢true new)
-older_cut base h (Open (Notifier g) kind) law f a switch inner new = absurd (false≢true new)
-older_cut base h _ law f a switch inner new = absurd (false≢true new)
+older_cut h (Open Root kind) law f a switch inner new = absurd (false≢true new)
+older_cut h (Open (Source g) kind) law f a switch inner new = absurd (false≢true new)
+older_cut h (Open (Notifier g) kind) law f a switch inner new = absurd (false≢true new)
+older_cut h _ law f a switch inner new = absurd (false≢true new)
 
--- Two open inners of one Switch
-pub record TwoInners (h : List Event) (f a b : ℕ) : Type 0 where
-  pub switch : at is_switch h f ≡ true
-  pub one : at (is_inner_of f) h a ≡ true
-  pub one_open : is_open h a ≡ true
-  pub other : at (is_inner_of f) h b ≡ true
-  pub other_open : is_open h b ≡ true
+-- two open inners in the other order
+swapped : {h : List Event} {f a b : ℕ} → TwoOpenInners h f a b → TwoOpenInners h f b a
+swapped two = record { switch = two.switch; one = two.other; one_open = two.other_open; other = two.one; other_open = two.one_open }
 
--- are the same
-pub one_inner : (base : Kept) → (h : List Event) → IsLawful base h → (f a b : ℕ) → TwoInners h f a b → a ≡ b
+-- two open inners of one Switch are the same
+pub one_inner : (base : Kept) → (h : List Event) → IsLawful base h → (f a b : ℕ) → TwoOpenInners h f a b → a ≡ b
 one_inner base =
-    by_events base (λ h. (f a b : ℕ) → TwoInners h f a b → a ≡ b) (λ s f a b two. s.one_inner f a b two.switch two.one two.one_open two.other two.other_open)
-    after
+    by_events base (λ h. (f a b : ℕ) → TwoOpenInners h f a b → a ≡ b)
+    (λ s f a b two. s.one_inner f a b two.switch two.one two.one_open two.other two.other_open)
+    (λ h e law next. after e law)
   where
-    clash : (h : List Event) (e : Event) → IsLawful base h → (f a b : ℕ) → a < length h → b ≡ length h → at is_switch (h ++ e ∷ []) f ≡ true →
-        at (is_inner_of f) (h ++ e ∷ []) a ≡ true → is_open (h ++ e ∷ []) a ≡ true → at (is_inner_of f) (h ++ e ∷ []) b ≡ true → ⊥
-    clash h e law f a b l last switch one one_open other =
-        let inner : at (is_inner_of f) h a ≡ true = sym (at-append (is_inner_of f) h (e ∷ []) a l) ∙ one in
+    -- the older is closed where the other is new
+    clash : {h : List Event} (e : Event) → IsLawful base h → {f a b : ℕ} → TwoOpenInners (h ++ e ∷ []) f a b → a < length h → b ≡ length h → ⊥
+    clash {h} e law {f} {a} two l last =
+        let inner : at (is_inner_of f) h a ≡ true = sym (at-append (is_inner_of f) h (e ∷ []) a l) ∙ two.one in
         let below : f < a = inner_above base h law f a inner in
-        let switch_before : at is_switch h f ≡ true = sym (at-append is_switch h (e ∷ []) f (omega arith)) ∙ switch in
+        let switch_before : at is_switch h f ≡ true = sym (at-append is_switch h (e ∷ []) f (omega arith)) ∙ two.switch in
         let new : is_inner_of f e ≡ true =
-        sym (ap (λ o. option_map_or (is_inner_of f) o false) (ap (slice_get (h ++ e ∷ [])) last ∙ slice_get_last h e)) ∙ other in
-        let cut = older_cut base h e law f a switch_before inner new in
-        both_ways (not (is_cut h e a)) (ap not cut) (and_parts (is_open h a) (not (is_cut h e a)) (sym (is_open_cut h e a l) ∙ one_open)).1
+        sym (ap (λ o. option_map_or (is_inner_of f) o false) (ap (slice_get (h ++ e ∷ [])) last ∙ slice_get_last h e)) ∙ two.other in
+        let cut = older_cut h e law f a switch_before inner new in
+        both_ways (not (is_cut h e a)) (ap not cut) (and_parts (is_open h a) (not (is_cut h e a)) (sym (is_open_cut h e a l) ∙ two.one_open)).1
 
-    after : (h : List Event) (e : Event) → IsLawful base h → MayFollow base h e → ((f a b : ℕ) → TwoInners h f a b → a ≡ b) → (f a b : ℕ) →
-        TwoInners (h ++ e ∷ []) f a b →
-        a ≡ b
-    after h e law next before f a b two = by_place (cases_order a (length h)) (cases_order b (length h)) where
+    after : {h : List Event} (e : Event) → IsLawful base h → ((f a b : ℕ) → TwoOpenInners h f a b → a ≡ b) → (f a b : ℕ) →
+        TwoOpenInners (h ++ e ∷ []) f a b → a ≡ b
+    after {h} e law before f a b two = by_place (cases_order a (length h)) (cases_order b (length h)) where
       within : (n : ℕ) → is_open (h ++ e ∷ []) n ≡ true → n < length h + 1
       within n o = let l = is_open_within (h ++ e ∷ []) n o in omega (arith, length-append h (e ∷ []))
 
@@ -84,8 +82,8 @@ one_inner base =
       by_place (inr (inr g)) q = absurd (let l = within a two.one_open in omega arith)
       by_place (inl p) (inr (inr g)) = absurd (let l = within b two.other_open in omega arith)
       by_place (inr (inl l)) (inr (inr g)) = absurd (let m = within b two.other_open in omega arith)
-      by_place (inr (inl l)) (inl q) = absurd (clash h e law f a b l q two.switch two.one two.one_open two.other)
-      by_place (inl p) (inr (inl l)) = absurd (clash h e law f b a l p two.switch two.other two.other_open two.one)
+      by_place (inr (inl l)) (inl q) = absurd (clash e law two l q)
+      by_place (inl p) (inr (inl l)) = absurd (clash e law (swapped two) l p)
       by_place (inr (inl l)) (inr (inl m)) =
           let inner : at (is_inner_of f) h a ≡ true = sym (at-append (is_inner_of f) h (e ∷ []) a l) ∙ two.one in
           let below : f < a = inner_above base h law f a inner in
@@ -113,10 +111,10 @@ and_yes true b none = ap not (none refl)
 and_yes false b none = refl
 
 -- the open inner of a Switch is the only one
-same_inner : (base : Kept) → (h : List Event) (f c : ℕ) → IsLawful base h → at is_switch h f ≡ true → at (is_inner_of f) h c ≡ true → is_open h c ≡ true →
+same_inner : {base : Kept} → {h : List Event} (f c : ℕ) → IsLawful base h → at is_switch h f ≡ true → at (is_inner_of f) h c ≡ true → is_open h c ≡ true →
     (a : ℕ) →
     is_open h a ≡ true → is_switched_inner h f a ≡ (c == a)
-same_inner base h f c law switch inner o a there = by_test (is_switched_inner h f a) refl (cases_Bool (c == a)) where
+same_inner {base} {h} f c law switch inner o a there = by_test (is_switched_inner h f a) refl (cases_Bool (c == a)) where
   by_test : (b : Bool) → is_switched_inner h f a ≡ b → ((c == a) ≡ true) ⊎ ((c == a) ≡ false) → b ≡ (c == a)
   by_test true s e =
       sym (eq-eqb c a (one_inner base h law f c a (record { switch = switch; one = inner; one_open = o; other = (and_parts _ _ s).1; other_open = there })))
@@ -124,13 +122,12 @@ same_inner base h f c law switch inner o a there = by_test (is_switched_inner h 
   by_test false s (inr e) = sym e
 
 -- the opening of another inner of a Switch closes the open inner c, and what is below it
-pub is_open-inner_switch : (base : Kept) → (h : List Event) (f c : ℕ) (kind : Kind) → IsLawful base h → at is_switch h f ≡ true →
-    at (is_inner_of f) h c ≡ true →
-    is_open h c ≡ true → (n : ℕ) → n < length h → is_open (h ++ Open (Inner f) kind ∷ []) n ≡ (is_open h n && not (is_within h c n))
-is_open-inner_switch base h f c kind law switch inner o n l =
+pub is_open-inner_switch : {base : Kept} {h : List Event} {f c : ℕ} → IsLawful base h → IsOpenInner h f c → (kind : Kind) (n : ℕ) → n < length h →
+    is_open (h ++ Open (Inner f) kind ∷ []) n ≡ (is_open h n && not (is_within h c n))
+is_open-inner_switch {h = h} {f = f} {c = c} law i kind n l =
     is_open_cut h (Open (Inner f) kind) n l ∙
     and_same (is_open h n) _ _
-    (λ here. list_any-agree (λ a. is_open h a ≡ true) (λ a. is_switched_inner h f a) (λ a. c == a) (same_inner base h f c law switch inner o)
+    (λ here. list_any-agree (λ a. is_open h a ≡ true) (λ a. is_switched_inner h f a) (λ a. c == a) (same_inner f c law i.switch i.inner i.alive)
     (ancestors h n) (ancestors_open h n here))
 
 -- where no inner is open, it closes nothing
@@ -158,12 +155,12 @@ pub is_open-inner_flat : (h : List Event) (f : ℕ) (kind : Kind) → at is_swit
 is_open-inner_flat h f kind flat n l = is_open_cut h (Open (Inner f) kind) n l ∙ and_yes (is_open h n) _ (λ here. is_cut_inner_flat h f kind flat n)
 
 -- of the open nodes, it cuts those within c
-pub is_cut-inner_switch : (base : Kept) → (h : List Event) (f c : ℕ) (kind : Kind) → IsLawful base h → at is_switch h f ≡ true →
+pub is_cut-inner_switch : {base : Kept} → {h : List Event} (f c : ℕ) (kind : Kind) → IsLawful base h → at is_switch h f ≡ true →
     at (is_inner_of f) h c ≡ true → is_open h c ≡ true →
     (n : ℕ) → (is_open h n && is_cut h (Open (Inner f) kind) n) ≡ (is_open h n && is_within h c n)
-is_cut-inner_switch base h f c kind law switch inner o n =
+is_cut-inner_switch {h} f c kind law switch inner o n =
     cut_same (is_open h n) _ _
-    (λ here. list_any-agree (λ a. is_open h a ≡ true) (λ a. is_switched_inner h f a) (λ a. c == a) (same_inner base h f c law switch inner o)
+    (λ here. list_any-agree (λ a. is_open h a ≡ true) (λ a. is_switched_inner h f a) (λ a. c == a) (same_inner f c law switch inner o)
     (ancestors h n) (ancestors_open h n here))
   where
     cut_same : (a b c : Bool) → (a ≡ true → b ≡ c) → (a && b) ≡ (a && c)

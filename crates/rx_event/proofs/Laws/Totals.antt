@@ -13,11 +13,12 @@ use Rattle.rx_event.specs.declared.event.Place.TheVariants.{Root, Source, Inner,
 use Rattle.rx_event.specs.declared.event.Kind.{Kind}
 use Rattle.rx_event.specs.declared.event.Event.{Event}
 use Rattle.rx_event.specs.declared.event.Event.TheVariants.{Open, Hub, Connect, Accept, Use, Remove, Lease, Return, Item, Decline, End, Close, Take}
-use Rattle.rx_event.specs.Events.{makes_node, makes_resource, node_of_accept, is_switch, is_inner_of, is_use_of, is_take_of, is_item, is_take}
-use Rattle.rx_event.specs.Tree.{at, places, is_open, is_within}
+use Rattle.rx_event.specs.Events.{makes_node, makes_resource, node_of_accept, is_use_of, is_take_of, is_item, is_take}
+use Rattle.rx_event.specs.Tree.{places, is_open, is_within}
 use Rattle.rx_event.specs.Resources.{is_owned, is_leased, is_held, is_waiting, uses}
 use Rattle.rx_event.specs.Totals.{item_count, accepted_count, taken_count, owned_count, held_count, waiting_count, open_count}
 use Rattle.rx_event.specs.Lawful.{MayFollow, IsLawful}
+use Rattle.rx_event.specs.Claims.Nodes.{IsOpenInner}
 use Rattle.rx_event.proofs.Laws.Parents.{ancestors_step}
 use Rattle.rx_event.proofs.Laws.Openness.{is_cut, is_cut_none, is_cut_inner, is_open_cut, is_open_last}
 use Rattle.rx_event.proofs.Laws.Openness.{is_open_made, is_open_within, is_open_last_none, shuts_none}
@@ -232,7 +233,7 @@ held_count-kept base h e law keeps =
 pub held_count-accept : (base : Kept) → (h : List Event) (n tag : ℕ) → IsLawful base h → is_open h n ≡ true →
     held_count (h ++ Accept n tag ∷ []) ≡ held_count h + 1
 held_count-accept base h n tag law o =
-    let b = held_count-kept base h (Accept n tag) law (λ r l. is_held_kept base h (Accept n tag) law r l refl refl refl refl) in
+    let b = held_count-kept base h (Accept n tag) law (λ r l. is_held_kept (Accept n tag) law r l refl refl refl refl) in
     let c = one_if o in
     omega arith
 
@@ -240,7 +241,7 @@ pub waiting_count-take : (base : Kept) → (h : List Event) (q : ℕ) → IsLawf
     waiting_count (h ++ Take q ∷ []) + 1 ≡ waiting_count h
 waiting_count-take base h q law next =
     let b = waiting_count-push base h (Take q) law next in
-    let k = lost_none h (Take q) (λ r l. is_held_kept base h (Take q) law r l refl refl refl refl) in
+    let k = lost_none h (Take q) (λ r l. is_held_kept (Take q) law r l refl refl refl refl) in
     omega arith
 
 -- a removal of what is owned
@@ -397,14 +398,13 @@ pub open_count_falls-close : (h : List Event) (c : ℕ) → is_open h c ≡ true
 open_count_falls-close h c o = let b = open_count-close h c in let s = within_some h c o in omega arith
 
 -- an inner of a Switch comes in place of the open inner c, and of what is open below it
-pub open_count-inner_switch : (base : Kept) → (h : List Event) (f c : ℕ) (kind : Kind) → IsLawful base h → MayFollow base h (Open (Inner f) kind) →
-    at is_switch h f ≡ true →
-    at (is_inner_of f) h c ≡ true → is_open h c ≡ true →
+pub open_count-inner_switch : {base : Kept} {h : List Event} {f c : ℕ} {kind : Kind} → IsLawful base h → MayFollow base h (Open (Inner f) kind) →
+    IsOpenInner h f c →
     open_count (h ++ Open (Inner f) kind ∷ []) + count_by (λ n. is_open h n && is_within h c n) (places h) ≡ open_count h + 1
-open_count-inner_switch base h f c kind law next switch inner o =
+open_count-inner_switch {base} {h} {f} {c} {kind} law next i =
     let b = open_count-push h (Open (Inner f) kind) in
     let n = one_if (is_open_new base h (Open (Inner f) kind) next) in
     let k =
     sum_by-same (λ n. cond (is_open h n && is_within h c n) 1 0) (λ n. cond (is_open h n && is_cut h (Open (Inner f) kind) n) 1 0) (length h)
-    (λ n l. one_if (is_cut-inner_switch base h f c kind law switch inner o n)) in
+    (λ n l. one_if (is_cut-inner_switch f c kind law i.switch i.inner i.alive n)) in
     omega arith

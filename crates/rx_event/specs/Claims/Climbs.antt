@@ -33,7 +33,7 @@ pub record ClimbsEnd (base : Kept) : Type 0 where
   pub stopped : (h : List Event) → IsLawful base h → (n : ℕ) → IsTrue (is_open h n) →
       AllByRecursion (StopsAtOpen h) (stops h n)
   -- every connection above a subscriber is of a later hub than its own, so that no item goes round in a circle
-  pub later : (h : List Event) → IsLawful base h → (g s a k : ℕ) → IsTrue (at (is_subscriber_of g) h s) →
+  pub later : {h : List Event} → IsLawful base h → (g s a : ℕ) {k : ℕ} → IsTrue (at (is_subscriber_of g) h s) →
       IsTrue (is_within h a s) → slice_get h a ≡ Some (Connect k) → g < k
 
 -- the climb is the whole climb, as far as the limit lets it

@@ -70,5 +70,5 @@ pub record ClosingLeavesLess (base : Kept) : Type 0 where
   pub connection : (h k : List Event) (c : ℕ) → IsTrue (is_manual_connection h c) →
       IsForcedOn base (h ++ Close c ∷ []) k → manual_connection_count k + 1 ≤ manual_connection_count h
   -- the hub is connected no more
-  pub hub : (h k : List Event) (g c : ℕ) → IsLawful base h → IsTrue (at is_manual_hub h g) → IsTrue (is_open h c) →
+  pub hub : {h k : List Event} {g : ℕ} (c : ℕ) → IsLawful base h → IsTrue (at is_manual_hub h g) → IsTrue (is_open h c) →
       slice_get h c ≡ Some (Connect g) → IsForcedOn base (h ++ Close c ∷ []) k → open_connections k g ≡ []

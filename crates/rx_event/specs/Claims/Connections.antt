@@ -42,7 +42,7 @@ pub record LastConnectionTells (base : Kept) : Type 0 where
   pub last : (h : List Event) → IsLawful base h → (g c d : ℕ) → IsTrue (at (is_connect_of g) h c) → IsTrue (is_open h c) →
       IsTrue (at (is_connect_of g) h d) → d ≤ c
   -- an open subscriber is cut by the last end, where that stands after it, and by no other
-  pub cut : (h : List Event) → IsLawful base h → (g s place : ℕ) (t u : Terminal) → EndsLast h g place t →
+  pub cut : {h : List Event} → IsLawful base h → {g place : ℕ} {t : Terminal} → EndsLast h g place t → (s : ℕ) (u : Terminal) →
       IsTrue (at (is_subscriber_of g) h s) → IsTrue (is_open h s) → SourceEnded h s u ↔ ((s < place) × (u ≡ t))
 
 -- what an event changes of who is cut, who waits and which connection nobody uses

@@ -58,18 +58,25 @@ pub record AreAlike (base : Kept) (k j : List Event) : Type 0 where
   pub accepted : accepted_count base k ≡ accepted_count base j
   pub taken : taken_count base k ≡ taken_count base j
 
+-- since b an event of k ends a node so
+pub record EndsSince (b k : List Event) (t : Terminal) : Type 0 where
+  pub node : ℕ
+  pub place : ℕ
+  pub since : length b ≤ place
+  pub ended : slice_get k place ≡ Some (End node t)
+
 -- One step leads to one outcome, whatever the order of what is forced
 pub record StepsAreDetermined (base : Kept) : Type 0 where
   -- all that ends in one step ends in one way
-  pub one_terminal : (b k j : List Event) → IsLawful base b → IsForcedOn base b k → IsForcedOn base b j → (n m i l : ℕ) (t u : Terminal) →
-      length b ≤ i → slice_get k i ≡ Some (End n t) → length b ≤ l → slice_get j l ≡ Some (End m u) → t ≡ u
+  pub one_terminal : {b k j : List Event} → IsLawful base b → IsForcedOn base b k → IsForcedOn base b j → {t u : Terminal} →
+      EndsSince b k t → EndsSince b j u → t ≡ u
   -- a hub is connected first, so each node, hub and resource has the same number in both
-  pub connects_first : (b k : List Event) → IsLawful base b → IsForcedOn base b k → (c g : ℕ) → length b ≤ c →
+  pub connects_first : {b k : List Event} → IsLawful base b → IsForcedOn base b k → (c : ℕ) {g : ℕ} → length b ≤ c →
       slice_get k c ≡ Some (Connect g) → c ≡ length b
   -- what one course has closed so far, another has closed when nothing is left to be done
-  pub closed_in_both : (b p k : List Event) → IsLawful base b → IsForcedOn base b p → IsForcedOn base b k → IsSettled base k → (n : ℕ) →
+  pub closed_in_both : {b p k : List Event} → IsLawful base b → IsForcedOn base b p → IsForcedOn base b k → IsSettled base k → (n : ℕ) →
       n < length b → is_open p n ≡ false → is_open k n ≡ false
   -- so two courses of what is forced after one history come to the same
-  pub courses : (b k j : List Event) → IsLawful base b → IsForcedOn base b k → IsSettled base k → IsForcedOn base b j → IsSettled base j → AreAlike base k j
+  pub courses : {b k j : List Event} → IsLawful base b → IsForcedOn base b k → IsSettled base k → IsForcedOn base b j → IsSettled base j → AreAlike base k j
   -- and so do two steps from one history with one caller's event
-  pub steps : (h outside k j : List Event) → IsLawful base h → IsStep base h outside k → IsStep base h outside j → AreAlike base k j
+  pub steps : {h outside k j : List Event} → IsLawful base h → IsStep base h outside k → IsStep base h outside j → AreAlike base k j

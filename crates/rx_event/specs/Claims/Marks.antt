@@ -12,6 +12,7 @@ use Rattle.rx_event.specs.Climb.{stops}
 use Rattle.rx_event.specs.Forced.{SourceEnded, IsDue, IsConnected, IsSettled}
 use Rattle.rx_event.specs.Marks.{marks_of, blank_marks, due_at, touches, after_source, after_notifier, after_inner, after_decline, after_child, after_stops}
 use Rattle.rx_event.specs.Lawful.{MayFollow, IsLawful}
+use Rattle.rx_event.specs.Claims.Nodes.{IsOpenInner}
 
 -- what is due at an open node is what its marks say, but for what hubs force
 pub record MarksSayWhatIsDue (base : Kept) : Type 0 where
@@ -22,7 +23,7 @@ pub record MarksSayWhatIsDue (base : Kept) : Type 0 where
       due_at made (marks_of base h n) n ≡ None → IsDue base h (End n t) → SourceEnded h n t
   -- all that is due to end in a lawful history ends in one way, so what is due at a node is just what its marks say
   pub one : (h : List Event) → IsLawful base h → (n m : ℕ) (t u : Terminal) → IsDue base h (End n t) → IsDue base h (End m u) → t ≡ u
-  pub exactly : (h : List Event) → IsLawful base h → (n : ℕ) (made : Event) (t : Terminal) → IsTrue (is_open h n) →
+  pub exactly : {h : List Event} → IsLawful base h → {n : ℕ} {made : Event} {t : Terminal} → IsTrue (is_open h n) →
       slice_get h n ≡ Some made → ¬ SourceEnded h n t → IsDue base h (End n t) →
       due_at made (marks_of base h n) n ≡ Some (End n t)
   -- so a history is settled where no hub's rule is left undone and no marks of an open node say anything, and only there
@@ -49,14 +50,14 @@ pub record MarkChanges (base : Kept) : Type 0 where
   pub first_inner : (h : List Event) (f : ℕ) (kind : Kind) → IsLawful base h → MayFollow base h (Open (Inner f) kind) →
       ((k : ℕ) → IsTrue (at (is_inner_of f) h k) → is_open h k ≡ false) →
       marks_of base (h ++ Open (Inner f) kind ∷ []) f ≡ after_inner false (marks_of base h f)
-  pub next_inner : (h : List Event) (f old : ℕ) (kind : Kind) → IsLawful base h → MayFollow base h (Open (Inner f) kind) →
-      IsTrue (at is_switch h f) → IsTrue (at (is_inner_of f) h old) → IsTrue (is_open h old) →
+  pub next_inner : {h : List Event} {f old : ℕ} {kind : Kind} → IsLawful base h → MayFollow base h (Open (Inner f) kind) →
+      IsOpenInner h f old →
       marks_of base (h ++ Open (Inner f) kind ∷ []) f ≡ after_inner true (marks_of base h f)
   pub item : (h : List Event) (leaf : ℕ) (value : ℤ) → IsLawful base h → MayFollow base h (Item leaf value) → (n : ℕ) →
       n < length h → marks_of base (h ++ Item leaf value ∷ []) n ≡ after_stops n (stops h leaf) (marks_of base h n)
   pub declined : (h : List Event) (f : ℕ) → IsLawful base h → MayFollow base h (Decline f) →
       marks_of base (h ++ Decline f ∷ []) f ≡ after_decline (marks_of base h f)
-  pub ended : (h : List Event) (c p : ℕ) (made above : Event) (t : Terminal) → IsLawful base h → MayFollow base h (End c t) →
+  pub ended : {h : List Event} {c p : ℕ} {made above : Event} {t : Terminal} → IsLawful base h → MayFollow base h (End c t) →
       parent h c ≡ Some p → slice_get h c ≡ Some made → slice_get h p ≡ Some above →
       marks_of base (h ++ End c t ∷ []) p ≡ after_child (is_source_of p made) (is_merging above) t (marks_of base h p)
   -- what is closed stands below nothing that stays open

@@ -19,10 +19,15 @@ pub record ClosedStaysClosed : Type 0 where
   pub stays_after : (h further : List Event) (n : ℕ) → n < length h → is_open h n ≡ false →
       is_open (h ++ further) n ≡ false
 
+-- f is a Switch, and c is an open inner of it
+pub record IsOpenInner (h : List Event) (f c : ℕ) : Type 0 where
+  pub switch : IsTrue (at is_switch h f)
+  pub inner : IsTrue (at (is_inner_of f) h c)
+  pub alive : IsTrue (is_open h c)
+
 -- two open inners of one Switch are the same (Switch: it mirrors the latest inner alone)
 pub record OneOpenInner (base : Kept) : Type 0 where
-  pub same : (h : List Event) → IsLawful base h → (f a b : ℕ) → IsTrue (at is_switch h f) → IsTrue (at (is_inner_of f) h a) →
-      IsTrue (is_open h a) → IsTrue (at (is_inner_of f) h b) → IsTrue (is_open h b) → a ≡ b
+  pub same : {h : List Event} → IsLawful base h → {f a b : ℕ} → IsOpenInner h f a → IsOpenInner h f b → a ≡ b
 
 -- which nodes are open after one more event
 pub record NodeChanges (base : Kept) : Type 0 where
@@ -33,8 +38,7 @@ pub record NodeChanges (base : Kept) : Type 0 where
       is_open (h ++ End c t ∷ []) n ≡ (is_open h n && not (is_within h c n))
   pub closed : (h : List Event) (c : ℕ) (n : ℕ) → is_open (h ++ Close c ∷ []) n ≡ (is_open h n && not (is_within h c n))
   -- the opening of an inner of a Switch: not the other open inner, and not what stands below it
-  pub exchanged : (h : List Event) → IsLawful base h → (f c : ℕ) (kind : Kind) → IsTrue (at is_switch h f) →
-      IsTrue (at (is_inner_of f) h c) → IsTrue (is_open h c) → (n : ℕ) → n < length h →
+  pub exchanged : {h : List Event} → IsLawful base h → {f c : ℕ} → IsOpenInner h f c → (kind : Kind) (n : ℕ) → n < length h →
       is_open (h ++ Open (Inner f) kind ∷ []) n ≡ (is_open h n && not (is_within h c n))
   -- where no other inner is open, it closes nothing
   pub first_inner : (h : List Event) (f : ℕ) (kind : Kind) →

@@ -12,16 +12,16 @@ use Rattle.rx_event.specs.Canonical.{first_forced, IsFirstOn}
 -- the same may come next in both, and leaves both the same
 pub record NumbersDoNotMatter (base : Kept) : Type 0 where
   pub start : Started base → AreSame base (shown base) (shown base)
-  pub forced : (r s : ℕ → ℕ) (h c : List Event) (e : Event) → AreSameBy base r s h c → IsForced base h e → IsForced base c (event_by r e)
-  pub settled : (r s : ℕ → ℕ) (h c : List Event) → AreSameBy base r s h c → IsSettled base h → IsSettled base c
-  pub allowed : (r s : ℕ → ℕ) (h c : List Event) (e : Event) → AreSameBy base r s h c → IsSettled base h → IsSettled base c → IsAllowed base h e →
+  pub forced : {r s : ℕ → ℕ} {h c : List Event} {e : Event} → AreSameBy base r s h c → IsForced base h e → IsForced base c (event_by r e)
+  pub settled : {r s : ℕ → ℕ} {h c : List Event} → AreSameBy base r s h c → IsSettled base h → IsSettled base c
+  pub allowed : {r s : ℕ → ℕ} {h c : List Event} {e : Event} → AreSameBy base r s h c → IsSettled base h → IsSettled base c → IsAllowed base h e →
       IsAllowed base c (event_by r e)
-  pub event : (r s : ℕ → ℕ) (h c : List Event) (e : Event) → AreSameBy base r s h c → MayFollow base h e → MayFollow base c (event_by r e) →
+  pub event : {r s : ℕ → ℕ} {h c : List Event} {e : Event} → AreSameBy base r s h c → MayFollow base h e → MayFollow base c (event_by r e) →
       AreSameSince base r h c (h ++ e ∷ []) (c ++ event_by r e ∷ [])
   -- in whatever order what is forced comes in each
-  pub courses : (r s : ℕ → ℕ) (h c k j : List Event) → AreSameBy base r s h c → IsForcedOn base h k → IsSettled base k →
+  pub courses : {r s : ℕ → ℕ} {h c k j : List Event} → AreSameBy base r s h c → IsForcedOn base h k → IsSettled base k →
       IsForcedOn base c j → IsSettled base j → IsLawful base j → AreSameSince base r h c k j
-  pub steps : (r s : ℕ → ℕ) (h c k j : List Event) (call : Call) → AreSameBy base r s h c → IsKnown h call →
+  pub steps : {r s : ℕ → ℕ} {h c k j : List Event} (call : Call) → AreSameBy base r s h c → IsKnown h call →
       IsStepOf base h call k → IsStepOf base c (call_by r call) j → AreSameSince base r h c k j
 
 -- where the one order leads from b

@@ -38,17 +38,17 @@ pub data ConnectsAtMost (base : Kept) (h : List Event) (g : ℕ) : Type 0 where
 -- an event that ends and declines nothing and fires none leaves little to be done
 pub record CalmForcesLittle (base : Kept) : Type 0 where
   -- it makes no node due to end
-  pub ended : (h : List Event) (e : Event) → IsLawful base h → MayFollow base h e → ends_or_declines e ≡ false → FiresNone h e →
-      (n : ℕ) (t : Terminal) → IsDue base (h ++ e ∷ []) (End n t) → IsDue base h (End n t)
+  pub ended : {h : List Event} {e : Event} → IsLawful base h → MayFollow base h e → ends_or_declines e ≡ false → FiresNone h e →
+      {n : ℕ} {t : Terminal} → IsDue base (h ++ e ∷ []) (End n t) → IsDue base h (End n t)
   -- so no marks of an open node give an event
-  pub quiet : (h : List Event) (e : Event) → IsLawful base h → MayFollow base h e → IsSettled base h → ends_or_declines e ≡ false →
-      FiresNone h e → (n : ℕ) (made : Event) → IsTrue (is_open (h ++ e ∷ []) n) →
+  pub quiet : {h : List Event} {e : Event} → IsLawful base h → MayFollow base h e → IsSettled base h → ends_or_declines e ≡ false →
+      FiresNone h e → (n : ℕ) {made : Event} → IsTrue (is_open (h ++ e ∷ []) n) →
       slice_get (h ++ e ∷ []) n ≡ Some made → due_at made (marks_of base (h ++ e ∷ []) n) n ≡ None
   -- where it closes nothing and subscribes to no hub either, nothing is left to be done
-  pub settled : (h : List Event) (e : Event) → IsLawful base h → MayFollow base h e → IsSettled base h → ends_or_declines e ≡ false →
+  pub settled : {h : List Event} {e : Event} → IsLawful base h → MayFollow base h e → IsSettled base h → ends_or_declines e ≡ false →
       FiresNone h e → ClosesNone h e → hub_subscribed e ≡ None → IsSettled base (h ++ e ∷ [])
   -- and after a subscriber the connection of its hub alone
-  pub subscribed : (h : List Event) (place : Place) (g : ℕ) → IsLawful base h → MayFollow base h (Open place (Sub g)) →
+  pub subscribed : {h : List Event} {place : Place} {g : ℕ} → IsLawful base h → MayFollow base h (Open place (Sub g)) →
       ClosesNone h (Open place (Sub g)) → ConnectsAtMost base (h ++ Open place (Sub g) ∷ []) g
 
 -- what a caller opens stays open through all that is forced after it

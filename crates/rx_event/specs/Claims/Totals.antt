@@ -6,12 +6,13 @@ use Rattle.rx_event.specs.declared.event.Place.TheVariants.{Inner}
 use Rattle.rx_event.specs.declared.event.Kind.{Kind}
 use Rattle.rx_event.specs.declared.event.Event.{Event}
 use Rattle.rx_event.specs.declared.event.Event.TheVariants.{Open, Accept, Remove, End, Close, Take}
-use Rattle.rx_event.specs.Events.{makes_node, makes_resource, makes_lease, is_switch, is_inner_of, is_item, is_take, is_return, is_use_of, pays}
-use Rattle.rx_event.specs.Tree.{at, places, is_within, is_open, shuts}
+use Rattle.rx_event.specs.Events.{makes_node, makes_resource, makes_lease, is_item, is_take, is_return, is_use_of, pays}
+use Rattle.rx_event.specs.Tree.{places, is_within, is_open, shuts}
 use Rattle.rx_event.specs.Resources.{is_leased, uses}
 use Rattle.rx_event.specs.Moments.{owed, is_projection_to, stops_of}
 use Rattle.rx_event.specs.Totals.{item_count, accepted_count, taken_count, owned_count, held_count, lease_count, waiting_count, open_count}
 use Rattle.rx_event.specs.Lawful.{MayFollow, IsLawful}
+use Rattle.rx_event.specs.Claims.Nodes.{IsOpenInner}
 
 -- the totals after one more event
 pub record TotalChanges (base : Kept) : Type 0 where
@@ -57,6 +58,5 @@ pub record TotalChanges (base : Kept) : Type 0 where
       open_count (h ++ End c t ∷ []) + count_by (λ n. is_open h n && is_within h c n) (places h) ≡ open_count h
   pub closed : (h : List Event) (c : ℕ) →
       open_count (h ++ Close c ∷ []) + count_by (λ n. is_open h n && is_within h c n) (places h) ≡ open_count h
-  pub exchanged : (h : List Event) (f c : ℕ) (kind : Kind) → IsLawful base h → MayFollow base h (Open (Inner f) kind) →
-      IsTrue (at is_switch h f) → IsTrue (at (is_inner_of f) h c) → IsTrue (is_open h c) →
+  pub exchanged : {h : List Event} {f c : ℕ} {kind : Kind} → IsLawful base h → MayFollow base h (Open (Inner f) kind) → IsOpenInner h f c →
       open_count (h ++ Open (Inner f) kind ∷ []) + count_by (λ n. is_open h n && is_within h c n) (places h) ≡ open_count h + 1

@@ -27,7 +27,7 @@ returns-clause-nodes c = λ base. record {
   made = is_open_new base;
   ended = is_open_outside-end;
   closed = is_open_outside-close;
-  exchanged = λ h law f c kind switch inner o. is_open-inner_switch base h f c kind law switch inner o;
+  exchanged = λ law i. is_open-inner_switch law i;
   first_inner = is_open-inner_first;
   flat_inner = is_open-inner_flat;
   kept = is_open_uncut;
@@ -78,7 +78,7 @@ returns-clause-totals c = λ base. record {
   opened = λ h e next never. open_count_uncut base h e next (is_cut_never h e never);
   ended = open_count-end;
   closed = open_count-close;
-  exchanged = open_count-inner_switch base;
+  exchanged = open_count-inner_switch;
 }
 
 pub returns-clause-debt : goal.returns-clause-debt
@@ -106,14 +106,14 @@ returns-clause-debt c = λ base. record {
 pub returns-clause-marks : goal.returns-clause-marks
 returns-clause-marks c = λ base. record {
   made = marks-new base;
-  untouched = marks_untouched base;
+  untouched = marks_untouched;
   source = marks-source_at base;
   notifier = marks-notifier_at base;
   flat_inner = marks-inner_at_flat base;
   first_inner = marks-inner_at_first base;
-  next_inner = marks-inner_at_next base;
+  next_inner = marks-inner_at_next;
   item = marks-item_at base;
   declined = marks-decline_at base;
-  ended = marks-end_at base;
+  ended = marks-end_at;
   closed = marks_closed base;
 }

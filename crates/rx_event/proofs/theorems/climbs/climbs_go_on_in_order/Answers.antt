@@ -10,7 +10,7 @@ returns-clause-end c = λ base. record {
   only = λ h ns vs ws p q. visits_only p q;
   opened = λ h n vs o p. visits_open h p (o, tt);
   stopped = λ h law n o. stops_open base h n law o;
-  later = hubs_in_order base;
+  later = hubs_in_order;
 }
 
 pub returns-clause-whole : goal.returns-clause-whole

@@ -13,4 +13,4 @@ returns-clause-anew c = λ base. record {
 }
 
 pub returns-clause-less : goal.returns-clause-less
-returns-clause-less c = λ base. record { root = root_less base; connection = connection_less base; hub = hub_disconnected base }
+returns-clause-less c = λ base. record { root = root_less base; connection = connection_less base; hub = hub_disconnected }

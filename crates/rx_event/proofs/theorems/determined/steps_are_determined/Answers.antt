@@ -3,9 +3,9 @@ use Rattle.rx_event.proofs.theorems.determined.steps_are_determined.Goals as goa
 
 pub returns : goal.returns
 returns c = λ base. record {
-  one_terminal = one_terminal base;
-  connects_first = connects_first base;
-  closed_in_both = closed_in_both base;
-  courses = courses_alike base;
-  steps = steps_alike base;
+  one_terminal = one_terminal;
+  connects_first = connects_first;
+  closed_in_both = closed_in_both;
+  courses = courses_alike;
+  steps = steps_alike;
 }

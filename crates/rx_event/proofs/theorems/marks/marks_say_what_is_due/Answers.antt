@@ -7,8 +7,8 @@ returns c =
     λ base. record {
       due = due_at_due base;
       none = due_at_none base;
-      one = one_end base;
-      exactly = due_by_marks_alone base;
+      one = one_end;
+      exactly = due_by_marks_alone;
       settled = settled_by_marks base;
       quiet = settled_quiet base;
     }

@@ -5,6 +5,6 @@ pub returns : goal.returns
 returns c =
     λ base. record {
       same =
-          λ h law f a b switch one one_open other other_open. one_inner base h law f a b
-          (record { switch = switch; one = one; one_open = one_open; other = other; other_open = other_open });
+          λ law one other. one_inner base _ law _ _ _
+          (record { switch = one.switch; one = one.inner; one_open = one.alive; other = other.inner; other_open = other.alive });
     }
