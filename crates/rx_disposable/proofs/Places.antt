@@ -46,19 +46,19 @@ module _ {T : Type 0} where
   above first next (e ∷ es) (suc i) d rise within =
       omega (arith, rise.0, above (e.0 + 1) next es i d rise.1 (omega arith))
 
-  rising : (first next : ℕ) (es : List (ℕ × T)) → TicketsRise first next es → (i j : ℕ) (d : Member T)
-      → i < j → j < length es → (get_or (map member_of es) i d).ticket < (get_or (map member_of es) j d).ticket
+  rising : (first next : ℕ) (es : List (ℕ × T)) → TicketsRise first next es → AreInOrder (map member_of es)
   rising first next [] rise i j d before within = absurd (omega arith)
   rising first next (e ∷ es) rise i zero d before within = absurd (omega arith)
   rising first next (e ∷ es) rise zero (suc j) d before within =
-      omega (arith, above (e.0 + 1) next es j d rise.1 (omega arith))
+      let few = length-map es member_of in
+      omega (arith, above (e.0 + 1) next es j d rise.1 (omega (arith, within, few)))
   rising first next (e ∷ es) rise (suc i) (suc j) d before within =
       rising (e.0 + 1) next es rise.1 i j d (omega arith) (omega arith)
 
   -- the members stand in order of their tickets
   pub in_order : (first next : ℕ) (ms : List (Member T)) → AreFilled ms → TicketsRise first next (entries_of ms) → AreInOrder ms
   in_order first next ms filled rise =
-      subst AreInOrder (sym filled) (λ i j d before within. rising first next (entries_of ms) rise i j d before (rw length-map at within))
+      subst AreInOrder (sym filled) (rising first next (entries_of ms) rise)
 
 module _ {T : Type 0} (ticket : ℕ) (m : Member T) (has : m.ticket ≡ ticket) where
   -- the member at a place has the value that its ticket stands for

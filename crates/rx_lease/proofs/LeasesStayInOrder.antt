@@ -50,10 +50,10 @@ module _ (out : Slots ResKey) (order : Lists) (is : IsInOrder out order) where
       entry slot = ap (λ (es : List (Option (Entry ResKey))). get_or es slot None) same
 
   -- a lease comes last
-  pub order_joined : (new : Slots ResKey) (order' : Lists) (m number : ℕ) (res : ResKey) → IsPast out number → entry_at out m ≡ None →
+  pub order_joined : {new : Slots ResKey} {order' : Lists} {m : ℕ} (number : ℕ) (res : ResKey) → IsPast out number → entry_at out m ≡ None →
       Changes out new m (Some (entry_of number res)) → list_at order' 0 ≡ list_at order 0 ++ m ∷ [] → length order'.lists ≡ length order.lists →
       order'.members ≡ order.members → IsInOrder new order'
-  order_joined new order' m number res past free changes list lists members = record {
+  order_joined {new} {m} number res past free changes list lists members = record {
     single = let few = is.single in omega arith;
     there = λ some. let t = is.there (let s = members in omega arith) in omega arith;
     each = λ slot. ap (is_in slot) list ∙ is_in-append slot m xs ∙ each slot (cases_Bool (slot == m));

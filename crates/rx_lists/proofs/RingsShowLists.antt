@@ -81,15 +81,24 @@ last_leads n p a [] b h all = ap as_member h.back
 last_leads n p a (x ∷ ps) b h all = last_leads n p x ps b h.1 (tail_members x ps all) ∙
     ap (λ z. last_from (as_member z) (map number_of ps)) (all x (among_here tells x ps))
 
-after_leads : (n p : Steps Place) (a : Place) (ps : List Place) (b : Place) → Leads n p a ps b → AreMembers ps → is_end b ≡ true → (m : ℕ) →
+-- the links lead from a over members alone to an end
+record LeadsToEnd (n p : Steps Place) (a : Place) (ps : List Place) (b : Place) : Type 0 where
+  leads : Leads n p a ps b
+  members : AreMembers ps
+  ends : is_end b ≡ true
+
+after_leads : {n p : Steps Place} {a : Place} (ps : List Place) {b : Place} → LeadsToEnd n p a ps b → (m : ℕ) →
     is_among places (Member m) ps ≡ true → as_member (n (Member m)) ≡ after m (map number_of ps)
-after_leads n p a [] b h all ends m i = absurd (false≢true i)
-after_leads n p a (x ∷ ps) b h all ends m i =
-    of (λ j. after_leads n p x ps b h.1 (tail_members x ps all) ends m j) (is_place (Member m) x) refl i ∙
-    ap (λ t. cond t (head_of (map number_of ps)) (after m (map number_of ps))) (place_eq m x (all x (among_here tells x ps))) where
+after_leads [] w m i = absurd (false≢true i)
+after_leads {n} {p} (x ∷ ps) {b} w m i =
+    of (λ j. after_leads ps rest m j) (is_place (Member m) x) refl i ∙
+    ap (λ t. cond t (head_of (map number_of ps)) (after m (map number_of ps))) (place_eq m x (w.members x (among_here tells x ps))) where
+      rest : LeadsToEnd n p x ps b
+      rest = record { leads = w.leads.1; members = tail_members x ps w.members; ends = w.ends }
+
       of : (is_among places (Member m) ps ≡ true → as_member (n (Member m)) ≡ after m (map number_of ps)) → (t : Bool) → is_place (Member m) x ≡ t →
           (t || is_among places (Member m) ps) ≡ true → as_member (n (Member m)) ≡ cond t (head_of (map number_of ps)) (after m (map number_of ps))
-      of later true e j = ap (λ z. as_member (n z)) (tells.same (Member m) x e) ∙ head_leads n p x ps b h.1 (tail_members x ps all) ends
+      of later true e j = ap (λ z. as_member (n z)) (tells.same (Member m) x e) ∙ head_leads n p x ps b rest.leads rest.members rest.ends
       of later false e j = later j
 
 pub length_lists : (ends members : List Link) (room : ℕ) → length (lists_in ends members room).lists ≡ length ends
@@ -113,7 +122,7 @@ module _ (ends members : List Link) (room : ℕ) (tied : IsTiedIn ends members) 
   walk_ring : (e : ℕ) → walk places (length members) (next_in ends members) (End e) ≡ tied.rings (End e)
   walk_ring e =
       let R = tied.ringed in
-      walk_leads tells (length members) (next_in ends members) (previous_in ends members) (End e) (tied.rings (End e)) (End e) refl (R.leads (End e) refl)
+      walk_leads tells (length members) (next_in ends members) (previous_in ends members) (End e) refl (R.leads (End e) refl)
       (λ x i. (R.ends (End e) x (R.members (End e) x i)).1)
       (few_places tells Member number_of (length members) (tied.rings (End e)) (R.differ (End e))
       (λ q i. (below q (ring_members (End e) q i) (tied.there (End e) q (R.members (End e) q i)).1, ring_members (End e) q i))) where
@@ -165,8 +174,8 @@ module _ (ends members : List Link) (room : ℕ) (tied : IsTiedIn ends members) 
 
   pub next_seen : (e m : ℕ) → is_in m (list_at (lists_in ends members room) e) ≡ true →
       as_member (next_in ends members (Member m)) ≡ after m (list_at (lists_in ends members room) e)
-  next_seen e m i = after_leads (next_in ends members) (previous_in ends members) (End e) (tied.rings (End e)) (End e) (tied.ringed.leads (End e) refl)
-      (ring_members (End e)) refl m (sym (seen_in e m) ∙ i) ∙ ap (after m) (sym (seen e))
+  next_seen e m i = after_leads (tied.rings (End e))
+      (record { leads = tied.ringed.leads (End e) refl; members = ring_members (End e); ends = refl }) m (sym (seen_in e m) ∙ i) ∙ ap (after m) (sym (seen e))
 
   -- a member on a list is not followed by itself
   pub not_itself : (e m : ℕ) → is_in m (list_at (lists_in ends members room) e) ≡ true → next_in ends members (Member m) ≢ Member m

@@ -89,10 +89,10 @@ module _ {T : Type 0} where
   }
 
   -- an entry is gone, also from the agenda
-  pub IsKept-without : (s : Schedule T) (t : ℕ) (w : Work T) (old new : BTreeSet (ℕ × ℕ)) → IsKept s old
+  pub IsKept-without : {s : Schedule T} (t : ℕ) (w : Work T) (old new : BTreeSet (ℕ × ℕ)) → IsKept s old
       → lookup (nat_eq t) s.work ≡ Some w → Updates place_cmp old new (w.due, t) false → IsStrictlySortedBy nat_cmp
       (keys_of (remove_entry (nat_eq t) s.work)) → IsKept (schedule s.clock s.tickets (remove_entry (nat_eq t) s.work)) new
-  IsKept-without s t w old new kept found gone ascending = record {
+  IsKept-without {s} t w old new kept found gone ascending = record {
     sound = record {
       ascending = ascending;
       given = All-remove_entry (λ e. e.0 < s.tickets) (nat_eq t) s.work kept.sound.given;

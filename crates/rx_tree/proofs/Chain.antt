@@ -68,7 +68,7 @@ module _ {T : Type 0} where
   walk_due s nodes resources seen tied =
       let R = tied.ringed in
       let at : (q : Place) → is_among places q (tied.rings Due) ≡ true → home_of nodes resources tied.noted q ≡ Some Due = λ q i. R.members Due q i in
-      walk_leads tells (length s.nodes.entries) (next_of s) (previous_of s) Due (tied.rings Due) Due refl (R.leads Due refl) (λ q i. (R.ends Due q (at q i)).1)
+      walk_leads tells (length s.nodes.entries) (next_of s) (previous_of s) Due refl (R.leads Due refl) (λ q i. (R.ends Due q (at q i)).1)
       (few_places tells Noted slot_of (length s.nodes.entries) (tied.rings Due) (R.differ Due)
       (λ q i. let is = due_is nodes resources tied.noted q (at q i) in
       (within (slot_of q) (subst (λ z. stands nodes resources z ≡ true) is (home_stands nodes resources tied.noted q Due (at q i))), is))) where

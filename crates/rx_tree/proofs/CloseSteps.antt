@@ -91,7 +91,7 @@ module _ {T : Type 0} (whole : Store T) (tied : IsTied whole) (top : Key) (there
         let room = cutting.room in
         record {
           moved = cutting.moved ++ record { key = cut.key; node = cut.node } ∷ [];
-          part = part_step (nodes_of whole) tied.sound top there (nodes_of s) (nodes_of t) cutting.moved cut.key cut.node cutting.part cut.found way cut.taken;
+          part = part_step (nodes_of whole) tied.sound top there (nodes_of t) cutting.moved cut.key cut.node cutting.part cut.found way cut.taken;
           listed = cut.moved ∙ ap (λ (xs : List Closed). xs ++ record { key = cut.key; node = cut.node } ∷ []) cutting.listed ∙
               append_assoc list cutting.moved (record { key = cut.key; node = cut.node } ∷ []);
           tied = tied_t;
@@ -153,8 +153,8 @@ module _ {T : Type 0} (whole : Store T) (tied : IsTied whole) (top : Key) (there
           of false o some = some
 
 -- room in the list for what is left
-pub room_left : (a b c d v p q : ℕ) → a + b ≡ c + d → d ≡ v → p ≡ q → c + v ≤ q → a + b ≤ p
-room_left a b c d v p q count view capacity room = omega (arith, count, view, capacity, room)
+pub room_left : (a b c : ℕ) {d v p : ℕ} (q : ℕ) → a + b ≡ c + d → d ≡ v → p ≡ q → c + v ≤ q → a + b ≤ p
+room_left a b c q count view capacity room = omega (arith, count, view, capacity, room)
 
 pub one_moved : (a b x y total : ℕ) → x ≡ a + 1 → y + 1 ≡ b → a + b ≡ total → x + y ≡ total
 one_moved a b x y total more fewer count = omega (arith, more, fewer, count)

@@ -94,10 +94,11 @@ pub same_here : (a b : ℕ) → a ≡ b → (a == b) ≡ true
 same_here a b same = grind (arith, nat_tests, same)
 
 module _ {T : Type 0} where
-  pub count_changed : (p : Option (Entry (Stowed T)) → Bool) (old new : Slots (Stowed T)) (slot : ℕ) (before after : Option (Entry (Stowed T))) →
+  pub count_changed : (p : Option (Entry (Stowed T)) → Bool) (old new : Slots (Stowed T)) {slot : ℕ}
+      (before : Option (Entry (Stowed T))) {after : Option (Entry (Stowed T))} →
       p None ≡ false → slot < length old.entries → entry_at old slot ≡ before → Changes old new slot after →
       count_by p new.entries + bit (p before) ≡ count_by p old.entries + bit (p after)
-  count_changed p old new slot before after none within at change =
+  count_changed p old new {slot} before none within at change =
       ap (λ o. count_by p new.entries + bit (p o)) (sym at) ∙
       sum_changed (λ x. bit (p x)) old.entries new.entries slot (ap bit none) within change.others ∙
       ap (λ o. count_by p old.entries + bit (p o)) change.changed
@@ -105,40 +106,41 @@ module _ {T : Type 0} where
   -- counts of those that pass a test
   module _ (test : Stowed T → Bool) where
     -- one entry changed
-    pub counted_changed : (nodes : Slots Node) (old new : Slots (Stowed T)) (slot : ℕ) (before after : Option (Entry (Stowed T))) (u v : ℕ) (f g : ℕ → ℕ) →
+    pub counted_changed : {nodes : Slots Node} {old new : Slots (Stowed T)} {slot : ℕ} {before after : Option (Entry (Stowed T))} {u : ℕ} (v : ℕ) {f : ℕ → ℕ}
+        (g : ℕ → ℕ) →
         AreCounted test nodes old u f → slot < length old.entries → entry_at old slot ≡ before → Changes old new slot after →
         v + bit (unowned_in test nodes before) ≡ u + bit (unowned_in test nodes after) →
         ((j : ℕ) → g j + bit (owned_at test nodes j before) ≡ f j + bit (owned_at test nodes j after)) → AreCounted test nodes new v g
-    counted_changed nodes old new slot before after u v f g c within at change none each = record {
+    counted_changed {nodes} {old} {new} {before} {after} v g c within at change none each = record {
       by_none =
           let was = c.by_none in
           let e : count_by (unowned_in test nodes) new.entries + bit (unowned_in test nodes before) ≡ count_by (unowned_in test nodes) old.entries + bit
           (unowned_in test nodes after) =
-          count_changed (unowned_in test nodes) old new slot before after refl within at change in
+          count_changed (unowned_in test nodes) old new before refl within at change in
           omega (arith, was, e, none);
       by_each = λ j.
           let was = c.by_each j in
           let e : count_by (owned_at test nodes j) new.entries + bit (owned_at test nodes j before) ≡ count_by (owned_at test nodes j) old.entries + bit
           (owned_at test nodes j after) =
-          count_changed (owned_at test nodes j) old new slot before after refl within at change in
+          count_changed (owned_at test nodes j) old new before refl within at change in
           let here = each j in
           omega (arith, was, e, here);
     }
 
     -- one came to a slot that was free
-    pub counted_placed : (nodes : Slots Node) (old new : Slots (Stowed T)) (slot : ℕ) (after : Entry (Stowed T)) (u v : ℕ) (f g : ℕ → ℕ) →
+    pub counted_placed : {nodes : Slots Node} {old new : Slots (Stowed T)} {slot : ℕ} (after : Entry (Stowed T)) {u : ℕ} (v : ℕ) {f : ℕ → ℕ} (g : ℕ → ℕ) →
         AreCounted test nodes old u f → entry_at old slot ≡ None → Changes old new slot (Some after) →
         v ≡ u + bit (unowned_in test nodes (Some after)) → ((j : ℕ) → g j ≡ f j + bit (owned_at test nodes j (Some after))) → AreCounted test nodes new v g
-    counted_placed nodes old new slot after u v f g c free change none each = record {
+    counted_placed {nodes} {old} {new} {slot} after v g c free change none each = record {
       by_none =
           let was = c.by_none in
           let e : count_by (unowned_in test nodes) old.entries + bit (unowned_in test nodes (Some after)) ≡ count_by (unowned_in test nodes) new.entries + 0 =
-          count_changed (unowned_in test nodes) new old slot (Some after) None refl within change.changed back in
+          count_changed (unowned_in test nodes) new old (Some after) refl within change.changed back in
           omega (arith, was, e, none);
       by_each = λ j.
           let was = c.by_each j in
           let e : count_by (owned_at test nodes j) old.entries + bit (owned_at test nodes j (Some after)) ≡ count_by (owned_at test nodes j) new.entries + 0 =
-          count_changed (owned_at test nodes j) new old slot (Some after) None refl within change.changed back in
+          count_changed (owned_at test nodes j) new old (Some after) refl within change.changed back in
           let here = each j in
           omega (arith, was, e, here);
     } where

@@ -35,6 +35,18 @@ zero_of : (l : Bool) → part l no_counts ≡ 0
 zero_of true = refl
 zero_of false = refl
 
+-- how a resource counts beside these nodes: with a lease out or none, with an owner or none
+pub record CountsAs {T : Type 0} (nodes : Slots Node) (stowed : Stowed T) (lent owned : Bool) : Type 0 where
+  pub lending : is_lent stowed ≡ lent
+  pub owning : is_owned nodes stowed ≡ owned
+
+-- over the same nodes, which owe the same, these are counted of the resources without an owner, and those of the node of this slot
+pub record Recounts {T : Type 0} (a b : Store T) (slot : ℕ) (w x : Counts) : Type 0 where
+  pub nodes : nodes_of b ≡ nodes_of a
+  pub owed : b.owed ≡ a.owed
+  pub waiting : b.waiting_count ≡ w
+  pub held : (j : ℕ) → held_count_at b j ≡ cond (slot == j) x (held_count_at a j)
+
 -- the test of it
 abbrev test_of : {T : Type 0} → Bool → Stowed T → Bool
 test_of l stowed = cond l (is_lent stowed) (is_free stowed)
@@ -53,9 +65,9 @@ module _ {T : Type 0} where
   counted_of s each owed = record { free = each false; lent = each true; owed = owed }
 
   -- with counts that are the same
-  re_counted : (l : Bool) (nodes : Slots Node) (resources : Slots (Stowed T)) (u v : Counts) (f g : ℕ → Counts) → u ≡ v → ((j : ℕ) → f j ≡ g j) →
+  re_counted : (l : Bool) {nodes : Slots Node} {resources : Slots (Stowed T)} (u v : Counts) (f g : ℕ → Counts) → u ≡ v → ((j : ℕ) → f j ≡ g j) →
       AreCountedAs l nodes resources u f → AreCountedAs l nodes resources v g
-  re_counted l nodes resources u v f g same each c = record {
+  re_counted l u v f g same each c = record {
     by_none = ap (part l) (sym same) ∙ c.by_none;
     by_each = λ j. ap (part l) (sym (each j)) ∙ c.by_each j;
   }
@@ -66,7 +78,7 @@ module _ {T : Type 0} (a b : Store T) where
       (resources_of b).entries ≡ (resources_of a).entries → ((key : Key) (stowed : Stowed T) → find (resources_of a) key ≡ Some stowed → is_some (find
       (nodes_of b) stowed.node) ≡ is_some (find (nodes_of a) stowed.node)) → b.owed ≡ owed_in (nodes_of b) → IsCounted b
   counted_kept c waiting held entries same owed = counted_of b (λ l.
-      re_counted l (nodes_of b) (resources_of b) a.waiting_count b.waiting_count (held_count_at a) (held_count_at b) (sym waiting) (λ j. sym (held j))
+      re_counted l a.waiting_count b.waiting_count (held_count_at a) (held_count_at b) (sym waiting) (λ j. sym (held j))
       (are_counted_still (test_of l) (nodes_of a) (nodes_of b) (resources_of a) (resources_of b) entries same (part l a.waiting_count)
       (λ j. part l (held_count_at a j)) (sort_of a c l))) owed
 
@@ -120,7 +132,7 @@ module _ {T : Type 0} (a b : Store T) where
         let e : count_by (owned_at is_free (nodes_of a) stowed.node.slot) (resources_of a).entries + bit
         (owned_at is_free (nodes_of a) stowed.node.slot (Some (entry_of number stowed))) ≡
         count_by (owned_at is_free (nodes_of a) stowed.node.slot) (resources_of b).entries + 0 =
-        count_changed (owned_at is_free (nodes_of a) stowed.node.slot) (resources_of b) (resources_of a) key.slot (Some (entry_of number stowed)) None refl
+        count_changed (owned_at is_free (nodes_of a) stowed.node.slot) (resources_of b) (resources_of a) (Some (entry_of number stowed)) refl
         (slot_within (resources_of b) key.slot (entry_of number stowed) came.changes.changed) came.changes.changed
         (record { changed = came.was_free; others = λ j other. sym (came.changes.others j other) }) in
         let here = each_of false stowed.node.slot in
@@ -132,9 +144,8 @@ module _ {T : Type 0} (a b : Store T) where
     pub counted_came : nodes_of b ≡ nodes_of a → b.waiting_count ≡ a.waiting_count → ((j : ℕ) → held_count_at b j ≡ cond (stowed.node.slot == j)
         (one_more false (held_count_at a stowed.node.slot)) (held_count_at a j)) → b.owed ≡ a.owed → IsCounted b
     counted_came nodes waiting count owed = counted_of b (λ l. subst (λ n. AreCountedAs l n (resources_of b) b.waiting_count (held_count_at b)) (sym nodes)
-        (counted_placed (test_of l) (nodes_of a) (resources_of a) (resources_of b) key.slot (entry_of number stowed) (part l a.waiting_count)
-        (part l b.waiting_count)
-        (λ j. part l (held_count_at a j)) (λ j. part l (held_count_at b j)) (sort_of a c l) came.was_free came.changes
+        (counted_placed (test_of l) (entry_of number stowed)
+        (part l b.waiting_count) (λ j. part l (held_count_at b j)) (sort_of a c l) came.was_free came.changes
         (let none = none_of l in let same = ap (part l) waiting in omega (arith, none, same))
         (λ j. of l j (cases_eq stowed.node.slot j)))) (owed ∙ c.owed ∙ ap owed_in (sym nodes))
       where
@@ -184,8 +195,7 @@ module _ {T : Type 0} (a b : Store T) where
         let e : count_by (unowned_in (test_of l) (nodes_of a)) (resources_of b).entries + bit
         (unowned_in (test_of l) (nodes_of a) (Some (entry_of key.number stowed))) ≡
         count_by (unowned_in (test_of l) (nodes_of a)) (resources_of a).entries + bit (unowned_in (test_of l) (nodes_of a) (Some (entry_of key.number other))) =
-        count_changed (unowned_in (test_of l) (nodes_of a)) (resources_of a) (resources_of b) key.slot (Some (entry_of key.number stowed))
-        (Some (entry_of key.number other)) refl within
+        count_changed (unowned_in (test_of l) (nodes_of a)) (resources_of a) (resources_of b) (Some (entry_of key.number stowed)) refl within
         (entry_found (resources_of a) key stowed found) change in
         let one = ap bit was in let none = ap bit now in
         omega (arith, counts, e, one, none)
@@ -198,8 +208,7 @@ module _ {T : Type 0} (a b : Store T) where
         let e : count_by (owned_at (test_of l) (nodes_of a) j) (resources_of b).entries + bit
         (owned_at (test_of l) (nodes_of a) j (Some (entry_of key.number stowed))) ≡
         count_by (owned_at (test_of l) (nodes_of a) j) (resources_of a).entries + bit (owned_at (test_of l) (nodes_of a) j (Some (entry_of key.number other))) =
-        count_changed (owned_at (test_of l) (nodes_of a) j) (resources_of a) (resources_of b) key.slot (Some (entry_of key.number stowed))
-        (Some (entry_of key.number other)) refl within
+        count_changed (owned_at (test_of l) (nodes_of a) j) (resources_of a) (resources_of b) (Some (entry_of key.number stowed)) refl within
         (entry_found (resources_of a) key stowed found) change in
         let one = ap bit was in let none = ap bit now in
         omega (arith, counts, e, one, none)
@@ -213,8 +222,7 @@ module _ {T : Type 0} (a b : Store T) where
         let e : count_by (unowned_in (test_of l) (nodes_of a)) (resources_of b).entries + bit
         (unowned_in (test_of l) (nodes_of a) (Some (entry_of key.number stowed))) ≡
         count_by (unowned_in (test_of l) (nodes_of a)) (resources_of a).entries + bit (unowned_in (test_of l) (nodes_of a) (Some (entry_of key.number other))) =
-        count_changed (unowned_in (test_of l) (nodes_of a)) (resources_of a) (resources_of b) key.slot (Some (entry_of key.number stowed))
-        (Some (entry_of key.number other)) refl within
+        count_changed (unowned_in (test_of l) (nodes_of a)) (resources_of a) (resources_of b) (Some (entry_of key.number stowed)) refl within
         (entry_found (resources_of a) key stowed found) change in
         let one = ap bit now in let none = ap bit was in
         let few = count_by-le-length (unowned_in (test_of l) (nodes_of a)) (resources_of b).entries in
@@ -229,8 +237,7 @@ module _ {T : Type 0} (a b : Store T) where
         let e : count_by (owned_at (test_of l) (nodes_of a) j) (resources_of b).entries + bit
         (owned_at (test_of l) (nodes_of a) j (Some (entry_of key.number stowed))) ≡
         count_by (owned_at (test_of l) (nodes_of a) j) (resources_of a).entries + bit (owned_at (test_of l) (nodes_of a) j (Some (entry_of key.number other))) =
-        count_changed (owned_at (test_of l) (nodes_of a) j) (resources_of a) (resources_of b) key.slot (Some (entry_of key.number stowed))
-        (Some (entry_of key.number other)) refl within
+        count_changed (owned_at (test_of l) (nodes_of a) j) (resources_of a) (resources_of b) (Some (entry_of key.number stowed)) refl within
         (entry_found (resources_of a) key stowed found) change in
         let one = ap bit now in let none = ap bit was in
         let few = count_by-le-length (owned_at (test_of l) (nodes_of a) j) (resources_of b).entries in
@@ -244,34 +251,35 @@ module _ {T : Type 0} (a b : Store T) where
         ((l : Bool) (j : ℕ) → part l (held_count_at b j) + bit (owned_at (test_of l) (nodes_of a) j (Some (entry_of key.number stowed))) ≡
         part l (held_count_at a j) + bit (owned_at (test_of l) (nodes_of a) j (Some (entry_of key.number other)))) → IsCounted b
     counted_rewritten nodes owed none each = counted_of b (λ l. subst (λ n. AreCountedAs l n (resources_of b) b.waiting_count (held_count_at b)) (sym nodes)
-        (counted_changed (test_of l) (nodes_of a) (resources_of a) (resources_of b) key.slot (Some (entry_of key.number stowed))
-        (Some (entry_of key.number other))
-        (part l a.waiting_count) (part l b.waiting_count) (λ j. part l (held_count_at a j)) (λ j. part l (held_count_at b j)) (sort_of a c l) within
+        (counted_changed (test_of l) (part l b.waiting_count) (λ j. part l (held_count_at b j)) (sort_of a c l) within
         (entry_found (resources_of a) key stowed found) change (none l) (each l))) (owed ∙ c.owed ∙ ap owed_in (sym nodes))
 
     -- with a lease out or not, owned or not: where it is counted
     abbrev same_sort : Bool → Bool → Bool
     same_sort l lent = cond l lent (not lent)
 
-    bit_none : (st : Stowed T) (lent owned : Bool) → is_lent st ≡ lent → is_owned (nodes_of a) st ≡ owned → (l : Bool) →
+    bit_none : {st : Stowed T} {lent owned : Bool} → CountsAs (nodes_of a) st lent owned → (l : Bool) →
         bit (unowned_in (test_of l) (nodes_of a) (Some (entry_of key.number st))) ≡ bit (same_sort l lent && not owned)
-    bit_none st lent owned is own true = λ i. bit (is i && not (own i))
-    bit_none st lent owned is own false = λ i. bit (not (is i) && not (own i))
+    bit_none counts true = λ i. bit (counts.lending i && not (counts.owning i))
+    bit_none counts false = λ i. bit (not (counts.lending i) && not (counts.owning i))
 
-    bit_each : (st : Stowed T) (lent owned : Bool) → is_lent st ≡ lent → is_owned (nodes_of a) st ≡ owned → st.node ≡ stowed.node → (l : Bool) (j : ℕ) →
+    bit_each : {st : Stowed T} {lent owned : Bool} → CountsAs (nodes_of a) st lent owned → st.node ≡ stowed.node → (l : Bool) (j : ℕ) →
         bit (owned_at (test_of l) (nodes_of a) j (Some (entry_of key.number st))) ≡ bit (same_sort l lent && (owned && (stowed.node.slot == j)))
-    bit_each st lent owned is own at true j = λ i. bit (is i && (own i && ((at i).slot == j)))
-    bit_each st lent owned is own at false j = λ i. bit (not (is i) && (own i && ((at i).slot == j)))
+    bit_each counts at true j = λ i. bit (counts.lending i && (counts.owning i && ((at i).slot == j)))
+    bit_each counts at false j = λ i. bit (not (counts.lending i) && (counts.owning i && ((at i).slot == j)))
 
     -- the counts go with it
-    pub counted_moved : (lent owned lent' owned' : Bool) → is_lent stowed ≡ lent → is_owned (nodes_of a) stowed ≡ owned → is_lent other ≡ lent' →
-        is_owned (nodes_of a) other ≡ owned' → nodes_of b ≡ nodes_of a → b.owed ≡ a.owed → (w x : Counts) → b.waiting_count ≡ w →
-        ((j : ℕ) → held_count_at b j ≡ cond (stowed.node.slot == j) x (held_count_at a j)) →
+    pub counted_moved : {lent owned lent' owned' : Bool} {w x : Counts} → CountsAs (nodes_of a) stowed lent owned → CountsAs (nodes_of a) other lent' owned' →
+        Recounts a b stowed.node.slot w x →
         ((l : Bool) → part l w + bit (same_sort l lent && not owned) ≡ part l a.waiting_count + bit (same_sort l lent' && not owned')) →
         ((l : Bool) → part l x + bit (same_sort l lent && owned) ≡ part l (held_count_at a stowed.node.slot) + bit (same_sort l lent' && owned')) → IsCounted b
-    counted_moved lent owned lent' owned' is own is' own' nodes owed w x waiting count none each = counted_rewritten nodes owed
-        (λ l. let now = ap (part l) waiting in let was = bit_none stowed lent owned is own l in let then = bit_none other lent' owned' is' own' l in let e =
-        none l in omega (arith, now, was, then, e))
+    counted_moved {lent} {owned} {lent'} {owned'} {x} was_as now_as new none each = counted_rewritten new.nodes new.owed
+        (λ l.
+        let now = ap (part l) new.waiting in
+        let was = bit_none was_as l in
+        let then = bit_none now_as l in
+        let e = none l in
+        omega (arith, now, was, then, e))
         (λ l j. of l j (cases_eq stowed.node.slot j))
       where
         of : (l : Bool) (j : ℕ) → (stowed.node.slot ≡ j) ⊎ (stowed.node.slot ≢ j) → part l (held_count_at b j) + bit
@@ -279,10 +287,10 @@ module _ {T : Type 0} (a b : Store T) where
             part l (held_count_at a j) + bit (owned_at (test_of l) (nodes_of a) j (Some (entry_of key.number other)))
         of l j (inl here) =
             let at = same_here stowed.node.slot j here in
-            let now : part l (held_count_at b j) ≡ part l x = ap (part l) (count j ∙ ap (λ t. cond t x (held_count_at a j)) at) in
+            let now : part l (held_count_at b j) ≡ part l x = ap (part l) (new.held j ∙ ap (λ t. cond t x (held_count_at a j)) at) in
             let home_was : part l (held_count_at a stowed.node.slot) ≡ part l (held_count_at a j) = ap (λ k. part l (held_count_at a k)) here in
-            let was = bit_each stowed lent owned is own refl l j ∙ ap (λ t. bit (same_sort l lent && (owned && t))) at ∙ and_yes (same_sort l lent) owned in
-            let then = bit_each other lent' owned' is' own' home l j ∙ ap (λ t. bit (same_sort l lent' && (owned' && t))) at ∙ and_yes (same_sort l lent')
+            let was = bit_each was_as refl l j ∙ ap (λ t. bit (same_sort l lent && (owned && t))) at ∙ and_yes (same_sort l lent) owned in
+            let then = bit_each now_as home l j ∙ ap (λ t. bit (same_sort l lent' && (owned' && t))) at ∙ and_yes (same_sort l lent')
             owned' in
             let e = each l in
             omega (arith, now, home_was, was, then, e)
@@ -292,9 +300,9 @@ module _ {T : Type 0} (a b : Store T) where
             and_yes p false = refl
         of l j (inr apart) =
             let at = same_apart stowed.node.slot j apart in
-            let now : part l (held_count_at b j) ≡ part l (held_count_at a j) = ap (part l) (count j ∙ ap (λ t. cond t x (held_count_at a j)) at) in
-            let was = bit_each stowed lent owned is own refl l j ∙ ap (λ t. bit (same_sort l lent && (owned && t))) at ∙ and_no (same_sort l lent) owned in
-            let then = bit_each other lent' owned' is' own' home l j ∙ ap (λ t. bit (same_sort l lent' && (owned' && t))) at ∙ and_no (same_sort l lent')
+            let now : part l (held_count_at b j) ≡ part l (held_count_at a j) = ap (part l) (new.held j ∙ ap (λ t. cond t x (held_count_at a j)) at) in
+            let was = bit_each was_as refl l j ∙ ap (λ t. bit (same_sort l lent && (owned && t))) at ∙ and_no (same_sort l lent) owned in
+            let then = bit_each now_as home l j ∙ ap (λ t. bit (same_sort l lent' && (owned' && t))) at ∙ and_no (same_sort l lent')
             owned' in
             omega (arith, now, was, then)
           where
@@ -304,16 +312,15 @@ module _ {T : Type 0} (a b : Store T) where
             and_no false q = refl
 
     -- where it is counted there is one
-    pub some_counted : (lent lent' owned' : Bool) → is_lent stowed ≡ lent → is_owned (nodes_of a) stowed ≡ true → is_lent other ≡ lent' → is_owned
-        (nodes_of a) other ≡ owned' →
+    pub some_counted : {lent lent' owned' : Bool} → CountsAs (nodes_of a) stowed lent true → CountsAs (nodes_of a) other lent' owned' →
         (same_sort lent lent' && owned') ≡ false → 1 ≤ part lent (held_count_at a stowed.node.slot)
-    some_counted lent lent' owned' is own is' own' leaves = some_owned lent stowed.node.slot (was lent is) (now lent leaves) where
+    some_counted {lent} {lent'} {owned'} was_as now_as leaves = some_owned lent stowed.node.slot (was lent was_as.lending) (now lent leaves) where
       here : (stowed.node.slot == stowed.node.slot) ≡ true
       here = same_here stowed.node.slot stowed.node.slot refl
 
       was : (l : Bool) → is_lent stowed ≡ l → owned_at (test_of l) (nodes_of a) stowed.node.slot (Some (entry_of key.number stowed)) ≡ true
-      was true is = λ i. is i && (own i && here i)
-      was false is = λ i. not (is i) && (own i && here i)
+      was true is = λ i. is i && (was_as.owning i && here i)
+      was false is = λ i. not (is i) && (was_as.owning i && here i)
 
       drop_here : (p q : Bool) → (p && q) ≡ false → (p && (q && true)) ≡ false
       drop_here true true e = e
@@ -321,9 +328,10 @@ module _ {T : Type 0} (a b : Store T) where
       drop_here false q e = refl
 
       now : (l : Bool) → (same_sort l lent' && owned') ≡ false → owned_at (test_of l) (nodes_of a) stowed.node.slot (Some (entry_of key.number other)) ≡ false
-      now true leaves = (λ i. is' i && (own' i && ((home i).slot == stowed.node.slot))) ∙ ap (λ t. lent' && (owned' && t)) here ∙ drop_here lent' owned' leaves
-      now false leaves = (λ i. not (is' i) && (own' i && ((home i).slot == stowed.node.slot))) ∙ ap (λ t. not lent' && (owned' && t)) here ∙ drop_here
-          (not lent') owned' leaves
+      now true leaves = (λ i. now_as.lending i && (now_as.owning i && ((home i).slot == stowed.node.slot))) ∙
+          ap (λ t. lent' && (owned' && t)) here ∙ drop_here lent' owned' leaves
+      now false leaves = (λ i. not (now_as.lending i) && (now_as.owning i && ((home i).slot == stowed.node.slot))) ∙
+          ap (λ t. not lent' && (owned' && t)) here ∙ drop_here (not lent') owned' leaves
 
   module _ (c : IsCounted a) (key : Key) (stowed : Stowed T) (found : find (resources_of a) key ≡ Some stowed) where
     -- one that waits is taken out
@@ -352,7 +360,7 @@ module _ {T : Type 0} (a b : Store T) where
           let e : count_by (unowned_in is_free (nodes_of a)) (resources_of b).entries + bit
           (unowned_in is_free (nodes_of a) (Some (entry_of key.number stowed))) ≡
           count_by (unowned_in is_free (nodes_of a)) (resources_of a).entries + 0 =
-          count_changed (unowned_in is_free (nodes_of a)) (resources_of a) (resources_of b) key.slot (Some (entry_of key.number stowed)) None refl within_out
+          count_changed (unowned_in is_free (nodes_of a)) (resources_of a) (resources_of b) (Some (entry_of key.number stowed)) refl within_out
           (entry_found (resources_of a) key stowed found) change in
           let one = none_out false in
           omega (arith, counts, e, one)
@@ -360,8 +368,7 @@ module _ {T : Type 0} (a b : Store T) where
       pub counted_taken : b.nodes ≡ a.nodes → b.waiting_count ≡ one_less false a.waiting_count → b.owed ≡ a.owed → IsCounted b
       counted_taken nodes waiting owed = counted_of b (λ l. subst (λ (n : Slots Linked). AreCountedAs l (project (λ x. x.node) n) (resources_of b)
           b.waiting_count (λ j. option_map_or (λ x. x.held_count) (value_at n j) no_counts)) (sym nodes)
-          (counted_changed (test_of l) (nodes_of a) (resources_of a) (resources_of b) key.slot (Some (entry_of key.number stowed)) None
-          (part l a.waiting_count) (part l b.waiting_count) (λ j. part l (held_count_at a j)) (λ j. part l (held_count_at a j)) (sort_of a c l) within_out
+          (counted_changed (test_of l) (part l b.waiting_count) (λ j. part l (held_count_at a j)) (sort_of a c l) within_out
           (entry_found (resources_of a) key stowed found) change (less l) (λ j. let none = each_out l j in omega (arith, none))))
           (owed ∙ c.owed ∙ (λ i. owed_in (project (λ x. x.node) (sym nodes i))))
         where
@@ -511,7 +518,8 @@ module _ {T : Type 0} (a b : Store T) (c : IsCounted a) (key : Key) (stowed : St
   no_more false = refl
 
   pub removed_some : 1 ≤ count_if (is_lent stowed) (held_count_at a stowed.node.slot)
-  removed_some = some_counted a b c key stowed (removed stowed) found refl change (is_lent stowed) (is_lent stowed) false refl owned refl off (no_more _)
+  removed_some = some_counted a b c key stowed (removed stowed) found refl change (record { lending = refl; owning = owned })
+      (record { lending = refl; owning = off }) (no_more _)
 
   pub removed_fits : count_if (is_lent stowed) a.waiting_count < length b.resources.entries
   removed_fits = unowned_fits a b c key stowed (removed stowed) found refl change (is_lent stowed) (was (is_lent stowed) refl) (now (is_lent stowed) refl) where
@@ -526,9 +534,9 @@ module _ {T : Type 0} (a b : Store T) (c : IsCounted a) (key : Key) (stowed : St
   pub counted_removed : nodes_of b ≡ nodes_of a → b.waiting_count ≡ one_more (is_lent stowed) a.waiting_count →
       ((j : ℕ) → held_count_at b j ≡ cond (stowed.node.slot == j) (one_less (is_lent stowed) (held_count_at a stowed.node.slot)) (held_count_at a j)) →
       b.owed ≡ a.owed → IsCounted b
-  counted_removed nodes waiting count owed = counted_moved a b c key stowed (removed stowed) found refl change (is_lent stowed) true (is_lent stowed) false
-      refl owned refl off
-      nodes owed (one_more (is_lent stowed) a.waiting_count) (one_less (is_lent stowed) (held_count_at a stowed.node.slot)) waiting count
+  counted_removed nodes waiting count owed = counted_moved a b c key stowed (removed stowed) found refl change
+      {x = one_less (is_lent stowed) (held_count_at a stowed.node.slot)} (record { lending = refl; owning = owned }) (record { lending = refl; owning = off })
+      (record { nodes = nodes; owed = owed; waiting = waiting; held = count })
       (λ l. more l (is_lent stowed)) (λ l. less l (is_lent stowed) removed_some)
     where
       more : (l lent : Bool) → part l (one_more lent a.waiting_count) + bit (cond l lent (not lent) && not true) ≡ part l a.waiting_count + bit
@@ -559,7 +567,8 @@ module _ {T : Type 0} (a b : Store T) (c : IsCounted a) (key : Key) (stowed : St
 
   module _ (first : is_lent stowed ≡ false) where
     pub first_some : 1 ≤ (held_count_at a stowed.node.slot).free
-    first_some = some_counted a b c key stowed (one_lease_more stowed) found refl change false true true first owned lent_now owned refl
+    first_some = some_counted a b c key stowed (one_lease_more stowed) found refl change (record { lending = first; owning = owned })
+        (record { lending = lent_now; owning = owned }) refl
 
     pub first_fits : (held_count_at a stowed.node.slot).lent < length b.resources.entries
     first_fits = owned_fits a b c key stowed (one_lease_more stowed) found refl change true stowed.node.slot
@@ -568,9 +577,9 @@ module _ {T : Type 0} (a b : Store T) (c : IsCounted a) (key : Key) (stowed : St
 
     pub counted_first : nodes_of b ≡ nodes_of a → b.waiting_count ≡ a.waiting_count → ((j : ℕ) → held_count_at b j ≡ cond (stowed.node.slot == j)
         (one_more true (one_less false (held_count_at a stowed.node.slot))) (held_count_at a j)) → b.owed ≡ a.owed → IsCounted b
-    counted_first nodes waiting count owed = counted_moved a b c key stowed (one_lease_more stowed) found refl change false true true true first owned
-        lent_now owned nodes owed
-        a.waiting_count (one_more true (one_less false (held_count_at a stowed.node.slot))) waiting count same (each first_some)
+    counted_first nodes waiting count owed = counted_moved a b c key stowed (one_lease_more stowed) found refl change
+        {x = one_more true (one_less false (held_count_at a stowed.node.slot))} (record { lending = first; owning = owned })
+        (record { lending = lent_now; owning = owned }) (record { nodes = nodes; owed = owed; waiting = waiting; held = count }) same (each first_some)
       where
         same : (l : Bool) → part l a.waiting_count + bit (cond l false true && not true) ≡ part l a.waiting_count + bit (cond l true false && not true)
         same true = refl
@@ -585,9 +594,9 @@ module _ {T : Type 0} (a b : Store T) (c : IsCounted a) (key : Key) (stowed : St
   -- not the first
   pub counted_again : is_lent stowed ≡ true → nodes_of b ≡ nodes_of a → b.waiting_count ≡ a.waiting_count →
       ((j : ℕ) → held_count_at b j ≡ held_count_at a j) → b.owed ≡ a.owed → IsCounted b
-  counted_again lent nodes waiting count owed = counted_moved a b c key stowed (one_lease_more stowed) found refl change true true true true lent owned
-      lent_now owned nodes owed
-      a.waiting_count (held_count_at a stowed.node.slot) waiting (still a b stowed.node.slot count) (λ l. refl) (λ l. refl)
+  counted_again lent nodes waiting count owed = counted_moved a b c key stowed (one_lease_more stowed) found refl change
+      {x = held_count_at a stowed.node.slot} (record { lending = lent; owning = owned }) (record { lending = lent_now; owning = owned })
+      (record { nodes = nodes; owed = owed; waiting = waiting; held = still a b stowed.node.slot count }) (λ l. refl) (λ l. refl)
 
 -- a lease less is out
 module _ {T : Type 0} (a b : Store T) (c : IsCounted a) (key : Key) (stowed : Stowed T) (found : find (resources_of a) key ≡ Some stowed)
@@ -597,7 +606,8 @@ module _ {T : Type 0} (a b : Store T) (c : IsCounted a) (key : Key) (stowed : St
     pub last_some : 1 ≤ (cond owned (held_count_at a stowed.node.slot) a.waiting_count).lent
     last_some = of owned own where
       of : (o : Bool) → is_owned (nodes_of a) stowed ≡ o → 1 ≤ (cond o (held_count_at a stowed.node.slot) a.waiting_count).lent
-      of true own = some_counted a b c key stowed (one_lease_less stowed) found refl change true false true lent own last own refl
+      of true own = some_counted a b c key stowed (one_lease_less stowed) found refl change (record { lending = lent; owning = own })
+          (record { lending = last; owning = own }) refl
       of false own = some_unowned a b c key stowed (one_lease_less stowed) found refl change true (λ i. lent i && not (own i)) (λ i. last i && not (own i))
 
     pub last_fits : (cond owned (held_count_at a stowed.node.slot) a.waiting_count).free < length b.resources.entries
@@ -627,17 +637,17 @@ module _ {T : Type 0} (a b : Store T) (c : IsCounted a) (key : Key) (stowed : St
       of : (o : Bool) → is_owned (nodes_of a) stowed ≡ o → b.waiting_count ≡ cond o a.waiting_count (freed a.waiting_count) → ((j : ℕ) → held_count_at b j ≡
           cond (o && stowed.node.slot == j) (freed (held_count_at a stowed.node.slot)) (held_count_at a j)) → 1 ≤
           (cond o (held_count_at a stowed.node.slot) a.waiting_count).lent → IsCounted b
-      of true own waiting count some = counted_moved a b c key stowed (one_lease_less stowed) found refl change true true false true lent own last own nodes
-          owed
-          a.waiting_count (freed (held_count_at a stowed.node.slot)) waiting count none_same (move (held_count_at a stowed.node.slot) some)
-      of false own waiting count some = counted_moved a b c key stowed (one_lease_less stowed) found refl change true false false false lent own last own
-          nodes owed
-          (freed a.waiting_count) (held_count_at a stowed.node.slot) waiting (still a b stowed.node.slot count) (move a.waiting_count some)
+      of true own waiting count some = counted_moved a b c key stowed (one_lease_less stowed) found refl change
+          {x = freed (held_count_at a stowed.node.slot)} (record { lending = lent; owning = own }) (record { lending = last; owning = own })
+          (record { nodes = nodes; owed = owed; waiting = waiting; held = count }) none_same (move (held_count_at a stowed.node.slot) some)
+      of false own waiting count some = counted_moved a b c key stowed (one_lease_less stowed) found refl change
+          {x = held_count_at a stowed.node.slot} (record { lending = lent; owning = own }) (record { lending = last; owning = own })
+          (record { nodes = nodes; owed = owed; waiting = waiting; held = still a b stowed.node.slot count }) (move a.waiting_count some)
           (each_same (held_count_at a stowed.node.slot))
 
   pub counted_fewer : is_lent (one_lease_less stowed) ≡ true → nodes_of b ≡ nodes_of a → b.waiting_count ≡ a.waiting_count →
       ((j : ℕ) → held_count_at b j ≡ held_count_at a j) →
       b.owed ≡ a.owed → IsCounted b
-  counted_fewer more nodes waiting count owed = counted_moved a b c key stowed (one_lease_less stowed) found refl change true owned true owned lent own more
-      own nodes owed
-      a.waiting_count (held_count_at a stowed.node.slot) waiting (still a b stowed.node.slot count) (λ l. refl) (λ l. refl)
+  counted_fewer more nodes waiting count owed = counted_moved a b c key stowed (one_lease_less stowed) found refl change
+      {x = held_count_at a stowed.node.slot} (record { lending = lent; owning = own }) (record { lending = more; owning = own })
+      (record { nodes = nodes; owed = owed; waiting = waiting; held = still a b stowed.node.slot count }) (λ l. refl) (λ l. refl)

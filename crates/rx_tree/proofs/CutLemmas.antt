@@ -55,9 +55,9 @@ part_start whole top = record {
 
 module _ (whole : Slots Node) (sound : IsSound whole) (top : Key) (there : IsSome (find whole top)) where
   -- one record more is moved out
-  pub part_step : (s t : Slots Node) (moved : List Closed) (key : Key) (node : Node) → IsPart whole top s moved → find s key ≡ Some node →
+  pub part_step : {s : Slots Node} (t : Slots Node) (moved : List Closed) (key : Key) (node : Node) → IsPart whole top s moved → find s key ≡ Some node →
       Descends whole top key → Takes_out s t key → IsPart whole top t (moved ++ record { key = key; node = node } ∷ [])
-  part_step s t moved key node part found down taken =
+  part_step {s} t moved key node part found down taken =
       let was : find whole key ≡ Some node = sym (part.left key (ap is_some found)) ∙ found in
       let below : IsInside whole top.number (record { key = key; node = node }) =
       record { found = was; below = descends_below whole sound top key there down } in

@@ -30,16 +30,16 @@ use Rattle.rx_tree.proofs.Laws.Keys.{cases_key, some_of, none_not_some, same_key
 use Rattle.rx_tree.proofs.Laws.FoundAfterWrite.{one_key, with_number-same}
 use Rattle.rx_tree.proofs.LeafRings.{lone, lone_here, lone_other, lone_some, next_there, previous_there, empty_ring, nothing_on, held_is, no_above, none_held}
 use Rattle.rx_tree.proofs.Sound.{IfSome-same}
-use Rattle.rx_tree.proofs.TieRecords.{home_by, home_stands, aged}
+use Rattle.rx_tree.proofs.TieRecords.{HomesStay, home_by, home_stands, aged}
 use Rattle.rx_tree.proofs.TieLemmas.{wrote_next, wrote_previous}
 use Rattle.rx_tree.proofs.TieSteps.{rings_same, rises_without, rises_same, tied_links}
 use Rattle.rx_tree.proofs.There.{end_stands, slot_stands}
 
 module _ {T : Type 0} where
   -- what is said of a record that was found
-  pub took_of : (s0 s1 s2 s3 : Store T) (key : Key) (node : Node) → find (nodes_of s0) key ≡ Some node → Relinks s0 s1 → Relinks s1 s2 → Relinks s2 s3 →
-      (result : Option Node) → result ≡ find (nodes_of s3) key → (P : Type 0) → OnSome result P → P
-  took_of s0 s1 s2 s3 key node found r1 r2 r3 result value P took =
+  pub took_of : {s0 s1 s2 s3 : Store T} (key : Key) {node : Node} → find (nodes_of s0) key ≡ Some node → Relinks s0 s1 → Relinks s1 s2 → Relinks s2 s3 →
+      {result : Option Node} → result ≡ find (nodes_of s3) key → (P : Type 0) → OnSome result P → P
+  took_of key {node} found r1 r2 r3 {result} value P took =
       let same : result ≡ Some node = value ∙ ap (λ m. find m key) (r3.nodes ∙ r2.nodes ∙ r1.nodes) ∙ found in
       subst (λ o. OnSome o P) same took
 
@@ -174,7 +174,7 @@ module _ {T : Type 0} where
 
         ringed3 : AreRings places n3 p3 h3 rings3
         ringed3 = rings_left tells (next_of s2) (previous_of s2) n3 p3 h2 h3 rings2 ringed2 (Sibling key.slot)
-            (leaves_of places (next_of s2) (previous_of s2) (next_of s3) (previous_of s3) n3 p3 (Sibling key.slot) P3 (λ q. refl) (λ q. refl)) refl
+            (leaves_of places P3 (record { to = λ q. refl; back = λ q. refl })) refl
             (lone_here h2 (Sibling key.slot)) (λ q a. lone_other h2 (Sibling key.slot) q a)
 
         link_alone : (q : Place) → next_of s3 q ≡ q → previous_of s3 q ≡ q → link_at s3 q ≡ alone q
@@ -278,6 +278,14 @@ module _ {T : Type 0} where
           elsewhere : {Z : Type 0} (f : Option (Entry Node) → Z) (j : ℕ) → key.slot ≢ j → f (entry_at N4 j) ≡ f (entry_at N0 j)
           elsewhere f j apart = ap f (taken.changes.others j (λ e. apart (sym e)))
 
+          homes_stay : HomesStay (λ q. (Sibling key.slot ≢ q) × (Noted key.slot ≢ q) × (is_among places q (W.tied.rings (Held key.slot)) ≡ false)) N0 N4 K0 K0
+              W.tied.noted W.tied.noted
+          homes_stay = record {
+            sibling = λ j c. elsewhere (option_and_then (λ e. sibling_ring e.value)) j (λ s. c.0 (ap (λ k. Sibling k) s));
+            note = λ j c. elsewhere (λ o. W.tied.noted j && is_some o) j (λ s. c.1 (ap (λ k. Noted k) s));
+            stored = λ r c. stored_stays r (λ at. true≢false (sym (W.tied.ringed.listed (Held key.slot) (Stored r) at) ∙ c.2));
+          }
+
           homes_rest : (q : Place) → Sibling key.slot ≢ q → Noted key.slot ≢ q → h4 q ≡ h1 q
           homes_rest q a b = of (is_among places q (W.tied.rings (Held key.slot))) refl where
             of : (t : Bool) → is_among places q (W.tied.rings (Held key.slot)) ≡ t → h4 q ≡ cond t (Some Waiting) (h0 q)
@@ -285,12 +293,7 @@ module _ {T : Type 0} where
                 let at = W.tied.ringed.members (Held key.slot) q i in
                 let is = held_is N0 K0 W.tied.noted key.slot q at in
                 ap h4 is ∙ stored_waits (slot_of q) (ap h0 (sym is) ∙ at)
-            of false i = home_by (λ q. (Sibling key.slot ≢ q) × (Noted key.slot ≢ q) × (is_among places q (W.tied.rings (Held key.slot)) ≡ false)) N0 N4 K0 K0
-                W.tied.noted W.tied.noted
-                (λ j c. elsewhere (option_and_then (λ e. sibling_ring e.value)) j (λ s. c.0 (ap (λ k. Sibling k) s)))
-                (λ j c. elsewhere (λ o. W.tied.noted j && is_some o) j (λ s. c.1 (ap (λ k. Noted k) s)))
-                (λ r c. stored_stays r (λ at. true≢false (sym (W.tied.ringed.listed (Held key.slot) (Stored r) at) ∙ c.2)))
-                q (a, b, i)
+            of false i = home_by homes_stay q (a, b, i)
 
           and_none : (b : Bool) → cond (b && false) (Some Due) None ≡ None
           and_none true = refl
@@ -351,7 +354,7 @@ module _ {T : Type 0} where
                     (λ s. outer.1 (ap (λ k. Sibling k) (s ∙ ap slot_of at.is) ∙ sym at.is))
 
           abbrev tied4 : IsTiedAt (next_of s4) (previous_of s4) N4 K0
-          tied4 = tied_links n3 p3 (next_of s4) (previous_of s4) N4 K0
+          tied4 = tied_links p3 (next_of s4) (previous_of s4) N4 K0
               (wrote_next (link_at s3) (link_at s4) (Sibling key.slot) (alone (Sibling key.slot)) links (Sibling key.slot) refl)
               (wrote_previous (link_at s3) (link_at s4) (Sibling key.slot) (alone (Sibling key.slot)) links (Sibling key.slot) refl) (record {
                 rings = rings3;

@@ -62,7 +62,7 @@ module _ {T : Type 0} where
       (change : Changes (nodes_of s) (nodes_of m) key.slot (Some (entry_of key.number (with_marks marks node))))
       (kept : KeepsOthers (nodes_of s) (nodes_of m) key) (links : KeepsLinks s m) (rest : resources_of m ≡ resources_of s) where
     abbrev pub marked : IsTiedAt (next_of m) (previous_of m) (nodes_of m) (resources_of s)
-    marked = tied_links (next_of s) (previous_of s) (next_of m) (previous_of m) (nodes_of m) (resources_of s) (λ q. ap (λ l. l.next) (links q))
+    marked = tied_links (previous_of s) (next_of m) (previous_of m) (nodes_of m) (resources_of s) (λ q. ap (λ l. l.next) (links q))
         (λ q. ap (λ l. l.previous) (links q))
         (tied_marked (nodes_of s) (nodes_of m) (resources_of s) key node marks found change kept (next_of s) (previous_of s) tied)
 
@@ -112,7 +112,7 @@ module _ {T : Type 0} where
       home_none = off_chain (next_of m) (previous_of m) (nodes_of m) (resources_of s) marked key.slot off
 
       abbrev joined : IsTiedAt (next_of t) (previous_of t) (nodes_of m) (resources_of s)
-      joined = tied_noted (nodes_of m) (resources_of s) (next_of m) (previous_of m) (next_of t) (previous_of t) key.slot marked home_none
+      joined = tied_noted (nodes_of m) (resources_of s) (previous_of m) (next_of t) (previous_of t) key.slot marked home_none
           (ap is_some change.changed) joins
 
       pub joined_tied : IsTied t

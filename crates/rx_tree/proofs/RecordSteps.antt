@@ -47,10 +47,10 @@ ends_by_ring node e at = by node.above (is_root node.made) at where
   by (Some k) b s = subst (λ z. (is_end z ≡ true) × (is_place z Due ≡ false)) (some_same (Children k.slot) e s) (refl, refl)
 
 module _ {T : Type 0} where
-  chain_kept : (s t : Store T) (tied : IsTied s) (nodes : Slots Node) (resources : Slots (Stowed T)) (seen : nodes_of t ≡ nodes)
+  chain_kept : (s t : Store T) (tied : IsTied s) {nodes : Slots Node} (resources : Slots (Stowed T)) (seen : nodes_of t ≡ nodes)
       (now : IsTiedAt (next_of t) (previous_of t) nodes resources) → now.rings Due ≡ tied.rings Due →
       ((x : Place) → is_some (entry_at (nodes_of s) (slot_of x)) ≡ true → key_on nodes x ≡ key_on (nodes_of s) x) → (shown t).chain ≡ (shown s).chain
-  chain_kept s t tied nodes resources seen now same keys =
+  chain_kept s t tied {nodes} resources seen now same keys =
       chain_is t nodes resources seen now ∙ ap (map (key_on nodes)) same ∙ map_among (key_on nodes) (key_on (nodes_of s)) (tied.rings Due)
       (λ x i. let home = tied.ringed.members Due x i in keys x
       (subst (λ z. stands (nodes_of s) (resources_of s) z ≡ true) (due_is (nodes_of s) (resources_of s) tied.noted x home)
@@ -61,7 +61,7 @@ module _ {T : Type 0} where
       (past : IsPast (nodes_of s) number) (homes : (k : Key) (stowed : Stowed T) → find (resources_of s) k ≡ Some stowed → stowed.node.number < number)
       (placed : IsPlaced (nodes_of s) number node.made node.above) (links : KeepsLinks s m) (rest : resources_of m ≡ resources_of s) where
     abbrev pub start : IsTiedAt (next_of m) (previous_of m) (nodes_of s) (resources_of s)
-    start = tied_links (next_of s) (previous_of s) (next_of m) (previous_of m) (nodes_of s) (resources_of s) (λ q. ap (λ l. l.next) (links q))
+    start = tied_links (previous_of s) (next_of m) (previous_of m) (nodes_of s) (resources_of s) (λ q. ap (λ l. l.next) (links q))
         (λ q. ap (λ l. l.previous) (links q)) tied
 
     keys : (x : Place) → is_some (entry_at (nodes_of s) (slot_of x)) ≡ true → key_on (nodes_of m) x ≡ key_on (nodes_of s) x
@@ -75,19 +75,19 @@ module _ {T : Type 0} where
       opened_off_tied = retie m (nodes_of m) (resources_of s) refl rest opened_off
 
       pub opened_off_chain : (shown m).chain ≡ (shown s).chain
-      opened_off_chain = chain_kept s m tied (nodes_of m) (resources_of s) refl opened_off refl keys
+      opened_off_chain = chain_kept s m tied (resources_of s) refl opened_off refl keys
 
     module _ (t : Store T) (e : Place) (ring : sibling_ring node ≡ Some e)
         (joins : Joins places (next_of m) (previous_of m) (next_of t) (previous_of t) e (Sibling key.slot)) (relinks : Relinks m t) where
       abbrev pub opened_on : IsTiedAt (next_of t) (previous_of t) (nodes_of m) (resources_of s)
-      opened_on = tied_opened (nodes_of s) (nodes_of m) (resources_of s) key number node came past homes placed (next_of m) (previous_of m) (next_of t)
+      opened_on = tied_opened (nodes_of s) (nodes_of m) (resources_of s) key number node came past homes placed (previous_of m) (next_of t)
           (previous_of t) start e ring (ends_by_ring node e ring).0 joins
 
       pub opened_on_tied : IsTied t
       opened_on_tied = retie t (nodes_of m) (resources_of s) relinks.nodes (relinks.resources ∙ rest) opened_on
 
       pub opened_on_chain : (shown t).chain ≡ (shown s).chain
-      opened_on_chain = chain_kept s t tied (nodes_of m) (resources_of s) relinks.nodes opened_on
+      opened_on_chain = chain_kept s t tied (resources_of s) relinks.nodes opened_on
           (ap (λ b. cond b (tied.rings e ++ Sibling key.slot ∷ []) (tied.rings Due)) (ends_by_ring node e ring).1) keys
 
   -- a resource comes to be held
@@ -97,7 +97,7 @@ module _ {T : Type 0} where
       (links : KeepsLinks s m) (rest : nodes_of m ≡ nodes_of s)
       (joins : Joins places (next_of m) (previous_of m) (next_of t) (previous_of t) (Held stowed.node.slot) (Stored key.slot)) (relinks : Relinks m t) where
     abbrev pub before : IsTiedAt (next_of m) (previous_of m) (nodes_of s) (resources_of s)
-    before = tied_links (next_of s) (previous_of s) (next_of m) (previous_of m) (nodes_of s) (resources_of s) (λ q. ap (λ l. l.next) (links q))
+    before = tied_links (previous_of s) (next_of m) (previous_of m) (nodes_of s) (resources_of s) (λ q. ap (λ l. l.next) (links q))
         (λ q. ap (λ l. l.previous) (links q)) tied
 
     abbrev now_held : IsTiedAt (next_of t) (previous_of t) (nodes_of s) (resources_of m)
@@ -108,7 +108,7 @@ module _ {T : Type 0} where
     held_tied = retie t (nodes_of s) (resources_of m) (relinks.nodes ∙ rest) relinks.resources now_held
 
     pub held_chain : (shown t).chain ≡ (shown s).chain
-    held_chain = chain_kept s t tied (nodes_of s) (resources_of m) (relinks.nodes ∙ rest) now_held refl (λ x there. refl)
+    held_chain = chain_kept s t tied (resources_of m) (relinks.nodes ∙ rest) now_held refl (λ x there. refl)
 
   -- room changes nothing else
   pub room_nodes : (s : Store T) (m : Slots Linked) → m ≡ record s.nodes { room = m.room } → IsTied s → IsTied (record s { nodes = m })
@@ -139,9 +139,9 @@ module _ {T : Type 0} where
     }
 
   -- what stood somewhere still stands there
-  pub stands_opened : (nodes nodes' : Slots Node) (resources : Slots (Stowed T)) (key : Key) (number : ℕ) (node : Node) →
+  pub stands_opened : {nodes : Slots Node} (nodes' : Slots Node) (resources : Slots (Stowed T)) (key : Key) (number : ℕ) (node : Node) →
       Inserts nodes nodes' key number node → (q : Place) → stands nodes resources q ≡ true → stands nodes' resources q ≡ true
-  stands_opened nodes nodes' resources key number node came q = by q where
+  stands_opened {nodes} nodes' resources key number node came q = by q where
     more : (j : ℕ) → is_some (entry_at nodes j) ≡ true → is_some (entry_at nodes' j) ≡ true
     more j at = elim (cases_eq key.slot j) [
       | inl here ↦ absurd (true≢false (sym at ∙ ap is_some (ap (entry_at nodes) (sym here) ∙ came.was_free)))
@@ -158,9 +158,9 @@ module _ {T : Type 0} where
     by (Noted j) at = more j at
     by (Stored r) at = at
 
-  pub stands_held : (nodes : Slots Node) (resources resources' : Slots (Stowed T)) (key : Key) (number : ℕ) (stowed : Stowed T) →
+  pub stands_held : (nodes : Slots Node) {resources : Slots (Stowed T)} (resources' : Slots (Stowed T)) (key : Key) (number : ℕ) (stowed : Stowed T) →
       Inserts resources resources' key number stowed → (q : Place) → stands nodes resources q ≡ true → stands nodes resources' q ≡ true
-  stands_held nodes resources resources' key number stowed came q = by q where
+  stands_held nodes {resources} resources' key number stowed came q = by q where
     by : (q : Place) → stands nodes resources q ≡ true → stands nodes resources' q ≡ true
     by Roots at = refl
     by Due at = refl
@@ -174,20 +174,20 @@ module _ {T : Type 0} where
       | inr apart ↦ ap is_some (came.changes.others r (λ e. apart (sym e))) ∙ at
     ]
 
-  pub opened_last : (s m : Store T) (key : Key) (number : ℕ) (node : Node) → IsTied s → Inserts (nodes_of s) (nodes_of m) key number node → KeepsLinks s m →
+  pub opened_last : (s m : Store T) {key : Key} {number : ℕ} {node : Node} → IsTied s → Inserts (nodes_of s) (nodes_of m) key number node → KeepsLinks s m →
       resources_of m ≡ resources_of s → (q : Place) → stands (nodes_of s) (resources_of s) q ≡ true → is_there m (previous_of m q) ≡ true
-  opened_last s m key number node tied came links rest q there =
-      let start = tied_links (next_of s) (previous_of s) (next_of m) (previous_of m) (nodes_of s) (resources_of s) (λ q. ap (λ l. l.next) (links q))
+  opened_last s m {key} {number} {node} tied came links rest q there =
+      let start = tied_links (previous_of s) (next_of m) (previous_of m) (nodes_of s) (resources_of s) (λ q. ap (λ l. l.next) (links q))
       (λ q. ap (λ l. l.previous) (links q)) tied in
-      ap (λ r. stands (nodes_of m) r (previous_of m q)) rest ∙ stands_opened (nodes_of s) (nodes_of m) (resources_of s) key number node came (previous_of m q)
+      ap (λ r. stands (nodes_of m) r (previous_of m q)) rest ∙ stands_opened (nodes_of m) (resources_of s) key number node came (previous_of m q)
       (previous_stands (nodes_of s) (resources_of s) (next_of m) (previous_of m) start q there)
 
-  pub held_last : (s m : Store T) (key : Key) (number : ℕ) (stowed : Stowed T) → IsTied s → Inserts (resources_of s) (resources_of m) key number stowed →
+  pub held_last : (s m : Store T) {key : Key} {number : ℕ} {stowed : Stowed T} → IsTied s → Inserts (resources_of s) (resources_of m) key number stowed →
       KeepsLinks s m → nodes_of m ≡ nodes_of s → (q : Place) → stands (nodes_of s) (resources_of s) q ≡ true → is_there m (previous_of m q) ≡ true
-  held_last s m key number stowed tied came links rest q there =
-      let start = tied_links (next_of s) (previous_of s) (next_of m) (previous_of m) (nodes_of s) (resources_of s) (λ q. ap (λ l. l.next) (links q))
+  held_last s m {key} {number} {stowed} tied came links rest q there =
+      let start = tied_links (previous_of s) (next_of m) (previous_of m) (nodes_of s) (resources_of s) (λ q. ap (λ l. l.next) (links q))
       (λ q. ap (λ l. l.previous) (links q)) tied in
-      ap (λ n. stands n (resources_of m) (previous_of m q)) rest ∙ stands_held (nodes_of s) (resources_of s) (resources_of m) key number stowed came
+      ap (λ n. stands n (resources_of m) (previous_of m q)) rest ∙ stands_held (nodes_of s) (resources_of m) key number stowed came
       (previous_of m q) (previous_stands (nodes_of s) (resources_of s) (next_of m) (previous_of m) start q there)
 
   -- the ring of a new node begins where something stands

@@ -71,7 +71,7 @@ module _ {T : Type 0} (s : Store T) (key : Key) (tied : IsTied s) (stowed : Stow
     -- it belongs on no ring
     module _ (none : resource_ring (nodes_of s) after ≡ None) where
       abbrev now_off : IsTiedAt (next_of m) (previous_of m) (nodes_of s) (resources_of m)
-      now_off = tied_links (next_of l) (previous_of l) (next_of m) (previous_of m) (nodes_of s) (resources_of m) (λ q. ap (λ k. k.next) (links q))
+      now_off = tied_links (previous_of l) (next_of m) (previous_of m) (nodes_of s) (resources_of m) (λ q. ap (λ k. k.next) (links q))
           (λ q. ap (λ k. k.previous) (links q)) (tied_off (nodes_of s) (resources_of s) (resources_of m) (next_of s) (previous_of s) (next_of l)
           (previous_of l) tied key stowed after found change_s leaves none)
 

@@ -56,14 +56,14 @@ pub record IsNextYounger (nodes : Slots Node) (ps : List Place) (x y : Place) : 
   pub least : (q : Place) → is_among places q ps ≡ true → (key_on nodes x).number < (key_on nodes q).number → (key_on nodes y).number ≤ (key_on nodes q).number
 
 -- a ring by age goes on with the next younger
-pub next_younger : (nodes : Slots Node) (n p : Steps Place) (a : Place) (ps : List Place) (e x : Place) → Leads n p a ps e → Rises nodes ps →
+pub next_younger : (nodes : Slots Node) (n p : Steps Place) (a : Place) {ps : List Place} {e : Place} (x : Place) → Leads n p a ps e → Rises nodes ps →
     is_among places x ps ≡ true →
     ((n x ≡ e) × IsYoungest nodes ps x) ⊎ IsNextYounger nodes ps x (n x)
-next_younger nodes n p a [] e x h up i = absurd (false≢true i)
-next_younger nodes n p a (y ∷ ps) e x h up i = elim (among_cons tells x y ps i) [
+next_younger nodes n p a {ps = []} x h up i = absurd (false≢true i)
+next_younger nodes n p a {ps = y ∷ ps} {e} x h up i = elim (among_cons tells x y ps i) [
   | inl same ↦ subst (λ z. ((n z ≡ e) × IsYoungest nodes (y ∷ ps) z) ⊎ IsNextYounger nodes (y ∷ ps) z (n z)) (sym same)
       (here (first_oldest nodes n p y ps e h.1 up.1))
-  | inr rest ↦ there rest (next_younger nodes n p y ps e x h.1 up.1 rest)
+  | inr rest ↦ there rest (next_younger nodes n p y x h.1 up.1 rest)
 ] where
   number_of : {x y : Place} → x ≡ y → (key_on nodes x).number ≡ (key_on nodes y).number
   number_of same = ap (λ z. (key_on nodes z).number) same
@@ -222,7 +222,7 @@ module _ {T : Type 0} (nodes : Slots Node) (resources : Slots (Stowed T)) (n p :
 
     -- what comes after one of them is the next younger
     next_is : (key : Key) → IsSo key → (slot : ℕ) → n (Sibling key.slot) ≡ Sibling slot → IsNextYounger nodes (tied.rings e) (Sibling key.slot) (Sibling slot)
-    next_is key is slot at = elim (next_younger nodes n p e (tied.rings e) e (Sibling key.slot) (tied.ringed.leads e ends) (tied.rises e age)
+    next_is key is slot at = elim (next_younger nodes n p e (Sibling key.slot) (tied.ringed.leads e ends) (tied.rises e age)
         (ring.enters key is)) [
           | inl last ↦ absurd (false≢true (ap is_end (sym at ∙ last.0) ∙ ends))
           | inr next ↦ subst (λ z. IsNextYounger nodes (tied.rings e) (Sibling key.slot) z) at next
@@ -245,7 +245,7 @@ module _ {T : Type 0} (nodes : Slots Node) (resources : Slots (Stowed T)) (n p :
 
     pub next_none : (key : Key) → IsSo key → ((slot : ℕ) → n (Sibling key.slot) ≢ Sibling slot) → HasNone IsSo (key.number + 1)
     next_none key is other k so = elim
-        (next_younger nodes n p e (tied.rings e) e (Sibling key.slot) (tied.ringed.leads e ends) (tied.rises e age) (ring.enters key is)) [
+        (next_younger nodes n p e (Sibling key.slot) (tied.ringed.leads e ends) (tied.rises e age) (ring.enters key is)) [
           | inl last ↦
               let own : (key_on nodes (Sibling key.slot)).number ≡ key.number = ap (λ k. k.number) (ring.keys key is) in
               let same : (key_on nodes (Sibling k.slot)).number ≡ k.number = ap (λ k. k.number) (ring.keys k so) in

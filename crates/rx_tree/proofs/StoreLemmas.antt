@@ -89,9 +89,10 @@ module _ {X : Type 0} where
     of true = refl
     of false = refl
 
-  pub part-kept : {Z : Type 0} (g : X → Z) (d : Z) (s : Slots X) (slot : ℕ) (before after : X) (j : ℕ) → value_at s slot ≡ Some before → g after ≡ g before →
+  pub part-kept : {Z : Type 0} (g : X → Z) (d : Z) (s : Slots X) (slot : ℕ) {before : X} (after : X) (j : ℕ) → value_at s slot ≡ Some before →
+      g after ≡ g before →
       option_map_or g (value_at (with_value_at s slot after) j) d ≡ option_map_or g (value_at s j) d
-  part-kept g d s slot before after j at same = part-written g d s slot before after j at ∙ of (slot == j) refl where
+  part-kept g d s slot {before} after j at same = part-written g d s slot before after j at ∙ of (slot == j) refl where
     of : (b : Bool) → (slot == j) ≡ b → cond b (g after) (option_map_or g (value_at s j) d) ≡ option_map_or g (value_at s j) d
     of true e = let s_is : slot ≡ j = grind (arith, nat_tests, e) in same ∙ ap (λ o. option_map_or g o d) (sym at ∙ ap (value_at s) s_is)
     of false e = refl
@@ -104,11 +105,11 @@ module _ {T : Type 0} (s : Store T) (slot : ℕ) (link : Link) where
   linked-Children l at Waiting = refl
   linked-Children l at (Children j) =
       part-written (λ x. x.children) (record { next = Children j; previous = Children j }) s.nodes slot l (record l { children = link }) j at
-  linked-Children l at (Held j) = part-kept (λ x. x.held) (record { next = Held j; previous = Held j }) s.nodes slot l (record l { children = link }) j at refl
+  linked-Children l at (Held j) = part-kept (λ x. x.held) (record { next = Held j; previous = Held j }) s.nodes slot (record l { children = link }) j at refl
   linked-Children l at (Sibling j) =
-      part-kept (λ x. x.sibling) (record { next = Sibling j; previous = Sibling j }) s.nodes slot l (record l { children = link }) j at refl
+      part-kept (λ x. x.sibling) (record { next = Sibling j; previous = Sibling j }) s.nodes slot (record l { children = link }) j at refl
   linked-Children l at (Noted j) =
-      part-kept (λ x. x.noted) (record { next = Noted j; previous = Noted j }) s.nodes slot l (record l { children = link }) j at refl
+      part-kept (λ x. x.noted) (record { next = Noted j; previous = Noted j }) s.nodes slot (record l { children = link }) j at refl
   linked-Children l at (Stored j) = refl
 
   pub relinks-Children : (l : Linked) → value_at s.nodes slot ≡ Some l → Relinks s
@@ -118,7 +119,7 @@ module _ {T : Type 0} (s : Store T) (slot : ℕ) (link : Link) where
     resources = refl;
     waiting_count = refl;
     owed = refl;
-    held_count = λ j. part-kept (λ x. x.held_count) no_counts s.nodes slot l (record l { children = link }) j at refl;
+    held_count = λ j. part-kept (λ x. x.held_count) no_counts s.nodes slot (record l { children = link }) j at refl;
   }
 
   pub linked-Held : (l : Linked) → value_at s.nodes slot ≡ Some l → (q : Place) →
@@ -127,11 +128,11 @@ module _ {T : Type 0} (s : Store T) (slot : ℕ) (link : Link) where
   linked-Held l at Due = refl
   linked-Held l at Waiting = refl
   linked-Held l at (Children j) =
-      part-kept (λ x. x.children) (record { next = Children j; previous = Children j }) s.nodes slot l (record l { held = link }) j at refl
+      part-kept (λ x. x.children) (record { next = Children j; previous = Children j }) s.nodes slot (record l { held = link }) j at refl
   linked-Held l at (Held j) = part-written (λ x. x.held) (record { next = Held j; previous = Held j }) s.nodes slot l (record l { held = link }) j at
-  linked-Held l at (Sibling j) = part-kept (λ x. x.sibling) (record { next = Sibling j; previous = Sibling j }) s.nodes slot l (record l { held = link }) j at
+  linked-Held l at (Sibling j) = part-kept (λ x. x.sibling) (record { next = Sibling j; previous = Sibling j }) s.nodes slot (record l { held = link }) j at
       refl
-  linked-Held l at (Noted j) = part-kept (λ x. x.noted) (record { next = Noted j; previous = Noted j }) s.nodes slot l (record l { held = link }) j at refl
+  linked-Held l at (Noted j) = part-kept (λ x. x.noted) (record { next = Noted j; previous = Noted j }) s.nodes slot (record l { held = link }) j at refl
   linked-Held l at (Stored j) = refl
 
   pub relinks-Held : (l : Linked) → value_at s.nodes slot ≡ Some l → Relinks s (record s { nodes = with_value_at s.nodes slot (record l { held = link }) })
@@ -140,7 +141,7 @@ module _ {T : Type 0} (s : Store T) (slot : ℕ) (link : Link) where
     resources = refl;
     waiting_count = refl;
     owed = refl;
-    held_count = λ j. part-kept (λ x. x.held_count) no_counts s.nodes slot l (record l { held = link }) j at refl;
+    held_count = λ j. part-kept (λ x. x.held_count) no_counts s.nodes slot (record l { held = link }) j at refl;
   }
 
   pub linked-Sibling : (l : Linked) → value_at s.nodes slot ≡ Some l → (q : Place) →
@@ -149,12 +150,12 @@ module _ {T : Type 0} (s : Store T) (slot : ℕ) (link : Link) where
   linked-Sibling l at Due = refl
   linked-Sibling l at Waiting = refl
   linked-Sibling l at (Children j) =
-      part-kept (λ x. x.children) (record { next = Children j; previous = Children j }) s.nodes slot l (record l { sibling = link }) j at refl
-  linked-Sibling l at (Held j) = part-kept (λ x. x.held) (record { next = Held j; previous = Held j }) s.nodes slot l (record l { sibling = link }) j at refl
+      part-kept (λ x. x.children) (record { next = Children j; previous = Children j }) s.nodes slot (record l { sibling = link }) j at refl
+  linked-Sibling l at (Held j) = part-kept (λ x. x.held) (record { next = Held j; previous = Held j }) s.nodes slot (record l { sibling = link }) j at refl
   linked-Sibling l at (Sibling j) =
       part-written (λ x. x.sibling) (record { next = Sibling j; previous = Sibling j }) s.nodes slot l (record l { sibling = link }) j at
   linked-Sibling l at (Noted j) =
-      part-kept (λ x. x.noted) (record { next = Noted j; previous = Noted j }) s.nodes slot l (record l { sibling = link }) j at refl
+      part-kept (λ x. x.noted) (record { next = Noted j; previous = Noted j }) s.nodes slot (record l { sibling = link }) j at refl
   linked-Sibling l at (Stored j) = refl
 
   pub relinks-Sibling : (l : Linked) → value_at s.nodes slot ≡ Some l → Relinks s
@@ -164,7 +165,7 @@ module _ {T : Type 0} (s : Store T) (slot : ℕ) (link : Link) where
     resources = refl;
     waiting_count = refl;
     owed = refl;
-    held_count = λ j. part-kept (λ x. x.held_count) no_counts s.nodes slot l (record l { sibling = link }) j at refl;
+    held_count = λ j. part-kept (λ x. x.held_count) no_counts s.nodes slot (record l { sibling = link }) j at refl;
   }
 
   pub linked-Noted : (l : Linked) → value_at s.nodes slot ≡ Some l → (q : Place) →
@@ -173,10 +174,10 @@ module _ {T : Type 0} (s : Store T) (slot : ℕ) (link : Link) where
   linked-Noted l at Due = refl
   linked-Noted l at Waiting = refl
   linked-Noted l at (Children j) =
-      part-kept (λ x. x.children) (record { next = Children j; previous = Children j }) s.nodes slot l (record l { noted = link }) j at refl
-  linked-Noted l at (Held j) = part-kept (λ x. x.held) (record { next = Held j; previous = Held j }) s.nodes slot l (record l { noted = link }) j at refl
+      part-kept (λ x. x.children) (record { next = Children j; previous = Children j }) s.nodes slot (record l { noted = link }) j at refl
+  linked-Noted l at (Held j) = part-kept (λ x. x.held) (record { next = Held j; previous = Held j }) s.nodes slot (record l { noted = link }) j at refl
   linked-Noted l at (Sibling j) =
-      part-kept (λ x. x.sibling) (record { next = Sibling j; previous = Sibling j }) s.nodes slot l (record l { noted = link }) j at refl
+      part-kept (λ x. x.sibling) (record { next = Sibling j; previous = Sibling j }) s.nodes slot (record l { noted = link }) j at refl
   linked-Noted l at (Noted j) = part-written (λ x. x.noted) (record { next = Noted j; previous = Noted j }) s.nodes slot l (record l { noted = link }) j at
   linked-Noted l at (Stored j) = refl
 
@@ -186,7 +187,7 @@ module _ {T : Type 0} (s : Store T) (slot : ℕ) (link : Link) where
     resources = refl;
     waiting_count = refl;
     owed = refl;
-    held_count = λ j. part-kept (λ x. x.held_count) no_counts s.nodes slot l (record l { noted = link }) j at refl;
+    held_count = λ j. part-kept (λ x. x.held_count) no_counts s.nodes slot (record l { noted = link }) j at refl;
   }
 
   pub linked-Stored : (r : Kept T) → value_at s.resources slot ≡ Some r → (q : Place) →
@@ -222,10 +223,10 @@ module _ {X Y : Type 0} (f : X → Y) where
     others = λ other apart. entry_at-project f new other ∙ ap (option_map (on_entry f)) (c.others other apart) ∙ sym (entry_at-project f old other);
   }
 
-  pub inserts-project : (old new : Slots X) (key : Key) (number : ℕ) (value : X) → key.number ≡ number → entry_at old key.slot ≡ None →
+  pub inserts-project : {old new : Slots X} {key : Key} (number : ℕ) (value : X) → key.number ≡ number → entry_at old key.slot ≡ None →
       Changes old new key.slot (Some (entry_of number value)) → find new key ≡ Some value → KeepsOthers old new key → new.count ≡ old.count + 1 →
       Inserts (project f old) (project f new) key number (f value)
-  inserts-project old new key number value numbered free changes found kept count = record {
+  inserts-project {old} {new} {key} number value numbered free changes found kept count = record {
     numbered = numbered;
     was_free = entry_at-project f old key.slot ∙ ap (option_map (on_entry f)) free;
     changes = changes-project old new key.slot (Some (entry_of number value)) changes;
@@ -255,9 +256,10 @@ module _ {X Y : Type 0} (f : X → Y) where
         rest = refl;
       }
 
-  pub changes-written : (s : Slots X) (key : Key) (before after : X) (seen : Y) (change : Y → Y) → find s key ≡ Some before → f after ≡ change (f before) →
+  pub changes-written : (s : Slots X) (key : Key) {before : X} (after : X) (seen : Y) (change : Y → Y) → find s key ≡ Some before →
+      f after ≡ change (f before) →
       find (project f s) key ≡ Some seen → Changes (project f s) (project f (with_value s key after)) key.slot (Some (entry_of key.number (change seen)))
-  changes-written s key before after seen change found same at =
+  changes-written s key {before} after seen change found same at =
       let t = with_value s key after in
       let e = Some (entry_of key.number after) in
       let within = slot_within s key.slot (entry_of key.number before) (entry_found s key before found) in
@@ -330,32 +332,42 @@ module _ {X Z : Type 0} (g : X → Z) (d : ℕ → Z) (old new : Slots X) (slot 
             (get_or-set_other old.entries slot j (Some (entry_of number after)) None (λ e. apart (sym e)))
       ]
 
-module _ {T : Type 0} where
-  -- links stay where each part of the records does, but for that of a record among its siblings, which goes with it
-  pub links_taken : (old new : Store T) (slot : ℕ) → new.roots ≡ old.roots → new.due ≡ old.due → new.waiting ≡ old.waiting →
+module _ {T : Type 0} (old : Store T) where
+  -- links stay where each part of the nodes' records does, but for that of a node among its siblings, which goes with it
+  pub links_taken : (nodes : Slots Linked) (slot : ℕ) → let new = record old { nodes = nodes } in
       ((j : ℕ) → link_at new (Children j) ≡ link_at old (Children j)) → ((j : ℕ) → link_at new (Held j) ≡ link_at old (Held j)) →
       ((j : ℕ) → link_at new (Sibling j) ≡ set_link_at (Sibling slot) (alone (Sibling slot)) old (Sibling j)) →
-      ((j : ℕ) → link_at new (Noted j) ≡ link_at old (Noted j)) → ((j : ℕ) → link_at new (Stored j) ≡ link_at old (Stored j)) → (q : Place) →
-      link_at new q ≡ set_link_at (Sibling slot) (alone (Sibling slot)) old q
-  links_taken old new slot r d w c h s n t Roots = r
-  links_taken old new slot r d w c h s n t Due = d
-  links_taken old new slot r d w c h s n t Waiting = w
-  links_taken old new slot r d w c h s n t (Children j) = c j
-  links_taken old new slot r d w c h s n t (Held j) = h j
-  links_taken old new slot r d w c h s n t (Sibling j) = s j
-  links_taken old new slot r d w c h s n t (Noted j) = n j
-  links_taken old new slot r d w c h s n t (Stored j) = t j
+      ((j : ℕ) → link_at new (Noted j) ≡ link_at old (Noted j)) → (q : Place) → link_at new q ≡ set_link_at (Sibling slot) (alone (Sibling slot)) old q
+  links_taken nodes slot c h s n Roots = refl
+  links_taken nodes slot c h s n Due = refl
+  links_taken nodes slot c h s n Waiting = refl
+  links_taken nodes slot c h s n (Children j) = c j
+  links_taken nodes slot c h s n (Held j) = h j
+  links_taken nodes slot c h s n (Sibling j) = s j
+  links_taken nodes slot c h s n (Noted j) = n j
+  links_taken nodes slot c h s n (Stored j) = refl
 
-  -- links stay where each part of the records does
-  pub keeps_links : (old new : Store T) → new.roots ≡ old.roots → new.due ≡ old.due → new.waiting ≡ old.waiting →
+  -- links stay where each part of the nodes' records does
+  pub nodes_keep_links : (nodes : Slots Linked) → let new = record old { nodes = nodes } in
       ((j : ℕ) → link_at new (Children j) ≡ link_at old (Children j)) → ((j : ℕ) → link_at new (Held j) ≡ link_at old (Held j)) →
-      ((j : ℕ) → link_at new (Sibling j) ≡ link_at old (Sibling j)) → ((j : ℕ) → link_at new (Noted j) ≡ link_at old (Noted j)) →
+      ((j : ℕ) → link_at new (Sibling j) ≡ link_at old (Sibling j)) → ((j : ℕ) → link_at new (Noted j) ≡ link_at old (Noted j)) → KeepsLinks old new
+  nodes_keep_links nodes c h s n Roots = refl
+  nodes_keep_links nodes c h s n Due = refl
+  nodes_keep_links nodes c h s n Waiting = refl
+  nodes_keep_links nodes c h s n (Children j) = c j
+  nodes_keep_links nodes c h s n (Held j) = h j
+  nodes_keep_links nodes c h s n (Sibling j) = s j
+  nodes_keep_links nodes c h s n (Noted j) = n j
+  nodes_keep_links nodes c h s n (Stored j) = refl
+
+  -- and where that of the resources' records does
+  pub resources_keep_links : (resources : Slots (Kept T)) → let new = record old { resources = resources } in
       ((j : ℕ) → link_at new (Stored j) ≡ link_at old (Stored j)) → KeepsLinks old new
-  keeps_links old new r d w c h s n t Roots = r
-  keeps_links old new r d w c h s n t Due = d
-  keeps_links old new r d w c h s n t Waiting = w
-  keeps_links old new r d w c h s n t (Children j) = c j
-  keeps_links old new r d w c h s n t (Held j) = h j
-  keeps_links old new r d w c h s n t (Sibling j) = s j
-  keeps_links old new r d w c h s n t (Noted j) = n j
-  keeps_links old new r d w c h s n t (Stored j) = t j
+  resources_keep_links resources t Roots = refl
+  resources_keep_links resources t Due = refl
+  resources_keep_links resources t Waiting = refl
+  resources_keep_links resources t (Children j) = refl
+  resources_keep_links resources t (Held j) = refl
+  resources_keep_links resources t (Sibling j) = refl
+  resources_keep_links resources t (Noted j) = refl
+  resources_keep_links resources t (Stored j) = t j

@@ -35,20 +35,24 @@ pub record IsNodeAt (nodes : Slots Node) (q : Place) : Type 0 where
   pub at : entry_at nodes slot ≡ Some entry
 
 module _ {T : Type 0} where
-  -- places have the homes that they had where what tells them stayed
-  pub home_by : (C : Place → Type 0) (nodes nodes' : Slots Node) (resources resources' : Slots (Stowed T)) (noted noted' : ℕ → Bool) →
-      ((j : ℕ) → C (Sibling j) → option_and_then (λ e. sibling_ring e.value) (entry_at nodes' j) ≡ option_and_then (λ e. sibling_ring e.value)
-      (entry_at nodes j)) → ((j : ℕ) → C (Noted j) → (noted' j && is_some (entry_at nodes' j)) ≡ (noted j && is_some (entry_at nodes j))) →
-      ((r : ℕ) → C (Stored r) → home_of nodes' resources' noted' (Stored r) ≡ home_of nodes resources noted (Stored r)) → (q : Place) → C q →
-      home_of nodes' resources' noted' q ≡ home_of nodes resources noted q
-  home_by C nodes nodes' resources resources' noted noted' sibling note stored (Sibling j) c = sibling j c
-  home_by C nodes nodes' resources resources' noted noted' sibling note stored (Noted j) c = ap (λ b. cond b (Some Due) None) (note j c)
-  home_by C nodes nodes' resources resources' noted noted' sibling note stored (Stored r) c = stored r c
-  home_by C nodes nodes' resources resources' noted noted' sibling note stored Roots c = refl
-  home_by C nodes nodes' resources resources' noted noted' sibling note stored Due c = refl
-  home_by C nodes nodes' resources resources' noted noted' sibling note stored Waiting c = refl
-  home_by C nodes nodes' resources resources' noted noted' sibling note stored (Children j) c = refl
-  home_by C nodes nodes' resources resources' noted noted' sibling note stored (Held j) c = refl
+  -- what tells the homes of these places stayed
+  pub record HomesStay (C : Place → Type 0) (nodes nodes' : Slots Node) (resources resources' : Slots (Stowed T)) (noted noted' : ℕ → Bool) : Type 0 where
+    pub sibling : (j : ℕ) → C (Sibling j) →
+        option_and_then (λ e. sibling_ring e.value) (entry_at nodes' j) ≡ option_and_then (λ e. sibling_ring e.value) (entry_at nodes j)
+    pub note : (j : ℕ) → C (Noted j) → (noted' j && is_some (entry_at nodes' j)) ≡ (noted j && is_some (entry_at nodes j))
+    pub stored : (r : ℕ) → C (Stored r) → home_of nodes' resources' noted' (Stored r) ≡ home_of nodes resources noted (Stored r)
+
+  -- so these places have the homes that they had
+  pub home_by : {C : Place → Type 0} {nodes nodes' : Slots Node} {resources resources' : Slots (Stowed T)} {noted noted' : ℕ → Bool} →
+      HomesStay C nodes nodes' resources resources' noted noted' → (q : Place) → C q → home_of nodes' resources' noted' q ≡ home_of nodes resources noted q
+  home_by stay (Sibling j) c = stay.sibling j c
+  home_by stay (Noted j) c = ap (λ b. cond b (Some Due) None) (stay.note j c)
+  home_by stay (Stored r) c = stay.stored r c
+  home_by stay Roots c = refl
+  home_by stay Due c = refl
+  home_by stay Waiting c = refl
+  home_by stay (Children j) c = refl
+  home_by stay (Held j) c = refl
 
   -- what has a home stands somewhere
   pub home_stands : (nodes : Slots Node) (resources : Slots (Stowed T)) (noted : ℕ → Bool) (q e : Place) → home_of nodes resources noted q ≡ Some e →
@@ -119,14 +123,19 @@ module _ {T : Type 0} where
     pub ring_same : resource_ring {T = T} nodes ≡ resource_ring {T = T} nodes'
     ring_same = λ i stowed. cond (is_lent stowed) None (Some (cond (sym (held_same stowed) i) (Held stowed.node.slot) Waiting))
 
+    pub homes_marked : (noted : ℕ → Bool) → HomesStay (λ _. Unit {0}) nodes nodes' resources resources noted noted
+    homes_marked noted = record {
+      sibling = λ j c. by_entry (option_and_then (λ e. sibling_ring e.value)) refl j;
+      note = λ j c. by_entry (λ o. noted j && is_some o) refl j;
+      stored = λ r c. ap (λ f. option_and_then (λ e. f e.value) (entry_at resources r)) (sym ring_same);
+    }
+
     abbrev pub tied_marked : (n p : Steps Place) → IsTiedAt n p nodes resources → IsTiedAt n p nodes' resources
     tied_marked n p tied = record {
       rings = tied.rings;
       noted = tied.noted;
       ringed = rings_same n p (home_of nodes resources tied.noted) (home_of nodes' resources tied.noted) tied.rings tied.ringed
-          (λ q. home_by (λ _. Unit {0}) nodes nodes' resources resources tied.noted tied.noted
-          (λ j c. by_entry (option_and_then (λ e. sibling_ring e.value)) refl j) (λ j c. by_entry (λ o. tied.noted j && is_some o) refl j)
-          (λ r c. ap (λ f. option_and_then (λ e. f e.value) (entry_at resources r)) (sym ring_same)) q tt);
+          (λ q. home_by (homes_marked tied.noted) q tt);
       rises = λ e age. rises_same nodes nodes' (tied.rings e)
           (λ q i. by_entry (λ o. option_map_or (λ m. m) (option_map (λ e. e.number) o) 0) refl (slot_of q)) (tied.rises e age);
       sound = IsSound-at nodes nodes' key before (with_marks marks before) found now_found kept refl refl tied.sound;
@@ -191,9 +200,13 @@ module _ {T : Type 0} where
 
     pub opened_others : (noted : ℕ → Bool) (q : Place) → Sibling key.slot ≢ q → home_of nodes' resources (unnoted {T = T} nodes resources noted key.slot) q ≡
         home_of nodes resources noted q
-    opened_others noted q apart = home_by (λ q. Sibling key.slot ≢ q) nodes nodes' resources resources noted (unnoted {T = T} nodes resources noted key.slot)
-        (λ j c. elsewhere (option_and_then (λ e. sibling_ring e.value)) j (λ s. c (ap (λ k. Sibling k) s))) (λ j c. opened_note noted j)
-        (λ r c. opened_ring r) q apart
+    opened_others noted q apart = home_by homes_opened q apart where
+      homes_opened : HomesStay (λ q. Sibling key.slot ≢ q) nodes nodes' resources resources noted (unnoted {T = T} nodes resources noted key.slot)
+      homes_opened = record {
+        sibling = λ j c. elsewhere (option_and_then (λ e. sibling_ring e.value)) j (λ s. c (ap (λ k. Sibling k) s));
+        note = λ j c. opened_note noted j;
+        stored = λ r c. opened_ring r;
+      }
 
     pub older : (noted : ℕ → Bool) (q e : Place) → home_of nodes resources noted q ≡ Some e → is_by_age e ≡ true →
         ((key_on nodes' q).number ≡ (key_on nodes q).number) × ((key_on nodes q).number < number)
@@ -235,9 +248,10 @@ module _ {T : Type 0} where
         (elsewhere (λ o. option_map_or (λ m. m) (option_map (λ e. e.number) o) 0) (slot_of x)
         (λ s. true≢false (sym there ∙ ap is_some (sym (ap (entry_at nodes) s) ∙ came.was_free))))
 
-    abbrev pub tied_opened : (n p n' p' : Steps Place) (tied : IsTiedAt n p nodes resources) (e : Place) → sibling_ring node ≡ Some e → is_end e ≡ true →
+    abbrev pub tied_opened : {n : Steps Place} (p n' p' : Steps Place) (tied : IsTiedAt n p nodes resources) (e : Place) → sibling_ring node ≡ Some e →
+        is_end e ≡ true →
         Joins places n p n' p' e (Sibling key.slot) → IsTiedAt n' p' nodes' resources
-    tied_opened n p n' p' tied e some ends joins = record {
+    tied_opened {n} p n' p' tied e some ends joins = record {
       rings = put_ring places e (tied.rings e ++ Sibling key.slot ∷ []) tied.rings;
       noted = unnoted {T = T} nodes resources tied.noted key.slot;
       ringed = rings_joined tells n p n' p' (home_of nodes resources tied.noted)
@@ -258,8 +272,13 @@ module _ {T : Type 0} where
       (came : Inserts resources resources' key number stowed) (past : IsPast resources number) (owned : is_owned nodes stowed ≡ true)
       (free : is_lent stowed ≡ false) where
     pub held_others : (noted : ℕ → Bool) (q : Place) → Stored key.slot ≢ q → home_of nodes resources' noted q ≡ home_of nodes resources noted q
-    held_others noted q apart = home_by (λ q. Stored key.slot ≢ q) nodes nodes resources resources' noted noted (λ j c. refl) (λ j c. refl)
-        (λ r c. ap (option_and_then (λ e. resource_ring nodes e.value)) (came.changes.others r (λ s. c (ap (λ k. Stored k) (sym s))))) q apart
+    held_others noted q apart = home_by homes_held q apart where
+      homes_held : HomesStay (λ q. Stored key.slot ≢ q) nodes nodes resources resources' noted noted
+      homes_held = record {
+        sibling = λ j c. refl;
+        note = λ j c. refl;
+        stored = λ r c. ap (option_and_then (λ e. resource_ring nodes e.value)) (came.changes.others r (λ s. c (ap (λ k. Stored k) (sym s))));
+      }
 
     pub held_apart : AreApart resources → AreApart resources'
     held_apart apart a b found_a found_b numbers = of (cases_key a key) (cases_key b key) where

@@ -21,7 +21,7 @@ use Rattle.rx_tree.specs.Store.{Takes_out}
 use Rattle.rx_tree.specs.Ties.{resource_ring, Rises, is_by_age, home_of, IsTiedAt}
 use Rattle.rx_tree.specs.Tree.{AreApart}
 use Rattle.rx_tree.proofs.Laws.Keys.{cases_key}
-use Rattle.rx_tree.proofs.TieRecords.{home_by}
+use Rattle.rx_tree.proofs.TieRecords.{HomesStay, home_by}
 use Rattle.rx_tree.proofs.TieSteps.{rises_without}
 
 module _ {T : Type 0} (nodes : Slots Node) (resources resources' : Slots (Stowed T)) where
@@ -37,9 +37,13 @@ module _ {T : Type 0} (nodes : Slots Node) (resources resources' : Slots (Stowed
 
   pub stored_others : (noted : ℕ → Bool) (slot : ℕ) (entry : Option (Entry (Stowed T))) → Changes resources resources' slot entry → (q : Place) →
       Stored slot ≢ q → home_of nodes resources' noted q ≡ home_of nodes resources noted q
-  stored_others noted slot entry change q apart =
-      home_by (λ q. Stored slot ≢ q) nodes nodes resources resources' noted noted (λ j c. refl) (λ j c. refl)
-      (λ r c. ap (option_and_then (λ e. resource_ring nodes e.value)) (change.others r (λ s. c (ap (λ k. Stored k) (sym s))))) q apart
+  stored_others noted slot entry change q apart = home_by stay q apart where
+    stay : HomesStay (λ q. Stored slot ≢ q) nodes nodes resources resources' noted noted
+    stay = record {
+      sibling = λ j c. refl;
+      note = λ j c. refl;
+      stored = λ r c. ap (option_and_then (λ e. resource_ring nodes e.value)) (change.others r (λ s. c (ap (λ k. Stored k) (sym s))));
+    }
 
   -- a resource belongs at the end of a ring, which is none of those by age
   pub ring_ends : (stowed : Stowed T) (e : Place) → resource_ring nodes stowed ≡ Some e → (is_end e ≡ true) × (is_by_age e ≡ false) × (is_place e Due ≡ false)

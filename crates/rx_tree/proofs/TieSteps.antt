@@ -26,9 +26,10 @@ rings_same n p home home' rings R same =
     subst (λ h. AreRings places n p h rings) e R
 
 -- and where each place has the links that it had
-abbrev pub tied_links : {T : Type 0} (n p n' p' : Steps Place) (nodes : Slots Node) (resources : Slots (Stowed T)) → ((q : Place) → n' q ≡ n q) →
+abbrev pub tied_links : {T : Type 0} {n : Steps Place} (p n' p' : Steps Place) (nodes : Slots Node) (resources : Slots (Stowed T)) →
+    ((q : Place) → n' q ≡ n q) →
     ((q : Place) → p' q ≡ p q) → IsTiedAt n p nodes resources → IsTiedAt n' p' nodes resources
-tied_links n p n' p' nodes resources next previous tied =
+tied_links {n} p n' p' nodes resources next previous tied =
     record {
       rings = tied.rings;
       noted = tied.noted;
@@ -133,9 +134,10 @@ module _ {T : Type 0} (nodes : Slots Node) (resources : Slots (Stowed T)) where
     noted_others (Sibling j) apart = refl
     noted_others (Stored j) apart = refl
 
-  abbrev pub tied_noted : (n p n' p' : Steps Place) (slot : ℕ) (tied : IsTiedAt n p nodes resources) → home_of nodes resources tied.noted (Noted slot) ≡ None →
+  abbrev pub tied_noted : {n : Steps Place} (p n' p' : Steps Place) (slot : ℕ) (tied : IsTiedAt n p nodes resources) →
+      home_of nodes resources tied.noted (Noted slot) ≡ None →
       is_some (entry_at nodes slot) ≡ true → Joins places n p n' p' Due (Noted slot) → IsTiedAt n' p' nodes resources
-  tied_noted n p n' p' slot tied off there joins = record {
+  tied_noted {n} p n' p' slot tied off there joins = record {
     rings = put_ring places Due (tied.rings Due ++ Noted slot ∷ []) tied.rings;
     noted = with_noted tied.noted slot;
     ringed = rings_joined tells n p n' p' (home_of nodes resources tied.noted) (home_of nodes resources (with_noted tied.noted slot)) tied.rings tied.ringed Due

@@ -20,8 +20,8 @@ use Rattle.rx_tree.proofs.Chain.{chain_is}
 use Rattle.rx_tree.proofs.CountSteps.{counted_written}
 use Rattle.rx_tree.proofs.Laws.Keys.{cases_key}
 use Rattle.rx_tree.proofs.Laws.FoundAfterWrite.{entry_found}
-use Rattle.rx_tree.proofs.StoreLemmas.{find-project, changes-written, rewrites-project, part-rewritten, keeps_links}
-use Rattle.rx_tree.proofs.TieRecords.{home_by}
+use Rattle.rx_tree.proofs.StoreLemmas.{find-project, changes-written, rewrites-project, part-rewritten, resources_keep_links}
+use Rattle.rx_tree.proofs.TieRecords.{HomesStay, home_by}
 use Rattle.rx_tree.proofs.TieSteps.{rings_same, tied_links}
 
 module _ {T : Type 0} (s : Store T) (tied : IsTied s) (res : ResKey) (kept : Kept T) (after : T) (found : find s.resources (store_key res) ≡ Some kept) where
@@ -33,11 +33,11 @@ module _ {T : Type 0} (s : Store T) (tied : IsTied s) (res : ResKey) (kept : Kep
   seen = find-project (λ r. r.stowed) s.resources (store_key res) ∙ ap (option_map (λ r. r.stowed)) found
 
   pub used_links : KeepsLinks s with_used
-  used_links = keeps_links s with_used refl refl refl (λ j. refl) (λ j. refl) (λ j. refl) (λ j. refl) (part-rewritten (λ r. r.link) (λ j. alone
+  used_links = resources_keep_links s with_used.resources (part-rewritten (λ r. r.link) (λ j. alone
       (Stored j)) s.resources with_used.resources res.slot res.number kept (record kept { stowed = with_resource after kept.stowed }) found refl refl)
 
   pub used_change : Changes (resources_of s) (resources_of with_used) res.slot (Some (entry_of res.number (with_resource after kept.stowed)))
-  used_change = changes-written (λ r. r.stowed) s.resources (store_key res) kept
+  used_change = changes-written (λ r. r.stowed) s.resources (store_key res)
       (record kept { stowed = with_resource after kept.stowed }) kept.stowed (with_resource after) found refl seen
 
   pub used_rewrites : Rewrites (resources_of s) (resources_of with_used) (store_key res) (with_resource after)
@@ -62,14 +62,16 @@ module _ {T : Type 0} (s : Store T) (tied : IsTied s) (res : ResKey) (kept : Kep
     | inr other ↦ ap is_some (used_rewrites.others k other)
   ]
 
+  pub homes_used : HomesStay (λ _. Unit {0}) (nodes_of s) (nodes_of s) (resources_of s) (resources_of with_used) tied.noted tied.noted
+  homes_used = record { sibling = λ j c. refl; note = λ j c. refl; stored = λ r c. used_ring r }
+
   abbrev pub used_tied : IsTied with_used
-  used_tied = tied_links (next_of s) (previous_of s) (next_of with_used) (previous_of with_used) (nodes_of s) (resources_of with_used) (λ q. ap
+  used_tied = tied_links (previous_of s) (next_of with_used) (previous_of with_used) (nodes_of s) (resources_of with_used) (λ q. ap
       (λ l. l.next) (used_links q)) (λ q. ap (λ l. l.previous) (used_links q)) (record {
         rings = tied.rings;
         noted = tied.noted;
         ringed = rings_same (next_of s) (previous_of s) (home_of (nodes_of s) (resources_of s) tied.noted) (home_of (nodes_of s)
-            (resources_of with_used) tied.noted) tied.rings tied.ringed (λ q. home_by (λ _. Unit {0}) (nodes_of s) (nodes_of s) (resources_of s)
-            (resources_of with_used) tied.noted tied.noted (λ j c. refl) (λ j c. refl) (λ r c. used_ring r) q tt);
+            (resources_of with_used) tied.noted) tied.rings tied.ringed (λ q. home_by homes_used q tt);
         rises = tied.rises;
         sound = tied.sound;
         resources_apart = λ a b found_a found_b numbers. tied.resources_apart a b (sym (used_some a) ∙ found_a) (sym (used_some b) ∙ found_b) numbers;

@@ -142,7 +142,7 @@ module _ {T : Type 0} (s : Store T) (tied : IsTied s) where
       taken_s = subst (λ r. Takes_out r (resources_of t) key) relinks.resources taken
 
       abbrev now_taken : IsTiedAt (next_of t) (previous_of t) (nodes_of s) (resources_of t)
-      now_taken = tied_links (next_of l) (previous_of l) (next_of t) (previous_of t) (nodes_of s) (resources_of t) (λ q. ap (λ k. k.next) (links q))
+      now_taken = tied_links (previous_of l) (next_of t) (previous_of t) (nodes_of s) (resources_of t) (λ q. ap (λ k. k.next) (links q))
           (λ q. ap (λ k. k.previous) (links q)) (tied_taken (nodes_of s) (resources_of s) (resources_of t) (next_of s) (previous_of s) (next_of l)
           (previous_of l) tied key taken_s leaves)
 

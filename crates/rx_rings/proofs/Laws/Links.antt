@@ -12,6 +12,12 @@ pub record IsRound {Place : Type 0} (n p : Steps Place) (x : Place) : Type 0 whe
   pub after : n (p x) ≡ x
   pub before : p (n x) ≡ x
 
+module _ {Place : Type 0} (places : Places Place) where
+  -- the links lead from one place to another, over places of two kinds: of those from which links stay, and of those to which they stay
+  pub record LeadsOver (n p : Steps Place) (S V : Place → Type 0) (a : Place) (xs : List Place) (b : Place) : Type 0 where
+    pub leads : Leads n p a xs b
+    pub inner : (x : Place) → is_among places x xs ≡ true → S x × V x
+
 module _ {Place : Type 0} {places : Places Place} (tells : Tells places) where
   pub set_same : (p to : Place) (f : Steps Place) → set_step places p to f p ≡ to
   set_same p to f = ap (λ b. cond b to (f p)) (tells.self p)
@@ -32,46 +38,50 @@ module _ {Place : Type 0} {places : Places Place} (tells : Tells places) where
           | inr rest ↦ round y xs b x h.1 rest
         ]
 
+    rest_over : {S V : Place → Type 0} {a x : Place} {xs : List Place} {b : Place} → LeadsOver places n p S V a (x ∷ xs) b →
+        LeadsOver places n p S V x xs b
+    rest_over {x} {xs} over = record { leads = over.leads.1; inner = λ y i. over.inner y (among_there tells y x xs i) }
+
     module _ (n' p' : Steps Place) (S V : Place → Type 0) (keeps : (u v : Place) → IsLink n p u v → S u → V v → IsLink n' p' u v) where
       -- links that all stay
-      pub frame : (a : Place) (xs : List Place) (b : Place) → Leads n p a xs b → S a → ((x : Place) → is_among places x xs ≡ true → S x × V x) →
-          V b → Leads n' p' a xs b
-      frame a [] b h sa all vb = keeps a b h sa vb
-      frame a (x ∷ xs) b h sa all vb = (
-        keeps a x h.0 sa (all x (among_here tells x xs)).1,
-        frame x xs b h.1 (all x (among_here tells x xs)).0
-            (λ y i. all y (among_there tells y x xs i)) vb,
-      )
+      pub frame : {xs : List Place} {a b : Place} → LeadsOver places n p S V a xs b → S a → V b → Leads n' p' a xs b
+      frame {xs = []} {a} {b} over start end = keeps a b over.leads start end
+      frame {xs = x ∷ xs} {a} over start end =
+          let both = over.inner x (among_here tells x xs) in
+          (keeps a x over.leads.0 start both.1, frame {xs = xs} (rest_over over) both.0 end)
 
       -- links that stay up to the last, and go on from there
-      pub splice : (a : Place) (xs ys : List Place) (m b : Place) → Leads n p a xs m → S a → ((x : Place) → is_among places x xs ≡ true → S x × V x) →
+      pub splice : {xs : List Place} {a m : Place} (ys : List Place) (b : Place) → LeadsOver places n p S V a xs m → S a →
           Leads n' p' (p m) ys b → Leads n' p' a (xs ++ ys) b
-      splice a [] ys m b h sa all tail = subst (λ q. Leads n' p' q ys b) h.back tail
-      splice a (x ∷ xs) ys m b h sa all tail = (
-        keeps a x h.0 sa (all x (among_here tells x xs)).1,
-        splice x xs ys m b h.1 (all x (among_here tells x xs)).0
-            (λ y i. all y (among_there tells y x xs i)) tail,
+      splice {xs = []} ys b over start tail = subst (λ q. Leads n' p' q ys b) over.leads.back tail
+      splice {xs = x ∷ xs} {a} ys b over start tail =
+          let both = over.inner x (among_here tells x xs) in
+          (keeps a x over.leads.0 start both.1, splice {xs = xs} ys b (rest_over over) both.0 tail)
+
+      -- with another start
+      restart : {k a : Place} {ys : List Place} {b : Place} → LeadsOver places n p S V k ys b → IsLink n' p' a (n k) → V b → Leads n' p' a ys b
+      restart {a} {ys = []} over link end = subst (λ q. IsLink n' p' a q) over.leads.to link
+      restart {a} {ys = y ∷ ys} over link end = (
+        subst (λ q. IsLink n' p' a q) over.leads.0.to link,
+        frame (rest_over over) (over.inner y (among_here tells y ys)).0 end,
       )
 
-    -- with another start
-    restart : (n' p' : Steps Place) (S V : Place → Type 0) (keeps : (u v : Place) → IsLink n p u v → S u → V v → IsLink n' p' u v) (k a : Place)
-        (ys : List Place)
-        (b : Place) → Leads n p k ys b → IsLink n' p' a (n k) → ((x : Place) → is_among places x ys ≡ true → S x × V x) → V b → Leads n' p' a ys b
-    restart n' p' S V keeps k a [] b h link all vb = subst (λ q. IsLink n' p' a q) h.to link
-    restart n' p' S V keeps k a (y ∷ ys) b h link all vb = (
-      subst (λ q. IsLink n' p' a q) h.0.to link,
-      frame n' p' S V keeps y ys b h.1 (all y (among_here tells y ys)).0
-          (λ x i. all x (among_there tells x y ys i)) vb,
-    )
+      -- with another start and another end
+      pub move_ring : {k a : Place} {ys : List Place} {b c : Place} → LeadsOver places n p S V k ys b → n k ≢ b → IsLink n' p' a (n k) →
+          IsLink n' p' (p b) c → Leads n' p' a ys c
+      move_ring {ys = []} over other start end = absurd (other over.leads.to)
+      move_ring {a} {ys = y ∷ ys} {c} over other start end = (
+        subst (λ q. IsLink n' p' a q) over.leads.0.to start,
+        subst (λ zs. Leads n' p' y zs c) (append-nil ys) (splice [] c (rest_over over) (over.inner y (among_here tells y ys)).0 end),
+      )
 
     -- a place is taken out of what the links lead over
-    pub cut_out : (n' p' : Steps Place) (item : Place) (keeps : (u v : Place) → IsLink n p u v → item ≢ u → item ≢ v → IsLink n' p' u v)
-        (across : IsLink n' p' (p item) (n item)) (a : Place) (xs : List Place) (b : Place) → Leads n p a xs b → AreDifferent places xs →
-        item ≢ a → item ≢ b →
-        Leads n' p' a (without places item xs) b
-    cut_out n' p' item keeps across a [] b h d ia ib = keeps a b h ia ib
-    cut_out n' p' item keeps across a (x ∷ xs) b h d ia ib =
-        of (λ apart. cut_out n' p' item keeps across x xs b h.1 d.1 apart ib) (places.is_place item x) refl where
+    pub cut_out : {n' p' : Steps Place} {item : Place} (keeps : (u v : Place) → IsLink n p u v → item ≢ u → item ≢ v → IsLink n' p' u v)
+        (across : IsLink n' p' (p item) (n item)) (xs : List Place) {a b : Place} → Leads n p a xs b → AreDifferent places xs →
+        item ≢ a → item ≢ b → Leads n' p' a (without places item xs) b
+    cut_out keeps across [] {a} {b} h d ia ib = keeps a b h ia ib
+    cut_out {n'} {p'} {item} keeps across (x ∷ xs) {a} {b} h d ia ib =
+        of (λ apart. cut_out keeps across xs h.1 d.1 apart ib) (places.is_place item x) refl where
           of : (item ≢ x → Leads n' p' x (without places item xs) b) → (t : Bool) → places.is_place item x ≡ t →
               Leads n' p' a (cond (not t) (x ∷ without places item xs) (without places item xs)) b
           of again true t =
@@ -79,9 +89,10 @@ module _ {Place : Type 0} {places : Places Place} (tells : Tells places) where
               let none : is_among places item xs ≡ false = subst (λ z. is_among places z xs ≡ false) (sym same) d.0 in
               let start : IsLink n' p' a (n x) = subst (λ z. IsLink n' p' a (n z)) same
               (subst (λ z. IsLink n' p' z (n item)) (ap p same ∙ h.0.back) across) in
+              let apart : (y : Place) → is_among places y xs ≡ true → item ≢ y =
+              λ y i s. true≢false (sym i ∙ subst (λ z. is_among places z xs ≡ false) s none) in
               subst (λ ys. Leads n' p' a ys b) (sym (without_none tells item xs none))
-              (restart n' p' (λ u. item ≢ u) (λ v. item ≢ v) keeps x a xs b h.1 start
-              (λ y i. let o : item ≢ y = λ s. true≢false (sym i ∙ subst (λ z. is_among places z xs ≡ false) s none) in (o, o)) ib)
+              (restart n' p' (λ u. item ≢ u) (λ v. item ≢ v) keeps (record { leads = h.1; inner = λ y i. (apart y i, apart y i) }) start ib)
           of again false t = let o = place_differs tells item x t in (keeps a x h.0 ia o, again o)
 
     pub last_link : (a : Place) (xs : List Place) (b : Place) → Leads n p a xs b → n (p b) ≡ b
@@ -143,24 +154,13 @@ module _ {Place : Type 0} {places : Places Place} (tells : Tells places) where
           | inr rest ↦ no_loop y xs b x h.1 d.1 apart rest loop
         ]
 
-    -- with another start and another end
-    pub move_ring : (n' p' : Steps Place) (S V : Place → Type 0) (keeps : (u v : Place) → IsLink n p u v → S u → V v → IsLink n' p' u v) (k a : Place)
-        (ys : List Place) (b c : Place) → Leads n p k ys b → n k ≢ b → IsLink n' p' a (n k) → IsLink n' p' (p b) c →
-        ((x : Place) → is_among places x ys ≡ true → S x × V x) → Leads n' p' a ys c
-    move_ring n' p' S V keeps k a [] b c h other start end all = absurd (other h.to)
-    move_ring n' p' S V keeps k a (y ∷ ys) b c h other start end all = (
-      subst (λ q. IsLink n' p' a q) h.0.to start,
-      subst (λ zs. Leads n' p' y zs c) (append-nil ys)
-          (splice n' p' S V keeps y ys [] b c h.1 (all y (among_here tells y ys)).0 (λ x i. all x (among_there tells x y ys i)) end),
-    )
-
-  pub walk_leads : (steps : ℕ) (n p : Steps Place) (a : Place) (xs : List Place) (e : Place) → places.is_end e ≡ true → Leads n p a xs e →
+  pub walk_leads : (steps : ℕ) (n p : Steps Place) (a : Place) {xs : List Place} {e : Place} → places.is_end e ≡ true → Leads n p a xs e →
       ((x : Place) → is_among places x xs ≡ true → places.is_end x ≡ false) → length xs ≤ steps → walk places steps n a ≡ xs
-  walk_leads zero n p a [] e ends h inner few = refl
-  walk_leads zero n p a (x ∷ xs) e ends h inner few = absurd (omega arith)
-  walk_leads (suc steps) n p a [] e ends h inner few = ap (λ z. cond (places.is_end z) [] (n a ∷ walk places steps n z)) h.to ∙
+  walk_leads zero n p a {xs = []} ends h inner few = refl
+  walk_leads zero n p a {xs = x ∷ xs} ends h inner few = absurd (omega arith)
+  walk_leads (suc steps) n p a {xs = []} {e} ends h inner few = ap (λ z. cond (places.is_end z) [] (n a ∷ walk places steps n z)) h.to ∙
       ap (λ b. cond b [] (n a ∷ walk places steps n e)) ends
-  walk_leads (suc steps) n p a (x ∷ xs) e ends h inner few =
+  walk_leads (suc steps) n p a {xs = x ∷ xs} {e} ends h inner few =
       ap (λ z. cond (places.is_end z) [] (z ∷ walk places steps n z)) h.0.to ∙
       ap (λ b. cond b [] (x ∷ walk places steps n x)) (inner x (among_here tells x xs)) ∙
-      ap (λ (ys : List Place). x ∷ ys) (walk_leads steps n p x xs e ends h.1 (λ y i. inner y (among_there tells y x xs i)) (omega (arith, few)))
+      ap (λ (ys : List Place). x ∷ ys) (walk_leads steps n p x ends h.1 (λ y i. inner y (among_there tells y x xs i)) (omega (arith, few)))

@@ -5,7 +5,7 @@ use Rattle.std.proofs.lemmas.Bool.{false≢true, false_from_ne_true}
 use Rattle.rx_rings.specs.Rings.{Places, Steps, IsLink, Leads, is_among, AreDifferent, without, set_step, AreRings, Joins, Leaves, Merges}
 use Rattle.rx_rings.proofs.Laws.Places.{Tells, place_apart, cases_place, among_here, among_cons, among_append, among_left, among_right, among_without}
 use Rattle.rx_rings.proofs.Laws.Places.{without_keeps, different_without, different_append}
-use Rattle.rx_rings.proofs.Laws.Links.{IsRound, set_same, set_other, round, frame, splice, move_ring, cut_out}
+use Rattle.rx_rings.proofs.Laws.Links.{IsRound, LeadsOver, set_same, set_other, round, frame, splice, move_ring, cut_out}
 use Rattle.rx_rings.proofs.Laws.Links.{first_back, first_among, last_among, last_link}
 
 pub some_same : {A : Type 0} (a b : A) → Some a ≡ Some b → a ≡ b
@@ -57,14 +57,20 @@ module _ {Place : Type 0} {places : Places Place} (tells : Tells places) where
             back = J.back v ∙ set_other tells e item v (set_step places item (p e) p) v_apart.1 ∙ set_other tells item (p e) v p v_apart.0 ∙ link.back;
           }
 
+      -- links of a ring stay from each of its places, and to each of them
+      join_over : (q : Place) → places.is_end q ≡ true → LeadsOver places n p (λ u. item ≢ u) (λ v. (item ≢ v) × (e ≢ v)) q (rings q) q
+      join_over q q_end = record {
+        leads = R.leads q q_end;
+        inner = λ x i. (homeless q x item none i, (homeless q x item none i, end_apart e x ends (inner q x i)));
+      }
+
       join_at : Leads n' p' e (rings e ++ item ∷ []) e
       join_at =
           let e_item = end_apart e item ends single in
           let item_e : item ≢ e = λ s. e_item (sym s) in
           let loop = R.loose item single none in
           let last : item ≢ p e = λ s. item_e (sym loop.to ∙ ap n s ∙ end_round e ends) in
-          splice tells n p n' p' (λ u. item ≢ u) (λ v. (item ≢ v) × (e ≢ v)) join_link e (rings e) (item ∷ []) e e (R.leads e ends) item_e
-          (λ x i. (homeless e x item none i, (homeless e x item none i, end_apart e x ends (inner e x i)))) (
+          splice tells n p n' p' (λ u. item ≢ u) (λ v. (item ≢ v) × (e ≢ v)) join_link (item ∷ []) e (join_over e ends) item_e (
             record {
               to = J.to (p e) ∙ set_other tells item e (p e) (set_step places (p e) item n) last ∙ set_same tells (p e) item n;
               back = J.back item ∙ set_other tells e item item (set_step places item (p e) p) e_item ∙ set_same tells item (p e) p;
@@ -78,9 +84,8 @@ module _ {Place : Type 0} {places : Places Place} (tells : Tells places) where
       pub rings_joined : AreRings places n' p' home' (put_ring places e (rings e ++ item ∷ []) rings)
       rings_joined = record {
         leads = by_ring (λ q ps. places.is_end q ≡ true → Leads n' p' q ps q) e (rings e ++ item ∷ []) rings (λ _. join_at)
-            (λ q apart q_end. frame tells n p n' p' (λ u. item ≢ u) (λ v. (item ≢ v) × (e ≢ v)) join_link q (rings q) q (R.leads q q_end)
-            (λ s. end_apart q item q_end single (sym s)) (λ x i. (homeless q x item none i, (homeless q x item none i, end_apart e x ends (inner q x i))))
-            (λ s. end_apart q item q_end single (sym s), apart));
+            (λ q apart q_end. frame tells n p n' p' (λ u. item ≢ u) (λ v. (item ≢ v) × (e ≢ v)) join_link (join_over q q_end)
+            (λ s. end_apart q item q_end single (sym s)) (λ s. end_apart q item q_end single (sym s), apart));
         differ = by_ring (λ q ps. AreDifferent places ps) e (rings e ++ item ∷ []) rings
             (different_append tells (rings e) (item ∷ []) (R.differ e) (refl, tt)
             (λ x i. false_from_ne_true (is_among places x (item ∷ [])) (λ i2. elim (among_cons tells x item [] i2) [
@@ -157,9 +162,9 @@ module _ {Place : Type 0} {places : Places Place} (tells : Tells places) where
 
       pub rings_left : AreRings places n' p' home' (λ q. without places item (rings q))
       rings_left = record {
-        leads = λ e ends. let apart : item ≢ e =
-            λ s. end_apart e item ends single (sym s) in cut_out tells n p n' p' item leave_link across e (rings e) e (R.leads e ends)
-            (R.differ e) apart apart;
+        leads = λ e ends.
+            let apart : item ≢ e = λ s. end_apart e item ends single (sym s) in
+            cut_out tells n p leave_link across (rings e) (R.leads e ends) (R.differ e) apart apart;
         differ = λ e. different_without tells item (rings e) (R.differ e);
         members = λ e x i. let h = among_without tells item x (rings e) i in others x h.1 ∙ R.members e x h.0;
         listed = λ e x at.
@@ -216,17 +221,21 @@ module _ {Place : Type 0} {places : Places Place} (tells : Tells places) where
                 set_other tells (n from) (p into) v p first ∙ link.back;
           }
 
+      -- links of a ring stay from each of its places, and to each of them
+      merge_over : (q : Place) → places.is_end q ≡ true → LeadsOver places n p (λ u. from ≢ u) (λ v. (from ≢ v) × (into ≢ v)) q (rings q) q
+      merge_over q q_end = record {
+        leads = R.leads q q_end;
+        inner = λ x i.
+            let apart = end_apart from x from_ends (inner q x i) in
+            (apart, (apart, end_apart into x into_ends (inner q x i)));
+      }
+
       merge_at : Leads n' p' into (rings into ++ rings from) into
       merge_at =
           let from_last : from ≢ p into = λ s. true≢false (sym into_ends ∙ ap places.is_end (sym (end_round into into_ends) ∙ ap n (sym s)) ∙ first_inner) in
           let lasts : p from ≢ p into = λ s. two (sym (end_round from from_ends) ∙ ap n s ∙ end_round into into_ends) in
-          let inside : (e x : Place) → is_among places x (rings e) ≡ true → (from ≢ x) × ((from ≢ x) × (into ≢ x)) =
-          λ e x i. (end_apart from x from_ends (inner e x i), (end_apart from x from_ends (inner e x i), end_apart into x into_ends (inner e x i))) in
-          splice tells n p n' p' (λ u. from ≢ u) (λ v. (from ≢ v) × (into ≢ v)) merge_link into (rings into) (rings from) into into
-          (R.leads into into_ends) two
-          (λ x i. inside into x i) (
-          move_ring tells n p n' p' (λ u. from ≢ u) (λ v. (from ≢ v) × (into ≢ v)) merge_link from (p into) (rings from) from into
-          (R.leads from from_ends) some
+          splice tells n p n' p' (λ u. from ≢ u) (λ v. (from ≢ v) × (into ≢ v)) merge_link (rings from) into (merge_over into into_ends) two (
+          move_ring tells n p n' p' (λ u. from ≢ u) (λ v. (from ≢ v) × (into ≢ v)) merge_link (merge_over from from_ends) some
           (record {
             to = M.to (p into) ∙ set_other tells from from (p into) next_2 from_last ∙ set_other tells (p from) into (p into) next_1 lasts ∙
                 set_same tells (p into) (n from) n;
@@ -238,7 +247,6 @@ module _ {Place : Type 0} {places : Places Place} (tells : Tells places) where
                 set_same tells (p from) into next_1;
             back = M.back into ∙ set_other tells from from into previous_2 two ∙ set_same tells into (p from) previous_1;
           })
-          (λ x i. inside from x i)
           )
 
       abbrev pub merged_rings : Place → List Place
@@ -257,8 +265,7 @@ module _ {Place : Type 0} {places : Places Place} (tells : Tells places) where
         leads = by_merged (λ q ps. places.is_end q ≡ true → Leads n' p' q ps q)
             (λ _. record { to = M.to from ∙ set_same tells from from next_2; back = M.back from ∙ set_same tells from from previous_2 })
             (λ _. merge_at)
-            (λ q fq iq q_end. frame tells n p n' p' (λ u. from ≢ u) (λ v. (from ≢ v) × (into ≢ v)) merge_link q (rings q) q (R.leads q q_end) fq
-            (λ x i. (end_apart from x from_ends (inner q x i), (end_apart from x from_ends (inner q x i), end_apart into x into_ends (inner q x i))))
+            (λ q fq iq q_end. frame tells n p n' p' (λ u. from ≢ u) (λ v. (from ≢ v) × (into ≢ v)) merge_link (merge_over q q_end) fq
             (fq, iq));
         differ = by_merged (λ q ps. AreDifferent places ps) tt
             (different_append tells (rings into) (rings from) (R.differ into) (R.differ from) (λ x i. elsewhere into x two i)) (λ q fq iq. R.differ q);

@@ -10,10 +10,10 @@ pub returns-clause-leaves : goal.returns-clause-leaves
 returns-clause-leaves c =
     let before = ap (λ k. k.previous) c.link-link.ensures in
     let after = ap (λ k. k.next) c.link-link.ensures in
-    leaves_of places _ _ (next_of c.tie.new.self) (previous_of c.tie.new.self) _ _ c.args.place (record {
+    leaves_of places {n1 = next_of c.tie.new.self} {p1 = previous_of c.tie.new.self} (record {
       to = λ q. c.tie.ensures.next q ∙ (λ i. set_step places (before i) (after i) (next_of c.args.self.now) q);
       back = λ q. c.tie.ensures.previous q ∙ (λ i. set_step places (after i) (before i) (previous_of c.args.self.now) q);
-    }) c.tie-2.ensures.next c.tie-2.ensures.previous
+    }) (record { to = c.tie-2.ensures.next; back = c.tie-2.ensures.previous })
 
 pub returns-clause-rest : goal.returns-clause-rest
 returns-clause-rest c = relinks_both _ _ _ c.tie.ensures.rest c.tie-2.ensures.rest

@@ -9,7 +9,7 @@ invariant_of-self g c =
     let s = schedule c.self.inside.clock c.self.inside.tickets c.self.inside.entries.entries in
     let others = c.in-Some.ensures.entries ∙ remove_entry-nat_cmp c.args.number s.work in
     let found = sym (lookup-nat_cmp c.args.number s.work) ∙ sym c.in-Some.ensures.value in
-    rw others (IsKept-without s c.args.number c.in-Some.work c.self.inside.agenda c.remove-in-Some.new.self
+    rw others (IsKept-without c.args.number c.in-Some.work c.self.inside.agenda c.remove-in-Some.new.self
     c.self.invariant found c.remove-in-Some.ensures.updates (rw others at c.in-Some.ensures.ordered))
 
 pub returns-in-Some-clause-once : goal.returns-in-Some-clause-once

@@ -2,7 +2,7 @@ use Rattle.std.proofs.Common.{refl, sym, ap, ◌∙◌}
 use Rattle.rx_tree.specs.declared.links.Place.TheVariants.{Children, Held, Sibling, Noted}
 use Rattle.rx_tree.specs.declared.node.Node.{Node}
 use Rattle.rx_tree.specs.Store.{alone, no_counts}
-use Rattle.rx_tree.proofs.StoreLemmas.{inserts-project, part-added, keeps_links}
+use Rattle.rx_tree.proofs.StoreLemmas.{inserts-project, part-added, nodes_keep_links}
 use Rattle.rx_tree.proofs.CountSteps.{counted_kept, found_before, owed_opened}
 use Rattle.rx_tree.proofs.store.Store.add_node.Goals as goal
 
@@ -10,11 +10,11 @@ pub returns-in-Ok-clause-ok : goal.returns-in-Ok-clause-ok
 returns-in-Ok-clause-ok g c =
     let e = c.in-Ok.ensures in
     rw c.alone-linked.ensures.node at
-    (inserts-project (λ l. l.node) c.args.self.now.nodes c.insert.new.self c.in-Ok.key c.args.number c.alone-linked.result e.numbered e.was_free e.changes
+    (inserts-project (λ l. l.node) c.args.number c.alone-linked.result e.numbered e.was_free e.changes
     e.found e.kept e.count)
 
 pub returns-in-Ok-clause-links : goal.returns-in-Ok-clause-links
-returns-in-Ok-clause-links g c = keeps_links c.args.self.now (record c.args.self.now { nodes = c.insert.new.self }) refl refl refl
+returns-in-Ok-clause-links g c = nodes_keep_links c.args.self.now c.insert.new.self
     (part-added (λ l. l.children) (λ j. alone (Children j)) _ _ c.in-Ok.key.slot c.args.number c.alone-linked.result c.in-Ok.ensures.was_free
     c.in-Ok.ensures.changes (c.alone-linked.ensures.children ∙ ap (λ s. alone (Children s)) (c.next_slot.ensures.value ∙ sym c.in-Ok.ensures.slot)))
     (part-added (λ l. l.held) (λ j. alone (Held j)) _ _ c.in-Ok.key.slot c.args.number c.alone-linked.result c.in-Ok.ensures.was_free c.in-Ok.ensures.changes
@@ -23,14 +23,13 @@ returns-in-Ok-clause-links g c = keeps_links c.args.self.now (record c.args.self
     c.in-Ok.ensures.changes (c.alone-linked.ensures.sibling ∙ ap (λ s. alone (Sibling s)) (c.next_slot.ensures.value ∙ sym c.in-Ok.ensures.slot)))
     (part-added (λ l. l.noted) (λ j. alone (Noted j)) _ _ c.in-Ok.key.slot c.args.number c.alone-linked.result c.in-Ok.ensures.was_free
     c.in-Ok.ensures.changes (c.alone-linked.ensures.noted ∙ ap (λ s. alone (Noted s)) (c.next_slot.ensures.value ∙ sym c.in-Ok.ensures.slot)))
-    (λ j. refl)
 
 pub returns-in-Ok-clause-counted : goal.returns-in-Ok-clause-counted
 returns-in-Ok-clause-counted g c =
     let a = c.args.self.now in
     let b = record c.args.self.now { nodes = c.insert.new.self } in
     let e = c.in-Ok.ensures in
-    let came = inserts-project (λ l. l.node) a.nodes c.insert.new.self c.in-Ok.key c.args.number c.alone-linked.result e.numbered e.was_free e.changes e.found
+    let came = inserts-project (λ l. l.node) c.args.number c.alone-linked.result e.numbered e.was_free e.changes e.found
     e.kept e.count in
     counted_kept a b c.requires.counted refl
     (part-added (λ l. l.held_count) (λ j. no_counts) _ _ c.in-Ok.key.slot c.args.number c.alone-linked.result e.was_free e.changes

@@ -9,13 +9,18 @@ use Rattle.rx_tree.proofs.store.Store.join.Goals as goal
 pub returns-clause-joins : goal.returns-clause-joins
 returns-clause-joins g c =
     let link : Link = record { next = c.args.end; previous = c.link-last.result.previous } in
-    joins_of places _ _ (next_of c.set_next.new.self) (previous_of c.set_link.new.self) _ _ c.args.end c.args.place c.link-last.result.previous
-    (ap (λ k. k.previous) c.link-last.ensures) c.set_next.ensures.next
-    (λ q. wrote_previous (link_at c.set_next.new.self) (link_at c.set_link.new.self) c.args.place link c.set_link.ensures.linked c.link-last.result.previous
-    refl q ∙ ap (λ p. cond (is_place c.args.place q) c.link-last.result.previous p) (c.set_next.ensures.previous q))
-    (λ q. c.set_previous.ensures.next q ∙ wrote_next (link_at c.set_next.new.self) (link_at c.set_link.new.self) c.args.place link
-    c.set_link.ensures.linked c.args.end refl q)
-    c.set_previous.ensures.previous
+    joins_of places {n1 = next_of c.set_next.new.self} {p1 = previous_of c.set_link.new.self} (ap (λ k. k.previous) c.link-last.ensures)
+    (record {
+      to = c.set_next.ensures.next;
+      back = λ q. wrote_previous (link_at c.set_next.new.self) (link_at c.set_link.new.self) c.args.place link c.set_link.ensures.linked
+          c.link-last.result.previous refl q ∙
+          ap (λ p. cond (is_place c.args.place q) c.link-last.result.previous p) (c.set_next.ensures.previous q);
+    })
+    (record {
+      to = λ q. c.set_previous.ensures.next q ∙ wrote_next (link_at c.set_next.new.self) (link_at c.set_link.new.self) c.args.place link
+          c.set_link.ensures.linked c.args.end refl q;
+      back = c.set_previous.ensures.previous;
+    })
 
 pub returns-clause-rest : goal.returns-clause-rest
 returns-clause-rest g c = relinks_both _ _ _ (relinks_both _ _ _ c.set_next.ensures.rest c.set_link.ensures.rest) c.set_previous.ensures.rest

@@ -6,7 +6,7 @@ use Rattle.rx_slots.specs.Slots.{with_value, entry_of, Changes}
 use Rattle.rx_tree.specs.Store.{alone, project, nodes_of, resources_of, held_count_at, one_less, one_more}
 use Rattle.rx_tree.specs.Resources.{is_owned, one_lease_more}
 use Rattle.rx_tree.specs.Tree.{Rewrites}
-use Rattle.rx_tree.proofs.StoreLemmas.{find-project, changes-written, rewrites-project, part-rewritten, keeps_links}
+use Rattle.rx_tree.proofs.StoreLemmas.{find-project, changes-written, rewrites-project, part-rewritten, resources_keep_links}
 use Rattle.rx_tree.proofs.CountSteps.{first_some, first_fits, counted_first, counted_again}
 use Rattle.rx_tree.proofs.CountLemmas.{same_here, same_apart}
 use Rattle.rx_tree.proofs.store.Store.lend.Goals as goal
@@ -20,7 +20,7 @@ less-requires g c =
       resources = with_value c.args.self.now.resources c.args.key
           (record c.in-Some.stored.now { stowed = one_lease_more c.in-Some.stored.now.stowed });
     } in
-    let change = changes-written (λ r. r.stowed) a.resources c.args.key c.in-Some.stored.now
+    let change = changes-written (λ r. r.stowed) a.resources c.args.key
     (record c.in-Some.stored.now { stowed = one_lease_more c.in-Some.stored.now.stowed }) c.in-Some.stored.now.stowed one_lease_more at refl found in
     let owned = subst (λ o. IfSome o (λ stowed. IsTrue (is_owned (nodes_of a) stowed))) found c.requires.owned in
     let some = first_some a b c.requires.counted c.args.key c.in-Some.stored.now.stowed found change owned
@@ -36,7 +36,7 @@ more-requires g c =
       resources = with_value c.args.self.now.resources c.args.key
           (record c.in-Some.stored.now { stowed = one_lease_more c.in-Some.stored.now.stowed });
     } in
-    let change = changes-written (λ r. r.stowed) a.resources c.args.key c.in-Some.stored.now
+    let change = changes-written (λ r. r.stowed) a.resources c.args.key
     (record c.in-Some.stored.now { stowed = one_lease_more c.in-Some.stored.now.stowed }) c.in-Some.stored.now.stowed one_lease_more at refl found in
     let owned = subst (λ o. IfSome o (λ stowed. IsTrue (is_owned (nodes_of a) stowed))) found c.requires.owned in
     let few = first_fits a b c.requires.counted c.args.key c.in-Some.stored.now.stowed found change owned
@@ -55,7 +55,7 @@ returns-then-not-lent-clause-counted g c =
       resources = with_value c.args.self.now.resources c.args.key
           (record c.in-Some.stored.now { stowed = one_lease_more c.in-Some.stored.now.stowed });
     } in
-    let change = changes-written (λ r. r.stowed) a.resources c.args.key c.in-Some.stored.now
+    let change = changes-written (λ r. r.stowed) a.resources c.args.key
     (record c.in-Some.stored.now { stowed = one_lease_more c.in-Some.stored.now.stowed }) c.in-Some.stored.now.stowed one_lease_more at refl found in
     let h = c.set_held_count.ensures in
     let owned = subst (λ o. IfSome o (λ stowed. IsTrue (is_owned (nodes_of a) stowed))) found c.requires.owned in
@@ -77,17 +77,13 @@ returns-then-not-lent-clause-rewrites g c = subst (λ r. Rewrites (resources_of 
 pub returns-then-not-lent-clause-changes : goal.returns-then-not-lent-clause-changes
 returns-then-not-lent-clause-changes g c stowed found = subst (λ r. Changes (resources_of c.args.self.now) (project (λ r. r.stowed) r) c.args.key.slot
     (Some (entry_of c.args.key.number (one_lease_more stowed)))) (sym c.set_held_count.ensures.resources)
-    (changes-written (λ r. r.stowed) c.args.self.now.resources c.args.key c.in-Some.stored.now
+    (changes-written (λ r. r.stowed) c.args.self.now.resources c.args.key
     (record c.in-Some.stored.now { stowed = one_lease_more c.in-Some.stored.now.stowed }) stowed one_lease_more
     (sym c.get_mut.ensures.value ∙ ap option_copied_mut c.in-Some.is) refl found)
 
 pub returns-then-not-lent-clause-links : goal.returns-then-not-lent-clause-links
-returns-then-not-lent-clause-links g c p = c.set_held_count.ensures.links p ∙ keeps_links c.args.self.now
-    (record c.args.self.now {
-      resources = with_value c.args.self.now.resources c.args.key (record c.in-Some.stored.now
-          { stowed = one_lease_more c.in-Some.stored.now.stowed });
-    })
-    refl refl refl (λ j. refl) (λ j. refl) (λ j. refl) (λ j. refl)
+returns-then-not-lent-clause-links g c p = c.set_held_count.ensures.links p ∙ resources_keep_links c.args.self.now
+    (with_value c.args.self.now.resources c.args.key (record c.in-Some.stored.now { stowed = one_lease_more c.in-Some.stored.now.stowed }))
     (part-rewritten (λ r. r.link) (λ j. alone (Stored j)) c.args.self.now.resources _ c.args.key.slot c.args.key.number c.in-Some.stored.now _
     (sym c.get_mut.ensures.value ∙ ap option_copied_mut c.in-Some.is) refl refl) p
 
@@ -100,7 +96,7 @@ returns-else-not-lent-clause-counted g c =
       resources = with_value c.args.self.now.resources c.args.key
           (record c.in-Some.stored.now { stowed = one_lease_more c.in-Some.stored.now.stowed });
     } in
-    let change = changes-written (λ r. r.stowed) a.resources c.args.key c.in-Some.stored.now
+    let change = changes-written (λ r. r.stowed) a.resources c.args.key
     (record c.in-Some.stored.now { stowed = one_lease_more c.in-Some.stored.now.stowed }) c.in-Some.stored.now.stowed one_lease_more at refl found in
     let owned = subst (λ o. IfSome o (λ stowed. IsTrue (is_owned (nodes_of a) stowed))) found c.requires.owned in
     counted_again a b c.requires.counted c.args.key c.in-Some.stored.now.stowed found change owned
@@ -112,13 +108,12 @@ returns-else-not-lent-clause-rewrites g c = rewrites-project (λ r. r.stowed) c.
     (sym c.get_mut.ensures.value ∙ ap option_copied_mut c.in-Some.is) refl
 
 pub returns-else-not-lent-clause-changes : goal.returns-else-not-lent-clause-changes
-returns-else-not-lent-clause-changes g c stowed found = changes-written (λ r. r.stowed) c.args.self.now.resources c.args.key c.in-Some.stored.now
+returns-else-not-lent-clause-changes g c stowed found = changes-written (λ r. r.stowed) c.args.self.now.resources c.args.key
     (record c.in-Some.stored.now { stowed = one_lease_more c.in-Some.stored.now.stowed }) stowed one_lease_more
     (sym c.get_mut.ensures.value ∙ ap option_copied_mut c.in-Some.is) refl found
 
 pub returns-else-not-lent-clause-links : goal.returns-else-not-lent-clause-links
-returns-else-not-lent-clause-links g c p = keeps_links c.args.self.now (record c.args.self.now
-    { resources = with_value c.args.self.now.resources c.args.key (record c.in-Some.stored.now { stowed = one_lease_more c.in-Some.stored.now.stowed }) })
-    refl refl refl (λ j. refl) (λ j. refl) (λ j. refl) (λ j. refl)
+returns-else-not-lent-clause-links g c p = resources_keep_links c.args.self.now
+    (with_value c.args.self.now.resources c.args.key (record c.in-Some.stored.now { stowed = one_lease_more c.in-Some.stored.now.stowed }))
     (part-rewritten (λ r. r.link) (λ j. alone (Stored j)) c.args.self.now.resources _ c.args.key.slot c.args.key.number c.in-Some.stored.now _
     (sym c.get_mut.ensures.value ∙ ap option_copied_mut c.in-Some.is) refl refl) p

@@ -11,12 +11,11 @@ returns-clause-taken g c = let e =
     c.in_ok-linked.ensures in takes-project (λ l. l.node) c.args.self.now.nodes c.take.new.self c.args.key e.changes e.gone e.kept e.count e.room
 
 pub returns-clause-links : goal.returns-clause-links
-returns-clause-links g c = links_taken c.args.self.now (record c.args.self.now { nodes = c.take.new.self }) c.args.key.slot refl refl refl
+returns-clause-links g c = links_taken c.args.self.now c.take.new.self c.args.key.slot
     (part-taken (λ l. l.children) (λ j. alone (Children j)) _ _ c.args.key.slot c.in_ok-linked.ensures.changes c.requires.children)
     (part-taken (λ l. l.held) (λ j. alone (Held j)) _ _ c.args.key.slot c.in_ok-linked.ensures.changes c.requires.held)
     (part-gone (λ l. l.sibling) (λ j. alone (Sibling j)) _ _ c.args.key.slot c.in_ok-linked.ensures.changes)
     (part-taken (λ l. l.noted) (λ j. alone (Noted j)) _ _ c.args.key.slot c.in_ok-linked.ensures.changes c.requires.noted)
-    (λ j. refl)
 
 pub overflow_add-self : goal.overflow_add-self
 overflow_add-self g c =

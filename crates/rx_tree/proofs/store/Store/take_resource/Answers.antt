@@ -2,7 +2,7 @@ use Rattle.std.proofs.Common.{◌≡◌, false, option_map, IfSome, refl, sym, a
 use Rattle.rx_tree.specs.declared.links.Place.TheVariants.{Stored}
 use Rattle.rx_tree.specs.Store.{alone, nodes_of}
 use Rattle.rx_tree.specs.Resources.{is_held}
-use Rattle.rx_tree.proofs.StoreLemmas.{find-project, takes-project, changes-project, part-taken, keeps_links}
+use Rattle.rx_tree.proofs.StoreLemmas.{find-project, takes-project, changes-project, part-taken, resources_keep_links}
 use Rattle.rx_tree.proofs.CountSteps.{some_waiting, counted_taken}
 use Rattle.rx_tree.proofs.store.Store.take_resource.Goals as goal
 
@@ -11,8 +11,7 @@ returns-clause-taken g c = let e =
     c.in_ok-stored.ensures in takes-project (λ r. r.stowed) c.args.self.now.resources c.take.new.self c.args.key e.changes e.gone e.kept e.count e.room
 
 pub returns-clause-links : goal.returns-clause-links
-returns-clause-links g c = keeps_links c.args.self.now (record c.args.self.now { resources = c.take.new.self }) refl refl refl (λ j. refl) (λ j. refl)
-    (λ j. refl) (λ j. refl)
+returns-clause-links g c = resources_keep_links c.args.self.now c.take.new.self
     (part-taken (λ r. r.link) (λ j. alone (Stored j)) _ _ c.args.key.slot c.in_ok-stored.ensures.changes c.requires.link)
 
 pub returns-clause-counted : goal.returns-clause-counted

@@ -6,7 +6,7 @@ use Rattle.rx_slots.specs.Slots.{with_value, entry_of, Changes}
 use Rattle.rx_tree.specs.Store.{alone, project, nodes_of, resources_of}
 use Rattle.rx_tree.specs.Resources.{is_owned, is_lent, one_lease_less}
 use Rattle.rx_tree.specs.Tree.{Rewrites}
-use Rattle.rx_tree.proofs.StoreLemmas.{find-project, changes-written, rewrites-project, part-rewritten, keeps_links}
+use Rattle.rx_tree.proofs.StoreLemmas.{find-project, changes-written, rewrites-project, part-rewritten, resources_keep_links}
 use Rattle.rx_tree.proofs.CountSteps.{last_some, last_fits, counted_last, counted_fewer}
 use Rattle.rx_tree.proofs.CountLemmas.{same_here, same_apart}
 use Rattle.rx_tree.proofs.store.Store.unlend.Goals as goal
@@ -20,7 +20,7 @@ free_one-requires-clause-some g c =
       resources = with_value c.args.self.now.resources c.args.key
           (record c.in-Some.stored.now { stowed = one_lease_less c.in-Some.stored.now.stowed });
     } in
-    let change = changes-written (λ r. r.stowed) a.resources c.args.key c.in-Some.stored.now
+    let change = changes-written (λ r. r.stowed) a.resources c.args.key
     (record c.in-Some.stored.now { stowed = one_lease_less c.in-Some.stored.now.stowed }) c.in-Some.stored.now.stowed one_lease_less at refl found in
     let lent = subst (λ o. IfSome o (λ stowed. IsTrue (is_lent stowed))) found c.requires.lent in
     let own = sym (c.owns-owned.ensures ∙ ap (λ o. option_map_or (is_owned (nodes_of a)) o false) found) in
@@ -36,7 +36,7 @@ free_one-requires-clause-fits g c =
       resources = with_value c.args.self.now.resources c.args.key
           (record c.in-Some.stored.now { stowed = one_lease_less c.in-Some.stored.now.stowed });
     } in
-    let change = changes-written (λ r. r.stowed) a.resources c.args.key c.in-Some.stored.now
+    let change = changes-written (λ r. r.stowed) a.resources c.args.key
     (record c.in-Some.stored.now { stowed = one_lease_less c.in-Some.stored.now.stowed }) c.in-Some.stored.now.stowed one_lease_less at refl found in
     let lent = subst (λ o. IfSome o (λ stowed. IsTrue (is_lent stowed))) found c.requires.lent in
     let own = sym (c.owns-owned.ensures ∙ ap (λ o. option_map_or (is_owned (nodes_of a)) o false) found) in
@@ -55,7 +55,7 @@ returns-then-last-clause-counted g c =
       resources = with_value c.args.self.now.resources c.args.key
           (record c.in-Some.stored.now { stowed = one_lease_less c.in-Some.stored.now.stowed });
     } in
-    let change = changes-written (λ r. r.stowed) a.resources c.args.key c.in-Some.stored.now
+    let change = changes-written (λ r. r.stowed) a.resources c.args.key
     (record c.in-Some.stored.now { stowed = one_lease_less c.in-Some.stored.now.stowed }) c.in-Some.stored.now.stowed one_lease_less at refl found in
     let lent = subst (λ o. IfSome o (λ stowed. IsTrue (is_lent stowed))) found c.requires.lent in
     let own = sym (c.owns-owned.ensures ∙ ap (λ o. option_map_or (is_owned (nodes_of a)) o false) found) in
@@ -75,17 +75,13 @@ returns-then-last-clause-rewrites g c = subst (λ r. Rewrites (resources_of c.ar
 pub returns-then-last-clause-changes : goal.returns-then-last-clause-changes
 returns-then-last-clause-changes g c stowed found = subst (λ r. Changes (resources_of c.args.self.now) (project (λ r. r.stowed) r) c.args.key.slot
     (Some (entry_of c.args.key.number (one_lease_less stowed)))) (sym c.free_one.ensures.resources)
-    (changes-written (λ r. r.stowed) c.args.self.now.resources c.args.key c.in-Some.stored.now
+    (changes-written (λ r. r.stowed) c.args.self.now.resources c.args.key
     (record c.in-Some.stored.now { stowed = one_lease_less c.in-Some.stored.now.stowed }) stowed one_lease_less
     (sym c.get_mut.ensures.value ∙ ap option_copied_mut c.in-Some.is) refl found)
 
 pub returns-then-last-clause-links : goal.returns-then-last-clause-links
-returns-then-last-clause-links g c p = c.free_one.ensures.links p ∙ keeps_links c.args.self.now
-    (record c.args.self.now {
-      resources = with_value c.args.self.now.resources c.args.key (record c.in-Some.stored.now
-          { stowed = one_lease_less c.in-Some.stored.now.stowed });
-    })
-    refl refl refl (λ j. refl) (λ j. refl) (λ j. refl) (λ j. refl)
+returns-then-last-clause-links g c p = c.free_one.ensures.links p ∙ resources_keep_links c.args.self.now
+    (with_value c.args.self.now.resources c.args.key (record c.in-Some.stored.now { stowed = one_lease_less c.in-Some.stored.now.stowed }))
     (part-rewritten (λ r. r.link) (λ j. alone (Stored j)) c.args.self.now.resources _ c.args.key.slot c.args.key.number c.in-Some.stored.now _
     (sym c.get_mut.ensures.value ∙ ap option_copied_mut c.in-Some.is) refl refl) p
 
@@ -98,7 +94,7 @@ returns-else-last-clause-counted g c =
       resources = with_value c.args.self.now.resources c.args.key
           (record c.in-Some.stored.now { stowed = one_lease_less c.in-Some.stored.now.stowed });
     } in
-    let change = changes-written (λ r. r.stowed) a.resources c.args.key c.in-Some.stored.now
+    let change = changes-written (λ r. r.stowed) a.resources c.args.key
     (record c.in-Some.stored.now { stowed = one_lease_less c.in-Some.stored.now.stowed }) c.in-Some.stored.now.stowed one_lease_less at refl found in
     let lent = subst (λ o. IfSome o (λ stowed. IsTrue (is_lent stowed))) found c.requires.lent in
     let own = sym (c.owns-owned.ensures ∙ ap (λ o. option_map_or (is_owned (nodes_of a)) o false) found) in
@@ -111,15 +107,12 @@ returns-else-last-clause-rewrites g c = rewrites-project (λ r. r.stowed) c.args
     (sym c.get_mut.ensures.value ∙ ap option_copied_mut c.in-Some.is) refl
 
 pub returns-else-last-clause-changes : goal.returns-else-last-clause-changes
-returns-else-last-clause-changes g c stowed found = changes-written (λ r. r.stowed) c.args.self.now.resources c.args.key c.in-Some.stored.now
+returns-else-last-clause-changes g c stowed found = changes-written (λ r. r.stowed) c.args.self.now.resources c.args.key
     (record c.in-Some.stored.now { stowed = one_lease_less c.in-Some.stored.now.stowed }) stowed one_lease_less
     (sym c.get_mut.ensures.value ∙ ap option_copied_mut c.in-Some.is) refl found
 
 pub returns-else-last-clause-links : goal.returns-else-last-clause-links
-returns-else-last-clause-links g c p = keeps_links c.args.self.now (record c.args.self.now {
-  resources = with_value c.args.self.now.resources c.args.key
-      (record c.in-Some.stored.now { stowed = one_lease_less c.in-Some.stored.now.stowed });
-})
-    refl refl refl (λ j. refl) (λ j. refl) (λ j. refl) (λ j. refl)
+returns-else-last-clause-links g c p = resources_keep_links c.args.self.now
+    (with_value c.args.self.now.resources c.args.key (record c.in-Some.stored.now { stowed = one_lease_less c.in-Some.stored.now.stowed }))
     (part-rewritten (λ r. r.link) (λ j. alone (Stored j)) c.args.self.now.resources _ c.args.key.slot c.args.key.number c.in-Some.stored.now _
     (sym c.get_mut.ensures.value ∙ ap option_copied_mut c.in-Some.is) refl refl) p

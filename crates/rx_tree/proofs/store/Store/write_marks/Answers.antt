@@ -5,7 +5,7 @@ use Rattle.rx_slots.specs.Slots.{with_value}
 use Rattle.rx_tree.specs.Store.{alone, nodes_of, no_counts}
 use Rattle.rx_tree.specs.Tree.{with_marks}
 use Rattle.rx_tree.proofs.Laws.Owed.{owed_part, owed_written}
-use Rattle.rx_tree.proofs.StoreLemmas.{find-project, changes-written, rewrites-project, part-rewritten, keeps_links}
+use Rattle.rx_tree.proofs.StoreLemmas.{find-project, changes-written, rewrites-project, part-rewritten, nodes_keep_links}
 use Rattle.rx_tree.proofs.CountSteps.{counted_kept, found_marked}
 use Rattle.rx_tree.proofs.store.Store.write_marks.Goals as goal
 
@@ -17,19 +17,17 @@ returns-in-Some-clause-rewrites g c =
 pub returns-in-Some-clause-links : goal.returns-in-Some-clause-links
 returns-in-Some-clause-links g c =
     rw c.set_marks.ensures (let found = sym c.get_mut.ensures.value ∙ ap option_copied_mut c.in-Some.is in
-    keeps_links c.args.self.now (record c.args.self.now
-    { nodes = with_value c.args.self.now.nodes c.args.key (record c.in-Some.linked.now { node = with_marks c.args.marks c.in-Some.linked.now.node }) }) refl
-    refl refl
+    nodes_keep_links c.args.self.now
+    (with_value c.args.self.now.nodes c.args.key (record c.in-Some.linked.now { node = with_marks c.args.marks c.in-Some.linked.now.node }))
     (part-rewritten (λ l. l.children) (λ j. alone (Children j)) c.args.self.now.nodes _ c.args.key.slot c.args.key.number c.in-Some.linked.now _ found refl
     refl)
     (part-rewritten (λ l. l.held) (λ j. alone (Held j)) c.args.self.now.nodes _ c.args.key.slot c.args.key.number c.in-Some.linked.now _ found refl refl)
     (part-rewritten (λ l. l.sibling) (λ j. alone (Sibling j)) c.args.self.now.nodes _ c.args.key.slot c.args.key.number c.in-Some.linked.now _ found refl refl)
-    (part-rewritten (λ l. l.noted) (λ j. alone (Noted j)) c.args.self.now.nodes _ c.args.key.slot c.args.key.number c.in-Some.linked.now _ found refl refl)
-    (λ j. refl))
+    (part-rewritten (λ l. l.noted) (λ j. alone (Noted j)) c.args.self.now.nodes _ c.args.key.slot c.args.key.number c.in-Some.linked.now _ found refl refl))
 
 pub returns-in-Some-clause-changes : goal.returns-in-Some-clause-changes
 returns-in-Some-clause-changes g c node found =
-    rw c.set_marks.ensures (changes-written (λ l. l.node) c.args.self.now.nodes c.args.key c.in-Some.linked.now _ node (with_marks c.args.marks)
+    rw c.set_marks.ensures (changes-written (λ l. l.node) c.args.self.now.nodes c.args.key _ node (with_marks c.args.marks)
     (sym c.get_mut.ensures.value ∙ ap option_copied_mut c.in-Some.is) refl found)
 
 pub overflow_add-self : goal.overflow_add-self
@@ -62,6 +60,6 @@ returns-in-Some-clause-counted g c =
     (rewrites-project (λ l. l.node) c.args.self.now.nodes c.args.key c.in-Some.linked.now _ (with_marks c.args.marks) found refl) stowed.node)
     (let part = owed_part (nodes_of a) c.args.key node seen in
     let more = owed_written (nodes_of a) (nodes_of b) c.args.key node (with_marks c.args.marks node) seen
-    (changes-written (λ l. l.node) a.nodes c.args.key c.in-Some.linked.now _ node (with_marks c.args.marks) found refl seen) in
+    (changes-written (λ l. l.node) a.nodes c.args.key _ node (with_marks c.args.marks) found refl seen) in
     let was = c.requires.counted.owed in
     omega (arith, part, more, was)))

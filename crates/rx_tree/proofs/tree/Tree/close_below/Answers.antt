@@ -26,7 +26,7 @@ close_leaf-requires-clause-open g c = c.loop-above.invariant.there
 
 pub close_leaf-requires-clause-room : goal.close_leaf-requires-clause-room
 close_leaf-requires-clause-room g c =
-    room_left _ _ _ _ _ _ _ c.loop-above.invariant.count (ap (λ (x : Tree g.row.R.Denot). x.nodes.count) c.self.view_is) c.loop-above.invariant.capacity
+    room_left _ _ _ _ c.loop-above.invariant.count (ap (λ (x : Tree g.row.R.Denot). x.nodes.count) c.self.view_is) c.loop-above.invariant.capacity
     c.requires.room
 
 pub loop-above-smaller : goal.loop-above-smaller

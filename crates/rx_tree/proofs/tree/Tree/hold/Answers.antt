@@ -9,8 +9,7 @@ use Rattle.rx_tree.proofs.tree.Tree.hold.Goals as goal
 
 pub join-requires-clause-last : goal.join-requires-clause-last
 join-requires-clause-last g c =
-    held_last c.self.inside.store c.add_resource.new.self c.in-Ok.stored c.args.number
-    (record { node = c.args.key; removed = false; leases = 0; resource = c.args.resource }) c.self.invariant.tied c.in-Ok.ensures.ok
+    held_last c.self.inside.store c.add_resource.new.self c.self.invariant.tied c.in-Ok.ensures.ok
     c.add_resource.ensures.links
     c.add_resource.ensures.nodes (Held c.args.key.slot) (slot_stands (nodes_of c.self.inside.store) c.args.key (rw (← c.self.view_is) at c.requires.open))
 

@@ -18,7 +18,7 @@ invariant_of-self g c =
 pub join-requires-clause-last : goal.join-requires-clause-last
 join-requires-clause-last g c =
     let s = c.self.inside.store in
-    opened_last s c.add_node.new.self c.in-Ok.key c.args.number (record { made = c.args.made; above = c.args.above; marks = c.blank.result })
+    opened_last s c.add_node.new.self
     c.self.invariant.tied c.in-Ok.ensures.ok c.add_node.ensures.links (ap (project (λ r. r.stowed)) c.add_node.ensures.resources) c.in-Some.ring
     (ring_stands (nodes_of s) (resources_of s) c.args.number (record { made = c.args.made; above = c.args.above; marks = c.blank.result }) c.in-Some.ring
     (rw (← c.self.view_is) at c.requires.placed) (sym c.sibling_ring.ensures ∙ c.in-Some.is))
