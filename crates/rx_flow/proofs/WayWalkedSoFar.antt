@@ -27,9 +27,9 @@ onward_free nodes at free = rw free refl
 onward_stopped : (nodes : Slots Node) (at : Key) (s : Stop) → stop_of nodes at ≡ Some s → onward_of nodes at ≡ None
 onward_stopped nodes at s stops = rw stops refl
 
-pub one_further : (nodes : Slots Node) (first at next : Key) (visits : ℕ) → IsOnWay nodes first at visits → visits ≤ most_visits → stop_of nodes at ≡ None →
+pub one_further : {nodes : Slots Node} (first at next : Key) (visits : ℕ) → IsOnWay nodes first at visits → visits ≤ most_visits → stop_of nodes at ≡ None →
     above_of nodes at ≡ Some next → IsOnWay nodes first next (visits + 1)
-one_further nodes first at next visits w few free above = by_left w.left w.sum w.visited w.ends where
+one_further {nodes} first at next visits w few free above = by_left w.left w.sum w.visited w.ends where
   longer : (left : ℕ) → way_within (suc left) nodes at ≡ at ∷ way_within left nodes next
   longer left = ap (λ (o : Option Key). at ∷ option_map_or (way_within left nodes) o []) (onward_free nodes at free ∙ above)
 

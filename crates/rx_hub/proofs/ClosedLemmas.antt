@@ -292,10 +292,10 @@ known_next hubs closed i d ended closing below =
     known_kept (is_closed (take i closed)) ended hubs (get_or closed i d) (not_yet closed i d closing.once below)
     (closing.known i (get_or closed i d) (get_some closed i d below))
 
-pub known_at : (now hubs : List Hub) (closed : List Closed) (i : ℕ) (d : Closed) (ended : Option LastEnd) →
+pub known_at : (now : List Hub) {hubs : List Hub} (closed : List Closed) (i : ℕ) (d : Closed) (ended : Option LastEnd) →
     now ≡ map (after_closing (take i closed) ended) hubs →
     AreClosing hubs closed → i < length closed → IsKnown now (get_or closed i d)
-known_at now hubs closed i d ended is closing below =
+known_at now {hubs} closed i d ended is closing below =
     subst (λ (hs : List Hub). IsKnown hs (get_or closed i d)) (sym is) (known_next hubs closed i d ended closing below)
 
 -- a closing of nothing
@@ -314,10 +314,10 @@ none_closed ended hub =
 pub closed_first : (ended : Option LastEnd) (hubs : List Hub) → hubs ≡ map (after_closing [] ended) hubs
 closed_first ended hubs = map_none (after_closing [] ended) hubs (λ i hub got. none_closed ended hub)
 
-pub closed_step : (start before after : Hubs) (closed : List Closed) (i j : ℕ) (d : Closed) (ended : Option LastEnd) →
+pub closed_step : (start : Hubs) {before after : Hubs} (closed : List Closed) {i j : ℕ} (d : Closed) (ended : Option LastEnd) →
     before ≡ record start { hubs = map (after_closing (take i closed) ended) start.hubs } →
     after ≡ record before { hubs = map (after_closing (get_or closed i d ∷ []) ended) before.hubs } → i < length closed → suc i ≡ j →
     after ≡ record start { hubs = map (after_closing (take j closed) ended) start.hubs }
-closed_step start before after closed i j d ended first second below next =
+closed_step start closed {i} {j} d ended first second below next =
     second ∙ ap (λ (s : Hubs). record s { hubs = map (after_closing (get_or closed i d ∷ []) ended) s.hubs }) first ∙
     ap (λ (hs : List Hub). record start { hubs = hs }) (closed_next closed i j d ended start.hubs below next)

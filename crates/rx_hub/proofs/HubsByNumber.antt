@@ -41,8 +41,8 @@ find_none (h ∷ hubs) n all =
     ap (λ b. cond b (Some h) (find_hub hubs n)) (eq_not h.number n (all 0 h refl)) ∙ find_none hubs n (λ j other at_j. all (suc j) other at_j)
 
 -- two indices of one number are one
-pub one_index : (s : Hubs) → IsPromised s → (i j : ℕ) (a b : Hub) → slice_get s.hubs i ≡ Some a → slice_get s.hubs j ≡ Some b → a.number ≡ b.number → i ≡ j
-one_index s p i j a b at_i at_j same = elim (cases_lt i j) [
+pub one_index : {s : Hubs} → IsPromised s → (i j : ℕ) (a b : Hub) → slice_get s.hubs i ≡ Some a → slice_get s.hubs j ≡ Some b → a.number ≡ b.number → i ≡ j
+one_index p i j a b at_i at_j same = elim (cases_lt i j) [
   | inl less ↦ absurd (let r = p.rising i j a b at_i at_j less in omega (arith, r, same))
   | inr more ↦ elim (cases_lt j i) [
     | inl less ↦ absurd (let r = p.rising j i b a at_j at_i less in omega (arith, r, same))
@@ -51,7 +51,7 @@ one_index s p i j a b at_i at_j same = elim (cases_lt i j) [
 ]
 
 pub find_at : (s : Hubs) → IsPromised s → (i : ℕ) (hub : Hub) → slice_get s.hubs i ≡ Some hub → find_hub s.hubs hub.number ≡ Some hub
-find_at s p i hub got = find_one s.hubs i hub.number hub got refl (λ j other at_j e. one_index s p j i other hub at_j got e)
+find_at s p i hub got = find_one s.hubs i hub.number hub got refl (λ j other at_j e. one_index p j i other hub at_j got e)
 
 -- the index of a number finds its hub
 pub find_index : (s : Hubs) → IsPromised s → (i n : ℕ) → option_map (λ (hub : Hub). hub.number) (slice_get s.hubs i) ≡ Some n →
@@ -95,10 +95,10 @@ abbrev due_in : (Hub → Option HubDue) → List Hub → ℕ → Option HubDue
 due_in due hubs i = option_and_then due (slice_get hubs i)
 
 -- a change of one hub that is put on the chain where something is due there
-pub calm_changed : (due : Hub → Option HubDue) (s : Hubs) (old new : Lists) (index n : ℕ) (change : Hub → Hub) → IsPromised s →
+pub calm_changed : {due : Hub → Option HubDue} {s : Hubs} {old : Lists} (new : Lists) (index n : ℕ) (change : Hub → Hub) → IsPromised s →
     option_map (λ (hub : Hub). hub.number) (slice_get s.hubs index) ≡ Some n → Notes (due_in due (at_hub n change s.hubs) index) old new index →
     IsCalm due s.hubs old → IsCalm due (at_hub n change s.hubs) new
-calm_changed due s old new index n change p named noted calm i hub got off =
+calm_changed {due} {s} {old} new index n change p named noted calm i hub got off =
     of (slice_get s.hubs i) refl (sym (get_map (λ (h : Hub). cond (h.number == n) (change h) h) s.hubs i) ∙ got)
   where
     off' : (is_in i (list_at old 0) ≡ false) × (i ≡ index → due_in due (at_hub n change s.hubs) index ≡ None)
@@ -111,7 +111,7 @@ calm_changed due s old new index n change p named noted calm i hub got off =
         ((h.number == n) ≡ true) ⊎ ((h.number == n) ≡ false) → due hub ≡ None
     by_number h at_i some (inl e) =
         let own = hub_at s.hubs index n named in
-        at_index (one_index s p i index h own.0 at_i own.1.0 (eq_is h.number n e ∙ sym own.1.1))
+        at_index (one_index p i index h own.0 at_i own.1.0 (eq_is h.number n e ∙ sym own.1.1))
     by_number h at_i some (inr apart) =
         let same : h ≡ hub = ap (λ b. cond b (change h) h) (sym apart) ∙ same_Some (cond (h.number == n) (change h) h) hub some in
         ap due (sym same) ∙ calm i h at_i off'.0
@@ -144,12 +144,12 @@ pub not_found : (hubs : List Hub) (n : ℕ) → ((i : ℕ) (hub : Hub) → slice
 not_found hubs n none there = true≢false (sym there ∙ ap is_some (find_none hubs n none))
 
 -- one hub changed and was put on both chains
-pub linked_changed : (s new : Hubs) (w d w' d' : Lists) (index n : ℕ) (change : Hub → Hub) → IsPromised s →
+pub linked_changed : {s new : Hubs} {w d w' d' : Lists} {index : ℕ} (n : ℕ) (change : Hub → Hub) → IsPromised s →
     option_map (λ (hub : Hub). hub.number) (slice_get s.hubs index) ≡ Some n →
     ((hub : Hub) → slice_get s.hubs index ≡ Some hub → new ≡ record s { hubs = at_hub hub.number change s.hubs }) →
     Notes (due_in connect_of new.hubs index) w w' index → Notes (due_in due_of new.hubs index) d d' index →
     IsLinked s w d → IsLinked new w' d'
-linked_changed s new w d w' d' index n change p named is notes_w notes_d linked =
+linked_changed {s} {new} {w} {d} {w'} {d'} {index} n change p named is notes_w notes_d linked =
     let own = hub_at s.hubs index n named in
     let new_is : new ≡ record s { hubs = at_hub n change s.hubs } = is own.0 own.1.0 ∙ ap (λ k. record s { hubs = at_hub k change s.hubs }) own.1.1 in
     let count = count_at n change s.hubs in
@@ -159,9 +159,9 @@ linked_changed s new w d w' d' index n change p named is notes_w notes_d linked 
     let both = linked.both in
     let room = linked.room in
     subst (λ (t : Hubs). IsLinked t w' d') (sym new_is) (record {
-      waits = calm_changed connect_of s w w' index n change p named
+      waits = calm_changed w' index n change p named
           (subst (λ (t : Hubs). Notes (due_in connect_of t.hubs index) w w' index) new_is notes_w) linked.waits;
-      acts = calm_changed due_of s d d' index n change p named
+      acts = calm_changed d' index n change p named
           (subst (λ (t : Hubs). Notes (due_in due_of t.hubs index) d d' index) new_is notes_d) linked.acts;
       waiting_chain = notes_w.chain;
       due_chain = notes_d.chain;
@@ -179,10 +179,10 @@ nothing_new_due n Auto = refl
 nothing_new_due n Manual = refl
 
 -- an index and a number lead to one hub
-pub only_hub : (s : Hubs) → IsPromised s → (i j : ℕ) (hub other : Hub) → slice_get s.hubs i ≡ Some hub → slice_get s.hubs j ≡ Some other →
+pub only_hub : {s : Hubs} → IsPromised s → (i j : ℕ) (hub other : Hub) → slice_get s.hubs i ≡ Some hub → slice_get s.hubs j ≡ Some other →
     other.number ≡ hub.number → hub ≡ other
-only_hub s p i j hub other at_i at_j same =
-    same_Some hub other (sym at_i ∙ ap (slice_get s.hubs) (one_index s p i j hub other at_i at_j (sym same)) ∙ at_j)
+only_hub {s} p i j hub other at_i at_j same =
+    same_Some hub other (sym at_i ∙ ap (slice_get s.hubs) (one_index p i j hub other at_i at_j (sym same)) ∙ at_j)
 
 -- the first subscriber of a hub that is found
 pub first_found : (s : Hubs) → IsPromised s → (i n : ℕ) (r : Option Key) → option_map (λ (hub : Hub). hub.number) (slice_get s.hubs i) ≡ Some n →

@@ -148,11 +148,11 @@ abbrev pub next_frame : Frame → Option Key → List Frame → List Frame
 next_frame frame next frames = cons_option (option_map (λ (k : Key). record { hub = frame.hub; key = k }) next) frames
 
 -- from a subscriber, and after it from the next
-pub turned : (s : Hubs) → IsPromised s → (frames : List Frame) (frame : Frame) (next : Option Key) → IsFrame s.hubs frame → IsBehind frame.hub frames →
+pub turned : {s : Hubs} → IsPromised s → (frames : List Frame) (frame : Frame) (next : Option Key) → IsFrame s.hubs frame → IsBehind frame.hub frames →
     AreFrames s.hubs frames →
     ((n : ℕ) (h : Hub) → find_hub s.hubs n ≡ Some h → is_on frame.key h.subscribers ≡ true → next ≡ key_after frame.key h.subscribers) →
     GoesOn s.hubs frames (next_frame frame next frames) (Some frame) (Some frame.key)
-turned s p frames frame next is behind are follows =
+turned {s} p frames frame next is behind are follows =
     by_next next (follows frame.hub is.hub is.there is.subscribes) where
       hub : Hub
       hub = is.hub

@@ -35,9 +35,9 @@ of_key P (k ∷ ks) key all on = by_test (is_key key k) refl on (of_key P ks key
   by_test false e there later = later there
 
 -- it is under way where it is a subscriber's turn
-pub turn_under_way : (nodes : Slots Node) (hubs : List Hub) (route : Route) → IsOrdered nodes hubs → length hubs ≤ route.room → route.visits ≤ suc most_visits →
+pub turn_under_way : {nodes : Slots Node} (hubs : List Hub) (route : Route) → IsOrdered nodes hubs → length hubs ≤ route.room → route.visits ≤ suc most_visits →
     (old : List Frame) (first : Option Frame) → GoesOn hubs old route.frames first route.at → IsUnderWay nodes hubs route
-turn_under_way nodes hubs route ordered room visits old first on = by_at route.at refl on.turn on.ended where
+turn_under_way {nodes} hubs route ordered room visits old first on = by_at route.at refl on.turn on.ended where
   by_at : (at : Option Key) → route.at ≡ at → IfSome at (IsTurn hubs route.frames) → IfNone at (route.frames ≡ []) → IsUnderWay nodes hubs route
   by_at None is turn ended = record {
     room = room;
@@ -80,11 +80,11 @@ hub_beyond nodes hubs (Some (Connection c)) = refl
 -- one climb -----------------------------------------------------------------------------------------------
 
 -- what is still to be visited is the way of one climb, and then what is left after it
-pub visited_on : (nodes : Slots Node) (hubs : List Hub) (old new : Route) (node : Key) (first : Option Frame) → old.at ≡ Some node →
+pub visited_on : (nodes : Slots Node) {hubs : List Hub} (old new : Route) {node : Key} {first : Option Frame} → old.at ≡ Some node →
     old.visits + length (way nodes node) ≤ suc most_visits → new.visits ≡ old.visits + length (way nodes node) →
     first_keys hubs first ≡ beyond_end nodes hubs (end_of nodes (way nodes node)) → GoesOn hubs old.frames new.frames first new.at →
     visited_next nodes hubs old ≡ way nodes node ++ visited_next nodes hubs new
-visited_on nodes hubs old new node first at fits visits firsts on =
+visited_on nodes {hubs} old new {node} at fits visits firsts on =
     let w = way nodes node in
     let rest = after_frames hubs old.frames in
     ap (λ (o : Option Key). visited_over (visits_left old) nodes hubs (option_to_list o ++ rest)) at ∙
@@ -97,18 +97,18 @@ visited_on nodes hubs old new node first at fits visits firsts on =
       keys = ap (λ (ks : List Key). ks ++ after_frames hubs old.frames) (sym firsts) ∙ sym on.todo
 
 -- so it gives the stop of that climb, and then those that come after
-pub climbs_on : (nodes : Slots Node) (hubs : List Hub) (old new : Route) (node : Key) (first : Option Frame) → IsOrdered nodes hubs →
+pub climbs_on : {nodes : Slots Node} {hubs : List Hub} {old new : Route} {node : Key} {first : Option Frame} → IsOrdered nodes hubs →
     IsUnderWay nodes hubs old → old.at ≡ Some node → old.visits + length (way nodes node) ≤ suc most_visits →
     new.visits ≡ old.visits + length (way nodes node) →
     first_keys hubs first ≡ beyond_end nodes hubs (end_of nodes (way nodes node)) → GoesOn hubs old.frames new.frames first new.at →
     new.room ≡ old.room → Climbs nodes hubs old new (option_and_then arrival (end_of nodes (way nodes node)))
-climbs_on nodes hubs old new node first ordered under_way at fits visits firsts on room =
+climbs_on {nodes} {hubs} {old} {new} {node} {first} ordered under_way at fits visits firsts on room =
     record {
       stops = ap (filter_map (arrival_at nodes)) visited ∙ filter_map-append (arrival_at nodes) w (visited_next nodes hubs new) ∙
           ap (λ (ss : List Stop). ss ++ stops_left nodes hubs new) (stops_way nodes hubs (suc most_visits) node) ∙
           one (option_and_then arrival (end_of nodes w));
       visits = let all = ap length visited ∙ length-append w (visited_next nodes hubs new) in omega (arith, all, visits);
-      under_way = turn_under_way nodes hubs new ordered (subst (λ n. length hubs ≤ n) (sym room) under_way.room) (omega (arith, fits, visits))
+      under_way = turn_under_way hubs new ordered (subst (λ n. length hubs ≤ n) (sym room) under_way.room) (omega (arith, fits, visits))
           old.frames first on;
       fewer = omega (arith, fits, visits);
       room = room;
@@ -118,7 +118,7 @@ climbs_on nodes hubs old new node first ordered under_way at fits visits firsts 
     w = way nodes node
 
     visited : visited_next nodes hubs old ≡ w ++ visited_next nodes hubs new
-    visited = visited_on nodes hubs old new node first at fits visits firsts on
+    visited = visited_on nodes old new at fits visits firsts on
 
     one : (o : Option Stop) → option_to_list o ++ stops_left nodes hubs new ≡ cons_option o (stops_left nodes hubs new)
     one None = refl
@@ -128,10 +128,10 @@ nothing_left : (m : ℕ) → m - m ≡ 0
 nothing_left m = omega arith
 
 -- and where too few visits are left, the way is cut off
-pub climbs_cut : (nodes : Slots Node) (hubs : List Hub) (old new : Route) (node : Key) → IsUnderWay nodes hubs old → old.at ≡ Some node →
+pub climbs_cut : {nodes : Slots Node} {hubs : List Hub} (old new : Route) (node : Key) → IsUnderWay nodes hubs old → old.at ≡ Some node →
     old.visits ≤ most_visits → suc most_visits < old.visits + length (way nodes node) → new ≡ record old { visits = suc most_visits } →
     Climbs nodes hubs old new None
-climbs_cut nodes hubs old new node under_way at within cut is =
+climbs_cut {nodes} {hubs} old new node under_way at within cut is =
     subst (λ (r : Route). Climbs nodes hubs old r None) (sym is) (record {
       stops = ap (λ (ks : List Key). filter_map (arrival_at nodes) ks) same ∙ cuts.1 ∙ sym (ap (filter_map (arrival_at nodes)) none);
       visits = let all = ap length same ∙ cuts.0 in let no = ap length none in omega (arith, all, no, within);
@@ -164,27 +164,38 @@ climbs_cut nodes hubs old new node under_way at within cut is =
 
 -- the same of a way that is seen as another --------------------------------------------------------------
 
-pub cut_seen : (nodes : Slots Node) (hubs : List Hub) (seen old : Route) (node : Key) (visits : ℕ) → seen ≡ old → IsUnderWay nodes hubs old →
+pub cut_seen : {nodes : Slots Node} {hubs : List Hub} {seen old : Route} (node : Key) (visits : ℕ) → seen ≡ old → IsUnderWay nodes hubs old →
     old.at ≡ Some node → old.visits ≤ most_visits → visits ≡ length (way nodes node) → 1048577 - seen.visits < visits →
     Climbs nodes hubs old (record seen { visits = 1048577 }) None
-cut_seen nodes hubs seen old node visits same under_way at within all cut =
+cut_seen {seen} {old} node visits same under_way at within all cut =
     let made = ap (λ (r : Route). r.visits) same in
-    climbs_cut nodes hubs old (record seen { visits = 1048577 }) node under_way at within (omega (arith, made, within, all, cut, limit_is))
+    climbs_cut old (record seen { visits = 1048577 }) node under_way at within (omega (arith, made, within, all, cut, limit_is))
     (ap (λ (r : Route). record r { visits = 1048577 }) same ∙ ap (λ n. record old { visits = n }) (sym (ap suc limit_is)))
 
-pub climbs_seen : (nodes : Slots Node) (hubs : List Hub) (seen old new : Route) (node : Key) (visits : ℕ) (stop arrived : Option Stop)
-    (reached : Option ℕ) (first : Option Frame) → seen ≡ old → IsOrdered nodes hubs → IsUnderWay nodes hubs old → old.at ≡ Some node →
-    old.visits ≤ most_visits → visits ≡ length (way nodes node) →
-    stop ≡ end_of nodes (way nodes node) → visits ≤ 1048577 - seen.visits → new.visits ≡ seen.visits + visits →
-    reached ≡ hub_of nodes stop → first_keys hubs first ≡ hub_keys hubs reached → GoesOn hubs seen.frames new.frames first new.at → new.room ≡ seen.room →
-    arrived ≡ option_and_then arrival stop → Climbs nodes hubs old new arrived
-climbs_seen nodes hubs seen old new node visits stop arrived reached first same ordered under_way at within all ends fits sum is firsts on room arrives =
+-- a climb from the node visits so many keys; this is the frame of the hub behind its stop, if there is one, and this the stop if it arrives there
+pub record HasClimbed (nodes : Slots Node) (hubs : List Hub) (node : Key) (visits : ℕ) (first : Option Frame) (arrived : Option Stop) : Type 0 where
+  pub visited : visits ≡ length (way nodes node)
+  pub firsts : first_keys hubs first ≡ beyond_end nodes hubs (end_of nodes (way nodes node))
+  pub arrives : arrived ≡ option_and_then arrival (end_of nodes (way nodes node))
+
+-- the way has so many visits more, and goes on from this frame
+pub record GoesFurther (hubs : List Hub) (seen new : Route) (visits : ℕ) (first : Option Frame) : Type 0 where
+  pub fits : visits ≤ 1048577 - seen.visits
+  pub sum : new.visits ≡ seen.visits + visits
+  pub on : GoesOn hubs seen.frames new.frames first new.at
+  pub room : new.room ≡ seen.room
+
+pub climbs_seen : {nodes : Slots Node} {hubs : List Hub} {seen old new : Route} {node : Key} {visits : ℕ} {first : Option Frame} {arrived : Option Stop} →
+    seen ≡ old → IsOrdered nodes hubs → IsUnderWay nodes hubs old → old.at ≡ Some node → old.visits ≤ most_visits →
+    HasClimbed nodes hubs node visits first arrived → GoesFurther hubs seen new visits first → Climbs nodes hubs old new arrived
+climbs_seen {nodes} {hubs} {old} {new} {first} same ordered under_way at within climbed further =
     let made = ap (λ (r : Route). r.visits) same in
-    subst (λ (s : Option Stop). Climbs nodes hubs old new s) (sym (arrives ∙ ap (option_and_then arrival) ends))
-    (climbs_on nodes hubs old new node first ordered under_way at (omega (arith, made, within, all, fits, limit_is)) (omega (arith, made, all, sum))
-    (firsts ∙ ap (hub_keys hubs) is ∙ hub_beyond nodes hubs stop ∙ ap (beyond_end nodes hubs) ends)
-    (subst (λ (r : Route). GoesOn hubs r.frames new.frames first new.at) same on)
-    (room ∙ ap (λ (r : Route). r.room) same))
+    let all = climbed.visited in
+    let fits = further.fits in
+    let sum = further.sum in
+    subst (λ (s : Option Stop). Climbs nodes hubs old new s) (sym climbed.arrives)
+    (climbs_on ordered under_way at (omega (arith, made, within, all, fits, limit_is)) (omega (arith, made, all, sum)) climbed.firsts
+    (subst (λ (r : Route). GoesOn hubs r.frames new.frames first new.at) same further.on) (further.room ∙ ap (λ (r : Route). r.room) same))
 
 -- climb after climb, up to a stop ------------------------------------------------------------------------
 

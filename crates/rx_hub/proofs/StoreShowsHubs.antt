@@ -226,6 +226,18 @@ module _ (records : List Published) (lists : Lists) (numbers : List ℕ) where
   pub count_hubs : length (hubs_in records lists numbers) ≡ length records
   count_hubs = length-table (hub_in records lists numbers) 0 (length records)
 
+  -- these show as many hubs, one of them changed, the others as they are
+  record ShowsChange (records' : List Published) (lists' : Lists) (numbers' : List ℕ) (index : ℕ) (change : Hub → Hub) : Type 0 where
+    within : index < length records
+    count : length records' ≡ length records
+    here : hub_in records' lists' numbers' index ≡ change (hub_in records lists numbers index)
+    others : (j : ℕ) → j < length records → index ≢ j → hub_in records' lists' numbers' j ≡ hub_in records lists numbers j
+
+  -- hubs before one place have lesser numbers, hubs from another place on greater ones
+  pub record IsNarrowed (low high n : ℕ) : Type 0 where
+    pub before : (i : ℕ) → i < low → (record_at records i).number < n
+    pub behind : (i : ℕ) → high ≤ i → i < length records → n < (record_at records i).number
+
   module _ (kept : IsKept records lists numbers) where
     pub promised : (room : ℕ) → IsPromised (store_in records lists numbers room)
     promised room = record {
@@ -297,15 +309,14 @@ module _ (records : List Published) (lists : Lists) (numbers : List ℕ) where
     number_at i l = ap (option_map (λ (hub : Hub). hub.number)) (hub_get i l)
 
     -- what the search for a number knows of the places before and behind
-    pub not_between : (low high n : ℕ) → high ≤ low → ((i : ℕ) → i < low → (record_at records i).number < n) →
-        ((i : ℕ) → high ≤ i → i < length records → n < (record_at records i).number) → (i : ℕ) (hub : Hub) →
+    pub not_between : {low high n : ℕ} → IsNarrowed low high n → high ≤ low → (i : ℕ) (hub : Hub) →
         slice_get (hubs_in records lists numbers) i ≡ Some hub → hub.number ≢ n
-    not_between low high n met before behind i hub got same =
+    not_between {low} {n} narrowed met i hub got same =
         let h = hub_is i hub got in
         let is : (record_at records i).number ≡ n = ap (λ (x : Hub). x.number) h.1 ∙ same in
         elim (cases_lt i low) [
-          | inl l ↦ let b = before i l in omega (arith, b, is)
-          | inr l ↦ let b = behind i (omega (arith, met, l)) h.0 in omega (arith, b, is)
+          | inl l ↦ let b = narrowed.before i l in omega (arith, b, is)
+          | inr l ↦ let b = narrowed.behind i (omega (arith, met, l)) h.0 in omega (arith, b, is)
         ]
 
     pub all_before : (m n : ℕ) → m < length records → (record_at records m).number < n → (i : ℕ) → i < m + 1 → (record_at records i).number < n
@@ -331,22 +342,20 @@ module _ (records : List Published) (lists : Lists) (numbers : List ℕ) where
     below_here i n below l = subst (λ (o : Option Hub). IfSome o (λ hub. AreBelow n hub.subscribers)) (hub_get i l) below
 
     -- one hub changes
-    one_hub : (records' : List Published) (lists' : Lists) (numbers' : List ℕ) (index : ℕ) (change : Hub → Hub) → index < length records →
-        length records' ≡ length records →
-        hub_in records' lists' numbers' index ≡ change (hub_in records lists numbers index) →
-        ((j : ℕ) → j < length records → index ≢ j → hub_in records' lists' numbers' j ≡ hub_in records lists numbers j) →
+    one_hub : (records' : List Published) (lists' : Lists) (numbers' : List ℕ) (index : ℕ) (change : Hub → Hub) →
+        ShowsChange records' lists' numbers' index change →
         hubs_in records' lists' numbers' ≡ at_hub (record_at records index).number change (hubs_in records lists numbers)
-    one_hub records' lists' numbers' index change below same here others =
-        ap (λ n. map (hub_in records' lists' numbers') (range_with_len 0 n)) same ∙
+    one_hub records' lists' numbers' index change shows =
+        ap (λ n. map (hub_in records' lists' numbers') (range_with_len 0 n)) shows.count ∙
         table_map (hub_in records lists numbers) (hub_in records' lists' numbers')
         (λ hub. cond (hub.number == (record_at records index).number) (change hub) hub) 0 (length records)
         (λ j l m. let m' : j < length records = omega (arith, m) in elim (cases_eq index j) [
           | inl is ↦ subst (λ k. hub_in records' lists' numbers' k ≡ cond ((record_at records k).number == (record_at records index).number)
-              (change (hub_in records lists numbers k)) (hub_in records lists numbers k)) is (here ∙
+              (change (hub_in records lists numbers k)) (hub_in records lists numbers k)) is (shows.here ∙
               ap (λ b. cond b (change (hub_in records lists numbers index)) (hub_in records lists numbers index))
               (sym (eq_self (record_at records index).number)))
-          | inr apart ↦ others j m' apart ∙ ap (λ b. cond b (change (hub_in records lists numbers j)) (hub_in records lists numbers j))
-              (sym (eq_not (record_at records j).number (record_at records index).number (λ s. apart (one_number index j below m' (sym s)))))
+          | inr apart ↦ shows.others j m' apart ∙ ap (λ b. cond b (change (hub_in records lists numbers j)) (hub_in records lists numbers j))
+              (sym (eq_not (record_at records j).number (record_at records index).number (λ s. apart (one_number index j shows.within m' (sym s)))))
         ])
 
     -- a subscriber comes last on the list of a hub
@@ -372,8 +381,12 @@ module _ (records : List Published) (lists : Lists) (numbers : List ℕ) where
 
       pub hubs_joined : hubs_in records lists' (set numbers key.slot key.number) ≡
           at_hub (record_at records index).number (subscribed key) (hubs_in records lists numbers)
-      hubs_joined = one_hub records lists' (set numbers key.slot key.number) index (subscribed key) below refl
-          (ap (hub_of (record_at records index)) keys_here) (λ j l apart. ap (hub_of (record_at records j)) (keys_other j apart))
+      hubs_joined = one_hub records lists' (set numbers key.slot key.number) index (subscribed key) (record {
+        within = below;
+        count = refl;
+        here = ap (hub_of (record_at records index)) keys_here;
+        others = λ j l apart. ap (hub_of (record_at records j)) (keys_other j apart);
+      })
 
       pub kept_joined : length lists'.lists ≡ length lists.lists → lists'.members ≡ lists.members → length (set numbers key.slot key.number) ≡ length numbers →
           AreBelow key.number (keys_at lists numbers index) → IsKept records lists' (set numbers key.slot key.number)
@@ -402,8 +415,12 @@ module _ (records : List Published) (lists : Lists) (numbers : List ℕ) where
       left_other j apart = ap (map (key_in numbers)) (left j ∙ out_none key.slot (list_at lists j) (not_on j apart (is_in key.slot (list_at lists j)) refl))
 
       pub hubs_left : hubs_in records lists' numbers ≡ at_hub (record_at records index).number (unsubscribed key) (hubs_in records lists numbers)
-      hubs_left = one_hub records lists' numbers index (unsubscribed key) below refl
-          (ap (hub_of (record_at records index)) left_here) (λ j l apart. ap (hub_of (record_at records j)) (left_other j apart))
+      hubs_left = one_hub records lists' numbers index (unsubscribed key) (record {
+        within = below;
+        count = refl;
+        here = ap (hub_of (record_at records index)) left_here;
+        others = λ j l apart. ap (hub_of (record_at records j)) (left_other j apart);
+      })
 
       pub kept_left : length lists'.lists ≡ length lists.lists → lists'.members ≡ lists.members → IsKept records lists' numbers
       kept_left count members = record {
@@ -426,8 +443,12 @@ module _ (records : List Published) (lists : Lists) (numbers : List ℕ) where
       record_other j apart = get_or-set_other records index j p no_hub (λ s. apart (sym s))
 
       pub hubs_written : hubs_in (set records index p) lists numbers ≡ at_hub p.number (with_published p) (hubs_in records lists numbers)
-      hubs_written = one_hub (set records index p) lists numbers index (with_published p) below (length-set records index p)
-          (ap (λ r. hub_of r (keys_at lists numbers index)) record_here) (λ j l apart. ap (λ r. hub_of r (keys_at lists numbers j)) (record_other j apart)) ∙
+      hubs_written = one_hub (set records index p) lists numbers index (with_published p) (record {
+        within = below;
+        count = length-set records index p;
+        here = ap (λ r. hub_of r (keys_at lists numbers index)) record_here;
+        others = λ j l apart. ap (λ r. hub_of r (keys_at lists numbers j)) (record_other j apart);
+      }) ∙
           ap (λ n. at_hub n (with_published p) (hubs_in records lists numbers)) same
 
       number_kept : (j : ℕ) → (record_at (set records index p) j).number ≡ (record_at records j).number

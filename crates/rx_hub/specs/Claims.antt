@@ -11,11 +11,11 @@ use Rattle.rx_event.specs.declared.event.Kind.TheVariants.{Sub}
 use Rattle.rx_event.specs.declared.event.Mode.{Mode}
 use Rattle.rx_event.specs.declared.event.Event.{Event}
 use Rattle.rx_event.specs.declared.event.Event.TheVariants.{Open, Hub as Publish, Connect, End, Close}
-use Rattle.rx_event.specs.Events.{is_switch, is_inner_of}
-use Rattle.rx_event.specs.Tree.{at, is_open, is_within}
+use Rattle.rx_event.specs.Tree.{is_open, is_within}
 use Rattle.rx_event.specs.Forced.{IsForced, IsSettled, IsConnected, IsDue, SourceEnded}
 use Rattle.rx_event.specs.Climb.{climb, stops, visits}
 use Rattle.rx_event.specs.Lawful.{MayFollow, IsLawful}
+use Rattle.rx_event.specs.Claims.Nodes.{IsOpenInner}
 use Rattle.rx_slots.specs.declared.Key.{Key}
 use Rattle.rx_slots.specs.Slots.{Slots, find}
 use Rattle.rx_tree.specs.declared.node.Node.{Node}
@@ -77,8 +77,7 @@ pub record HubsFollow (base : Kept) : Type 0 where
   pub close : (h : List Event) (n slot : ℕ) (hubs : List Hub) → AreHubsOf h hubs →
       hubs_after h (Close n) slot hubs ≡ map (without_gone (is_inside h n) None) hubs
   -- another inner of a Switch: what stands inside the open one goes, and then comes what is made
-  pub exchange : (h : List Event) (f c : ℕ) (kind : Kind) (slot : ℕ) (hubs : List Hub) → IsLawful base h →
-      AreHubsOf h hubs → IsTrue (at is_switch h f) → IsTrue (at (is_inner_of f) h c) → IsTrue (is_open h c) →
+  pub exchange : {h : List Event} {f c : ℕ} (kind : Kind) (slot : ℕ) {hubs : List Hub} → IsLawful base h → AreHubsOf h hubs → IsOpenInner h f c →
       hubs_after h (Open (Inner f) kind) slot hubs ≡
       with_made (next_key h slot) (Open (Inner f) kind) (map (without_gone (is_inside h c) None) hubs)
   -- of what goes, only what is said of the hubs' keys counts
@@ -102,10 +101,17 @@ pub record HubsReady (base : Kept) : Type 0 where
   pub connect : (h : List Event) (g : ℕ) (hubs : List Hub) → MayFollow base h (Connect g) → AreHubsOf h hubs →
       (hub : Hub) × (find_hub hubs g ≡ Some hub) × (hub.connection ≡ None)
 
+-- a subscriber of the inner hub stands inside the connection of the outer
+pub record SubscribesInside (h : List Event) (outer inner : Hub) : Type 0 where
+  pub connection : Key
+  pub subscriber : Key
+  pub connects : outer.connection ≡ Some connection
+  pub subscribes : IsTrue (is_on subscriber inner.subscribers)
+  pub inside : IsTrue (is_within h connection.number subscriber.number)
+
 -- a subscriber that stands inside a connection is of an earlier hub, so that no item goes round in a circle
 pub record HubsInOrder (base : Kept) : Type 0 where
-  pub earlier : (h : List Event) (hubs : List Hub) → IsLawful base h → AreHubsOf h hubs → (i j : ℕ) (outer inner : Hub) →
-      slice_get hubs i ≡ Some outer → slice_get hubs j ≡ Some inner → (c s : Key) → outer.connection ≡ Some c →
-      IsTrue (is_on s inner.subscribers) → IsTrue (is_within h c.number s.number) → inner.number < outer.number
+  pub earlier : {h : List Event} {hubs : List Hub} → IsLawful base h → AreHubsOf h hubs → (i j : ℕ) {outer inner : Hub} →
+      slice_get hubs i ≡ Some outer → slice_get hubs j ≡ Some inner → SubscribesInside h outer inner → inner.number < outer.number
   -- over a tree: what climbs from a subscriber of a hub reaches connections of later hubs alone
   pub ordered : (h : List Event) (nodes : Slots Node) (hubs : List Hub) → IsLawful base h → IsWalk base h nodes hubs → IsOrdered nodes hubs

@@ -3,6 +3,8 @@ use Rattle.std.proofs.Common.{◌≡◌, ℕ, zero, suc, ◌+◌, ◌-◌, ◌<�
 use Rattle.std.proofs.Common.{None, cond, refl, sym, ap, subst, ◌∙◌, arith, slice_get, length-append, length-drop, take-append-drop}
 use Rattle.std.specs.Option.{option_to_list}
 use Rattle.std.specs.VecDeque.{deque_len, deque_capacity}
+use Rattle.std.specs.declared.collections.VecDeque.{VecDeque}
+use Rattle.std.specs.declared.alloc.Global.{Global}
 use Rattle.std.proofs.lemmas.List.{drop-append-le, drop_all, take_all}
 use Rattle.rx_event.specs.declared.event.Event.{Event}
 use Rattle.rx_event.specs.Events.{makes_resource, is_item, is_take}
@@ -122,10 +124,10 @@ pub record IsPopped (ns items rest : List Mail) (told : ℕ) (o : Option Mail) :
   pub mail : take (told - 1) rest ≡ drop (length ns - (told - 1)) ns
   pub pending : drop (told - 1) rest ≡ drop told items
 
-pub popped : (ns items rest : List Mail) (told : ℕ) (x : Mail) → items ≡ x ∷ rest → 0 < told → told ≤ length items → told ≤ length ns →
+pub popped : {ns items : List Mail} (rest : List Mail) (told : ℕ) (x : Mail) → items ≡ x ∷ rest → 0 < told → told ≤ length items → told ≤ length ns →
     take told items ≡ drop (length ns - told) ns → IsPopped ns items rest told (Some x)
-popped ns items rest zero x is some l m same = absurd (omega arith)
-popped ns items rest (suc t) x is some l m same = record {
+popped rest zero x is some l m same = absurd (omega arith)
+popped {ns} rest (suc t) x is some l m same = record {
   value = ap (λ (y : Mail). Some y) first ∙ sym here.1;
   given = omega arith;
   queued = let k = ap (length {A = Mail}) is in omega arith;
@@ -152,42 +154,42 @@ popped ns items rest (suc t) x is some l m same = record {
     next = omega arith
 
 -- the same, of what a queue answers
-pub popped_first : (ns items rest : List Mail) (told : ℕ) (o : Option Mail) → items ≡ option_to_list o ++ rest → rest ≡ drop 1 items → 0 < told →
+pub popped_first : {ns items rest : List Mail} (told : ℕ) (o : Option Mail) → items ≡ option_to_list o ++ rest → rest ≡ drop 1 items → 0 < told →
     told ≤ length items → told ≤ length ns → take told items ≡ drop (length ns - told) ns → IsPopped ns items rest told o
-popped_first ns items rest told (Some x) is next some l m same = popped ns items rest told x is some l m same
-popped_first ns items rest told None is next some l m same =
+popped_first {rest} told (Some x) is next some l m same = popped rest told x is some l m same
+popped_first {items} told None is next some l m same =
     absurd (let d = length-drop 1 items in let a = ap (length {A = Mail}) is in let b = ap (length {A = Mail}) next in omega arith)
 
-pub popped_inside : (a b : Inside) (o : Option Mail) → IsTied a → IsPopped (notes a.history.events) a.mail.items b.mail.items a.told o → 0 < a.told →
-    b.history ≡ a.history → b.item_total ≡ a.item_total → b.accepted_total ≡ a.accepted_total → b.taken_total ≡ a.taken_total → b.limit ≡ a.limit →
-    b.told ≡ a.told - 1 → IsTied b
-popped_inside a b o r p some same items accepted taken own told = record {
-  lawful = rw same r.lawful;
-  limited = rw same r.limited;
-  begun = rw same r.begun;
-  placed = rw same r.placed;
-  closing = rw same r.closing;
-  within = rw same r.within;
-  limit = rw same (own ∙ r.limit);
-  item_total = rw same (items ∙ r.item_total);
-  accepted_total = rw same (accepted ∙ r.accepted_total);
-  taken_total = rw same (taken ∙ r.taken_total);
-  few_items = rw same r.few_items;
-  few_accepted = rw same r.few_accepted;
-  few_taken = rw same r.few_taken;
-  some_told = rw (same, told) (let s = r.some_told in omega arith);
-  queued = rw told p.queued;
-  mail = rw (same, told) p.mail;
+-- and what is left of the notes once the first of them was handed out
+pub popped_inside : (a : Inside) (mail : VecDeque Mail Global) {o : Option Mail} → IsTied a →
+    IsPopped (notes a.history.events) a.mail.items mail.items a.told o → 0 < a.told → IsTied (record a { mail = mail; told = a.told - 1 })
+popped_inside a mail r p some = record {
+  lawful = r.lawful;
+  limited = r.limited;
+  begun = r.begun;
+  placed = r.placed;
+  closing = r.closing;
+  within = r.within;
+  limit = r.limit;
+  item_total = r.item_total;
+  accepted_total = r.accepted_total;
+  taken_total = r.taken_total;
+  few_items = r.few_items;
+  few_accepted = r.few_accepted;
+  few_taken = r.few_taken;
+  some_told = let s = r.some_told in omega arith;
+  queued = p.queued;
+  mail = p.mail;
 }
 
 -- with no events
 debt_nothing : debt nothing_kept (shown nothing_kept) ≡ 0
 debt_nothing = ap (debt nothing_kept) shown_nothing ∙ debt_empty nothing_kept
 
-pub tied_empty : (a : Inside) → a.history.limit ≤ 4294967295 → a.limit ≡ a.history.limit → a.history.base ≡ nothing_kept → a.history.events ≡ [] →
+pub tied_empty : {a : Inside} → a.history.limit ≤ 4294967295 → a.limit ≡ a.history.limit → a.history.base ≡ nothing_kept → a.history.events ≡ [] →
     a.item_total ≡ 0 → a.accepted_total ≡ 0 → a.taken_total ≡ 0 → a.told ≡ 0 → IsTied a
 unfolding shown
-tied_empty a few own base events i r t told = record {
+tied_empty {a} few own base events i r t told = record {
   lawful = rw (base, events) IsLawful_nothing;
   limited = few;
   within = rw events (omega arith);
@@ -212,42 +214,60 @@ no_notes = refl
 
 -- a base in place of the events ---------------------------------------------------------------------
 
--- b is a with what its history leaves in place of its base and its events
-pub record IsRebased (a b : Inside) (reserved : ℕ) : Type 0 where
+-- a may be given this base, with room for so many events
+pub record MayRebase (a : Inside) (base : Kept) (reserved : ℕ) : Type 0 where
+  pub base_is : base ≡ base_of a.history.base a.history.events
   pub settled : IsSettled a.history.base a.history.events
+  pub handed : (state_of a).given ≡ length (notes a.history.events)
+  pub pending : drop a.told a.mail.items ≡ []
   pub placed : length a.history.events ≤ 9223372036854775807
   pub closing : debt a.history.base a.history.events ≤ reserved
   pub within : reserved ≤ a.history.limit
-  pub base : b.history.base ≡ base_of a.history.base a.history.events
-  pub events : b.history.events ≡ shown (base_of a.history.base a.history.events)
+
+pub may_rebase : {a : Inside} {s : State} {base : Kept} {reserved : ℕ} → state_of a ≡ s → base ≡ base_of s.base s.history → IsSettled s.base s.history →
+    s.given ≡ length (notes s.history) → s.pending ≡ [] → length s.history ≤ 9223372036854775807 → debt s.base s.history ≤ reserved → reserved ≤ s.limit →
+    MayRebase a base reserved
+may_rebase {base} {reserved} same is settled handed pending placed closing within = record {
+  base_is = is ∙ ap (λ (t : State). base_of t.base t.history) (sym same);
+  settled = subst (λ (t : State). IsSettled t.base t.history) (sym same) settled;
+  handed = subst (λ (t : State). t.given ≡ length (notes t.history)) (sym same) handed;
+  pending = subst (λ (t : State). t.pending ≡ []) (sym same) pending;
+  placed = subst (λ (t : State). length t.history ≤ 9223372036854775807) (sym same) placed;
+  closing = subst (λ (t : State). debt t.base t.history ≤ reserved) (sym same) closing;
+  within = subst (λ (t : State). reserved ≤ t.limit) (sym same) within;
+}
+
+-- b is a over its own base, which it may be given, with nothing but that base in its history
+pub record IsRebased (a b : Inside) (reserved : ℕ) : Type 0 where
+  pub may : MayRebase a b.history.base reserved
+  pub events : b.history.events ≡ shown b.history.base
+  pub room : b.history.room ≡ reserved
   pub limit : b.history.limit ≡ a.history.limit
   pub own_limit : b.limit ≡ a.limit
   pub items : b.item_total ≡ a.item_total
   pub accepted : b.accepted_total ≡ a.accepted_total
   pub taken : b.taken_total ≡ a.taken_total
-  pub handed : a.told ≡ 0
   pub told : b.told ≡ a.told
   pub mail : b.mail ≡ a.mail
-  pub room : b.history.room ≡ reserved
 
 pub rebased : (a b : Inside) (room : ℕ) → IsTied a → IsRebased a b room → IsTied b
 rebased a b room r w = record {
-  lawful = rw (w.base, w.events) (base_lawful base h r.lawful w.settled);
+  lawful = rw (over, events) (base_lawful base h r.lawful w.may.settled);
   limited = rw w.limit r.limited;
-  begun = rw (w.base, w.events) (let a = as_long in let s = shown_long in omega arith);
-  placed = rw w.base (let p = w.placed in let a = as_long in omega arith);
-  closing = rw (w.base, w.limit) (let c = w.closing in let l = w.within in let d = same_debts in omega arith);
-  within = rw (w.base, w.events) (let a = as_long in let s = shown_long in omega arith);
+  begun = rw (over, events) (let a = as_long in let s = shown_long in omega arith);
+  placed = rw over (let p = w.may.placed in let a = as_long in omega arith);
+  closing = rw (over, w.limit) (let c = w.may.closing in let l = w.may.within in let d = same_debts in omega arith);
+  within = rw (over, events) (let a = as_long in let s = shown_long in omega arith);
   limit = w.own_limit ∙ r.limit ∙ sym w.limit;
-  item_total = rw (w.base, w.events) (w.items ∙ r.item_total ∙ same.item_total);
-  accepted_total = rw (w.base, w.events) (w.accepted ∙ r.accepted_total ∙ same.accepted_total);
-  taken_total = rw (w.base, w.events) (w.taken ∙ r.taken_total ∙ same.taken_total);
-  few_items = rw (w.base, w.events) (let f = r.few_items in let s = same.item_total in let l = shown_long in omega arith);
-  few_accepted = rw (w.base, w.events) (let f = r.few_accepted in let s = same.accepted_total in let l = shown_long in omega arith);
-  few_taken = rw (w.base, w.events) (let f = r.few_taken in let s = same.taken_total in let l = shown_long in omega arith);
+  item_total = rw (over, events) (w.items ∙ r.item_total ∙ same.item_total);
+  accepted_total = rw (over, events) (w.accepted ∙ r.accepted_total ∙ same.accepted_total);
+  taken_total = rw (over, events) (w.taken ∙ r.taken_total ∙ same.taken_total);
+  few_items = rw (over, events) (let f = r.few_items in let s = same.item_total in let l = shown_long in omega arith);
+  few_accepted = rw (over, events) (let f = r.few_accepted in let s = same.accepted_total in let l = shown_long in omega arith);
+  few_taken = rw (over, events) (let f = r.few_taken in let s = same.taken_total in let l = shown_long in omega arith);
   some_told = rw all_told (omega arith);
   queued = rw all_told (omega arith);
-  mail = rw (all_told, w.events, base_untold base h r.lawful w.settled) refl;
+  mail = rw (all_told, events, base_untold base h r.lawful w.may.settled) refl;
 }
   where
     base : Kept
@@ -256,11 +276,18 @@ rebased a b room r w = record {
     h : List Event
     h = a.history.events
 
+    over : b.history.base ≡ base_of base h
+    over = w.may.base_is
+
+    events : b.history.events ≡ shown (base_of base h)
+    events = w.events ∙ ap shown over
+
     all_told : b.told ≡ 0
-    all_told = w.told ∙ w.handed
+    all_told =
+        w.told ∙ (let given : length (notes h) - a.told ≡ length (notes h) = w.may.handed in let some = r.some_told in omega arith)
 
     same : Agree base h (base_of base h) (shown (base_of base h))
-    same = kept_agrees base h r.lawful w.settled
+    same = kept_agrees base h r.lawful w.may.settled
 
     as_long : (base_of base h).at_length ≡ length h
     as_long = base_length base h
@@ -272,20 +299,16 @@ rebased a b room r w = record {
     same_debts = same_debt base h (base_of base h) (shown (base_of base h)) same
 
 -- what callers see of it
-pub rebases : (a b : Inside) (room : ℕ) → IsTied a → IsRebased a b room → drop a.told a.mail.items ≡ [] → Rebases (state_of a) (state_of b) room
-rebases a b room r w none = record {
-  base = w.base;
-  history = w.events ∙ ap shown (sym w.base);
+pub rebases : (a b : Inside) (room : ℕ) → IsTied a → IsRebased a b room → Rebases (state_of a) (state_of b) room
+rebases a b room r w = record {
+  base = w.may.base_is;
+  history = w.events;
   limit = w.limit;
   room = w.room;
-  given = rw (w.events, base_untold a.history.base a.history.events r.lawful w.settled) (omega arith);
-  pending = rw (w.told, w.mail) none;
+  given = rw (w.events, w.may.base_is, base_untold a.history.base a.history.events r.lawful w.may.settled) (omega arith);
+  pending = rw (w.told, w.mail) w.may.pending;
   mail_room = ap (λ q. deque_capacity q - deque_len q) w.mail;
 }
-
--- where all notes were handed out, none is left of those that were told
-pub none_left : (notes told : ℕ) → told ≤ notes → notes - told ≡ notes → told ≡ 0
-none_left notes told l same = omega arith
 
 -- what a caller asks for, of a register and of what it shows ------------------------------------------
 
@@ -296,50 +319,6 @@ pub placed_base : (a : Inside) (s : State) (base : Kept) → state_of a ≡ s �
     base.at_length ≤ 9223372036854775807
 placed_base a s base same is placed = let l = ap (λ (b : Kept). b.at_length) is ∙ base_length s.base s.history in omega arith
 
-pub record MayRebase (a : Inside) (base : Kept) (reserved : ℕ) : Type 0 where
-  pub base_is : base ≡ base_of a.history.base a.history.events
-  pub settled : IsSettled a.history.base a.history.events
-  pub handed : (state_of a).given ≡ length (notes a.history.events)
-  pub pending : drop a.told a.mail.items ≡ []
-  pub placed : length a.history.events ≤ 9223372036854775807
-  pub closing : debt a.history.base a.history.events ≤ reserved
-  pub within : reserved ≤ a.history.limit
-
-pub may_rebase : (a : Inside) (s : State) (base : Kept) (reserved : ℕ) → state_of a ≡ s → base ≡ base_of s.base s.history → IsSettled s.base s.history →
-    s.given ≡ length (notes s.history) → s.pending ≡ [] → length s.history ≤ 9223372036854775807 → debt s.base s.history ≤ reserved → reserved ≤ s.limit →
-    MayRebase a base reserved
-may_rebase a s base reserved same is settled handed pending placed closing within = record {
-  base_is = is ∙ ap (λ (t : State). base_of t.base t.history) (sym same);
-  settled = subst (λ (t : State). IsSettled t.base t.history) (sym same) settled;
-  handed = subst (λ (t : State). t.given ≡ length (notes t.history)) (sym same) handed;
-  pending = subst (λ (t : State). t.pending ≡ []) (sym same) pending;
-  placed = subst (λ (t : State). length t.history ≤ 9223372036854775807) (sym same) placed;
-  closing = subst (λ (t : State). debt t.base t.history ≤ reserved) (sym same) closing;
-  within = subst (λ (t : State). reserved ≤ t.limit) (sym same) within;
-}
-
-pub made_rebased : (a b : Inside) (base : Kept) (reserved : ℕ) → IsTied a → MayRebase a base reserved → b.history.base ≡ base → b.history.events ≡ shown base →
-    b.history.room ≡ reserved → b.history.limit ≡ a.history.limit → b.limit ≡ a.limit → b.item_total ≡ a.item_total → b.accepted_total ≡ a.accepted_total →
-    b.taken_total ≡ a.taken_total → b.told ≡ a.told → b.mail ≡ a.mail → IsRebased a b reserved
-made_rebased a b base reserved r may same_base same_events same_room same_limit own items accepted taken told mail = record {
-  settled = may.settled;
-  placed = may.placed;
-  closing = may.closing;
-  within = may.within;
-  base = same_base ∙ may.base_is;
-  events = same_events ∙ ap shown may.base_is;
-  limit = same_limit;
-  own_limit = own;
-  items = items;
-  accepted = accepted;
-  taken = taken;
-  handed = none_left (length (notes a.history.events)) a.told r.some_told may.handed;
-  told = told;
-  mail = mail;
-  room = same_room;
-}
-
 -- what callers see of it, of a register that they saw as this
-pub rebases_seen : (a b : Inside) (s : State) (reserved : ℕ) → state_of a ≡ s → IsTied a → IsRebased a b reserved → drop a.told a.mail.items ≡ [] →
-    Rebases s (state_of b) reserved
-rebases_seen a b s reserved same r w none = subst (λ (t : State). Rebases t (state_of b) reserved) same (rebases a b reserved r w none)
+pub rebases_seen : (a b : Inside) (s : State) (reserved : ℕ) → state_of a ≡ s → IsTied a → IsRebased a b reserved → Rebases s (state_of b) reserved
+rebases_seen a b s reserved same r w = subst (λ (t : State). Rebases t (state_of b) reserved) same (rebases a b reserved r w)

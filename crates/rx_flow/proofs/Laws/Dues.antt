@@ -36,12 +36,12 @@ due_forced base h nodes e records connected due_in = by_node (find nodes due_in.
   by_node None found gives = absurd (none-some e gives)
   by_node (Some node) found gives =
       let r = records.each due_in.key node found in
-      due_at_forced base h due_in.key.number node.made e connected r.alive r.made (ap (λ m. due_at node.made m due_in.key.number) (sym r.marks) ∙ gives)
+      due_at_forced h due_in.key.number node.made e connected r.alive r.made (ap (λ m. due_at node.made m due_in.key.number) (sym r.marks) ∙ gives)
 
 -- where nothing is due at any record, no marks of an open node give an event
-quiet_marks : (base : Kept) → (h : List Event) (nodes : Slots Node) → AreRecordsOf base h nodes → IsQuiet nodes → (n : ℕ) (made : Event) → is_open h n ≡ true →
+quiet_marks : {base : Kept} → (h : List Event) (nodes : Slots Node) → AreRecordsOf base h nodes → IsQuiet nodes → (n : ℕ) (made : Event) → is_open h n ≡ true →
     slice_get h n ≡ Some made → due_at made (marks_of base h n) n ≡ None
-quiet_marks base h nodes records quiet n made o at_n =
+quiet_marks {base} h nodes records quiet n made o at_n =
     let own : HasRecord nodes n = records.every n o in
     let r : IsRecordOf base h own.key.number own.node = records.each own.key own.node own.found in
     let same : made ≡ own.node.made = same_Some made own.node.made (sym (ap (slice_get h) own.numbered ∙ at_n) ∙ r.made) in
@@ -53,12 +53,12 @@ quiet_marks base h nodes records quiet n made o at_n =
 -- so it is settled, but for what hubs force
 pub quiet_settled : (base : Kept) → (h : List Event) (nodes : Slots Node) → AreRecordsOf base h nodes → IsQuiet nodes → IsConnected h →
     ((n : ℕ) (t : Terminal) → is_open h n ≡ true → ¬ SourceEnded h n t) → ((c : ℕ) → ¬ IsDue base h (Close c)) → IsSettled base h
-quiet_settled base h nodes records quiet connected whole kept = settled_by_marks base h connected whole kept (quiet_marks base h nodes records quiet)
+quiet_settled base h nodes records quiet connected whole kept = settled_by_marks base h connected whole kept (quiet_marks h nodes records quiet)
 
 pub quiet_settled_hubless : (base : Kept) → (h : List Event) (nodes : Slots Node) → IsLawful base h → AreRecordsOf base h nodes → IsQuiet nodes →
     list_any makes_hub h ≡ false →
     IsSettled base h
-quiet_settled_hubless base h nodes law records quiet hubless = settled_hubless base h law hubless (quiet_marks base h nodes records quiet)
+quiet_settled_hubless base h nodes law records quiet hubless = settled_hubless base h law hubless (quiet_marks h nodes records quiet)
 
 -- in a settled history nothing is due at any record
 pub settled_quiet_records : (base : Kept) → (h : List Event) (nodes : Slots Node) → AreRecordsOf base h nodes → IsSettled base h → IsQuiet nodes

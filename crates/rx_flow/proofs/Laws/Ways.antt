@@ -42,12 +42,12 @@ merging_told base h nodes t up found =
     sym (ap (λ (o : Option Node). option_map_or is_merging (option_map (λ node. node.made) o) false) n.1)
 
 -- the stop at a node by its record is that of the history
-stop_told : (base : Kept) → (h : List Event) (nodes : Slots Node) → IsTold base h nodes → (key : Key) (above : Option Key) (made : Event) →
+stop_told : {base : Kept} → (h : List Event) (nodes : Slots Node) → IsTold base h nodes → (key : Key) (above : Option Key) (made : Event) →
     parent_named made ≡ option_map (λ k. k.number) above → IfSome above (λ k. IsSome (find nodes k)) →
     stop_made_in h key.number made ≡ option_and_then numbered (stop_made nodes key above made)
-stop_told base h nodes t key above (Open Root kind) named there = refl
-stop_told base h nodes t key None (Open (Source f) kind) named there = absurd (none-some f (sym named))
-stop_told base h nodes t key (Some up) (Open (Source f) kind) named there =
+stop_told h nodes t key above (Open Root kind) named there = refl
+stop_told h nodes t key None (Open (Source f) kind) named there = absurd (none-some f (sym named))
+stop_told {base} h nodes t key (Some up) (Open (Source f) kind) named there =
     ap (λ q. if at is_merging h q then Some (ProjectionTo q) else None) (same_Some f up.number named) ∙
     ap (λ b. if b then Some (ProjectionTo up.number) else None) (merging_told base h nodes t up there) ∙
     shape (option_map_or is_merging (made_of nodes up) false)
@@ -56,11 +56,11 @@ stop_told base h nodes t key (Some up) (Open (Source f) kind) named there =
         (if b then Some (ProjectionTo up.number) else None) ≡ option_and_then numbered (option_map (λ k. Projection k) (if b then Some up else None))
     shape true = refl
     shape false = refl
-stop_told base h nodes t key None (Open (Notifier u) kind) named there = absurd (none-some u (sym named))
-stop_told base h nodes t key (Some up) (Open (Notifier u) kind) named there = ap (λ q. Some (FiringOf q)) (same_Some u up.number named)
-stop_told base h nodes t key above (Open (Inner f) kind) named there = refl
-stop_told base h nodes t key above (Connect g) named there = refl
-stop_told base h nodes t key above _ named there = refl
+stop_told h nodes t key None (Open (Notifier u) kind) named there = absurd (none-some u (sym named))
+stop_told h nodes t key (Some up) (Open (Notifier u) kind) named there = ap (λ q. Some (FiringOf q)) (same_Some u up.number named)
+stop_told h nodes t key above (Open (Inner f) kind) named there = refl
+stop_told h nodes t key above (Connect g) named there = refl
+stop_told h nodes t key above _ named there = refl
 
 -- of a node that is found
 pub stop_of-found : (nodes : Slots Node) (key : Key) (node : Node) → find nodes key ≡ Some node →
@@ -73,7 +73,7 @@ pub stop_seen : (base : Kept) → (h : List Event) (nodes : Slots Node) → IsTo
 stop_seen base h nodes t key node found =
     let placed = t.sound.placed key node found in
     ap (option_and_then (stop_made_in h key.number)) (t.records.each key node found).made ∙
-    stop_told base h nodes t key node.above node.made placed.named placed.there ∙
+    stop_told h nodes t key node.above node.made placed.named placed.there ∙
     sym (ap (option_and_then numbered) (stop_of-found nodes key node found))
 
 -- the parent of a node is that above its record
@@ -127,11 +127,11 @@ goes_to_parent h nodes key above (Open place kind) n free = refl
 goes_to_parent h nodes key above _ n free = refl
 
 -- where a climb goes on, by the stop
-pub onward_at : (base : Kept) → (h : List Event) (nodes : Slots Node) → IsTold base h nodes → (key : Key) (node : Node) → find nodes key ≡ Some node →
+pub onward_at : {base : Kept} → (h : List Event) (nodes : Slots Node) → IsTold base h nodes → (key : Key) (node : Node) → find nodes key ≡ Some node →
     (s : Option Stop) →
     stop_of nodes key ≡ s →
     onward h key.number ≡ onward_unless (option_and_then numbered s) (option_map_or (onward_from h key.number) (slice_get h key.number) [])
-onward_at base h nodes t key node found s stop =
+onward_at {base} h nodes t key node found s stop =
     ap (λ (x : Option NumberedStop). onward_unless x (option_map_or (onward_from h key.number) (slice_get h key.number) []))
     (stop_seen base h nodes t key node found ∙ ap (option_and_then numbered) stop)
 
@@ -140,7 +140,7 @@ pub onward_seen : (base : Kept) → (h : List Event) (nodes : Slots Node) → Is
     onward h key.number ≡ option_to_list (option_map (λ k. k.number) node.above)
 onward_seen base h nodes t key node found free =
     let stop : stop_made nodes key node.above node.made ≡ None = sym (stop_of-found nodes key node found) ∙ free in
-    onward_at base h nodes t key node found None free ∙
+    onward_at h nodes t key node found None free ∙
     ap (λ (o : Option Event). option_map_or (onward_from h key.number) o []) (t.records.each key node found).made ∙
     goes_to_parent h nodes key node.above node.made key.number stop ∙ ap option_to_list (parent_seen base h nodes t key node found)
 
@@ -164,28 +164,28 @@ above_found nodes key up sound above = by_node (find nodes key) refl above where
   by_node None found same = absurd (none-some up same)
   by_node (Some node) found same = by_above node.above same (sound.placed key node found).there
 
-onward_up : (base : Kept) → (h : List Event) (nodes : Slots Node) → IsTold base h nodes → (key : Key) (node : Node) (up : Key) → find nodes key ≡ Some node →
+onward_up : {base : Kept} → {h : List Event} (nodes : Slots Node) → IsTold base h nodes → (key : Key) (node : Node) (up : Key) → find nodes key ≡ Some node →
     stop_of nodes key ≡ None → above_of nodes key ≡ Some up → onward h key.number ≡ up.number ∷ []
-onward_up base h nodes t key node up found free above =
+onward_up {base} {h} nodes t key node up found free above =
     onward_seen base h nodes t key node found free ∙
     ap (λ (o : Option Key). option_to_list (option_map (λ k. k.number) o)) (sym (above_seen nodes key node found) ∙ above)
 
 -- from the end of a way
-onward_ended : (base : Kept) → (h : List Event) (nodes : Slots Node) → IsTold base h nodes → (key : Key) (node : Node) → find nodes key ≡ Some node →
+onward_ended : {base : Kept} → {h : List Event} (nodes : Slots Node) → IsTold base h nodes → (key : Key) (node : Node) → find nodes key ≡ Some node →
     (s : Option Stop) →
     stop_of nodes key ≡ s → onward_of nodes key ≡ None → onward h key.number ≡ beyond h nodes s
-onward_ended base h nodes t key node found None free ended =
+onward_ended {base} {h} nodes t key node found None free ended =
     let top : node.above ≡ None = sym (above_seen nodes key node found) ∙ sym (ap (λ (s : Option Stop). if is_some s then None else above_of nodes key) free) ∙
     ended in
     onward_seen base h nodes t key node found free ∙ ap (λ (o : Option Key). option_to_list (option_map (λ k. k.number) o)) top
-onward_ended base h nodes t key node found (Some (Delivery c)) stop ended = onward_at base h nodes t key node found (Some (Delivery c)) stop
-onward_ended base h nodes t key node found (Some (Projection c)) stop ended = onward_at base h nodes t key node found (Some (Projection c)) stop
-onward_ended base h nodes t key node found (Some (Firing c)) stop ended = onward_at base h nodes t key node found (Some (Firing c)) stop
-onward_ended base h nodes t key node found (Some (Connection c)) stop ended =
+onward_ended {h} nodes t key node found (Some (Delivery c)) stop ended = onward_at h nodes t key node found (Some (Delivery c)) stop
+onward_ended {h} nodes t key node found (Some (Projection c)) stop ended = onward_at h nodes t key node found (Some (Projection c)) stop
+onward_ended {h} nodes t key node found (Some (Firing c)) stop ended = onward_at h nodes t key node found (Some (Firing c)) stop
+onward_ended {h} nodes t key node found (Some (Connection c)) stop ended =
     let here : stop_made nodes key node.above node.made ≡ Some (Connection c) = sym (stop_of-found nodes key node found) ∙ stop in
     let c_is = connection_made nodes key c node.above node.made here in
     let made_is = ap (made_of nodes) (sym c_is.2) ∙ ap (option_map (λ (n : Node). n.made)) found ∙ ap (λ e. Some e) c_is.1 in
-    onward_at base h nodes t key node found (Some (Connection c)) stop ∙
+    onward_at h nodes t key node found (Some (Connection c)) stop ∙
     ap (λ (o : Option Event). option_map_or (onward_from h key.number) o []) ((t.records.each key node found).made ∙ ap (λ e. Some e) c_is.1) ∙
     sym (ap (λ (o : Option Event). option_map_or (open_subscribers h) (option_and_then hub_connected o) []) made_is)
 
@@ -225,14 +225,14 @@ visited_way base h nodes t (suc left) key there = by_onward (onward_of nodes key
       visited left h (up.number ∷ []) ≡ numbers (way_within left nodes up) ++ after h nodes left (way_within left nodes up)) →
       goal (key ∷ option_map_or (way_within left nodes) o [])
   by_onward None ended rest =
-      let goes = onward_ended base h nodes t key node.0 node.1 (stop_of nodes key) refl ended ∙ ap (beyond h nodes) (sym (or_none (stop_of nodes key))) in
+      let goes = onward_ended nodes t key node.0 node.1 (stop_of nodes key) refl ended ∙ ap (beyond h nodes) (sym (or_none (stop_of nodes key))) in
       ap (λ (ns : List ℕ). key.number ∷ visited left h ns) (append-nil (onward h key.number) ∙ goes) ∙
       ap (λ k. key.number ∷ visited k h (beyond h nodes (option_or (stop_of nodes key) None))) (sym (one_less left))
   by_onward (Some up) on rest =
       let goes = onward_some nodes key up on in
       let keys : List Key = way_within left nodes up in
       let free = ap (λ (s : Option Stop). numbers keys ++ visited (left - length keys) h (beyond h nodes (option_or s (end_of nodes keys)))) (sym goes.0) in
-      ap (λ (ns : List ℕ). key.number ∷ visited left h (ns ++ [])) (onward_up base h nodes t key node.0 up node.1 goes.0 goes.1) ∙
+      ap (λ (ns : List ℕ). key.number ∷ visited left h (ns ++ [])) (onward_up nodes t key node.0 up node.1 goes.0 goes.1) ∙
       ap (λ (ns : List ℕ). key.number ∷ ns) (rest up (above_found nodes key up t.sound goes.1) ∙ free) ∙
       ap (λ k. key.number ∷ (numbers keys ++ visited k h (beyond h nodes (option_or (stop_of nodes key) (end_of nodes keys)))))
       (sym (both_less left (length keys)))
@@ -308,23 +308,23 @@ beyond_hub h nodes s c g stop made = ap (beyond h nodes) stop ∙
     ap (λ (o : Option Event). option_map_or (open_subscribers h) (option_and_then hub_connected o) []) made
 
 -- from a connection the climb goes on to the open subscribers of its hub
-pub climb_connected_way : (base : Kept) → (h : List Event) (nodes : Slots Node) (key c : Key) (g : ℕ) → IsWay base h nodes key →
+pub climb_connected_way : {base : Kept} → (h : List Event) (nodes : Slots Node) (key c : Key) (g : ℕ) → IsWay base h nodes key →
     end_of nodes (way nodes key) ≡ Some (Connection c) →
     made_of nodes c ≡ Some (Connect g) →
     climb h key.number ≡ numbers (way nodes key) ++ visited (suc most_visits - length (way nodes key)) h (open_subscribers h g)
-climb_connected_way base h nodes key c g w stop made =
+climb_connected_way {base} h nodes key c g w stop made =
     climb_way base h nodes key w ∙
     ap (λ (ns : List ℕ). numbers (way nodes key) ++ visited (suc most_visits - length (way nodes key)) h ns)
     (beyond_hub h nodes (end_of nodes (way nodes key)) c g stop made)
 
 -- and so do the stops
-pub stops_connected_way : (base : Kept) → (h : List Event) (nodes : Slots Node) (key c : Key) (g : ℕ) → IsWay base h nodes key →
+pub stops_connected_way : {base : Kept} → (h : List Event) (nodes : Slots Node) (key c : Key) (g : ℕ) → IsWay base h nodes key →
     end_of nodes (way nodes key) ≡ Some (Connection c) →
     made_of nodes c ≡ Some (Connect g) →
     stops h key.number ≡ filter_map (stop_at h) (visited (suc most_visits - length (way nodes key)) h (open_subscribers h g))
 unfolding stops
-stops_connected_way base h nodes key c g w stop made =
+stops_connected_way {base} h nodes key c g w stop made =
     let rest = visited (suc most_visits - length (way nodes key)) h (open_subscribers h g) in
-    ap (filter_map (stop_at h)) (climb_connected_way base h nodes key c g w stop made) ∙ filter_map-append (stop_at h) (numbers (way nodes key)) rest ∙
+    ap (filter_map (stop_at h)) (climb_connected_way h nodes key c g w stop made) ∙ filter_map-append (stop_at h) (numbers (way nodes key)) rest ∙
     ap (λ (ss : List NumberedStop). ss ++ filter_map (stop_at h) rest)
     (stops_way base h nodes (told base w) (suc most_visits) key w.found ∙ ap (λ (s : Option Stop). option_to_list (option_and_then numbered s)) stop)

@@ -88,9 +88,9 @@ all_left h e hubs = map (hub_left h e) hubs
 
 -- an event that makes no hub, subscribes to none and connects none -------------------------------
 
-nothing_made : (base : Kept) → (h : List Event) (e : Event) (hubs : List Hub) → IsLawful base h → MayFollow base h e → AreHubsOf h hubs → makes_hub e ≡ false →
+nothing_made : {base : Kept} → {h : List Event} (e : Event) (hubs : List Hub) → IsLawful base h → MayFollow base h e → AreHubsOf h hubs → makes_hub e ≡ false →
     ((g : ℕ) → is_subscriber_of g e ≡ false) → ((g : ℕ) → is_connect_of g e ≡ false) → AreHubsOf (h ++ e ∷ []) (all_left h e hubs)
-nothing_made base h e hubs law next are no_hub no_subscriber no_connection = record {
+nothing_made {base} {h} e hubs law next are no_hub no_subscriber no_connection = record {
   each = each;
   every = λ g made. has_mapped (hub_left h e) (λ hub. refl) hubs g (there.made g made);
   subscribed = λ g s joins. has_mapped (hub_left h e) (λ hub. refl) hubs g (there.joined g s joins);
@@ -102,33 +102,38 @@ nothing_made base h e hubs law next are no_hub no_subscriber no_connection = rec
   each i hub at_i =
       let from = mapped_from (hub_left h e) hubs i hub at_i in
       subst (λ (x : Hub). IsHubOf (h ++ e ∷ []) x) from.2
-      (hub_kept base h e from.0 law next (are.each i from.0 from.1) (no_subscriber from.0.number) (no_connection from.0.number))
+      (hub_kept h e from.0 law next (are.each i from.0 from.1) (no_subscriber from.0.number) (no_connection from.0.number))
 
 -- an event that changes one hub -------------------------------------------------------------------
 
-one_changed : (base : Kept) → (h : List Event) (e : Event) (hubs : List Hub) (g : ℕ) (change : Hub → Hub) → IsLawful base h → MayFollow base h e →
-    AreHubsOf h hubs →
-    ((hub : Hub) → (change hub).number ≡ hub.number) → makes_hub e ≡ false → ((k : ℕ) → is_subscriber_of k e ≡ true → HasHub hubs k) →
-    ((n : ℕ) → (n == g) ≡ false → is_subscriber_of n e ≡ false) → ((n : ℕ) → (n == g) ≡ false → is_connect_of n e ≡ false) →
-    ((hub : Hub) → IsHubOf h hub → hub.number ≡ g → IsHubOf (h ++ e ∷ []) (change (hub_left h e hub))) →
-    AreHubsOf (h ++ e ∷ []) (at_hub g change (all_left h e hubs))
-one_changed base h e hubs g change law next are same no_hub joins no_subscriber no_connection changes = record {
+-- the event makes no hub, and concerns at most the hub of this number, of which the longer history tells this change
+record ChangesOne (h : List Event) (e : Event) (hubs : List Hub) (g : ℕ) (change : Hub → Hub) : Type 0 where
+  same : (hub : Hub) → (change hub).number ≡ hub.number
+  no_hub : makes_hub e ≡ false
+  joins : (k : ℕ) → is_subscriber_of k e ≡ true → HasHub hubs k
+  no_subscriber : (n : ℕ) → (n == g) ≡ false → is_subscriber_of n e ≡ false
+  no_connection : (n : ℕ) → (n == g) ≡ false → is_connect_of n e ≡ false
+  changes : (hub : Hub) → IsHubOf h hub → hub.number ≡ g → IsHubOf (h ++ e ∷ []) (change (hub_left h e hub))
+
+one_changed : {base : Kept} → {h : List Event} {e : Event} {hubs : List Hub} {g : ℕ} {change : Hub → Hub} → IsLawful base h → MayFollow base h e →
+    AreHubsOf h hubs → ChangesOne h e hubs g change → AreHubsOf (h ++ e ∷ []) (at_hub g change (all_left h e hubs))
+one_changed {h} {e} {hubs} {g} {change} law next are one = record {
   each = each;
   every = λ k made. has k (there.made k made);
   subscribed = λ k s passes. has k (there.joined k s passes);
 } where
   there : AreThere h e hubs
-  there = are_there h e hubs are no_hub joins
+  there = are_there h e hubs are one.no_hub one.joins
 
   at_own : Hub → Hub
   at_own hub = cond (hub.number == g) (change hub) hub
 
   has : (k : ℕ) → HasHub hubs k → HasHub (at_hub g change (all_left h e hubs)) k
-  has k there_is = has_mapped at_own (changed_number g change same) (all_left h e hubs) k (has_mapped (hub_left h e) (λ hub. refl) hubs k there_is)
+  has k there_is = has_mapped at_own (changed_number g change one.same) (all_left h e hubs) k (has_mapped (hub_left h e) (λ hub. refl) hubs k there_is)
 
   by_test : (hub : Hub) → IsHubOf h hub → (b : Bool) → (hub.number == g) ≡ b → IsHubOf (h ++ e ∷ []) (cond b (change (hub_left h e hub)) (hub_left h e hub))
-  by_test hub is true named = changes hub is (eqb-true hub.number g named)
-  by_test hub is false other = hub_kept base h e hub law next is (no_subscriber hub.number other) (no_connection hub.number other)
+  by_test hub is true named = one.changes hub is (eqb-true hub.number g named)
+  by_test hub is false other = hub_kept h e hub law next is (one.no_subscriber hub.number other) (one.no_connection hub.number other)
 
   each : (i : ℕ) (hub : Hub) → slice_get (at_hub g change (all_left h e hubs)) i ≡ Some hub → IsHubOf (h ++ e ∷ []) hub
   each i hub at_i =
@@ -190,7 +195,7 @@ published base h mode hubs law next are = record { each = each; every = every; s
   by_hub : (hub : Hub) (i : ℕ) → (slice_get (all_left h e hubs) i ≡ Some hub) ⊎ (new_hub (length h) mode ≡ hub) → IsHubOf (h ++ e ∷ []) hub
   by_hub hub i (inl old) =
       let from = mapped_from (hub_left h e) hubs i hub old in
-      subst (λ (x : Hub). IsHubOf (h ++ e ∷ []) x) from.2 (hub_kept base h e from.0 law next (are.each i from.0 from.1) refl refl)
+      subst (λ (x : Hub). IsHubOf (h ++ e ∷ []) x) from.2 (hub_kept h e from.0 law next (are.each i from.0 from.1) refl refl)
   by_hub hub i (inr new) = subst (λ (x : Hub). IsHubOf (h ++ e ∷ []) x) new (hub_made base h mode law)
 
   each : (i : ℕ) (hub : Hub) → slice_get (all_left h e hubs ++ new_hub (length h) mode ∷ []) i ≡ Some hub → IsHubOf (h ++ e ∷ []) hub
@@ -224,29 +229,38 @@ left_follow : (base : Kept) → (h : List Event) (e : Event) (slot : ℕ) (hubs 
     AreHubsOf (h ++ e ∷ []) (with_made (next_key h slot) e (all_left h e hubs))
 left_follow base h (Publish mode) slot hubs law next are = published base h mode hubs law next are
 left_follow base h (Open place (Sub g)) slot hubs law next are =
-    one_changed base h (Open place (Sub g)) hubs g (subscribed (next_key h slot)) law next are (λ hub. refl) refl
-    (λ k joins. are.every k (subst (λ m. at makes_hub h m ≡ true) (eqb-true g k joins) (may_subscribe base next).0))
-    (λ n other. other_number n g other) (λ n other. refl)
-    (λ hub is named. hub_with_subscriber base h place g slot hub law next is named)
+    one_changed {e = Open place (Sub g)} {g = g} {change = subscribed (next_key h slot)} law next are (record {
+      same = λ hub. refl;
+      no_hub = refl;
+      joins = λ k joins. are.every k (subst (λ m. at makes_hub h m ≡ true) (eqb-true g k joins) (may_subscribe base next).0);
+      no_subscriber = λ n other. other_number n g other;
+      no_connection = λ n other. refl;
+      changes = λ hub is named. hub_with_subscriber place g slot hub law next is named;
+    })
 left_follow base h (Connect g) slot hubs law next are =
-    one_changed base h (Connect g) hubs g (connected (next_key h slot)) law next are (λ hub. refl) refl
-    (λ k joins. absurd (false≢true joins)) (λ n other. refl) (λ n other. other_number n g other)
-    (λ hub is named. hub_with_connection base h g slot hub law next is named)
-left_follow base h (Open place Leaf) slot hubs law next are = nothing_made base h (Open place Leaf) hubs law next are refl (λ g. refl) (λ g. refl)
-left_follow base h (Open place Pass) slot hubs law next are = nothing_made base h (Open place Pass) hubs law next are refl (λ g. refl) (λ g. refl)
-left_follow base h (Open place Flat) slot hubs law next are = nothing_made base h (Open place Flat) hubs law next are refl (λ g. refl) (λ g. refl)
-left_follow base h (Open place Switch) slot hubs law next are = nothing_made base h (Open place Switch) hubs law next are refl (λ g. refl) (λ g. refl)
-left_follow base h (Open place Until) slot hubs law next are = nothing_made base h (Open place Until) hubs law next are refl (λ g. refl) (λ g. refl)
-left_follow base h (Accept n tag) slot hubs law next are = nothing_made base h (Accept n tag) hubs law next are refl (λ g. refl) (λ g. refl)
-left_follow base h (Use r) slot hubs law next are = nothing_made base h (Use r) hubs law next are refl (λ g. refl) (λ g. refl)
-left_follow base h (Remove r) slot hubs law next are = nothing_made base h (Remove r) hubs law next are refl (λ g. refl) (λ g. refl)
-left_follow base h (Item l v) slot hubs law next are = nothing_made base h (Item l v) hubs law next are refl (λ g. refl) (λ g. refl)
-left_follow base h (Decline f) slot hubs law next are = nothing_made base h (Decline f) hubs law next are refl (λ g. refl) (λ g. refl)
-left_follow base h (End n t) slot hubs law next are = nothing_made base h (End n t) hubs law next are refl (λ g. refl) (λ g. refl)
-left_follow base h (Close n) slot hubs law next are = nothing_made base h (Close n) hubs law next are refl (λ g. refl) (λ g. refl)
-left_follow base h (Lease r) slot hubs law next are = nothing_made base h (Lease r) hubs law next are refl (λ g. refl) (λ g. refl)
-left_follow base h (Return r) slot hubs law next are = nothing_made base h (Return r) hubs law next are refl (λ g. refl) (λ g. refl)
-left_follow base h (Take r) slot hubs law next are = nothing_made base h (Take r) hubs law next are refl (λ g. refl) (λ g. refl)
+    one_changed {e = Connect g} {g = g} {change = connected (next_key h slot)} law next are (record {
+      same = λ hub. refl;
+      no_hub = refl;
+      joins = λ k joins. absurd (false≢true joins);
+      no_subscriber = λ n other. refl;
+      no_connection = λ n other. other_number n g other;
+      changes = λ hub is named. hub_with_connection h g slot hub law next is named;
+    })
+left_follow base h (Open place Leaf) slot hubs law next are = nothing_made (Open place Leaf) hubs law next are refl (λ g. refl) (λ g. refl)
+left_follow base h (Open place Pass) slot hubs law next are = nothing_made (Open place Pass) hubs law next are refl (λ g. refl) (λ g. refl)
+left_follow base h (Open place Flat) slot hubs law next are = nothing_made (Open place Flat) hubs law next are refl (λ g. refl) (λ g. refl)
+left_follow base h (Open place Switch) slot hubs law next are = nothing_made (Open place Switch) hubs law next are refl (λ g. refl) (λ g. refl)
+left_follow base h (Open place Until) slot hubs law next are = nothing_made (Open place Until) hubs law next are refl (λ g. refl) (λ g. refl)
+left_follow base h (Accept n tag) slot hubs law next are = nothing_made (Accept n tag) hubs law next are refl (λ g. refl) (λ g. refl)
+left_follow base h (Use r) slot hubs law next are = nothing_made (Use r) hubs law next are refl (λ g. refl) (λ g. refl)
+left_follow base h (Remove r) slot hubs law next are = nothing_made (Remove r) hubs law next are refl (λ g. refl) (λ g. refl)
+left_follow base h (Item l v) slot hubs law next are = nothing_made (Item l v) hubs law next are refl (λ g. refl) (λ g. refl)
+left_follow base h (Decline f) slot hubs law next are = nothing_made (Decline f) hubs law next are refl (λ g. refl) (λ g. refl)
+left_follow base h (End n t) slot hubs law next are = nothing_made (End n t) hubs law next are refl (λ g. refl) (λ g. refl)
+left_follow base h (Close n) slot hubs law next are = nothing_made (Close n) hubs law next are refl (λ g. refl) (λ g. refl)
+left_follow base h (Lease r) slot hubs law next are = nothing_made (Lease r) hubs law next are refl (λ g. refl) (λ g. refl)
+left_follow base h (Return r) slot hubs law next are = nothing_made (Return r) hubs law next are refl (λ g. refl) (λ g. refl)
+left_follow base h (Take r) slot hubs law next are = nothing_made (Take r) hubs law next are refl (λ g. refl) (λ g. refl)
 
 pub map_agrees : (f g : Hub → Hub) (hubs : List Hub) → ((i : ℕ) (hub : Hub) → slice_get hubs i ≡ Some hub → f hub ≡ g hub) → map f hubs ≡ map g hubs
 map_agrees f g [] same = refl

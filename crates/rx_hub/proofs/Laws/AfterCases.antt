@@ -14,9 +14,10 @@ use Rattle.rx_event.specs.declared.event.Kind.TheVariants.{Leaf, Pass, Flat, Swi
 use Rattle.rx_event.specs.declared.event.Mode.{Mode}
 use Rattle.rx_event.specs.declared.event.Event.{Event}
 use Rattle.rx_event.specs.declared.event.Event.TheVariants.{Open, Hub as Publish, Connect, Accept, Use, Remove, Lease, Return, Item, Decline, End, Close, Take}
-use Rattle.rx_event.specs.Events.{is_switch, is_inner_of, is_subscriber_of}
+use Rattle.rx_event.specs.Events.{is_subscriber_of}
 use Rattle.rx_event.specs.Tree.{at, places, is_open, is_within}
 use Rattle.rx_event.specs.Lawful.{MayFollow, IsLawful}
+use Rattle.rx_event.specs.Claims.Nodes.{IsOpenInner}
 use Rattle.rx_event.proofs.Laws.Lists.{AllByRecursion-both, filtered}
 use Rattle.rx_event.proofs.Laws.Openness.{shuts_none, is_open_kept, is_open_within, is_open_outside-end, is_open_outside-close}
 use Rattle.rx_event.proofs.Laws.Switches.{is_open-inner_switch}
@@ -159,10 +160,10 @@ pub hubs_same : (h : List Event) (e : Event) (slot : ℕ) (hubs : List Hub) → 
 hubs_same h e slot hubs are joins none = hubs_with_made h e slot hubs are none ∙ joins_none (next_key h slot) e hubs joins
 
 -- and so they are the hubs of the longer history
-pub hubs_stay : (base : Kept) → (h : List Event) (e : Event) (hubs : List Hub) → IsLawful base h → MayFollow base h e → AreHubsOf h hubs →
+pub hubs_stay : {base : Kept} → (h : List Event) (e : Event) (hubs : List Hub) → IsLawful base h → MayFollow base h e → AreHubsOf h hubs →
     joins_hubs e ≡ false → ClosesNone h e →
     AreHubsOf (h ++ e ∷ []) hubs
-hubs_stay base h e hubs law next are joins none =
+hubs_stay {base} h e hubs law next are joins none =
     subst (λ (hs : List Hub). AreHubsOf (h ++ e ∷ []) hs) (hubs_same h e 0 hubs are joins none) (hubs_follow base h e 0 hubs law next are)
 
 pub hubs_published : (h : List Event) (mode : Mode) (slot : ℕ) (hubs : List Hub) → AreHubsOf h hubs →
@@ -196,13 +197,12 @@ hubs_closed h n slot hubs are =
     (λ key o. gone_inside (is_within h n key.number) (is_open_outside-close h n key.number ∙ ap (λ b. b && not (is_within h n key.number)) o))
 
 -- another inner of a Switch comes in place of the open one
-pub hubs_exchanged : (base : Kept) → (h : List Event) (f c : ℕ) (kind : Kind) (slot : ℕ) (hubs : List Hub) → IsLawful base h → AreHubsOf h hubs →
-    at is_switch h f ≡ true →
-    at (is_inner_of f) h c ≡ true → is_open h c ≡ true → hubs_after h (Open (Inner f) kind) slot hubs ≡
+pub hubs_exchanged : {base : Kept} {h : List Event} {f c : ℕ} (kind : Kind) (slot : ℕ) {hubs : List Hub} → IsLawful base h → AreHubsOf h hubs →
+    IsOpenInner h f c → hubs_after h (Open (Inner f) kind) slot hubs ≡
     with_made (next_key h slot) (Open (Inner f) kind) (map (without_gone (is_inside h c) None) hubs)
-hubs_exchanged base h f c kind slot hubs law are switch inner o =
+hubs_exchanged {base} {h} {f} {c} kind slot {hubs} law are i =
     ap (with_made (next_key h slot) (Open (Inner f) kind))
     (open_agree h hubs (is_gone_after h (Open (Inner f) kind)) (is_inside h c) None are
     (λ key there. gone_inside (is_within h c key.number)
-    (is_open-inner_switch base h f c kind law switch inner o key.number (is_open_within h key.number there) ∙
+    (is_open-inner_switch law i kind key.number (is_open_within h key.number there) ∙
     ap (λ b. b && not (is_within h c key.number)) there)))

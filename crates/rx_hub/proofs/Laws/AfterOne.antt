@@ -84,9 +84,9 @@ later_end h e stays (Some key) before place l up = by_test (stays key) where
   by_test false = by_event e
 
 -- and no end in the history is later
-latest_left : (base : Kept) → (h : List Event) (e : Event) (hub : Hub) → IsLawful base h → MayFollow base h e → IsHubOf h hub → (c place : ℕ) (t : Terminal) →
+latest_left : {base : Kept} → {h : List Event} {e : Event} {hub : Hub} → IsLawful base h → MayFollow base h e → IsHubOf h hub → (c place : ℕ) (t : Terminal) →
     slice_get (h ++ e ∷ []) c ≡ Some (Connect hub.number) → slice_get (h ++ e ∷ []) place ≡ Some (End c t) → IsUpTo place (hub_left h e hub).last_end
-latest_left base h e hub law next is c place t connects ended = by_place (cases_push h e (End c t) place ended) where
+latest_left {base} {h} {e} {hub} law next is c place t connects ended = by_place (cases_push h e (End c t) place ended) where
   l : place ≤ length h
   l = within_push h e (End c t) place ended
 
@@ -146,9 +146,9 @@ connections_after base h e hub next is =
     (ap (filter (is_open (h ++ e ∷ []))) (sym is.connection) ∙ sym (numbers_left (is_open (h ++ e ∷ [])) hub.connection))
 
 -- a hub to which the event adds nothing
-pub hub_kept : (base : Kept) → (h : List Event) (e : Event) (hub : Hub) → IsLawful base h → MayFollow base h e → IsHubOf h hub →
+pub hub_kept : {base : Kept} → (h : List Event) (e : Event) (hub : Hub) → IsLawful base h → MayFollow base h e → IsHubOf h hub →
     is_subscriber_of hub.number e ≡ false → is_connect_of hub.number e ≡ false → IsHubOf (h ++ e ∷ []) (hub_left h e hub)
-hub_kept base h e hub law next is no_subscriber no_connection = record {
+hub_kept {base} h e hub law next is no_subscriber no_connection = record {
   made = still_at h (e ∷ []) hub.number _ is.made;
   subscribers = sym (subscribers_after base h e hub next is ∙ ap (λ b. numbers (hub_left h e hub).subscribers ++ cond b (length h ∷ []) []) no_subscriber ∙
       append-nil (numbers (hub_left h e hub).subscribers));
@@ -156,13 +156,13 @@ hub_kept base h e hub law next is no_subscriber no_connection = record {
       ap (λ b. numbers (option_to_list (hub_left h e hub).connection) ++ cond b (length h ∷ []) []) no_connection ∙
       append-nil (numbers (option_to_list (hub_left h e hub).connection)));
   ended = ended_left h e hub is;
-  latest = latest_left base h e hub law next is;
+  latest = latest_left law next is;
 }
 
 -- a hub that the event subscribes to
-pub hub_with_subscriber : (base : Kept) → (h : List Event) (place : Place) (g slot : ℕ) (hub : Hub) → IsLawful base h → MayFollow base h (Open place (Sub g)) →
+pub hub_with_subscriber : {base : Kept} → {h : List Event} (place : Place) (g slot : ℕ) (hub : Hub) → IsLawful base h → MayFollow base h (Open place (Sub g)) →
     IsHubOf h hub → hub.number ≡ g → IsHubOf (h ++ Open place (Sub g) ∷ []) (subscribed (next_key h slot) (hub_left h (Open place (Sub g)) hub))
-hub_with_subscriber base h place g slot hub law next is named =
+hub_with_subscriber {base} {h} place g slot hub law next is named =
     let e : Event = Open place (Sub g) in
     let key = next_key h slot in
     let own : is_subscriber_of hub.number e ≡ true = eq-eqb g hub.number (sym named) in
@@ -172,14 +172,14 @@ hub_with_subscriber base h place g slot hub law next is named =
           sym (subscribers_after base h e hub next is ∙ ap (λ b. numbers (hub_left h e hub).subscribers ++ cond b (length h ∷ []) []) own);
       connection = sym (connections_after base h e hub next is ∙ append-nil (numbers (option_to_list (hub_left h e hub).connection)));
       ended = ended_left h e hub is;
-      latest = latest_left base h e hub law next is;
+      latest = latest_left law next is;
     }
 
 -- a hub that the event connects
-pub hub_with_connection : (base : Kept) → (h : List Event) (g slot : ℕ) (hub : Hub) → IsLawful base h → MayFollow base h (Connect g) → IsHubOf h hub →
+pub hub_with_connection : {base : Kept} → (h : List Event) (g slot : ℕ) (hub : Hub) → IsLawful base h → MayFollow base h (Connect g) → IsHubOf h hub →
     hub.number ≡ g →
     IsHubOf (h ++ Connect g ∷ []) (connected (next_key h slot) (hub_left h (Connect g) hub))
-hub_with_connection base h g slot hub law next is named =
+hub_with_connection {base} h g slot hub law next is named =
     let e : Event = Connect g in
     let own : is_connect_of hub.number e ≡ true = eq-eqb g hub.number (sym named) in
     let none : open_connections h hub.number ≡ [] = ap (open_connections h) named ∙ may_connect base next in
@@ -190,5 +190,5 @@ hub_with_connection base h g slot hub law next is named =
       subscribers = sym (subscribers_after base h e hub next is ∙ append-nil (numbers (hub_left h e hub).subscribers));
       connection = sym (connections_after base h e hub next is ∙ (λ i. gone i ++ cond (own i) (length h ∷ []) []));
       ended = ended_left h e hub is;
-      latest = latest_left base h e hub law next is;
+      latest = latest_left law next is;
     }

@@ -7,12 +7,13 @@ use Rattle.rx_event.specs.Kept.{Kept}
 use Rattle.rx_event.specs.declared.event.Event.{Event}
 use Rattle.rx_event.specs.Events.{is_subscriber_of}
 use Rattle.rx_event.specs.Lawful.{IsLawful}
-use Rattle.rx_event.specs.Tree.{at, is_open, is_within}
+use Rattle.rx_event.specs.Tree.{at, is_open}
 use Rattle.rx_event.proofs.Laws.Hubs.{at_connect, hubs_in_order}
 use Rattle.rx_slots.specs.declared.Key.{Key}
 use Rattle.rx_tree.specs.Tree.{is_key, is_on}
 use Rattle.rx_hub.specs.Hubs.{Hub}
 use Rattle.rx_hub.specs.Records.{AreHubsOf}
+use Rattle.rx_hub.specs.Claims.{SubscribesInside}
 use Rattle.rx_hub.proofs.Laws.AfterLeft.{own_connection}
 use Rattle.rx_hub.proofs.Laws.AfterCases.{IsOpenAt, subscribers_open}
 
@@ -26,11 +27,12 @@ all_on P key (k ∷ keys) all on = by_place (all_on P key keys all.1) (or_cases 
   by_place rest (inr later) = rest later
 
 -- a subscriber inside a connection is of an earlier hub than that, so that no item goes round in a circle
-pub subscribers_earlier : (base : Kept) → (h : List Event) (hubs : List Hub) → IsLawful base h → AreHubsOf h hubs → (i j : ℕ) (outer inner : Hub) →
-    slice_get hubs i ≡ Some outer → slice_get hubs j ≡ Some inner → (c s : Key) → outer.connection ≡ Some c → is_on s inner.subscribers ≡ true →
-    is_within h c.number s.number ≡ true → inner.number < outer.number
-subscribers_earlier base h hubs law are i j outer inner at_i at_j c s connection on inside =
-    let connects = at_connect h outer.number c.number (own_connection h outer (are.each i outer at_i) c connection).0 in
-    let both = all_on (IsOpenAt h inner.number) s inner.subscribers (subscribers_open h inner (are.each j inner at_j)) on in
+pub subscribers_earlier : {base : Kept} {h : List Event} {hubs : List Hub} → IsLawful base h → AreHubsOf h hubs → (i j : ℕ) {outer inner : Hub} →
+    slice_get hubs i ≡ Some outer → slice_get hubs j ≡ Some inner → SubscribesInside h outer inner → inner.number < outer.number
+subscribers_earlier {h = h} law are i j {outer} {inner} at_i at_j x =
+    let c = x.connection in
+    let s = x.subscriber in
+    let connects = at_connect h outer.number c.number (own_connection h outer (are.each i outer at_i) c x.connects).0 in
+    let both = all_on (IsOpenAt h inner.number) s inner.subscribers (subscribers_open h inner (are.each j inner at_j)) x.subscribes in
     let subscribes = (and_parts (at (is_subscriber_of inner.number) h s.number) (is_open h s.number) both).0 in
-    hubs_in_order base h law inner.number s.number c.number outer.number subscribes inside connects
+    hubs_in_order law inner.number s.number c.number subscribes x.inside connects

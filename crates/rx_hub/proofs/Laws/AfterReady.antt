@@ -93,10 +93,10 @@ below_filtered n p (key ∷ keys) all = by_test (p key) (below_filtered n p keys
   by_test false rest = rest
 
 -- where an exchange closes nodes first, the hub is still there
-pub ready_to_exchange : (base : Kept) → (h : List Event) (place : Place) (g : ℕ) (hubs : List Hub) (gone : Key → Bool) (ended : Option LastEnd) →
+pub ready_to_exchange : {base : Kept} → (h : List Event) (place : Place) (g : ℕ) (hubs : List Hub) (gone : Key → Bool) (ended : Option LastEnd) →
     MayFollow base h (Open place (Sub g)) → AreHubsOf h hubs →
     (hub : Hub) × (find_hub (map (without_gone gone ended) hubs) g ≡ Some hub) × AreBelow (length h) hub.subscribers
-ready_to_exchange base h place g hubs gone ended next are =
+ready_to_exchange {base} h place g hubs gone ended next are =
     let own = ready_to_subscribe base h place g hubs next are in
     let found = find_mapped (without_gone gone ended) (without_number gone ended) hubs g own.0 own.1 in
     (without_gone gone ended own.0, found, by_test own.0 own.2 (option_map_or gone own.0.connection false)) where

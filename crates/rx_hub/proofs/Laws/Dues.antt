@@ -81,9 +81,9 @@ all_at P (y ∷ xs) (suc i) x all got = all_at P xs i x all.1 got
 passes_at : (p : ℕ → Bool) (xs : List ℕ) (i n : ℕ) → slice_get (filter p xs) i ≡ Some n → p n ≡ true
 passes_at p xs i n got = all_at (λ x. p x ≡ true) (filter p xs) i n (filtered p (λ x. p x ≡ true) (λ x e. e) xs) got
 
-any_filtered : (p q : ℕ → Bool) (s n k : ℕ) → s ≤ k → k < s + n → p k ≡ true → q k ≡ true → list_any q (filter p (range_with_len s n)) ≡ true
-any_filtered p q s zero k above below pk qk = absurd (omega arith)
-any_filtered p q s (suc n) k above below pk qk = by_place (any_filtered p q (s + 1) n k) (cases_order s k) where
+any_filtered : (p q : ℕ → Bool) (s n : ℕ) {k : ℕ} → s ≤ k → k < s + n → p k ≡ true → q k ≡ true → list_any q (filter p (range_with_len s n)) ≡ true
+any_filtered p q s zero above below pk qk = absurd (omega arith)
+any_filtered p q s (suc n) {k} above below pk qk = by_place (any_filtered p q (s + 1) n) (cases_order s k) where
   here : s ≡ k → (b : Bool) → p s ≡ b → list_any q (cond b (s ∷ filter p (range_with_len (s + 1) n)) (filter p (range_with_len (s + 1) n))) ≡ true
   here same true e = ap (λ t. t || list_any q (filter p (range_with_len (s + 1) n))) (ap q same ∙ qk)
   here same false e = absurd (true≢false (sym pk ∙ ap p (sym same) ∙ e))
@@ -100,9 +100,9 @@ any_filtered p q s (suc n) k above below pk qk = by_place (any_filtered p q (s +
   by_place rest (inr (inr l)) = absurd (omega arith)
 
 -- the first that is left is the least that passes
-first_least : (p : ℕ → Bool) (s n k x : ℕ) (rest : List ℕ) → s ≤ k → k < s + n → p k ≡ true → filter p (range_with_len s n) ≡ x ∷ rest → x ≤ k
-first_least p s zero k x rest above below pk is = absurd (omega arith)
-first_least p s (suc n) k x rest above below pk is = by_test (first_least p (s + 1) n k x rest) (p s) refl is where
+first_least : (p : ℕ → Bool) (s n : ℕ) {k x : ℕ} (rest : List ℕ) → s ≤ k → k < s + n → p k ≡ true → filter p (range_with_len s n) ≡ x ∷ rest → x ≤ k
+first_least p s zero rest above below pk is = absurd (omega arith)
+first_least p s (suc n) {k} {x} rest above below pk is = by_test (first_least p (s + 1) n rest) (p s) refl is where
   head_same : (a b : ℕ) (xs ys : List ℕ) → a ∷ xs ≡ b ∷ ys → a ≡ b
   head_same a b xs ys e = ap (λ (zs : List ℕ). first a zs) e where
     first : ℕ → List ℕ → ℕ
@@ -187,7 +187,7 @@ hub_waits h hub is d =
     let stays : stays_at hub.last_end s ≡ true = uncut hub.last_end refl in
     let any : list_any (λ key. not (is_cut hub.last_end key)) hub.subscribers ≡ true =
     stays_numbers hub.last_end hub.subscribers ∙ ap (list_any (stays_at hub.last_end)) is.subscribers ∙
-    any_filtered (opens h hub.number) (stays_at hub.last_end) 0 (length h) s (omega arith) (omega (arith, inside)) passes stays in
+    any_filtered (opens h hub.number) (stays_at hub.last_end) 0 (length h) (omega arith) (omega (arith, inside)) passes stays in
     let auto : is_auto hub.mode ≡ true = sym (auto_same h hub is) ∙ d.auto in
     let unconnected = no_connection hub.connection (is.connection ∙ d.unconnected) in
     both_hold (is_auto hub.mode && is_none hub.connection) (list_any (λ key. not (is_cut hub.last_end key)) hub.subscribers)
@@ -326,17 +326,17 @@ none_cut h hubs are quiet n t o ended =
     let is = are.each has.index hub has.there in
     let subscribes : at (is_subscriber_of hub.number) h n ≡ true = subst (λ g. at (is_subscriber_of g) h n ≡ true) (sym has.numbered) ended.subscribes in
     let passes : opens h hub.number n ≡ true = both_hold (at (is_subscriber_of hub.number) h n) (is_open h n) subscribes o in
-    by_lists hub is subscribes passes (is_open_within h n o) (quiet.quiet has.index hub has.there) hub.subscribers refl hub.last_end refl
+    by_lists is subscribes passes (is_open_within h n o) (quiet.quiet has.index hub has.there) refl refl
     (is.latest ended.connection ended.place t (ended.connects ∙ ap (λ g. Some (Connect g)) (sym has.numbered)) ended.ended)
   where
-    by_lists : (hub : Hub) → IsHubOf h hub → at (is_subscriber_of hub.number) h n ≡ true → opens h hub.number n ≡ true → n < length h → due_of hub ≡ None →
-        (ks : List Key) → hub.subscribers ≡ ks → (last : Option LastEnd) → hub.last_end ≡ last → IsUpTo ended.place last → ⊥
-    by_lists hub is subscribes passes inside none ks some None l up = up
-    by_lists hub is subscribes passes inside none [] some (Some x) l up =
+    by_lists : {hub : Hub} → IsHubOf h hub → at (is_subscriber_of hub.number) h n ≡ true → opens h hub.number n ≡ true → n < length h → due_of hub ≡ None →
+        {ks : List Key} → hub.subscribers ≡ ks → {last : Option LastEnd} → hub.last_end ≡ last → IsUpTo ended.place last → ⊥
+    by_lists is subscribes passes inside none some {last = None} l up = up
+    by_lists {hub} is subscribes passes inside none {ks = []} some {last = Some x} l up =
         filter_nonempty (opens h hub.number) 0 (length h) n (omega arith) (omega (arith, inside)) passes (sym is.subscribers ∙ ap numbers some)
-    by_lists hub is subscribes passes inside none (k ∷ ks) some (Some x) l up =
+    by_lists {hub} is subscribes passes inside none {ks = k ∷ ks} some {last = Some x} l up =
         let least =
-        first_least (opens h hub.number) 0 (length h) n k.number (numbers ks) (omega arith) (omega (arith, inside)) passes
+        first_least (opens h hub.number) 0 (length h) (numbers ks) (omega arith) (omega (arith, inside)) passes
         (sym is.subscribers ∙ ap numbers some) in
         let later = ended.later in
         true≢false (sym (of_lt k.number x.place (omega (arith, least, later, up))) ∙ quiet_first hub k ks x some l none)
@@ -351,19 +351,19 @@ none_left base h hubs are quiet c (left {g = g} o at_c auto none) =
     let at_own : at (is_connect_of hub.number) h c ≡ true =
     ap (λ (o : Option Event). option_map_or (is_connect_of hub.number) o false) (at_c ∙ ap (λ k. Some (Connect k)) (sym has.numbered)) ∙ own hub.number in
     let passes : (at (is_connect_of hub.number) h c && is_open h c) ≡ true = both_hold (at (is_connect_of hub.number) h c) (is_open h c) at_own o in
-    by_connection hub is (is_open_within h c o) passes is_auto_mode hub.subscribers refl empty hub.connection refl (quiet.quiet has.index hub has.there)
+    by_connection is (is_open_within h c o) passes is_auto_mode refl empty refl (quiet.quiet has.index hub has.there)
   where
     own : (k : ℕ) → (k == k) ≡ true
     own k = grind (arith, nat_tests)
 
-    by_connection : (hub : Hub) → IsHubOf h hub → c < length h → (at (is_connect_of hub.number) h c && is_open h c) ≡ true → is_auto hub.mode ≡ true →
-        (ks : List Key) → hub.subscribers ≡ ks → numbers ks ≡ [] → (o : Option Key) → hub.connection ≡ o → due_of hub ≡ None → ⊥
-    by_connection hub is inside passes auto_mode (k ∷ ks) some empty connection has quiet_hub =
+    by_connection : {hub : Hub} → IsHubOf h hub → c < length h → (at (is_connect_of hub.number) h c && is_open h c) ≡ true → is_auto hub.mode ≡ true →
+        {ks : List Key} → hub.subscribers ≡ ks → numbers ks ≡ [] → {o : Option Key} → hub.connection ≡ o → due_of hub ≡ None → ⊥
+    by_connection is inside passes auto_mode {ks = k ∷ ks} some empty {o = connection} has quiet_hub =
         let long : suc (length (numbers ks)) ≡ 0 = ap length empty in omega (arith, long)
-    by_connection hub is inside passes auto_mode [] some empty None has quiet_hub =
+    by_connection {hub} is inside passes auto_mode {ks = []} some empty {o = None} has quiet_hub =
         filter_nonempty (λ n. at (is_connect_of hub.number) h n && is_open h n) 0 (length h) c (omega arith) (omega (arith, inside)) passes
         (sym is.connection ∙ ap (λ (x : Option Key). numbers (option_to_list x)) has)
-    by_connection hub is inside passes auto_mode [] some empty (Some k) has quiet_hub =
+    by_connection {hub} is inside passes auto_mode {ks = []} some empty {o = Some k} has quiet_hub =
         none-some (CloseDue k) (sym (sym (no_cut hub.last_end) ∙
         (λ i. option_or (cut_of hub.last_end (sym some i)) (left_of (sym auto_mode i) (sym has i) (sym some i))) ∙
         quiet_hub))

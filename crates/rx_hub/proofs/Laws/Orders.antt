@@ -33,11 +33,11 @@ use Rattle.rx_hub.specs.Route.{ReachesFrom, IsOrdered}
 use Rattle.rx_hub.proofs.Laws.Walks.{found_hub}
 
 -- the node above one is its parent in the history
-parent_above : (base : Kept) → (h : List Event) (nodes : Slots Node) (hubs : List Hub) → IsWalk base h nodes hubs → (key up : Key) (node : Node) →
+parent_above : {base : Kept} → {h : List Event} (nodes : Slots Node) (hubs : List Hub) → IsWalk base h nodes hubs → (key up : Key) (node : Node) →
     find nodes key ≡ Some node →
     node.above ≡ Some up → parent h key.number ≡ Some up.number
 unfolding parent
-parent_above base h nodes hubs w key up node found above =
+parent_above nodes hubs w key up node found above =
     let placed = w.sound.placed key node found in
     let lower : up.number < key.number = below node.above above placed.lower in
     let test : (if_less key.number up.number) ≡ Some up.number = grind (arith, nat_tests, lower) in
@@ -49,11 +49,11 @@ parent_above base h nodes hubs w key up node found above =
     below (Some k) some lower = subst (λ (x : Key). x.number < key.number) (same_Some k up some) lower
 
 -- a connection that an item gets to stands above the node
-way_within_connection : (base : Kept) → (h : List Event) (nodes : Slots Node) (hubs : List Hub) → IsWalk base h nodes hubs → (c : Key) (left : ℕ) (key : Key) →
+way_within_connection : {base : Kept} → {h : List Event} (nodes : Slots Node) (hubs : List Hub) → IsWalk base h nodes hubs → (c : Key) (left : ℕ) (key : Key) →
     IsSome (find nodes key) → end_of nodes (way_within left nodes key) ≡ Some (Connection c) → is_within h c.number key.number ≡ true
-way_within_connection base h nodes hubs w c zero key there ends = absurd (none-some (Connection c) ends)
-way_within_connection base h nodes hubs w c (suc left) key there ends =
-    by_stop (stop_of nodes key) refl (above_of nodes key) refl ends (way_within_connection base h nodes hubs w c left) where
+way_within_connection nodes hubs w c zero key there ends = absurd (none-some (Connection c) ends)
+way_within_connection {base} {h} nodes hubs w c (suc left) key there ends =
+    by_stop (stop_of nodes key) refl (above_of nodes key) refl ends (way_within_connection nodes hubs w c left) where
       own : (node : Node) × (find nodes key ≡ Some node)
       own = some_of (find nodes key) there
 
@@ -68,7 +68,7 @@ way_within_connection base h nodes hubs w c (suc left) key there ends =
       by_stop None stop None at ends later = absurd (none-some (Connection c) ends)
       by_stop None stop (Some up) at ends later =
           within_parent h c.number key.number up.number
-          (parent_above base h nodes hubs w key up own.0 own.1 (sym (ap (option_and_then (λ (node : Node). node.above)) own.1) ∙ at))
+          (parent_above nodes hubs w key up own.0 own.1 (sym (ap (option_and_then (λ (node : Node). node.above)) own.1) ∙ at))
           (later up (above_found nodes key up w.sound at) ends)
 
 -- the event of a node's record is that of the history
@@ -95,7 +95,7 @@ IsOrdered-walk base h nodes hubs law w = record { found = w.found; later = later
 
   reaches : (g : ℕ) (key : Key) → at (is_subscriber_of g) h key.number ≡ true → IsSome (find nodes key) → ReachesFrom nodes (suc g) key
   reaches g key is there c k ends made =
-      let order = hubs_in_order base h law g key.number c.number k is (way_within_connection base h nodes hubs w c (suc most_visits) key there ends)
+      let order = hubs_in_order law g key.number c.number is (way_within_connection nodes hubs w c (suc most_visits) key there ends)
       (made_told base h nodes hubs w c (Connect k) made) in
       omega (arith, order)
 

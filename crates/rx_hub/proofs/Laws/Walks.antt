@@ -98,7 +98,7 @@ onward_told base h nodes hubs w key there = by_stop (stop_of nodes key) refl whe
 
   at_stop : (s : Stop) → stop_of nodes key ≡ Some s →
       onward h key.number ≡ onward_unless (option_and_then numbered (Some s)) (option_map_or (onward_from h key.number) (slice_get h key.number) [])
-  at_stop s stop = onward_at base h nodes (told base w) key own.0 own.1 (Some s) stop
+  at_stop s stop = onward_at h nodes (told base w) key own.0 own.1 (Some s) stop
 
   to_parent : (o : Option Key) → above_of nodes key ≡ o → AreFound nodes (option_to_list o)
   to_parent None above = tt

@@ -22,9 +22,9 @@ use Rattle.rx_register.proofs.Laws.Paid.{call_pays}
 
 pub call_follows : (base : Kept) → (h : List Event) (limit : ℕ) (fresh : Bool) (call : Call) → MayCall base h limit fresh call →
     MayFollowInTurn base h (outside_of h call)
-call_follows base h limit fresh (Opening place kind) m = (opening_follows base h limit fresh place kind m.lawful m.settled m.no_cause, tt)
+call_follows base h limit fresh (Opening place kind) m = (opening_follows h limit fresh place kind m.lawful m.settled m.no_cause, tt)
 call_follows base h limit fresh (OpeningUsing place tag) m =
-    let next : MayFollow base h (Open place Pass) = using_follows base h limit fresh place tag m.lawful m.settled m.no_cause in
+    let next : MayFollow base h (Open place Pass) = using_follows h limit fresh place tag m.lawful m.settled m.no_cause in
     (next, (accepting_follows base h place tag next, tt))
 call_follows base h limit fresh (Holding n tag) m = (holding_follows base h limit fresh n tag m.settled m.no_cause, tt)
 call_follows base h limit fresh (Applying r) m = (applying_follows base h limit fresh r m.settled m.no_cause, tt)

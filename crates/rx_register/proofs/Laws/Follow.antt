@@ -112,13 +112,13 @@ may_open base h place kind m = allowed m.settled (opened m.free m.hubbed few als
 
   also : (g : ℕ) → IsConnectDue (h ++ Open place kind ∷ []) g → length (open_nodes h) + 2 ≤ most_nodes
   also g d =
-      let made : nodes_opened h kind ≡ 2 = ap (λ (b : Bool). 1 + cond b 1 0) (opening_connects base h place kind g m.lawful m.settled m.hubbed d) in
+      let made : nodes_opened h kind ≡ 2 = ap (λ (b : Bool). 1 + cond b 1 0) (opening_connects h place kind g m.lawful m.settled m.hubbed d) in
       let f = m.few in
       omega (arith, count)
 
-pub opening_follows : (base : Kept) → (h : List Event) (limit : ℕ) (is_fresh : Bool) (place : Place) (kind : Kind) → IsLawful base h → IsSettled base h →
+pub opening_follows : {base : Kept} → (h : List Event) (limit : ℕ) (is_fresh : Bool) (place : Place) (kind : Kind) → IsLawful base h → IsSettled base h →
     first_cause (causes base h limit is_fresh (Opening place kind)) ≡ None → MayFollow base h (Open place kind)
-opening_follows base h limit is_fresh place kind law settled none = may_open base h place kind (record {
+opening_follows {base} h limit is_fresh place kind law settled none = may_open base h place kind (record {
   lawful = law;
   settled = settled;
   free = free_where base h place (clear Gone) (clear WrongKind) (clear PlaceTaken) (clear NothingOwed);
@@ -129,9 +129,9 @@ opening_follows base h limit is_fresh place kind law settled none = may_open bas
     clear : (why : Refusal) → opening_causes base h limit place kind why ≡ false
     clear why = no_cause (opening_causes base h limit place kind) none why
 
-pub using_follows : (base : Kept) → (h : List Event) (limit : ℕ) (is_fresh : Bool) (place : Place) (tag : ℕ) → IsLawful base h → IsSettled base h →
+pub using_follows : {base : Kept} → (h : List Event) (limit : ℕ) (is_fresh : Bool) (place : Place) (tag : ℕ) → IsLawful base h → IsSettled base h →
     first_cause (causes base h limit is_fresh (OpeningUsing place tag)) ≡ None → MayFollow base h (Open place Pass)
-using_follows base h limit is_fresh place tag law settled none = may_open base h place Pass (record {
+using_follows {base} h limit is_fresh place tag law settled none = may_open base h place Pass (record {
   lawful = law;
   settled = settled;
   free = free_where base h place (clear Gone) (clear WrongKind) (clear PlaceTaken) (clear NothingOwed);

@@ -72,24 +72,24 @@ still_connected h place kind g none = by_test (cases_Bool (has_connection h g)) 
       (and_from _ _ later (still_open h place kind c g parts.0 parts.1)) none)
 
 -- an opening after which a hub waits is one that forces a connection
-pub opening_connects : (base : Kept) → (h : List Event) (place : Place) (kind : Kind) (g : ℕ) → IsLawful base h → IsSettled base h → IsHubbed h place kind →
+pub opening_connects : {base : Kept} → (h : List Event) (place : Place) (kind : Kind) (g : ℕ) → IsLawful base h → IsSettled base h → IsHubbed h place kind →
     IsConnectDue (h ++ Open place kind ∷ []) g → forces_connect h kind ≡ true
-opening_connects base h place (Sub k) g law settled hubbed d =
+opening_connects {base} h place (Sub k) g law settled hubbed d =
     let same : g ≡ k = kept_subscribed base h place k law (settled_connected base h settled) g d in
     let later : at is_auto_hub (h ++ Open place (Sub k) ∷ []) k ≡ true = ap (at is_auto_hub (h ++ Open place (Sub k) ∷ [])) (sym same) ∙ d.auto in
     let auto : at is_auto_hub h k ≡ true = sym (at-append is_auto_hub h (Open place (Sub k) ∷ []) k (at_within makes_hub h k hubbed.0)) ∙ later in
     let unconnected : open_connections (h ++ Open place (Sub k) ∷ []) k ≡ [] =
     ap (open_connections (h ++ Open place (Sub k) ∷ [])) (sym same) ∙ d.unconnected in
     and_from _ _ auto (not_from_false (has_connection h k) (still_connected h place (Sub k) k unconnected))
-opening_connects base h place Leaf g law settled hubbed d =
+opening_connects {base} h place Leaf g law settled hubbed d =
     absurd (kept_unsubscribed base h (Open place Leaf) law (settled_connected base h settled) refl refl g d)
-opening_connects base h place Pass g law settled hubbed d =
+opening_connects {base} h place Pass g law settled hubbed d =
     absurd (kept_unsubscribed base h (Open place Pass) law (settled_connected base h settled) refl refl g d)
-opening_connects base h place Flat g law settled hubbed d =
+opening_connects {base} h place Flat g law settled hubbed d =
     absurd (kept_unsubscribed base h (Open place Flat) law (settled_connected base h settled) refl refl g d)
-opening_connects base h place Switch g law settled hubbed d =
+opening_connects {base} h place Switch g law settled hubbed d =
     absurd (kept_unsubscribed base h (Open place Switch) law (settled_connected base h settled) refl refl g d)
-opening_connects base h place Until g law settled hubbed d =
+opening_connects {base} h place Until g law settled hubbed d =
     absurd (kept_unsubscribed base h (Open place Until) law (settled_connected base h settled) refl refl g d)
 
 -- so many hubs wait after an opening: one where it forces a connection, else none
@@ -109,4 +109,4 @@ opening_waits base h place kind law settled hubbed = by_test (forces_connect h k
 
   by_test : (b : Bool) → forces_connect h kind ≡ b → MayWait (h ++ Open place kind ∷ []) (cond b 1 0)
   by_test true forced = one kind refl forced
-  by_test false quiet = none_waits (λ g d. false≢true (sym quiet ∙ opening_connects base h place kind g law settled hubbed d))
+  by_test false quiet = none_waits (λ g d. false≢true (sym quiet ∙ opening_connects h place kind g law settled hubbed d))

@@ -222,127 +222,104 @@ module _ (base : Kept) (r s : ℕ → ℕ) (h c : List Event) (a : AreSameBy bas
           by_cause TooMany = crowded_same 1 1 refl
           by_cause _ = refl
 
-  -- a row of a call at one node: a closed node is gone in both
-  at_node : (n : ℕ) → at makes_node h n ≡ true → (p q : Refusal → Bool) → p NoHub ≡ false → q NoHub ≡ false → p Gone ≡ not (is_open c (r n)) →
-      q Gone ≡ not (is_open h n) →
-      (is_open h n ≡ true → (why : Refusal) → p why ≡ q why) → first_cause p ≡ first_cause q
-  at_node n node p q no_hub also gone gone_too rest = by_open (cases_Bool (is_open h n)) where
-    by_open : (is_open h n ≡ true) ⊎ (is_open h n ≡ false) → first_cause p ≡ first_cause q
-    by_open (inl o) = same_first p q (rest o)
-    by_open (inr closed) = gone_first p q (no_hub ∙ sym also) (gone ∙ ap not (seen.same_open n node ∙ closed)) (gone_too ∙ ap not closed)
+  -- what stands against a call at its new numbers, and what against the call as it is
+  module _ (l m : ℕ) (fresh : Bool) where
+    abbrev Here : Call → Refusal → Bool
+    Here call = unlimited (causes base c l fresh (call_by r call))
 
-  -- The same cause comes first against a call
-  pub same_cause : (l m : ℕ) (fresh : Bool) (call : Call) → NamesKnown h call →
-      first_cause (unlimited (causes base c l fresh (call_by r call))) ≡ first_cause (unlimited (causes base h m fresh call))
-  same_cause l m fresh (Opening place kind) known = opening_same l m place kind known.0 known.1
-  same_cause l m fresh (OpeningUsing place tag) known = using_same l m fresh place tag known
-  same_cause l m fresh (Holding n tag) known =
-      at_node n known (unlimited (causes base c l fresh (Holding (r n) tag)))
-      (unlimited (causes base h m fresh (Holding n tag))) refl refl refl refl by_cause where
-        by_cause : is_open h n ≡ true → (why : Refusal) → unlimited (causes base c l fresh (Holding (r n) tag)) why ≡
-            unlimited (causes base h m fresh (Holding n tag)) why
-        by_cause o Gone = ap not (seen.same_open n known)
-        by_cause o _ = refl
-  same_cause l m fresh (Applying q) known = same_first (unlimited (causes base c l fresh (Applying (r q))))
-      (unlimited (causes base h m fresh (Applying q))) by_cause where
-        by_cause : (why : Refusal) → unlimited (causes base c l fresh (Applying (r q))) why ≡ unlimited (causes base h m fresh (Applying q)) why
-        by_cause NotHeld = ap not (seen.held q known)
-        by_cause _ = refl
-  same_cause l m fresh (Removing q) known = same_first (unlimited (causes base c l fresh (Removing (r q))))
-      (unlimited (causes base h m fresh (Removing q))) by_cause where
-        by_cause : (why : Refusal) → unlimited (causes base c l fresh (Removing (r q))) why ≡ unlimited (causes base h m fresh (Removing q)) why
-        by_cause NotHeld = ap not (seen.held q known)
-        by_cause Leased = ap not (seen.owned q known)
-        by_cause _ = refl
-  same_cause l m fresh (Leasing q) known = same_first (unlimited (causes base c l fresh (Leasing (r q))))
-      (unlimited (causes base h m fresh (Leasing q))) by_cause where
-        by_cause : (why : Refusal) → unlimited (causes base c l fresh (Leasing (r q))) why ≡ unlimited (causes base h m fresh (Leasing q)) why
-        by_cause NotHeld = ap not (seen.held q known)
-        by_cause Leased = ap not (seen.owned q known)
-        by_cause _ = refl
-  same_cause l m fresh (GivingBack lease) known = same_first (unlimited (causes base c l fresh (GivingBack (r lease))))
-      (unlimited (causes base h m fresh (GivingBack lease))) by_cause where
-        by_cause : (why : Refusal) → unlimited (causes base c l fresh (GivingBack (r lease))) why ≡
-            unlimited (causes base h m fresh (GivingBack lease)) why
-        by_cause NoLease = ap not (seen.out lease known)
-        by_cause _ = refl
-  same_cause l m fresh (Emitting leaf v) known =
-      at_node leaf known (unlimited (causes base c l fresh (Emitting (r leaf) v)))
-      (unlimited (causes base h m fresh (Emitting leaf v))) refl refl refl refl by_cause where
-        by_cause : is_open h leaf ≡ true → (why : Refusal) → unlimited (causes base c l fresh (Emitting (r leaf) v)) why ≡
-            unlimited (causes base h m fresh (Emitting leaf v)) why
-        by_cause o Gone = ap not (seen.same_open leaf known)
-        by_cause o WrongKind = ap not (seen.leaves leaf o)
-        by_cause o TooMany = ap (λ (n : ℕ). nat_lt most_visits n) (seen.same_visits leaf o)
-        by_cause o _ = refl
-  same_cause l m fresh (Ending leaf t) known =
-      at_node leaf known (unlimited (causes base c l fresh (Ending (r leaf) t)))
-      (unlimited (causes base h m fresh (Ending leaf t))) refl refl refl refl by_cause where
-        by_cause : is_open h leaf ≡ true → (why : Refusal) → unlimited (causes base c l fresh (Ending (r leaf) t)) why ≡
-            unlimited (causes base h m fresh (Ending leaf t)) why
-        by_cause o Gone = ap not (seen.same_open leaf known)
-        by_cause o WrongKind = ap not (seen.leaves leaf o)
-        by_cause o _ = refl
-  same_cause l m fresh (Aborting n code) known =
-      at_node n known (unlimited (causes base c l fresh (Aborting (r n) code)))
-      (unlimited (causes base h m fresh (Aborting n code))) refl refl refl refl by_cause where
-        by_cause : is_open h n ≡ true → (why : Refusal) → unlimited (causes base c l fresh (Aborting (r n) code)) why ≡
-            unlimited (causes base h m fresh (Aborting n code)) why
-        by_cause o Gone = ap not (seen.same_open n known)
-        by_cause o WrongKind = ap not (seen.aborted n o)
-        by_cause o HasChild = seen.children n o
-        by_cause o _ = refl
-  same_cause l m fresh (Declining f) known =
-      at_node f known (unlimited (causes base c l fresh (Declining (r f))))
-      (unlimited (causes base h m fresh (Declining f))) refl refl refl refl by_cause where
-        by_cause : is_open h f ≡ true → (why : Refusal) → unlimited (causes base c l fresh (Declining (r f))) why ≡
-            unlimited (causes base h m fresh (Declining f)) why
-        by_cause o Gone = ap not (seen.same_open f known)
-        by_cause o WrongKind = ap not (seen.merging f o)
-        by_cause o NothingOwed = ap (λ n. n == 0) (seen.same_owed f o)
-        by_cause o _ = refl
-  same_cause l m fresh (Failing f code) known =
-      at_node f known (unlimited (causes base c l fresh (Failing (r f) code)))
-      (unlimited (causes base h m fresh (Failing f code))) refl refl refl refl by_cause where
-        by_cause : is_open h f ≡ true → (why : Refusal) → unlimited (causes base c l fresh (Failing (r f) code)) why ≡
-            unlimited (causes base h m fresh (Failing f code)) why
-        by_cause o Gone = ap not (seen.same_open f known)
-        by_cause o WrongKind = ap not (seen.merging f o)
-        by_cause o NothingOwed = ap (λ n. n == 0) (seen.same_owed f o)
-        by_cause o _ = refl
-  same_cause l m fresh (Disposing n) known =
-      at_node n known (unlimited (causes base c l fresh (Disposing (r n))))
-      (unlimited (causes base h m fresh (Disposing n))) refl refl refl refl by_cause where
-        by_cause : is_open h n ≡ true → (why : Refusal) → unlimited (causes base c l fresh (Disposing (r n))) why ≡
-            unlimited (causes base h m fresh (Disposing n)) why
-        by_cause o Gone = ap not (seen.same_open n known)
-        by_cause o NotRoot = ap not (seen.roots n o)
-        by_cause o _ = refl
-  same_cause l m fresh (Publishing mode) known = same_first (unlimited (causes base c l fresh (Publishing mode)))
-      (unlimited (causes base h m fresh (Publishing mode))) by_cause where
-        by_cause : (why : Refusal) → unlimited (causes base c l fresh (Publishing mode)) why ≡ unlimited (causes base h m fresh (Publishing mode)) why
-        by_cause TooMany = ap (λ (n : ℕ). nat_lt most_hubs (n + 1)) seen.hub_total
-        by_cause _ = refl
-  same_cause l m fresh (Connecting g) known = same_first (unlimited (causes base c l fresh (Connecting (r g))))
-      (unlimited (causes base h m fresh (Connecting g))) by_cause where
-        by_cause : (why : Refusal) → unlimited (causes base c l fresh (Connecting (r g))) why ≡ unlimited (causes base h m fresh (Connecting g)) why
-        by_cause NoHub = ap not (seen.hub_there g known ∙ sym known)
-        by_cause WrongKind = ap not (seen.manuals g known)
-        by_cause Connected = connection_same g known
-        by_cause TooMany = crowded_same 1 1 refl
-        by_cause _ = refl
-  same_cause l m fresh (Disconnecting g) known = same_first (unlimited (causes base c l fresh (Disconnecting (r g))))
-      (unlimited (causes base h m fresh (Disconnecting g))) by_cause where
-        by_cause : (why : Refusal) → unlimited (causes base c l fresh (Disconnecting (r g))) why ≡ unlimited (causes base h m fresh (Disconnecting g)) why
-        by_cause NoHub = ap not (seen.hub_there g known ∙ sym known)
-        by_cause WrongKind = ap not (seen.manuals g known)
-        by_cause NotConnected = ap not (connection_same g known)
-        by_cause _ = refl
-  same_cause l m fresh (Taking q) known = same_first (unlimited (causes base c l fresh (Taking (r q))))
-      (unlimited (causes base h m fresh (Taking q))) (λ why. by_cause why) where
-        by_cause : (why : Refusal) → unlimited (causes base c l fresh (Taking (r q))) why ≡ unlimited (causes base h m fresh (Taking q)) why
-        by_cause Full = refl
-        by_cause _ = refl
+    abbrev There : Call → Refusal → Bool
+    There call = unlimited (causes base h m fresh call)
+
+    -- a call at one node: a closed node is gone in both
+    at_node : (n : ℕ) → at makes_node h n ≡ true → (call : Call) → Here call NoHub ≡ There call NoHub → Here call Gone ≡ not (is_open c (r n)) →
+        There call Gone ≡ not (is_open h n) →
+        (is_open h n ≡ true → (why : Refusal) → Here call why ≡ There call why) → first_cause (Here call) ≡ first_cause (There call)
+    at_node n node call no_hub gone gone_too rest = by_open (cases_Bool (is_open h n)) where
+      by_open : (is_open h n ≡ true) ⊎ (is_open h n ≡ false) → first_cause (Here call) ≡ first_cause (There call)
+      by_open (inl o) = same_first (Here call) (There call) (rest o)
+      by_open (inr closed) = gone_first (Here call) (There call) no_hub (gone ∙ ap not (seen.same_open n node ∙ closed)) (gone_too ∙ ap not closed)
+
+    -- The same cause comes first against a call
+    pub same_cause : (call : Call) → NamesKnown h call → first_cause (Here call) ≡ first_cause (There call)
+    same_cause (Opening place kind) known = opening_same l m place kind known.0 known.1
+    same_cause (OpeningUsing place tag) known = using_same l m fresh place tag known
+    same_cause (Holding n tag) known = at_node n known (Holding n tag) refl refl refl by_cause where
+      by_cause : is_open h n ≡ true → (why : Refusal) → Here (Holding n tag) why ≡ There (Holding n tag) why
+      by_cause o Gone = ap not (seen.same_open n known)
+      by_cause o _ = refl
+    same_cause (Applying q) known = same_first (Here (Applying q)) (There (Applying q)) by_cause where
+      by_cause : (why : Refusal) → Here (Applying q) why ≡ There (Applying q) why
+      by_cause NotHeld = ap not (seen.held q known)
+      by_cause _ = refl
+    same_cause (Removing q) known = same_first (Here (Removing q)) (There (Removing q)) by_cause where
+      by_cause : (why : Refusal) → Here (Removing q) why ≡ There (Removing q) why
+      by_cause NotHeld = ap not (seen.held q known)
+      by_cause Leased = ap not (seen.owned q known)
+      by_cause _ = refl
+    same_cause (Leasing q) known = same_first (Here (Leasing q)) (There (Leasing q)) by_cause where
+      by_cause : (why : Refusal) → Here (Leasing q) why ≡ There (Leasing q) why
+      by_cause NotHeld = ap not (seen.held q known)
+      by_cause Leased = ap not (seen.owned q known)
+      by_cause _ = refl
+    same_cause (GivingBack lease) known = same_first (Here (GivingBack lease)) (There (GivingBack lease)) by_cause where
+      by_cause : (why : Refusal) → Here (GivingBack lease) why ≡ There (GivingBack lease) why
+      by_cause NoLease = ap not (seen.out lease known)
+      by_cause _ = refl
+    same_cause (Emitting leaf v) known = at_node leaf known (Emitting leaf v) refl refl refl by_cause where
+      by_cause : is_open h leaf ≡ true → (why : Refusal) → Here (Emitting leaf v) why ≡ There (Emitting leaf v) why
+      by_cause o Gone = ap not (seen.same_open leaf known)
+      by_cause o WrongKind = ap not (seen.leaves leaf o)
+      by_cause o TooMany = ap (λ (n : ℕ). nat_lt most_visits n) (seen.same_visits leaf o)
+      by_cause o _ = refl
+    same_cause (Ending leaf t) known = at_node leaf known (Ending leaf t) refl refl refl by_cause where
+      by_cause : is_open h leaf ≡ true → (why : Refusal) → Here (Ending leaf t) why ≡ There (Ending leaf t) why
+      by_cause o Gone = ap not (seen.same_open leaf known)
+      by_cause o WrongKind = ap not (seen.leaves leaf o)
+      by_cause o _ = refl
+    same_cause (Aborting n code) known = at_node n known (Aborting n code) refl refl refl by_cause where
+      by_cause : is_open h n ≡ true → (why : Refusal) → Here (Aborting n code) why ≡ There (Aborting n code) why
+      by_cause o Gone = ap not (seen.same_open n known)
+      by_cause o WrongKind = ap not (seen.aborted n o)
+      by_cause o HasChild = seen.children n o
+      by_cause o _ = refl
+    same_cause (Declining f) known = at_node f known (Declining f) refl refl refl by_cause where
+      by_cause : is_open h f ≡ true → (why : Refusal) → Here (Declining f) why ≡ There (Declining f) why
+      by_cause o Gone = ap not (seen.same_open f known)
+      by_cause o WrongKind = ap not (seen.merging f o)
+      by_cause o NothingOwed = ap (λ n. n == 0) (seen.same_owed f o)
+      by_cause o _ = refl
+    same_cause (Failing f code) known = at_node f known (Failing f code) refl refl refl by_cause where
+      by_cause : is_open h f ≡ true → (why : Refusal) → Here (Failing f code) why ≡ There (Failing f code) why
+      by_cause o Gone = ap not (seen.same_open f known)
+      by_cause o WrongKind = ap not (seen.merging f o)
+      by_cause o NothingOwed = ap (λ n. n == 0) (seen.same_owed f o)
+      by_cause o _ = refl
+    same_cause (Disposing n) known = at_node n known (Disposing n) refl refl refl by_cause where
+      by_cause : is_open h n ≡ true → (why : Refusal) → Here (Disposing n) why ≡ There (Disposing n) why
+      by_cause o Gone = ap not (seen.same_open n known)
+      by_cause o NotRoot = ap not (seen.roots n o)
+      by_cause o _ = refl
+    same_cause (Publishing mode) known = same_first (Here (Publishing mode)) (There (Publishing mode)) by_cause where
+      by_cause : (why : Refusal) → Here (Publishing mode) why ≡ There (Publishing mode) why
+      by_cause TooMany = ap (λ (n : ℕ). nat_lt most_hubs (n + 1)) seen.hub_total
+      by_cause _ = refl
+    same_cause (Connecting g) known = same_first (Here (Connecting g)) (There (Connecting g)) by_cause where
+      by_cause : (why : Refusal) → Here (Connecting g) why ≡ There (Connecting g) why
+      by_cause NoHub = ap not (seen.hub_there g known ∙ sym known)
+      by_cause WrongKind = ap not (seen.manuals g known)
+      by_cause Connected = connection_same g known
+      by_cause TooMany = crowded_same 1 1 refl
+      by_cause _ = refl
+    same_cause (Disconnecting g) known = same_first (Here (Disconnecting g)) (There (Disconnecting g)) by_cause where
+      by_cause : (why : Refusal) → Here (Disconnecting g) why ≡ There (Disconnecting g) why
+      by_cause NoHub = ap not (seen.hub_there g known ∙ sym known)
+      by_cause WrongKind = ap not (seen.manuals g known)
+      by_cause NotConnected = ap not (connection_same g known)
+      by_cause _ = refl
+    same_cause (Taking q) known = same_first (Here (Taking q)) (There (Taking q)) (λ why. by_cause why) where
+      by_cause : (why : Refusal) → Here (Taking q) why ≡ There (Taking q) why
+      by_cause Full = refl
+      by_cause _ = refl
 
 -- a call that is not refused for want of room is answered as in a history that is never full
 pub never_full : (stands : Refusal → Bool) (whys : List Refusal) → (first_of_these stands whys ≡ Some Full → ⊥) →

@@ -20,7 +20,7 @@ loop-at-preserved g c =
     let free : stop_of c.args.tree.now.nodes c.loop-at.at ≡ None = sym c.loop-at.invariant.1 ∙ none in
     let few : c.loop-at.reached.visits ≤ 1048576 = c.if-reached-le-MOST_VISITS.true in
     let limit = limit_is in
-    let further = one_further c.args.tree.now.nodes c.args.node c.loop-at.at c.in-Some.next c.loop-at.reached.visits c.loop-at.invariant.0 in
+    let further = one_further c.args.node c.loop-at.at c.in-Some.next c.loop-at.reached.visits c.loop-at.invariant.0 in
     (further (omega arith) free (sym c.above.ensures ∙ c.in-Some.is), c.stop_at-in-loop-at.ensures, refl)
 
 -- the way ends here, after so many visits

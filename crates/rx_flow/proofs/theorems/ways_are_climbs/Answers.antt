@@ -6,6 +6,6 @@ returns c base =
     record {
       whole = climb_whole_way base;
       alone = stops_whole_way base;
-      connected_climb = climb_connected_way base;
-      connected_stops = stops_connected_way base;
+      connected_climb = climb_connected_way;
+      connected_stops = stops_connected_way;
     }

@@ -17,7 +17,7 @@ push_reserved-requires c =
 pub returns-clause-goes_on : goal.returns-clause-goes_on
 returns-clause-goes_on c =
     let old : List Frame = reverse c.args.frames.now.items in
-    let on = turned c.args.hubs.now c.promise.ensures old c.args.frame c.next_subscriber.result c.requires.frame c.requires.behind c.requires.frames
+    let on = turned c.promise.ensures old c.args.frame c.next_subscriber.result c.requires.frame c.requires.behind c.requires.frames
     c.next_subscriber.ensures in
     let goes_to : List Frame → Type 0 = λ fs. GoesOn c.args.hubs.now.hubs old fs (Some c.args.frame) (Some c.args.frame.key) in
     elim c.match-next_subscriber.branch [
@@ -25,5 +25,5 @@ returns-clause-goes_on c =
           (ap (λ (o : Option Key). next_frame c.args.frame o old) w.in-Some.is ∙
           sym (ap (λ v. reverse v.items) w.frames-is ∙ ap reverse w.push_reserved.ensures.items ∙ reverse-append c.args.frames.now.items _)) on
       | in_default w ↦ subst goes_to (sym (ap (λ v. reverse v.items) w.frames-is))
-          (turned c.args.hubs.now c.promise.ensures old c.args.frame None c.requires.frame c.requires.behind c.requires.frames w.in_default.ensures)
+          (turned c.promise.ensures old c.args.frame None c.requires.frame c.requires.behind c.requires.frames w.in_default.ensures)
     ]

@@ -8,7 +8,7 @@ pub returns-clause-ready : goal.returns-clause-ready
 returns-clause-ready c base = record {
   publish = hubs_older;
   subscribe = ready_to_subscribe base;
-  exchange = ready_to_exchange base;
+  exchange = ready_to_exchange;
   connect = ready_to_connect base;
 }
 
@@ -16,12 +16,12 @@ pub returns-clause-follow : goal.returns-clause-follow
 returns-clause-follow c base = record {
   follow = hubs_follow base;
   same = hubs_same;
-  stay = hubs_stay base;
+  stay = hubs_stay;
   publish = hubs_published;
   subscribe = hubs_subscribed;
   connect = hubs_connected;
   end = hubs_ended;
   close = hubs_closed;
-  exchange = hubs_exchanged base;
+  exchange = hubs_exchanged;
   agree = tests_agree;
 }

@@ -32,5 +32,5 @@ note-requires-2-clause-index c =
 pub invariant_of-self : goal.invariant_of-self
 invariant_of-self c =
     let s = c.self.inside in
-    linked_changed s.store c.subscribe.new.self s.waiting s.due c.note.new.chain c.note-2.new.chain c.in-Some.index c.args.hub (subscribed c.args.key)
+    linked_changed c.args.hub (subscribed c.args.key)
     c.promise.ensures c.in-Some.ensures.some c.subscribe.ensures c.note.ensures c.note-2.ensures c.self.invariant

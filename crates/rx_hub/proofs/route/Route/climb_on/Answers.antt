@@ -1,6 +1,8 @@
-use Rattle.std.proofs.Common.{refl, ap, arith}
-use Rattle.rx_hub.specs.Route.{Route}
-use Rattle.rx_hub.proofs.RouteSteps.{limit_is, cut_seen, climbs_seen}
+use Rattle.std.proofs.Common.{refl, ap, ◌∙◌, arith}
+use Rattle.std.specs.Option.{option_and_then}
+use Rattle.rx_hub.specs.Walk.{arrival}
+use Rattle.rx_hub.specs.Route.{Route, beyond_end, hub_keys}
+use Rattle.rx_hub.proofs.RouteSteps.{limit_is, cut_seen, hub_beyond, climbs_seen}
 use Rattle.rx_hub.proofs.route.Route.climb_on.Goals as goal
 
 pub overflow_sub-self-inside : goal.overflow_sub-self-inside
@@ -11,13 +13,21 @@ overflow_sub-self-inside g c =
 
 pub returns-then-reached-self : goal.returns-then-reached-self
 returns-then-reached-self g c =
-    cut_seen c.args.tree.now.nodes c.args.hubs.now.hubs _ c.args.self.now c.args.node c.climb-reached.result.visits c.self.view_is
+    cut_seen c.args.node c.climb-reached.result.visits c.self.view_is
     c.requires.under_way c.requires.at c.requires.visits c.climb-reached.ensures.visits c.if-reached-self.true
 
 pub returns : goal.returns
 returns g c =
-    climbs_seen c.args.tree.now.nodes c.args.hubs.now.hubs _ c.args.self.now _ c.args.node c.climb-reached.result.visits c.climb-reached.result.stop
-    c.arrival.result c.climb-reached.result.hub c.first_beyond-first.result c.self.view_is c.requires.ordered c.requires.under_way c.requires.at
-    c.requires.visits c.climb-reached.ensures.visits
-    c.climb-reached.ensures.stop c.if-reached-self.false refl c.climb-reached.ensures.hub c.first_beyond-first.ensures.keys c.go_on-self-inside.ensures.goes_on
-    c.go_on-self-inside.ensures.room c.arrival.ensures
+    let nodes = c.args.tree.now.nodes in
+    let hubs = c.args.hubs.now.hubs in
+    let found = c.climb-reached.ensures in
+    let on = c.go_on-self-inside.ensures in
+    climbs_seen {visits = c.climb-reached.result.visits} {first = c.first_beyond-first.result}
+    c.self.view_is c.requires.ordered c.requires.under_way c.requires.at c.requires.visits
+    (record {
+      visited = found.visits;
+      firsts = c.first_beyond-first.ensures.keys ∙ ap (hub_keys hubs) found.hub ∙ hub_beyond nodes hubs c.climb-reached.result.stop ∙
+          ap (beyond_end nodes hubs) found.stop;
+      arrives = c.arrival.ensures ∙ ap (option_and_then arrival) found.stop;
+    })
+    (record { fits = c.if-reached-self.false; sum = refl; on = on.goes_on; room = on.room })

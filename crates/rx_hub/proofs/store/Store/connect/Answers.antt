@@ -15,5 +15,5 @@ returns-in-Some c = λ hub got.
     (λ i. record c.args.self.now {
       hubs = at_same hub.number (with_published (change (published_of hub))) (connected c.args.key) c.args.self.now.hubs
           (λ j other at_j same. ap (λ (h : Hub). with_published (change (published_of h)) other)
-          (only_hub c.args.self.now c.promise.ensures c.args.index j hub other got at_j same)) i;
+          (only_hub c.promise.ensures c.args.index j hub other got at_j same)) i;
     })

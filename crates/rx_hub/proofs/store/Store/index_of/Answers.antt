@@ -51,5 +51,5 @@ loop-low-preserved c =
 
 pub returns-clause-none : goal.returns-clause-none
 returns-clause-none c = let s = c.self.inside in rw (← c.self.view_is)
-    (not_between s.records.items s.subscribers s.numbers.items c.self.invariant c.loop-low.low c.loop-low.high c.args.number
-    c.loop-low-test.false c.loop-low.invariant.before c.loop-low.invariant.behind)
+    (not_between s.records.items s.subscribers s.numbers.items c.self.invariant
+    (record { before = c.loop-low.invariant.before; behind = c.loop-low.invariant.behind }) c.loop-low-test.false)

@@ -1,5 +1,6 @@
-use Rattle.std.proofs.Common.{refl}
-use Rattle.rx_register.proofs.RegisterStaysTied.{may_rebase, base_long, placed_base, rebased, rebases_seen, made_rebased}
+use Rattle.std.proofs.Common.{refl, sym, ap, ◌∙◌}
+use Rattle.rx_event.specs.Kept.{shown}
+use Rattle.rx_register.proofs.RegisterStaysTied.{IsRebased, may_rebase, base_long, placed_base, rebased, rebases_seen}
 use Rattle.rx_register.proofs.register.Register.rebase.Goals as goal
 
 pub rebase-requires-clause-length : goal.rebase-requires-clause-length
@@ -8,20 +9,24 @@ rebase-requires-clause-length c = base_long c.self.inside _ _ c.self.view_is c.r
 pub rebase-requires-clause-placed : goal.rebase-requires-clause-placed
 rebase-requires-clause-placed c = placed_base c.self.inside _ _ c.self.view_is c.requires.base c.requires.placed
 
+-- the register over that base
+made : (c : goal.In_ok-rebase) → IsRebased c.self.inside (record c.self.inside { history = c.rebase.new.self }) c.args.room
+made c = record {
+  may = may_rebase c.self.view_is (c.in_ok-rebase.ensures.base ∙ c.requires.base) c.requires.settled c.requires.handed c.requires.pending c.requires.placed
+      c.requires.closing c.requires.within;
+  events = c.in_ok-rebase.ensures.events ∙ ap shown (sym c.in_ok-rebase.ensures.base);
+  room = c.in_ok-rebase.ensures.room;
+  limit = c.rebase.ensures.limit;
+  own_limit = refl;
+  items = refl;
+  accepted = refl;
+  taken = refl;
+  told = refl;
+  mail = refl;
+}
+
 pub invariant_of-self-2 : goal.invariant_of-self-2
-invariant_of-self-2 c =
-    let may =
-    may_rebase c.self.inside _ _ _ c.self.view_is c.requires.base c.requires.settled c.requires.handed c.requires.pending c.requires.placed
-    c.requires.closing c.requires.within in
-    rebased c.self.inside _ _ c.self.invariant
-    (made_rebased c.self.inside _ _ _ c.self.invariant may c.in_ok-rebase.ensures.base c.in_ok-rebase.ensures.events c.in_ok-rebase.ensures.room
-    c.rebase.ensures.limit refl refl refl refl refl refl)
+invariant_of-self-2 c = rebased c.self.inside _ _ c.self.invariant (made c)
 
 pub returns-clause-ok : goal.returns-clause-ok
-returns-clause-ok c =
-    let may =
-    may_rebase c.self.inside _ _ _ c.self.view_is c.requires.base c.requires.settled c.requires.handed c.requires.pending c.requires.placed
-    c.requires.closing c.requires.within in
-    rebases_seen c.self.inside _ _ _ c.self.view_is c.self.invariant
-    (made_rebased c.self.inside _ _ _ c.self.invariant may c.in_ok-rebase.ensures.base c.in_ok-rebase.ensures.events c.in_ok-rebase.ensures.room
-    c.rebase.ensures.limit refl refl refl refl refl refl) may.pending
+returns-clause-ok c = rebases_seen c.self.inside _ _ _ c.self.view_is c.self.invariant (made c)

@@ -1,4 +1,4 @@
-use Rattle.std.proofs.Common.{◌≡◌, ◌<◌, ℕ, refl, arith}
+use Rattle.std.proofs.Common.{◌≡◌, ◌<◌, ℕ, arith}
 use Rattle.rx_event.specs.Notes.{notes}
 use Rattle.rx_register.proofs.RegisterStaysTied.{IsPopped, popped_first, popped_inside}
 use Rattle.rx_register.proofs.register.Register.take_mail.Goals as goal
@@ -10,12 +10,12 @@ first : (c : goal.After-pop_front) →
     IsPopped (notes c.self.inside.history.events) c.self.inside.mail.items c.pop_front.new.self.items c.self.inside.told c.pop_front.result
 first c =
     let r = c.self.invariant in
-    popped_first (notes c.self.inside.history.events) c.self.inside.mail.items c.pop_front.new.self.items c.self.inside.told c.pop_front.result
+    popped_first c.self.inside.told c.pop_front.result
     c.pop_front.ensures.items c.pop_front.ensures.rest (some c.self.inside.told c.if-self-eq0.false) r.queued r.some_told r.mail
 
 pub invariant_of-self : goal.invariant_of-self
 invariant_of-self c =
-    popped_inside c.self.inside _ c.pop_front.result c.self.invariant (first c) (some c.self.inside.told c.if-self-eq0.false) refl refl refl refl refl refl
+    popped_inside c.self.inside c.pop_front.new.self c.self.invariant (first c) (some c.self.inside.told c.if-self-eq0.false)
 
 pub returns-clause-value : goal.returns-clause-value
 returns-clause-value c = rw (← c.self.view_is) (first c).value
