@@ -79,11 +79,11 @@ cost_within s wish cost none is =
     omega arith
 
 -- with the room for it, it is admitted
-pub admitted : {T : Type 0} (g : Ghosts T) (old b : Ground T) (wish : Wish) (cost : Wanted) → IsRoomier old b → IsStanding g b → IsPromised b.register →
+pub admitted : {T : Type 0} {g : Ghosts T} {old b : Ground T} (wish : Wish) (cost : Wanted) → IsRoomier old b → IsStanding g b → IsPromised b.register →
     first_cause (stands (state_of g old) (request_for (state_of g old) wish)) ≡ None →
     cost ≡ cost_of old.register.history (request_for (state_of g old) wish).call →
     HasRoomBeside b cost → IsAdmitted g b (request_for (state_of g b) wish)
-admitted g old b wish cost roomier standing promised none is has =
+admitted {g} {old} {b} wish cost roomier standing promised none is has =
     let same = sym (state_roomier g old b roomier) in
     let none_now = subst (λ (s : State). first_cause (stands s (request_for s wish)) ≡ None) same none in
     let is_now = subst (λ (s : State). cost ≡ cost_of s.history (request_for s wish).call) same is in

@@ -104,6 +104,33 @@ within_full base call known fresh h limit counted none =
     let within = within_limit base h limit (added_by h call) (sym counted ∙ over) in
     omega arith
 
+-- what was forced is written, and nothing else happened: the ground stands again
+pub record SettlesTo {T : Type 0} (g : Ghosts T) (mid new : Ground T) : Type 0 where
+  pub standing : IsStanding g new
+  pub base : new.register.base ≡ mid.register.base
+  pub forced : IsForcedOn mid.register.base mid.register.history new.register.history
+  pub nodes : KeepsOlder new.register.history (length mid.register.history) mid.tree.nodes new.tree.nodes
+  pub resources : new.tree.resources ≡ mid.tree.resources
+  pub limit : new.register.limit ≡ mid.register.limit
+  pub given : new.register.given ≡ mid.register.given
+  pub leases : new.leases ≡ mid.leases
+
+-- it is so, by what settling promises
+pub settles_to : {T : Type 0} {g : Ghosts T} {mid new : Ground T} → IsStanding g new → new.register.base ≡ mid.register.base →
+    IsForcedOn mid.register.base mid.register.history new.register.history →
+    KeepsOlder new.register.history (length mid.register.history) mid.tree.nodes new.tree.nodes → new.tree.resources ≡ mid.tree.resources →
+    new.register.limit ≡ mid.register.limit → new.register.given ≡ mid.register.given → new.leases ≡ mid.leases → SettlesTo g mid new
+settles_to standing base on nodes resources limit given leases = record {
+  standing = standing;
+  base = base;
+  forced = on;
+  nodes = nodes;
+  resources = resources;
+  limit = limit;
+  given = given;
+  leases = leases;
+}
+
 module _ {T : Type 0} (g : Ghosts T) (b : Ground T) (asked : Request) where
   abbrev h : List Event
   h = b.register.history
@@ -185,30 +212,27 @@ module _ {T : Type 0} (g : Ghosts T) (b : Ground T) (asked : Request) where
       connected = connected_in_turn b.register.base h outside l.may.lawful (settled_connected b.register.base h l.may.settled) (follows outside refl) plain
 
     -- and after what they force it is accepted
-    pub accepts : (mid new : Ground T) → Writes b.register outside mid.register → KeepsKeys b.tree mid.tree (length h) →
-        IsTied mid.register.base g mid.register.history mid.tree →
-        IsStanding g new → new.register.base ≡ mid.register.base → IsForcedOn mid.register.base mid.register.history new.register.history →
-        KeepsOlder new.register.history (length mid.register.history) mid.tree.nodes new.tree.nodes →
-        new.tree.resources ≡ mid.tree.resources → new.register.limit ≡ mid.register.limit → new.register.given ≡ mid.register.given →
-        new.leases ≡ mid.leases → KeepsLeases b.leases mid.leases (length h) → Accepts (state_of g b) asked (state_of g new)
-    accepts mid new w kept tied standing same on nodes resources limit given leases out = record {
+    pub accepts : (mid : Ground T) {new : Ground T} → Writes b.register outside mid.register → IsTied mid.register.base g mid.register.history mid.tree →
+        KeepsKeys b.tree mid.tree (length h) → KeepsLeases b.leases mid.leases (length h) → SettlesTo g mid new →
+        Accepts (state_of g b) asked (state_of g new)
+    accepts mid {new} w tied kept out s = record {
       no_cause = l.none;
       base = based;
-      step = record { forced = goes_on; lawful = lawful; settled = subst (λ (c : Kept). IsSettled c new.register.history) based standing.settled };
-      limit = limit ∙ w.limit;
-      given = given ∙ w.given;
+      step = record { forced = goes_on; lawful = lawful; settled = subst (λ (c : Kept). IsSettled c new.register.history) based s.standing.settled };
+      limit = s.limit ∙ w.limit;
+      given = s.given ∙ w.given;
       keys = λ k c older. finding_key b.tree k (all.nodes (tree_key_of k) (key_finds new.tree k c) older);
       res_keys = λ k c older. finding_res_key b.tree k (all.held (tree_res_key_of k) (res_key_finds new.tree k c) older);
       lease_keys = λ k c older. finding_lease_key b.leases k (out.from (lease_key (ground_lease_key_of k))
-          (ap (λ (s : Slots TreeResKey). is_some (find s (lease_key (ground_lease_key_of k)))) (sym leases) ∙ lease_key_finds new.leases k c) older);
+          (ap (λ (ls : Slots TreeResKey). is_some (find ls (lease_key (ground_lease_key_of k)))) (sym s.leases) ∙ lease_key_finds new.leases k c) older);
     }
       where
         based : new.register.base ≡ b.register.base
-        based = same ∙ w.base
+        based = s.base ∙ w.base
 
         goes_on : IsForcedOn b.register.base (h ++ outside) new.register.history
         goes_on = subst (λ (c : Kept). IsForcedOn c (h ++ outside) new.register.history) w.base
-            (subst (λ (k : List Event). IsForcedOn mid.register.base k new.register.history) w.history on)
+            (subst (λ (k : List Event). IsForcedOn mid.register.base k new.register.history) w.history s.forced)
 
         lawful_mid : IsLawful b.register.base (h ++ outside)
         lawful_mid = lawful_in_turn b.register.base h outside l.may.lawful (follows outside refl)
@@ -224,30 +248,27 @@ module _ {T : Type 0} (g : Ghosts T) (b : Ground T) (asked : Request) where
 
         all : KeepsKeys b.tree new.tree (length h)
         all = keeps_on b.tree mid.tree new.tree (length h) (length mid.register.history) (let l = longer in omega arith) kept
-            (keeps_settled mid.register.base g mid.register.history new.register.history mid.tree new.tree lawful_then tied nodes resources)
+            (keeps_settled mid.register.history new.register.history mid.tree new.tree lawful_then tied s.nodes s.resources)
 
-    pub accepts_written : (mid new : Ground T) → IsWritten g b asked.call mid → IsStanding g new → new.register.base ≡ mid.register.base →
-        IsForcedOn mid.register.base mid.register.history new.register.history →
-        KeepsOlder new.register.history (length mid.register.history) mid.tree.nodes new.tree.nodes →
-        new.tree.resources ≡ mid.tree.resources → new.register.limit ≡ mid.register.limit → new.register.given ≡ mid.register.given →
-        new.leases ≡ mid.leases → Accepts (state_of g b) asked (state_of g new)
-    accepts_written mid new w standing same on nodes resources limit given leases =
-        accepts mid new w.written (record { nodes = w.nodes; held = w.held.from }) w.tied.of_tree standing same on nodes resources limit given leases w.leases
+    pub accepts_written : {mid new : Ground T} → IsWritten g b asked.call mid → SettlesTo g mid new → Accepts (state_of g b) asked (state_of g new)
+    accepts_written {mid} w = accepts mid w.written w.tied.of_tree (record { nodes = w.nodes; held = w.held.from }) w.leases
 
 -- a closing is written
-pub written_closed : {T : Type 0} (g : Ghosts T) (old new : Ground T) (call : Call) → Writes old.register (outside_of old.register.history call) new.register →
+pub written_closed : {T : Type 0} {g : Ghosts T} {old : Ground T} (new : Ground T) (call : Call) →
+    Writes old.register (outside_of old.register.history call) new.register →
     AreTied new.register.base g new.register.history new.tree new.hubs → AreLeased new.register.history new.tree.resources new.leases →
     KeepsNodes new.register.history old.tree.nodes new.tree.nodes → new.tree.resources ≡ old.tree.resources → new.leases ≡ old.leases → IsWritten g old call new
-written_closed g old new call written tied leased nodes resources leases =
+written_closed {old} new call written tied leased nodes resources leases =
     let kept = keeps_closed new.register.history old.tree new.tree (length old.register.history) nodes resources in
     record { written = written; tied = tied; leased = leased; nodes = kept.nodes; held = record { from = kept.held }; leases = leases_stay _ _ _ leases }
 
 -- what changes no node is written
-pub written_held : {T : Type 0} (g : Ghosts T) (old new : Ground T) (call : Call) → Writes old.register (outside_of old.register.history call) new.register →
+pub written_held : {T : Type 0} {g : Ghosts T} {old : Ground T} (new : Ground T) (call : Call) →
+    Writes old.register (outside_of old.register.history call) new.register →
     AreTied new.register.base g new.register.history new.tree new.hubs → AreLeased new.register.history new.tree.resources new.leases →
     new.tree.nodes ≡ old.tree.nodes → KeepsHeld old.tree new.tree (length old.register.history) →
     KeepsLeases old.leases new.leases (length old.register.history) → IsWritten g old call new
-written_held g old new call written tied leased nodes held leases =
+written_held {old} new call written tied leased nodes held leases =
     let kept = keeps_held old.tree new.tree (length old.register.history) nodes held in
     record { written = written; tied = tied; leased = leased; nodes = kept.nodes; held = held; leases = leases }
 
@@ -275,9 +296,9 @@ owned_asked g b asked l res is owned =
     owned_there b.register.base g b.register.history b.tree l.standing.tied.of_tree (tree_res_key_of res) (held_asked g b asked l res is) owned
 
 -- the key of a lease that was given out is known after what it forces
-pub lease_key_new : {T : Type 0} (g : Ghosts T) (mid new : Ground T) (place : ℕ) (lease : GroundLeaseKey) (k : LeaseKey) → k ≡ lease_key_shown lease →
+pub lease_key_new : {T : Type 0} (g : Ghosts T) (mid new : Ground T) {place : ℕ} (lease : GroundLeaseKey) {k : LeaseKey} → k ≡ lease_key_shown lease →
     lease.number ≡ place → is_out_at mid.leases lease ≡ true → new.leases ≡ mid.leases → IsNewLeaseKey (state_of g new) place k
-lease_key_new g mid new place lease k shown number out same = rw shown (record {
+lease_key_new g mid new lease shown number out same = rw shown (record {
   number = number;
   listed = has_lease_key_is new.leases (lease_key_shown lease) ∙ ap (λ (s : Slots TreeResKey). is_out_at s lease) same ∙ out;
 })

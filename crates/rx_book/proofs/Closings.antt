@@ -198,17 +198,24 @@ closed_book mid new free returned takes kept =
       none_listed (λ k. k.number) (is_out new.history) new.lease_keys kept.lease_keys out,
     )
 
+-- what waited was taken, and so many were released
+pub record IsDrainedTo (mid new : State) (released : ℕ) : Type 0 where
+  pub base : new.base ≡ mid.base
+  pub takes : Takes mid.base mid.history new.history
+  pub none_waits : new.waiting ≡ []
+  pub taken : taken_count new.base new.history ≡ taken_count mid.base mid.history + released
+
 -- what was accepted and not yet taken is taken at last
-pub closed_released : (old mid new : State) (released : ℕ) → new.base ≡ mid.base → IsPromised old →
+pub closed_released : {old : State} (mid : State) {new : State} {released : ℕ} → IsPromised old → IsPromised new →
     accepted_count mid.base mid.history ≡ accepted_count old.base old.history → taken_count mid.base mid.history ≡ taken_count old.base old.history →
-    Takes mid.base mid.history new.history → IsPromised new → new.held ≡ [] → new.waiting ≡ [] →
-    taken_count new.base new.history ≡ taken_count mid.base mid.history + released → released ≡ held_count old.history + waiting_count old.history
-closed_released old mid new released same before accepted taken takes after none_held none_waits rose =
+    IsDrainedTo mid new released → new.held ≡ [] → released ≡ held_count old.history + waiting_count old.history
+closed_released {old} mid {new} before after accepted taken drained none_held =
     let parts = accepted_count-parts old.base old.history before.lawful in
-    let all_accepted = takes_accepted mid.base takes in
-    let over = ap (λ (b : Kept). accepted_count b new.history) same in
+    let all_accepted = takes_accepted mid.base drained.takes in
+    let over = ap (λ (b : Kept). accepted_count b new.history) drained.base in
     let held_none : length new.held ≡ 0 = ap length none_held in
-    let waits_none : length new.waiting ≡ 0 = ap length none_waits in
+    let waits_none : length new.waiting ≡ 0 = ap length drained.none_waits in
+    let rose = drained.taken in
     let whole = after.in_one_place in
     omega arith
 

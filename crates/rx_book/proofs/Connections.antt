@@ -212,7 +212,7 @@ module _ (base : Kept) (h : List Event) (place : Place) (law : IsLawful base h) 
   connection_answered kind false o next on is forced quiet =
       let m = h ++ Open place kind ∷ [] in
       let settled_before = opened_settled base next in
-      let none_waits_then : IsConnected m = λ g d. false≢true (is ∙ opening_connects base h place kind g law settled_before (may_subscribe base next) d) in
+      let none_waits_then : IsConnected m = λ g d. false≢true (is ∙ opening_connects h place kind g law settled_before (may_subscribe base next) d) in
       let out : at makes_connection k (length h + 1) ≡ false =
       (no_more base none_waits_then on).none_come (length h + 1) (omega (arith, length-append h (Open place kind ∷ []))) in
       quiet refl ∙ sym (ap (λ (b : Bool). cond b (Some (length h + 1)) None) out)

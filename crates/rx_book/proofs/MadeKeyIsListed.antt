@@ -28,11 +28,11 @@ module _ {T : Type 0} (g : Ghosts T) (mid new : Ground T)
   })
 
   -- a resource of such a node
-  pub res_key_listed : IsTied mid.register.base g mid.register.history mid.tree → (res : TreeResKey) (k : ResKey) → k ≡ res_key_shown res →
-      new.tree.resources ≡ mid.tree.resources → res.number ≡ place → is_held_at mid.tree res ≡ true → (n tag : ℕ) →
+  pub res_key_listed : IsTied mid.register.base g mid.register.history mid.tree → (res : TreeResKey) {k : ResKey} → k ≡ res_key_shown res →
+      new.tree.resources ≡ mid.tree.resources → res.number ≡ place → is_held_at mid.tree res ≡ true → {n tag : ℕ} →
       accepted_by mid.register.base mid.register.history place ≡ Some (Accept n tag) → is_open new.register.history n ≡ true →
       IsNewResKey (state_of g new) place k
-  res_key_listed tied res k shown same number held n tag accepted alive =
+  res_key_listed tied res shown same number held {n} {tag} accepted alive =
       let at_res : accepted_by mid.register.base mid.register.history res.number ≡ Some (Accept n tag) =
       ap (accepted_by mid.register.base mid.register.history) number ∙ accepted in
       let listed = has_res_key_is new.tree (res_key_shown res) ∙ resource_stays g mid new tied _ nodes same res n tag at_res alive held in

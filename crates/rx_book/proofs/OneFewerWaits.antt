@@ -12,12 +12,13 @@ use Rattle.rx_event.specs.Lawful.{MayFollow, IsLawful}
 use Rattle.rx_event.proofs.Laws.Totals.{waiting_count-take}
 use Rattle.rx_tree.specs.declared.node.Stowed.{Stowed}
 use Rattle.rx_tree.specs.Tree.{Tree, AreApart}
-use Rattle.rx_ground.specs.Shown.{Ground, Label, Kept, waiting_in, label_in, label_of}
+use Rattle.rx_ground.specs.Shown.{Label, Kept, waiting_in, label_in, label_of}
 use Rattle.rx_ground.specs.Ties.{IsTied, IsListed}
 use Rattle.rx_ground.proofs.Laws.JustOpenHeldWaiting.{just_waiting, length-waiting}
 use Rattle.rx_ground.proofs.Laws.Members.{Contains-map, Contains-from_map}
 
 module _ {T : Type 0} (g : Ghosts T) where
+  -- a resource that is shown among those that wait does
   pub listed_waits : (base : Base) → (h : List Event) (tree : Tree T) → IsTied base g h tree → AreApart tree.resources → (handed : ℕ × T) →
       IsListed g tree handed →
       is_waiting h handed.0 ≡ true
@@ -27,17 +28,15 @@ module _ {T : Type 0} (g : Ghosts T) where
       sym (ap (λ (l : Label). is_waiting h l.number) m.2) ∙ All-contains (λ (n : ℕ). is_waiting h n ≡ true) (map number (waiting_in tree)) m.0.key.number
       (just_waiting base g h tree tied apart).each (Contains-map number (waiting_in tree) m.0 m.1)
 
-  pub fewer_wait : (old new : Ground T) (r : ℕ) → IsTied old.register.base g old.register.history old.tree →
-      IsTied new.register.base g new.register.history new.tree →
-      AreApart old.tree.resources → AreApart new.tree.resources → IsLawful old.register.base old.register.history →
-      MayFollow old.register.base old.register.history (Take r) →
-      new.register.history ≡ old.register.history ++ Take r ∷ [] →
-      length (map (label_in g) (waiting_in new.tree)) < length (map (label_in g) (waiting_in old.tree))
-  fewer_wait old new r tied tied_after apart apart_after law next grown =
-      let shown = length-map (waiting_in old.tree) (label_in g) in
-      let shown_after = length-map (waiting_in new.tree) (label_in g) in
-      let waits = length-waiting old.register.base g old.register.history old.tree tied apart in
-      let waits_after = length-waiting new.register.base g new.register.history new.tree tied_after apart_after in
-      let falls = waiting_count-take old.register.base old.register.history r law next in
+  -- and once it is taken, one fewer of those that are shown waits
+  pub fewer_wait : {base after : Base} {h k : List Event} {old new : Tree T} {r : ℕ} → IsTied base g h old → IsTied after g k new →
+      AreApart old.resources → AreApart new.resources → IsLawful base h → MayFollow base h (Take r) → k ≡ h ++ Take r ∷ [] →
+      length (map (label_in g) (waiting_in new)) < length (map (label_in g) (waiting_in old))
+  fewer_wait {base} {after} {h} {k} {old} {new} {r} tied tied_after apart apart_after law next grown =
+      let shown = length-map (waiting_in old) (label_in g) in
+      let shown_after = length-map (waiting_in new) (label_in g) in
+      let waits = length-waiting base g h old tied apart in
+      let waits_after = length-waiting after g k new tied_after apart_after in
+      let falls = waiting_count-take base h r law next in
       let same = ap waiting_count grown in
       omega arith

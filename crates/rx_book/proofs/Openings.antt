@@ -27,14 +27,14 @@ use Rattle.rx_book.specs.Places.{key_above}
 use Rattle.rx_book.specs.Shown.{tree_key_of}
 
 -- where a hub waits after the opening there is room for its connection
-pub opening_room : {T : Type 0} (old new : Ground T) (place : Place) (kind : Kind) → IsLawful old.register.base old.register.history →
+pub opening_room : {T : Type 0} {old new : Ground T} {place : Place} {kind : Kind} → IsLawful old.register.base old.register.history →
     IsSettled old.register.base old.register.history →
     MayFollow old.register.base old.register.history (Open place kind) → Writes old.register (Open place kind ∷ []) new.register →
     nodes_opened old.register.history kind ≤ old.tree.nodes.room → nodes_opened old.register.history kind ≤ old.space →
     old.tree.nodes.room ≤ new.tree.nodes.room + 1 → TakesNoMemory old new → HasRoomToConnect new.register.history new.tree.nodes.room new.space
-opening_room old new place kind law settled next w room space left memory = λ g waits.
+opening_room {old} {place} {kind} law settled next w room space left memory = λ g waits.
     let forces =
-    opening_connects old.register.base old.register.history place kind g law settled (may_subscribe old.register.base next)
+    opening_connects old.register.history place kind g law settled (may_subscribe old.register.base next)
     (subst (λ (k : List Event). IsConnectDue k g) w.history waits) in
     let two : nodes_opened old.register.history kind ≡ 2 = ap (λ (b : Bool). 1 + cond b 1 0) forces in
     let nodes = memory.nodes in

@@ -73,7 +73,8 @@ module _ {T : Type 0} (g : Ghosts T) where
       label : (k : Kept (Stowed T)) → Contains ks k → IsLabelOf base h (label_in g k)
       label k c = let is = stored k c in record { live = is.live; tag = ap (option_and_then accepted_tag) is.accepted; uses = is.uses }
 
-  module _ (b : Ground T) (register : IsRegisterPromised b.register) (tree : IsTreePromised b.tree) (apart : AreApart b.leases) (standing : IsStanding g b) where
+  module _ (b : Ground T) (register : IsRegisterPromised b.register) (tree : IsTreePromised b.tree) (apart : AreApart b.leases)
+      (standing : IsStanding g b) where
     abbrev h : List Event
     h = b.register.history
 

@@ -68,10 +68,10 @@ pub record SoFar (leaf : ℕ) (before now : List Pull) (first seat : Shares) (re
   pub given : map (λ r. r.event) receipts ≡ map (event_of leaf) (take (length receipts) before)
   pub shares : seat ≡ record first { items = first.items + items_in receipts }
 
-one_more : (leaf : ℕ) (before now after : List Pull) (first seat seat' : Shares) (receipts receipts' : List Receipt) (pull : Pull)
+one_more : {leaf : ℕ} {before now : List Pull} (after : List Pull) {first seat : Shares} (seat' : Shares) (receipts receipts' : List Receipt) (pull : Pull)
     → SoFar leaf before now first seat receipts → now ≡ pull ∷ after → IsEmitted leaf pull seat seat' receipts receipts'
     → (length receipts' ≡ length receipts + 1) × (length receipts < length before) × SoFar leaf before after first seat' receipts'
-one_more leaf before now after first seat seat' receipts receipts' pull far pulled emitted =
+one_more {leaf} {before} after {first} seat' receipts receipts' pull far pulled emitted =
     let next = next_pull (length receipts) before pull after (sym far.left ∙ pulled) in
     let one : length receipts' ≡ length receipts + 1 = ap length emitted.added ∙ length-append receipts (emitted.receipt ∷ []) in
     let more = items-push leaf pull receipts emitted.receipt emitted.event in
@@ -97,11 +97,11 @@ pub record GoesOn (leaf : ℕ) (before after : List Pull) (first seat' : Shares)
   pub far : SoFar leaf before after first seat' receipts'
   pub course : IsTrue (ends_once after)
 
-pub turn_more : (leaf : ℕ) (before now after : List Pull) (first seat seat' : Shares) (receipts receipts' : List Receipt)
+pub turn_more : {leaf : ℕ} {before now after : List Pull} (first seat seat' : Shares) (receipts receipts' : List Receipt)
     → SoFar leaf before now first seat receipts → IsTrue (ends_once now) → IsTurn leaf None now after seat seat' receipts receipts'
     → GoesOn leaf before after first seat' receipts receipts'
-turn_more leaf before now after first seat seat' receipts receipts' far course turn =
-    let more = one_more leaf before now after first seat seat' receipts receipts' turn.pull far turn.pulled turn.becomes.1 in
+turn_more {after} first seat seat' receipts receipts' far course turn =
+    let more = one_more after seat' receipts receipts' turn.pull far turn.pulled turn.becomes.1 in
     record {
       counted = more.0;
       far = more.2;
@@ -114,12 +114,12 @@ pub record Stops (leaf : ℕ) (why : Stop) (turns : ℕ) (before after : List Pu
   pub stop : IsFed why (length receipts') turns before after
   pub shares : seat' ≡ record first { items = first.items + items_in receipts' }
 
-pub last_turn : (leaf turns : ℕ) (stop : Stop) (before now after : List Pull) (first seat seat' : Shares) (receipts receipts' : List Receipt)
+pub last_turn : {leaf : ℕ} (turns : ℕ) (stop : Stop) {before now after : List Pull} {first seat seat' : Shares} (receipts receipts' : List Receipt)
     → SoFar leaf before now first seat receipts → IsTrue (ends_once now) → length receipts < turns
     → IsTurn leaf (Some stop) now after seat seat' receipts receipts'
     → Stops leaf stop turns before after first seat' receipts'
-last_turn leaf turns Done before now after first seat seat' receipts receipts' far course within turn =
-    let more = one_more leaf before now after first seat seat' receipts receipts' turn.pull far turn.pulled turn.becomes.1 in
+last_turn turns Done {before} {after} {seat'} receipts receipts' far course within turn =
+    let more = one_more after seat' receipts receipts' turn.pull far turn.pulled turn.becomes.1 in
     let none : after ≡ [] = ends_here turn.pull after turn.becomes.0 (sym (ap ends_once turn.pulled) ∙ course) in
     let one : length receipts' ≡ length receipts + 1 = more.0 in
     let inside : length receipts < length before = more.1 in
@@ -129,8 +129,8 @@ last_turn leaf turns Done before now after first seat seat' receipts receipts' f
       stop = (omega (arith, one, within), omega (arith, length-drop (length receipts') before, rest, one, inside), none);
       shares = (more.2).shares;
     }
-last_turn leaf turns Turns before now after first seat seat' receipts receipts' far course within turn = absurd turn.becomes
-last_turn leaf turns (Refused why) before now after first seat seat' receipts receipts' far course within turn =
+last_turn turns Turns receipts receipts' far course within turn = absurd turn.becomes
+last_turn turns (Refused why) {before} {after} receipts receipts' far course within turn =
     let next = next_pull (length receipts) before turn.pull after (sym far.left ∙ turn.pulled) in
     let same : receipts' ≡ receipts = turn.becomes.1 in
     record {

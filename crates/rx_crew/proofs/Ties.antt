@@ -18,12 +18,12 @@ counted old new asked before after accepts agreed counts =
     ap (λ (b : Kept). sums_of b new.history) (sym accepts.base)
 
 -- the same of a call that counts nothing, whatever it answers
-pub uncounted : {A E : Type 0} (gives : A → Type 0) (refuses : E → Type 0) (old new : State) (asked : Request) (answer : Result A E) (ledgers : Sums)
+pub uncounted : {A E : Type 0} {gives : A → Type 0} {refuses : E → Type 0} (old new : State) (asked : Request) (answer : Result A E) (ledgers : Sums)
     → Answers gives refuses old asked new answer → ledgers ≡ counting asked.call ledgers
     → ledgers ≡ sums_of old.base old.history → ledgers ≡ sums_of new.base new.history
-uncounted gives refuses old new asked (Ok x) ledgers answers none agreed =
+uncounted old new asked (Ok x) ledgers answers none agreed =
     counted old new asked ledgers ledgers answers.accepted agreed none
-uncounted gives refuses old new asked (Err e) ledgers answers none agreed =
+uncounted old new asked (Err e) ledgers answers none agreed =
     agreed ∙ ap (λ (s : State). sums_of s.base s.history) (sym answers.kept)
 
 -- and of a checkpoint, which leaves the totals

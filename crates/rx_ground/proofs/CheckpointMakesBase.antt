@@ -1,11 +1,8 @@
 -- What a checkpoint asks for, and what it makes of a ground.
-use Rattle.std.proofs.Common.{◌≡◌, ℕ, ◌≤◌, List, [], None, map, length, sym, ap, subst, ◌∙◌, arith}
+use Rattle.std.proofs.Common.{◌≡◌, ℕ, ◌≤◌, List, [], None, map, length, subst, ◌∙◌, arith}
 use Rattle.std.proofs.lemmas.Bool.{ltb-false}
 use Rattle.rx_resource.specs.declared.Resource.{Ghosts}
-use Rattle.rx_event.specs.declared.base.BaseHub.{BaseHub}
-use Rattle.rx_event.specs.declared.base.BaseNode.{BaseNode}
-use Rattle.rx_event.specs.declared.base.BaseResource.{BaseResource}
-use Rattle.rx_event.specs.declared.base.BaseLease.{BaseLease}
+use Rattle.rx_event.specs.declared.event.Event.{Event}
 use Rattle.rx_event.specs.declared.refusal.Refusal.TheVariants.{MailLeft, TooMany}
 use Rattle.rx_event.specs.Kept.{Kept as Base}
 use Rattle.rx_event.specs.Bases.{base_of}
@@ -21,40 +18,46 @@ use Rattle.rx_tree.specs.Tree.{AreApart, IsPromised as IsTreePromised}
 use Rattle.rx_lease.specs.Leases.{lease_as_kept}
 use Rattle.rx_hub.specs.Hubs.{IsPromised as IsHubsPromised, hub_as_kept, without_end}
 use Rattle.rx_ground.specs.Shown.{Ground}
-use Rattle.rx_ground.specs.Ties.{IsStanding}
+use Rattle.rx_ground.specs.Ties.{IsStanding, IsTied}
 use Rattle.rx_ground.specs.Checkpoints.{IsCheckpoint}
-use Rattle.rx_ground.proofs.KeptRecords.{hubs_kept, nodes_kept, resources_kept, leases_kept, base_built}
+use Rattle.rx_ground.proofs.KeptRecords.{hubs_kept, nodes_kept, resources_kept, leases_kept}
 use Rattle.rx_ground.proofs.StandsAfterCheckpoint.{standing_still}
 
+-- the counts of a base are those of the register, and what it lists is kept of what is there
+pub record IsKeptOf {T : Type 0} (g : Ghosts T) (b : Ground T) (whole : Base) : Type 0 where
+  pub events : whole.at_length ≡ length b.register.history
+  pub items : whole.items ≡ item_count b.register.base b.register.history
+  pub accepted : whole.accepted ≡ accepted_count b.register.base b.register.history
+  pub taken : whole.taken ≡ taken_count b.register.base b.register.history
+  pub hubs : whole.hubs ≡ map hub_as_kept b.hubs.hubs
+  pub nodes : IsByNumber (λ k. k.number) (kept_by node_as_kept b.tree.nodes) whole.nodes
+  pub resources : IsByNumber (λ k. k.number) (kept_by (resource_as_kept g b.tree.nodes) b.tree.resources) whole.resources
+  pub leases : IsByNumber (λ k. k.number) (kept_by lease_as_kept b.leases) whole.leases
+
 -- what is kept of all that is there is the base of the history
-pub whole_base : {T : Type 0} (g : Ghosts T) (b : Ground T) → IsStanding g b → IsRegisterPromised b.register → IsTreePromised b.tree → IsHubsPromised b.hubs →
-    AreApart b.leases →
-    (events items accepted taken : ℕ) (hs : List BaseHub) (nodes : List BaseNode) (resources : List BaseResource) (leases : List BaseLease) →
-    events ≡ length b.register.history → items ≡ item_count b.register.base b.register.history → accepted ≡ accepted_count b.register.base b.register.history →
-    taken ≡ taken_count b.register.base b.register.history → hs ≡ map hub_as_kept b.hubs.hubs →
-    IsByNumber (λ k. k.number) (kept_by node_as_kept b.tree.nodes) nodes →
-    IsByNumber (λ k. k.number) (kept_by (resource_as_kept g b.tree.nodes) b.tree.resources) resources →
-    IsByNumber (λ k. k.number) (kept_by lease_as_kept b.leases) leases →
-    (let whole : Base =
-    record {
-      at_length = events;
-      items = items;
-      accepted = accepted;
-      taken = taken;
-      hubs = hs;
-      nodes = nodes;
-      resources = resources;
-      leases = leases;
-    } in
-    whole)
-    ≡ base_of b.register.base b.register.history
-whole_base g b standing promised tree hubs apart events items accepted taken hs nodes resources leases same_at same_items same_accepted same_taken same_hubs
-    of_nodes of_resources of_leases =
-    base_built b.register.base b.register.history events items accepted taken hs nodes resources leases same_at same_items same_accepted same_taken
-    (same_hubs ∙ hubs_kept b.register.history b.hubs hubs standing.tied.published)
-    (nodes_kept b.register.base g b.register.history b.tree standing.tied.of_tree tree.sound.apart nodes of_nodes)
-    (resources_kept b.register.base g b.register.history b.tree standing.tied.of_tree tree.resources_apart promised.lawful resources of_resources)
-    (leases_kept b.register.history b.tree.resources b.leases standing.leased apart leases of_leases)
+pub whole_base : {T : Type 0} {g : Ghosts T} {b : Ground T} {whole : Base} → IsStanding g b → IsRegisterPromised b.register → IsTreePromised b.tree →
+    IsHubsPromised b.hubs → AreApart b.leases → IsKeptOf g b whole → whole ≡ base_of b.register.base b.register.history
+unfolding base_of
+whole_base {g} {b} {whole} standing promised tree hubs apart kept =
+    λ i. record {
+      at_length = kept.events i;
+      items = kept.items i;
+      accepted = kept.accepted i;
+      taken = kept.taken i;
+      hubs = (kept.hubs ∙ hubs_kept h b.hubs hubs standing.tied.published) i;
+      nodes = nodes_kept base g h b.tree tied tree.sound.apart whole.nodes kept.nodes i;
+      resources = resources_kept base g h b.tree tied tree.resources_apart promised.lawful whole.resources kept.resources i;
+      leases = leases_kept h b.tree.resources b.leases standing.leased apart whole.leases kept.leases i;
+    }
+  where
+    base : Base
+    base = b.register.base
+
+    h : List Event
+    h = b.register.history
+
+    tied : IsTied base g h b.tree
+    tied = standing.tied.of_tree
 
 -- the register may be given a base
 pub record MayRebase (s : Register) (reserved : ℕ) : Type 0 where
@@ -84,11 +87,11 @@ may_rebase g b reserved standing promised none same = record {
 }
 
 -- the register over its base, with the hubs that forgot their ends, is a checkpoint
-pub checkpoint_made : {T : Type 0} (old new : Ground T) (reserved : ℕ) → Rebases old.register new.register reserved →
+pub checkpoint_made : {T : Type 0} {old new : Ground T} {reserved : ℕ} → Rebases old.register new.register reserved →
     reserved ≡ debt old.register.base old.register.history →
     new.tree ≡ old.tree → new.hubs ≡ record old.hubs { hubs = map without_end old.hubs.hubs } → new.leases ≡ old.leases → new.space ≡ old.space →
     IsCheckpoint old new
-checkpoint_made old new reserved rebases same tree hubs leases space = record {
+checkpoint_made {old} {new} rebases same tree hubs leases space = record {
   register = subst (Rebases old.register new.register) same rebases;
   tree = tree;
   hubs = hubs;
@@ -97,11 +100,7 @@ checkpoint_made old new reserved rebases same tree hubs leases space = record {
 }
 
 -- so it stands, whose parts are those of a ground that stood
-pub standing_after : {T : Type 0} (g : Ghosts T) (parts old new : Ground T) (reserved : ℕ) → parts ≡ old → IsRegisterPromised old.register → IsStanding g old →
-    Rebases parts.register new.register reserved → reserved ≡ debt old.register.base old.register.history → new.tree ≡ parts.tree →
-    new.hubs ≡ record parts.hubs { hubs = map without_end parts.hubs.hubs } → new.leases ≡ parts.leases → new.space ≡ parts.space → IsStanding g new
-standing_after {T = T} g parts old new reserved seen promised standing rebases debts tree hubs leases space =
+pub standing_after : {T : Type 0} {g : Ghosts T} {parts old new : Ground T} → parts ≡ old → IsRegisterPromised old.register → IsStanding g old →
+    IsCheckpoint parts new → IsStanding g new
+standing_after {T} {g} {old} {new} seen promised standing made =
     standing_still g old new promised (subst (λ (b : Ground T). IsCheckpoint b new) seen made) standing
-  where
-    made : IsCheckpoint parts new
-    made = checkpoint_made parts new reserved rebases (debts ∙ ap (λ (b : Ground T). debt b.register.base b.register.history) (sym seen)) tree hubs leases space

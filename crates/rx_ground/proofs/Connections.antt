@@ -51,10 +51,10 @@ abbrev pub connection_in : Option Published → Option Key
 connection_in o = option_and_then (λ (p : Published). p.connection) o
 
 -- what is kept of the hub of a number, if there is one, says its connection
-pub connection_known : (base : Kept) → {T : Type 0} (g : Ghosts T) (h : List Event) (tree : Tree T) (hubs : Hubs) → IsLawful base h →
+pub connection_known : {base : Kept} → {T : Type 0} {g : Ghosts T} (h : List Event) (tree : Tree T) (hubs : Hubs) → IsLawful base h →
     AreTied base g h tree hubs →
     (n : ℕ) (o : Option Published) → o ≡ option_map published_of (find_hub hubs.hubs n) → IsConnectionOf h tree.nodes n (connection_in o)
-connection_known base g h tree hubs law tied n o is =
+connection_known {base} h tree hubs law tied n o is =
     subst (λ (x : Option Published). IsConnectionOf h tree.nodes n (connection_in x)) (sym is) (by_hub (find_hub hubs.hubs n) refl)
   where
     by_hub : (x : Option Hub) → find_hub hubs.hubs n ≡ x → IsConnectionOf h tree.nodes n (connection_in (option_map published_of x))

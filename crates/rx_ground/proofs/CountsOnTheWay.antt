@@ -92,11 +92,11 @@ module _ (nodes : Slots Node) (hubs : List Hub) (key : Key) (room : ℕ) where
       }
 
   -- at a stop more
-  pub measuring_on : (old new : Route) (stop : Stop) (events notes owed told : ℕ) (is_first : Bool) (only : Option Stop) →
+  pub measuring_on : {old new : Route} {stop : Stop} {events notes : ℕ} (owed told : ℕ) {is_first : Bool} {only : Option Stop} →
       IsMeasuring nodes hubs key room old events notes is_first only →
       Arrives nodes hubs old new (Some stop) → owed ≡ owed_at stop → told ≡ told_at stop → (after : Option Stop) →
       after ≡ (if is_first then Some stop else None) → IsMeasuring nodes hubs key room new (events + owed) (notes + told) false after
-  measuring_on old new stop events notes owed told is_first only was arrives owed_is told_is after after_is =
+  measuring_on {old} {new} {stop} owed told {is_first} was arrives owed_is told_is after after_is =
       let o : sum_at owed_at (stops_left nodes hubs old) ≡ owed_at stop + sum_at owed_at (stops_left nodes hubs new) = ap (sum_at owed_at) arrives.stops in
       let t : sum_at told_at (stops_left nodes hubs old) ≡ told_at stop + sum_at told_at (stops_left nodes hubs new) = ap (sum_at told_at) arrives.stops in
       let n : length (stops_left nodes hubs old) ≡ suc (length (stops_left nodes hubs new)) = ap (length {A = Stop}) arrives.stops in

@@ -37,7 +37,7 @@ use Rattle.rx_register.specs.State.{State, Writes}
 use Rattle.rx_ground.specs.Told.{IsHubTold}
 use Rattle.rx_ground.specs.Ties.{IsTied, AreTied, AreJoined, KeepsNodes, Remarks}
 use Rattle.rx_ground.proofs.HubsBesideTree.{joined_without, joined_still, joined_found, joined_connected, found_named}
-use Rattle.rx_ground.proofs.StaysTied.{still_there}
+use Rattle.rx_ground.proofs.StaysTied.{IsOpenedIn, found_still, still_there}
 use Rattle.rx_ground.proofs.Laws.Members.{Contains-map, Contains-from_map, All-members, AllPairs-map}
 use Rattle.rx_ground.proofs.Laws.Numbers.{ListsJust, just_counted}
 
@@ -160,6 +160,11 @@ pub connected_after : (h : List Event) (n : ℕ) (key : Key) (hubs : List Hub) �
 connected_after h n key hubs of numbered =
     hubs_connected h n key.slot hubs of ∙ (λ i. at_hub n (connected (record { slot = key.slot; number = sym numbered i })) hubs)
 
+-- the nodes that this event closes are gone from the hubs, and their connections ended so
+pub record LeavesHubs (h : List Event) (e : Event) (gone : Key → Bool) (ended : Option LastEnd) (hubs later : Hubs) : Type 0 where
+  pub after : hubs_after h e 0 hubs.hubs ≡ map (without_gone gone ended) hubs.hubs
+  pub left : later.hubs ≡ map (without_gone gone ended) hubs.hubs
+
 module _ {T : Type 0} (g : Ghosts T) where
   -- over the same base
   pub rebased : {c base : Kept} {h : List Event} {tree : Tree T} {hubs : Hubs} → c ≡ base → AreTied base g h tree hubs → AreTied c g h tree hubs
@@ -181,62 +186,63 @@ module _ {T : Type 0} (g : Ghosts T) where
   }
 
   -- a tree after one more event, which closes no node and makes none, and no hub
-  pub tied_on : (base : Kept) → {h k : List Event} {old new : Tree T} {hubs : Hubs} (e : Event) → IsLawful base h → MayFollow base h e →
+  pub tied_on : {base : Kept} → {h k : List Event} {old new : Tree T} {hubs : Hubs} {e : Event} → IsLawful base h → MayFollow base h e →
       AreTied base g h old hubs → k ≡ h ++ e ∷ [] →
       joins_hubs e ≡ false → shuts_none e ≡ true → ((key : Key) → IsSome (find old.nodes key) → IsSome (find new.nodes key)) →
       IsTied base g k new → AreTied base g k new hubs
-  tied_on base {h = h} {k = k} {old = old} {new = new} {hubs = hubs} e law next was grown joins shuts still tied = record {
+  tied_on {base} {h = h} {k = k} {old = old} {new = new} {hubs = hubs} {e} law next was grown joins shuts still tied = record {
     of_tree = tied;
     published = of;
     joined = joined_still k old.nodes new.nodes hubs.hubs of (λ key some alive. still key some) was.joined;
   }
     where
       of : AreHubsOf k hubs.hubs
-      of = subst (λ (j : List Event). AreHubsOf j hubs.hubs) (sym grown) (hubs_stay base h e hubs.hubs law next was.published joins (closes_none h e shuts))
+      of = subst (λ (j : List Event). AreHubsOf j hubs.hubs) (sym grown) (hubs_stay h e hubs.hubs law next was.published joins (closes_none h e shuts))
 
   -- with the nodes as they were
-  pub tied_on_same : (base : Kept) → {h k : List Event} {old new : Tree T} {hubs : Hubs} (e : Event) → IsLawful base h → MayFollow base h e →
+  pub tied_on_same : {base : Kept} → {h k : List Event} {old new : Tree T} {hubs : Hubs} {e : Event} → IsLawful base h → MayFollow base h e →
       AreTied base g h old hubs → k ≡ h ++ e ∷ [] →
       joins_hubs e ≡ false → shuts_none e ≡ true → new.nodes ≡ old.nodes → IsTied base g k new → AreTied base g k new hubs
-  tied_on_same base e law next was grown joins shuts same tied =
-      tied_on base e law next was grown joins shuts (λ key some. ap (λ (nodes : Slots Node). is_some (find nodes key)) same ∙ some) tied
+  tied_on_same law next was grown joins shuts same tied =
+      tied_on law next was grown joins shuts (λ key some. ap (λ (nodes : Slots Node). is_some (find nodes key)) same ∙ some) tied
 
   -- and with the marks of one changed
-  pub tied_on_marked : (base : Kept) → {h k : List Event} {old new : Tree T} {hubs : Hubs} (e : Event) → IsLawful base h → MayFollow base h e →
+  pub tied_on_marked : {base : Kept} → {h k : List Event} {old new : Tree T} {hubs : Hubs} {e : Event} → IsLawful base h → MayFollow base h e →
       AreTied base g h old hubs → k ≡ h ++ e ∷ [] →
-      joins_hubs e ≡ false → shuts_none e ≡ true → (u : Key) (change : Marks → Marks) → Remarks old new u change → IsTied base g k new →
+      joins_hubs e ≡ false → shuts_none e ≡ true → {u : Key} {change : Marks → Marks} → Remarks old new u change → IsTied base g k new →
       AreTied base g k new hubs
-  tied_on_marked base e law next was grown joins shuts u change marked tied =
-      tied_on base e law next was grown joins shuts (λ key some. still_there u marked.nodes key some) tied
+  tied_on_marked law next was grown joins shuts {u} marked tied =
+      tied_on law next was grown joins shuts (λ key some. still_there u marked.nodes key some) tied
 
   -- after one that closes nodes, which leave the hubs
-  pub tied_closed : (base : Kept) → {h k : List Event} {old new : Tree T} {hubs later : Hubs} (e : Event) (gone : Key → Bool) (ended : Option LastEnd) →
-      IsLawful base h → MayFollow base h e →
-      AreTied base g h old hubs → k ≡ h ++ e ∷ [] → hubs_after h e 0 hubs.hubs ≡ map (without_gone gone ended) hubs.hubs →
-      later.hubs ≡ map (without_gone gone ended) hubs.hubs → KeepsNodes k old.nodes new.nodes → IsTied base g k new → AreTied base g k new later
-  tied_closed base {h = h} {k = k} {old = old} {new = new} {hubs = hubs} {later = later} e gone ended law next was grown after left kept tied = record {
+  pub tied_closed : {base : Kept} {h k : List Event} {old new : Tree T} {hubs later : Hubs} {e : Event} {gone : Key → Bool} {ended : Option LastEnd} →
+      IsLawful base h → MayFollow base h e → AreTied base g h old hubs → k ≡ h ++ e ∷ [] → LeavesHubs h e gone ended hubs later →
+      KeepsNodes k old.nodes new.nodes → IsTied base g k new → AreTied base g k new later
+  tied_closed {base} {h} {k} {old} {new} {hubs} {later} {e} {gone} {ended} law next was grown leaves kept tied = record {
     of_tree = tied;
     published = of;
     joined = joined_still k old.nodes new.nodes later.hubs of kept.still
-        (subst (AreJoined old.nodes) (sym left) (joined_without old.nodes gone ended hubs.hubs was.joined));
+        (subst (AreJoined old.nodes) (sym leaves.left) (joined_without old.nodes gone ended hubs.hubs was.joined));
   }
     where
       of : AreHubsOf k later.hubs
       of = subst (λ (j : List Event). AreHubsOf j later.hubs) (sym grown)
-          (subst (AreHubsOf (h ++ e ∷ [])) (after ∙ sym left) (hubs_follow base h e 0 hubs.hubs law next was.published))
+          (subst (AreHubsOf (h ++ e ∷ [])) (leaves.after ∙ sym leaves.left) (hubs_follow base h e 0 hubs.hubs law next was.published))
 
   -- after one that makes a connection, which its hub has from then on
-  pub tied_connected : (base : Kept) → {h : List Event} {old new : Tree T} {hubs later : Hubs} (n : ℕ) (key : Key) → IsLawful base h →
-      MayFollow base h (Connect n) → AreTied base g h old hubs →
-      key.number ≡ length h → later.hubs ≡ at_hub n (connected key) hubs.hubs → ((k : Key) → IsSome (find old.nodes k) → IsSome (find new.nodes k)) →
-      IsSome (find new.nodes key) → IsTied base g (h ++ Connect n ∷ []) new → AreTied base g (h ++ Connect n ∷ []) new later
-  tied_connected base {h = h} {old = old} {new = new} {hubs = hubs} n key law next was numbered made still there tied = record {
+  pub tied_connected : {base : Kept} {h : List Event} {old new : Tree T} {hubs later : Hubs} {n : ℕ} {key : Key} → IsLawful base h →
+      MayFollow base h (Connect n) → AreTied base g h old hubs → IsOpenedIn h (Connect n) None old new key →
+      later.hubs ≡ at_hub n (connected key) hubs.hubs → IsTied base g (h ++ Connect n ∷ []) new → AreTied base g (h ++ Connect n ∷ []) new later
+  tied_connected {base} {h} {old} {new} {hubs} {n = n} {key} law next was opened made tied = record {
     of_tree = tied;
-    published = subst (AreHubsOf (h ++ Connect n ∷ [])) (connected_after h n key hubs.hubs was.published numbered ∙ sym made)
+    published = subst (AreHubsOf (h ++ Connect n ∷ [])) (connected_after h n key hubs.hubs was.published opened.numbered ∙ sym made)
         (hubs_follow base h (Connect n) key.slot hubs.hubs law next was.published);
-    joined = subst (AreJoined new.nodes) (sym made)
-        (joined_connected new.nodes key n hubs.hubs there (joined_found old.nodes new.nodes hubs.hubs still was.joined));
+    joined = subst (AreJoined new.nodes) (sym made) (joined_connected new.nodes key n hubs.hubs (ap is_some opened.found)
+        (joined_found old.nodes new.nodes hubs.hubs still was.joined));
   }
+    where
+      still : (k : Key) → IsSome (find old.nodes k) → IsSome (find new.nodes k)
+      still k some = ap is_some (found_still base g h law old old new was.of_tree key (Connect n) None opened k some) ∙ some
 
   -- and after one that makes this hub
   pub tied_published : (base : Kept) → {h : List Event} {old : Tree T} {hubs new : Hubs} (mode : Mode) → IsLawful base h → MayFollow base h (Publish mode) →

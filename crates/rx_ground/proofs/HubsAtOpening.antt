@@ -38,7 +38,7 @@ module _ {base : Kept} {T : Type 0} {g : Ghosts T} {h : List Event} {place : Pla
         let found = some_of (find old.nodes x.inner) r.inner.found in
         let alive = (ready.tied.of_tree.records.each x.inner found.0 found.1).alive in
         ap (λ (q : Place). hubs_after h (Open q kind) slot hubs.hubs) r.named ∙
-        hubs_exchanged base h r.switch x.inner.number kind slot hubs.hubs ready.law ready.tied.published r.switches r.inner.stands alive ∙
+        hubs_exchanged kind slot ready.law ready.tied.published (record { switch = r.switches; inner = r.inner.stands; alive = alive }) ∙
         (λ i. with_made (next_key h slot) (Open (sym r.named i) kind) ((sym x.leave i).hubs))
 
     by_test : (replaces ≡ true) ⊎ (replaces ≡ false) →
@@ -82,7 +82,7 @@ module _ {base : Kept} {T : Type 0} {g : Ghosts T} {h : List Event} {place : Pla
     by_test (inl takes) =
         let x = ready.clears.exchanged takes in
         subst (λ (hs : Hubs). (hub : Hub) × (find_hub hs.hubs n ≡ Some hub) × AreBelow (length h) hub.subscribers) (sym x.leave)
-        (ready_to_exchange base h place n hubs.hubs (is_inside h x.inner.number) None next ready.tied.published)
+        (ready_to_exchange h place n hubs.hubs (is_inside h x.inner.number) None next ready.tied.published)
     by_test (inr leaves) =
         subst (λ (hs : Hubs). (hub : Hub) × (find_hub hs.hubs n ≡ Some hub) × AreBelow (length h) hub.subscribers) (sym (ready.clears.same leaves))
         (ready_to_subscribe base h place n hubs.hubs next ready.tied.published)

@@ -161,10 +161,10 @@ made_found None made read = absurd (none-some made read)
 made_found (Some x) made read = (x, refl, same_Some x.made made read)
 
 -- where the node above is no Switch, nothing is replaced
-pub no_switch : (base : Kept) → (h : List Event) (nodes : Slots Node) (chain : List Key) (r : AreRecords base h nodes chain) (place : Place)
+pub no_switch : {base : Kept} → {h : List Event} {nodes : Slots Node} {chain : List Key} (r : AreRecords base h nodes chain) {place : Place}
     (above : Option Key) (merging : Key) (made : Event) → named_by place ≡ option_map (λ k. k.number) above → above ≡ Some merging →
     option_map (λ (x : Node). x.made) (find nodes merging) ≡ Some made → false ≡ is_switch made → ReplacesNone h place
-no_switch base h nodes chain r place above merging made named at_above read flat f inner switch =
+no_switch {h} {nodes} r above merging made named at_above read flat f inner switch =
     let x = made_found (find nodes merging) made read in
     let same : f ≡ merging.number = same_Some f merging.number (sym (ap named_by inner) ∙ named ∙ ap (option_map (λ (k : Key). k.number)) at_above) in
     absurd (both_ways (at is_switch h f)

@@ -24,14 +24,17 @@ module _ {T : Type 0} (first : Register) (start : Tree T) (leaf : ℕ) (value : 
       new.room + 1 ≡ register.room →
       new.limit ≡ register.limit → new.given ≡ register.given → new.mail_room ≡ register.mail_room → Writes first (Item leaf value ∷ []) new
   arrived_writes new =
-      writes_told first register new (Item leaf value) passed.same
-      (passed.mail_room ∙ ap (λ (ss : List NumberedStop). register.mail_room + length (filter_map (told (length first.history) value) ss)) all_done)
+      writes_told (record {
+        same = passed.same;
+        notes = passed.mail_room ∙
+            ap (λ (ss : List NumberedStop). register.mail_room + length (filter_map (told (length first.history) value) ss)) all_done;
+      })
 
   pub arrived_tied : (g : Ghosts T) (hubs : Hubs) → IsLawful first.base first.history → MayFollow first.base first.history (Item leaf value) →
       AreTied first.base g first.history start hubs →
       (h : List Event) → h ≡ register.history ++ Item leaf value ∷ [] → AreTied first.base g h tree hubs
   arrived_tied g hubs law next tied h grown =
       subst (λ (k : List Event). AreTied first.base g k tree hubs) (sym (grown ∙ ap (λ (r : Register). r.history ++ Item leaf value ∷ []) passed.same))
-      (tied_item first.base g first.history leaf value law next start tree hubs tied
+      (tied_item value law next tree tied
       (subst (λ (ss : List NumberedStop). ArePassed first.base first.history ss tree.nodes tree.chain) all_done passed.records)
       (λ key there. passed.there key ∙ there) passed.resources)

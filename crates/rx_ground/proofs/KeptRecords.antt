@@ -7,7 +7,6 @@ use Rattle.std.specs.Option.{option_map_or}
 use Rattle.std.proofs.lemmas.Bool.{false≢true}
 use Rattle.std.proofs.lemmas.Option.{same_Some, none-some}
 use Rattle.rx_resource.specs.declared.Resource.{Ghosts}
-use Rattle.rx_event.specs.declared.base.BaseHub.{BaseHub}
 use Rattle.rx_event.specs.declared.base.BaseNode.{BaseNode}
 use Rattle.rx_event.specs.declared.base.BaseResource.{BaseResource}
 use Rattle.rx_event.specs.declared.base.BaseState.{BaseState}
@@ -17,10 +16,9 @@ use Rattle.rx_event.specs.declared.event.Event.{Event}
 use Rattle.rx_event.specs.declared.event.Event.TheVariants.{Close}
 use Rattle.rx_event.specs.Events.{makes_resource, makes_hub, is_take_of}
 use Rattle.rx_event.specs.Kept.{Kept as Base}
-use Rattle.rx_event.specs.Tree.{at, is_open, open_nodes, hubs, places}
+use Rattle.rx_event.specs.Tree.{at, open_nodes, hubs, places}
 use Rattle.rx_event.specs.Resources.{is_owned as is_owned_in, is_out, is_held as is_held_in, is_waiting, is_taken}
-use Rattle.rx_event.specs.Totals.{item_count, accepted_count, taken_count}
-use Rattle.rx_event.specs.Bases.{base_of, keep_node, keep_hub, keep_resource, keep_lease, is_untaken, accept_node, accept_tag, lease_resource, mode_of}
+use Rattle.rx_event.specs.Bases.{keep_node, keep_hub, keep_resource, keep_lease, is_untaken, accept_node, accept_tag, lease_resource, mode_of}
 use Rattle.rx_event.specs.Lawful.{IsLawful}
 use Rattle.rx_event.proofs.Laws.Openness.{is_open_within}
 use Rattle.rx_event.proofs.Laws.Places.{at_within}
@@ -76,12 +74,12 @@ module _ {X Y : Type 0} (keep : Entry X → Y) where
   kept_listed_by slots = from_slots slots.entries slots.entries 0 (λ i. ap (λ s. get_or slots.entries s None) (let e : 0 + i ≡ i = omega arith in e))
 
   -- in the order of their numbers they are what is kept of the numbers that pass
-  pub slots_in_order : (number : Y → ℕ) → ((k : Kept X) → number (keep_kept k) ≡ k.key.number) →
-      (slots : Slots X) (keep_number : ℕ → Y) (test : ℕ → Bool) (m : ℕ) (ys : List Y) →
+  pub slots_in_order : {number : Y → ℕ} → ((k : Kept X) → number (keep_kept k) ≡ k.key.number) →
+      (slots : Slots X) (keep_number : ℕ → Y) {test : ℕ → Bool} (m : ℕ) {ys : List Y} →
       IsByNumber number (kept_by keep slots) ys → ((k : Kept X) → Contains (kept_in slots) k → keep_kept k ≡ keep_number k.key.number) →
       ListsJust test (numbers (kept_in slots)) → ((n : ℕ) → test n ≡ true → n < m) → ys ≡ map keep_number (filter test (range_with_len 0 m))
-  slots_in_order number numbered slots keep_number test m ys order each just below =
-      in_order number keep_number test m (map keep_kept (kept_in slots)) ys (subst (λ (xs : List Y). IsByNumber number xs ys) (kept_listed_by slots) order)
+  slots_in_order {number} numbered slots keep_number {test} m {ys} order each just below =
+      in_order number keep_number m (map keep_kept (kept_in slots)) ys (subst (λ (xs : List Y). IsByNumber number xs ys) (kept_listed_by slots) order)
       each_kept
       (subst (ListsJust test) (sym (same_numbers (kept_in slots))) just) below
     where
@@ -120,7 +118,7 @@ module _ (base : Base) {T : Type 0} (g : Ghosts T) (h : List Event) (tree : Tree
 
   pub nodes_kept : AreApart tree.nodes → (ys : List BaseNode) → IsByNumber (λ k. k.number) (kept_by node_as_kept tree.nodes) ys →
       ys ≡ map (keep_node base h) (open_nodes h)
-  nodes_kept apart ys order = slots_in_order node_as_kept (λ k. k.number) (λ k. refl) tree.nodes (keep_node base h) (is_open h) (length h) ys order node_kept
+  nodes_kept apart ys order = slots_in_order node_as_kept (λ k. refl) tree.nodes (keep_node base h) (length h) order node_kept
       (just_nodes base g h tree tied apart) (is_open_within h)
 
   -- what is stored was not taken
@@ -175,14 +173,14 @@ module _ (base : Base) {T : Type 0} (g : Ghosts T) (h : List Event) (tree : Tree
       IsByNumber (λ k. k.number) (kept_by (resource_as_kept g tree.nodes) tree.resources) ys →
       ys ≡ map (keep_resource base h) (filter (is_untaken h) (places h))
   resources_kept apart law ys order =
-      slots_in_order (resource_as_kept g tree.nodes) (λ k. k.number) (λ k. refl) tree.resources (keep_resource base h) (is_untaken h) (length h) ys order
+      slots_in_order (resource_as_kept g tree.nodes) (λ k. refl) tree.resources (keep_resource base h) (length h) order
       resource_kept (just_all tree.resources (is_untaken h) apart (record { each = stored_untaken; every = untaken_stored law })) (untaken_within h)
 
 pub leases_kept : {T : Type 0} (h : List Event) (resources : Slots (Stowed T)) (leases : Slots ResKey) → AreLeased h resources leases → AreApart leases →
     (ys : List BaseLease) →
     IsByNumber (λ k. k.number) (kept_by lease_as_kept leases) ys → ys ≡ map (keep_lease h) (filter (is_out h) (places h))
 leases_kept h resources leases leased apart ys order =
-    slots_in_order lease_as_kept (λ k. k.number) (λ k. refl) leases (keep_lease h) (is_out h) (length h) ys order one
+    slots_in_order lease_as_kept (λ k. refl) leases (keep_lease h) (length h) order one
     (just_out h resources leases leased apart) (is_out_within h)
   where
     one : (k : Kept ResKey) → Contains (kept_in leases) k → lease_as_kept (entry_of k.key.number k.value) ≡ keep_lease h k.key.number
@@ -248,37 +246,3 @@ hubs_kept h all promised are =
     every k makes =
         let has = are.every k makes in
         subst (Contains (map number all.hubs)) has.numbered (Contains-map number all.hubs has.hub (get_contains all.hubs has.index has.hub has.there))
-
--- the base ---------------------------------------------------------------------------------------------
-
--- counts and lists of these make just the base
-pub base_built : (b : Base) (h : List Event) (events items accepted taken : ℕ) (hs : List BaseHub) (nodes : List BaseNode) (resources : List BaseResource)
-    (leases : List BaseLease) →
-    events ≡ length h → items ≡ item_count b h → accepted ≡ accepted_count b h → taken ≡ taken_count b h →
-    hs ≡ map (keep_hub h) (hubs h) → nodes ≡ map (keep_node b h) (open_nodes h) → resources ≡ map (keep_resource b h) (filter (is_untaken h) (places h)) →
-    leases ≡ map (keep_lease h) (filter (is_out h) (places h)) →
-    (let whole : Base =
-    record {
-      at_length = events;
-      items = items;
-      accepted = accepted;
-      taken = taken;
-      hubs = hs;
-      nodes = nodes;
-      resources = resources;
-      leases = leases;
-    } in
-    whole) ≡ base_of b h
-unfolding base_of
-base_built b h events items accepted taken hs nodes resources leases same_at same_items same_accepted same_taken same_hubs same_nodes same_resources
-    same_leases =
-    λ i. record {
-      at_length = same_at i;
-      items = same_items i;
-      accepted = same_accepted i;
-      taken = same_taken i;
-      hubs = same_hubs i;
-      nodes = same_nodes i;
-      resources = same_resources i;
-      leases = same_leases i;
-    }

@@ -109,10 +109,10 @@ module _ {T : Type 0} (h : List Event) (resources : Slots (Stowed T)) (leases : 
         by_place l out (inl same) = absurd (both_ways _ (is_out_last base h e law ∙ none) (ap (is_out (h ++ e ∷ [])) (sym same) ∙ out))
 
   -- a lease is given out under a new key
-  pub leased_more : (base : Kept) (law : IsLawful base h) (new : Slots ResKey) (key : Key) (res : ResKey) → key.number ≡ length h →
+  pub leased_more : {base : Kept} (law : IsLawful base h) {new : Slots ResKey} (key : Key) (res : ResKey) → key.number ≡ length h →
       IsSome (find resources (store_key res)) → entry_at leases key.slot ≡ None → find new key ≡ Some res → KeepsOthers leases new key →
       AreLeased (h ++ Lease res.number ∷ []) resources new
-  leased_more base law new key res numbered stored free found others = record { each = each; every = every } where
+  leased_more {base} law {new} key res numbered stored free found others = record { each = each; every = every } where
     e : Event
     e = Lease res.number
 

@@ -40,11 +40,11 @@ held_counted h = counted_apart (is_held h) (is_owned h) (owned_held h) (places h
 
 -- the debt is counted from the open nodes, those that wait, those that leases alone hold, what was accepted and taken, the leases out,
 -- and what is owed
-pub debt_counted : (base : Kept) → (h : List Event) → IsLawful base h → (nodes waiting accepted taken alone leases owing : ℕ) → nodes ≡ open_count h →
+pub debt_counted : {base : Kept} {h : List Event} {nodes waiting accepted taken alone leases owing : ℕ} → IsLawful base h → nodes ≡ open_count h →
     waiting ≡ waiting_count h → accepted ≡ accepted_count base h → taken ≡ taken_count base h → alone ≡ count_by (is_alone h) (places h) →
     leases ≡ lease_count h → owing ≡ owed_count base h →
     nodes + 2 * ((accepted - taken - waiting) - alone) + alone + waiting + leases + owing ≡ debt base h
-debt_counted base h law nodes waiting accepted taken alone leases owing o w a t k l p =
+debt_counted {base} {h} law o w a t k l p =
     let parts = accepted_count-parts base h law in
     let counts = debt-counts base h in
     let apart = held_counted h in

@@ -99,7 +99,7 @@ module _ {base : Kept} {T : Type 0} {g : Ghosts T} {h : List Event} {n : ℕ} {t
       let m : Remarks mid new p (after_child (is_some (source_named made)) (is_merging x.0.made) t) =
       subst (λ o. IfSome o (λ (node : Node). Remarks mid new p (after_child (is_some (source_named made)) (is_merging node.made) t))) x.2 marked in
       record {
-        tied = tied_end_child base g h n t ready.law ready.next old mid new ready.tied ready.sound ready.cuts p made x.0 apart ready.alive
+        tied = tied_end_child base g h n t ready.law ready.next old mid new ready.tied ready.sound ready.cuts x.0 apart ready.alive
             (sym ready.named) ready.at_n x.1 x.2 m;
         kept = keeps_marked base h (End n t) old mid records ready.sound n (is_open_outside-end h n t) ready.cuts new p _ m;
         resources = m.resources ∙ ready.cuts.resources;

@@ -155,7 +155,7 @@ module _ (base : Kept) {T : Type 0} (h : List Event) (done : List NumberedStop) 
       Remarks old new key change → ((m : Marks) → (change m).owed ≡ m.owed + owed_at stop) → IsFurther base h done hubs route stop last old new
   further_marked key stop last change found changes marked adds = record {
     records = subst (ArePassed base h (done ++ last ∷ []) new.nodes) (sym marked.chain)
-        (passed_marked base h done old.nodes new.nodes old.chain key last change passed apart found changes marked.nodes);
+        (passed_marked key last change passed apart found changes marked.nodes);
     ordered = ordered-marked old.nodes new.nodes key marks fixed hubs ordered;
     under_way = under_way-marked old.nodes new.nodes key marks fixed hubs route under_way;
     left = stops_left-marked old.nodes new.nodes key marks fixed hubs route;
@@ -223,11 +223,11 @@ pub record IsGoing {T : Type 0} (first : Register) (start : Tree T) (hubs : List
   pub few : length (stops first.history leaf) ≤ 1048577
 
 module _ {T : Type 0} (first : Register) (start : Tree T) (hubs : List Hub) (room : ℕ) (leaf : Key) (value : ℤ) where
-  pub going_starts : (route : Route) → IsLawful first.base first.history → IsWalk first.base first.history start.nodes hubs →
+  pub going_starts : {route : Route} → IsLawful first.base first.history → IsWalk first.base first.history start.nodes hubs →
       AreRecords first.base first.history start.nodes start.chain →
       IsSome (find start.nodes leaf) → first.pending ≡ [] → IsUnderWay start.nodes hubs route → route.room ≡ room →
       stops_left start.nodes hubs route ≡ stops_over start.nodes hubs leaf → IsGoing first start hubs room leaf.number value first start route
-  going_starts route law walk records found pending under_way same left = record {
+  going_starts law walk records found pending under_way same left = record {
     passing = record {
       done = [];
       whole = all_stops ∙ ap (filter_map numbered) (sym left);

@@ -20,6 +20,7 @@ use Rattle.rx_event.specs.Tree.{at, is_open, places, is_open_child_of, is_within
 use Rattle.rx_event.specs.Moments.{owed}
 use Rattle.rx_event.specs.Marks.{marks_of, touches, open_children, after_source, after_notifier, after_inner}
 use Rattle.rx_event.specs.Lawful.{MayFollow, IsLawful}
+use Rattle.rx_event.specs.Claims.Nodes.{IsOpenInner}
 use Rattle.rx_event.proofs.Laws.Openness.{is_open_kept, is_open_cut, is_cut_inner, is_open_within}
 use Rattle.rx_event.proofs.Laws.Steps.{may_open, may_name}
 use Rattle.rx_event.proofs.Laws.Switches.{is_open-inner_switch, is_open-inner_first, is_open-inner_flat}
@@ -118,7 +119,7 @@ module _ {base : Kept} {T : Type 0} {g : Ghosts T} {h : List Event} {place : Pla
         let alive : is_open h c ≡ true = (records.each x.inner found.0 found.1).alive in
         let opens : (n : ℕ) → n < length h → is_open (h ++ Open place kind ∷ []) n ≡ (is_open h n && not (is_within h c n)) =
         λ n l. ap (λ (q : Place). is_open (h ++ Open q kind ∷ []) n) r.named ∙
-        is_open-inner_switch base h r.switch c kind ready.law r.switches r.inner.stands alive n l in
+        is_open-inner_switch ready.law (record { switch = r.switches; inner = r.inner.stands; alive = alive }) kind n l in
         cut_left base h (Open place kind) ready.law ready.next old.nodes old.chain records left.nodes left.chain c ready.sound opens
         x.cuts.nodes x.cuts.chain
 
@@ -147,8 +148,13 @@ module _ {base : Kept} {T : Type 0} {g : Ghosts T} {h : List Event} {place : Pla
         let same : r.switch ≡ f = same_inner r.switch f (sym r.named ∙ named) in
         let found = some_of (find old.nodes x.inner) r.inner.found in
         let alive : is_open h x.inner.number ≡ true = (ready.tied.of_tree.records.each x.inner found.0 found.1).alive in
-        marks-inner_at_next base h f x.inner.number kind ready.law may (ap (at is_switch h) (sym same) ∙ r.switches)
-        (ap (λ n. at (is_inner_of n) h x.inner.number) (sym same) ∙ r.inner.stands) alive
+        let open_inner : IsOpenInner h f x.inner.number =
+        record {
+          switch = ap (at is_switch h) (sym same) ∙ r.switches;
+          inner = ap (λ n. at (is_inner_of n) h x.inner.number) (sym same) ∙ r.inner.stands;
+          alive = alive;
+        } in
+        marks-inner_at_next ready.law may open_inner
 
     beside : ReplacesNone h place → (at is_switch h f ≡ true) ⊎ (at is_switch h f ≡ false) →
         marks_of base (h ++ Open (Inner f) kind ∷ []) f ≡ after_inner false (marks_of base h f)
@@ -251,11 +257,11 @@ module _ {base : Kept} {T : Type 0} {g : Ghosts T} {h : List Event} {place : Pla
 module _ {base : Kept} {T : Type 0} {g : Ghosts T} {h : List Event} {kind : Kind} {old left mid new : Tree T} {hubs later : Hubs} {replaces : Bool}
     {key : Key} where
   -- a node below another, which is marked
-  opened_below : (place : Place) (p : Key) (change : Marks → Marks) → IsReadyToOpen base g h place kind old left hubs later replaces →
+  opened_below : {place : Place} (p : Key) (change : Marks → Marks) → IsReadyToOpen base g h place kind old left hubs later replaces →
       IsOpenedBelow h place kind (Some p) old left mid key → AreApart mid.nodes → ((n : ℕ) → p.number ≢ n → touches h n (Open place kind) ≡ false) →
       marks_of base (h ++ Open place kind ∷ []) p.number ≡ change (marks_of base h p.number) → Remarks mid new p change →
       IsTied base g (h ++ Open place kind ∷ []) new
-  opened_below place p change ready below apart others changed marked =
+  opened_below {place} p change ready below apart others changed marked =
       tied_below base g h kind ready.law old left mid new ready.tied.of_tree key place p change ready.next (way_left ready) (way_resources ready)
       below.named others changed apart (above_there ready (Some p) below.named below.there) below.opened marked
 
@@ -268,18 +274,18 @@ module _ {base : Kept} {T : Type 0} {g : Ghosts T} {h : List Event} {kind : Kind
   opened_tied (Source f) None ready below apart marked same = absurd (none-some f (sym below.named))
   opened_tied (Source f) (Some p) ready below apart marked same =
       let at : p.number ≡ f = sym (same_Some f p.number below.named) in
-      opened_below (Source f) p after_source ready below apart (λ n differs. ne_eqb f n (λ same. differs (at ∙ same)))
+      opened_below p after_source ready below apart (λ n differs. ne_eqb f n (λ same. differs (at ∙ same)))
       (subst (λ (n : ℕ). marks_of base (h ++ Open (Source f) kind ∷ []) n ≡ after_source (marks_of base h n)) (sym at)
       (marks-source_at base h f kind ready.law ready.next)) marked
   opened_tied (Notifier u) None ready below apart marked same = absurd (none-some u (sym below.named))
   opened_tied (Notifier u) (Some p) ready below apart marked same =
       let at : p.number ≡ u = sym (same_Some u p.number below.named) in
-      opened_below (Notifier u) p after_notifier ready below apart (λ n differs. ne_eqb u n (λ same. differs (at ∙ same)))
+      opened_below p after_notifier ready below apart (λ n differs. ne_eqb u n (λ same. differs (at ∙ same)))
       (subst (λ (n : ℕ). marks_of base (h ++ Open (Notifier u) kind ∷ []) n ≡ after_notifier (marks_of base h n)) (sym at)
       (marks-notifier_at base h u kind ready.law ready.next)) marked
   opened_tied (Inner f) None ready below apart marked same = absurd (none-some f (sym below.named))
   opened_tied (Inner f) (Some p) ready below apart marked same =
       let at : p.number ≡ f = sym (same_Some f p.number below.named) in
-      opened_below (Inner f) p (after_inner replaces) ready below apart (λ n differs. ne_eqb f n (λ same. differs (at ∙ same)))
+      opened_below p (after_inner replaces) ready below apart (λ n differs. ne_eqb f n (λ same. differs (at ∙ same)))
       (subst (λ (n : ℕ). marks_of base (h ++ Open (Inner f) kind ∷ []) n ≡ after_inner replaces (marks_of base h n)) (sym at)
       (way_marks ready f refl)) marked

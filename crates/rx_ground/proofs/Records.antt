@@ -122,10 +122,10 @@ all_fresh base h nodes chain near = record {
 }
 
 -- the marks of that record are set
-pub remarked : (base : Kept) → (h : List Event) (nodes new : Slots Node) (chain : List Key) (p : Key) (before : Node) (change : Marks → Marks) →
+pub remarked : {base : Kept} → {h : List Event} {nodes new : Slots Node} {chain : List Key} (p : Key) (before : Node) (change : Marks → Marks) →
     AreNearly base h (Some p.number) nodes chain → AreApart nodes → find nodes p ≡ Some before → marks_of base h p.number ≡ change before.marks →
     Rewrites nodes new p (λ node. with_marks (change node.marks) node) → AreRecords base h new (with_due new p chain)
-remarked base h nodes new chain p before change near apart at_p marked rewrites = record { each = each; every = every; quiet = quiet } where
+remarked {base} {h} {nodes} {new} {chain} p before change near apart at_p marked rewrites = record { each = each; every = every; quiet = quiet } where
   here : find new p ≡ Some (with_marks (change before.marks) before)
   here = rewrites.changed ∙ ap (option_map (λ (node : Node). with_marks (change node.marks) node)) at_p
 
@@ -252,7 +252,7 @@ module _ (base : Kept) (h : List Event) (e : Event) (law : IsLawful base h) (nex
           alive = is_open_unchanged h e shuts makes key.number ∙ is.alive;
           marks =
               is.marks ∙
-              sym (marks_untouched base h e law next key.number (is_open_within h key.number is.alive)
+              sym (marks_untouched h e law next key.number (is_open_within h key.number is.alive)
               (is_open_unchanged h e shuts makes key.number ∙ is.alive) (untouched key.number));
         };
     every = λ n alive. r.every n (sym (is_open_unchanged h e shuts makes n) ∙ alive);
@@ -267,7 +267,7 @@ module _ (base : Kept) (h : List Event) (e : Event) (law : IsLawful base h) (nex
     alive = alive;
     marks = λ key node found fresh. let is = r.each key node found in
         is.marks ∙
-        sym (marks_untouched base h e law next key.number (is_open_within h key.number is.alive) (alive key node found)
+        sym (marks_untouched h e law next key.number (is_open_within h key.number is.alive) (alive key node found)
         (untouched key.number (λ same. fresh (ap (λ (n : ℕ). Some n) same))));
     every = λ n open_now. r.every n (sym (is_open_unchanged h e shuts makes n) ∙ open_now);
     quiet = λ key node found fresh off. r.quiet key node found off;
@@ -316,11 +316,11 @@ module _ (base : Kept) (h : List Event) (e : Event) (law : IsLawful base h) (nex
           f
 
   -- a new node beside those that stay
-  pub records_opened : (left : Slots Node) (rest : List Key) → AreLeft h e nodes left chain rest →
-      (new : Slots Node) (key : Key) (above : Option Key) → makes_node e ≡ true → ((n : ℕ) → parent_named e ≢ Some n → touches h n e ≡ false) →
+  pub records_opened : {left : Slots Node} {rest : List Key} → AreLeft h e nodes left chain rest →
+      {new : Slots Node} {key : Key} (above : Option Key) → makes_node e ≡ true → ((n : ℕ) → parent_named e ≢ Some n → touches h n e ≡ false) →
       key.number ≡ length h → entry_at left key.slot ≡ None → find new key ≡ Some (blank_node e above) → KeepsOthers left new key →
       AreNearly base (h ++ e ∷ []) (parent_named e) new rest
-  records_opened left rest stays new key above makes untouched numbered free found others = record {
+  records_opened {left} {rest} stays {new} {key} above makes untouched numbered free found others = record {
     made = made;
     alive = alive;
     marks = marks;
@@ -360,7 +360,7 @@ module _ (base : Kept) (h : List Event) (e : Event) (law : IsLawful base h) (nex
             let here = old k node differs f in
             let is = r.each k node (stays.was k node here) in
             is.marks ∙
-            sym (marks_untouched base h e law next k.number (is_open_within h k.number is.alive) (stays.alive k node here) (untouched k.number fresh))
+            sym (marks_untouched h e law next k.number (is_open_within h k.number is.alive) (stays.alive k node here) (untouched k.number fresh))
 
       every : (n : ℕ) → is_open (h ++ e ∷ []) n ≡ true → HasKey new n
       every n open_now = by_place (cases_order n (length h)) where
@@ -386,12 +386,12 @@ module _ (base : Kept) (h : List Event) (e : Event) (law : IsLawful base h) (nex
         by_key (inr differs) = let here = old k node differs f in r.quiet k node (stays.was k node here) (stays.off k node here off)
 
   -- what a closing leaves
-  pub records_cut : (new : Slots Node) (rest : List Key) (top : ℕ) (stale : Option ℕ) → IsSound nodes →
+  pub records_cut : {new : Slots Node} (rest : List Key) (top : ℕ) (stale : Option ℕ) → IsSound nodes →
       ((n : ℕ) → stale ≢ Some n → is_open (h ++ e ∷ []) n ≡ true → marks_of base (h ++ e ∷ []) n ≡ marks_of base h n) →
       ((n : ℕ) → is_open (h ++ e ∷ []) n ≡ (is_open h n && not (list_any (λ a. top == a) (ancestors h n)))) →
       ((key : Key) → find new key ≡ cond (is_below nodes top key.number) None (find nodes key)) → rest ≡ outside nodes top chain →
       AreNearly base (h ++ e ∷ []) stale new rest
-  records_cut new rest top stale sound kept opens cuts chained = record {
+  records_cut {new} rest top stale sound kept opens cuts chained = record {
     made = λ k node f. let o = was k node f in made_still k node o.1;
     alive = λ k node f. let o = was k node f in alive k node o.1 o.0;
     marks = λ k node f fresh. let o = was k node f in (r.each k node o.1).marks ∙ sym (kept k.number fresh (alive k node o.1 o.0));

@@ -76,11 +76,11 @@ passed_told base h done nodes chain root p = record {
 }
 
 -- at one that changes those of one record
-pub passed_marked : (base : Kept) →
-    (h : List Event) (done : List NumberedStop) (nodes new : Slots Node) (chain : List Key) (p : Key) (s : NumberedStop) (change : Marks → Marks) →
+pub passed_marked : {base : Kept} →
+    {h : List Event} {done : List NumberedStop} {nodes new : Slots Node} {chain : List Key} (p : Key) (s : NumberedStop) (change : Marks → Marks) →
     ArePassed base h done nodes chain → AreApart nodes → IsSome (find nodes p) → Changes p.number s change →
     Rewrites nodes new p (λ node. with_marks (change node.marks) node) → ArePassed base h (done ++ s ∷ []) new (with_due new p chain)
-passed_marked base h done nodes new chain p s change was apart there changes rewrites =
+passed_marked {base} {h} {done} {nodes} {new} {chain} p s change was apart there changes rewrites =
     record { made = made; alive = alive; marks = marks; every = every; quiet = quiet } where
       before : (x : Node) × (find nodes p ≡ Some x)
       before = some_of (find nodes p) there
@@ -145,10 +145,10 @@ passed_marked base h done nodes new chain p s change was apart there changes rew
         by_key (inr differs) = was.quiet key node (other key node differs found) (off_due new key p chain off)
 
 -- and after the last, once the item is written
-pub passed_all : (base : Kept) → (h : List Event) (leaf : ℕ) (v : ℤ) (nodes : Slots Node) (chain : List Key) → IsLawful base h →
+pub passed_all : {base : Kept} → (h : List Event) (leaf : ℕ) (v : ℤ) (nodes : Slots Node) (chain : List Key) → IsLawful base h →
     MayFollow base h (Item leaf v) →
     ArePassed base h (stops h leaf) nodes chain → AreRecords base (h ++ Item leaf v ∷ []) nodes chain
-passed_all base h leaf v nodes chain law next p = record {
+passed_all {base} h leaf v nodes chain law next p = record {
   each = λ key node found.
       let within = is_open_within h key.number (p.alive key node found) in
       record {
@@ -163,14 +163,14 @@ passed_all base h leaf v nodes chain law next p = record {
 -- ties --------------------------------------------------------------------------------------------
 
 -- an item that went its whole way and is written
-pub tied_item : (base : Kept) → {T : Type 0} (g : Ghosts T) (h : List Event) (leaf : ℕ) (v : ℤ) → IsLawful base h → MayFollow base h (Item leaf v) →
-    (old new : Tree T) (hubs : Hubs) →
+pub tied_item : {base : Kept} → {T : Type 0} {g : Ghosts T} {h : List Event} {leaf : ℕ} (v : ℤ) → IsLawful base h → MayFollow base h (Item leaf v) →
+    {old : Tree T} (new : Tree T) {hubs : Hubs} →
     AreTied base g h old hubs → ArePassed base h (stops h leaf) new.nodes new.chain →
     ((key : Key) → IsSome (find old.nodes key) → IsSome (find new.nodes key)) →
     new.resources ≡ old.resources → AreTied base g (h ++ Item leaf v ∷ []) new hubs
-tied_item base g h leaf v law next old new hubs tied passed still same =
-    tied_on g base (Item leaf v) law next tied refl refl refl still (record {
-      records = passed_all base h leaf v new.nodes new.chain law next passed;
+tied_item {base} {g} {h} {leaf} v law next {old} new tied passed still same =
+    tied_on g law next tied refl refl refl still (record {
+      records = passed_all h leaf v new.nodes new.chain law next passed;
       stored =
           all_stored base g h law (Item leaf v) old new tied.of_tree.stored same refl
           (λ r. record { removes = refl; takes = refl; uses = refl; leases = refl; returns = refl })

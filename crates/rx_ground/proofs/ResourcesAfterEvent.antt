@@ -39,6 +39,20 @@ pub record IsApart (r : ℕ) (e : Event) : Type 0 where
   pub leases : is_lease_of r e ≡ false
   pub returns : is_return e ≡ false
 
+-- of this resource the event changes its leases alone
+pub record IsOfLeases (r : ℕ) (e : Event) : Type 0 where
+  pub makes : makes_resource e ≡ false
+  pub removes : is_remove_of r e ≡ false
+  pub takes : is_take_of r e ≡ false
+  pub uses : is_use_of r e ≡ false
+
+-- a new resource is held at this node, at a number that says when it came, and the others are as before
+pub record IsHeldIn {T : Type 0} (h : List Event) (old new : Slots (Stowed T)) (home k : Key) (x : T) : Type 0 where
+  pub numbered : k.number ≡ length h
+  pub free : entry_at old k.slot ≡ None
+  pub found : find new k ≡ Some (stowed_at home x)
+  pub others : KeepsOthers old new k
+
 at_most_one : (test : Bool) → cond {A = ℕ} test 1 0 ≤ 1
 at_most_one true = omega arith
 at_most_one false = omega arith
@@ -100,11 +114,11 @@ module _ (base : Kept) {T : Type 0} (g : Ghosts T) (h : List Event) (law : IsLaw
         by_test false lost = shape_lost (is_open h n) (is_cut h e n) s.removed (sym is.owned ∙ lost)
 
     -- so many leases of it are out after the event as are kept
-    stored_so : (nodes new : Slots Node) (r leases : ℕ) (s : Stowed T) → IsStored base g h nodes r s → is_remove_of r e ≡ false → is_take_of r e ≡ false →
-        is_use_of r e ≡ false → leases ≡ leases_of (h ++ e ∷ []) r →
+    stored_so : {nodes : Slots Node} (new : Slots Node) {r : ℕ} (leases : ℕ) {s : Stowed T} → IsStored base g h nodes r s → is_remove_of r e ≡ false →
+        is_take_of r e ≡ false → is_use_of r e ≡ false → leases ≡ leases_of (h ++ e ∷ []) r →
         ((key : Key) → IsSome (find nodes key) → is_open (h ++ e ∷ []) key.number ≡ true → IsSome (find new key)) →
         IsStored base g (h ++ e ∷ []) new r (record s { leases = leases })
-    stored_so nodes new r leases s is removes takes no_use lent kept = record {
+    stored_so {nodes} new {r} leases {s} is removes takes no_use lent kept = record {
       made = at-append makes_resource h (e ∷ []) r within.0 ∙ is.made;
       accepted = accepted_by-push base h e r within.0 ∙ is.accepted;
       older = is.older;
@@ -126,7 +140,7 @@ module _ (base : Kept) {T : Type 0} (g : Ghosts T) (h : List Event) (law : IsLaw
     pub stored_still : (nodes new : Slots Node) (r : ℕ) (s : Stowed T) → IsStored base g h nodes r s → IsApart r e →
         ((key : Key) → IsSome (find nodes key) → is_open (h ++ e ∷ []) key.number ≡ true → IsSome (find new key)) → IsStored base g (h ++ e ∷ []) new r s
     stored_still nodes new r s is apart kept =
-        stored_so nodes new r s.leases s is apart.removes apart.takes apart.uses (is.lent ∙ sym (leases_of_still base h e law apart.returns r apart.leases))
+        stored_so new s.leases is apart.removes apart.takes apart.uses (is.lent ∙ sym (leases_of_still base h e law apart.returns r apart.leases))
         kept
 
     -- an acceptance is not of this event
@@ -158,33 +172,6 @@ module _ (base : Kept) {T : Type 0} (g : Ghosts T) (h : List Event) (law : IsLaw
           record { key = has.key; value = has.value; found = ap (λ (x : Slots (Stowed T)). find x has.key) same ∙ has.found; numbered = has.numbered };
     }
 
-    -- one that is about the resource of one key alone
-    pub all_stored_but : (old new : Tree T) (k : Key) → AreStored base g h old → AreApart old.resources → IsSome (find old.resources k) →
-        new.nodes ≡ old.nodes → KeepsOthers old.resources new.resources k → makes_resource e ≡ false →
-        ((r : ℕ) (x : Stowed T) → r ≢ k.number → IsStored base g h old.nodes r x → IsStored base g (h ++ e ∷ []) old.nodes r x) →
-        ((x : Stowed T) → find new.resources k ≡ Some x → IsStored base g (h ++ e ∷ []) old.nodes k.number x) →
-        (list_any (is_take_of k.number) (h ++ e ∷ []) ≡ false → IsSome (find new.resources k)) → AreStored base g (h ++ e ∷ []) new
-    all_stored_but old new k s unique there nodes others none stays here left = record { each = each; every = every } where
-      each : (key : Key) (x : Stowed T) → find new.resources key ≡ Some x → IsStored base g (h ++ e ∷ []) new.nodes key.number x
-      each key x found = subst (λ (ns : Slots Node). IsStored base g (h ++ e ∷ []) ns key.number x) (sym nodes) (by_key (cases_key key k)) where
-        by_key : (key ≡ k) ⊎ (key ≢ k) → IsStored base g (h ++ e ∷ []) old.nodes key.number x
-        by_key (inl same) = subst (λ (j : Key). IsStored base g (h ++ e ∷ []) old.nodes j.number x) (sym same) (here x (sym (ap (find new.resources) same) ∙
-            found))
-        by_key (inr differs) =
-            let was : find old.resources key ≡ Some x = sym (others key differs) ∙ found in
-            stays key.number x (λ same. differs (unique key k (ap is_some was) there same)) (s.each key x was)
-
-      every : (r : ℕ) → at makes_resource (h ++ e ∷ []) r ≡ true → list_any (is_take_of r) (h ++ e ∷ []) ≡ false → HasKey new.resources r
-      every r made untaken = by_key (s.every r (accepted_before r none made) (untaken_before r untaken)) where
-        by_key : HasKey old.resources r → HasKey new.resources r
-        by_key has = by_cases (cases_key has.key k) where
-          by_cases : (has.key ≡ k) ⊎ (has.key ≢ k) → HasKey new.resources r
-          by_cases (inl same) =
-              let at_k : k.number ≡ r = ap (λ (j : Key). j.number) (sym same) ∙ has.numbered in
-              let x = some_of (find new.resources k) (left (ap (λ (n : ℕ). list_any (is_take_of n) (h ++ e ∷ [])) at_k ∙ untaken)) in
-              record { key = k; value = x.0; found = x.1; numbered = at_k }
-          by_cases (inr differs) = record { key = has.key; value = has.value; found = others has.key differs ∙ has.found; numbered = has.numbered }
-
 -- each event --------------------------------------------------------------------------------------
 
 module _ (base : Kept) {T : Type 0} (g : Ghosts T) (h : List Event) (law : IsLawful base h) (old new : Tree T) (s : AreStored base g h old)
@@ -197,11 +184,37 @@ module _ (base : Kept) {T : Type 0} (g : Ghosts T) (h : List Event) (law : IsLaw
       IsStored base g (h ++ e ∷ []) old.nodes r x
   others_still e k apart r x differs is = stored_still base g h law e old.nodes old.nodes r x is (apart r differs) (kept_all e)
 
+  -- the event is about the resource of one key alone
+  all_stored_but : (e : Event) (k : Key) → IsSome (find old.resources k) → KeepsOthers old.resources new.resources k → makes_resource e ≡ false →
+      ((r : ℕ) (x : Stowed T) → r ≢ k.number → IsStored base g h old.nodes r x → IsStored base g (h ++ e ∷ []) old.nodes r x) →
+      ((x : Stowed T) → find new.resources k ≡ Some x → IsStored base g (h ++ e ∷ []) old.nodes k.number x) →
+      (list_any (is_take_of k.number) (h ++ e ∷ []) ≡ false → IsSome (find new.resources k)) → AreStored base g (h ++ e ∷ []) new
+  all_stored_but e k there others none stays here left = record { each = each; every = every } where
+    each : (key : Key) (x : Stowed T) → find new.resources key ≡ Some x → IsStored base g (h ++ e ∷ []) new.nodes key.number x
+    each key x found = subst (λ (ns : Slots Node). IsStored base g (h ++ e ∷ []) ns key.number x) (sym nodes) (by_key (cases_key key k)) where
+      by_key : (key ≡ k) ⊎ (key ≢ k) → IsStored base g (h ++ e ∷ []) old.nodes key.number x
+      by_key (inl same) = subst (λ (j : Key). IsStored base g (h ++ e ∷ []) old.nodes j.number x) (sym same)
+          (here x (sym (ap (find new.resources) same) ∙ found))
+      by_key (inr differs) =
+          let was : find old.resources key ≡ Some x = sym (others key differs) ∙ found in
+          stays key.number x (λ same. differs (unique key k (ap is_some was) there same)) (s.each key x was)
+
+    every : (r : ℕ) → at makes_resource (h ++ e ∷ []) r ≡ true → list_any (is_take_of r) (h ++ e ∷ []) ≡ false → HasKey new.resources r
+    every r made untaken = by_key (s.every r (accepted_before base g h law e r none made) (untaken_before base g h law e r untaken)) where
+      by_key : HasKey old.resources r → HasKey new.resources r
+      by_key has = by_cases (cases_key has.key k) where
+        by_cases : (has.key ≡ k) ⊎ (has.key ≢ k) → HasKey new.resources r
+        by_cases (inl same) =
+            let at_k : k.number ≡ r = ap (λ (j : Key). j.number) (sym same) ∙ has.numbered in
+            let x = some_of (find new.resources k) (left (ap (λ (n : ℕ). list_any (is_take_of n) (h ++ e ∷ [])) at_k ∙ untaken)) in
+            record { key = k; value = x.0; found = x.1; numbered = at_k }
+        by_cases (inr differs) = record { key = has.key; value = has.value; found = others has.key differs ∙ has.found; numbered = has.numbered }
+
   -- a resource is used
   pub stored_used : (k : Key) (before : Stowed T) (after : T) → find old.resources k ≡ Some before → g.uses_of after ≡ g.uses_of before.resource + 1 →
       g.tag_of after ≡ g.tag_of before.resource → g.life_of after ≡ g.life_of before.resource →
       Rewrites old.resources new.resources k (with_resource after) → AreStored base g (h ++ Use k.number ∷ []) new
-  stored_used k before after found used tagged lives w = all_stored_but base g h law (Use k.number) old new k s unique (ap is_some found) nodes
+  stored_used k before after found used tagged lives w = all_stored_but (Use k.number) k (ap is_some found)
       w.others refl (others_still (Use k.number) k.number apart) here (λ untaken. ap is_some now)
     where
       now : find new.resources k ≡ Some (with_resource after before)
@@ -238,7 +251,7 @@ module _ (base : Kept) {T : Type 0} (g : Ghosts T) (h : List Event) (law : IsLaw
   pub stored_removed : (k : Key) (before : Stowed T) → find old.resources k ≡ Some before → Rewrites old.resources new.resources k removed →
       AreStored base g (h ++ Remove k.number ∷ []) new
   stored_removed k before found w =
-      all_stored_but base g h law (Remove k.number) old new k s unique (ap is_some found) nodes w.others refl (others_still (Remove k.number) k.number apart)
+      all_stored_but (Remove k.number) k (ap is_some found) w.others refl (others_still (Remove k.number) k.number apart)
       here (λ untaken. ap is_some now)
     where
       now : find new.resources k ≡ Some (removed before)
@@ -281,16 +294,15 @@ module _ (base : Kept) {T : Type 0} (g : Ghosts T) (h : List Event) (law : IsLaw
       here x f = subst (IsStored base g (h ++ Remove k.number ∷ []) old.nodes k.number) (same_Some _ x (sym now ∙ f)) after_it
 
   -- so many leases of a resource are out after an event that is about its leases alone
-  stored_lent : (e : Event) (k : Key) (before after : Stowed T) → find old.resources k ≡ Some before → find new.resources k ≡ Some after →
-      after ≡ record before { leases = after.leases } → after.leases ≡ leases_of (h ++ e ∷ []) k.number → KeepsOthers old.resources new.resources k →
-      makes_resource e ≡ false → is_remove_of k.number e ≡ false → is_take_of k.number e ≡ false → is_use_of k.number e ≡ false →
+  stored_lent : (e : Event) (k : Key) {before : Stowed T} {leases : ℕ} → IsOfLeases k.number e → find old.resources k ≡ Some before →
+      find new.resources k ≡ Some (record before { leases = leases }) → leases ≡ leases_of (h ++ e ∷ []) k.number →
+      KeepsOthers old.resources new.resources k →
       ((r : ℕ) (x : Stowed T) → r ≢ k.number → IsStored base g h old.nodes r x → IsStored base g (h ++ e ∷ []) old.nodes r x) →
       AreStored base g (h ++ e ∷ []) new
-  stored_lent e k before after found now same lent others none removes takes no_use stays =
-      all_stored_but base g h law e old new k s unique (ap is_some found) nodes others none stays here (λ untaken. ap is_some now) where
-        after_it : IsStored base g (h ++ e ∷ []) old.nodes k.number after
-        after_it = subst (IsStored base g (h ++ e ∷ []) old.nodes k.number) (sym same)
-            (stored_so base g h law e old.nodes old.nodes k.number after.leases before (s.each k before found) removes takes no_use lent (kept_all e))
+  stored_lent e k {before} {leases} of found now lent others stays =
+      all_stored_but e k (ap is_some found) others of.makes stays here (λ untaken. ap is_some now) where
+        after_it : IsStored base g (h ++ e ∷ []) old.nodes k.number (record before { leases = leases })
+        after_it = stored_so base g h law e old.nodes leases (s.each k before found) of.removes of.takes of.uses lent (kept_all e)
 
         here : (x : Stowed T) → find new.resources k ≡ Some x → IsStored base g (h ++ e ∷ []) old.nodes k.number x
         here x f = subst (IsStored base g (h ++ e ∷ []) old.nodes k.number) (same_Some _ x (sym now ∙ f)) after_it
@@ -299,8 +311,8 @@ module _ (base : Kept) {T : Type 0} (g : Ghosts T) (h : List Event) (law : IsLaw
   pub stored_leased : (k : Key) (before : Stowed T) → find old.resources k ≡ Some before → Rewrites old.resources new.resources k one_lease_more →
       AreStored base g (h ++ Lease k.number ∷ []) new
   stored_leased k before found w =
-      stored_lent e k before (one_lease_more before) found (w.changed ∙ ap (option_map one_lease_more) found) refl lent w.others refl refl refl refl
-      (others_still e k.number apart) where
+      stored_lent e k (record { makes = refl; removes = refl; takes = refl; uses = refl }) found (w.changed ∙ ap (option_map one_lease_more) found) lent
+      w.others (others_still e k.number apart) where
         e : Event
         e = Lease k.number
 
@@ -318,7 +330,8 @@ module _ (base : Kept) {T : Type 0} (g : Ghosts T) (h : List Event) (law : IsLaw
   pub stored_returned : (l : ℕ) (k : Key) (before : Stowed T) → MayFollow base h (Return l) → slice_get h l ≡ Some (Lease k.number) →
       find old.resources k ≡ Some before → Rewrites old.resources new.resources k one_lease_less → AreStored base g (h ++ Return l ∷ []) new
   stored_returned l k before next made found w =
-      stored_lent e k before (one_lease_less before) found (w.changed ∙ ap (option_map one_lease_less) found) refl lent w.others refl refl refl refl stays where
+      stored_lent e k (record { makes = refl; removes = refl; takes = refl; uses = refl }) found (w.changed ∙ ap (option_map one_lease_less) found) lent
+      w.others stays where
         e : Event
         e = Return l
 
@@ -337,12 +350,12 @@ module _ (base : Kept) {T : Type 0} (g : Ghosts T) (h : List Event) (law : IsLaw
 
         stays : (r : ℕ) (x : Stowed T) → r ≢ k.number → IsStored base g h old.nodes r x → IsStored base g (h ++ e ∷ []) old.nodes r x
         stays r x differs is =
-            stored_so base g h law e old.nodes old.nodes r x.leases x is refl refl refl (is.lent ∙ sym (same_leases r differs)) (kept_all e)
+            stored_so base g h law e old.nodes x.leases is refl refl refl (is.lent ∙ sym (same_leases r differs)) (kept_all e)
 
   -- a resource is taken
   pub stored_taken : (k : Key) → IsSome (find old.resources k) → find new.resources k ≡ None → KeepsOthers old.resources new.resources k →
       AreStored base g (h ++ Take k.number ∷ []) new
-  stored_taken k there gone others = all_stored_but base g h law (Take k.number) old new k s unique there nodes others refl
+  stored_taken k there gone others = all_stored_but (Take k.number) k there others refl
       (others_still (Take k.number) k.number apart) (λ x f. absurd (none-some x (sym gone ∙ f)))
       (λ untaken. absurd (both_ways _ untaken (list_any_push (is_take_of k.number) h (Take k.number) ∙
       or_right (list_any (is_take_of k.number) h) _ (eq-eqb k.number k.number refl))))
@@ -351,10 +364,9 @@ module _ (base : Kept) {T : Type 0} (g : Ghosts T) (h : List Event) (law : IsLaw
       apart r differs = record { removes = refl; takes = ne_eqb k.number r (λ same. differs (sym same)); uses = refl; leases = refl; returns = refl }
 
   -- a fresh resource is accepted
-  pub stored_accepted : (home k : Key) (x : T) → IsSome (find old.nodes home) → is_open h home.number ≡ true → g.life_of x ≡ Live → g.uses_of x ≡ 0 →
-      k.number ≡ length h → entry_at old.resources k.slot ≡ None → find new.resources k ≡ Some (stowed_at home x) →
-      KeepsOthers old.resources new.resources k → AreStored base g (h ++ Accept home.number (g.tag_of x) ∷ []) new
-  stored_accepted home k x there alive lives unused numbered free found others = record { each = each; every = every } where
+  pub stored_accepted : {home k : Key} {x : T} → IsSome (find old.nodes home) → is_open h home.number ≡ true → g.life_of x ≡ Live → g.uses_of x ≡ 0 →
+      IsHeldIn h old.resources new.resources home k x → AreStored base g (h ++ Accept home.number (g.tag_of x) ∷ []) new
+  stored_accepted {home} {k} {x} there alive lives unused held = record { each = each; every = every } where
     e : Event
     e = Accept home.number (g.tag_of x)
 
@@ -383,24 +395,25 @@ module _ (base : Kept) {T : Type 0} (g : Ghosts T) (h : List Event) (law : IsLaw
     each key y f = subst (λ (ns : Slots Node). IsStored base g (h ++ e ∷ []) ns key.number y) (sym nodes) (by_key (cases_key key k)) where
       by_key : (key ≡ k) ⊎ (key ≢ k) → IsStored base g (h ++ e ∷ []) old.nodes key.number y
       by_key (inl same) =
-          let at_end : key.number ≡ length h = ap (λ (j : Key). j.number) same ∙ numbered in
+          let at_end : key.number ≡ length h = ap (λ (j : Key). j.number) same ∙ held.numbered in
           subst (λ (n : ℕ). IsStored base g (h ++ e ∷ []) old.nodes n y) (sym at_end)
-          (subst (IsStored base g (h ++ e ∷ []) old.nodes (length h)) (same_Some _ y (sym found ∙ sym (ap (find new.resources) same) ∙ f)) after_it)
+          (subst (IsStored base g (h ++ e ∷ []) old.nodes (length h)) (same_Some _ y (sym held.found ∙ sym (ap (find new.resources) same) ∙ f)) after_it)
       by_key (inr differs) =
-          stored_still base g h law e old.nodes old.nodes key.number y (s.each key y (sym (others key differs) ∙ f))
+          stored_still base g h law e old.nodes old.nodes key.number y (s.each key y (sym (held.others key differs) ∙ f))
           (record { removes = refl; takes = refl; uses = refl; leases = refl; returns = refl }) kept
 
     every : (r : ℕ) → at makes_resource (h ++ e ∷ []) r ≡ true → list_any (is_take_of r) (h ++ e ∷ []) ≡ false → HasKey new.resources r
     every r made untaken = by_place (cases_order r (length h)) where
       by_place : (r ≡ length h) ⊎ ((r < length h) ⊎ (length h < r)) → HasKey new.resources r
-      by_place (inl same) = record { key = k; value = stowed_at home x; found = found; numbered = numbered ∙ sym same }
+      by_place (inl same) = record { key = k; value = stowed_at home x; found = held.found; numbered = held.numbered ∙ sym same }
       by_place (inr (inl l)) =
           let has = s.every r (sym (at-append makes_resource h (e ∷ []) r l) ∙ made) (untaken_before base g h law e r untaken) in
           record {
             key = has.key;
             value = has.value;
             found =
-                others has.key (λ same. none-some has.value (sym (ap (find old.resources) same ∙ ap (with_number k.number) free) ∙ has.found)) ∙ has.found;
+                held.others has.key (λ same. none-some has.value (sym (ap (find old.resources) same ∙ ap (with_number k.number) held.free) ∙ has.found)) ∙
+                has.found;
             numbered = has.numbered;
           }
       by_place (inr (inr gr)) = absurd (let w = within_now in omega (arith, length-append h (e ∷ []))) where

@@ -141,9 +141,9 @@ module _ {X : Type 0} (number : X → ℕ) where
   rebuilt keep (x ∷ xs) each = λ i. each x (Contains-head x xs) i ∷ rebuilt keep xs (λ y c. each y (Contains-later x xs y c)) i
 
   -- what is kept of just these numbers, in the order of the numbers
-  pub in_order : (keep : ℕ → X) (test : ℕ → Bool) (m : ℕ) (xs ys : List X) → IsByNumber number xs ys → ((x : X) → Contains xs x → x ≡ keep (number x)) →
+  pub in_order : (keep : ℕ → X) {test : ℕ → Bool} (m : ℕ) (xs ys : List X) → IsByNumber number xs ys → ((x : X) → Contains xs x → x ≡ keep (number x)) →
       ListsJust test (map number xs) → ((n : ℕ) → test n ≡ true → n < m) → ys ≡ map keep (filter test (range_with_len 0 m))
-  in_order keep test m xs ys order each just below =
+  in_order keep {test} m xs ys order each just below =
       rebuilt keep ys kept ∙ ap (map keep) (rising_just test m (map number ys) up passes listed below)
     where
       same : IsPermutation (map number xs) (map number ys)

@@ -94,26 +94,15 @@ module _ (base : Kept) {T : Type 0} (g : Ghosts T) (h : List Event) (e : Event) 
   tied_same shuts makes none untouched apart =
       tied_still old shuts makes untouched refl refl (all_stored base g h law e old old tied.stored refl none apart (λ key some alive. some))
 
-  -- one that is about no resource, and changes the marks of one node alone
-  pub tied_marked : (new : Tree T) → IsSound old.nodes → (u : Key) → IsSome (find old.nodes u) → (change : Marks → Marks) → shuts_none e ≡ true →
-      makes_node e ≡ false → makes_resource e ≡ false → ((r : ℕ) → IsApart r e) → ((n : ℕ) → u.number ≢ n → touches h n e ≡ false) →
-      marks_of base (h ++ e ∷ []) u.number ≡ change (marks_of base h u.number) → Remarks old new u change → IsTied base g (h ++ e ∷ []) new
-  tied_marked new sound u there change shuts makes none apart untouched changed marked = record {
-    records = subst (AreRecords base (h ++ e ∷ []) new.nodes) (sym marked.chain)
-        (remarked base (h ++ e ∷ []) old.nodes new.nodes old.chain u before.0 change near sound.apart before.1 marks marked.nodes);
-    stored = all_stored base g h law e old new tied.stored marked.resources none apart (λ k some alive. still_there u marked.nodes k some);
-  }
-    where
-      near : AreNearly base (h ++ e ∷ []) (Some u.number) old.nodes old.chain
-      near = records_touched base h e law next old.nodes old.chain tied.records u.number shuts makes untouched
-
-      before : (x : Node) × (find old.nodes u ≡ Some x)
-      before = some_of (find old.nodes u) there
-
-      marks : marks_of base (h ++ e ∷ []) u.number ≡ change before.0.marks
-      marks = changed ∙ ap change (sym (tied.records.each u before.0 before.1).marks)
-
 -- an opening ----------------------------------------------------------------------------------------
+
+-- the event makes a node that stands below none, and is about nothing else
+pub record OpensTop (h : List Event) (e : Event) : Type 0 where
+  pub makes : makes_node e ≡ true
+  pub none : makes_resource e ≡ false
+  pub top : parent_named e ≡ None
+  pub untouched : (n : ℕ) → touches h n e ≡ false
+  pub apart : (r : ℕ) → IsApart r e
 
 -- the tree after an opening, before the node above is marked
 pub record IsOpenedIn {T : Type 0} (h : List Event) (made : Event) (above : Option Key) (old mid : Tree T) (key : Key) : Type 0 where
@@ -124,7 +113,8 @@ pub record IsOpenedIn {T : Type 0} (h : List Event) (made : Event) (above : Opti
   pub resources : mid.resources ≡ old.resources
   pub chain : mid.chain ≡ old.chain
 
-module _ (base : Kept) {T : Type 0} (g : Ghosts T) (h : List Event) (law : IsLawful base h) (old left mid : Tree T) (tied : IsTied base g h old) (key : Key) where
+module _ (base : Kept) {T : Type 0} (g : Ghosts T) (h : List Event) (law : IsLawful base h) (old left mid : Tree T)
+    (tied : IsTied base g h old) (key : Key) where
   -- what was found is found in the tree with the new node
   pub found_still : (e : Event) (above : Option Key) → IsOpenedIn h e above left mid key → (k : Key) → IsSome (find left.nodes k) →
       find mid.nodes k ≡ find left.nodes k
@@ -143,15 +133,14 @@ module _ (base : Kept) {T : Type 0} (g : Ghosts T) (h : List Event) (law : IsLaw
       ap is_some (found_still e above opened k here) ∙ here
 
   -- a node that stands below none
-  pub tied_top : (e : Event) → MayFollow base h e → makes_node e ≡ true → makes_resource e ≡ false → parent_named e ≡ None → ((n : ℕ) → touches h n e ≡ false) →
-      ((r : ℕ) → IsApart r e) → AreLeft h e old.nodes left.nodes old.chain left.chain → left.resources ≡ old.resources →
+  pub tied_top : {e : Event} → MayFollow base h e → OpensTop h e → AreLeft h e old.nodes left.nodes old.chain left.chain → left.resources ≡ old.resources →
       IsOpenedIn h e None left mid key → IsTied base g (h ++ e ∷ []) mid
-  tied_top e next makes none top untouched apart stays same opened = record {
+  tied_top {e} next opens stays same opened = record {
     records = subst (AreRecords base (h ++ e ∷ []) mid.nodes) (sym opened.chain) (all_fresh _ _ mid.nodes left.chain
-        (subst (λ (o : Option ℕ). AreNearly base (h ++ e ∷ []) o mid.nodes left.chain) top
-        (records_opened base h e law next old.nodes old.chain tied.records left.nodes left.chain stays mid.nodes key None makes (λ n differs. untouched n)
+        (subst (λ (o : Option ℕ). AreNearly base (h ++ e ∷ []) o mid.nodes left.chain) opens.top
+        (records_opened base h e law next old.nodes old.chain tied.records stays None opens.makes (λ n differs. opens.untouched n)
         opened.numbered opened.free opened.found opened.others)));
-    stored = all_stored base g h law e old mid tied.stored (opened.resources ∙ same) none apart (opened_there e None stays opened);
+    stored = all_stored base g h law e old mid tied.stored (opened.resources ∙ same) opens.none opens.apart (opened_there e None stays opened);
   }
 
 module _ (base : Kept) {T : Type 0} (g : Ghosts T) (h : List Event) (kind : Kind) (law : IsLawful base h) (old left mid new : Tree T)
@@ -162,7 +151,8 @@ module _ (base : Kept) {T : Type 0} (g : Ghosts T) (h : List Event) (kind : Kind
   pub tied_root : MayFollow base h (Open Root kind) → AreLeft h (Open Root kind) old.nodes left.nodes old.chain left.chain → left.resources ≡ old.resources →
       IsOpenedIn h (Open Root kind) None left mid key → IsTied base g (h ++ Open Root kind ∷ []) mid
   tied_root next stays same opened =
-      tied_top base g h law old left mid tied key (Open Root kind) next refl refl refl (λ n. refl) (apart_all Root) stays same opened
+      tied_top base g h law old left mid tied key next
+      (record { makes = refl; none = refl; top = refl; untouched = λ n. refl; apart = apart_all Root }) stays same opened
 
   -- one below another, which is marked
   pub tied_below : (place : Place) (p : Key) (change : Marks → Marks) →
@@ -173,7 +163,7 @@ module _ (base : Kept) {T : Type 0} (g : Ghosts T) (h : List Event) (kind : Kind
   tied_below place p change next stays same named apart_marks changed apart there opened marked = record {
     records =
         subst (AreRecords base (h ++ e ∷ []) new.nodes) (ap (with_due new.nodes p) (sym opened.chain) ∙ sym marked.chain)
-        (remarked base (h ++ e ∷ []) mid.nodes new.nodes left.chain p before.0 change near apart at_p marks marked.nodes);
+        (remarked p before.0 change near apart at_p marks marked.nodes);
     stored = all_stored base g h law e old new tied.stored (marked.resources ∙ opened.resources ∙
         same) refl (apart_all place) (λ k some alive. still_there p marked.nodes k
         (opened_there base g h law old left mid tied key e (Some p) stays opened k some alive));
@@ -184,7 +174,7 @@ module _ (base : Kept) {T : Type 0} (g : Ghosts T) (h : List Event) (kind : Kind
 
       near : AreNearly base (h ++ e ∷ []) (Some p.number) mid.nodes left.chain
       near = subst (λ (o : Option ℕ). AreNearly base (h ++ e ∷ []) o mid.nodes left.chain) named
-          (records_opened base h e law next old.nodes old.chain tied.records left.nodes left.chain stays mid.nodes key (Some p) refl
+          (records_opened base h e law next old.nodes old.chain tied.records stays (Some p) refl
           (λ n differs. apart_marks n (λ same. differs (named ∙ ap (λ (m : ℕ). Some m) same))) opened.numbered opened.free opened.found opened.others)
 
       before : (x : Node) × (find left.nodes p ≡ Some x)
@@ -203,10 +193,25 @@ module _ (base : Kept) {T : Type 0} (g : Ghosts T) (h : List Event) (law : IsLaw
     (there : IsSome (find old.nodes u)) where
   -- a FlatMap or Switch owes it no more
   pub tied_decline : MayFollow base h (Decline u.number) → Remarks old new u after_decline → IsTied base g (h ++ Decline u.number ∷ []) new
-  tied_decline next marked =
-      tied_marked base g h (Decline u.number) law next old tied new sound u there after_decline refl refl refl
-      (λ r. record { removes = refl; takes = refl; uses = refl; leases = refl; returns = refl })
-      (λ n differs. ne_eqb u.number n differs) (marks-decline_at base h u.number law next) marked
+  tied_decline next marked = record {
+    records = subst (AreRecords base (h ++ e ∷ []) new.nodes) (sym marked.chain)
+        (remarked u before.0 after_decline near sound.apart before.1 marks marked.nodes);
+    stored = all_stored base g h law e old new tied.stored marked.resources refl
+        (λ r. record { removes = refl; takes = refl; uses = refl; leases = refl; returns = refl })
+        (λ k some alive. still_there u marked.nodes k some);
+  }
+    where
+      e : Event
+      e = Decline u.number
+
+      near : AreNearly base (h ++ e ∷ []) (Some u.number) old.nodes old.chain
+      near = records_touched base h e law next old.nodes old.chain tied.records u.number refl refl (λ n differs. ne_eqb u.number n differs)
+
+      before : (x : Node) × (find old.nodes u ≡ Some x)
+      before = some_of (find old.nodes u) there
+
+      marks : marks_of base (h ++ e ∷ []) u.number ≡ after_decline before.0.marks
+      marks = marks-decline_at base h u.number law next ∙ ap after_decline (sym (tied.records.each u before.0 before.1).marks)
 
 -- closings ----------------------------------------------------------------------------------------
 
@@ -247,7 +252,7 @@ module _ (base : Kept) {T : Type 0} (g : Ghosts T) (h : List Event) (c : ℕ) (t
       ((n : ℕ) → stale ≢ Some n → is_open (h ++ End c t ∷ []) n ≡ true → marks_of base (h ++ End c t ∷ []) n ≡ marks_of base h n) →
       AreNearly base (h ++ End c t ∷ []) stale mid.nodes mid.chain
   near_end stale kept =
-      records_cut base h (End c t) law next old.nodes old.chain tied.records mid.nodes mid.chain c stale sound kept (is_open_outside-end h c t) cuts.nodes
+      records_cut base h (End c t) law next old.nodes old.chain tied.records mid.chain c stale sound kept (is_open_outside-end h c t) cuts.nodes
       cuts.chain
 
   no_child : (o : Option ℕ) → parent h c ≡ o → (n : ℕ) → o ≢ Some n → is_child_of h n c ≡ false
@@ -261,20 +266,20 @@ module _ (base : Kept) {T : Type 0} (g : Ghosts T) (h : List Event) (c : ℕ) (t
   tied_end_top above = record {
     records =
         all_fresh _ _ mid.nodes mid.chain
-        (near_end None (λ n fresh alive. marks-end_other base h c t law next n alive (no_child None above n (λ e. none-some n e))));
+        (near_end None (λ n fresh alive. marks-end_other h c t law next n alive (no_child None above n (λ e. none-some n e))));
     stored =
         all_stored base g h law (End c t) old mid tied.stored cuts.resources refl apart_end
         (cut_keeps base h (End c t) old mid tied.records sound c (is_open_outside-end h c t) cuts).still;
   }
 
   -- and that of one that stands below another, which remembers it
-  pub tied_end_child : (p : Key) (made : Event) (above : Node) → AreApart mid.nodes → is_open h c ≡ true → parent h c ≡ Some p.number →
+  pub tied_end_child : {p : Key} {made : Event} (above : Node) → AreApart mid.nodes → is_open h c ≡ true → parent h c ≡ Some p.number →
       slice_get h c ≡ Some made → find old.nodes p ≡ Some above → find mid.nodes p ≡ Some above →
       Remarks mid new p (after_child (is_some (source_named made)) (is_merging above.made) t) → IsTied base g (h ++ End c t ∷ []) new
-  tied_end_child p made above apart alive below at_c found at_p marked = record {
+  tied_end_child {p} {made} above apart alive below at_c found at_p marked = record {
     records = subst (AreRecords base (h ++ End c t ∷ []) new.nodes) (sym marked.chain)
-        (remarked base (h ++ End c t ∷ []) mid.nodes new.nodes mid.chain p above (after_child (is_some (source_named made)) (is_merging above.made) t)
-        (near_end (Some p.number) (λ n fresh alive. marks-end_other base h c t law next n alive (no_child (Some p.number) below n fresh)))
+        (remarked p above (after_child (is_some (source_named made)) (is_merging above.made) t)
+        (near_end (Some p.number) (λ n fresh alive. marks-end_other h c t law next n alive (no_child (Some p.number) below n fresh)))
         apart at_p marks marked.nodes);
     stored =
         all_stored base g h law (End c t) old new tied.stored (marked.resources ∙ cuts.resources) refl apart_end
@@ -285,7 +290,7 @@ module _ (base : Kept) {T : Type 0} (g : Ghosts T) (h : List Event) (c : ℕ) (t
       is = (tied.records.each p above found).made
 
       marks : marks_of base (h ++ End c t ∷ []) p.number ≡ after_child (is_some (source_named made)) (is_merging above.made) t above.marks
-      marks = marks-end_at base h c p.number made above.made t law next below at_c is ∙
+      marks = marks-end_at law next below at_c is ∙
           ap (λ b. after_child b (is_merging above.made) t (marks_of base h p.number))
           (sym (source_at made p.number (parent_name h c p.number made below at_c))) ∙
           ap (after_child (is_some (source_named made)) (is_merging above.made) t) (sym (tied.records.each p above found).marks)
@@ -298,10 +303,10 @@ module _ (base : Kept) {T : Type 0} (g : Ghosts T) (h : List Event) (c : ℕ) (t
       absurd (omega arith))) ∙ found
 
 -- the closing of a root
-pub tied_close : (base : Kept) → {T : Type 0} (g : Ghosts T) (h : List Event) (c : ℕ) → IsLawful base h → MayFollow base h (Close c) →
+pub tied_close : {base : Kept} → {T : Type 0} {g : Ghosts T} {h : List Event} (c : ℕ) → IsLawful base h → MayFollow base h (Close c) →
     (old mid : Tree T) → IsTied base g h old → IsSound old.nodes → Cuts old mid c → IsTied base g (h ++ Close c ∷ []) mid
-tied_close base g h c law next old mid tied sound cuts = record {
-  records = all_fresh _ _ mid.nodes mid.chain (records_cut base h (Close c) law next old.nodes old.chain tied.records mid.nodes mid.chain c None sound
+tied_close {base} {g} {h} c law next old mid tied sound cuts = record {
+  records = all_fresh _ _ mid.nodes mid.chain (records_cut base h (Close c) law next old.nodes old.chain tied.records mid.chain c None sound
       (λ n fresh alive. marks_closed base h c law next n alive) (is_open_outside-close h c) cuts.nodes cuts.chain);
   stored = all_stored base g h law (Close c) old mid tied.stored cuts.resources refl
       (λ r. record { removes = refl; takes = refl; uses = refl; leases = refl; returns = refl })

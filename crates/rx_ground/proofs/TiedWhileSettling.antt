@@ -111,10 +111,10 @@ open_before h e n l alive = by_test (is_open h n) refl where
   by_test true was = refl
   by_test false was = absurd (false≢true (sym (stays_closed h e n l was) ∙ alive))
 
-older_on : (h : List Event) (e : Event) (number : ℕ) (old mid new : Slots Node) → number ≤ length h →
+older_on : {h : List Event} (e : Event) {number : ℕ} (old mid new : Slots Node) → number ≤ length h →
     ((key : Key) → IsSome (find old key) → key.number < length h) →
     KeepsOlder h number old mid → KeepsOlder (h ++ e ∷ []) (length h) mid new → KeepsOlder (h ++ e ∷ []) number old new
-older_on h e number old mid new le within first then = record {
+older_on {h} e {number} old mid new le within first then = record {
   from = λ key some l. first.from key (then.from key some (omega arith)) l;
   still = λ key some alive. then.still key (first.still key some (open_before h e key.number (within key some) alive)) alive;
 }
@@ -199,44 +199,52 @@ pub next_room : {T : Type 0} (b : Ground T) (d : HubDue) → IsNext b d → HasR
 next_room b d next room n is =
     room n (connect_due b.register.base (subst (λ (x : HubDue). IsForced b.register.base b.register.history (event_of x)) is next.forced))
 
+-- what comes next was written: no older node came, and the resources, the leases, the number of hubs and the memory are as before
+pub record WritesNext {T : Type 0} (g : Ghosts T) (old new : Ground T) (d : HubDue) : Type 0 where
+  pub law : IsLawful old.register.base old.register.history
+  pub next : IsNext old d
+  pub written : Writes old.register (event_of d ∷ []) new.register
+  pub tied : AreTied new.register.base g new.register.history new.tree new.hubs
+  pub leased : AreLeased new.register.history new.tree.resources new.leases
+  pub nodes : KeepsOlder new.register.history (length old.register.history) old.tree.nodes new.tree.nodes
+  pub resources : new.tree.resources ≡ old.tree.resources
+  pub hubs : length new.hubs.hubs ≡ length old.hubs.hubs
+  pub leases : new.leases ≡ old.leases
+  pub memory : TakesNoMemory old new
+
 -- one event more
-pub way_on : {T : Type 0} (g : Ghosts T) (start old new : Ground T) (d : HubDue) → IsOnTheWay g start old → IsLawful old.register.base old.register.history →
-    IsNext old d →
-    Writes old.register (event_of d ∷ []) new.register → AreTied new.register.base g new.register.history new.tree new.hubs →
-    AreLeased new.register.history new.tree.resources new.leases →
-    KeepsOlder new.register.history (length old.register.history) old.tree.nodes new.tree.nodes → new.tree.resources ≡ old.tree.resources →
-    length new.hubs.hubs ≡ length old.hubs.hubs → new.leases ≡ old.leases → TakesNoMemory old new → IsOnTheWay g start new
-way_on g start old new d w law next written tied leased kept resources hubs leases memory = record {
-  tied = tied;
-  leased = leased;
-  paid = forced_pays old.register new.register (event_of d) law next.forced w.paid written;
-  room = λ n waits. absurd (forced_connected old.register.base old.register.history (event_of d) w.paid.waits w.paid.may_wait next.forced n
-      (subst (λ (k : List Event). IsConnectDue k n) written.history waits));
-  base = written.base ∙ w.base;
-  forced = subst (IsForcedOn start.register.base start.register.history) (sym written.history)
-      (more w.forced (subst (λ (b : Kept). IsForced b old.register.history (event_of d)) w.base next.forced));
+pub way_on : {T : Type 0} {g : Ghosts T} {start old new : Ground T} {d : HubDue} → IsOnTheWay g start old → WritesNext g old new d → IsOnTheWay g start new
+way_on {start} {old} {new} {d} w one = record {
+  tied = one.tied;
+  leased = one.leased;
+  paid = forced_pays old.register new.register (event_of d) one.law one.next.forced w.paid one.written;
+  room = λ n waits. absurd (forced_connected old.register.base old.register.history (event_of d) w.paid.waits w.paid.may_wait one.next.forced n
+      (subst (λ (k : List Event). IsConnectDue k n) one.written.history waits));
+  base = one.written.base ∙ w.base;
+  forced = subst (IsForcedOn start.register.base start.register.history) (sym one.written.history)
+      (more w.forced (subst (λ (b : Kept). IsForced b old.register.history (event_of d)) w.base one.next.forced));
   grown = let n = w.grown in let l = longer in omega arith;
   within = λ key some. let n = w.within key some in let l = longer in omega arith;
-  nodes = subst (λ (k : List Event). KeepsOlder k (length start.register.history) start.tree.nodes new.tree.nodes) (sym written.history)
-      (older_on old.register.history (event_of d) (length start.register.history) start.tree.nodes old.tree.nodes new.tree.nodes w.grown w.within w.nodes
-      (subst (λ (k : List Event). KeepsOlder k (length old.register.history) old.tree.nodes new.tree.nodes) written.history kept));
-  resources = resources ∙ w.resources;
-  same_leases = leases ∙ w.same_leases;
-  hubs = hubs ∙ w.hubs;
-  limit = written.limit ∙ w.limit;
-  given = written.given ∙ w.given;
-  memory = memory_on start old new w.memory memory;
+  nodes = subst (λ (k : List Event). KeepsOlder k (length start.register.history) start.tree.nodes new.tree.nodes) (sym one.written.history)
+      (older_on (event_of d) start.tree.nodes old.tree.nodes new.tree.nodes w.grown w.within w.nodes
+      (subst (λ (k : List Event). KeepsOlder k (length old.register.history) old.tree.nodes new.tree.nodes) one.written.history one.nodes));
+  resources = one.resources ∙ w.resources;
+  same_leases = one.leases ∙ w.same_leases;
+  hubs = one.hubs ∙ w.hubs;
+  limit = one.written.limit ∙ w.limit;
+  given = one.written.given ∙ w.given;
+  memory = memory_on start old new w.memory one.memory;
 }
   where
     longer : length new.register.history ≡ length old.register.history + 1
-    longer = ap (λ (k : List Event). length k) written.history ∙ length-append old.register.history (event_of d ∷ [])
+    longer = ap (λ (k : List Event). length k) one.written.history ∙ length-append old.register.history (event_of d ∷ [])
 
 -- the chain -----------------------------------------------------------------------------------------
 
 -- another chain off which nothing is due leaves the tie
-pub tied_rechained : (base : Kept) → {T : Type 0} (g : Ghosts T) (h : List Event) (old new : Tree T) (hubs later : Hubs) (chain : List Key) →
+pub tied_rechained : {base : Kept} → {T : Type 0} {g : Ghosts T} {h : List Event} {old : Tree T} (new : Tree T) (hubs later : Hubs) (chain : List Key) →
     AreTied base g h old hubs → later ≡ hubs → new ≡ record old { chain = chain } → IsChained new.nodes new.chain → AreTied base g h new later
-tied_rechained base {T = T} g h old new hubs later chain tied calm same off =
+tied_rechained {base} {T = T} {g} {h} {old} new hubs later chain tied calm same off =
     subst (AreTied base g h new) (sym calm) (subst (λ (tree : Tree T). AreTied base g h tree hubs) (sym same) (record {
       of_tree = record {
         records = rechained base h old.nodes old.chain chain tied.of_tree.records (subst (λ (tree : Tree T). IsChained tree.nodes tree.chain) same off);
@@ -246,12 +254,17 @@ tied_rechained base {T = T} g h old new hubs later chain tied calm same off =
       joined = tied.joined;
     }))
 
+-- the marks of this key's record are these, and its key goes on the chain where its node has to end by them
+pub record SetsMarks {T : Type 0} (old new : Tree T) (key : Key) (marks : Marks) : Type 0 where
+  pub nodes : Rewrites old.nodes new.nodes key (with_marks marks)
+  pub chain : new.chain ≡ with_due new.nodes key old.chain
+  pub stored : new.resources ≡ old.resources
+
 -- marks that were read and set anew change so
-pub set_remarks : {T : Type 0} (old new : Tree T) (key : Key) (marks after : Marks) (change : Marks → Marks) →
-    option_map (λ (node : Node). node.marks) (find old.nodes key) ≡ Some marks → after ≡ change marks →
-    Rewrites old.nodes new.nodes key (with_marks after) → new.chain ≡ with_due new.nodes key old.chain → new.resources ≡ old.resources →
+pub set_remarks : {T : Type 0} {old new : Tree T} {key : Key} {marks after : Marks} (change : Marks → Marks) →
+    option_map (λ (node : Node). node.marks) (find old.nodes key) ≡ Some marks → after ≡ change marks → SetsMarks old new key after →
     Remarks old new key change
-set_remarks {T = T} old new key marks after change at_marks changes w chain resources = by_value (find old.nodes key) refl where
+set_remarks {T = T} {old} {new} {key} {marks} {after} change at_marks changes sets = by_value (find old.nodes key) refl where
   by_value : (o : Option Node) → find old.nodes key ≡ o → Remarks old new key change
   by_value None e = absurd (none-some marks (sym (ap (option_map (λ (node : Node). node.marks)) e) ∙ at_marks))
   by_value (Some x) e =
@@ -260,28 +273,26 @@ set_remarks {T = T} old new key marks after change at_marks changes w chain reso
       record {
         nodes = record {
           changed =
-              w.changed ∙
+              sets.nodes.changed ∙
               ap (option_map (with_marks after)) e ∙
               ap (λ (y : Node). Some y) now ∙
               sym (ap (option_map (λ (node : Node). with_marks (change node.marks) node)) e);
-          others = w.others;
-          rest = w.rest;
+          others = sets.nodes.others;
+          rest = sets.nodes.rest;
         };
-        chain = chain;
-        resources = resources;
+        chain = sets.chain;
+        resources = sets.stored;
       }
 
 -- those of an end are set by the record that is found
-pub found_end : {T : Type 0} (old new : Tree T) (key : Key) (made : Event) (marks : Marks) (source merging : Bool) (t : Terminal) →
+pub found_end : {T : Type 0} {old new : Tree T} {key : Key} {made : Event} {marks : Marks} (source : Bool) {merging : Bool} (t : Terminal) →
     option_map (λ (node : Node). node.made) (find old.nodes key) ≡ Some made →
     option_map (λ (node : Node). node.marks) (find old.nodes key) ≡ Some marks → merging ≡ is_merging made →
-    Rewrites old.nodes new.nodes key (with_marks (after_child source merging t marks)) →
-    new.chain ≡ with_due new.nodes key old.chain → new.resources ≡ old.resources →
+    SetsMarks old new key (after_child source merging t marks) →
     IfSome (find old.nodes key) (λ node. Remarks old new key (after_child source (is_merging node.made) t))
-found_end {T = T} old new key made marks source merging t at_made at_marks merges w chain resources = by_value (find old.nodes key) refl where
+found_end {T = T} {old} {new} {key} {made} {marks} source t at_made at_marks merges sets = by_value (find old.nodes key) refl where
   by_value : (o : Option Node) → find old.nodes key ≡ o → IfSome o (λ node. Remarks old new key (after_child source (is_merging node.made) t))
   by_value None e = tt
   by_value (Some x) e =
       let is_made : made ≡ x.made = same_Some made x.made (sym at_made ∙ ap (option_map (λ (node : Node). node.made)) e) in
-      set_remarks old new key marks _ (after_child source (is_merging x.made) t) at_marks
-      (ap (λ b. after_child source b t marks) (merges ∙ ap is_merging is_made)) w chain resources
+      set_remarks (after_child source (is_merging x.made) t) at_marks (ap (λ b. after_child source b t marks) (merges ∙ ap is_merging is_made)) sets

@@ -68,10 +68,10 @@ told_sum place value (Firing key ∷ ss) = let rest = told_sum place value ss in
 told_sum place value (Connection key ∷ ss) = let rest = told_sum place value ss in omega arith
 
 -- what was counted on its way is what it wants
-pub reach_told : (base : Kept) → (h : List Event) (nodes : Slots Node) (hubs : List Hub) (key : Key) → IsWalk base h nodes hubs → IsSome (find nodes key) →
+pub reach_told : {base : Kept} → (h : List Event) (nodes : Slots Node) (hubs : List Hub) (key : Key) → IsWalk base h nodes hubs → IsSome (find nodes key) →
     (reach : Reach) →
     IsMeasured (stops_over nodes hubs key) reach → IsReach h nodes key reach
-reach_told base h nodes hubs key walk there reach is = record {
+reach_told {base} h nodes hubs key walk there reach is = record {
   there = there;
   events = is.events ∙ ap (λ (n : ℕ). 1 + n) (owed_sum (stops_over nodes hubs key)) ∙ ap (λ (ss : List NumberedStop). 1 + count_by is_projection ss) (sym same);
   notes =

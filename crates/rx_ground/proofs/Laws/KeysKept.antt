@@ -78,10 +78,10 @@ module _ {T : Type 0} where
   }
 
   -- an opening, or more than one: each resource is held at an older node
-  pub keeps_older : (base : Kept) → (g : Ghosts T) (h : List Event) (old new : Tree T) → IsLawful base h → IsTied base g h old →
+  pub keeps_older : {base : Kept} → (g : Ghosts T) (h : List Event) (old new : Tree T) → IsLawful base h → IsTied base g h old →
       ((key : Key) → IsSome (find new.nodes key) → key.number < length h → IsSome (find old.nodes key)) → new.resources ≡ old.resources →
       KeepsKeys old new (length h)
-  keeps_older base g h old new law tied from same = record {
+  keeps_older {base} g h old new law tied from same = record {
     nodes = from;
     held = λ res held l. held_before old new same res (λ s found there. from s.node there (older (store_key res) s found)) held;
   }
@@ -89,14 +89,14 @@ module _ {T : Type 0} where
       older : (k : Key) (s : Stowed T) → find old.resources k ≡ Some s → s.node.number < length h
       older k s found = let w = stored_within base g h law old.nodes k.number s (tied.stored.each k s found) in let r = w.0 in let n = w.1 in omega arith
 
-  pub keeps_opened : (base : Kept) → (g : Ghosts T) (h : List Event) (old new : Tree T) (key : Key) → IsLawful base h → IsTied base g h old →
+  pub keeps_opened : {base : Kept} → {g : Ghosts T} (h : List Event) (old new : Tree T) (key : Key) → IsLawful base h → IsTied base g h old →
       IsNewNode old.nodes new.nodes (length h) key → new.resources ≡ old.resources → KeepsKeys old new (length h)
-  keeps_opened base g h old new key law tied opened same = keeps_older base g h old new law tied opened.from same
+  keeps_opened {g} h old new key law tied opened same = keeps_older g h old new law tied opened.from same
 
   -- and what was forced
-  pub keeps_settled : (base : Kept) → (g : Ghosts T) (h k : List Event) (old new : Tree T) → IsLawful base h → IsTied base g h old →
+  pub keeps_settled : {base : Kept} → {g : Ghosts T} (h k : List Event) (old new : Tree T) → IsLawful base h → IsTied base g h old →
       KeepsOlder k (length h) old.nodes new.nodes → new.resources ≡ old.resources → KeepsKeys old new (length h)
-  keeps_settled base g h k old new law tied kept same = keeps_older base g h old new law tied kept.from same
+  keeps_settled {g} h k old new law tied kept same = keeps_older g h old new law tied kept.from same
 
 -- leases that stay, all of them
 pub leases_stay : (old new : Slots ResKey) (number : ℕ) → new ≡ old → KeepsLeases old new number

@@ -53,4 +53,4 @@ returns-clause-ok g c =
     let d = c.in_ok-cost.ensures.decided in
     let m = c.in_ok-make_room.ensures in
     let kept = roomier_after c.args.ground.now c.decide.new.ground c.make_room.new.self c.in_ok-cost.ensures.kept m.kept in
-    admitted g.R.Resource c.args.ground.now c.make_room.new.self c.args.wish c.in_ok-cost.cost kept m.standing c.promise.ensures.register d.none d.ok m.ok
+    admitted c.args.wish c.in_ok-cost.cost kept m.standing c.promise.ensures.register d.none d.ok m.ok

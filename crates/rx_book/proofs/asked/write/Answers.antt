@@ -21,7 +21,7 @@ write_end-requires-clause-open g c κs within =
 pub returns-in-End : goal.returns-in-End
 returns-in-End g c =
     let u = c.write_end.ensures in
-    rw c.in-End.is (written_closed g.R.Resource c.args.ground.now c.write_end.new.self _ (rw c.tree_key.ensures at u.written) u.tied u.leased u.kept
+    rw c.in-End.is (written_closed c.write_end.new.self _ (rw c.tree_key.ensures at u.written) u.tied u.leased u.kept
     u.resources u.leases)
 
 pub write_end-requires-in-Abort-clause-ready : goal.write_end-requires-in-Abort-clause-ready
@@ -35,7 +35,7 @@ write_end-requires-in-Abort-clause-open g c κs within =
 pub returns-in-Abort : goal.returns-in-Abort
 returns-in-Abort g c =
     let u = c.write_end-in-Abort.ensures in
-    rw c.in-Abort.is (written_closed g.R.Resource c.args.ground.now c.write_end-in-Abort.new.self _ (rw c.tree_key-in-Abort.ensures at u.written) u.tied
+    rw c.in-Abort.is (written_closed c.write_end-in-Abort.new.self _ (rw c.tree_key-in-Abort.ensures at u.written) u.tied
     u.leased u.kept u.resources u.leases)
 
 pub write_decline-requires-clause-ready : goal.write_decline-requires-clause-ready
@@ -49,7 +49,7 @@ write_decline-requires-clause-open g c κs within =
 pub returns-in-Decline : goal.returns-in-Decline
 returns-in-Decline g c =
     let u = c.write_decline.ensures in
-    rw c.in-Decline.is (written_closed g.R.Resource c.args.ground.now c.write_decline.new.self _ (rw c.tree_key-in-Decline.ensures at u.written) u.tied
+    rw c.in-Decline.is (written_closed c.write_decline.new.self _ (rw c.tree_key-in-Decline.ensures at u.written) u.tied
     u.leased u.kept u.resources u.leases)
 
 pub write_end-requires-in-Fail-clause-ready : goal.write_end-requires-in-Fail-clause-ready
@@ -63,7 +63,7 @@ write_end-requires-in-Fail-clause-open g c κs within =
 pub returns-in-Fail : goal.returns-in-Fail
 returns-in-Fail g c =
     let u = c.write_end-in-Fail.ensures in
-    rw c.in-Fail.is (written_closed g.R.Resource c.args.ground.now c.write_end-in-Fail.new.self _ (rw c.tree_key-in-Fail.ensures at u.written) u.tied u.leased
+    rw c.in-Fail.is (written_closed c.write_end-in-Fail.new.self _ (rw c.tree_key-in-Fail.ensures at u.written) u.tied u.leased
     u.kept u.resources u.leases)
 
 pub write_close-requires-clause-ready : goal.write_close-requires-clause-ready
@@ -77,7 +77,7 @@ write_close-requires-clause-open g c κs within =
 pub returns-in-Dispose : goal.returns-in-Dispose
 returns-in-Dispose g c =
     let u = c.write_close.ensures in
-    rw c.in-Dispose.is (written_closed g.R.Resource c.args.ground.now c.write_close.new.self _ (rw c.tree_key-in-Dispose.ensures at u.written) u.tied u.leased
+    rw c.in-Dispose.is (written_closed c.write_close.new.self _ (rw c.tree_key-in-Dispose.ensures at u.written) u.tied u.leased
     u.kept u.resources u.leases)
 
 -- the hub's open connection is closed, and nothing else
@@ -93,7 +93,7 @@ returns-in-Some g c =
     ap (map (λ n. Close n)) (sym c.in-Some.ensures.number) in
     let mid = c.write_close-in-Some.new.self in
     let w = subst (λ (es : List Event). Writes b.register es mid.register) (sym closes) u.written in
-    rw c.in-Disconnect.is (written_closed g.R.Resource b mid _ w u.tied u.leased u.kept u.resources u.leases)
+    rw c.in-Disconnect.is (written_closed mid _ w u.tied u.leased u.kept u.resources u.leases)
 
 pub write_remove-requires-clause-ready : goal.write_remove-requires-clause-ready
 write_remove-requires-clause-ready g c κs within =
@@ -110,7 +110,7 @@ pub returns-in-Remove : goal.returns-in-Remove
 returns-in-Remove g c =
     let u = c.write_remove.ensures in
     rw c.in-Remove.is
-    (written_held g.R.Resource c.args.ground.now c.write_remove.new.self _ (rw c.tree_res_key.ensures at u.written) u.tied u.leased u.nodes u.kept
+    (written_held c.write_remove.new.self _ (rw c.tree_res_key.ensures at u.written) u.tied u.leased u.nodes u.kept
     (leases_stay _ _ _ u.leases))
 
 pub write_return-requires-clause-ready : goal.write_return-requires-clause-ready
@@ -124,5 +124,5 @@ write_return-requires-clause-out g c κs within =
 pub returns-in-GiveBack : goal.returns-in-GiveBack
 returns-in-GiveBack g c =
     let u = c.write_return.ensures in
-    rw c.in-GiveBack.is (written_held g.R.Resource c.args.ground.now c.write_return.new.self _ (rw c.ground_lease_key.ensures at u.written) u.tied u.leased
+    rw c.in-GiveBack.is (written_held c.write_return.new.self _ (rw c.ground_lease_key.ensures at u.written) u.tied u.leased
     u.nodes u.kept u.leases)

@@ -10,7 +10,7 @@ stops g c =
     let counted = c.loop-turn.invariant.counted in
     let test = c.loop-turn-test.true in
     let within : length c.loop-turn.receipts.items < c.args.turns = omega (arith, counted, test) in
-    last_turn _ _ _ _ _ _ _ _ _ _ _ c.loop-turn.invariant.far c.loop-turn.invariant.course within c.in-Some.ensures
+    last_turn _ _ _ _ c.loop-turn.invariant.far c.loop-turn.invariant.course within c.in-Some.ensures
 
 pub returns-in-Some-clause-receipts : goal.returns-in-Some-clause-receipts
 returns-in-Some-clause-receipts g c = rw c.turn.new.receipts.ok.0 (stops g c).receipts
@@ -20,7 +20,7 @@ returns-in-Some-clause-stop g c = rw c.turn.new.receipts.ok.0 (stops g c).stop
 
 pub loop-turn-preserved : goal.loop-turn-preserved
 loop-turn-preserved g c =
-    let more = turn_more _ _ _ _ _ _ _ _ _ c.loop-turn.invariant.far c.loop-turn.invariant.course c.in_default.ensures in
+    let more = turn_more _ _ _ _ _ c.loop-turn.invariant.far c.loop-turn.invariant.course c.in_default.ensures in
     record { counted = more.counted ∙ ap (λ (n : ℕ). n + 1) c.loop-turn.invariant.counted; far = more.far; course = more.course }
 
 pub returns-clause-stop : goal.returns-clause-stop

@@ -24,8 +24,7 @@ returns-clause-visits g c =
 
 pub loop-stop-preserved : goal.loop-stop-preserved
 loop-stop-preserved g c =
-    measuring_on c.args.tree.now.nodes c.args.hubs.now.hubs c.args.node c.args.route.now.room c.loop-stop.route c.next.new.self c.in-Some.stop
-    c.loop-stop.events c.loop-stop.notes c.owed_at-events.result c.told_at-notes.result c.loop-stop.is_first c.loop-stop.only
+    measuring_on c.args.tree.now.nodes c.args.hubs.now.hubs c.args.node c.args.route.now.room c.owed_at-events.result c.told_at-notes.result
     c.loop-stop.invariant c.in-Some.ensures
     c.owed_at-events.ensures c.told_at-notes.ensures c.if_first-only.result c.if_first-only.ensures
 

@@ -6,7 +6,7 @@ use Rattle.rx_ground.proofs.route.pass_on.Goals as goal
 
 pub loop-stop-init : goal.loop-stop-init
 loop-stop-init g c = rw (to_z-of_z w64 c.args.value c.ranges.value)
-    (going_starts c.args.register.now c.args.tree.now c.args.hubs.now.hubs c.args.route.now.room c.args.leaf c.args.value c.start.new.self
+    (going_starts c.args.register.now c.args.tree.now c.args.hubs.now.hubs c.args.route.now.room c.args.leaf c.args.value
     c.requires.lawful c.requires.walk c.requires.records c.requires.open c.requires.pending
     (c.start.ensures.under_way _ _ c.requires.open c.requires.room) (ap (λ (r : Route). r.room) c.start.ensures.started) (c.start.ensures.stops _ _))
 

@@ -6,7 +6,7 @@ use Rattle.rx_book.specs.Asked.{request_of}
 use Rattle.rx_book.specs.Shown.{state_of}
 use Rattle.rx_book.specs.Steps.{IsLetIn}
 use Rattle.rx_book.proofs.AnswersOkOrErr.{answers_ok, answers_err}
-use Rattle.rx_book.proofs.CallWithoutCause.{pays, connects_none, accepts_written}
+use Rattle.rx_book.proofs.CallWithoutCause.{pays, connects_none, accepts_written, settles_to}
 use Rattle.rx_book.proofs.FreeCalls.{free_let_in, free_subscribes_none}
 use Rattle.rx_book.proofs.book.Book.answer_place.Given as given
 use Rattle.rx_book.proofs.book.Book.answer_place.Goals as goal
@@ -39,6 +39,6 @@ returns g c =
     let s = c.settle.ensures in
     let l = called g (goal.at.returns g c).In_default in
     let done =
-    accepts_written g.R.Resource c.self.inside.ground _ l c.write.new.ground c.settle.new.self c.write.ensures s.standing s.base s.forced s.nodes
-    s.resources s.limit s.given s.leases in
+    accepts_written g.R.Resource c.self.inside.ground _ l c.write.ensures
+    (settles_to s.standing s.base s.forced s.nodes s.resources s.limit s.given s.leases) in
     rw (← c.self.view_is) (answers_ok c.len-place.ensures done)

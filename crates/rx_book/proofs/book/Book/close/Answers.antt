@@ -48,5 +48,5 @@ returns-clause-released g c =
     let d = c.release_waiting-closed.ensures in
     let accepted = c.disconnect_hubs.ensures.accepted ∙ c.dispose_roots.ensures.accepted ∙ c.return_leases.ensures.accepted in
     let taken = c.disconnect_hubs.ensures.taken ∙ c.dispose_roots.ensures.taken ∙ c.return_leases.ensures.taken in
-    closed_released c.args.self.now c.disconnect_hubs.new.self c.release_waiting-closed.new.self c.release_waiting-closed.result.released d.continues.base
-    c.promise.ensures accepted taken d.drains.takes c.promise-2.ensures held d.none_waits d.released
+    closed_released c.disconnect_hubs.new.self c.promise.ensures c.promise-2.ensures accepted taken
+    (record { base = d.continues.base; takes = d.drains.takes; none_waits = d.none_waits; taken = d.released }) held

@@ -8,7 +8,7 @@ use Rattle.rx_book.specs.Requests.{connect_request}
 use Rattle.rx_book.specs.Answers.{AnswersKey}
 use Rattle.rx_book.specs.Shown.{state_of}
 use Rattle.rx_book.proofs.AnswersOkOrErr.{answers_ok, passed_refusal}
-use Rattle.rx_book.proofs.CallWithoutCause.{one_ready, pays, connects_none, accepts}
+use Rattle.rx_book.proofs.CallWithoutCause.{one_ready, pays, connects_none, accepts, settles_to}
 use Rattle.rx_book.proofs.MadeKeyIsListed.{key_listed}
 use Rattle.rx_book.proofs.book.Book.connect.Goals as goal
 
@@ -39,10 +39,10 @@ returns g c =
     let u = c.write_connect-key.ensures in
     let s = c.settle.ensures in
     let l = c.in_ok-admit.ensures.ok.let_in in
-    let kept = keeps_opened b.register.base R h b.tree mid.tree c.write_connect-key.result l.may.lawful l.standing.tied.of_tree u.new u.resources in
+    let kept = keeps_opened h b.tree mid.tree c.write_connect-key.result l.may.lawful l.standing.tied.of_tree u.new u.resources in
     let done =
-    accepts R b _ l mid new u.written kept u.tied.of_tree s.standing s.base s.forced s.nodes s.resources s.limit s.given s.leases
-    (leases_stay _ _ _ u.leases) in
+    accepts R b _ l mid u.written u.tied.of_tree kept (leases_stay _ _ _ u.leases)
+    (settles_to s.standing s.base s.forced s.nodes s.resources s.limit s.given s.leases) in
     let alive =
     connected_stays b.register.base h new.register.history c.args.hub l.may.lawful l.may.settled (one_ready R b _ l (Connect c.args.hub) refl).next
     done.step.forced in

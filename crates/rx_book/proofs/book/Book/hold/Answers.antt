@@ -12,7 +12,8 @@ use Rattle.rx_book.specs.Requests.{hold_request}
 use Rattle.rx_book.specs.Answers.{AnswersResKey}
 use Rattle.rx_book.specs.Shown.{state_of}
 use Rattle.rx_book.proofs.AnswersOkOrErr.{answers_ok, answers_err}
-use Rattle.rx_book.proofs.CallWithoutCause.{one_ready, open_asked, fresh_asked, live_fresh, unused_fresh, pays, connects_none, written_held, accepts_written}
+use Rattle.rx_book.proofs.CallWithoutCause.{one_ready, open_asked, fresh_asked, live_fresh, unused_fresh, pays, connects_none}
+use Rattle.rx_book.proofs.CallWithoutCause.{written_held, accepts_written, settles_to}
 use Rattle.rx_book.proofs.MadeKeyIsListed.{res_key_listed}
 use Rattle.rx_book.proofs.book.Book.hold.Given as given
 use Rattle.rx_book.proofs.book.Book.hold.Goals as goal
@@ -72,12 +73,12 @@ returns g c =
     let n = length h in
     let node = c.args.node.number in
     let tag = R.tag_of c.args.resource in
-    let written = written_held R b mid _ w a.tied a.leased a.nodes a.kept (leases_stay _ _ _ a.leases) in
-    let done = accepts_written R b _ l mid new written s.standing s.base s.forced s.nodes s.resources s.limit s.given s.leases in
+    let written = written_held mid _ w a.tied a.leased a.nodes a.kept (leases_stay _ _ _ a.leases) in
+    let done = accepts_written R b _ l written (settles_to s.standing s.base s.forced s.nodes s.resources s.limit s.given s.leases) in
     let alive = accepted_stays b.register.base h new.register.history node tag l.may.lawful (one_ready R b _ l (Accept node tag) refl).next done.step.forced in
     let accepted = ap (λ (k : Kept). accepted_by k mid.register.history n) w.base ∙ ap (λ (k : List Event). accepted_by b.register.base k n) w.history ∙
     accepted_by_new b.register.base h (Accept node tag) l.may.lawful in
-    let key = res_key_listed R mid new s.nodes n a.tied.of_tree c.write_accept-res.result c.shown_res_key.result c.shown_res_key.ensures s.resources
-    a.number a.held node tag accepted alive in
+    let key = res_key_listed R mid new s.nodes n a.tied.of_tree c.write_accept-res.result c.shown_res_key.ensures s.resources
+    a.number a.held accepted alive in
     subst (λ (x : State). AnswersResKey x (hold_request R x c.args.node c.args.resource) c.args.resource (state_of R new) (Ok c.shown_res_key.result))
     (c.admit.ensures.same ∙ c.self.view_is) (answers_ok key done)

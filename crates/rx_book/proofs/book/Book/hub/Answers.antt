@@ -6,7 +6,7 @@ use Rattle.rx_book.specs.Requests.{hub_request}
 use Rattle.rx_book.specs.Answers.{AnswersPlaceOrWant}
 use Rattle.rx_book.specs.Shown.{state_of}
 use Rattle.rx_book.proofs.AnswersOkOrErr.{answers_ok, passed_refusal}
-use Rattle.rx_book.proofs.CallWithoutCause.{one_ready, pays, connects_none, accepts}
+use Rattle.rx_book.proofs.CallWithoutCause.{one_ready, pays, connects_none, accepts, settles_to}
 use Rattle.rx_book.proofs.book.Book.hub.Goals as goal
 
 pub returns-in_err-admit : goal.returns-in_err-admit
@@ -36,7 +36,7 @@ returns g c =
     let l = c.in_ok-admit.ensures.ok.let_in in
     let kept = keeps_same b.tree mid.tree (length b.register.history) u.tree in
     let done =
-    accepts R b _ l mid new u.written kept u.tied.of_tree s.standing s.base s.forced s.nodes s.resources s.limit s.given s.leases
-    (leases_stay _ _ _ u.leases) in
+    accepts R b _ l mid u.written u.tied.of_tree kept (leases_stay _ _ _ u.leases)
+    (settles_to s.standing s.base s.forced s.nodes s.resources s.limit s.given s.leases) in
     subst (λ (x : State). AnswersPlaceOrWant x (hub_request c.args.mode) (state_of R new) (Ok c.write_hub-number.result))
     (c.in_ok-admit.ensures.same ∙ c.self.view_is) (answers_ok u.number done)

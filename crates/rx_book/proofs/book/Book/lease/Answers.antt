@@ -1,4 +1,4 @@
-use Rattle.std.proofs.Common.{true, length, refl, subst, ◌∙◌}
+use Rattle.std.proofs.Common.{true, refl, subst, ◌∙◌}
 use Rattle.std.specs.Prelude.{Ok}
 use Rattle.std.proofs.lemmas.Bool.{not-false}
 use Rattle.rx_event.specs.declared.refusal.Refusal.TheVariants.{Leased}
@@ -10,7 +10,7 @@ use Rattle.rx_book.specs.Requests.{lease_request}
 use Rattle.rx_book.specs.Answers.{AnswersLeaseKey}
 use Rattle.rx_book.specs.Shown.{state_of}
 use Rattle.rx_book.proofs.AnswersOkOrErr.{answers_ok, passed_refusal}
-use Rattle.rx_book.proofs.CallWithoutCause.{one_ready, owned_asked, pays, connects_none, written_held, accepts_written, lease_key_new}
+use Rattle.rx_book.proofs.CallWithoutCause.{one_ready, owned_asked, pays, connects_none, written_held, accepts_written, lease_key_new, settles_to}
 use Rattle.rx_book.proofs.book.Book.lease.Goals as goal
 
 pub returns-in_err-admit : goal.returns-in_err-admit
@@ -49,10 +49,10 @@ returns g c =
     let s = c.settle.ensures in
     let l = c.in_ok-admit.ensures.ok.let_in in
     let w = rw c.tree_res_key.ensures at u.written in
-    let written = written_held R b mid _ w u.tied u.leased u.nodes u.kept u.leases in
-    let done = accepts_written R b _ l mid new written s.standing s.base s.forced s.nodes s.resources s.limit s.given s.leases in
+    let written = written_held mid _ w u.tied u.leased u.nodes u.kept u.leases in
+    let done = accepts_written R b _ l written (settles_to s.standing s.base s.forced s.nodes s.resources s.limit s.given s.leases) in
     let key =
-    lease_key_new R mid new (length b.register.history) c.write_lease-lease.result c.shown_lease_key.result c.shown_lease_key.ensures u.number u.out
+    lease_key_new R mid new c.write_lease-lease.result c.shown_lease_key.ensures u.number u.out
     s.leases in
     subst (λ (x : State). AnswersLeaseKey x (lease_request x c.args.res) (state_of R new) (Ok c.shown_lease_key.result))
     (c.in_ok-admit.ensures.same ∙ c.self.view_is) (answers_ok key done)

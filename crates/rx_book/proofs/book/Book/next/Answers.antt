@@ -6,7 +6,7 @@ use Rattle.rx_book.specs.Requests.{next_request}
 use Rattle.rx_book.specs.Answers.{AnswersPlaceOrWant}
 use Rattle.rx_book.specs.Shown.{state_of}
 use Rattle.rx_book.proofs.AnswersOkOrErr.{answers_ok, passed_refusal}
-use Rattle.rx_book.proofs.CallWithoutCause.{one_ready, open_asked, pays, connects_none, written_closed, accepts_written}
+use Rattle.rx_book.proofs.CallWithoutCause.{one_ready, open_asked, pays, connects_none, written_closed, accepts_written, settles_to}
 use Rattle.rx_book.proofs.book.Book.next.Goals as goal
 
 pub returns-in_err-admit : goal.returns-in_err-admit
@@ -45,7 +45,7 @@ returns g c =
     let s = c.settle.ensures in
     let l = rw (to_z-of_z w64 c.args.value c.ranges.value) at c.in_ok-admit.ensures.ok.let_in in
     let w = rw (c.tree_key.ensures, to_z-of_z w64 c.args.value c.ranges.value) at u.written in
-    let written = written_closed R b mid _ w u.tied u.leased u.kept u.resources u.leases in
-    let done = accepts_written R b _ l mid new written s.standing s.base s.forced s.nodes s.resources s.limit s.given s.leases in
+    let written = written_closed mid _ w u.tied u.leased u.kept u.resources u.leases in
+    let done = accepts_written R b _ l written (settles_to s.standing s.base s.forced s.nodes s.resources s.limit s.given s.leases) in
     subst (λ (x : State). AnswersPlaceOrWant x (next_request x c.args.leaf c.args.value) (state_of R new) (Ok c.len-place.result))
     (c.in_ok-admit.ensures.same ∙ c.self.view_is) (answers_ok c.len-place.ensures done)

@@ -10,7 +10,7 @@ use Rattle.rx_book.specs.Answers.{AnswersOpened}
 use Rattle.rx_book.specs.Shown.{state_of}
 use Rattle.rx_book.proofs.ShownKeys.{is_known_place_is}
 use Rattle.rx_book.proofs.AnswersOkOrErr.{answers_ok, passed_refusal}
-use Rattle.rx_book.proofs.CallWithoutCause.{known, one_ready, pays, accepts}
+use Rattle.rx_book.proofs.CallWithoutCause.{known, one_ready, pays, accepts, settles_to}
 use Rattle.rx_book.proofs.Openings.{opening_room, placed_at}
 use Rattle.rx_book.proofs.Connections.{connection_answered}
 use Rattle.rx_book.proofs.MadeKeyIsListed.{key_listed}
@@ -44,7 +44,7 @@ settle-requires-clause-room g c κs within =
     let o = c.write_open-key.ensures in
     let a = c.in_ok-admit.ensures.ok in
     let next = (one_ready g.R.Resource b _ a.let_in (Open (place_of c.args.at) c.args.kind) refl).next in
-    opening_room b c.write_open-key.new.self (place_of c.args.at) c.args.kind a.let_in.may.lawful a.let_in.may.settled next
+    opening_room a.let_in.may.lawful a.let_in.may.settled next
     (rw c.spot_of-spot.ensures.place at o.written) a.room.nodes a.room.space o.left o.memory
 
 pub returns : goal.returns
@@ -59,9 +59,10 @@ returns g c =
     let w = rw c.spot_of-spot.ensures.place at o.written in
     let l = c.in_ok-admit.ensures.ok.let_in in
     let next = (one_ready R b _ l (Open (place_of c.args.at) c.args.kind) refl).next in
-    let kept = keeps_opened b.register.base R h b.tree mid.tree c.write_open-key.result l.may.lawful l.standing.tied.of_tree o.new o.resources in
+    let kept = keeps_opened h b.tree mid.tree c.write_open-key.result l.may.lawful l.standing.tied.of_tree o.new o.resources in
     let done =
-    accepts R b _ l mid new w kept o.tied.of_tree s.standing s.base s.forced s.nodes s.resources s.limit s.given s.leases (leases_stay _ _ _ o.leases) in
+    accepts R b _ l mid w o.tied.of_tree kept (leases_stay _ _ _ o.leases)
+    (settles_to s.standing s.base s.forced s.nodes s.resources s.limit s.given s.leases) in
     let alive = opened_stays b.register.base h new.register.history (place_of c.args.at) c.args.kind l.may.lawful next done.step.forced in
     let key = key_listed R mid new s.nodes (length h) c.write_open-key.result c.shown_key.result c.shown_key.ensures o.new.numbered o.new.found alive in
     let of = c.connection_of.ensures in

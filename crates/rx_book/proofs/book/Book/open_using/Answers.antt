@@ -21,7 +21,7 @@ use Rattle.rx_book.specs.Shown.{state_of}
 use Rattle.rx_book.specs.Steps.{IsLetIn}
 use Rattle.rx_book.proofs.ShownKeys.{is_known_place_is}
 use Rattle.rx_book.proofs.AnswersOkOrErr.{answers_ok, answers_err}
-use Rattle.rx_book.proofs.CallWithoutCause.{known, first_ready, second_ready, fresh_asked, live_fresh, unused_fresh, pays, connects_none, accepts}
+use Rattle.rx_book.proofs.CallWithoutCause.{known, first_ready, second_ready, fresh_asked, live_fresh, unused_fresh, pays, connects_none, accepts, settles_to}
 use Rattle.rx_book.proofs.Openings.{placed_at}
 use Rattle.rx_book.proofs.MadeKeyIsListed.{key_listed, res_key_listed}
 use Rattle.rx_book.proofs.book.Book.open_using.Given as given
@@ -112,13 +112,13 @@ returns g c =
     let p = (goal.at.returns g c).In_default in
     let l = called g p in
     let longer : length mid.register.history ≡ length h + 1 = ap (λ (k : List Event). length k) w.history ∙ length-append h (e ∷ []) in
-    let opened = keeps_opened b.register.base R h b.tree mid.tree c.write_open-node.result l.may.lawful l.standing.tied.of_tree o.new o.resources in
+    let opened = keeps_opened h b.tree mid.tree c.write_open-node.result l.may.lawful l.standing.tied.of_tree o.new o.resources in
     let kept = keeps_on b.tree mid.tree last.tree (length h) (length mid.register.history) (omega arith) opened
     (keeps_held mid.tree last.tree (length mid.register.history) a.nodes a.kept) in
     let both = Writes-append b.register mid.register last.register (e ∷ []) (f ∷ []) w v in
     let done =
-    accepts R b _ l last new both kept a.tied.of_tree s.standing s.base s.forced s.nodes s.resources s.limit s.given s.leases
-    (leases_stay _ _ _ (a.leases ∙ o.leases)) in
+    accepts R b _ l last both a.tied.of_tree kept (leases_stay _ _ _ (a.leases ∙ o.leases))
+    (settles_to s.standing s.base s.forced s.nodes s.resources s.limit s.given s.leases) in
     let alive =
     opened_using_stays b.register.base h new.register.history (place_of c.args.at) (R.tag_of c.args.resource) l.may.lawful (opens g p).next
     done.step.forced in
@@ -130,8 +130,8 @@ returns g c =
     let grown = v.history ∙ ap (λ (k : List Event). k ++ f ∷ []) w.history in
     let accepted = ap (λ (k : Kept). accepted_by k last.register.history (length h + 1)) (v.base ∙ w.base) ∙
     ap (λ (k : List Event). accepted_by b.register.base k (length h + 1)) grown ∙ at_last in
-    let res = res_key_listed R last new s.nodes (length h + 1) a.tied.of_tree c.write_accept-res.result c.shown_res_key.result c.shown_res_key.ensures
-    s.resources (a.number ∙ longer) a.held (length h) (R.tag_of c.args.resource) accepted alive in
+    let res = res_key_listed R last new s.nodes (length h + 1) a.tied.of_tree c.write_accept-res.result c.shown_res_key.ensures
+    s.resources (a.number ∙ longer) a.held accepted alive in
     subst (λ (x : State). AnswersOpenedUsing x (using_request R x c.args.at c.args.resource) c.args.resource (state_of R new)
     (Ok (record { key = c.shown_key.result; res = c.shown_res_key.result }))) (c.admit.ensures.same ∙ c.self.view_is)
     (answers_ok (record { key = key; res = res }) done)

@@ -6,7 +6,7 @@ use Rattle.rx_event.proofs.Laws.Calm.{closes_none_kept, settled_on, unforced}
 use Rattle.rx_ground.proofs.Laws.KeysKept.{leases_stay, keeps_held}
 use Rattle.rx_book.specs.Requests.{take_request}
 use Rattle.rx_book.specs.Steps.{IsLetIn}
-use Rattle.rx_book.proofs.CallWithoutCause.{let_in_free, one_ready, pays, connects_none, accepts}
+use Rattle.rx_book.proofs.CallWithoutCause.{let_in_free, one_ready, pays, connects_none, accepts, settles_to}
 use Rattle.rx_book.proofs.OneFewerWaits.{listed_waits, fewer_wait}
 use Rattle.rx_book.proofs.book.Book.take.Given as given
 use Rattle.rx_book.proofs.book.Book.take.Goals as goal
@@ -49,18 +49,17 @@ returns g c =
     let l = called g (goal.at.returns g c).In_ok-handed in
     let ready = one_ready R b _ l (Take r) refl in
     let h = b.register.history in
-    let rests = settled_on b.register.base h (Take r) l.may.lawful ready.next l.may.settled refl (λ n. refl) (closes_none_kept h (Take r) refl) refl in
+    let rests = settled_on l.may.lawful ready.next l.may.settled refl (λ n. refl) (closes_none_kept h (Take r) refl) refl in
     let settled =
     subst (λ (k : Kept). IsSettled k mid.register.history) (sym t.written.base) (subst (IsSettled b.register.base) (sym t.written.history) rests) in
     let grown = unforced mid.register.base s.forced settled ∙ t.written.history in
     rw (← c.self.view_is) (record {
       cases = t.waited.listed;
       accepted =
-          accepts R b _ l mid new t.written (keeps_held b.tree mid.tree (length b.register.history) t.nodes t.kept) t.tied.of_tree s.standing s.base s.forced
-          s.nodes
-          s.resources s.limit s.given s.leases (leases_stay _ _ _ t.leases);
+          accepts R b _ l mid t.written t.tied.of_tree (keeps_held b.tree mid.tree (length b.register.history) t.nodes t.kept) (leases_stay _ _ _ t.leases)
+          (settles_to s.standing s.base s.forced s.nodes s.resources s.limit s.given s.leases);
       kept = tt;
       fewer =
-          fewer_wait R b new r l.standing.tied.of_tree s.standing.tied.of_tree c.promise.ensures.tree.resources_apart c.promise-2.ensures.tree.resources_apart
+          fewer_wait R l.standing.tied.of_tree s.standing.tied.of_tree c.promise.ensures.tree.resources_apart c.promise-2.ensures.tree.resources_apart
           l.may.lawful ready.next grown;
     })

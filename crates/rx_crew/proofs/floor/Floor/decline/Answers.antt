@@ -3,4 +3,4 @@ use Rattle.rx_crew.proofs.Ties.{uncounted}
 use Rattle.rx_crew.proofs.floor.Floor.decline.Goals as goal
 
 pub invariant_of-self : goal.invariant_of-self
-invariant_of-self g c = record { tied = uncounted _ _ _ _ _ _ _ c.decline.ensures refl c.args.self.now.tied }
+invariant_of-self g c = record { tied = uncounted _ _ _ _ _ c.decline.ensures refl c.args.self.now.tied }

@@ -1,8 +1,9 @@
-use Rattle.std.proofs.Common.{refl, sym, subst}
+use Rattle.std.proofs.Common.{refl, sym, ap, subst, ◌∙◌}
+use Rattle.rx_event.specs.Totals.{debt}
 use Rattle.rx_hub.specs.Due.{IsQuiet}
 use Rattle.rx_ground.specs.Shown.{Ground}
 use Rattle.rx_ground.proofs.StandsAfterCheckpoint.{settled_quiet_hubs}
-use Rattle.rx_ground.proofs.CheckpointMakesBase.{standing_after}
+use Rattle.rx_ground.proofs.CheckpointMakesBase.{checkpoint_made, standing_after}
 use Rattle.rx_ground.proofs.base.Ground.checkpoint.Goals as goal
 
 pub forget_ends-requires : goal.forget_ends-requires
@@ -13,5 +14,7 @@ forget_ends-requires g c =
 
 pub returns-clause-standing : goal.returns-clause-standing
 returns-clause-standing g c =
-    standing_after g.R.Resource _ c.args.self.now _ c.load-load.result.debt c.self.view_is c.promise.ensures.register c.requires.standing
-    c.in_ok-rebase.ensures.ok c.load-load.ensures.load.debt refl c.forget_ends.ensures refl refl
+    standing_after c.self.view_is c.promise.ensures.register c.requires.standing
+    (checkpoint_made c.in_ok-rebase.ensures.ok
+    (c.load-load.ensures.load.debt ∙ ap (λ (b : Ground _). debt b.register.base b.register.history) (sym c.self.view_is))
+    refl c.forget_ends.ensures refl refl)

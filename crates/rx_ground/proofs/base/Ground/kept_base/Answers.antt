@@ -11,12 +11,20 @@ use Rattle.rx_ground.proofs.base.Ground.kept_base.Goals as goal
 pub returns : goal.returns
 returns g c =
     c.new.ensures ∙
-    whole_base g.R.Resource _
+    whole_base
     (subst (λ (b : Ground _). IsStanding g.R.Resource b) (sym c.self.view_is) c.requires.standing)
     (subst (λ (b : Ground _). IsRegisterPromised b.register) (sym c.self.view_is) c.promise.ensures.register)
     (subst (λ (b : Ground _). IsTreePromised b.tree) (sym c.self.view_is) c.promise.ensures.tree)
     (subst (λ (b : Ground _). IsHubsPromised b.hubs) (sym c.self.view_is) c.promise.ensures.hubs)
     (subst (λ (b : Ground _). AreApart b.leases) (sym c.self.view_is) c.promise.ensures.leases)
-    _ _ _ _ _ _ _ _ c.len.ensures c.items.ensures c.accepted.ensures c.taken.ensures c.in_ok-hubs.ensures c.in_ok-nodes.ensures c.in_ok-resources.ensures
-    c.in_ok-leases.ensures ∙
+    (record {
+      events = c.len.ensures;
+      items = c.items.ensures;
+      accepted = c.accepted.ensures;
+      taken = c.taken.ensures;
+      hubs = c.in_ok-hubs.ensures;
+      nodes = c.in_ok-nodes.ensures;
+      resources = c.in_ok-resources.ensures;
+      leases = c.in_ok-leases.ensures;
+    }) ∙
     ap (λ (b : Ground _). base_of b.register.base b.register.history) c.self.view_is

@@ -45,9 +45,8 @@ counted g c =
     same ∙
     owed_in-count b.register.base b.register.history c.promise.ensures.register.lawful b.tree.nodes b.tree.chain records
     c.promise.ensures.tree.sound.apart in
-    let of = debt_counted b.register.base b.register.history c.promise.ensures.register.lawful in
-    of _ _ _ _ _ _ _ c.open_count-open.ensures c.waiting_count-waiting.ensures c.accepted.ensures c.taken.ensures (alone_of g c) c.lease_count-leases.ensures
-    owing
+    debt_counted c.promise.ensures.register.lawful c.open_count-open.ensures c.waiting_count-waiting.ensures c.accepted.ensures c.taken.ensures (alone_of g c)
+    c.lease_count-leases.ensures owing
 
 pub overflow_mul-result : goal.overflow_mul-result
 overflow_mul-result g c =

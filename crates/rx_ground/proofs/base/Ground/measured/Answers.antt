@@ -23,7 +23,7 @@ invariant_of-self-2 g c = (
 pub returns-clause-reach : goal.returns-clause-reach
 returns-clause-reach g c =
     let standing = rw (← c.self.view_is) at c.requires.standing in
-    rw (← c.self.view_is) (reach_told _ _ _ _ c.args.node (walk_tied _ standing.tied c.promise-2.ensures.sound) (rw (← c.self.view_is) at c.requires.open)
+    rw (← c.self.view_is) (reach_told _ _ _ c.args.node (walk_tied _ standing.tied c.promise-2.ensures.sound) (rw (← c.self.view_is) at c.requires.open)
     c.in-Some.counted.reach c.in-Some.ensures.reach)
 
 pub returns-in_default-clause-visits : goal.returns-in_default-clause-visits

@@ -26,7 +26,7 @@ returns-in_err-node-clause-tied g c =
     let base = c.self.inside.register.base in
     let h = c.self.inside.register.history in
     let was : AreTied base g.R.Resource h c.self.inside.tree c.self.inside.hubs = rw (← c.self.view_is) at c.requires.tied in
-    tied_rechained base g.R.Resource h c.self.inside.tree c.next_due.new.tree c.self.inside.hubs c.next_forced.new.self _ was
+    tied_rechained c.next_due.new.tree c.self.inside.hubs c.next_forced.new.self _ was
     c.in_default.ensures.kept c.next_due.ensures.kept c.next_due.ensures.chained
 
 pub returns-in_err-node-clause-next : goal.returns-in_err-node-clause-next
@@ -42,7 +42,7 @@ returns-clause-tied g c =
     let base = c.self.inside.register.base in
     let h = c.self.inside.register.history in
     let was : AreTied base g.R.Resource h c.self.inside.tree c.self.inside.hubs = rw (← c.self.view_is) at c.requires.tied in
-    tied_rechained base g.R.Resource h c.self.inside.tree c.next_due.new.tree c.self.inside.hubs c.next_forced.new.self _ was
+    tied_rechained c.next_due.new.tree c.self.inside.hubs c.next_forced.new.self _ was
     c.in_default.ensures.kept c.next_due.ensures.kept c.next_due.ensures.chained
 
 pub returns-clause-next : goal.returns-clause-next

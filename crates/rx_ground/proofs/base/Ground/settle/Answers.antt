@@ -27,10 +27,18 @@ loop-due-preserved g c =
     c.in-Some.ensures.tied in
     record {
       way =
-          way_on g.R.Resource c.args.self.now c.next_forced.new.self c.write_due.new.self c.in-Some.due w c.promise.ensures.register.lawful
-          c.in-Some.ensures.next
-          c.write_due.ensures.written c.write_due.ensures.tied c.write_due.ensures.leased c.write_due.ensures.nodes c.write_due.ensures.resources
-          c.write_due.ensures.hubs c.write_due.ensures.leases c.write_due.ensures.memory;
+          way_on {d = c.in-Some.due} w (record {
+            law = c.promise.ensures.register.lawful;
+            next = c.in-Some.ensures.next;
+            written = c.write_due.ensures.written;
+            tied = c.write_due.ensures.tied;
+            leased = c.write_due.ensures.leased;
+            nodes = c.write_due.ensures.nodes;
+            resources = c.write_due.ensures.resources;
+            hubs = c.write_due.ensures.hubs;
+            leases = c.write_due.ensures.leases;
+            memory = c.write_due.ensures.memory;
+          });
     }
 
 pub loop-due-smaller : goal.loop-due-smaller

@@ -23,8 +23,7 @@ hold-requires-clause-newest g c κs within = past_resources c.self.inside.regist
     (rw (← c.self.view_is) at c.requires.tied.of_tree) c.promise.ensures.lawful c.len-number.result c.len-number.ensures
 
 pub returns-clause-written : goal.returns-clause-written
-returns-clause-written g c = rw (← c.self.view_is) (writes_silent c.self.inside.register c.write.new.self
-    (Accept c.args.node.number (g.R.Resource.tag_of c.args.resource)) refl c.write.ensures.base (rw c.tag-tag.ensures at c.write.ensures.events)
+returns-clause-written g c = rw (← c.self.view_is) (writes_silent refl c.write.ensures.base (rw c.tag-tag.ensures at c.write.ensures.events)
     c.write.ensures.pending c.write.ensures.room c.write.ensures.limit c.write.ensures.given c.write.ensures.mail_room)
 
 pub returns-clause-tied : goal.returns-clause-tied
@@ -38,14 +37,15 @@ returns-clause-tied g c =
     let held = c.in-Ok.ensures in
     let was : AreTied c.self.inside.register.base g.R.Resource c.self.inside.register.history c.self.inside.tree c.self.inside.hubs =
     rw (← c.self.view_is) at c.requires.tied in
+    let stored =
+    stored_accepted c.self.inside.register.base g.R.Resource h c.promise.ensures.lawful c.self.inside.tree c.hold.new.self tied.stored
+    c.promise-2.ensures.resources_apart held.nodes there (may_accept c.self.inside.register.base next) c.requires.live c.requires.unused
+    (record { numbered = held.numbered ∙ c.len-number.ensures; free = held.was_free; found = held.held; others = held.kept }) in
     rebased g.R.Resource (c.write.ensures.base)
-    (tied_on_same g.R.Resource c.self.inside.register.base e c.promise.ensures.lawful next was grown refl refl held.nodes
+    (tied_on_same g.R.Resource c.promise.ensures.lawful next was grown refl refl held.nodes
     (subst (λ (k : List Event). IsTied c.self.inside.register.base g.R.Resource k c.hold.new.self) (sym grown)
     (tied_still c.self.inside.register.base g.R.Resource h e c.promise.ensures.lawful next c.self.inside.tree tied c.hold.new.self refl refl
-    (λ n. refl) held.nodes held.chain (stored_accepted c.self.inside.register.base g.R.Resource h c.promise.ensures.lawful c.self.inside.tree
-    c.hold.new.self tied.stored c.promise-2.ensures.resources_apart held.nodes c.args.node (store_key c.in-Ok.res) c.args.resource there
-    (may_accept c.self.inside.register.base next) c.requires.live c.requires.unused (held.numbered ∙
-    c.len-number.ensures) held.was_free held.held held.kept))))
+    (λ n. refl) held.nodes held.chain stored)))
 
 pub returns-clause-kept : goal.returns-clause-kept
 returns-clause-kept g c = rw (← c.self.view_is) (held_new c.self.inside.tree c.hold.new.self (length c.self.inside.register.history)

@@ -12,7 +12,7 @@ use Rattle.rx_ground.specs.Ties.{AreLeased, IsTied, AreTied, KeepsNodes, Cuts, l
 use Rattle.rx_ground.proofs.Memory.{written_memory}
 use Rattle.rx_ground.proofs.RegisterAfterWrite.{writes_silent}
 use Rattle.rx_ground.proofs.StaysTied.{tied_close, cut_keeps}
-use Rattle.rx_ground.proofs.HubsAfterEvent.{rebased, tied_closed}
+use Rattle.rx_ground.proofs.HubsAfterEvent.{LeavesHubs, rebased, tied_closed}
 use Rattle.rx_ground.proofs.Leases.{leased_quiet}
 use Rattle.rx_ground.proofs.base.Ground.write_close.Given.{Over}
 use Rattle.rx_ground.proofs.base.Ground.write_close.Goals as goal
@@ -50,7 +50,7 @@ nodes_kept g c =
 pub returns-clause-written : goal.returns-clause-written
 returns-clause-written g c =
     rw (← c.self.view_is) (subst (λ (s : State). Writes s (Close c.args.node.number ∷ []) c.write.new.self) (registered g c)
-    (writes_silent c.self-2.inside.register c.write.new.self (Close c.args.node.number) refl c.write.ensures.base c.write.ensures.events c.write.ensures.pending
+    (writes_silent refl c.write.ensures.base c.write.ensures.events c.write.ensures.pending
     c.write.ensures.room c.write.ensures.limit c.write.ensures.given c.write.ensures.mail_room))
 
 pub returns-clause-tied : goal.returns-clause-tied
@@ -61,11 +61,13 @@ returns-clause-tied g c =
     let next : MayFollow c.self.inside.register.base h e = rw (← c.self.view_is) at c.requires.ready.next in
     let law = c.promise.ensures.lawful in
     let tied =
-    tied_close c.self.inside.register.base g.R.Resource h c.args.node.number law next c.self.inside.tree c.self-2.inside.tree was.of_tree
+    tied_close c.args.node.number law next c.self.inside.tree c.self-2.inside.tree was.of_tree
     c.promise-2.ensures.sound (cut_tree g c) in
-    let after = hubs_closed h c.args.node.number 0 c.self.inside.hubs.hubs was.published in
-    let left = ap (λ (hubs : Hubs). hubs.hubs) (left_hubs g c) in
-    let all = tied_closed g.R.Resource c.self.inside.register.base e (is_inside h c.args.node.number) None law next was refl after left (nodes_kept g c) tied in
+    let leaves : LeavesHubs h e (is_inside h c.args.node.number) None c.self.inside.hubs c.self-2.inside.hubs = record {
+      after = hubs_closed h c.args.node.number 0 c.self.inside.hubs.hubs was.published;
+      left = ap (λ (hubs : Hubs). hubs.hubs) (left_hubs g c);
+    } in
+    let all = tied_closed g.R.Resource law next was refl leaves (nodes_kept g c) tied in
     rebased g.R.Resource (c.write.ensures.base ∙ ap (λ (s : State). s.base) (registered g c))
     (subst (λ (k : List Event). AreTied c.self.inside.register.base g.R.Resource k c.self-2.inside.tree c.self-2.inside.hubs) (sym (grown g c)) all)
 

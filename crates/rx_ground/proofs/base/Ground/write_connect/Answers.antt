@@ -12,7 +12,7 @@ use Rattle.rx_hub.specs.Hubs.{Hub, Hubs, connected}
 use Rattle.rx_hub.proofs.Laws.AfterReady.{ready_to_connect}
 use Rattle.rx_ground.specs.Shown.{Ground}
 use Rattle.rx_ground.specs.Ties.{AreLeased, AreTied, IsNewNode, KeepsOlder}
-use Rattle.rx_ground.proofs.StaysTied.{IsOpenedIn, found_still, tied_top}
+use Rattle.rx_ground.proofs.StaysTied.{IsOpenedIn, OpensTop, found_still, tied_top}
 use Rattle.rx_ground.proofs.Records.{all_left}
 use Rattle.rx_ground.proofs.HubsBesideTree.{as_many_at}
 use Rattle.rx_ground.proofs.Memory.{written_memory}
@@ -50,7 +50,7 @@ connect-requires-clause-unconnected g c =
 
 pub returns-clause-written : goal.returns-clause-written
 returns-clause-written g c =
-    rw (← c.self.view_is) (writes_silent c.self.inside.register c.write.new.self (Connect c.args.hub) refl c.write.ensures.base c.write.ensures.events
+    rw (← c.self.view_is) (writes_silent refl c.write.ensures.base c.write.ensures.events
     c.write.ensures.pending c.write.ensures.room c.write.ensures.limit c.write.ensures.given c.write.ensures.mail_room)
 
 -- the tree has the connection's node
@@ -70,20 +70,22 @@ returns-clause-tied g c =
     let next : MayFollow c.self.inside.register.base h e = rw (← c.self.view_is) at c.requires.ready.next in
     let opened = opened_in g c in
     let stays = all_left c.self.inside.register.base h e law next old.nodes old.chain was.of_tree.records (λ n less. is_open_kept h e n less refl) in
-    let tied = tied_top c.self.inside.register.base g.R.Resource h law old old c.open.new.self was.of_tree c.in-Ok.key e next refl refl refl (λ n. refl)
-    (λ r. record { removes = refl; takes = refl; uses = refl; leases = refl; returns = refl }) stays refl opened in
-    let still : (k : Key) → IsSome (find old.nodes k) → IsSome (find c.open.new.self.nodes k) =
-    λ k some. ap is_some (found_still c.self.inside.register.base g.R.Resource h law old old c.open.new.self was.of_tree c.in-Ok.key e None opened k some) ∙
-    some in
+    let opens : OpensTop h e = record {
+      makes = refl;
+      none = refl;
+      top = refl;
+      untouched = λ n. refl;
+      apart = λ r. record { removes = refl; takes = refl; uses = refl; leases = refl; returns = refl };
+    } in
+    let tied = tied_top c.self.inside.register.base g.R.Resource h law old old c.open.new.self was.of_tree c.in-Ok.key next opens stays refl opened in
     let made = ap (λ (hs : Hubs). hs.hubs) c.connect.ensures in
-    rebased g.R.Resource (c.write.ensures.base) (rw c.write.ensures.events (tied_connected g.R.Resource c.self.inside.register.base
-    {later = c.connect.new.self} c.args.hub c.in-Ok.key law next was opened.numbered made still (ap is_some opened.found) tied))
+    rebased g.R.Resource (c.write.ensures.base)
+    (rw c.write.ensures.events (tied_connected g.R.Resource {later = c.connect.new.self} law next was opened made tied))
 
 -- nodes that are older were there
 before : (g : Over) (c : goal.After-write g) → (k : Key) → IsSome (find c.open.new.self.nodes k) → k.number < length c.self.inside.register.history →
     IsSome (find c.self.inside.tree.nodes k)
-before g c k some less =
-    let o = opened_in g c in
+before g c k some less = let o = opened_in g c in
     ap is_some (sym (o.others k (λ same. absurd (let n = ap (λ (j : Key). j.number) same in let m = o.numbered in omega arith)))) ∙ some
 
 pub returns-clause-new : goal.returns-clause-new

@@ -42,8 +42,11 @@ set_marks-requires-clause-countable g c =
 marked : (g : Over) (c : goal.After-write g) → Remarks c.self.inside.tree c.set_marks.new.self c.args.merging after_decline
 marked g c =
     let at_marks : option_map (λ (node : Node). node.marks) (find c.self.inside.tree.nodes c.args.merging) ≡ Some c.in-Some.marks = sym c.in-Some.ensures in
-    set_remarks c.self.inside.tree c.set_marks.new.self c.args.merging c.in-Some.marks c.after_decline.result after_decline at_marks c.after_decline.ensures
-    c.set_marks.ensures.nodes c.set_marks.ensures.chain c.set_marks.ensures.resources
+    set_remarks after_decline at_marks c.after_decline.ensures (record {
+      nodes = c.set_marks.ensures.nodes;
+      chain = c.set_marks.ensures.chain;
+      stored = c.set_marks.ensures.resources;
+    })
 
 pub returns-clause-tied : goal.returns-clause-tied
 returns-clause-tied g c =
@@ -55,8 +58,7 @@ returns-clause-tied g c =
     let was : AreTied c.self.inside.register.base g.R.Resource c.self.inside.register.history c.self.inside.tree c.self.inside.hubs =
     rw (← c.self.view_is) at c.requires.tied in
     rebased g.R.Resource (c.write.ensures.base)
-    (tied_on_marked g.R.Resource c.self.inside.register.base e c.promise.ensures.lawful next was c.write.ensures.events refl refl c.args.merging
-    after_decline (marked g c)
+    (tied_on_marked g.R.Resource c.promise.ensures.lawful next was c.write.ensures.events refl refl (marked g c)
     (subst (λ (k : List Event). IsTied c.self.inside.register.base g.R.Resource k c.set_marks.new.self) (sym c.write.ensures.events)
     (tied_decline c.self.inside.register.base g.R.Resource h c.promise.ensures.lawful c.self.inside.tree c.set_marks.new.self tied
     c.promise-2.ensures.sound c.args.merging there next (marked g c))))
@@ -66,7 +68,7 @@ returns-clause-kept g c =
     rw (← c.self.view_is) (remarked_keeps c.write.new.self.history c.self.inside.tree c.set_marks.new.self c.args.merging after_decline (marked g c))
 
 pub returns-clause-written : goal.returns-clause-written
-returns-clause-written g c = rw (← c.self.view_is) (writes_silent c.self.inside.register c.write.new.self (Decline c.args.merging.number) refl
+returns-clause-written g c = rw (← c.self.view_is) (writes_silent refl
     c.write.ensures.base c.write.ensures.events c.write.ensures.pending c.write.ensures.room c.write.ensures.limit
     c.write.ensures.given c.write.ensures.mail_room)
 

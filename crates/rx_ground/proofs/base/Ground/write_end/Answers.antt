@@ -3,7 +3,6 @@ use Rattle.std.specs.Option.{option_map_or}
 use Rattle.rx_event.specs.declared.event.Event.{Event}
 use Rattle.rx_event.specs.declared.event.Event.TheVariants.{End}
 use Rattle.rx_event.specs.Events.{is_root}
-use Rattle.rx_event.specs.Notes.{mail_of}
 use Rattle.rx_slots.specs.Slots.{find, Slots}
 use Rattle.rx_register.specs.State.{State, Writes}
 use Rattle.rx_tree.specs.declared.node.Stowed.{Stowed}
@@ -14,10 +13,10 @@ use Rattle.rx_hub.proofs.Laws.AfterCases.{hubs_ended}
 use Rattle.rx_ground.specs.Shown.{Ground}
 use Rattle.rx_ground.specs.Ties.{AreLeased, IsTied, AreTied, record_of, left_inside}
 use Rattle.rx_ground.proofs.Memory.{written_memory, same_places}
-use Rattle.rx_ground.proofs.RegisterAfterWrite.{writes_told}
+use Rattle.rx_ground.proofs.RegisterAfterWrite.{TellsOf, writes_told}
 use Rattle.rx_ground.proofs.OwedCountBounded.{owed_in-bounded}
 use Rattle.rx_ground.proofs.NodeEnds.{IsReadyToEnd, IsEnded, record_read, above_counted, ended_tied}
-use Rattle.rx_ground.proofs.HubsAfterEvent.{rebased, tied_closed}
+use Rattle.rx_ground.proofs.HubsAfterEvent.{LeavesHubs, rebased, tied_closed}
 use Rattle.rx_ground.proofs.Leases.{leased_quiet}
 use Rattle.rx_ground.proofs.base.Ground.write_end.Given.{Over}
 use Rattle.rx_ground.proofs.base.Ground.write_end.Goals as goal
@@ -25,16 +24,20 @@ use Rattle.rx_ground.proofs.base.Ground.write_end.Goals.{After-write}
 
 pub tell_end-requires-clause-root : goal.tell_end-requires-clause-root
 tell_end-requires-clause-root g c =
-    let tied : IsTied c.self.inside.register.base g.R.Resource c.self.inside.register.history c.self.inside.tree = rw (← c.self.view_is) at c.requires.tied.of_tree in
-    let told : option_map record_of (find c.self.inside.tree.nodes c.args.node) ≡ Some c.in-Some.record = rw (← c.self.view_is) at (sym c.record.ensures ∙ c.in-Some.is) in
+    let tied : IsTied c.self.inside.register.base g.R.Resource c.self.inside.register.history c.self.inside.tree =
+    rw (← c.self.view_is) at c.requires.tied.of_tree in
+    let told : option_map record_of (find c.self.inside.tree.nodes c.args.node) ≡ Some c.in-Some.record =
+    rw (← c.self.view_is) at (sym c.record.ensures ∙ c.in-Some.is) in
     c.is_root.ensures ∙ sym (ap (λ (o : Option Event). option_map_or is_root o false) (record_read tied told).made)
 
 -- the cut leaves all ready for the end
 ready : (g : Over) (c : After-write g) → IsReadyToEnd c.self.inside.register.base g.R.Resource c.self.inside.register.history c.args.node.number
     c.args.terminal c.in-Some.record.made c.parent-above.result c.self.inside.tree c.self-2.inside.tree
 ready g c =
-    let tied : IsTied c.self.inside.register.base g.R.Resource c.self.inside.register.history c.self.inside.tree = rw (← c.self.view_is) at c.requires.tied.of_tree in
-    let told : option_map record_of (find c.self.inside.tree.nodes c.args.node) ≡ Some c.in-Some.record = rw (← c.self.view_is) at (sym c.record.ensures ∙ c.in-Some.is) in
+    let tied : IsTied c.self.inside.register.base g.R.Resource c.self.inside.register.history c.self.inside.tree =
+    rw (← c.self.view_is) at c.requires.tied.of_tree in
+    let told : option_map record_of (find c.self.inside.tree.nodes c.args.node) ≡ Some c.in-Some.record =
+    rw (← c.self.view_is) at (sym c.record.ensures ∙ c.in-Some.is) in
     let read = record_read tied told in
     record {
       law = c.promise.ensures.lawful;
@@ -54,9 +57,8 @@ mark_end-requires-clause-found g c κs within = above_counted c.parent-above.res
 pub mark_end-requires-clause-countable : goal.mark_end-requires-clause-countable
 mark_end-requires-clause-countable g c =
     let r = ready g (goal.at.mark_end-requires-clause-countable g c).After-write in
-    let all = owed_in-bounded g.R.Resource c.self.inside.register c.self.inside.tree r.tied c.promise.ensures r.sound.apart in
     let less : owed_in c.self-2.inside.tree.nodes ≤ owed_in c.self.inside.tree.nodes = rw (← c.self-2.view_is) at c.cut.ensures.owed in
-    omega arith
+    omega (arith, owed_in-bounded g.R.Resource c.self.inside.register c.self.inside.tree r.tied c.promise.ensures r.sound.apart, less)
 
 -- the register is the one to which the note was told, until the event is written
 registered : (g : Over) (c : goal.After-mark_end g) → c.self-2.inside.register ≡ c.tell_end.new.register
@@ -64,12 +66,10 @@ registered g c = ap (λ (b : Ground g.row.R.Denot). b.register) c.self-2.view_is
 
 written : (g : Over) (c : goal.After-mark_end g) → Writes c.self.inside.register (End c.args.node.number c.args.terminal ∷ []) c.write.new.self
 written g c =
-    let old = c.self.inside.register in
-    let e : Event = End c.args.node.number c.args.terminal in
     let w = c.write.ensures in
-    let same = subst (λ (s : State). s ≡ record old { pending = s.pending; mail_room = s.mail_room }) (sym (registered g c)) c.tell_end.ensures.kept in
-    let told = subst (λ (s : State). old.mail_room ≡ s.mail_room + length (mail_of old.history e)) (sym (registered g c)) c.tell_end.ensures.mail_room in
-    writes_told old c.self-2.inside.register c.write.new.self e same told w.base w.events w.pending w.room w.limit w.given w.mail_room
+    let tells : TellsOf (End c.args.node.number c.args.terminal) c.self.inside.register c.tell_end.new.register =
+    record { same = c.tell_end.ensures.kept; notes = c.tell_end.ensures.mail_room } in
+    writes_told (subst (TellsOf _ c.self.inside.register) (sym (registered g c)) tells) w.base w.events w.pending w.room w.limit w.given w.mail_room
 
 -- all that an end leaves
 ended : (g : Over) (c : goal.After-mark_end g) → IsEnded c.self.inside.register.base g.R.Resource c.write.new.self.history
@@ -85,22 +85,24 @@ left_hubs : (g : Over) (c : goal.After-mark_end g) → c.self-2.inside.hubs ≡ 
     (end_by (length c.self.inside.register.history) (End c.args.node.number c.args.terminal)) c.self.inside.hubs
 left_hubs g c =
     let n = c.args.node.number in
-    let h = c.self.inside.register.history in
     let told = ap (λ (s : State). s.history) c.tell_end.ensures.kept in
     ap (λ (b : Ground g.row.R.Denot). b.hubs) c.self-2.view_is ∙ c.cut.ensures.hubs ∙
     (λ i. left_inside (told i) n (Some (record { place = c.len-place.ensures i; terminal = c.args.terminal })) c.self.inside.hubs) ∙
-    (λ i. left_inside h n (Some (record { place = length (told i); terminal = c.args.terminal })) c.self.inside.hubs)
+    (λ i. left_inside c.self.inside.register.history n (Some (record { place = length (told i); terminal = c.args.terminal })) c.self.inside.hubs)
 
 pub returns-clause-tied : goal.returns-clause-tied
 returns-clause-tied g c =
     let h = c.self.inside.register.history in
     let e : Event = End c.args.node.number c.args.terminal in
-    let was : AreTied c.self.inside.register.base g.R.Resource h c.self.inside.tree c.self.inside.hubs = rw (← c.self.view_is) at c.requires.tied in
-    let after = hubs_ended h c.args.node.number c.args.terminal 0 c.self.inside.hubs.hubs was.published in
-    let left = ap (λ (hubs : Hubs). hubs.hubs) (left_hubs g c) in
+    let was : AreTied c.self.inside.register.base g.R.Resource h c.self.inside.tree c.self.inside.hubs =
+    rw (← c.self.view_is) at c.requires.tied in
+    let leaves : LeavesHubs h e (is_inside h c.args.node.number) (end_by (length h) e) c.self.inside.hubs c.self-2.inside.hubs = record {
+      after = hubs_ended h c.args.node.number c.args.terminal 0 c.self.inside.hubs.hubs was.published;
+      left = ap (λ (hubs : Hubs). hubs.hubs) (left_hubs g c);
+    } in
     let r = ready g (goal.at.returns-clause-tied g c).After-write in
-    rebased g.R.Resource (written g c).base (tied_closed g.R.Resource c.self.inside.register.base e (is_inside h c.args.node.number)
-    (end_by (length h) e) r.law r.next was (written g c).history after left (ended g c).kept (ended g c).tied)
+    rebased g.R.Resource (written g c).base
+    (tied_closed g.R.Resource r.law r.next was (written g c).history leaves (ended g c).kept (ended g c).tied)
 
 pub returns-clause-hubs : goal.returns-clause-hubs
 returns-clause-hubs g c = rw (← c.self.view_is) (left_hubs g c)
@@ -126,25 +128,23 @@ returns-clause-memory g c =
     let room = same_places mid.tree.nodes c.mark_end.new.tree.nodes c.mark_end.ensures.rest in
     let count = (ended g c).count in
     let resources = ap (λ (s : Slots (Stowed g.row.R.Denot)). s.count + s.room) (ended g c).resources in
-    let slots = ap (λ (s : Hubs). s.slots) (left_hubs g c) in
-    rw (← c.self.view_is) (written_memory (End c.args.node.number c.args.terminal ∷ []) (written g c) (omega arith) resources (omega arith) hubs slots)
+    rw (← c.self.view_is) (written_memory (End c.args.node.number c.args.terminal ∷ []) (written g c) (omega arith) resources (omega arith) hubs
+    (ap (λ (s : Hubs). s.slots) (left_hubs g c)))
 
--- what the cut is asked for
 pub cut-requires-clause-tied : goal.cut-requires-clause-tied
 cut-requires-clause-tied g c κs within =
-    let was : AreTied c.self.inside.register.base g.R.Resource c.self.inside.register.history c.self.inside.tree c.self.inside.hubs = rw (← c.self.view_is) at c.requires.tied in
+    let was : AreTied c.self.inside.register.base g.R.Resource c.self.inside.register.history c.self.inside.tree c.self.inside.hubs =
+    rw (← c.self.view_is) at c.requires.tied in
     subst (λ (s : State). AreTied s.base g.R.Resource s.history c.self.inside.tree c.self.inside.hubs) (sym c.tell_end.ensures.kept) was
 
--- the leases are those before
 same_leases : (g : Over) (c : goal.After-mark_end g) → c.self-2.inside.leases ≡ c.self.inside.leases
 same_leases g c = ap (λ (b : Ground g.row.R.Denot). b.leases) c.self-2.view_is ∙ c.cut.ensures.leases
 
 pub returns-clause-leased : goal.returns-clause-leased
 returns-clause-leased g c =
-    let h = c.self.inside.register.history in
-    let was : AreLeased h c.self.inside.tree.resources c.self.inside.leases = rw (← c.self.view_is) at c.requires.leased in
-    leased_quiet c.self.inside.register.base h _ (End c.args.node.number c.args.terminal) c.self.inside.tree.resources _ c.self.inside.leases _
-    c.promise.ensures.lawful was refl refl (written g c).history (same_leases g c) (ended g c).resources
+    let was : AreLeased c.self.inside.register.history c.self.inside.tree.resources c.self.inside.leases = rw (← c.self.view_is) at c.requires.leased in
+    leased_quiet c.self.inside.register.base c.self.inside.register.history _ (End c.args.node.number c.args.terminal) c.self.inside.tree.resources
+    _ c.self.inside.leases _ c.promise.ensures.lawful was refl refl (written g c).history (same_leases g c) (ended g c).resources
 
 pub returns-clause-leases : goal.returns-clause-leases
 returns-clause-leases g c = rw (← c.self.view_is) (same_leases g c)

@@ -19,7 +19,7 @@ add-requires-clause-newest g c = λ i hub at_i.
 
 pub returns-clause-written : goal.returns-clause-written
 returns-clause-written g c =
-    rw (← c.self.view_is) (writes_silent c.self.inside.register c.write.new.self (Publish c.args.mode) refl c.write.ensures.base c.write.ensures.events
+    rw (← c.self.view_is) (writes_silent refl c.write.ensures.base c.write.ensures.events
     c.write.ensures.pending c.write.ensures.room c.write.ensures.limit c.write.ensures.given c.write.ensures.mail_room)
 
 pub returns-clause-tied : goal.returns-clause-tied

@@ -37,7 +37,7 @@ lend-requires-clause-countable g c κs within =
     if_found (stowed_of old c.args.res) f.stowed (λ stowed. stowed.leases + 1 < 18446744073709551616) f.found (omega arith)
 
 pub returns-clause-written : goal.returns-clause-written
-returns-clause-written g c = rw (← c.self.view_is) (writes_silent c.self.inside.register c.write.new.self (Lease c.args.res.number) refl c.write.ensures.base
+returns-clause-written g c = rw (← c.self.view_is) (writes_silent refl c.write.ensures.base
     c.write.ensures.events c.write.ensures.pending c.write.ensures.room c.write.ensures.limit c.write.ensures.given c.write.ensures.mail_room)
 
 pub returns-clause-tied : goal.returns-clause-tied
@@ -58,7 +58,7 @@ returns-clause-tied g c =
     stored_leased base g.R.Resource h law old new tied.stored c.promise-2.ensures.resources_apart nodes (store_key c.args.res) f.stowed f.found
     c.lend.ensures.resources in
     let still = tied_still base g.R.Resource h e law next old tied new refl refl (λ n. refl) nodes c.lend.ensures.chain stored in
-    rebased g.R.Resource c.write.ensures.base (tied_on_same g.R.Resource base e law next was c.write.ensures.events refl refl nodes
+    rebased g.R.Resource c.write.ensures.base (tied_on_same g.R.Resource law next was c.write.ensures.events refl refl nodes
     (subst (λ (k : List Event). IsTied base g.R.Resource k new) (sym c.write.ensures.events) still))
 
 pub returns-clause-leased : goal.returns-clause-leased
@@ -72,7 +72,7 @@ returns-clause-leased g c =
     let owned : is_owned_at c.self.inside.tree c.args.res ≡ true = rw (← c.self.view_is) at c.requires.owned in
     let f = owned_found c.self.inside.tree c.args.res owned in
     let lease = c.lease-lease.ensures in
-    let more = leased_more h old c.self.inside.leases was base c.promise.ensures.lawful c.lease-lease.new.self (lease_key c.lease-lease.result) c.args.res
+    let more = leased_more h old c.self.inside.leases was c.promise.ensures.lawful (lease_key c.lease-lease.result) c.args.res
     (lease.numbered ∙ c.len-number.ensures) (ap is_some f.found) lease.was_free lease.out lease.kept in
     let still = leased_same (h ++ e ∷ []) old c.lease-lease.new.self more new c.lease-lease.new.self
     (λ l res is. still_there (store_key c.args.res) c.lend.ensures.resources (store_key res) is.stored) (λ key. refl) in

@@ -18,8 +18,10 @@ use Rattle.rx_ground.proofs.base.Ground.write_open.Goals.{After-open, After-join
 
 -- way is made in what the call finds
 way : (g : Over) (c : goal.After-open-arg-1 g) → IsWayMade g.R.Resource c.args.place c.args.kind
-    (let b = c.self.inside in record { register = b.register; tree = b.tree; hubs = b.hubs; leases = b.leases; space = vec_capacity b.closed - b.tree.nodes.count })
-    (let b = c.self-2.inside in record { register = b.register; tree = b.tree; hubs = b.hubs; leases = b.leases; space = vec_capacity b.closed - b.tree.nodes.count })
+    (let b = c.self.inside in
+    record { register = b.register; tree = b.tree; hubs = b.hubs; leases = b.leases; space = vec_capacity b.closed - b.tree.nodes.count })
+    (let b = c.self-2.inside in
+    record { register = b.register; tree = b.tree; hubs = b.hubs; leases = b.leases; space = vec_capacity b.closed - b.tree.nodes.count })
     c.exchange-replaces.result
 way g c = let e = c.exchange-replaces.ensures in
     way_made c.self.view_is c.self-2.view_is c.promise.ensures.lawful c.requires.ready.next c.requires.tied c.promise-2.ensures.sound
@@ -92,7 +94,7 @@ at_opening g c = (goal.at.returns-clause-tied g c).After-open.before
 written : (g : Over) (c : goal.After-write g) → Writes c.self.inside.register (Open c.args.place c.args.kind ∷ []) c.write.new.self
 written g c = let w = c.write.ensures in
     subst (λ (s : State). Writes s (Open c.args.place c.args.kind ∷ []) c.write.new.self) (way g (at_opening g c)).stays.register
-    (writes_silent c.self-2.inside.register c.write.new.self (Open c.args.place c.args.kind) refl w.base w.events w.pending w.room w.limit w.given w.mail_room)
+    (writes_silent refl w.base w.events w.pending w.room w.limit w.given w.mail_room)
 
 pub returns-clause-written : goal.returns-clause-written
 returns-clause-written g c = rw (← c.self.view_is) (written g c)
@@ -117,9 +119,8 @@ pub returns-clause-resources : goal.returns-clause-resources
 returns-clause-resources g c = rw (← c.self.view_is) (same_resources g c)
 
 pub returns-clause-memory : goal.returns-clause-memory
-returns-clause-memory g c =
+returns-clause-memory g c = let m = c.mark_opened.ensures in
     let stays = (way g (at_opening g c)).stays in
-    let m = c.mark_opened.ensures in
     let space : 0 < vec_capacity c.self.inside.closed - c.self.inside.tree.nodes.count = rw (← c.self.view_is) at c.requires.space in
     let closing = stays.memory.closing in
     let within = c.self-2.invariant.1 in
@@ -128,7 +129,8 @@ returns-clause-memory g c =
     let count = ap (λ (s : Slots Node). s.count) m.rest in
     let room = ap (λ (s : Slots Node). s.room) m.rest in
     rw (← c.self.view_is) (left_memory stays (Open c.args.place c.args.kind ∷ []) (written g c) (omega arith)
-    (m.resources ∙ c.in-Ok.ensures.resources) (omega arith) (as_many_opened c.in-Ok.key c.args.place c.args.kind c.self-2.inside.hubs c.join.ensures) (ap (λ (s : Hubs). s.slots) c.join.ensures))
+    (m.resources ∙ c.in-Ok.ensures.resources) (omega arith) (as_many_opened c.in-Ok.key c.args.place c.args.kind c.self-2.inside.hubs c.join.ensures)
+    (ap (λ (s : Hubs). s.slots) c.join.ensures))
 
 pub returns-clause-left : goal.returns-clause-left
 returns-clause-left g c =

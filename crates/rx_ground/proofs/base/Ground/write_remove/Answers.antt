@@ -17,7 +17,7 @@ use Rattle.rx_ground.proofs.Leases.{leased_found}
 use Rattle.rx_ground.proofs.base.Ground.write_remove.Goals as goal
 
 pub returns-clause-written : goal.returns-clause-written
-returns-clause-written g c = rw (← c.self.view_is) (writes_silent c.self.inside.register c.write.new.self (Remove c.args.res.number) refl
+returns-clause-written g c = rw (← c.self.view_is) (writes_silent refl
     c.write.ensures.base c.write.ensures.events c.write.ensures.pending c.write.ensures.room c.write.ensures.limit
     c.write.ensures.given c.write.ensures.mail_room)
 
@@ -34,7 +34,7 @@ returns-clause-tied g c =
     let was : AreTied c.self.inside.register.base g.R.Resource c.self.inside.register.history c.self.inside.tree c.self.inside.hubs =
     rw (← c.self.view_is) at c.requires.tied in
     rebased g.R.Resource (c.write.ensures.base)
-    (tied_on_same g.R.Resource c.self.inside.register.base e c.promise.ensures.lawful next was c.write.ensures.events refl refl c.unhold.ensures.nodes
+    (tied_on_same g.R.Resource c.promise.ensures.lawful next was c.write.ensures.events refl refl c.unhold.ensures.nodes
     (subst (λ (k : List Event). IsTied c.self.inside.register.base g.R.Resource k new) (sym c.write.ensures.events)
     (tied_still c.self.inside.register.base g.R.Resource h e c.promise.ensures.lawful next old tied new refl refl (λ n. refl)
     c.unhold.ensures.nodes c.unhold.ensures.chain (stored_removed c.self.inside.register.base g.R.Resource h c.promise.ensures.lawful old new

@@ -26,7 +26,7 @@ unlend-requires-clause-lent g c κs within =
     (was.each (lease_key c.args.lease) c.in-Some.res (sym c.give_back.ensures.value ∙ c.in-Some.is))
 
 pub returns-clause-written : goal.returns-clause-written
-returns-clause-written g c = rw (← c.self.view_is) (writes_silent c.self.inside.register c.write.new.self (Return c.args.lease.number) refl c.write.ensures.base
+returns-clause-written g c = rw (← c.self.view_is) (writes_silent refl c.write.ensures.base
     c.write.ensures.events c.write.ensures.pending c.write.ensures.room c.write.ensures.limit c.write.ensures.given c.write.ensures.mail_room)
 
 pub returns-clause-tied : goal.returns-clause-tied
@@ -48,7 +48,7 @@ returns-clause-tied g c =
     stored_returned base g.R.Resource h law old new tied.stored c.promise-2.ensures.resources_apart nodes c.args.lease.number (store_key c.in-Some.res)
     x.0 next of.made x.1 c.unlend.ensures.resources in
     let still = tied_still base g.R.Resource h e law next old tied new refl refl (λ n. refl) nodes c.unlend.ensures.chain stored in
-    rebased g.R.Resource c.write.ensures.base (tied_on_same g.R.Resource base e law next was c.write.ensures.events refl refl nodes
+    rebased g.R.Resource c.write.ensures.base (tied_on_same g.R.Resource law next was c.write.ensures.events refl refl nodes
     (subst (λ (k : List Event). IsTied base g.R.Resource k new) (sym c.write.ensures.events) still))
 
 pub returns-clause-leased : goal.returns-clause-leased

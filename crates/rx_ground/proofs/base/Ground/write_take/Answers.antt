@@ -51,7 +51,7 @@ new-requires-clause-live g c κs within =
     c.self.inside.register.base tied c.in_ok-number.ensures.some
 
 pub returns-clause-written : goal.returns-clause-written
-returns-clause-written g c = rw (c.new.ensures, ← c.self.view_is) (writes_silent c.self.inside.register c.write.new.self (Take c.in_ok-number.number)
+returns-clause-written g c = rw (c.new.ensures, ← c.self.view_is) (writes_silent
     refl c.write.ensures.base c.write.ensures.events c.write.ensures.pending c.write.ensures.room c.write.ensures.limit
     c.write.ensures.given c.write.ensures.mail_room)
 
@@ -68,7 +68,7 @@ returns-clause-tied g c =
     (takes_waiting g.R.Resource h old new c.in_ok-number.number c.in_ok-number.resource c.self.inside.register.base tied t))) in
     let was : AreTied c.self.inside.register.base g.R.Resource c.self.inside.register.history c.self.inside.tree c.self.inside.hubs =
     rw (← c.self.view_is) at c.requires.tied in
-    rebased g.R.Resource (c.write.ensures.base) (tied_on_same g.R.Resource c.self.inside.register.base (Take t.key.number) c.promise.ensures.lawful
+    rebased g.R.Resource (c.write.ensures.base) (tied_on_same g.R.Resource c.promise.ensures.lawful
     next was (sym (ap (λ n. h ++ Take n ∷ []) t.numbered ∙ sym c.write.ensures.events)) refl refl c.in_ok-number.ensures.nodes
     (subst (λ (k : List Event). IsTied c.self.inside.register.base g.R.Resource k new) (ap (λ n. h ++ Take n ∷ []) t.numbered ∙
     sym c.write.ensures.events) (tied_still c.self.inside.register.base g.R.Resource h (Take t.key.number) c.promise.ensures.lawful next old tied

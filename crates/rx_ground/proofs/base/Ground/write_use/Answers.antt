@@ -42,7 +42,7 @@ apply-answer-requires-clause-countable g c κs within =
     omega arith)
 
 pub returns-clause-written : goal.returns-clause-written
-returns-clause-written g c = rw (← c.self.view_is) (writes_silent c.self.inside.register c.write.new.self (Use c.args.res.number) refl
+returns-clause-written g c = rw (← c.self.view_is) (writes_silent refl
     c.write.ensures.base c.write.ensures.events c.write.ensures.pending c.write.ensures.room c.write.ensures.limit
     c.write.ensures.given c.write.ensures.mail_room)
 
@@ -60,7 +60,7 @@ returns-clause-tied g c =
     let was : AreTied c.self.inside.register.base g.R.Resource c.self.inside.register.history c.self.inside.tree c.self.inside.hubs =
     rw (← c.self.view_is) at c.requires.tied in
     rebased g.R.Resource (c.write.ensures.base)
-    (tied_on_same g.R.Resource c.self.inside.register.base e c.promise.ensures.lawful next was c.write.ensures.events refl refl u.nodes
+    (tied_on_same g.R.Resource c.promise.ensures.lawful next was c.write.ensures.events refl refl u.nodes
     (subst (λ (k : List Event). IsTied c.self.inside.register.base g.R.Resource k new) (sym c.write.ensures.events)
     (tied_still c.self.inside.register.base g.R.Resource h e c.promise.ensures.lawful next old tied new refl refl (λ n. refl) u.nodes u.chain
     (stored_used c.self.inside.register.base g.R.Resource h c.promise.ensures.lawful old new tied.stored c.promise-2.ensures.resources_apart
