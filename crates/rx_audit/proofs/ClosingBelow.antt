@@ -117,9 +117,10 @@ closing_none h p bound ms todo all = record {
 }
 
 -- one child more is closed and noted
-pub closing_note : (h : List Event) (p bound c : ℕ) (old new : List Bool) (before after : List ℕ) → IsClosingBelow h p bound old new before after
+pub closing_note : {h : List Event} {p bound : ℕ} (c : ℕ) {old : List Bool} (new : List Bool) (before after : List ℕ) →
+    IsClosingBelow h p bound old new before after
     → c < length h → parent h c ≡ Some p → get_or new c false ≡ true → IsClosingBelow h p bound old (set new c false) before (after ++ c ∷ [])
-closing_note h p bound c old new before after w inside below y =
+closing_note {h} {p} c {old} new before after w inside below y =
     let more : length (after ++ c ∷ []) ≡ length after + 1 = length-append after (c ∷ []) in
     let long = w.longer in
     let count = count_cleared new c y in
@@ -161,9 +162,10 @@ closing_note h p bound c old new before after w inside below y =
     by_within k l (inr (inr g)) m = absurd (let s : length (after ++ c ∷ []) ≡ length after + 1 = length-append after (c ∷ []) in omega arith)
 
 -- where child c is closed, the next older one is the bound
-pub closing_next : (h : List Event) (p c v : ℕ) (old new : List Bool) (before after : List ℕ) → IsClosingBelow h p (suc c) old new before after
+pub closing_next : {h : List Event} {p : ℕ} (c v : ℕ) {old : List Bool} (new : List Bool) (before after : List ℕ) →
+    IsClosingBelow h p (suc c) old new before after
     → get_or new c false ≡ false → v ≡ last_below (keyed (parent h) p) c → IsClosingBelow h p v old new before after
-closing_next h p c v old new before after w closed is = record {
+closing_next {h} {p} c v new before after w closed is = record {
   size = w.size;
   kept = w.kept;
   below = w.below;
@@ -264,9 +266,9 @@ split_at k i = by_order (cases_order k i) where
   by_order (inr (inl l)) = inl l
   by_order (inr (inr g)) = inr (omega arith)
 
-pub passing_more : (h : List Event) (e : Event) (i p : ℕ) (old new : List Bool) (before after : List ℕ) → i < length before → p ≡ get_or before i 0
+pub passing_more : {h : List Event} {e : Event} {i p : ℕ} (old new : List Bool) (before after : List ℕ) → i < length before → p ≡ get_or before i 0
     → IsPassing h e i old before → IsClosingBelow h p 0 old new before after → IsPassing h e (i + 1) new after
-passing_more h e i p old new before after l is so_far w = record {
+passing_more {h} {e} {i} {p} old new before after l is so_far w = record {
   kept = λ n y. so_far.kept n (w.kept n y);
   sound = λ n z. by_old n z (cases_Bool (get_or old n false));
   unshut = λ n y. so_far.unshut n (w.kept n y);
@@ -311,10 +313,10 @@ passing_more h e i p old new before after l is so_far w = record {
   by_within k m (inr g) = w.within k g m
 
 -- a mark that is left, where the pass is over, is of a node that stays open
-stays_up : (h : List Event) (e : Event) (i : ℕ) (marks : List Bool) (todo : List ℕ) → length todo ≤ i → IsPassing h e i marks todo
+stays_up : {h : List Event} {e : Event} {i : ℕ} (marks : List Bool) (todo : List ℕ) → length todo ≤ i → IsPassing h e i marks todo
     → (bound n : ℕ) → n < bound → get_or marks n false ≡ true → stays_open h e n ≡ true
-stays_up h e i marks todo over w zero n l y = absurd (omega arith)
-stays_up h e i marks todo over w (suc bound) n l y = by_parent (parent h n) refl (λ p m z. stays_up h e i marks todo over w bound p m z) where
+stays_up marks todo over w zero n l y = absurd (omega arith)
+stays_up {h} {e} {i} marks todo over w (suc bound) n l y = by_parent (parent h n) refl (λ p m z. stays_up marks todo over w bound p m z) where
   by_parent : (o : Option ℕ) → parent h n ≡ o → ((p : ℕ) → p < bound → get_or marks p false ≡ true → stays_open h e p ≡ true) → stays_open h e n ≡ true
   by_parent None top before = top_open h e n top (w.unshut n y) ∙ w.kept n y
   by_parent (Some p) below before = by_pending (w.pending n p below y) where
@@ -328,7 +330,7 @@ pub passing_ends : (h : List Event) (e : Event) (i : ℕ) (marks : List Bool) (t
     → IsMarked marks (stays_open h e)
 passing_ends h e i marks todo over w n = by_mark (cases_Bool (get_or marks n false)) where
   by_mark : (get_or marks n false ≡ true) ⊎ (get_or marks n false ≡ false) → get_or marks n false ≡ stays_open h e n
-  by_mark (inl y) = y ∙ sym (stays_up h e i marks todo over w (suc n) n (omega arith) y)
+  by_mark (inl y) = y ∙ sym (stays_up marks todo over w (suc n) n (omega arith) y)
   by_mark (inr z) = z ∙ sym (w.sound n z)
 
 -- what an event takes away itself -----------------------------------------------------------------
@@ -470,10 +472,10 @@ noted_first h ms top tied n o gone = by_place (uncleared ms top n gone) where
   by_place (inl same) = record { at = 0; after = omega arith; within = omega arith; is = sym same }
   by_place (inr before) = absurd (both_ways (get_or ms n false) before (tied n ∙ o))
 
-pub noted_on : (h : List Event) (p : ℕ) (old new : List Bool) (before after : List ℕ)
+pub noted_on : {h : List Event} {p : ℕ} {old : List Bool} (new : List Bool) (before after : List ℕ)
     → ((n : ℕ) → is_open h n ≡ true → get_or old n false ≡ false → IsNoted 0 before n) → IsClosingBelow h p 0 old new before after
     → (n : ℕ) → is_open h n ≡ true → get_or new n false ≡ false → IsNoted 0 after n
-noted_on h p old new before after so_far w n o gone = by_mark (cases_Bool (get_or old n false)) where
+noted_on {old} new before after so_far w n o gone = by_mark (cases_Bool (get_or old n false)) where
   by_mark : (get_or old n false ≡ true) ⊎ (get_or old n false ≡ false) → IsNoted 0 after n
   by_mark (inl y) = let m = w.noted n y gone in record { at = m.at; after = omega arith; within = m.within; is = m.is }
   by_mark (inr z) =

@@ -91,7 +91,7 @@ due_before h e law next no_item n differs y = by_place (cases_order n (length h)
   before l =
       let o : is_open h n ≡ true = open_old h e n l parts.0 in
       let made = event_at h n l in
-      let same = marks_apart h e law next no_item n l parts.0 differs in
+      let same = marks_apart e law next no_item n l parts.0 differs in
       due_made_at h n made.0 o made.1 ∙ ap (λ m. is_some (terminal_due made.0 m)) (sym same)
       ∙ sym (due_made_at (h ++ e ∷ []) n made.0 parts.0 (slice_get-append h (e ∷ []) n l ∙ made.1)) ∙ y
 
@@ -100,10 +100,10 @@ due_before h e law next no_item n differs y = by_place (cases_order n (length h)
   by_place (inr (inl l)) = before l
   by_place (inr (inr g)) = absurd (let l = is_open_within (h ++ e ∷ []) n parts.0 in omega (arith, length-append h (e ∷ [])))
 
-pub covered_more : (h : List Event) (e : Event) (due : List ℕ) (p : ℕ) → IsLawful nothing_kept h → MayFollow nothing_kept h e → IsUntouched h e
+pub covered_more : {h : List Event} (e : Event) (due : List ℕ) (p : ℕ) → IsLawful nothing_kept h → MayFollow nothing_kept h e → IsUntouched h e
     → touched_by h e ≡ Some p
     → IsCovered h due → IsCovered (h ++ e ∷ []) (due ++ p ∷ [])
-covered_more h e due p law next no_item named covered n y = by_order (cases_order n p) where
+covered_more {h} e due p law next no_item named covered n y = by_order (cases_order n p) where
   other : (n ≡ p → ⊥) → IsNoted 0 (due ++ p ∷ []) n
   other ne = noted_more 0 due p n (covered n (due_before h e law next no_item n (λ at_n. ne (same_Some n p (sym at_n ∙ named))) y))
 

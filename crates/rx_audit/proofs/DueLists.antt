@@ -43,10 +43,10 @@ due_close_open (left o at_c a n) = o
 
 -- subscribers that the event cuts off -----------------------------------------------------------------
 
-pub cut_after : (h : List Event) (e : Event) (before after : List ℕ)
+pub cut_after : {h : List Event} (e : Event) (before after : List ℕ)
     → IsLawful nothing_kept h → MayFollow nothing_kept h e → HasCut h before → Keeps before after
     → HasEnded h e after → HasCut (h ++ e ∷ []) after
-cut_after h e before after law next so_far keeps ended n alive is = by_reason found.0 (source_ended_or_now nothing_kept h e law next n found.0 found.1) where
+cut_after {h} e before after law next so_far keeps ended n alive is = by_reason found.0 (source_ended_or_now nothing_kept h e law next n found.0 found.1) where
   found : (t : Terminal) × SourceEnded (h ++ e ∷ []) n t
   found = cut_ended (h ++ e ∷ []) n is
 
@@ -68,10 +68,10 @@ cut_after h e before after law next so_far keeps ended n alive is = by_reason fo
 -- connections that nobody uses any more ---------------------------------------------------------------
 
 -- the word of the hub leads to its open connection
-open_word : (h : List Event) → IsLawful nothing_kept h → (size g c : ℕ) (known : Hubs)
+open_word : {h : List Event} → IsLawful nothing_kept h → {size : ℕ} (g c : ℕ) (known : Hubs)
     → AreHubs h size known → g < size → slice_get h c ≡ Some (Connect g) → is_open h c ≡ true
     → get_or known.connection.items g 0 ≡ suc c
-open_word h law size g c known w inside made alive =
+open_word {h} law g c known w inside made alive =
     let room = w.connection_size in
     w.connection g (omega arith) ∙ last_unique (keyed (hub_connected_at h) g) (length h) (suc c) (is_open_within h c alive) later here
   where
@@ -80,16 +80,23 @@ open_word h law size g c known w inside made alive =
 
     later : (j : ℕ) → suc c ≤ j → j < length h → keyed (hub_connected_at h) g j ≡ false
     later j l m = not_true _ (λ y.
-        let le = last_connection nothing_kept h law g c j (connects c made) alive (connects j (connection_at h j g (is_key_of (hub_connected_at h j) g y))) in
+        let le = last_connection h law g c j (connects c made) alive (connects j (connection_at h j g (is_key_of (hub_connected_at h j) g y))) in
         absurd (omega arith))
 
     here : (j : ℕ) → suc c ≡ suc j → keyed (hub_connected_at h) g j ≡ true
     here j e = let same : j ≡ c = omega arith in ap (keyed (hub_connected_at h) g) same ∙ key_is (hub_connected_at h c) g (at_connection h c g made)
 
-pub left_after : (h : List Event) (e : Event) (size : ℕ) (known : Hubs) (closed before after : List ℕ) → IsLawful nothing_kept h → MayFollow nothing_kept h e
-    → AreHubs h size known → length h ≤ size → AreClosed h e closed → HasLeft h before → Keeps before after → HasLost h closed known.connection.items after
-    → IsNoted 0 after (length h) → HasLeft (h ++ e ∷ []) after
-left_after h e size known closed before after law next w room closing so_far keeps lost new c is = by_reason (left_or_now nothing_kept h e law next c d) where
+-- the event may come after a lawful history, of whose hubs so much is known in tables that have room, and it closes these nodes
+pub record IsOneMore (h : List Event) (e : Event) (size : ℕ) (known : Hubs) (closed : List ℕ) : Type 0 where
+  pub lawful : IsLawful nothing_kept h
+  pub next : MayFollow nothing_kept h e
+  pub hubs : AreHubs h size known
+  pub room : length h ≤ size
+  pub closing : AreClosed h e closed
+
+left_after : {h : List Event} {e : Event} {size : ℕ} {known : Hubs} {closed before after : List ℕ} → IsOneMore h e size known closed
+    → HasLeft h before → Keeps before after → HasLost h closed known.connection.items after → IsNoted 0 after (length h) → HasLeft (h ++ e ∷ []) after
+left_after {h} {e} {known} {after} one so_far keeps lost new c is = by_reason (left_or_now nothing_kept h e one.lawful one.next c d) where
   d : IsDue nothing_kept (h ++ e ∷ []) (Close c)
   d = close_is_due (h ++ e ∷ []) c is
 
@@ -97,11 +104,12 @@ left_after h e size known closed before after law next w room closing so_far kee
   by_reason (left_before was) = keeps c (so_far c (close_due_of h c was))
   by_reason (connected_now g now same) = rw same new
   by_reason (subscriber_gone g s made subscribes was gone) =
-      let inside : g < length h = subscriber_hub nothing_kept h law g s subscribes in
+      let inside : g < length h = subscriber_hub nothing_kept h one.lawful g s subscribes in
+      let room = one.room in
       let old : c < length h = slice_get_within h c (Connect g) made in
       let alive : is_open h c ≡ true = open_old h e c old (due_close_open d) in
-      let noted = closing.noted s was (sym (is_open_older h e s (is_open_within h s was)) ∙ gone) in
-      lost s g c noted (at_subscriber h s g subscribes) (open_word h law size g c known w (omega arith) made alive)
+      let noted = one.closing.noted s was (sym (is_open_older h e s (is_open_within h s was)) ∙ gone) in
+      lost s g c noted (at_subscriber h s g subscribes) (open_word one.lawful g c known one.hubs (omega arith) made alive)
 
 -- settled or not ----------------------------------------------------------------------------------------
 
@@ -141,7 +149,7 @@ acts_unsettled h n whole y settled = by_case (acts_parts h n y) where
       let parts = due_parts h n m in
       let made = event_at h n (is_open_within h n parts.0) in
       let found = some_due made.0 (marks_of nothing_kept h n) n (sym (due_made_at h n made.0 parts.0 made.1) ∙ m) in
-      settled.none (End n found.0) (due_at_forced nothing_kept h n made.0 (End n found.0) whole parts.0 made.1 found.1)
+      settled.none (End n found.0) (due_at_forced h n made.0 (End n found.0) whole parts.0 made.1 found.1)
   by_case (inr (inl c)) = let ended = cut_ended h n c.1 in settled.none (End n ended.0) (due whole (cut c.0 ended.1))
   by_case (inr (inr l)) = settled.none (Close n) (due whole (close_is_due h n l))
 
@@ -211,23 +219,26 @@ pub lost_none : (h : List Event) (s : ℕ) (connection list : List ℕ) → lost
 lost_none h s connection list none g c hub word =
     absurd (none-some c (sym none ∙ ap (option_and_then (λ k. number_of (get_or connection k 0))) hub ∙ ap number_of word))
 
-any_default : (xs : List ℕ) (i d e : ℕ) → i < length xs → get_or xs i d ≡ get_or xs i e
+-- what stands at a place of a list is the same by any default
+pub any_default : (xs : List ℕ) (i d e : ℕ) → i < length xs → get_or xs i d ≡ get_or xs i e
 any_default [] i d e l = absurd (omega arith)
 any_default (x ∷ xs) zero d e l = refl
 any_default (x ∷ xs) (suc i) d e l = any_default xs i d e (omega arith)
 
-pub lost_more : (h : List Event) (closed connection before after : List ℕ) (i d : ℕ) → i < length closed
-    → ((k : ℕ) → k < i → IsLostNoted h (get_or closed k 0) connection before) → Keeps before after → IsLostNoted h (get_or closed i d) connection after
-    → (k : ℕ) → k < i + 1 → IsLostNoted h (get_or closed k 0) connection after
-lost_more h closed connection before after i d within so_far keeps last k l = by_order (cases_order k i) where
+-- the list has the connection of the hub of each of the first i that were closed
+abbrev HasLostTo : List Event → List ℕ → List ℕ → ℕ → List ℕ → Type 0
+HasLostTo h closed connection i list = (k : ℕ) → k < i → IsLostNoted h (get_or closed k 0) connection list
+
+pub lost_more : (h : List Event) (closed connection : List ℕ) {before after : List ℕ} (i : ℕ) → HasLostTo h closed connection i before
+    → Keeps before after → IsLostNoted h (get_or closed i 0) connection after → HasLostTo h closed connection (i + 1) after
+lost_more h closed connection {before} {after} i so_far keeps last k l = by_order (cases_order k i) where
   by_order : (k ≡ i) ⊎ ((k < i) ⊎ (i < k)) → IsLostNoted h (get_or closed k 0) connection after
-  by_order (inl same) = λ g c hub word.
-      last g c (ap (hub_subscribed_at h) (any_default closed i d 0 within ∙ ap (λ j. get_or closed j 0) (sym same)) ∙ hub) word
+  by_order (inl same) = λ g c hub word. last g c (ap (λ j. hub_subscribed_at h (get_or closed j 0)) (sym same) ∙ hub) word
   by_order (inr (inl m)) = lost_keeps h (get_or closed k 0) connection before after (so_far k m) keeps
   by_order (inr (inr m)) = absurd (omega arith)
 
-pub lost_all : (h : List Event) (closed connection list : List ℕ) (i : ℕ) → length closed ≤ i
-    → ((k : ℕ) → k < i → IsLostNoted h (get_or closed k 0) connection list) → HasLost h closed connection list
+pub lost_all : (h : List Event) (closed connection list : List ℕ) (i : ℕ) → length closed ≤ i → HasLostTo h closed connection i list
+    → HasLost h closed connection list
 lost_all h closed connection list i over each s g c noted hub word =
     let w = noted.within in
     each noted.at (omega arith) g c (ap (hub_subscribed_at h) noted.is ∙ hub) word
@@ -240,11 +251,11 @@ module _ (h : List Event) (size : ℕ) (s : Subscribers) (g : ℕ) (w : AreLinke
       let within : k < length h = at_within (is_subscriber_of g) h k (and_parts (at (is_subscriber_of g) h k) (get_or s.listed.items k false) y).0 in
       absurd (both_ways _ (last_none (on_list h s.listed.items g) (length h) k (omega arith) within) y)
 
-  pub noted_down : (next word : ℕ) (list : List ℕ) → 0 < next
+  pub noted_down : {next : ℕ} (word : ℕ) {list : List ℕ} → 0 < next
       → ((k : ℕ) → next ≡ suc k → on_list h s.listed.items g k ≡ true) → word ≡ get_or s.before.items (next - 1) 0
       → ((k : ℕ) → on_list h s.listed.items g k ≡ true → next ≤ k → IsNoted 0 list k)
       → (k : ℕ) → on_list h s.listed.items g k ≡ true → word ≤ k → IsNoted 0 (list ++ (next - 1) ∷ []) k
-  noted_down next word list some here is so_far k y l = by_order (cases_order k (next - 1)) where
+  noted_down {next} word {list} some here is so_far k y l = by_order (cases_order k (next - 1)) where
     by_order : (k ≡ next - 1) ⊎ ((k < next - 1) ⊎ (next - 1 < k)) → IsNoted 0 (list ++ (next - 1) ∷ []) k
     by_order (inl same) = rw same (noted_last 0 list (next - 1) (omega arith))
     by_order (inr (inr above)) = noted_more 0 list (next - 1) k (so_far k y (omega arith))
@@ -264,12 +275,23 @@ ended_one h e s g list listed hub all = ended_all h e s list listed (λ j named 
 pub ended_none : (h : List Event) (e : Event) (list : List ℕ) → hub_ended h e ≡ None → HasEnded h e list
 ended_none h e list none g s hub subscribes alive = absurd (none-some g (sym none ∙ hub))
 
--- all that is noted of one event
-pub all_after : (h : List Event) (e : Event) (size : ℕ) (known : Hubs) (closed d0 d1 d2 d3 : List ℕ) → IsLawful nothing_kept h → MayFollow nothing_kept h e
-    → AreHubs h size known → length h ≤ size → AreClosed h e closed → HasAll h d0 → Keeps d0 d1 → IsCovered (h ++ e ∷ []) d1 → Keeps d1 d2 → HasEnded h e d2
-    → Keeps d2 d3 → HasLost h closed known.connection.items d3 → IsNoted 0 d3 (length h) → HasAll (h ++ e ∷ []) d3
-all_after h e size known closed d0 d1 d2 d3 law next w room closing all first marked second ended third lost new =
-    let later : Keeps d0 d3 = keeps_on d0 d1 d3 first (keeps_on d1 d2 d3 second third) in
-    acts_noted (h ++ e ∷ []) d3 (λ n y. keeps_on d1 d2 d3 second third n (marked n y))
-    (cut_after h e d0 d3 law next (cut_noted h d0 all) later (λ g s hub subscribes alive. third s (ended g s hub subscribes alive)))
-    (left_after h e size known closed d0 d3 law next w room closing (left_noted h d0 all) later lost new)
+-- what is noted of one event: the list before, then with the nodes that its marks tell, with those whose source ends, and after all
+pub record AreNoted (h : List Event) (e : Event) (closed connection before marked cut after : List ℕ) : Type 0 where
+  pub marks_keep : Keeps before marked
+  pub covered : IsCovered (h ++ e ∷ []) marked
+  pub cut_keeps : Keeps marked cut
+  pub ended : HasEnded h e cut
+  pub left_keeps : Keeps cut after
+  pub lost : HasLost h closed connection after
+  pub new : IsNoted 0 after (length h)
+
+-- so the list has all again
+pub all_after : {h : List Event} {e : Event} {size : ℕ} {known : Hubs} {closed before marked cut after : List ℕ} → IsOneMore h e size known closed
+    → HasAll h before → AreNoted h e closed known.connection.items before marked cut after → HasAll (h ++ e ∷ []) after
+all_after {h} {e} {before} {marked} {cut} {after} one all noted =
+    let from_marked : Keeps marked after = keeps_on marked cut after noted.cut_keeps noted.left_keeps in
+    let from_before : Keeps before after = keeps_on before marked after noted.marks_keep from_marked in
+    acts_noted (h ++ e ∷ []) after (λ n y. from_marked n (noted.covered n y))
+    (cut_after e before after one.lawful one.next (cut_noted h before all) from_before
+    (λ g s hub subscribes alive. noted.left_keeps s (noted.ended g s hub subscribes alive)))
+    (left_after one (left_noted h before all) from_before noted.lost noted.new)

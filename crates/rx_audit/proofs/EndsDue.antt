@@ -152,7 +152,7 @@ module _ (h : List Event) (law : IsLawful nothing_kept h) (size : ℕ) (known : 
       let k = by_word s p.1 in
       let e = ended_last h k.0 k.1 k.5 in
       let same : e.0 ≡ t = terminal_is e.0 t (sym (last_so s k.0 k.1 t e.0 k.2 k.3 e.2) ∙ p.2) in
-      cut p.0 ((cut_by_last nothing_kept h law k.0 s k.1 e.0 t e.1 (subscriber_at h s k.0 k.2) p.0).1 (k.4, sym same))
+      cut p.0 ((cut_by_last law e.1 s t (subscriber_at h s k.0 k.2) p.0).1 (k.4, sym same))
 
   unfold_cut : (s : ℕ) (t : Terminal) → is_open h s ≡ true → is_cut h s ≡ true
       → ends_last_so h known.ended.items s t ≡ true → cut_so h known.ended.items s t ≡ true
@@ -164,7 +164,7 @@ module _ (h : List Event) (law : IsLawful nothing_kept h) (size : ℕ) (known : 
       let is : is_cut h s ≡ true = is_cut_of h s t x in
       let k = by_word s is in
       let e = ended_last h k.0 k.1 k.5 in
-      let q = (cut_by_last nothing_kept h law k.0 s k.1 e.0 t e.1 (subscriber_at h s k.0 k.2) o).0 x in
+      let q = (cut_by_last law e.1 s t (subscriber_at h s k.0 k.2) o).0 x in
       unfold_cut s t o is (last_so s k.0 k.1 t e.0 k.2 k.3 e.2 ∙ ap (λ v. same_terminal e.0 v) q.1 ∙ terminal_self e.0)
 
   marks_due : (n : ℕ) (t : Terminal) → forced_end h n t ≡ true → IsDue nothing_kept h (End n t)
@@ -192,7 +192,7 @@ module _ (h : List Event) (law : IsLawful nothing_kept h) (size : ℕ) (known : 
         let made = event_at h n (is_open_within h n o) in
         left (forced_end h n t) (cut_so h known.ended.items n t)
         (forced_made h n t made.0 o made.1 ∙ ends_due made.0 (marks_of nothing_kept h n) n t
-        (due_by_marks_alone nothing_kept h law n made.0 t o made.1 (λ x. both_ways _ c (cut_due_of n t o x)) d))
+        (due_by_marks_alone law o made.1 (λ x. both_ways _ c (cut_due_of n t o x)) d))
 
   -- as one test of the event
   pub forced_is : (e : Event) → forced_now h known.ended.items e ≡ true → IsForced nothing_kept h e

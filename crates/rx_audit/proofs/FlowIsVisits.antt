@@ -1,5 +1,5 @@
 -- What flows up from a list of nodes is what is visited from them.
-use Rattle.std.proofs.Common.{◌≡◌, ℕ, zero, suc, ◌+◌, ◌≤◌, List, [], ◌∷◌, ◌++◌, length, true, false, Option, Some, None, slice_get, refl, sym, ap, ◌∙◌, arith}
+use Rattle.std.proofs.Common.{◌≡◌, ℕ, zero, suc, ◌+◌, ◌≤◌, List, [], ◌∷◌, ◌++◌, length, false, Option, Some, None, slice_get, refl, sym, ap, ◌∙◌, arith}
 use Rattle.std.specs.List.{sum_by}
 use Rattle.std.proofs.lemmas.List.Sums.{sum_by-append, sum_by-cons}
 use Rattle.rx_event.specs.declared.event.Event.{Event}
@@ -39,9 +39,9 @@ visits_many (suc k) (suc d) h (n ∷ todo) l =
 pub record IsWhole (h : List Event) (todo : List ℕ) (steps : ℕ) (number : ℕ → ℕ) (amount : ℕ) : Type 0 where
   pub same : (d : ℕ) → steps ≤ d → sum_by (flow (suc d) h number) todo ≡ amount
 
-whole-step : (h : List Event) (n : ℕ) (todo : List ℕ) (steps : ℕ) (number : ℕ → ℕ) (amount : ℕ) → IsWhole h (n ∷ todo) steps number amount
+whole-step : {h : List Event} (n : ℕ) (todo : List ℕ) (steps : ℕ) (number : ℕ → ℕ) (amount : ℕ) → IsWhole h (n ∷ todo) steps number amount
     → (d : ℕ) → steps ≤ d → number n + sum_by (flow (suc d) h number) (onward h n ++ todo) ≡ amount
-whole-step h n todo steps number amount w d l =
+whole-step {h} n todo steps number amount w d l =
     let here = w.same d l in
     let later = w.same (suc d) (omega arith) in
     let a = sum_by-append (flow (suc d) h number) (onward h n) todo in
@@ -57,12 +57,12 @@ pub visits_whole : (k : ℕ) (h : List Event) (todo : List ℕ) (steps : ℕ) (a
 visits_whole zero h [] steps amount w l number = (w number).same steps (omega arith)
 visits_whole (suc k) h [] steps amount w l number = (w number).same steps (omega arith)
 visits_whole zero h (n ∷ todo) steps amount w l number =
-    absurd (let s = whole-step h n todo steps (λ n. 1) (amount (λ n. 1)) (w (λ n. 1)) steps (omega arith) in omega arith)
+    absurd (let s = whole-step n todo steps (λ n. 1) (amount (λ n. 1)) (w (λ n. 1)) steps (omega arith) in omega arith)
 visits_whole (suc k) h (n ∷ todo) steps amount w l number =
     let rest : (ℕ → ℕ) → ℕ = λ f. sum_by (flow (suc steps) h f) (onward h n ++ todo) in
-    let here : (f : ℕ → ℕ) → f n + rest f ≡ amount f = λ f. whole-step h n todo steps f (amount f) (w f) steps (omega arith) in
+    let here : (f : ℕ → ℕ) → f n + rest f ≡ amount f = λ f. whole-step n todo steps f (amount f) (w f) steps (omega arith) in
     let whole : (f : ℕ → ℕ) → IsWhole h (onward h n ++ todo) steps f (rest f) =
-    λ f. record { same = λ d l. (let s = whole-step h n todo steps f (amount f) (w f) d l in let t = here f in omega arith) } in
+    λ f. record { same = λ d l. (let s = whole-step n todo steps f (amount f) (w f) d l in let t = here f in omega arith) } in
     let few : rest (λ n. 1) ≤ k = (let t = here (λ n. 1) in omega arith) in
     sum_by-cons number n (visited k h (onward h n ++ todo))
     ∙ ap (λ (m : ℕ). number n + m) (visits_whole k h (onward h n ++ todo) steps rest whole few number) ∙ here number

@@ -107,12 +107,12 @@ table_more key ms h e tied n l =
 pub back : {X : Type 0} (len : ℕ) (new old : List X) → len ≡ length old → length new ≡ length old → take len (new ++ drop (length new) old) ≡ new
 back len new old e same = let k : len ≡ length new = omega arith in rw (k, take-append_seam new (drop (length new) old)) refl
 
-pub table_field : (key : Event → Option ℕ) (len size : ℕ) (old new slice : List Bool) (k : Option ℕ) (h : List Event) (e : Event)
-    → len ≡ length old → length old ≡ size → slice ≡ old → k ≡ key e → new ≡ marks_with slice k
-    → IsTable old (λ n. list_any (λ x. is_key (key x) n) h) → IsTable (take len (new ++ drop (length new) old))
-    (λ n. list_any (λ x. is_key (key x) n) (h ++ e ∷ [])) × (length (take len (new ++ drop (length new) old)) ≡ size)
-table_field key len size old new slice k h e is_len is_size is_slice is_key_of is_new tied =
-    let is : new ≡ marks_with old (key e) = is_new ∙ ap (λ s. marks_with s k) is_slice ∙ ap (marks_with old) is_key_of in
+-- a vector of marks, after that of the key of the event was set in its slice
+pub table_field : (key : Event → Option ℕ) (h : List Event) (e : Event) {len size : ℕ} (old : List Bool) {new : List Bool}
+    → len ≡ length old → length old ≡ size → new ≡ marks_with old (key e) → IsTable old (λ n. list_any (λ x. is_key (key x) n) h)
+    → IsTable (take len (new ++ drop (length new) old)) (λ n. list_any (λ x. is_key (key x) n) (h ++ e ∷ []))
+    × (length (take len (new ++ drop (length new) old)) ≡ size)
+table_field key h e {len} old {new} is_len is_size is tied =
     let same : length new ≡ length old = ap length is ∙ length-marks_with old (key e) in
     rw (back len new old is_len same) (rw is (table_more key old h e tied), same ∙ is_size)
 

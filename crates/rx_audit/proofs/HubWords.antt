@@ -110,9 +110,9 @@ uncut h s none = sym (not_true _
 -- one that waits --------------------------------------------------------------------------------------
 
 -- the hub has an open subscriber that waits where its last one does
-pub waited_word : (h : List Event) (size : ℕ) (s : Subscribers) (g last ended : ℕ) → AreLinked h size s → AreOpenListed h s → last ≡ get_or s.last.items g 0
+pub waited_word : {h : List Event} {size : ℕ} (s : Subscribers) (g last ended : ℕ) → AreLinked h size s → AreOpenListed h s → last ≡ get_or s.last.items g 0
     → ended ≡ last_below (keyed (hub_ended_at h) g) (length h) → (nat_lt 0 last && not (nat_lt last ended)) ≡ has_key (open_waiting h) h g
-waited_word h size s g last ended w listed is_last is_ended = by_word last refl where
+waited_word {h} s g last ended w listed is_last is_ended = by_word last refl where
   top : last ≡ last_below (on_list h s.listed.items g) (length h)
   top = is_last ∙ (w.rows g).top
 
@@ -221,7 +221,7 @@ connected_word h live g word law tied is = by_word word refl where
           o ∙ sym (any_found (λ k. is_key (open_connected h k) g) (length h) j (is_open_within h j o) key)
       by_open (inr o) = o ∙ sym (none (λ k y.
           let m = open_one k y in
-          let le = last_connection nothing_kept h law g k j (connects k m.1) m.0 (connects j holds) in
+          let le = last_connection h law g k j (connects k m.1) m.0 (connects j holds) in
           both_ways (is_open h k) (same_closed k le m.0 m.1) m.0))
         where
           same_closed : (k : ℕ) → j ≤ k → is_open h k ≡ true → hub_connected_at h k ≡ Some g → is_open h k ≡ false

@@ -87,11 +87,11 @@ hub_count-push h e = by_test (makes_hub e) refl where
 
 -- all together ------------------------------------------------------------------------------------------
 
-pub hubs_more : (h : List Event) (e : Event) (size : ℕ) (old new : Hubs) → IsLawful nothing_kept h → MayFollow nothing_kept h e → AreHubs h size old
+pub hubs_more : {h : List Event} {e : Event} {size : ℕ} {old : Hubs} (new : Hubs) → IsLawful nothing_kept h → MayFollow nothing_kept h e → AreHubs h size old
     → new.connection.items ≡ table_with old.connection.items (hub_connected e) (suc (length h))
     → new.ended.items ≡ table_with old.ended.items (hub_ended h e) (suc (length h))
     → new.waiting ≡ option_or (hub_subscribed e) old.waiting → new.count ≡ old.count + cond (makes_hub e) 1 0 → AreHubs (h ++ e ∷ []) size new
-hubs_more h e size old new law next w connection ended waiting count = record {
+hubs_more {h} {e} {old} new law next w connection ended waiting count = record {
   connection = rw (connection, one_longer h e)
       (latest_with old.connection.items (hub_connected_at h) (hub_connected_at (h ++ e ∷ []))
       (length h) (hub_connected e) w.connection (connected_same h e) (connected_last h e));

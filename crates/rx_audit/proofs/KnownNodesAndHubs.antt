@@ -37,9 +37,9 @@ followed_nothing size nodes children linked hubs marks = record {
 }
 
 -- with another list of what may be due
-pub known_due : (h : List Event) (live : List Bool) (old new : Nodes) → IsKnown h live old → new.children ≡ old.children → new.subscribers ≡ old.subscribers
+pub known_due : {h : List Event} {live : List Bool} (old new : Nodes) → IsKnown h live old → new.children ≡ old.children → new.subscribers ≡ old.subscribers
     → new.hubs ≡ old.hubs → new.marks ≡ old.marks → HasAll h new.due.items → IsKnown h live new
-known_due h live old new k children subscribers hubs marks covered =
+known_due old new k children subscribers hubs marks covered =
     let w = k.followed in
     record {
       lawful = k.lawful;

@@ -73,9 +73,9 @@ latest_none table key more bound tied same none n l =
     ∙ last_same (keyed more n) (keyed key n) bound (λ j m. ap (λ o. is_key o n) (same j m)))
 
 -- or this key
-pub latest_some : (table : List ℕ) (key more : ℕ → Option ℕ) (bound p : ℕ) → IsLatest table key bound → ((k : ℕ) → k < bound → more k ≡ key k)
+pub latest_some : (table : List ℕ) {key : ℕ → Option ℕ} (more : ℕ → Option ℕ) (bound p : ℕ) → IsLatest table key bound → ((k : ℕ) → k < bound → more k ≡ key k)
     → more bound ≡ Some p → p < length table → IsLatest (set table p (suc bound)) more (suc bound)
-latest_some table key more bound p tied same is inside n l = by_order (cases_order n p) where
+latest_some table {key} more bound p tied same is inside n l = by_order (cases_order n p) where
   step : last_below (keyed more n) (suc bound) ≡ cond (p == n) (suc bound) (last_below (keyed more n) bound)
   step = ap (λ o. cond (is_key o n) (suc bound) (last_below (keyed more n) bound)) is
 
@@ -108,9 +108,9 @@ linked_none next key more bound tied same none k n l is = by_order (cases_order 
       ∙ sym (last_same (keyed more n) (keyed key n) k (λ j i. ap (λ o. is_key o n) (same j (omega arith))))
   by_order (inr (inr m)) = absurd (omega arith)
 
-pub linked_some : (next : List ℕ) (key more : ℕ → Option ℕ) (bound p v : ℕ) → IsLinked next key bound → ((k : ℕ) → k < bound → more k ≡ key k)
+pub linked_some : (next : List ℕ) {key more : ℕ → Option ℕ} {bound : ℕ} (p v : ℕ) → IsLinked next key bound → ((k : ℕ) → k < bound → more k ≡ key k)
     → more bound ≡ Some p → bound < length next → v ≡ last_below (keyed key p) bound → IsLinked (set next bound v) more (suc bound)
-linked_some next key more bound p v tied same has inside value k n l is = by_order (cases_order k bound) where
+linked_some next {key} {more} {bound} p v tied same has inside value k n l is = by_order (cases_order k bound) where
   before : (j : ℕ) → j ≤ bound → last_below (keyed more n) j ≡ last_below (keyed key n) j
   before j m = last_same (keyed more n) (keyed key n) j (λ i q. ap (λ o. is_key o n) (same i (omega arith)))
 
@@ -153,15 +153,15 @@ latest_with table key more bound (Some p) tied same is = by_place (cases_order p
 
   by_place : (p ≡ length table) ⊎ ((p < length table) ⊎ (length table < p)) → IsLatest (set table p (suc bound)) more (suc bound)
   by_place (inl e) = past (omega arith)
-  by_place (inr (inl l)) = latest_some table key more bound p tied same is l
+  by_place (inr (inl l)) = latest_some table more bound p tied same is l
   by_place (inr (inr g)) = past (omega arith)
 
-pub linked_with : (next last : List ℕ) (key more : ℕ → Option ℕ) (bound : ℕ) (o : Option ℕ) → IsLinked next key bound → IsLatest last key bound
+pub linked_with : (next last : List ℕ) {key more : ℕ → Option ℕ} {bound : ℕ} {o : Option ℕ} → IsLinked next key bound → IsLatest last key bound
     → ((k : ℕ) → k < bound → more k ≡ key k) → more bound ≡ o → bound < length next → ((p : ℕ) → o ≡ Some p → p < length last)
     → IsLinked (link_with next last o bound) more (suc bound)
-linked_with next last key more bound None tied from same is inside within = linked_none next key more bound tied same is
-linked_with next last key more bound (Some p) tied from same is inside within =
-    linked_some next key more bound p (get_or last p 0) tied same is inside (from p (within p refl))
+linked_with next last {key} {more} {bound} {o = None} tied from same is inside within = linked_none next key more bound tied same is
+linked_with next last {o = Some p} tied from same is inside within =
+    linked_some next p (get_or last p 0) tied same is inside (from p (within p refl))
 
 pub length-table_with : (table : List ℕ) (o : Option ℕ) (value : ℕ) → length (table_with table o value) ≡ length table
 length-table_with table None value = refl
@@ -180,11 +180,11 @@ less_than n (Some q) p e = by_test (cases_Bool (nat_lt q n)) where
       rw (← same) (ltb-true q n y)
   by_test (inr z) = absurd (none-some p (sym (ap (λ b. cond b (Some q) None) z) ∙ e))
 
-pub children_more : (h : List Event) (e : Event) (size : ℕ) (old new : Children) → AreChildren h size old → length h < size
+pub children_more : {h : List Event} (e : Event) {size : ℕ} (old new : Children) → AreChildren h size old → length h < size
     → new.older.items ≡ link_with old.older.items old.youngest.items (option_and_then (if_less (length h)) (parent_named e)) (length h)
     → new.youngest.items ≡ table_with old.youngest.items (option_and_then (if_less (length h)) (parent_named e)) (suc (length h))
     → new.inner.items ≡ table_with old.inner.items (inner_named e) (suc (length h)) → AreChildren (h ++ e ∷ []) size new
-children_more h e size old new w room older youngest inner =
+children_more {h} e old new w room older youngest inner =
     let above = option_and_then (if_less (length h)) (parent_named e) in
     let same : (k : ℕ) → k < length h → parent (h ++ e ∷ []) k ≡ parent h k = λ k l. parent-append h (e ∷ []) k l in
     let a = w.youngest_size in
@@ -194,7 +194,7 @@ children_more h e size old new w room older youngest inner =
           (latest_with old.youngest.items (parent h) (parent (h ++ e ∷ [])) (length h) above w.youngest same (parent_last h e));
       youngest_size = ap length youngest ∙ length-table_with old.youngest.items above (suc (length h)) ∙ w.youngest_size;
       older = rw (older, one_longer h e)
-          (linked_with old.older.items old.youngest.items (parent h) (parent (h ++ e ∷ [])) (length h) above w.older w.youngest same
+          (linked_with old.older.items old.youngest.items w.older w.youngest same
           (parent_last h e) (omega arith) (λ p is. let l = less_than (length h) (parent_named e) p is in omega arith));
       older_size = ap length older ∙ length-link_with old.older.items old.youngest.items above (length h) ∙ w.older_size;
       inner = rw (inner, one_longer h e)

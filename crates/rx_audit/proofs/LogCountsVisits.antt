@@ -78,34 +78,45 @@ flow_ends h leaf i log total l s = record {
     sums : (number : ℕ → ℕ) → sum_by number (visited 1048577 h (leaf ∷ [])) ≡ sum_by (times number) log
     sums number = visits_whole 1048577 h (leaf ∷ []) i (λ f. sum_by (times f) log) whole (let t = s.total in let f = s.few in omega arith) number
 
+-- entry i of the log, and the nodes on which an item goes from it
+pub record IsEntry (h : List Event) (log : List Visit) (i : ℕ) (v : Visit) (next : List ℕ) : Type 0 where
+  pub within : i < length log
+  pub is : v ≡ get_or log i v
+  pub goes_on : (number : ℕ → ℕ) → sum_by number next ≡ sum_by number (onward h v.node)
+
+-- behind entry i those nodes were added to the log, each as often as the entry is reached
+pub record HasSpread (i : ℕ) (log new : List Visit) (v : Visit) (next : List ℕ) : Type 0 where
+  pub kept : take (i + 1) new ≡ take (i + 1) log
+  pub more : (number : ℕ → ℕ) → sum_by (times number) (drop (i + 1) new) ≡ sum_by (times number) (drop (i + 1) log) + v.count * sum_by number next
+  pub often : IsOften new
+  pub grows : length log ≤ length new
+
 -- one entry more
-pub flow_step : (h : List Event) (leaf i : ℕ) (log new : List Visit) (total : ℕ) (v : Visit) (next : List ℕ) → i < length log
-    → v ≡ get_or log i v → ((number : ℕ → ℕ) → sum_by number next ≡ sum_by number (onward h v.node)) → take (i + 1) new ≡ take (i + 1) log
-    → ((number : ℕ → ℕ) → sum_by (times number) (drop (i + 1) new) ≡ sum_by (times number) (drop (i + 1) log) + v.count * sum_by number next)
-    → IsOften new → length log ≤ length new → total + v.count * length next ≤ 1048576
-    → IsFlowing h leaf i log total → IsFlowing h leaf (i + 1) new (total + v.count * length next)
-flow_step h leaf i log new total v next l is is_next kept more often grows few s = record {
+pub flow_step : {h : List Event} {leaf i : ℕ} {log new : List Visit} {total : ℕ} {v : Visit} {next : List ℕ} → IsEntry h log i v next
+    → HasSpread i log new v next → total + v.count * length next ≤ 1048576 → IsFlowing h leaf i log total
+    → IsFlowing h leaf (i + 1) new (total + v.count * length next)
+flow_step {h} {leaf} {i} {log} {new} {total} {v} {next} entry spread few s = record {
   upper = upper;
   lower = lower;
-  within = omega arith;
+  within = let l = entry.within in let grows = spread.grows in omega arith;
   total = sums;
   few = few;
-  often = often;
+  often = spread.often;
 }
   where
     followed : (f : ℕ → ℕ) → sum_by (times f) (take (i + 1) new) ≡ sum_by (times f) (take i log) + v.count * f v.node
-    followed f = ap (sum_by (times f)) kept ∙ followed_entry f log i v l is
+    followed f = ap (sum_by (times f)) spread.kept ∙ followed_entry f log i v entry.within entry.is
 
     grown : (d : ℕ) (number : ℕ → ℕ) → v.count * flow (suc d) h number v.node ≡ v.count * number v.node + v.count * sum_by (flow d h number) next
-    grown d number = rw (is_next (flow d h number)) (omega arith)
+    grown d number = rw (entry.goes_on (flow d h number)) (omega arith)
 
     upper : (number : ℕ → ℕ) (d : ℕ) → flow d h number leaf ≤ sum_by (times number) (take (i + 1) new) + sum_by (times (flow d h number)) (drop (i + 1) new)
     upper number d =
         let u = s.upper number d in
-        let a = next_entry (flow d h number) log i v l is in
+        let a = next_entry (flow d h number) log i v entry.within entry.is in
         let b = mul-le-mul_left v.count (flow-more d h number v.node) in
         let c = grown d number in
-        let e = more (flow d h number) in
+        let e = spread.more (flow d h number) in
         let f = followed number in
         omega arith
 
@@ -113,10 +124,10 @@ flow_step h leaf i log new total v next l is is_next kept more often grows few s
         → sum_by (times number) (take (i + 1) new) + sum_by (times (flow e h number)) (drop (i + 1) new) ≤ flow k h number leaf
     lower number e k same =
         let w = s.lower number (suc e) k (omega arith) in
-        let a = next_entry (flow (suc e) h number) log i v l is in
+        let a = next_entry (flow (suc e) h number) log i v entry.within entry.is in
         let b = times-mono (flow e h number) (flow (suc e) h number) (flow-more e h number) (drop (i + 1) log) in
         let c = grown e number in
-        let d = more (flow e h number) in
+        let d = spread.more (flow e h number) in
         let f = followed number in
         omega arith
 
@@ -125,20 +136,16 @@ flow_step h leaf i log new total v next l is is_next kept more often grows few s
         let t = s.total in
         let a = whole_sum (λ n. 1) log (i + 1) in
         let b = whole_sum (λ n. 1) new (i + 1) in
-        let c = ap (sum_by (times (λ n. 1))) kept in
-        let d = more (λ n. 1) in
+        let c = ap (sum_by (times (λ n. 1))) spread.kept in
+        let d = spread.more (λ n. 1) in
         let e = ap (λ (k : ℕ). v.count * k) (count_all next) in
         omega arith
 
 -- too many visits
-pub flow_over : (h : List Event) (leaf i : ℕ) (log : List Visit) (total : ℕ) (v : Visit) (next : List ℕ) → i < length log → v ≡ get_or log i v
-    → ((number : ℕ → ℕ) → sum_by number next ≡ sum_by number (onward h v.node))
+pub flow_over : {h : List Event} {leaf i : ℕ} {log : List Visit} {total : ℕ} {v : Visit} {next : List ℕ} → IsEntry h log i v next
     → 1048576 < total + v.count * length next → IsFlowing h leaf i log total → 1048576 < visits h leaf
 unfolding visits climb most_visits
-flow_over h leaf i log total v next l is is_next many s = rw (visits_many 1048577 (2 + i) h (leaf ∷ []) enough) (omega arith) where
-  one : ℕ → ℕ
-  one n = 1
-
+flow_over {h} {leaf} {i} {log} {v} {next} entry many s = rw (visits_many 1048577 (2 + i) h (leaf ∷ []) enough) (omega arith) where
   at_least : (n : ℕ) → 1 ≤ flow 1 h (λ n. 1) n
   at_least n = omega arith
 
@@ -148,14 +155,14 @@ flow_over h leaf i log total v next l is is_next many s = rw (visits_many 104857
   enough : 1048577 ≤ sum_by (flow (2 + i) h (λ n. 1)) (leaf ∷ [])
   enough =
       let w = s.lower (λ n. 1) 2 (2 + i) refl in
-      let a = next_entry (flow 2 h (λ n. 1)) log i v l is in
+      let a = next_entry (flow 2 h (λ n. 1)) log i v entry.within entry.is in
       let b = times-mono (λ n. 1) (flow 2 h (λ n. 1)) at_least_two (drop (i + 1) log) in
-      let c = next_entry (λ n. 1) log i v l is in
+      let c = next_entry (λ n. 1) log i v entry.within entry.is in
       let d = whole_sum (λ n. 1) log i in
       let t = s.total in
       let e = sum_by-mono (λ n. 1) (flow 1 h (λ n. 1)) at_least (onward h v.node) in
       let f = count_all (onward h v.node) in
-      let g : length next ≡ length (onward h v.node) = sym (count_all next) ∙ is_next (λ n. 1) ∙ count_all (onward h v.node) in
+      let g : length next ≡ length (onward h v.node) = sym (count_all next) ∙ entry.goes_on (λ n. 1) ∙ count_all (onward h v.node) in
       let two : 1 + length next ≤ flow 2 h (λ n. 1) v.node = omega arith in
       let m = mul-le-mul_left v.count two in
       let z = sum_by-cons (flow (2 + i) h (λ n. 1)) leaf [] in

@@ -84,45 +84,45 @@ untouched h (Return r) n no_item no_close differs = refl
 untouched h (Take r) n no_item no_close differs = refl
 
 -- the marks of an older node that is not touched
-pub marks_apart : (h : List Event) (e : Event) → IsLawful nothing_kept h → MayFollow nothing_kept h e → IsUntouched h e → (n : ℕ) → n < length h
+pub marks_apart : {h : List Event} (e : Event) → IsLawful nothing_kept h → MayFollow nothing_kept h e → IsUntouched h e → (n : ℕ) → n < length h
     → is_open (h ++ e ∷ []) n ≡ true
     → (touched_by h e ≡ Some n → ⊥) → marks_of nothing_kept (h ++ e ∷ []) n ≡ marks_of nothing_kept h n
-marks_apart h e law next no_item n l o differs = by_event e refl where
+marks_apart {h} e law next no_item n l o differs = by_event e refl where
   by_event : (x : Event) → e ≡ x → marks_of nothing_kept (h ++ e ∷ []) n ≡ marks_of nothing_kept h n
   by_event (Close c) same =
       let now : MayFollow nothing_kept h (Close c) = rw (← same) next in
       let stays : is_open (h ++ Close c ∷ []) n ≡ true = rw (← same) o in
       rw same (marks_closed nothing_kept h c law now n stays)
-  by_event (Open place kind) same = marks_untouched nothing_kept h e law next n l o (untouched h e n no_item (λ c is. open_close (sym same ∙ is)) differs) where
+  by_event (Open place kind) same = marks_untouched h e law next n l o (untouched h e n no_item (λ c is. open_close (sym same ∙ is)) differs) where
     open_close : {c : ℕ} → Open place kind ≡ Close c → ⊥
     open_close is = both_ways (is_close (Open place kind)) refl (ap is_close is)
-  by_event (Decline f) same = marks_untouched nothing_kept h e law next n l o
+  by_event (Decline f) same = marks_untouched h e law next n l o
       (untouched h e n no_item (λ c is. both_ways (is_close (Decline f)) refl (ap is_close (sym same ∙ is))) differs)
-  by_event (End m t) same = marks_untouched nothing_kept h e law next n l o
+  by_event (End m t) same = marks_untouched h e law next n l o
       (untouched h e n no_item (λ c is. both_ways (is_close (End m t)) refl (ap is_close (sym same ∙ is))) differs)
-  by_event (Hub mode) same = marks_untouched nothing_kept h e law next n l o
+  by_event (Hub mode) same = marks_untouched h e law next n l o
       (untouched h e n no_item (λ c is. both_ways (is_close (Hub mode)) refl (ap is_close (sym same ∙ is))) differs)
-  by_event (Connect g) same = marks_untouched nothing_kept h e law next n l o
+  by_event (Connect g) same = marks_untouched h e law next n l o
       (untouched h e n no_item (λ c is. both_ways (is_close (Connect g)) refl (ap is_close (sym same ∙ is))) differs)
-  by_event (Accept m tag) same = marks_untouched nothing_kept h e law next n l o
+  by_event (Accept m tag) same = marks_untouched h e law next n l o
       (untouched h e n no_item (λ c is. both_ways (is_close (Accept m tag)) refl (ap is_close (sym same ∙ is))) differs)
-  by_event (Use r) same = marks_untouched nothing_kept h e law next n l o
+  by_event (Use r) same = marks_untouched h e law next n l o
       (untouched h e n no_item (λ c is. both_ways (is_close (Use r)) refl (ap is_close (sym same ∙ is))) differs)
-  by_event (Remove r) same = marks_untouched nothing_kept h e law next n l o
+  by_event (Remove r) same = marks_untouched h e law next n l o
       (untouched h e n no_item (λ c is. both_ways (is_close (Remove r)) refl (ap is_close (sym same ∙ is))) differs)
-  by_event (Lease r) same = marks_untouched nothing_kept h e law next n l o
+  by_event (Lease r) same = marks_untouched h e law next n l o
       (untouched h e n no_item (λ c is. both_ways (is_close (Lease r)) refl (ap is_close (sym same ∙ is))) differs)
-  by_event (Return r) same = marks_untouched nothing_kept h e law next n l o
+  by_event (Return r) same = marks_untouched h e law next n l o
       (untouched h e n no_item (λ c is. both_ways (is_close (Return r)) refl (ap is_close (sym same ∙ is))) differs)
-  by_event (Take r) same = marks_untouched nothing_kept h e law next n l o
+  by_event (Take r) same = marks_untouched h e law next n l o
       (untouched h e n no_item (λ c is. both_ways (is_close (Take r)) refl (ap is_close (sym same ∙ is))) differs)
-  by_event (Item m v) same = marks_untouched nothing_kept h e law next n l o (no_item n (ap is_item same))
+  by_event (Item m v) same = marks_untouched h e law next n l o (no_item n (ap is_item same))
 
 -- the list after the event: at the node that it touches, and at the new place
-pub kept_more : (h : List Event) (e : Event) (ms : List Marks) (p : ℕ) (m : Marks) → IsLawful nothing_kept h → MayFollow nothing_kept h e
+pub kept_more : {h : List Event} {e : Event} (ms : List Marks) {p : ℕ} {m : Marks} → IsLawful nothing_kept h → MayFollow nothing_kept h e
     → IsUntouched h e → IsKept h ms → length h < length ms
     → touched_by h e ≡ Some p → m ≡ marks_of nothing_kept (h ++ e ∷ []) p → IsKept (h ++ e ∷ []) (set (set ms p m) (length h) blank_marks)
-kept_more h e ms p m law next no_item kept room named is n o = by_order (cases_order n (length h)) (cases_order n p) where
+kept_more {h} {e} ms {p} {m} law next no_item kept room named is n o = by_order (cases_order n (length h)) (cases_order n p) where
   within : p < length h
   within = is_open_within h p (touched_open h e p next named)
 
@@ -150,7 +150,7 @@ kept_more h e ms p m law next no_item kept room named is n o = by_order (cases_o
       let ne : n ≢ length h = omega arith in
       let other : n ≢ p = λ same. by_ne differs same in
       get_or-set_other (set ms p m) (length h) n blank_marks blank_marks ne ∙ get_or-set_other ms p n m blank_marks other
-      ∙ kept n (before l) ∙ sym (marks_apart h e law next no_item n l o (λ at_n. other (same_Some n p (sym at_n ∙ named))))
+      ∙ kept n (before l) ∙ sym (marks_apart e law next no_item n l o (λ at_n. other (same_Some n p (sym at_n ∙ named))))
     where
       by_ne : (n < p) ⊎ (p < n) → n ≡ p → ⊥
       by_ne (inl a) same = omega arith
@@ -159,10 +159,10 @@ kept_more h e ms p m law next no_item kept room named is n o = by_order (cases_o
       before : n < length h → is_open h n ≡ true
       before l = open_old h e n l o
 
-pub kept_same : (h : List Event) (e : Event) (ms : List Marks) → IsLawful nothing_kept h → MayFollow nothing_kept h e → IsUntouched h e → IsKept h ms
+pub kept_same : {h : List Event} (e : Event) (ms : List Marks) → IsLawful nothing_kept h → MayFollow nothing_kept h e → IsUntouched h e → IsKept h ms
     → length h < length ms
     → touched_by h e ≡ None → IsKept (h ++ e ∷ []) (set ms (length h) blank_marks)
-kept_same h e ms law next no_item kept room none n o = by_order (cases_order n (length h)) where
+kept_same {h} e ms law next no_item kept room none n o = by_order (cases_order n (length h)) where
   by_order : (n ≡ length h) ⊎ ((n < length h) ⊎ (length h < n)) → get_or (set ms (length h) blank_marks) n blank_marks ≡ marks_of nothing_kept (h ++ e ∷ []) n
   by_order (inl same) =
       ap (λ k. get_or (set ms (length h) blank_marks) k blank_marks) same ∙ get_or-set_same ms (length h) blank_marks blank_marks room
@@ -170,20 +170,20 @@ kept_same h e ms law next no_item kept room none n o = by_order (cases_order n (
   by_order (inr (inl l)) =
       let ne : n ≢ length h = omega arith in
       get_or-set_other ms (length h) n blank_marks blank_marks ne ∙ kept n (open_old h e n l o)
-      ∙ sym (marks_apart h e law next no_item n l o (λ at_n. none-some n (sym none ∙ at_n)))
+      ∙ sym (marks_apart e law next no_item n l o (λ at_n. none-some n (sym none ∙ at_n)))
   by_order (inr (inr g)) = absurd (let l = is_open_within (h ++ e ∷ []) n o in omega (arith, length-append h (e ∷ [])))
 
 -- each event's change ------------------------------------------------------------------------------
 
-pub source_changes : (h : List Event) (e : Event) (f p : ℕ) (kind : Kind) → e ≡ Open (Source f) kind → IsLawful nothing_kept h
+pub source_changes : {h : List Event} (e : Event) (f p : ℕ) (kind : Kind) → e ≡ Open (Source f) kind → IsLawful nothing_kept h
     → MayFollow nothing_kept h e → touched_by h e ≡ Some p
     → marks_of nothing_kept (h ++ e ∷ []) p ≡ after_source (marks_of nothing_kept h p)
-source_changes h e f p kind same = rw same (λ law next named. rw (← same_Some f p named) (marks-source_at nothing_kept h f kind law next))
+source_changes {h} e f p kind same = rw same (λ law next named. rw (← same_Some f p named) (marks-source_at nothing_kept h f kind law next))
 
-pub notifier_changes : (h : List Event) (e : Event) (f p : ℕ) (kind : Kind) → e ≡ Open (Notifier f) kind → IsLawful nothing_kept h
+pub notifier_changes : {h : List Event} (e : Event) (f p : ℕ) (kind : Kind) → e ≡ Open (Notifier f) kind → IsLawful nothing_kept h
     → MayFollow nothing_kept h e → touched_by h e ≡ Some p
     → marks_of nothing_kept (h ++ e ∷ []) p ≡ after_notifier (marks_of nothing_kept h p)
-notifier_changes h e f p kind same = rw same (λ law next named. rw (← same_Some f p named) (marks-notifier_at nothing_kept h f kind law next))
+notifier_changes {h} e f p kind same = rw same (λ law next named. rw (← same_Some f p named) (marks-notifier_at nothing_kept h f kind law next))
 
 pub decline_changes : (h : List Event) (e : Event) (f p : ℕ) → e ≡ Decline f → IsLawful nothing_kept h → MayFollow nothing_kept h e → touched_by h e ≡ Some p
     → marks_of nothing_kept (h ++ e ∷ []) p ≡ after_decline (marks_of nothing_kept h p)
@@ -192,21 +192,21 @@ decline_changes h e f p same = rw same (λ law next named. rw (← same_Some f p
 at_event : (q : Event → Bool) (h : List Event) (n : ℕ) (made : Event) → slice_get h n ≡ Some made → q made ≡ at q h n
 at_event q h n made is = sym (ap (λ o. option_map_or q o false) is)
 
-pub end_changes : (h : List Event) (e : Event) (c p : ℕ) (t : Terminal) → e ≡ End c t → IsLawful nothing_kept h → MayFollow nothing_kept h e
+pub end_changes : {h : List Event} (e : Event) (c p : ℕ) (t : Terminal) → e ≡ End c t → IsLawful nothing_kept h → MayFollow nothing_kept h e
     → touched_by h e ≡ Some p
     → marks_of nothing_kept (h ++ e ∷ []) p ≡ after_child (at (is_source_of p) h c) (at is_merging h p) t (marks_of nothing_kept h p)
-end_changes h e c p t same = rw same (λ law next named.
+end_changes {h} e c p t same = rw same (λ law next named.
     let made = event_at h c (is_open_within h c (may_end nothing_kept next)) in
     let above = event_at h p (is_open_within h p (parent_open h c p (may_end nothing_kept next) named)) in
-    marks-end_at nothing_kept h c p made.0 above.0 t law next named made.1 above.1
+    marks-end_at law next named made.1 above.1
     ∙ ap (λ b. after_child b (is_merging above.0) t (marks_of nothing_kept h p)) (at_event (is_source_of p) h c made.0 made.1)
     ∙ ap (λ b. after_child (at (is_source_of p) h c) b t (marks_of nothing_kept h p)) (at_event is_merging h p above.0 above.1))
 
 -- an inner, which takes the place of an open one or of none
-pub inner_changes : (h : List Event) (e : Event) (f p : ℕ) (kind : Kind) (top : Option ℕ) (b : Bool) → e ≡ Open (Inner f) kind
+pub inner_changes : {h : List Event} {e : Event} {f p : ℕ} {kind : Kind} (top : Option ℕ) (b : Bool) → e ≡ Open (Inner f) kind
     → IsLawful nothing_kept h → MayFollow nothing_kept h e → touched_by h e ≡ Some p
     → IsTop h e top → b ≡ is_some top → marks_of nothing_kept (h ++ e ∷ []) p ≡ after_inner b (marks_of nothing_kept h p)
-inner_changes h e f p kind top b same = rw same
+inner_changes {h} {f} {p} {kind} top b same = rw same
     (λ law next named is taken. rw (taken, ← same_Some f p named) (by_switch law next top is (cases_Bool (at is_switch h f)))) where
       by_switch : IsLawful nothing_kept h → MayFollow nothing_kept h (Open (Inner f) kind) → (o : Option ℕ) → IsTop h (Open (Inner f) kind) o
           → (at is_switch h f ≡ true) ⊎ (at is_switch h f ≡ false)
@@ -219,7 +219,8 @@ inner_changes h e f p kind top b same = rw same
             not_open k inner (inl here) =
                 let shut : is_switched_inner h f k ≡ true = and_from _ _ (and_from _ _ (lt-ltb f k (inner_above nothing_kept h law f k inner)) switch) inner in
                 absurd (both_ways (is_switched_inner h f k) (none k here) shut)
-      by_switch law next (Some old) w (inl switch) = marks-inner_at_next nothing_kept h f old kind law next switch (and_parts _ _ w.shut).1 w.open_before
+      by_switch law next (Some old) w (inl switch) =
+          marks-inner_at_next law next (record { switch = switch; inner = (and_parts _ _ w.shut).1; alive = w.open_before })
       by_switch law next (Some old) w (inr flat) = absurd (both_ways (at is_switch h f) flat (and_parts _ _ (and_parts _ _ w.shut).0).1)
 
 pub children_few : (h : List Event) (n : ℕ) → open_children h n ≤ length h

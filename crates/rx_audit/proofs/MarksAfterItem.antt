@@ -58,10 +58,10 @@ owes_same h leaf n log r =
     times_cond (λ m. is_key (projected_key h m) n) log ∙ r.sums (λ m. cond (is_key (projected_key h m) n) 1 0)
     ∙ sym (projection_stops (stop_at h) n (climb h leaf))
 
-kept_visit : (h : List Event) (leaf : ℕ) (v : ℤ) (log : List Visit) (old new : List Marks) (before after : List ℕ) → IsLawful nothing_kept h
+kept_visit : {h : List Event} {leaf : ℕ} (v : ℤ) {log : List Visit} {old new : List Marks} {before : List ℕ} (after : List ℕ) → IsLawful nothing_kept h
     → MayFollow nothing_kept h (Item leaf v)
     → IsReached h leaf log → IsKept h old → length h < length old → IsVisited h log old new before after → IsKept (h ++ Item leaf v ∷ []) new
-kept_visit h leaf v log old new before after law next r kept room w n o =
+kept_visit {h} {leaf} v {log} after law next r kept room w n o =
     let here : is_open h n ≡ true = open_before h (Item leaf v) n refl o in
     let l : n < length h = is_open_within h n here in
     w.marks n (omega arith)
@@ -111,10 +111,10 @@ or_false : (b : Bool) → (b || false) ≡ b
 or_false true = refl
 or_false false = refl
 
-covered_visit : (h : List Event) (leaf : ℕ) (v : ℤ) (log : List Visit) (old new : List Marks) (before after : List ℕ) → IsLawful nothing_kept h
+covered_visit : {h : List Event} {leaf : ℕ} (v : ℤ) {log : List Visit} {old new : List Marks} (before after : List ℕ) → IsLawful nothing_kept h
     → MayFollow nothing_kept h (Item leaf v)
     → IsReached h leaf log → IsCovered h before → IsVisited h log old new before after → IsCovered (h ++ Item leaf v ∷ []) after
-covered_visit h leaf v log old new before after law next r covered w n y = by_fired (cases_Bool (list_any (is_firing_of n) (stops h leaf))) where
+covered_visit {h} {leaf} v {log} before after law next r covered w n y = by_fired (cases_Bool (list_any (is_firing_of n) (stops h leaf))) where
   by_fired : (list_any (is_firing_of n) (stops h leaf) ≡ true) ⊎ (list_any (is_firing_of n) (stops h leaf) ≡ false) → IsNoted 0 after n
   by_fired (inl now) = w.noted n (fires_same h leaf n log r ∙ now)
   by_fired (inr quiet) =
@@ -130,18 +130,18 @@ covered_visit h leaf v log old new before after law next r covered w n y = by_fi
       (ap (λ m. is_some (terminal_due made.0 m)) (sym same) ∙ now) in
       w.kept n (covered n (due_made_at h n made.0 here made.1 ∙ was))
 
-pub item_kept : (h : List Event) (e : Event) (leaf : ℕ) (log : List Visit) (old new : List Marks) (before after : List ℕ) → IsLawful nothing_kept h
+pub item_kept : {h : List Event} {e : Event} {leaf : ℕ} {log : List Visit} {old new : List Marks} {before : List ℕ} (after : List ℕ) → IsLawful nothing_kept h
     → MayFollow nothing_kept h e → leaf_of e ≡ Some leaf
     → IsReached h leaf log → IsKept h old → length h < length old → IsVisited h log old new before after → IsKept (h ++ e ∷ []) new
-item_kept h e leaf log old new before after law next is r kept room w =
+item_kept {h} {e} {leaf} after law next is r kept room w =
     let found = item_of e leaf is in
     let now : MayFollow nothing_kept h (Item leaf found.0) = rw (← found.1) next in
-    rw found.1 (kept_visit h leaf found.0 log old new before after law now r kept room w)
+    rw found.1 (kept_visit found.0 after law now r kept room w)
 
-pub item_covered : (h : List Event) (e : Event) (leaf : ℕ) (log : List Visit) (old new : List Marks) (before after : List ℕ) → IsLawful nothing_kept h
+pub item_covered : {h : List Event} {e : Event} {leaf : ℕ} {log : List Visit} {old new : List Marks} (before after : List ℕ) → IsLawful nothing_kept h
     → MayFollow nothing_kept h e → leaf_of e ≡ Some leaf
     → IsReached h leaf log → IsCovered h before → IsVisited h log old new before after → IsCovered (h ++ e ∷ []) after
-item_covered h e leaf log old new before after law next is r covered w =
+item_covered {h} {e} {leaf} before after law next is r covered w =
     let found = item_of e leaf is in
     let now : MayFollow nothing_kept h (Item leaf found.0) = rw (← found.1) next in
-    rw found.1 (covered_visit h leaf found.0 log old new before after law now r covered w)
+    rw found.1 (covered_visit found.0 before after law now r covered w)

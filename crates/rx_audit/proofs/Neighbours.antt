@@ -21,59 +21,69 @@ last_unique p k v le none some = by_order (cases_order (last_below p k) v) where
       let is : last_below p k ≡ suc (last_below p k - 1) = omega arith in
       absurd (both_ways (p (last_below p k - 1)) (none (last_below p k - 1) (omega arith) (omega arith)) (last_holds p k (last_below p k - 1) is))
 
--- q is p but for s
-module _ (p q : ℕ → Bool) (s : ℕ) (same : (k : ℕ) → k ≢ s → q k ≡ p k) (gone : q s ≡ false) where
+-- what passes q is what passes p but for s
+pub record IsLess (p q : ℕ → Bool) (s : ℕ) : Type 0 where
+  pub same : (k : ℕ) → k ≢ s → q k ≡ p k
+  pub gone : q s ≡ false
+  pub here : p s ≡ true
+
+-- what passes is below the bound, and both lists have a place for it
+pub record HasRoom (p : ℕ → Bool) (bound : ℕ) (before after : List ℕ) : Type 0 where
+  pub below : (k : ℕ) → p k ≡ true → k < bound
+  pub in_before : (k : ℕ) → p k ≡ true → k < length before
+  pub in_after : (k : ℕ) → p k ≡ true → k < length after
+
+module _ {p q : ℕ → Bool} {s : ℕ} (less : IsLess p q s) where
   off : (k : ℕ) → q k ≡ true → k ≢ s
-  off k y is = both_ways (q k) (ap q is ∙ gone) y
+  off k y is = both_ways (q k) (ap q is ∙ less.gone) y
 
   was : (k : ℕ) → q k ≡ true → p k ≡ true
-  was k y = sym (same k (off k y)) ∙ y
+  was k y = sym (less.same k (off k y)) ∙ y
 
   none_still : (k : ℕ) → p k ≡ false → q k ≡ false
   none_still k none = by_order (cases_order k s) where
     by_order : (k ≡ s) ⊎ ((k < s) ⊎ (s < k)) → q k ≡ false
-    by_order (inl is) = ap q is ∙ gone
-    by_order (inr (inl l)) = same k (omega arith) ∙ none
-    by_order (inr (inr l)) = same k (omega arith) ∙ none
+    by_order (inl is) = ap q is ∙ less.gone
+    by_order (inr (inl l)) = less.same k (omega arith) ∙ none
+    by_order (inr (inr l)) = less.same k (omega arith) ∙ none
 
   last_still : (k : ℕ) → last_below p k ≢ suc s → last_below q k ≡ last_below p k
   last_still k apart = last_unique q k (last_below p k) (last_le p k) (λ j l m. none_still j (last_none p k j l m))
-      (λ j e. same j (λ is. apart (e ∙ ap suc is)) ∙ last_holds p k j e)
+      (λ j e. less.same j (λ is. apart (e ∙ ap suc is)) ∙ last_holds p k j e)
 
   last_skips : (k : ℕ) → last_below p k ≡ suc s → last_below q k ≡ last_below p s
   last_skips k found = last_unique q k (last_below p s) (let a = last_le p s in let b = last_le p k in omega arith) none some where
     none : (j : ℕ) → last_below p s ≤ j → j < k → q j ≡ false
     none j l m = by_order (cases_order j s) where
       by_order : (j ≡ s) ⊎ ((j < s) ⊎ (s < j)) → q j ≡ false
-      by_order (inl is) = ap q is ∙ gone
+      by_order (inl is) = ap q is ∙ less.gone
       by_order (inr (inl below)) = none_still j (last_none p s j l below)
       by_order (inr (inr above)) = none_still j (last_none p k j (omega arith) m)
 
     some : (j : ℕ) → last_below p s ≡ suc j → q j ≡ true
-    some j e = same j (λ is. absurd (let a = last_le p s in omega arith)) ∙ last_holds p s j e
+    some j e = less.same j (λ is. absurd (let a = last_le p s in omega arith)) ∙ last_holds p s j e
 
 -- where s is taken off
-pub row_less : (p q : ℕ → Bool) (s bound word now : ℕ) (before after : List ℕ) → ((k : ℕ) → k ≢ s → q k ≡ p k) → q s ≡ false → p s ≡ true
-    → ((k : ℕ) → p k ≡ true → k < bound) → ((k : ℕ) → p k ≡ true → k < length before)
-    → ((k : ℕ) → p k ≡ true → k < length after) → IsRow p bound word before after
+pub row_less : {p q : ℕ → Bool} {s bound word now : ℕ} {before after : List ℕ} → IsLess p q s → HasRoom p bound before after → IsRow p bound word before after
     → (get_or after s 0 ≡ 0 → now ≡ get_or before s 0) → (0 < get_or after s 0 → now ≡ word)
     → IsRow q bound now (table_with before (number_of (get_or after s 0)) (get_or before s 0))
     (table_with after (number_of (get_or before s 0)) (get_or after s 0))
-row_less p q s bound word now before after same gone here within before_room after_room row ends goes = record {
+row_less {p} {q} {s} {bound} {now} {before} {after} less room row ends goes = record {
   top = by_word (get_or after s 0) refl;
   down = λ k y. before_is (get_or after s 0) refl k y;
   up = λ k y. after_is (get_or before s 0) refl k y;
 } where
   next : IsNext p s (get_or after s 0)
-  next = row.up s here
+  next = row.up s less.here
 
   prior : get_or before s 0 ≡ last_below p s
-  prior = row.down s here
+  prior = row.down s less.here
 
   -- nothing follows s
   ends_here : get_or after s 0 ≡ 0 → last_below p bound ≡ suc s
   ends_here none =
-      last_unique p bound (suc s) (within s here) (λ j l m. past j l (cases_Bool (p j))) (λ j e. let is : j ≡ s = omega arith in ap p is ∙ here) where
+      last_unique p bound (suc s) (room.below s less.here) (λ j l m. past j l (cases_Bool (p j)))
+      (λ j e. let is : j ≡ s = omega arith in ap p is ∙ less.here) where
         past : (j : ℕ) → suc s ≤ j → (p j ≡ true) ⊎ (p j ≡ false) → p j ≡ false
         past j l (inr z) = z
         past j l (inl y) = absurd (let m = next.none none j y in omega arith)
@@ -83,13 +93,13 @@ row_less p q s bound word now before after same gone here within before_room aft
   below_is m e = (next.some m e).1
 
   by_word : (a : ℕ) → get_or after s 0 ≡ a → now ≡ last_below q bound
-  by_word zero e = ends e ∙ prior ∙ sym (last_skips p q s same gone bound (ends_here e))
-  by_word (suc m) e = goes (omega arith) ∙ row.top ∙ sym (last_still p q s same gone bound other) where
+  by_word zero e = ends e ∙ prior ∙ sym (last_skips less bound (ends_here e))
+  by_word (suc m) e = goes (omega arith) ∙ row.top ∙ sym (last_still less bound other) where
     other : last_below p bound ≢ suc s
     other is =
         let l = last_le p m in
         let b = below_is m e in
-        both_ways (p m) (last_none p bound m (omega arith) (within m (next.some m e).0)) (next.some m e).0
+        both_ways (p m) (last_none p bound m (omega arith) (room.below m (next.some m e).0)) (next.some m e).0
 
   -- nothing else than m has s before it
   alone : (m k : ℕ) → get_or after s 0 ≡ suc m → p k ≡ true → k ≢ m → last_below p k ≢ suc s
@@ -100,35 +110,35 @@ row_less p q s bound word now before after same gone here within before_room aft
     by_order (inr (inr l)) = let b = below_is m e in let t = last_le p m in both_ways (p m) (last_none p k m (omega arith) l) (next.some m e).0
 
   before_is : (a : ℕ) → get_or after s 0 ≡ a → (k : ℕ) → q k ≡ true → get_or (table_with before (number_of a) (get_or before s 0)) k 0 ≡ last_below q k
-  before_is zero e k y = row.down k (was p q s same gone k y) ∙ sym (last_still p q s same gone k other) where
+  before_is zero e k y = row.down k (was less k y) ∙ sym (last_still less k other) where
     other : last_below p k ≢ suc s
-    other is = let l = last_le p k in let m = next.none e k (was p q s same gone k y) in absurd (omega arith)
+    other is = let l = last_le p k in let m = next.none e k (was less k y) in absurd (omega arith)
   before_is (suc m) e k y = by_order (cases_order k m) where
     old : p k ≡ true
-    old = was p q s same gone k y
+    old = was less k y
 
     other : k ≢ m → get_or (set before m (get_or before s 0)) k 0 ≡ last_below q k
-    other apart = get_or-set_other before m k (get_or before s 0) 0 apart ∙ row.down k old ∙ sym (last_still p q s same gone k (alone m k e old apart))
+    other apart = get_or-set_other before m k (get_or before s 0) 0 apart ∙ row.down k old ∙ sym (last_still less k (alone m k e old apart))
 
     by_order : (k ≡ m) ⊎ ((k < m) ⊎ (m < k)) → get_or (set before m (get_or before s 0)) k 0 ≡ last_below q k
     by_order (inl is) =
-        ap (λ j. get_or (set before m (get_or before s 0)) j 0) is ∙ get_or-set_same before m (get_or before s 0) 0 (before_room m (next.some m e).0) ∙ prior
-        ∙ sym (ap (last_below q) is ∙ last_skips p q s same gone m (below_is m e))
+        ap (λ j. get_or (set before m (get_or before s 0)) j 0) is ∙ get_or-set_same before m (get_or before s 0) 0 (room.in_before m (next.some m e).0) ∙ prior
+        ∙ sym (ap (last_below q) is ∙ last_skips less m (below_is m e))
     by_order (inr (inl l)) = other (omega arith)
     by_order (inr (inr l)) = other (omega arith)
 
   -- what led elsewhere than to s still does
   stays : (k : ℕ) → q k ≡ true → last_below p s ≢ suc k → IsNext q k (get_or after k 0)
-  stays k y apart = record { none = λ e m z. w.none e m (was p q s same gone m z); some = some } where
+  stays k y apart = record { none = λ e m z. w.none e m (was less m z); some = some } where
     w : IsNext p k (get_or after k 0)
-    w = row.up k (was p q s same gone k y)
+    w = row.up k (was less k y)
 
     some : (m : ℕ) → get_or after k 0 ≡ suc m → (q m ≡ true) × (last_below q m ≡ suc k)
     some m e =
         let found = w.some m e in
         let far : m ≢ s = (λ is. apart (ap (last_below p) (sym is) ∙ found.1)) in
-        let other : last_below p m ≢ suc s = (λ is. off p q s same gone k y (let t : suc k ≡ suc s = sym found.1 ∙ is in omega arith)) in
-        (same m far ∙ found.0, last_still p q s same gone m other ∙ found.1)
+        let other : last_below p m ≢ suc s = (λ is. off less k y (let t : suc k ≡ suc s = sym found.1 ∙ is in omega arith)) in
+        (less.same m far ∙ found.0, last_still less m other ∙ found.1)
 
   -- what led to s leads where s led
   joins : (k : ℕ) → q k ≡ true → last_below p s ≡ suc k → IsNext q k (get_or after s 0)
@@ -136,20 +146,20 @@ row_less p q s bound word now before after same gone here within before_room aft
     none : get_or after s 0 ≡ 0 → (m : ℕ) → q m ≡ true → m ≤ k
     none e m z = by_order (cases_order m s) where
       by_order : (m ≡ s) ⊎ ((m < s) ⊎ (s < m)) → m ≤ k
-      by_order (inl equal) = absurd (off p q s same gone m z equal)
-      by_order (inr (inr l)) = absurd (let t = next.none e m (was p q s same gone m z) in omega arith)
+      by_order (inl equal) = absurd (off less m z equal)
+      by_order (inr (inr l)) = absurd (let t = next.none e m (was less m z) in omega arith)
       by_order (inr (inl l)) = by_place (cases_order m k) where
         by_place : (m ≡ k) ⊎ ((m < k) ⊎ (k < m)) → m ≤ k
         by_place (inl equal) = omega arith
         by_place (inr (inl b)) = omega arith
-        by_place (inr (inr b)) = absurd (both_ways (p m) (last_none p s m (omega arith) l) (was p q s same gone m z))
+        by_place (inr (inr b)) = absurd (both_ways (p m) (last_none p s m (omega arith) l) (was less m z))
 
     some : (m : ℕ) → get_or after s 0 ≡ suc m → (q m ≡ true) × (last_below q m ≡ suc k)
     some m e =
         let b = below_is m e in
         let t = last_le p m in
         let far : m ≢ s = omega arith in
-        (same m far ∙ (next.some m e).0, last_skips p q s same gone m b ∙ is)
+        (less.same m far ∙ (next.some m e).0, last_skips less m b ∙ is)
 
   after_is : (b : ℕ) → get_or before s 0 ≡ b → (k : ℕ) → q k ≡ true → IsNext q k (get_or (table_with after (number_of b) (get_or after s 0)) k 0)
   after_is zero e k y = stays k y (λ is. absurd (let t : 0 ≡ suc k = sym e ∙ prior ∙ is in omega arith))
@@ -163,16 +173,16 @@ row_less p q s bound word now before after same gone here within before_room aft
     by_order : (k ≡ m) ⊎ ((k < m) ⊎ (m < k)) → IsNext q k (get_or (set after m (get_or after s 0)) k 0)
     by_order (inl is) =
         rw (ap (λ j. get_or (set after j (get_or after s 0)) k 0) (sym is)
-        ∙ get_or-set_same after k (get_or after s 0) 0 (after_room k (was p q s same gone k y)))
+        ∙ get_or-set_same after k (get_or after s 0) 0 (room.in_after k (was less k y)))
         (joins k y (found ∙ ap suc (sym is)))
     by_order (inr (inl l)) = other (omega arith)
     by_order (inr (inr l)) = other (omega arith)
 
 -- where the bound itself comes on the list
-pub row_more : (p q : ℕ → Bool) (n word : ℕ) (before after : List ℕ) → ((k : ℕ) → k < n → q k ≡ p k) → q n ≡ true → ((k : ℕ) → q k ≡ true → k ≤ n)
+pub row_more : {p : ℕ → Bool} (q : ℕ → Bool) {n word : ℕ} {before after : List ℕ} → ((k : ℕ) → k < n → q k ≡ p k) → q n ≡ true → ((k : ℕ) → q k ≡ true → k ≤ n)
     → ((k : ℕ) → p k ≡ true → k < n) → n < length before → n < length after → IsRow p n word before after
     → IsRow q (suc n) (suc n) (set before n word) (table_with (set after n 0) (number_of word) (suc n))
-row_more p q n word before after same new most within before_room after_room row = record {
+row_more {p} q {n} {word} {before} {after} same new most within before_room after_room row = record {
   top = sym (last_unique q (suc n) (suc n) (omega arith) (λ j l m. absurd (omega arith)) (λ j e. let is : j ≡ n = omega arith in ap q is ∙ new));
   down = λ k y. down_is k y (cases_order k n);
   up = λ k y. up_is word refl k y (cases_order k n);
@@ -246,11 +256,11 @@ row_more p q n word before after same new most within before_room after_room row
     by_order (inr (inr b)) = other (omega arith)
 
 -- a row of numbers none of which is written to stays
-pub row_apart : (p q : ℕ → Bool) (bound bound' word : ℕ) (before after down up : List ℕ)
+pub row_apart : {p q : ℕ → Bool} {bound bound' word : ℕ} {before after : List ℕ} (down up : List ℕ)
     → ((k : ℕ) → q k ≡ p k) → bound ≤ bound' → ((k : ℕ) → p k ≡ true → k < bound)
     → ((k : ℕ) → p k ≡ true → get_or down k 0 ≡ get_or before k 0) → ((k : ℕ) → p k ≡ true → get_or up k 0 ≡ get_or after k 0)
     → IsRow p bound word before after → IsRow q bound' word down up
-row_apart p q bound bound' word before after down up same longer within kept_down kept_up row = record {
+row_apart {p} {q} {bound} {bound'} {after} down up same longer within kept_down kept_up row = record {
   top = row.top ∙ last_unique p bound (last_below q bound') (below (last_below q bound') refl)
       (λ j l m. absurd_or j l m) (λ j e. sym (same j) ∙ last_holds q bound' j e);
   down = λ k y. kept_down k (sym (same k) ∙ y) ∙ row.down k (sym (same k) ∙ y) ∙ sym (last_same q p k (λ j l. same j));

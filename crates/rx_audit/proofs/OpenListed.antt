@@ -1,5 +1,5 @@
 -- Which subscribers are on the lists of their hubs after one more event.
-use Rattle.std.proofs.Common.{◌≡◌, ℕ, ◌+◌, ◌<◌, Bool, true, false, List, [], ◌∷◌, ◌++◌, length, Some, refl, sym, ap, subst, ◌∙◌, arith, inl, inr, ◌⊎◌, get_or}
+use Rattle.std.proofs.Common.{◌≡◌, ℕ, ◌<◌, Bool, true, false, List, [], ◌∷◌, ◌++◌, length, Some, refl, sym, ap, subst, ◌∙◌, arith, inl, inr, ◌⊎◌, get_or}
 use Rattle.std.specs.Option.{option_map_or}
 use Rattle.std.proofs.lemmas.Bool.{cases_Bool, cases_order, both_ways, false≢true}
 use Rattle.rx_event.specs.Kept.{nothing_kept}
@@ -34,31 +34,32 @@ hub_older h e g next is =
     let hubbed : IsHubbed h found.0 (Sub g) = may_subscribe nothing_kept may in
     at_within makes_hub h g hubbed.0
 
-pub open_listed_after : (h : List Event) (e : Event) (old mid new : Subscribers) (closed : List ℕ) → MayFollow nothing_kept h e → AreOpenListed h old
-    → AreClosed h e closed → AreLetGo old.listed.items mid.listed.items closed (length closed)
-    → ((k : ℕ) → k < length h → get_or new.listed.items k false ≡ get_or mid.listed.items k false)
+-- where the marks of the closed nodes are taken away first, and a new subscriber gets one then
+pub open_listed_after : {h : List Event} {e : Event} (old new : Subscribers) {marks : List Bool} {closed : List ℕ} → MayFollow nothing_kept h e
+    → AreOpenListed h old → AreClosed h e closed → AreLetGo old.listed.items marks closed (length closed)
+    → ((k : ℕ) → k < length h → get_or new.listed.items k false ≡ get_or marks k false)
     → ((g : ℕ) → is_subscriber_of g e ≡ true → get_or new.listed.items (length h) false ≡ true) → AreOpenListed (h ++ e ∷ []) new
-open_listed_after h e old mid new closed next listed closing let_go others last g k subscribes = by_place (cases_order k (length h)) where
+open_listed_after {h} {e} old new {marks} next listed closing let_go others last g k subscribes = by_place (cases_order k (length h)) where
   older : k < length h → get_or new.listed.items k false ≡ is_open (h ++ e ∷ []) k
   older l = others k l ∙ by_open (cases_Bool (is_open h k)) ∙ sym (is_open_older h e k l) where
     was : get_or old.listed.items k false ≡ is_open h k
     was = listed g k (sym (at-append (is_subscriber_of g) h (e ∷ []) k l) ∙ subscribes)
 
-    by_mark : is_open h k ≡ true → (b : Bool) → get_or mid.listed.items k false ≡ b → b ≡ stays_open h e k
+    by_mark : is_open h k ≡ true → (b : Bool) → get_or marks k false ≡ b → b ≡ stays_open h e k
     by_mark o true y = by_stay (cases_Bool (stays_open h e k)) where
       by_stay : (stays_open h e k ≡ true) ⊎ (stays_open h e k ≡ false) → true ≡ stays_open h e k
       by_stay (inl s) = sym s
       by_stay (inr s) =
           let m = closing.noted k o s in
-          absurd (both_ways (get_or mid.listed.items k false) (ap (λ n. get_or mid.listed.items n false) (sym m.is) ∙ let_go.gone m.at m.within) y)
+          absurd (both_ways (get_or marks k false) (ap (λ n. get_or marks n false) (sym m.is) ∙ let_go.gone m.at m.within) y)
     by_mark o false z =
         let m = let_go.noted k (was ∙ o) z in
         sym (ap (stays_open h e) (sym m.is) ∙ closing.gone m.at m.within)
 
-    by_open : (is_open h k ≡ true) ⊎ (is_open h k ≡ false) → get_or mid.listed.items k false ≡ stays_open h e k
-    by_open (inl o) = by_mark o (get_or mid.listed.items k false) refl
-    by_open (inr o) = by_gone (cases_Bool (get_or mid.listed.items k false)) ∙ sym (stays_closed h e k o) where
-      by_gone : (get_or mid.listed.items k false ≡ true) ⊎ (get_or mid.listed.items k false ≡ false) → get_or mid.listed.items k false ≡ false
+    by_open : (is_open h k ≡ true) ⊎ (is_open h k ≡ false) → get_or marks k false ≡ stays_open h e k
+    by_open (inl o) = by_mark o (get_or marks k false) refl
+    by_open (inr o) = by_gone (cases_Bool (get_or marks k false)) ∙ sym (stays_closed h e k o) where
+      by_gone : (get_or marks k false ≡ true) ⊎ (get_or marks k false ≡ false) → get_or marks k false ≡ false
       by_gone (inl y) = absurd (both_ways (is_open h k) o (sym was ∙ let_go.kept k y))
       by_gone (inr z) = z
 

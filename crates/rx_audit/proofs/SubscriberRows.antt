@@ -43,8 +43,8 @@ on_marked : (h : List Event) (ms : List Bool) (g k : ℕ) → on_list h ms g k �
 on_marked h ms g k y = within_marks ms k (and_parts (at (is_subscriber_of g) h k) (get_or ms k false) y).1
 
 -- on the list of one hub alone
-on_one : (h : List Event) (ms : List Bool) (g j k n : ℕ) → on_list h ms g k ≡ true → on_list h ms j n ≡ true → k ≡ n → g ≡ j
-on_one h ms g j k n one other same = one_hub h k g j (and_parts _ _ one).0 (ap (at (is_subscriber_of j) h) same ∙ (and_parts _ _ other).0)
+on_one : (h : List Event) (ms : List Bool) {g : ℕ} (j k n : ℕ) → on_list h ms g k ≡ true → on_list h ms j n ≡ true → k ≡ n → g ≡ j
+on_one h ms {g} j k n one other same = one_hub h k g j (and_parts _ _ one).0 (ap (at (is_subscriber_of j) h) same ∙ (and_parts _ _ other).0)
 
 pub rows_none : (size : ℕ) (s : Subscribers) → s.listed.items ≡ replicate size false → s.last.items ≡ replicate size 0 → s.before.items ≡ replicate size 0
     → s.after.items ≡ replicate size 0 → AreLinked [] size s
@@ -90,13 +90,12 @@ module _ (h : List Event) (size : ℕ) (old new : Subscribers) (w : AreLinked h 
     by_order (inr (inr l)) = on_other g k (omega arith)
 
 -- which was on none
-pub rows_still : (h : List Event) (size : ℕ) (old new : Subscribers) (s : ℕ) → AreLinked h size old → listed_hub h old.listed.items s ≡ None
+pub rows_still : {h : List Event} {size : ℕ} {old : Subscribers} (new : Subscribers) (s : ℕ) → AreLinked h size old → listed_hub h old.listed.items s ≡ None
     → new.listed.items ≡ set old.listed.items s false → new.last.items ≡ old.last.items → new.before.items ≡ old.before.items
     → new.after.items ≡ old.after.items → AreLinked h size new
-rows_still h size old new s w none listed last before after = record {
+rows_still {h} {size} {old} new s w none listed last before after = record {
   rows = λ g. rw (last, before, after)
-      (row_apart (on_list h old.listed.items g) (on_list h new.listed.items g) (length h) (length h) (get_or old.last.items g 0)
-      old.before.items old.after.items old.before.items old.after.items (on_same h size old new w s listed g (out g)) (omega arith)
+      (row_apart old.before.items old.after.items (on_same h size old new w s listed g (out g)) (omega arith)
       (on_within h old.listed.items g) (λ k y. refl) (λ k y. refl) (w.rows g));
   hubbed = λ g k y. w.hubbed g k (on_was h size old new w s listed g k y);
   listed_size = size_same h size old new w s listed;
@@ -111,12 +110,12 @@ rows_still h size old new s w none listed last before after = record {
       none-some g (sym none ∙ hub))
 
 -- or on that of g
-pub rows_less : (h : List Event) (size : ℕ) (old new : Subscribers) (g s : ℕ) → AreLinked h size old → listed_hub h old.listed.items s ≡ Some g
+pub rows_less : {h : List Event} {size : ℕ} {old new : Subscribers} (g s : ℕ) → AreLinked h size old → listed_hub h old.listed.items s ≡ Some g
     → new.listed.items ≡ set old.listed.items s false
     → new.last.items ≡ table_with old.last.items (hub_if_last (get_or old.after.items s 0) g) (get_or old.before.items s 0)
     → new.before.items ≡ table_with old.before.items (number_of (get_or old.after.items s 0)) (get_or old.before.items s 0)
     → new.after.items ≡ table_with old.after.items (number_of (get_or old.before.items s 0)) (get_or old.after.items s 0) → AreLinked h size new
-rows_less h size old new g s w hub listed last before after = record {
+rows_less {h} {size} {old} {new} g s w hub listed last before after = record {
   rows = λ j. by_hub j (cases_order j g);
   hubbed = λ j k y. w.hubbed j k (on_was h size old new w s listed j k y);
   listed_size = size_same h size old new w s listed;
@@ -153,9 +152,8 @@ rows_less h size old new g s w hub listed last before after = record {
 
   own : IsRow (on_list h new.listed.items g) (length h) (get_or new.last.items g 0) new.before.items new.after.items
   own = rw (before, after)
-      (row_less (on_list h old.listed.items g) (on_list h new.listed.items g) s (length h) (get_or old.last.items g 0) (get_or new.last.items g 0)
-      old.before.items old.after.items (on_other h size old new w s listed g) (on_gone h size old new w s listed g) here
-      (on_within h old.listed.items g) (in_before g) (in_after g) row ends goes)
+      (row_less (record { same = on_other h size old new w s listed g; gone = on_gone h size old new w s listed g; here = here })
+      (record { below = on_within h old.listed.items g; in_before = in_before g; in_after = in_after g }) row ends goes)
 
   -- the list of another hub
   last_apart : (j : ℕ) → j ≢ g → get_or new.last.items j 0 ≡ get_or old.last.items j 0
@@ -170,7 +168,7 @@ rows_less h size old new g s w hub listed last before after = record {
         → get_or (table_with old.before.items (number_of a) (get_or old.before.items s 0)) k 0 ≡ get_or old.before.items k 0
     by_word zero e = refl
     by_word (suc m) e = get_or-set_other old.before.items m k (get_or old.before.items s 0) 0
-        (λ same. apart (on_one h old.listed.items j g k m y ((row.up s here).some m e).0 same))
+        (λ same. apart (on_one h old.listed.items g k m y ((row.up s here).some m e).0 same))
 
   after_apart : (j k : ℕ) → j ≢ g → on_list h old.listed.items j k ≡ true → get_or new.after.items k 0 ≡ get_or old.after.items k 0
   after_apart j k apart y = ap (λ (ls : List ℕ). get_or ls k 0) after ∙ by_word (get_or old.before.items s 0) refl where
@@ -178,13 +176,12 @@ rows_less h size old new g s w hub listed last before after = record {
         → get_or (table_with old.after.items (number_of b) (get_or old.after.items s 0)) k 0 ≡ get_or old.after.items k 0
     by_word zero e = refl
     by_word (suc m) e = get_or-set_other old.after.items m k (get_or old.after.items s 0) 0
-        (λ same. apart (on_one h old.listed.items j g k m y (last_holds (on_list h old.listed.items g) s m (sym (row.down s here) ∙ e)) same))
+        (λ same. apart (on_one h old.listed.items g k m y (last_holds (on_list h old.listed.items g) s m (sym (row.down s here) ∙ e)) same))
 
   other : (j : ℕ) → j ≢ g → IsRow (on_list h new.listed.items j) (length h) (get_or new.last.items j 0) new.before.items new.after.items
   other j apart = rw (last_apart j apart)
-      (row_apart (on_list h old.listed.items j) (on_list h new.listed.items j) (length h) (length h) (get_or old.last.items j 0)
-      old.before.items old.after.items new.before.items new.after.items
-      (on_same h size old new w s listed j (not_true _ (λ y. apart (on_one h old.listed.items j g s s y here refl)))) (omega arith)
+      (row_apart new.before.items new.after.items
+      (on_same h size old new w s listed j (not_true _ (λ y. apart (on_one h old.listed.items g s s y here refl)))) (omega arith)
       (on_within h old.listed.items j) (λ k y. before_apart j k apart y) (λ k y. after_apart j k apart y) (w.rows j))
 
   by_hub : (j : ℕ) → (j ≡ g) ⊎ ((j < g) ⊎ (g < j))
@@ -222,8 +219,7 @@ subscribes_none e g hub = sym (same_subscribed e g) ∙ rw hub refl
 pub rows_same : (h : List Event) (e : Event) (size : ℕ) (s : Subscribers) → AreLinked h size s
     → ((j : ℕ) → is_subscriber_of j e ≡ false) → AreLinked (h ++ e ∷ []) size s
 rows_same h e size s w none = record {
-  rows = λ j. row_apart (on_list h s.listed.items j) (on_list (h ++ e ∷ []) s.listed.items j) (length h) (length (h ++ e ∷ [])) (get_or s.last.items j 0)
-      s.before.items s.after.items s.before.items s.after.items (same j) (let l = one_longer h e in omega arith)
+  rows = λ j. row_apart s.before.items s.after.items (same j) (let l = one_longer h e in omega arith)
       (on_within h s.listed.items j) (λ k y. refl) (λ k y. refl) (w.rows j);
   hubbed = λ j k y. w.hubbed j k (sym (same j k) ∙ y);
   listed_size = w.listed_size;
@@ -234,28 +230,28 @@ rows_same h e size s w none = record {
   same : (j k : ℕ) → on_list (h ++ e ∷ []) s.listed.items j k ≡ on_list h s.listed.items j k
   same j = on_longer h e s.listed.items s.listed.items j (none j) (λ k l. refl)
 
-pub rows_more : (h : List Event) (e : Event) (size g : ℕ) (old new : Subscribers)
-    → AreLinked h size old → length h < size → g < size → hub_subscribed e ≡ Some g
-    → new.listed.items ≡ set old.listed.items (length h) true → new.last.items ≡ set old.last.items g (suc (length h))
-    → new.before.items ≡ set old.before.items (length h) (get_or old.last.items g 0)
-    → new.after.items ≡ table_with (set old.after.items (length h) 0) (number_of (get_or old.last.items g 0)) (suc (length h))
-    → AreLinked (h ++ e ∷ []) size new
-rows_more h e size g old new w room inside hub listed last before after = record {
+-- number n was put on the list of hub g, after all others
+pub record IsPutLast (g n : ℕ) (old new : Subscribers) : Type 0 where
+  pub listed : new.listed.items ≡ set old.listed.items n true
+  pub last : new.last.items ≡ set old.last.items g (suc n)
+  pub before : new.before.items ≡ set old.before.items n (get_or old.last.items g 0)
+  pub after : new.after.items ≡ table_with (set old.after.items n 0) (number_of (get_or old.last.items g 0)) (suc n)
+
+pub rows_more : {h : List Event} (e : Event) {size g : ℕ} {old new : Subscribers} → AreLinked h size old → length h < size → g < size
+    → hub_subscribed e ≡ Some g → IsPutLast g (length h) old new → AreLinked (h ++ e ∷ []) size new
+rows_more {h} e {size} {g} {old} {new} w room inside hub put = record {
   rows = λ j. by_hub j (cases_order j g);
   hubbed = λ j k y. by_hubbed j k y (cases_order j g);
-  listed_size = ap length listed ∙ length-set old.listed.items (length h) true ∙ w.listed_size;
-  last_size = ap length last ∙ length-set old.last.items g (suc (length h)) ∙ w.last_size;
-  before_size = ap length before ∙ length-set old.before.items (length h) (get_or old.last.items g 0) ∙ w.before_size;
-  after_size = ap length after ∙ length-table_with (set old.after.items (length h) 0) _ _ ∙ length-set old.after.items (length h) 0 ∙ w.after_size;
+  listed_size = ap length put.listed ∙ length-set old.listed.items (length h) true ∙ w.listed_size;
+  last_size = ap length put.last ∙ length-set old.last.items g (suc (length h)) ∙ w.last_size;
+  before_size = ap length put.before ∙ length-set old.before.items (length h) (get_or old.last.items g 0) ∙ w.before_size;
+  after_size = ap length put.after ∙ length-table_with (set old.after.items (length h) 0) _ _ ∙ length-set old.after.items (length h) 0 ∙ w.after_size;
 } where
-  n : ℕ
-  n = length h
-
   subscribes : is_subscriber_of g e ≡ true
   subscribes = subscribes_so e g hub
 
   marks_same : (k : ℕ) → k < length h → get_or new.listed.items k false ≡ get_or old.listed.items k false
-  marks_same k l = ap (λ (ms : List Bool). get_or ms k false) listed ∙ get_or-set_other old.listed.items (length h) k true false (omega arith)
+  marks_same k l = ap (λ (ms : List Bool). get_or ms k false) put.listed ∙ get_or-set_other old.listed.items (length h) k true false (omega arith)
 
   on_before : (j k : ℕ) → k < length h → on_list (h ++ e ∷ []) new.listed.items j k ≡ on_list h old.listed.items j k
   on_before j k l = rw (at-append (is_subscriber_of j) h (e ∷ []) k l, marks_same k l) refl
@@ -265,7 +261,7 @@ rows_more h e size g old new w room inside hub listed last before after = record
       let size_is = w.listed_size in
       let last_is : at (is_subscriber_of g) (h ++ e ∷ []) (length h) ≡ true =
       ap (λ o. option_map_or (is_subscriber_of g) o false) (slice_get_last h e) ∙ subscribes in
-      let mark : get_or new.listed.items (length h) false ≡ true = ap (λ (ms : List Bool). get_or ms (length h) false) listed
+      let mark : get_or new.listed.items (length h) false ≡ true = ap (λ (ms : List Bool). get_or ms (length h) false) put.listed
       ∙ get_or-set_same old.listed.items (length h) true false (omega arith) in
       rw (last_is, mark) refl
 
@@ -280,9 +276,8 @@ rows_more h e size g old new w room inside hub listed last before after = record
       let last_size = w.last_size in
       let before_size = w.before_size in
       let after_size = w.after_size in
-      rw (one_longer h e, last, before, after, get_or-set_same old.last.items g (suc (length h)) 0 (omega arith))
-      (row_more (on_list h old.listed.items g) (on_list (h ++ e ∷ []) new.listed.items g)
-      (length h) (get_or old.last.items g 0) old.before.items old.after.items
+      rw (one_longer h e, put.last, put.before, put.after, get_or-set_same old.last.items g (suc (length h)) 0 (omega arith))
+      (row_more (on_list (h ++ e ∷ []) new.listed.items g)
       (on_before g) on_new (most g) (on_within h old.listed.items g) (omega arith) (omega arith) row)
 
   not_hub : (j : ℕ) → j ≢ g → is_subscriber_of j e ≡ false
@@ -292,15 +287,15 @@ rows_more h e size g old new w room inside hub listed last before after = record
   on_apart j apart = on_longer h e old.listed.items new.listed.items j (not_hub j apart) marks_same
 
   last_apart : (j : ℕ) → j ≢ g → get_or new.last.items j 0 ≡ get_or old.last.items j 0
-  last_apart j apart = ap (λ (ls : List ℕ). get_or ls j 0) last ∙ get_or-set_other old.last.items g j (suc (length h)) 0 apart
+  last_apart j apart = ap (λ (ls : List ℕ). get_or ls j 0) put.last ∙ get_or-set_other old.last.items g j (suc (length h)) 0 apart
 
   before_apart : (j k : ℕ) → on_list h old.listed.items j k ≡ true → get_or new.before.items k 0 ≡ get_or old.before.items k 0
   before_apart j k y =
       let l = on_within h old.listed.items j k y in
-      ap (λ (ls : List ℕ). get_or ls k 0) before ∙ get_or-set_other old.before.items (length h) k (get_or old.last.items g 0) 0 (omega arith)
+      ap (λ (ls : List ℕ). get_or ls k 0) put.before ∙ get_or-set_other old.before.items (length h) k (get_or old.last.items g 0) 0 (omega arith)
 
   after_apart : (j k : ℕ) → j ≢ g → on_list h old.listed.items j k ≡ true → get_or new.after.items k 0 ≡ get_or old.after.items k 0
-  after_apart j k apart y = ap (λ (ls : List ℕ). get_or ls k 0) after ∙ by_word (get_or old.last.items g 0) refl where
+  after_apart j k apart y = ap (λ (ls : List ℕ). get_or ls k 0) put.after ∙ by_word (get_or old.last.items g 0) refl where
     first : get_or (set old.after.items (length h) 0) k 0 ≡ get_or old.after.items k 0
     first = let l = on_within h old.listed.items j k y in get_or-set_other old.after.items (length h) k 0 0 (omega arith)
 
@@ -308,12 +303,11 @@ rows_more h e size g old new w room inside hub listed last before after = record
         → get_or (table_with (set old.after.items (length h) 0) (number_of b) (suc (length h))) k 0 ≡ get_or old.after.items k 0
     by_word zero is = first
     by_word (suc m) is = get_or-set_other (set old.after.items (length h) 0) m k (suc (length h)) 0
-        (λ same. apart (on_one h old.listed.items j g k m y (last_holds (on_list h old.listed.items g) (length h) m (sym row.top ∙ is)) same)) ∙ first
+        (λ same. apart (on_one h old.listed.items g k m y (last_holds (on_list h old.listed.items g) (length h) m (sym row.top ∙ is)) same)) ∙ first
 
   other : (j : ℕ) → j ≢ g → IsRow (on_list (h ++ e ∷ []) new.listed.items j) (length (h ++ e ∷ [])) (get_or new.last.items j 0) new.before.items new.after.items
   other j apart = rw (last_apart j apart)
-      (row_apart (on_list h old.listed.items j) (on_list (h ++ e ∷ []) new.listed.items j) (length h) (length (h ++ e ∷ [])) (get_or old.last.items j 0)
-      old.before.items old.after.items new.before.items new.after.items (on_apart j apart) (let l = one_longer h e in omega arith)
+      (row_apart new.before.items new.after.items (on_apart j apart) (let l = one_longer h e in omega arith)
       (on_within h old.listed.items j) (before_apart j) (λ k y. after_apart j k apart y) (w.rows j))
 
   by_hub : (j : ℕ) → (j ≡ g) ⊎ ((j < g) ⊎ (g < j))
@@ -382,11 +376,11 @@ module _ (h : List Event) (size : ℕ) (s : Subscribers) (g : ℕ) (w : AreLinke
       → (k : ℕ) → word ≡ suc k → on_list h s.listed.items g k ≡ true
   walk_next next word some here is k e = last_holds (on_list h s.listed.items g) (next - 1) k (sym (walk_word next word some here is) ∙ e)
 
-  pub walk_more : (next word : ℕ) (found more : List ℕ) → 0 < next → ((k : ℕ) → next ≡ suc k → on_list h s.listed.items g k ≡ true)
+  pub walk_more : {next word : ℕ} (found more : List ℕ) → 0 < next → ((k : ℕ) → next ≡ suc k → on_list h s.listed.items g k ≡ true)
       → word ≡ get_or s.before.items (next - 1) 0 → more ≡ found ++ (next - 1) ∷ [] → (number : ℕ → ℕ)
       → sum_by number found + sum_by number (falling (on_list h s.listed.items g) next) ≡ sum_by number (open_subscribers h g)
       → sum_by number more + sum_by number (falling (on_list h s.listed.items g) word) ≡ sum_by number (open_subscribers h g)
-  walk_more next word found more some here is pushed number rest =
+  walk_more {next} {word} found more some here is pushed number rest =
       let place : next ≡ suc (next - 1) = omega arith in
       let passes : on_list h s.listed.items g (next - 1) ≡ true = here (next - 1) place in
       let split : falling (on_list h s.listed.items g) next ≡ (next - 1) ∷ falling (on_list h s.listed.items g) (next - 1) =

@@ -35,9 +35,9 @@ use Rattle.rx_audit.proofs.TestsDecideAllowed.{open_may, open_may_of, open_fits,
 -- openings ---------------------------------------------------------------------------------------------
 
 -- the event is an opening, and there is room for the connection that it may force
-pub open_test : (h : List Event) (e : Event) (place : Place) (kind : Kind) (b : Bool) → e ≡ Open place kind → IsLawful nothing_kept h → IsSettled nothing_kept h
+pub open_test : {h : List Event} (e : Event) (place : Place) (kind : Kind) (b : Bool) → e ≡ Open place kind → IsLawful nothing_kept h → IsSettled nothing_kept h
     → b ≡ (open_allowed h place kind && leaves_room h e) → (IsTrue b) ↔ IsAllowed nothing_kept h e
-open_test h e place kind b is_e law settled is = rw is_e (to, back) where
+open_test {h} e place kind b is_e law settled is = rw is_e (to, back) where
   parts : b ≡ true → (open_allowed h place kind ≡ true) × (leaves_room h (Open place kind) ≡ true)
   parts y = and_parts (open_allowed h place kind) (leaves_room h (Open place kind))
       (ap (λ x. open_allowed h place kind && leaves_room h x) (sym is_e) ∙ sym is ∙ y)

@@ -124,11 +124,11 @@ visited_none h ms due = record {
   kept = λ n w. w;
 }
 
-pub visited_more : (h : List Event) (log : List Visit) (i : ℕ) (v : Visit) (old ms : List Marks) (before todo : List ℕ) → i < length log → v ≡ get_or log i v
+pub visited_more : {h : List Event} (log : List Visit) (i : ℕ) (v : Visit) {old ms : List Marks} (before todo : List ℕ) → i < length log → v ≡ get_or log i v
     → IsVisited h (take i log) old ms before todo
     → IsVisited h (take (i + 1) log) old (owed_marks (fired_marks ms (fired_key h v.node)) (projected_key h v.node) v.count) before
     (noted_with todo (fired_key h v.node))
-visited_more h log i v old ms before todo l e w = record {
+visited_more {h} log i v {old} {ms} before todo l e w = record {
   size = length-owed (fired_marks ms fkey) pkey v.count ∙ length-fired ms fkey ∙ w.size;
   marks = λ n m. marked n m;
   noted = λ n y. by_new n (or_cases (list_any (fires_at h n) (take i log)) (is_key fkey n) (sym (any_more n) ∙ y));

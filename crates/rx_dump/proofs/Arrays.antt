@@ -46,9 +46,9 @@ none_yet depth start = record {
 pub value_takes : (depth : ℕ) (now rest : List Token) (d : Data) → IsValue depth now rest d → length rest < length now
 value_takes depth now rest d v = skip_value-shorter depth now rest (ap left v.read)
 
-pub one_more : (depth : ℕ) (start now rest : List Token) (past : Items) (d : Data) → AreBefore depth start now past
+pub one_more : {depth : ℕ} (start now rest : List Token) (past : Items) (d : Data) → AreBefore depth start now past
     → after_end_array now ≡ None → IsValue depth now rest d → AreBefore depth start rest (joined past (item d no_items))
-one_more depth start now rest past d before going v =
+one_more {depth} start now rest past d before going v =
     let fewer = value_takes depth now rest d v in
     let some : 0 < before.turns = omega (arith, fewer, before.enough) in
     record {

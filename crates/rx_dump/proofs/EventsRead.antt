@@ -42,7 +42,7 @@ pub one_more_event : (start now rest : List Token) (h : List Event) (e : Event) 
     → after_end_array now ≡ None → IsEvent now rest e → AreEventsBefore start rest (h ++ e ∷ [])
 one_more_event start now rest h e was going next = record {
   values = joined was.values (item next.value no_items);
-  before = one_more in_dump start now rest was.values next.value was.before going next.read;
+  before = one_more start now rest was.values next.value was.before going next.read;
   events = each_event-joined was.values next.value ∙ rw (was.events, next.event) refl;
 }
 

@@ -38,11 +38,11 @@ module _ {S : Type 0} where
       let here : IsHalfway seen all (None ∷ left) = rw is at half in
       rw same (record { known = here.known; seen_is = here.seen_is; same = here.same })
 
-  pub halfway-some : (seen new : HashSet (Bor (List ℕ)) S) (all left : List (Option Name)) (label : Option Name) (k : Bor (List ℕ)) (fresh : Bool)
+  pub halfway-some : {seen new : HashSet (Bor (List ℕ)) S} {all left : List (Option Name)} (label : Option Name) (k : Bor (List ℕ)) (fresh : Bool)
       → IsHalfway seen all (label ∷ left) → label ≡ Some k.now → fresh ≡ not (contains same_text seen k) → fresh ≡ true → Updates same_text seen new k true
       → IsHalfway new all left
   unfolding is_one_of
-  halfway-some seen new all left label k fresh half is told is_true added =
+  halfway-some {seen} {all} {left} label k fresh half is told is_true added =
       let here : IsHalfway seen all (Some k.now ∷ left) = rw is at half in
       let absent : is_one_of here.known k.now ≡ false = sym (here.seen_is.listed k) ∙ absent_if fresh _ told is_true in
       record {
@@ -54,9 +54,10 @@ module _ {S : Type 0} where
         either true b = refl
         either false b = refl
 
-  pub halfway-twice : (seen : HashSet (Bor (List ℕ)) S) (all left : List (Option Name)) (label : Option Name) (k : Bor (List ℕ)) (fresh : Bool)
+  pub halfway-twice : {seen : HashSet (Bor (List ℕ)) S} {all : List (Option Name)} (left : List (Option Name)) (label : Option Name) (k : Bor (List ℕ))
+      (fresh : Bool)
       → IsHalfway seen all (label ∷ left) → label ≡ Some k.now → fresh ≡ not (contains same_text seen k) → fresh ≡ false → false ≡ are_new [] all
-  halfway-twice seen all left label k fresh half is told is_false =
+  halfway-twice {seen} {all} left label k fresh half is told is_false =
       let here : IsHalfway seen all (Some k.now ∷ left) = rw is at half in
       let present : is_one_of here.known k.now ≡ true = sym (here.seen_is.listed k) ∙ present_if fresh _ told is_false in
       sym (here.same ∙ rw present refl)

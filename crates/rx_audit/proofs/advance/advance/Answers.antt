@@ -3,7 +3,7 @@ use Rattle.rx_audit.specs.declared.children.Children.{Children}
 use Rattle.rx_audit.specs.Latest.{AreChildren}
 use Rattle.rx_audit.specs.Listed.{AreLinked}
 use Rattle.rx_audit.specs.HubTables.{AreHubs}
-use Rattle.rx_audit.proofs.DueLists.{all_after}
+use Rattle.rx_audit.proofs.DueLists.{IsOneMore, all_after}
 use Rattle.rx_audit.proofs.advance.advance.Goals as goal
 
 pub returns-clause-followed : goal.returns-clause-followed
@@ -14,6 +14,8 @@ returns-clause-followed c =
     let size : length c.keep.new.nodes.children.youngest.items ≡ length c.args.live.now =
     ap (λ (x : Children). length x.youngest.items) c.in_ok-keep.ensures.children ∙ w.children.youngest_size in
     let room = c.requires.room in
+    let one : IsOneMore h e (length c.args.live.now) c.args.nodes.now.hubs c.mark_open.new.todo.items =
+    record { lawful = c.requires.lawful; next = c.requires.next; hubs = w.hubs; room = omega arith; closing = c.in_ok-mark_open.ensures.listed } in
     record {
       children = subst (λ (n : ℕ). AreChildren (h ++ e ∷ []) n c.relink.new.children) size c.relink.ensures.children;
       linked = subst (λ (n : ℕ). AreLinked (h ++ e ∷ []) n c.relink.new.subs) size c.relink.ensures.linked;
@@ -21,10 +23,15 @@ returns-clause-followed c =
       hubs = subst (λ (n : ℕ). AreHubs (h ++ e ∷ []) n c.relink.new.hubs) size c.relink.ensures.hubs;
       marks_size = c.in_ok-keep.ensures.marks_len ∙ w.marks_size;
       kept = c.in_ok-keep.ensures.kept;
-      covered = all_after h e (length c.args.live.now) c.args.nodes.now.hubs c.mark_open.new.todo.items c.args.nodes.now.due.items c.keep.new.nodes.due.items
-          c.note_cut.new.due.items c.note_left.new.due.items c.requires.lawful c.requires.next w.hubs (omega arith) c.in_ok-mark_open.ensures.listed w.covered
-          c.in_ok-keep.ensures.keeps c.in_ok-keep.ensures.covered c.in_ok-note_cut.ensures.keeps c.in_ok-note_cut.ensures.ended c.in_ok-note_left.ensures.keeps
-          (rw (c.as_slice.ensures.value, c.in_ok-keep.ensures.hubs) at c.in_ok-note_left.ensures.lost) c.in_ok-note_left.ensures.new;
+      covered = all_after {marked = c.keep.new.nodes.due.items} {cut = c.note_cut.new.due.items} one w.covered (record {
+        marks_keep = c.in_ok-keep.ensures.keeps;
+        covered = c.in_ok-keep.ensures.covered;
+        cut_keeps = c.in_ok-note_cut.ensures.keeps;
+        ended = c.in_ok-note_cut.ensures.ended;
+        left_keeps = c.in_ok-note_left.ensures.keeps;
+        lost = rw (c.as_slice.ensures.value, c.in_ok-keep.ensures.hubs) at c.in_ok-note_left.ensures.lost;
+        new = c.in_ok-note_left.ensures.new;
+      });
     }
 
 pub note_cut-requires-clause-linked : goal.note_cut-requires-clause-linked

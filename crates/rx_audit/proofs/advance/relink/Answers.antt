@@ -38,8 +38,8 @@ returns-clause-linked c =
 
 pub returns-clause-listed : goal.returns-clause-listed
 returns-clause-listed c =
-    open_listed_after c.args.past.now c.args.event c.args.subs.now c.let_go.new.subs c.list_new.new.subs c.args.closed.now c.requires.next
-    c.requires.listed c.requires.closed c.let_go.ensures.listed c.list_new.ensures.others c.list_new.ensures.new
+    open_listed_after c.args.subs.now c.list_new.new.subs c.requires.next c.requires.listed c.requires.closed c.let_go.ensures.listed
+    c.list_new.ensures.others c.list_new.ensures.new
 
 pub returns-clause-hubs : goal.returns-clause-hubs
 returns-clause-hubs c =

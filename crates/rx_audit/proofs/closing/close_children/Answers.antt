@@ -57,12 +57,12 @@ loop-next-preserved c =
       closing = elim c.if-marks-c.branch [
         | then-marks-c+in_ok-push w ↦
             rw (w.marks-is, w.todo-is, w.in_ok-push.ensures.items)
-            (closing_next h p k v c.args.marks.now (set c.loop-next.marks k false) c.args.todo.now.items _
-            (closing_note h p (suc k) k c.args.marks.now c.loop-next.marks c.args.todo.now.items c.loop-next.todo.items so_far (omega arith) below
+            (closing_next k v (set c.loop-next.marks k false) c.args.todo.now.items _
+            (closing_note k c.loop-next.marks c.args.todo.now.items c.loop-next.todo.items so_far (omega arith) below
             w.if-marks-c.true)
             (gone_here c.loop-next.marks k w.if-marks-c.true) is)
         | else-marks-c w ↦
-            rw (w.marks-is, w.todo-is) (closing_next h p k v c.args.marks.now c.loop-next.marks c.args.todo.now.items c.loop-next.todo.items so_far
+            rw (w.marks-is, w.todo-is) (closing_next k v c.loop-next.marks c.args.todo.now.items c.loop-next.todo.items so_far
             w.if-marks-c.false is)
       ];
       here = here_is h p k v is;

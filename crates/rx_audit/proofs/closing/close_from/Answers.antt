@@ -19,9 +19,9 @@ loop-i-preserved c =
     let kept = c.loop-i.invariant.balance in
     let closes = c.in_ok-close_children.ensures.balance in
     record {
-      passing = passing_more c.args.past.now c.args.event c.loop-i.i c.index-p.result.now c.loop-i.marks c.close_children.new.marks
+      passing = passing_more c.loop-i.marks c.close_children.new.marks
           c.loop-i.todo.items c.close_children.new.todo.items (omega arith) is c.loop-i.invariant.passing c.in_ok-close_children.ensures;
-      noted = noted_on c.args.past.now c.index-p.result.now c.loop-i.marks c.close_children.new.marks c.loop-i.todo.items c.close_children.new.todo.items
+      noted = noted_on c.close_children.new.marks c.loop-i.todo.items c.close_children.new.todo.items
           c.loop-i.invariant.noted c.in_ok-close_children.ensures;
       balance = omega arith;
     }

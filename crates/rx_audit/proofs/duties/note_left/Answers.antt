@@ -1,6 +1,6 @@
 use Rattle.std.proofs.Common.{length, arith}
 use Rattle.rx_audit.proofs.ClosingBelow.{noted_last}
-use Rattle.rx_audit.proofs.DueLists.{keeps_more, keeps_on, lost_more, lost_all}
+use Rattle.rx_audit.proofs.DueLists.{keeps_more, keeps_on, any_default, lost_more, lost_all}
 use Rattle.rx_audit.proofs.duties.note_left.Goals as goal
 
 pub loop-s-init : goal.loop-s-init
@@ -9,8 +9,9 @@ loop-s-init c = record { keeps = λ n w. w; lost = λ k l. absurd (omega arith) 
 pub loop-s-preserved : goal.loop-s-preserved
 loop-s-preserved c = record {
   keeps = keeps_on c.args.due.now.items c.loop-s.due.items c.note_connection.new.due.items c.loop-s.invariant.keeps c.in_ok-note_connection.ensures.keeps;
-  lost = lost_more c.args.past.now c.args.closed.now c.args.hubs.now.connection.items c.loop-s.due.items c.note_connection.new.due.items c.loop-s.s-index _
-      (omega arith) c.loop-s.invariant.lost c.in_ok-note_connection.ensures.keeps c.in_ok-note_connection.ensures.lost;
+  lost = lost_more c.args.past.now c.args.closed.now c.args.hubs.now.connection.items c.loop-s.s-index c.loop-s.invariant.lost
+      c.in_ok-note_connection.ensures.keeps
+      (rw (any_default c.args.closed.now c.loop-s.s-index _ 0 (omega arith)) at c.in_ok-note_connection.ensures.lost);
 }
 
 pub returns-clause-keeps : goal.returns-clause-keeps

@@ -26,8 +26,8 @@ loop-next-preserved c =
     record {
       keeps = rw c.in_ok-push.ensures.items (keeps_on c.args.due.now.items c.loop-next.due.items _ c.loop-next.invariant.keeps
           (keeps_more c.loop-next.due.items _));
-      all = rw c.in_ok-push.ensures.items (noted_down h (length subs.listed.items) subs c.args.g c.requires c.loop-next.next c.value_at-next-in-loop-next.result
-          c.loop-next.due.items c.loop-next-test.true c.loop-next.invariant.here c.value_at-next-in-loop-next.ensures c.loop-next.invariant.all);
+      all = rw c.in_ok-push.ensures.items (noted_down h (length subs.listed.items) subs c.args.g c.requires c.value_at-next-in-loop-next.result
+          c.loop-next-test.true c.loop-next.invariant.here c.value_at-next-in-loop-next.ensures c.loop-next.invariant.all);
       here = walk_next h (length subs.listed.items) subs c.args.g c.requires c.loop-next.next c.value_at-next-in-loop-next.result
           c.loop-next-test.true c.loop-next.invariant.here c.value_at-next-in-loop-next.ensures;
     }

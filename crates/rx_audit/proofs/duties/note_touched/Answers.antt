@@ -5,7 +5,7 @@ use Rattle.rx_audit.proofs.duties.note_touched.Goals as goal
 
 pub returns-in_ok-push-clause-covered : goal.returns-in_ok-push-clause-covered
 returns-in_ok-push-clause-covered c = rw c.in_ok-push.ensures.items
-    (covered_more c.args.past.now c.args.event c.args.due.now.items c.in-Some.p c.requires.lawful c.requires.next
+    (covered_more c.args.event c.args.due.now.items c.in-Some.p c.requires.lawful c.requires.next
     c.requires.no_item (sym c.in-Some.ensures) c.requires.covered)
 
 pub returns-in_ok-push-clause-keeps : goal.returns-in_ok-push-clause-keeps

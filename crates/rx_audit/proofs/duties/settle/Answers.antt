@@ -28,10 +28,10 @@ returns-clause-answer c = (
 
 pub returns-then-acts-clause-known : goal.returns-then-acts-clause-known
 returns-then-acts-clause-known c =
-    known_due c.args.past.now c.args.live.now c.loop-left.nodes _ c.loop-left.invariant.known refl refl refl refl
+    known_due c.loop-left.nodes _ c.loop-left.invariant.known refl refl refl refl
     (λ n y. rw c.keep_first.ensures (c.loop-left.invariant.covered n y))
 
 pub returns-clause-known : goal.returns-clause-known
 returns-clause-known c =
-    known_due c.args.past.now c.args.live.now c.loop-left.nodes _ c.loop-left.invariant.known refl refl refl refl
+    known_due c.loop-left.nodes _ c.loop-left.invariant.known refl refl refl refl
     (λ n y. absurd (noted_none c.loop-left.nodes.due.items n c.loop-left.left (omega arith) (c.loop-left.invariant.covered n y)))

@@ -8,6 +8,6 @@ returns c =
     let h = c.args.past.now in
     let k = c.requires in
     let size = length c.args.live.now in
-    c.leads_no_less.ensures ∙ waited_word h size c.args.nodes.now.subscribers c.args.g c.value_at-last.result c.value_at-ended.result
+    c.leads_no_less.ensures ∙ waited_word c.args.nodes.now.subscribers c.args.g c.value_at-last.result c.value_at-ended.result
     k.followed.linked k.followed.listed c.value_at-last.ensures
     (ended_word h k.lawful size c.args.nodes.now.hubs k.followed.hubs k.room c.args.g c.value_at-ended.result c.value_at-ended.ensures)

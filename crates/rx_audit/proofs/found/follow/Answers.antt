@@ -10,13 +10,12 @@ returns-clause-found c =
     let e = c.args.event in
     let f = c.args.found.now in
     let r = c.requires.found in
-    let size = length f.live.items in
-    let removed = table_field removed_of f.removed.len size f.removed.items c.mark.new.marks c.as_mut_slice-2.result.now
-    c.removed.result h e f.removed.ok.0 r.removed_size c.as_mut_slice-2.ensures.value c.removed.ensures c.mark.ensures r.removed in
-    let returned = table_field returned_of f.returned.len size f.returned.items c.mark-2.new.marks c.as_mut_slice-3.result.now
-    c.returned.result h e f.returned.ok.0 r.returned_size c.as_mut_slice-3.ensures.value c.returned.ensures c.mark-2.ensures r.returned in
-    let taken = table_field taken_of f.taken.len size f.taken.items c.mark-3.new.marks c.as_mut_slice-5.result.now
-    c.taken.result h e f.taken.ok.0 r.taken_size c.as_mut_slice-5.ensures.value c.taken.ensures c.mark-3.ensures r.taken in
+    let removed = table_field removed_of h e f.removed.items f.removed.ok.0 r.removed_size
+    (rw (c.as_mut_slice-2.ensures.value, c.removed.ensures) at c.mark.ensures) r.removed in
+    let returned = table_field returned_of h e f.returned.items f.returned.ok.0 r.returned_size
+    (rw (c.as_mut_slice-3.ensures.value, c.returned.ensures) at c.mark-2.ensures) r.returned in
+    let taken = table_field taken_of h e f.taken.items f.taken.ok.0 r.taken_size
+    (rw (c.as_mut_slice-5.ensures.value, c.taken.ensures) at c.mark-3.ensures) r.taken in
     let leases_same : length c.find_leases.new.leases ≡ length f.leases.items = c.find_leases.ensures.len ∙ ap length c.as_mut_slice-4.ensures.value in
     let leases_back = back f.leases.len c.find_leases.new.leases f.leases.items f.leases.ok.0 leases_same in
     let live_same : length c.advance.new.live ≡ length f.live.items = c.advance.auto.live ∙ ap length c.as_mut_slice.ensures.value in

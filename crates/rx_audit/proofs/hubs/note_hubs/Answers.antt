@@ -18,7 +18,7 @@ returns c =
     let old = c.args.known.now in
     let more : length h + 1 ≡ suc (length h) = omega arith in
     let next : c.one_more-next.result ≡ suc (length h) = c.one_more-next.ensures ∙ more in
-    hubs_more h c.args.event (length old.connection.items) old _ c.requires.lawful c.requires.next c.requires.known
+    hubs_more _ c.requires.lawful c.requires.next c.requires.known
     (c.put.ensures ∙ ap (λ o. table_with old.connection.items o c.one_more-next.result) c.connects.ensures ∙ ap (table_with old.connection.items _) next)
     (c.put-2.ensures ∙ ap (λ o. table_with old.ended.items o c.one_more-next.result) c.hub_ended.ensures ∙ ap (table_with old.ended.items _) next)
     (c.or-known.ensures ∙ ap (λ o. option_or o old.waiting) c.subscribes_to.ensures)

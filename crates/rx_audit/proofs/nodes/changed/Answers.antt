@@ -52,19 +52,19 @@ after_child-requires c =
 
 pub returns-in-Source : goal.returns-in-Source
 returns-in-Source c =
-    c.after_source.ensures ∙ ap after_source c.requires.is ∙ sym (source_changes c.args.past.now c.args.event c.in-Source.field-0 c.args.p c.in-Open.kind
+    c.after_source.ensures ∙ ap after_source c.requires.is ∙ sym (source_changes c.args.event c.in-Source.field-0 c.args.p c.in-Open.kind
     (c.in-Open.is ∙ ap (λ q. Open q c.in-Open.kind) c.in-Source.is) c.requires.lawful c.requires.next c.requires.touched)
 
 pub returns-in-Notifier : goal.returns-in-Notifier
 returns-in-Notifier c =
     c.after_notifier.ensures ∙ ap after_notifier c.requires.is
-    ∙ sym (notifier_changes c.args.past.now c.args.event c.in-Notifier.field-0 c.args.p c.in-Open.kind
+    ∙ sym (notifier_changes c.args.event c.in-Notifier.field-0 c.args.p c.in-Open.kind
     (c.in-Open.is ∙ ap (λ q. Open q c.in-Open.kind) c.in-Notifier.is) c.requires.lawful c.requires.next c.requires.touched)
 
 pub returns-in-Inner : goal.returns-in-Inner
 returns-in-Inner c =
     c.after_inner.ensures ∙ ap (after_inner c.is_some.result) c.requires.is
-    ∙ sym (inner_changes c.args.past.now c.args.event c.in-Inner.field-0 c.args.p c.in-Open.kind c.args.top c.is_some.result
+    ∙ sym (inner_changes c.args.top c.is_some.result
     (c.in-Open.is ∙ ap (λ q. Open q c.in-Open.kind) c.in-Inner.is) c.requires.lawful c.requires.next c.requires.touched c.requires.top c.is_some.ensures)
 
 pub returns-in-Decline : goal.returns-in-Decline
@@ -78,4 +78,4 @@ returns-in-End c =
     ∙ ap (λ b. after_child b c.is_merging_at.result c.in-End.t (marks_of nothing_kept c.args.past.now c.args.p)) c.is_source_at.ensures
     ∙ ap (λ b. after_child (at (is_source_of c.args.p) c.args.past.now c.in-End.c) b c.in-End.t (marks_of nothing_kept c.args.past.now c.args.p))
     c.is_merging_at.ensures
-    ∙ sym (end_changes c.args.past.now c.args.event c.in-End.c c.args.p c.in-End.t c.in-End.is c.requires.lawful c.requires.next c.requires.touched)
+    ∙ sym (end_changes c.args.event c.in-End.c c.args.p c.in-End.t c.in-End.is c.requires.lawful c.requires.next c.requires.touched)

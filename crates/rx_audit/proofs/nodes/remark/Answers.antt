@@ -10,8 +10,8 @@ changed-value-requires-clause-is c =
 pub returns-clause-kept : goal.returns-clause-kept
 returns-clause-kept c = rw (c.put_marks-2.ensures, c.blank.ensures) (elim c.match-touched.branch [
   | in-Some w ↦ rw (w.marks-is, w.put_marks.ensures)
-      (kept_more c.args.past.now c.args.event c.args.marks.now.items w.in-Some.p w.changed-value.result c.requires.lawful c.requires.next
+      (kept_more c.args.marks.now.items c.requires.lawful c.requires.next
       c.requires.no_item c.requires.kept c.requires.room (sym w.in-Some.ensures) w.changed-value.ensures)
-  | in_default w ↦ rw w.marks-is (kept_same c.args.past.now c.args.event c.args.marks.now.items c.requires.lawful c.requires.next
+  | in_default w ↦ rw w.marks-is (kept_same c.args.event c.args.marks.now.items c.requires.lawful c.requires.next
       c.requires.no_item c.requires.kept c.requires.room (sym w.in_default.ensures))
 ])

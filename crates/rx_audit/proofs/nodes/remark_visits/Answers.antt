@@ -15,5 +15,5 @@ loop-visit-preserved c =
     let v : Visit = get_or log i d in
     let l : i < length log = omega arith in
     rw (c.in_ok-owe.ensures, c.in_ok-fire.ensures.marks, c.in_ok-fire.ensures.due, c.fired_at.ensures, c.projected_at.ensures)
-    (visited_more h log i v c.args.marks.now.items c.loop-visit.marks.items c.args.due.now.items c.loop-visit.due.items l (same_default log i d v l)
+    (visited_more log i v c.args.due.now.items c.loop-visit.due.items l (same_default log i d v l)
     c.loop-visit.invariant)

@@ -1,8 +1,6 @@
-use Rattle.std.proofs.Common.{◌≡◌, ℕ, ◌+◌, ◌*◌, ◌≤◌, List, drop, length, refl, ap, ◌∙◌, arith}
-use Rattle.std.specs.List.{sum_by}
-use Rattle.rx_audit.specs.Flow.{times}
+use Rattle.std.proofs.Common.{◌≡◌, ◌+◌, ◌*◌, ◌≤◌, length, refl, ◌∙◌, arith}
 use Rattle.rx_audit.proofs.VisitLogEntries.{read_at}
-use Rattle.rx_audit.proofs.LogCountsVisits.{flow_ends, flow_step, flow_over, length_few, few_left}
+use Rattle.rx_audit.proofs.LogCountsVisits.{IsEntry, HasSpread, flow_ends, flow_step, flow_over, length_few, few_left}
 use Rattle.rx_audit.proofs.reach.reached.Goals as goal
 
 pub returns-then-i-len : goal.returns-then-i-len
@@ -21,8 +19,9 @@ returns-then-more-from c =
     let v = c.index-visit.result.now in
     let len : c.len-in-loop-i.result ≡ length next.items = c.len-in-loop-i.ensures ∙ next.ok.0 in
     let product : c.from.result * c.len-in-loop-i.result ≡ v.count * length next.items = rw (c.from.ensures, len) refl in
-    flow_over c.args.past.now c.args.leaf c.loop-i.i c.loop-i.climb.log.items c.loop-i.total v next.items
-    (omega arith) c.index-visit.ensures c.in_ok-onward.ensures (omega arith) c.loop-i.invariant
+    let entry : IsEntry c.args.past.now c.loop-i.climb.log.items c.loop-i.i v next.items =
+    record { within = omega arith; is = c.index-visit.ensures; goes_on = c.in_ok-onward.ensures } in
+    flow_over entry (omega arith) c.loop-i.invariant
 
 pub spread-requires-clause-few : goal.spread-requires-clause-few
 spread-requires-clause-few c =
@@ -49,9 +48,12 @@ loop-i-preserved c =
     let product : c.from.result * c.len-in-loop-i.result ≡ v.count * length next.items = rw (c.from.ensures, len) refl in
     let most = inv.few in
     let few : c.loop-i.total + v.count * length next.items ≤ 1048576 = omega arith in
-    let more : (number : ℕ → ℕ) → sum_by (times number) (drop (i + 1) c.spread.new.log.items) ≡ sum_by (times number)
-    (drop (i + 1) log) + v.count * sum_by number next.items = λ number. c.in_ok-spread.ensures.more number
-    ∙ ap (λ (xs : List ℕ). sum_by (times number) (drop (i + 1) log) + v.count * sum_by number xs) c.as_slice.ensures.value in
-    rw product (flow_step c.args.past.now c.args.leaf i log c.spread.new.log.items c.loop-i.total v next.items
-    (omega arith) c.index-visit.ensures c.in_ok-onward.ensures c.in_ok-spread.ensures.kept
-    more c.in_ok-spread.ensures.often c.in_ok-spread.ensures.grows few inv)
+    let entry : IsEntry c.args.past.now log i v next.items =
+    record { within = omega arith; is = c.index-visit.ensures; goes_on = c.in_ok-onward.ensures } in
+    let spread : HasSpread i log c.spread.new.log.items v next.items = record {
+      kept = c.in_ok-spread.ensures.kept;
+      more = rw c.as_slice.ensures.value at c.in_ok-spread.ensures.more;
+      often = c.in_ok-spread.ensures.often;
+      grows = c.in_ok-spread.ensures.grows;
+    } in
+    rw product (flow_step entry spread few inv)

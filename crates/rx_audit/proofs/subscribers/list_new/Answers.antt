@@ -9,10 +9,13 @@ returns-in-Some-clause-linked c =
     let h = c.args.past.now in
     let old = c.args.subs.now in
     let next : length h + 1 ≡ suc (length h) = omega arith in
-    rows_more h c.args.event (length old.listed.items) c.in-Some.g old c.put_last.new.subs c.requires.linked c.requires.room
-    (c.requires.hubbed c.in-Some.g (subscribes_so c.args.event c.in-Some.g (sym c.in-Some.ensures))) (sym c.in-Some.ensures)
-    c.put_last.ensures.listed (c.put_last.ensures.last ∙ ap (set old.last.items c.in-Some.g) next) c.put_last.ensures.before
-    (c.put_last.ensures.after ∙ ap (table_with (set old.after.items (length h) 0) (number_of _)) next)
+    rows_more c.args.event c.requires.linked c.requires.room
+    (c.requires.hubbed c.in-Some.g (subscribes_so c.args.event c.in-Some.g (sym c.in-Some.ensures))) (sym c.in-Some.ensures) (record {
+      listed = c.put_last.ensures.listed;
+      last = c.put_last.ensures.last ∙ ap (set old.last.items c.in-Some.g) next;
+      before = c.put_last.ensures.before;
+      after = c.put_last.ensures.after ∙ ap (table_with (set old.after.items (length h) 0) (number_of _)) next;
+    })
 
 pub returns-in_default-clause-linked : goal.returns-in_default-clause-linked
 returns-in_default-clause-linked c =

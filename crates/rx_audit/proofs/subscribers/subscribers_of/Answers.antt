@@ -23,7 +23,7 @@ loop-next-preserved c =
     let h = c.args.past.now in
     let subs = c.args.subs.now in
     record {
-      rest = λ number. walk_more h (length subs.listed.items) subs c.args.g c.requires.linked c.loop-next.next c.value_at-next-in-loop-next.result
+      rest = λ number. walk_more h (length subs.listed.items) subs c.args.g c.requires.linked
           c.loop-next.found.items c.push.new.self.items c.loop-next-test.true c.loop-next.invariant.here c.value_at-next-in-loop-next.ensures
           c.in_ok-push.ensures.items number (c.loop-next.invariant.rest number);
       here = walk_next h (length subs.listed.items) subs c.args.g c.requires.linked c.loop-next.next c.value_at-next-in-loop-next.result

@@ -28,7 +28,7 @@ parts-preserved c =
     let same : c.take_end_array.new.self ≡ c.parts.reader = grind arith in
     let first : c.take_end_array.new.self ≡ token_of c.in_ok-token.token ∷ rest = grind arith in
     let is = subst (λ (ts : List Token). IsValue in_event ts rest (view part)) (sym first ∙ same) (c.in_ok-part.ensures in_event rest) in
-    let more = one_more in_event _ _ _ _ _ c.parts.invariant going is in
+    let more = one_more _ _ _ _ _ c.parts.invariant going is in
     subst (λ (vs : List Value). AreBefore in_event start rest (items_view vs)) (sym c.in_ok-push.ensures.items)
     (subst (AreBefore in_event start rest) (joined-view c.parts.parts.items part) more)
 

@@ -14,7 +14,7 @@ loop-label-preserved c =
     elim c.match-label.branch [
       | in-Some+in_ok-insert+else-not-branch w ↦
           let is : option_map string_bytes c.label-item.result ≡ Some w.as_str.result.now = rw w.in-Some.is (ap Some (sym w.as_str.ensures.value)) in
-          rw w.seen-is (halfway-some c.loop-label.seen w.insert.new.self _ _ _ w.as_str.result w.in_ok-insert.field-0 half is w.in_ok-insert.ensures.added
+          rw w.seen-is (halfway-some _ w.as_str.result w.in_ok-insert.field-0 half is w.in_ok-insert.ensures.added
           w.if-not-branch.false w.in_ok-insert.ensures.updates)
       | in_default w ↦
           let is : option_map string_bytes c.label-item.result ≡ None = rw w.in_default.is refl in
@@ -26,4 +26,4 @@ returns-then-not-branch c =
     let here = labels_meant-drop c.args.labels.now c.loop-label.label-index c.label-item.result c.loop-label-test.true c.label-item.is in
     let half = rw here at c.loop-label.invariant in
     let is : option_map string_bytes c.label-item.result ≡ Some c.as_str.result.now = rw c.in-Some.is (ap Some (sym c.as_str.ensures.value)) in
-    halfway-twice c.loop-label.seen _ _ _ c.as_str.result c.in_ok-insert.field-0 half is c.in_ok-insert.ensures.added c.if-not-branch.true
+    halfway-twice _ _ c.as_str.result c.in_ok-insert.field-0 half is c.in_ok-insert.ensures.added c.if-not-branch.true
