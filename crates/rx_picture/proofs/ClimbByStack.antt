@@ -39,9 +39,10 @@ climb_stops most past leaf step visits todo whole on =
     let none : suc most - step ≡ 0 = omega arith in
     sym (append-nil visits) ∙ ap (λ (left : ℕ). visits ++ visited left past (reverse todo)) (sym none) ∙ on
 
-pub climb_goes_on : (most : ℕ) (past : List Event) (leaf step n : ℕ) (visits todo rest more : List ℕ) → step ≤ most → todo ≡ rest ++ n ∷ [] →
+pub climb_goes_on : {most : ℕ} (past : List Event) {leaf step : ℕ} (n : ℕ) (visits : List ℕ) {todo : List ℕ} (rest : List ℕ) {more : List ℕ} → step ≤ most →
+    todo ≡ rest ++ n ∷ [] →
     more ≡ rest ++ reverse (onward past n) → ClimbsOn most past leaf step visits todo → ClimbsOn most past leaf (step + 1) (visits ++ n ∷ []) more
-climb_goes_on most past leaf step n visits todo rest more l was next on =
+climb_goes_on {most} past {step} n visits {todo} rest {more} l was next on =
     let first : reverse todo ≡ n ∷ reverse rest = ap reverse was ∙ reverse-append rest (n ∷ []) in
     let then : reverse more ≡ onward past n ++ reverse rest =
     ap reverse next ∙ reverse-append rest (reverse (onward past n)) ∙ ap (λ (ns : List ℕ). ns ++ reverse rest) (reverse-reverse (onward past n)) in
@@ -73,8 +74,9 @@ climb_stopped past leaf step visits todo whole on =
     let limit = limit_is in
     climb_stops most_visits past leaf step visits todo (omega arith) on ∙ sym (climb_is past leaf)
 
-pub climb_popped : (past : List Event) (leaf step n : ℕ) (visits todo rest more : List ℕ) → step < 1048577 → todo ≡ rest ++ n ∷ [] →
+pub climb_popped : (past : List Event) {leaf step : ℕ} (n : ℕ) (visits : List ℕ) {todo : List ℕ} (rest : List ℕ) {more : List ℕ} → step < 1048577 →
+    todo ≡ rest ++ n ∷ [] →
     more ≡ rest ++ reverse (onward past n) → ClimbsOn most_visits past leaf step visits todo → ClimbsOn most_visits past leaf (step + 1) (visits ++ n ∷ []) more
-climb_popped past leaf step n visits todo rest more l was next on =
+climb_popped past n visits rest l was next on =
     let limit = limit_is in
-    climb_goes_on most_visits past leaf step n visits todo rest more (omega arith) was next on
+    climb_goes_on past n visits rest (omega arith) was next on

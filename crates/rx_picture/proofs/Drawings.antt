@@ -21,20 +21,35 @@ points_same h d placed tied told = record {
   each = told.each;
 }
 
-pub drawing_is : (h : List Event) (d : Drawing) (drawn shown placed rowed : List Bool) → AreMarks drawn (length h) (at is_drawn h) →
-    AreMarks shown (length h) (is_shown h) → AreMarks placed (length h) (is_placed h) → AreMarks rowed (length h) (is_rowed_by (marked shown) h) →
-    AreRows h (marked rowed) d.rows.items → d.all ≡ count_below (marked drawn) (length drawn) →
-    d.marbles.items ≡ marbles (marked shown) (marked placed) h → ArePoints h (marked placed) d.points.items →
-    AreColumns (marked shown) (length shown) d.lanes.items → AreColumns (marked placed) (length placed) d.columns.items →
-    AreLevels h (length h) d.levels.items → IsDrawing h d
-drawing_is h d drawn shown placed rowed are_drawn are_shown are_placed are_rowed rows all told points lanes columns levels = record {
-  rows = rows_same h rowed (is_rowed h) d.rows.items (rowed_same h shown rowed are_shown are_rowed) rows;
-  all = all ∙ ap (count_below (marked drawn)) are_drawn.size ∙ count_same (marked drawn) (at is_drawn h) (length h) (λ k l. are_drawn.each k l);
-  marbles = told ∙ (λ i. marbles (λ n. shown_anywhere h shown are_shown n i) (λ n. placed_anywhere h placed are_placed n i) h);
-  points = points_same h d placed are_placed points;
-  lanes = columns_same shown (length h) (is_shown h) d.lanes.items are_shown lanes;
-  columns = columns_same placed (length h) (is_placed h) d.columns.items are_placed columns;
-  levels = levels;
+-- lists that mark what is drawn, shown, placed and rowed of a history
+pub record AreMarked (h : List Event) (drawn shown placed rowed : List Bool) : Type 0 where
+  pub of_drawn : AreMarks drawn (length h) (at is_drawn h)
+  pub of_shown : AreMarks shown (length h) (is_shown h)
+  pub of_placed : AreMarks placed (length h) (is_placed h)
+  pub of_rowed : AreMarks rowed (length h) (is_rowed_by (marked shown) h)
+
+-- the drawing has what such lists mark
+pub record IsDrawnByMarks (h : List Event) (drawn shown placed rowed : List Bool) (d : Drawing) : Type 0 where
+  pub rows : AreRows h (marked rowed) d.rows.items
+  pub all : d.all ≡ count_below (marked drawn) (length drawn)
+  pub marbles : d.marbles.items ≡ marbles (marked shown) (marked placed) h
+  pub points : ArePoints h (marked placed) d.points.items
+  pub lanes : AreColumns (marked shown) (length shown) d.lanes.items
+  pub columns : AreColumns (marked placed) (length placed) d.columns.items
+  pub levels : AreLevels h (length h) d.levels.items
+
+pub drawing_is : {h : List Event} {d : Drawing} {drawn shown placed rowed : List Bool} → AreMarked h drawn shown placed rowed
+    → IsDrawnByMarks h drawn shown placed rowed d → IsDrawing h d
+drawing_is {h} {d} {drawn} {shown} {placed} {rowed} marks by = record {
+  rows = rows_same h rowed (is_rowed h) d.rows.items (rowed_same h shown rowed marks.of_shown marks.of_rowed) by.rows;
+  all = by.all ∙ ap (count_below (marked drawn)) marks.of_drawn.size
+      ∙ count_same (marked drawn) (at is_drawn h) (length h) (λ k l. marks.of_drawn.each k l);
+  marbles = by.marbles
+      ∙ (λ i. marbles (λ n. shown_anywhere h shown marks.of_shown n i) (λ n. placed_anywhere h placed marks.of_placed n i) h);
+  points = points_same h d placed marks.of_placed by.points;
+  lanes = columns_same shown (length h) (is_shown h) d.lanes.items marks.of_shown by.lanes;
+  columns = columns_same placed (length h) (is_placed h) d.columns.items marks.of_placed by.columns;
+  levels = by.levels;
   few_lanes = few_chosen (is_left h) (at is_drawn h) 200 (length h);
   few_places = few_chosen (is_shown h) (λ n. nat_lt n (length h)) 2000 (length h);
 }

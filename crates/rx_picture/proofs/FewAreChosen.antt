@@ -50,23 +50,19 @@ few_plain limit most a b true false = by_place (cases_lt (most + b) limit) where
   by_place (inl l) = rw (lt-ltb (most + b) limit l) (omega arith)
   by_place (inr l) = rw (le-ltb (most + b) limit l) (omega arith)
 
-few_next : (limit most a b chosen a_next b_next chosen_next : ℕ) (is_among is_first : Bool) → chosen ≡ min limit a + min (limit - most) b →
-    chosen_next ≡ chosen + bit (is_among && nat_lt (cond is_first a (most + b)) limit) → a_next ≡ a + bit (is_among && is_first) →
-    b_next ≡ b + bit (is_among && not is_first) → chosen_next ≡ min limit a_next + min (limit - most) b_next
-few_next limit most a b chosen a_next b_next chosen_next is_among is_first before next leading following =
-    let step = few_plain limit most a b is_among is_first in
-    rw (leading, following) (omega arith)
-
 module _ (first among : ℕ → Bool) (limit size : ℕ) where
   few_below : (n : ℕ) → count_below (is_chosen first among limit size) n
       ≡ min limit (count_below (leads first among) n) + min (limit - count_below (leads first among) size) (count_below (follows first among) n)
   few_below zero = omega arith
   few_below (suc n) =
       let more : n + 1 ≡ suc n = omega arith in
-      let next = few_next limit (count_below (leads first among) size) (count_below (leads first among) n) (count_below (follows first among) n)
-      (count_below (is_chosen first among limit size) n) (count_below (leads first among) (n + 1)) (count_below (follows first among) (n + 1))
-      (count_below (is_chosen first among limit size) (n + 1)) (among n) (first n) (few_below n) (count_next (is_chosen first among limit size) n)
-      (count_next (leads first among) n) (count_next (follows first among) n) in
+      let before = few_below n in
+      let chosen = count_next (is_chosen first among limit size) n in
+      let step = few_plain limit (count_below (leads first among) size) (count_below (leads first among) n) (count_below (follows first among) n)
+      (among n) (first n) in
+      let next : count_below (is_chosen first among limit size) (n + 1)
+      ≡ min limit (count_below (leads first among) (n + 1)) + min (limit - count_below (leads first among) size) (count_below (follows first among) (n + 1)) =
+      rw (count_next (leads first among) n, count_next (follows first among) n) (omega arith) in
       rw more at next
 
   pub few_chosen : count_below (is_chosen first among limit size) size ≤ limit

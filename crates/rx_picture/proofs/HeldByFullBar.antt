@@ -82,13 +82,13 @@ owned_barred h r k Hub is made m owned = absurd (false≢true (no_hub (slice_get
 owned_barred h r k (Resource after until taken) is made m owned = and_from (r == r) _ (eq-eqb r r refl) (sym (is.1.owned k m) ∙ owned)
 owned_barred h r k (Loan q until) is made m owned = absurd (false≢true (sym (ap (λ (o : Option Event). option_map_or makes_resource o false) is.0) ∙ made))
 
-out_barred : (h : List Event) (r k l : ℕ) (shape : Shape) → IsShape h l shape → slice_get h l ≡ Some (Lease r) → k ≤ length h → is_out (take k h) l ≡ true →
-    bars r k l shape ≡ true
-out_barred h r k l (Node until ending) is leased m out = absurd (false≢true (sym (ap (λ (o : Option Event). option_map_or makes_node o false) leased) ∙ is.0))
-out_barred h r k l Hub is leased m out = absurd (false≢true (sym (ap (λ (o : Option Event). option_map_or makes_hub o false) leased) ∙ is))
-out_barred h r k l (Resource after until taken) is leased m out =
+out_barred : (h : List Event) {r : ℕ} (k l : ℕ) (shape : Shape) → IsShape h l shape → slice_get h l ≡ Some (Lease r) → k ≤ length h
+    → is_out (take k h) l ≡ true → bars r k l shape ≡ true
+out_barred h k l (Node until ending) is leased m out = absurd (false≢true (sym (ap (λ (o : Option Event). option_map_or makes_node o false) leased) ∙ is.0))
+out_barred h k l Hub is leased m out = absurd (false≢true (sym (ap (λ (o : Option Event). option_map_or makes_hub o false) leased) ∙ is))
+out_barred h k l (Resource after until taken) is leased m out =
     absurd (false≢true (sym (ap (λ (o : Option Event). option_map_or makes_resource o false) leased) ∙ is.0))
-out_barred h r k l (Loan q until) is leased m out = and_from (q == r) _ (eq-eqb q r (lease_of q r (sym is.0 ∙ leased))) (sym (is.1.out k m) ∙ out)
+out_barred h {r} k l (Loan q until) is leased m out = and_from (q == r) _ (eq-eqb q r (lease_of q r (sym is.0 ∙ leased))) (sym (is.1.out k m) ∙ out)
 
 -- a full bar says that the resource is held
 held_by_owner : (h : List Event) (r : ℕ) → is_owned h r ≡ true → is_held h r ≡ true
@@ -102,20 +102,6 @@ held_by_lease h r leased = or_right _ _ leased
 held_cases : (h : List Event) (r : ℕ) → is_held h r ≡ true → (is_owned h r ≡ true) ⊎ (is_leased h r ≡ true)
 unfolding is_held
 held_cases h r held = or_cases (is_owned h r) (is_leased h r) held
-
-barred_held : (h : List Event) (r k n : ℕ) (shape : Shape) → IsShape h n shape → at makes_resource h r ≡ true → r < k → k ≤ length h → bars r k n shape ≡ true →
-    is_held (take k h) r ≡ true
-barred_held h r k n (Node until ending) is made l m barred = absurd (false≢true barred)
-barred_held h r k n Hub is made l m barred = absurd (false≢true barred)
-barred_held h r k n (Resource after until taken) is made l m barred =
-    let parts = and_parts (n == r) (nat_lt after k && not (nat_lt until k)) barred in
-    held_by_owner (take k h) r (ap (is_owned (take k h)) (sym (eqb-true n r parts.0)) ∙ is.1.owned k m ∙ parts.1)
-barred_held h r k n (Loan q until) is made l m barred =
-    let parts = and_parts (q == r) (nat_lt n k && not (nat_lt until k)) barred in
-    let inside = ltb-true n k (and_parts (nat_lt n k) (not (nat_lt until k)) parts.1).0 in
-    let leased : slice_get (take k h) n ≡ Some (Lease r) = get_prefix h k n inside m ∙ is.0 ∙ ap (λ (p : ℕ). Some (Lease p)) (eqb-true q r parts.0) in
-    held_by_lease (take k h) r (leased_where (take k h) r (at_prefix makes_resource h k r l m ∙ made)
-    (leases_of_some (take k h) n r leased (is.1.out k m ∙ parts.1)))
 
 -- a lease that is out --------------------------------------------------------------------------------
 
@@ -158,7 +144,7 @@ module _ (h : List Event) (d : Drawing) (is : IsDrawing h d) (r : ℕ) (made : a
       let inside = is_out_within (take k h) found.1 parts.1 in
       let size = length-take-le k h m in
       let at_n : slice_get h found.1 ≡ Some (Lease r) = sym (get_prefix h k found.1 (omega arith) m) ∙ lease_at (take k h) r found.1 parts.0 in
-      barred_by found.1 (omega arith) (lease_row found.1 at_n) (λ shape of. out_barred h r k found.1 shape of at_n m parts.1)
+      barred_by found.1 (omega arith) (lease_row found.1 at_n) (λ shape of. out_barred h k found.1 shape of at_n m parts.1)
 
   by_case : (is_owned (take k h) r ≡ true) ⊎ (is_leased (take k h) r ≡ true) → list_any (bars_row r k) d.rows.items ≡ true
   by_case (inl owned) = barred_by r (at_within makes_resource h r made) own_row (λ shape of. owned_barred h r k shape of made m owned)
@@ -168,7 +154,21 @@ module _ (h : List Event) (d : Drawing) (is : IsDrawing h d) (r : ℕ) (made : a
   back some =
       let found = list_any_found (bars_row r k) d.rows.items some in
       let row = all_at (IsRow h) d.rows.items found.0 found.1 is.rows.each found.2 in
-      barred_held h r k found.1.number found.1.shape row.shape made l m found.3
+      by_shape found.1.number found.1.shape row.shape found.3
+    where
+      by_shape : (n : ℕ) (shape : Shape) → IsShape h n shape → bars r k n shape ≡ true → is_held (take k h) r ≡ true
+      by_shape n (Node until ending) is_so barred = absurd (false≢true barred)
+      by_shape n Hub is_so barred = absurd (false≢true barred)
+      by_shape n (Resource after until taken) is_so barred =
+          let parts = and_parts (n == r) (nat_lt after k && not (nat_lt until k)) barred in
+          held_by_owner (take k h) r (ap (is_owned (take k h)) (sym (eqb-true n r parts.0)) ∙ is_so.1.owned k m ∙ parts.1)
+      by_shape n (Loan q until) is_so barred =
+          let parts = and_parts (q == r) (nat_lt n k && not (nat_lt until k)) barred in
+          let inside = ltb-true n k (and_parts (nat_lt n k) (not (nat_lt until k)) parts.1).0 in
+          let leased : slice_get (take k h) n ≡ Some (Lease r) =
+          get_prefix h k n inside m ∙ is_so.0 ∙ ap (λ (p : ℕ). Some (Lease p)) (eqb-true q r parts.0) in
+          held_by_lease (take k h) r (leased_where (take k h) r (at_prefix makes_resource h k r l m ∙ made)
+          (leases_of_some (take k h) n r leased (is_so.1.out k m ∙ parts.1)))
 
   pub held_where : is_held (take k h) r ≡ list_any (bars_row r k) d.rows.items
   held_where = same_tests (is_held (take k h) r) (list_any (bars_row r k) d.rows.items) (λ held. by_case (held_cases (take k h) r held)) back

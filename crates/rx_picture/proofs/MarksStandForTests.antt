@@ -41,9 +41,10 @@ chosen_same first first_too among among_too limit size same_first same_among n l
     count_same (follows first among) (follows first_too among_too) n (λ k m. follow k (omega arith)) in
     λ i. same_among n l i && nat_lt (cond (same_first n l i) (before i) (most i + others i)) limit
 
-pub marks_chosen : (firsts amongs chosen : List Bool) (first among : ℕ → Bool) (limit size : ℕ) → AreMarks firsts size first → AreMarks amongs size among →
+pub marks_chosen : {firsts amongs : List Bool} (chosen : List Bool) (first among : ℕ → Bool) (limit size : ℕ) → AreMarks firsts size first →
+    AreMarks amongs size among →
     AreMarks chosen (length amongs) (is_chosen (marked firsts) (marked amongs) limit (length amongs)) → AreMarks chosen size (is_chosen first among limit size)
-marks_chosen firsts amongs chosen first among limit size tied_first tied_among told =
+marks_chosen {firsts} {amongs} chosen first among limit size tied_first tied_among told =
     let here : AreMarks chosen size (is_chosen (marked firsts) (marked amongs) limit size) = rw tied_among.size at told in
     record {
       size = here.size;

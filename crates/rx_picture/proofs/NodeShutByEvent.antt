@@ -153,7 +153,7 @@ shut_by_key h b inner inside tied n still =
 pub shut_step : (h : List Event) (b : ℕ) (table inner : List ℕ) → b < length h → AreInners h b inner → AreTurns h was_shut b table →
     AreTurns h was_shut (b + 1) (noted table (shut_key h inner b) b)
 shut_step h b table inner inside inners tied =
-    turns_step h was_shut b table (shut_key h inner b) (λ n. nat_lt n b && option_map_or (shuts (take b h) n) (slice_get h b) false) inside
+    turns_step b table (shut_key h inner b) (λ n. nat_lt n b && option_map_or (shuts (take b h) n) (slice_get h b) false) inside
     (λ n. next n (cases_lt n b))
     (shut_by_key h b inner inside inners) tied
   where

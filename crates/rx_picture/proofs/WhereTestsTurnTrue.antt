@@ -121,10 +121,10 @@ noted_at table (Some m) place n l = by_order (cases_eq m n) where
   by_order (inl same) = rw (same, eq-eqb n n refl) (here (get_or table n 0 == length table))
   by_order (inr differs) = rw (ne_eqb m n differs) (there (get_or table m 0 == length table) (λ e. differs (sym e)))
 
-pub turns_step : (h : List Event) (test : ℕ → List Event → Bool) (b : ℕ) (table : List ℕ) (key : Option ℕ) (s : ℕ → Bool) → b < length h →
+pub turns_step : {h : List Event} {test : ℕ → List Event → Bool} (b : ℕ) (table : List ℕ) (key : Option ℕ) (s : ℕ → Bool) → b < length h →
     ((n : ℕ) → test n (take (suc b) h) ≡ (test n (take b h) || s n)) → ((n : ℕ) → test n (take b h) ≡ false → is_key key n ≡ s n) →
     AreTurns h test b table → AreTurns h test (b + 1) (noted table key b)
-turns_step h test b table key s inside next same tied = record {
+turns_step {h} {test} b table key s inside next same tied = record {
   size = noted_size table key b ∙ tied.size;
   each = λ n l.
       let size : length (noted table key b) ≡ length table = noted_size table key b in
@@ -161,7 +161,7 @@ pub removed_step : (h : List Event) (b : ℕ) (table : List ℕ) → b < length 
 removed_step h b table inside tied =
     let e = (some_event h b inside).0 in
     let at_b : slice_get h b ≡ Some e = (some_event h b inside).1 in
-    turns_step h was_removed b table (option_and_then removed_of (slice_get h b)) (λ n. is_remove_of n e) inside (λ n. any_next (is_remove_of n) h b e at_b)
+    turns_step b table (option_and_then removed_of (slice_get h b)) (λ n. is_remove_of n e) inside (λ n. any_next (is_remove_of n) h b e at_b)
     (λ n was. ap (λ (o : Option Event). is_key (option_and_then removed_of o) n) at_b ∙ removes e n) tied
 
 pub taken_step : (h : List Event) (b : ℕ) (table : List ℕ) → b < length h → AreTurns h was_taken b table →
@@ -169,7 +169,7 @@ pub taken_step : (h : List Event) (b : ℕ) (table : List ℕ) → b < length h 
 taken_step h b table inside tied =
     let e = (some_event h b inside).0 in
     let at_b : slice_get h b ≡ Some e = (some_event h b inside).1 in
-    turns_step h was_taken b table (option_and_then taken_of (slice_get h b)) (λ n. is_take_of n e) inside (λ n. any_next (is_take_of n) h b e at_b)
+    turns_step b table (option_and_then taken_of (slice_get h b)) (λ n. is_take_of n e) inside (λ n. any_next (is_take_of n) h b e at_b)
     (λ n was. ap (λ (o : Option Event). is_key (option_and_then taken_of o) n) at_b ∙ takes e n) tied
 
 pub returned_step : (h : List Event) (b : ℕ) (table : List ℕ) → b < length h → AreTurns h was_returned b table →
@@ -177,5 +177,5 @@ pub returned_step : (h : List Event) (b : ℕ) (table : List ℕ) → b < length
 returned_step h b table inside tied =
     let e = (some_event h b inside).0 in
     let at_b : slice_get h b ≡ Some e = (some_event h b inside).1 in
-    turns_step h was_returned b table (option_and_then returned_of (slice_get h b)) (λ n. is_return_of n e) inside (λ n. any_next (is_return_of n) h b e at_b)
+    turns_step b table (option_and_then returned_of (slice_get h b)) (λ n. is_return_of n e) inside (λ n. any_next (is_return_of n) h b e at_b)
     (λ n was. ap (λ (o : Option Event). is_key (option_and_then returned_of o) n) at_b ∙ returned e n) tied

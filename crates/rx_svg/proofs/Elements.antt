@@ -2,14 +2,14 @@
 use Rattle.std.proofs.Common.{◌≡◌, ℕ, true, List, [], ◌∷◌, ◌++◌, map, ℤ, codes, refl, sym, subst, ◌∙◌, append_assoc}
 use Rattle.std.specs.Prelude.{◌==◌}
 use Rattle.std.specs.List.{list_all}
-use Rattle.std.proofs.lemmas.Bool.{and_from}
+use Rattle.std.proofs.lemmas.Bool.{and_from, and_parts}
 use Rattle.rx_note.specs.declared.note.Note.{Note}
 use Rattle.rx_note.specs.declared.note.Note.TheVariants.{Next, Project, End}
 use Rattle.rx_event.specs.declared.event.Event.{Event}
 use Rattle.rx_svg.specs.Parts.{Part, words, number, signed, text_of}
 use Rattle.rx_svg.specs.Label.{event_text}
 use Rattle.rx_svg.specs.Said.{note_text}
-use Rattle.rx_svg.specs.Stroke.{until_text, stretch_end, line_front, line_text, bar_front, bar_text, mark_text, code_text, leak_text}
+use Rattle.rx_svg.specs.Stroke.{Stretch, Look, until_text, stretch_end, line_front, line_text, bar_front, bar_text, mark_text, code_text, leak_text}
 use Rattle.rx_svg.specs.Stroke.{marble_shape, above_text, value_text, marble_front, by_text, marble_text, column_front, axis_text, column_text, broken_text}
 use Rattle.rx_svg.specs.WellFormed.{is_plain, are_distinct, IsContent, nothing}
 use Rattle.rx_svg.proofs.Characters.{both_are_plain, event_is_plain, note_is_plain}
@@ -47,44 +47,55 @@ until_is_plain : (until end : ℕ) → is_plain (until_text until end) ≡ true
 unfolding until_text text_of
 until_is_plain until end = both_are_plain (until == end) _ _ refl (parts_are_plain (words (codes ", until event ") ∷ number until ∷ []) refl)
 
-pub line_is_content : (class title : List ℕ) (from to y after until end : ℕ) → is_plain class ≡ true → is_plain title ≡ true
-    → IsContent (line_text class title from to y after until end)
+pub line_is_content : (class title : List ℕ) (s : Stretch) → are_plain (words class ∷ words title ∷ []) ≡ true → IsContent (line_text class title s)
 unfolding line_text line_front stretch_end text_of
-line_is_content class title from to y after until end c t =
-    let drawn : List Part = words (codes "M") ∷ number from ∷ words (codes " ") ∷ number y ∷ words (codes "H") ∷ number to ∷ [] in
-    let told : List Part = words title ∷ words (codes " from event ") ∷ number after ∷ words (until_text until end) ∷ [] in
+line_is_content class title s plain =
+    let of_class = and_parts (is_plain class) _ plain in
+    let of_title = and_parts (is_plain title) _ of_class.1 in
+    let drawn : List Part = words (codes "M") ∷ number s.from ∷ words (codes " ") ∷ number s.y ∷ words (codes "H") ∷ number s.to ∷ [] in
+    let told : List Part = words title ∷ words (codes " from event ") ∷ number s.after ∷ words (until_text s.until s.end) ∷ [] in
     let front : List Part =
-    words (codes "<path class=\"") ∷ words class ∷ words (codes "\" d=\"M") ∷ number from ∷ words (codes " ") ∷ number y
-    ∷ words (codes "H") ∷ number to ∷ words (codes "\"><title>") ∷ words title ∷ words (codes " from event ") ∷ number after ∷ [] in
-    subst IsContent (text_from-append front (words (until_text until end) ∷ words (codes "</title></path>\n") ∷ []))
-    (path_then class drawn told (words (codes "\n") ∷ []) c refl (and_from _ _ t (and_from _ _ (until_is_plain until end) refl)) newline)
+    words (codes "<path class=\"") ∷ words class ∷ words (codes "\" d=\"M") ∷ number s.from ∷ words (codes " ") ∷ number s.y
+    ∷ words (codes "H") ∷ number s.to ∷ words (codes "\"><title>") ∷ words title ∷ words (codes " from event ") ∷ number s.after ∷ [] in
+    subst IsContent (text_from-append front (words (until_text s.until s.end) ∷ words (codes "</title></path>\n") ∷ []))
+    (path_then class drawn told (words (codes "\n") ∷ []) of_class.0 refl
+    (and_from _ _ of_title.0 (and_from _ _ (until_is_plain s.until s.end) refl)) newline)
 
-pub bar_is_content : (class title above height : List ℕ) (from to y after until end : ℕ)
-    → is_plain class ≡ true → is_plain title ≡ true → is_plain above ≡ true → is_plain height ≡ true
-    → IsContent (bar_text class title above height from to y after until end)
+-- the words of a bar
+abbrev pub words_of : Look → List Part
+words_of look = words look.class ∷ words look.title ∷ words look.above ∷ words look.height ∷ []
+
+pub bar_is_content : (look : Look) (s : Stretch) → are_plain (words_of look) ≡ true → IsContent (bar_text look s)
 unfolding bar_text bar_front stretch_end text_of
-bar_is_content class title above height from to y after until end c t a h =
+bar_is_content look s plain =
+    let of_class = and_parts (is_plain look.class) _ plain in
+    let of_title = and_parts (is_plain look.title) _ of_class.1 in
+    let of_above = and_parts (is_plain look.above) _ of_title.1 in
+    let of_height = and_parts (is_plain look.height) _ of_above.1 in
     let drawn : List Part =
-    words (codes "M") ∷ number from ∷ words (codes " ") ∷ number y ∷ words (codes "m0 -") ∷ words above ∷ words (codes "H") ∷ number to
-    ∷ words (codes "v") ∷ words height ∷ words (codes "H") ∷ number from ∷ words (codes "z") ∷ [] in
-    let told : List Part = words title ∷ words (codes " from event ") ∷ number after ∷ words (until_text until end) ∷ [] in
+    words (codes "M") ∷ number s.from ∷ words (codes " ") ∷ number s.y ∷ words (codes "m0 -") ∷ words look.above ∷ words (codes "H") ∷ number s.to
+    ∷ words (codes "v") ∷ words look.height ∷ words (codes "H") ∷ number s.from ∷ words (codes "z") ∷ [] in
+    let told : List Part = words look.title ∷ words (codes " from event ") ∷ number s.after ∷ words (until_text s.until s.end) ∷ [] in
     let front : List Part =
-    words (codes "<path class=\"") ∷ words class ∷ words (codes "\" d=\"M") ∷ number from ∷ words (codes " ") ∷ number y
-    ∷ words (codes "m0 -") ∷ words above ∷ words (codes "H") ∷ number to ∷ words (codes "v") ∷ words height ∷ words (codes "H") ∷ number from
-    ∷ words (codes "z\"><title>") ∷ words title ∷ words (codes " from event ") ∷ number after ∷ [] in
-    subst IsContent (text_from-append front (words (until_text until end) ∷ words (codes "</title></path>\n") ∷ []))
-    (path_then class drawn told (words (codes "\n") ∷ []) c (and_from _ _ a (and_from _ _ h refl))
-    (and_from _ _ t (and_from _ _ (until_is_plain until end) refl)) newline)
+    words (codes "<path class=\"") ∷ words look.class ∷ words (codes "\" d=\"M") ∷ number s.from ∷ words (codes " ") ∷ number s.y
+    ∷ words (codes "m0 -") ∷ words look.above ∷ words (codes "H") ∷ number s.to ∷ words (codes "v") ∷ words look.height
+    ∷ words (codes "H") ∷ number s.from ∷ words (codes "z\"><title>") ∷ words look.title ∷ words (codes " from event ") ∷ number s.after ∷ [] in
+    subst IsContent (text_from-append front (words (until_text s.until s.end) ∷ words (codes "</title></path>\n") ∷ []))
+    (path_then look.class drawn told (words (codes "\n") ∷ []) of_class.0 (and_from _ _ of_above.0 (and_from _ _ of_height.0 refl))
+    (and_from _ _ of_title.0 (and_from _ _ (until_is_plain s.until s.end) refl)) newline)
 
 -- marks -------------------------------------------------------------------------------------------
 
-pub mark_is_content : (class shape title : List ℕ) (x y at : ℕ) → is_plain class ≡ true → is_plain shape ≡ true → is_plain title ≡ true
+pub mark_is_content : (class shape title : List ℕ) (x y at : ℕ) → are_plain (words class ∷ words shape ∷ words title ∷ []) ≡ true
     → IsContent (mark_text class shape title x y at)
 unfolding mark_text text_of
-mark_is_content class shape title x y at c s t =
+mark_is_content class shape title x y at plain =
+    let of_class = and_parts (is_plain class) _ plain in
+    let of_shape = and_parts (is_plain shape) _ of_class.1 in
+    let of_title = and_parts (is_plain title) _ of_shape.1 in
     let drawn : List Part = words (codes "M") ∷ number x ∷ words (codes " ") ∷ number y ∷ words shape ∷ [] in
     let told : List Part = words title ∷ words (codes " by event ") ∷ number at ∷ [] in
-    path_then class drawn told (words (codes "\n") ∷ []) c (and_from _ _ s refl) (and_from _ _ t refl) newline
+    path_then class drawn told (words (codes "\n") ∷ []) of_class.0 (and_from _ _ of_shape.0 refl) (and_from _ _ of_title.0 refl) newline
 
 pub leak_is_content : (x y : ℕ) → IsContent (leak_text x y)
 unfolding leak_text text_of

@@ -16,13 +16,14 @@ use Rattle.rx_picture.specs.declared.drawing.Drawing.{Drawing}
 use Rattle.rx_picture.specs.Rows.{lane_of}
 use Rattle.rx_svg.specs.Parts.{Part, words, number, text_of}
 use Rattle.rx_svg.specs.Label.{event_text}
-use Rattle.rx_svg.specs.Stroke.{mark_text, code_text, line_text, leak_text, bar_text, bar_shape, cross_shape, ring_shape, diamond_shape, tick_shape}
-use Rattle.rx_svg.specs.Lane.{x_of, y_of, has_lane, steps_of, label_front, label_text, ending_text, life_text, stretch_text}
+use Rattle.rx_svg.specs.Stroke.{Look, mark_text, code_text, line_text, leak_text, bar_text, bar_shape, cross_shape, ring_shape, diamond_shape, tick_shape}
+use Rattle.rx_svg.specs.Lane.{x_of, y_of, stretch_of, has_lane, steps_of, label_front, label_text, ending_text, life_text, stretch_text}
 use Rattle.rx_svg.specs.Lane.{owned_text, loan_text, wait_text, release_text, shape_text, name_text, row_text, use_text, tick_text, told_text}
-use Rattle.rx_svg.specs.WellFormed.{is_plain, IsContent, nothing}
+use Rattle.rx_svg.specs.WellFormed.{IsContent, nothing}
 use Rattle.rx_svg.proofs.Characters.{event_is_plain}
+use Rattle.rx_svg.proofs.Markup.{are_plain}
 use Rattle.rx_svg.proofs.Contents.{content_append, content_if}
-use Rattle.rx_svg.proofs.Elements.{valued, text_content, between, line_is_content, bar_is_content}
+use Rattle.rx_svg.proofs.Elements.{valued, text_content, between, words_of, line_is_content, bar_is_content}
 use Rattle.rx_svg.proofs.Elements.{mark_is_content, code_is_content, leak_is_content, marble_is_content}
 
 label_is_content : (x y n : ℕ) (made : Event) → IsContent (label_text x y n made)
@@ -41,47 +42,42 @@ name_is_content d n made = label_is_content (10 * steps_of d n made) (y_of d n) 
 
 ending_is_content : (x y at : ℕ) (ending : Ending) → IsContent (ending_text x y at ending)
 ending_is_content x y at Lasting = nothing
-ending_is_content x y at (Ended Completed) = mark_is_content (codes "mark") bar_shape (codes "completed") x y at refl refl refl
+ending_is_content x y at (Ended Completed) = mark_is_content (codes "mark") bar_shape (codes "completed") x y at refl
 ending_is_content x y at (Ended (Error code)) =
     content_append (mark_text (codes "mark") cross_shape (codes "ended with an error") x y at) (code_text x y code)
-    (mark_is_content (codes "mark") cross_shape (codes "ended with an error") x y at refl refl refl) (code_is_content x y code)
-ending_is_content x y at Disposed = mark_is_content (codes "ring") ring_shape (codes "closed") x y at refl refl refl
+    (mark_is_content (codes "mark") cross_shape (codes "ended with an error") x y at refl) (code_is_content x y code)
+ending_is_content x y at Disposed = mark_is_content (codes "ring") ring_shape (codes "closed") x y at refl
 
 life_is_content : (d : Drawing) (y n until end : ℕ) (ending : Ending) → IsContent (life_text d y n until end ending)
 life_is_content d y n until end ending =
-    let line = line_text (codes "life") (codes "open") (x_of d n) (x_of d until) y n until end in
+    let line = line_text (codes "life") (codes "open") (stretch_of d y n until end) in
     content_if (nat_lt n until) (line ++ ending_text (x_of d until) y until ending) []
     (content_append line (ending_text (x_of d until) y until ending)
-    (line_is_content (codes "life") (codes "open") (x_of d n) (x_of d until) y n until end refl refl)
+    (line_is_content (codes "life") (codes "open") (stretch_of d y n until end) refl)
     (ending_is_content (x_of d until) y until ending)) nothing
 
-stretch_is_content : (d : Drawing) (class title above height : List ℕ) (y after until end : ℕ)
-    → is_plain class ≡ true → is_plain title ≡ true → is_plain above ≡ true → is_plain height ≡ true
-    → IsContent (stretch_text d class title above height y after until end)
-stretch_is_content d class title above height y after until end c t a h =
-    content_if (nat_lt after until) (bar_text class title above height (x_of d after) (x_of d until) y after until end) []
-    (bar_is_content class title above height (x_of d after) (x_of d until) y after until end c t a h) nothing
+stretch_is_content : (d : Drawing) (look : Look) (y after until end : ℕ) → are_plain (words_of look) ≡ true
+    → IsContent (stretch_text d look y after until end)
+stretch_is_content d look y after until end plain =
+    content_if (nat_lt after until) (bar_text look (stretch_of d y after until end)) [] (bar_is_content look (stretch_of d y after until end) plain) nothing
 
 owned_is_content : (d : Drawing) (y after until end : ℕ) → IsContent (owned_text d y after until end)
-owned_is_content d y after until end =
-    stretch_is_content d (codes "held") (codes "held by its node") (codes "5") (codes "10") y after until end refl refl refl refl
+owned_is_content d y after until end = stretch_is_content d _ y after until end refl
 
 loan_is_content : (d : Drawing) (y after until end : ℕ) → IsContent (loan_text d y after until end)
-loan_is_content d y after until end =
-    stretch_is_content d (codes "held") (codes "held by a lease") (codes "3") (codes "6") y after until end refl refl refl refl
+loan_is_content d y after until end = stretch_is_content d _ y after until end refl
 
 wait_is_content : (d : Drawing) (y after until end : ℕ) → IsContent (wait_text d y after until end)
-wait_is_content d y after until end =
-    stretch_is_content d (codes "waiting") (codes "waits, but where a lease holds it,") (codes "5") (codes "10") y after until end refl refl refl refl
+wait_is_content d y after until end = stretch_is_content d _ y after until end refl
 
 release_is_content : (d : Drawing) (y taken end : ℕ) → IsContent (release_text d y taken end)
 release_is_content d y taken end =
     content_if (taken == end) (leak_text (x_of d end) y) (mark_text (codes "mark") diamond_shape (codes "released") (x_of d taken) y taken)
-    (leak_is_content (x_of d end) y) (mark_is_content (codes "mark") diamond_shape (codes "released") (x_of d taken) y taken refl refl refl)
+    (leak_is_content (x_of d end) y) (mark_is_content (codes "mark") diamond_shape (codes "released") (x_of d taken) y taken refl)
 
 shape_is_content : (d : Drawing) (y n end : ℕ) (shape : Shape) → IsContent (shape_text d y n end shape)
 shape_is_content d y n end (Node until ending) = life_is_content d y n until end ending
-shape_is_content d y n end Hub = line_is_content (codes "hub") (codes "a hub") (x_of d n) (x_of d end) y n end end refl refl
+shape_is_content d y n end Hub = line_is_content (codes "hub") (codes "a hub") (stretch_of d y n end end) refl
 shape_is_content d y n end (Resource after until taken) =
     let waits = wait_text d y n after end in
     let waits_again = wait_text d y until taken end in
@@ -102,7 +98,7 @@ row_is_content d end row =
 use_is_content : (d : Drawing) (place : ℕ) (event : Event) → IsContent (use_text d place event)
 use_is_content d place (Use r) =
     content_if (has_lane d r) (mark_text (codes "tick") tick_shape (codes "used") (x_of d place) (y_of d r) place) []
-    (mark_is_content (codes "tick") tick_shape (codes "used") (x_of d place) (y_of d r) place refl refl refl) nothing
+    (mark_is_content (codes "tick") tick_shape (codes "used") (x_of d place) (y_of d r) place refl) nothing
 use_is_content d place event = nothing
 
 pub tick_is_content : (d : Drawing) (point : Point) → IsContent (tick_text d point)

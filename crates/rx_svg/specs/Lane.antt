@@ -14,7 +14,7 @@ use Rattle.rx_picture.specs.declared.drawing.Drawing.{Drawing}
 use Rattle.rx_picture.specs.Rows.{lane_of}
 use Rattle.rx_svg.specs.Parts.{words, number, text_of}
 use Rattle.rx_svg.specs.Label.{event_text}
-use Rattle.rx_svg.specs.Stroke.{line_text, bar_text, mark_text, code_text, leak_text}
+use Rattle.rx_svg.specs.Stroke.{Stretch, Look, line_text, bar_text, mark_text, code_text, leak_text}
 use Rattle.rx_svg.specs.Stroke.{marble_text, bar_shape, cross_shape, ring_shape, diamond_shape, tick_shape}
 
 -- where things stand --------------------------------------------------------------------------------
@@ -30,6 +30,10 @@ y_of d n = 48 + 24 * min (slice_index_or d.lanes.items n 0) 200
 -- the number has a lane that is shown
 abbrev pub has_lane : Drawing → ℕ → Bool
 has_lane d n = nat_lt n (length d.lanes.items) && nat_lt (slice_index_or d.lanes.items n 0) (slice_index_or d.lanes.items (n + 1) 0)
+
+-- the stretch of a lane between two events, of so many
+abbrev pub stretch_of : Drawing → ℕ → ℕ → ℕ → ℕ → Stretch
+stretch_of d y after until end = record { from = x_of d after; to = x_of d until; y = y; after = after; until = until; end = end }
 
 -- deeper nodes begin further to the right, and a resource one step behind its node
 abbrev pub steps_of : Drawing → ℕ → Event → ℕ
@@ -57,22 +61,22 @@ ending_text x y at Disposed = mark_text (codes "ring") ring_shape (codes "closed
 abbrev pub life_text : Drawing → ℕ → ℕ → ℕ → ℕ → Ending → List ℕ
 life_text d y n until end ending =
     if nat_lt n until
-    then line_text (codes "life") (codes "open") (x_of d n) (x_of d until) y n until end ++ ending_text (x_of d until) y until ending
+    then line_text (codes "life") (codes "open") (stretch_of d y n until end) ++ ending_text (x_of d until) y until ending
     else []
 
 -- a full bar while the node owns it, a lower one while a lease is out, and a hollow one while neither is said of it
-abbrev pub stretch_text : Drawing → List ℕ → List ℕ → List ℕ → List ℕ → ℕ → ℕ → ℕ → ℕ → List ℕ
-stretch_text d class title above height y after until end =
-    if nat_lt after until then bar_text class title above height (x_of d after) (x_of d until) y after until end else []
+abbrev pub stretch_text : Drawing → Look → ℕ → ℕ → ℕ → ℕ → List ℕ
+stretch_text d look y after until end = if nat_lt after until then bar_text look (stretch_of d y after until end) else []
 
 abbrev pub owned_text : Drawing → ℕ → ℕ → ℕ → ℕ → List ℕ
-owned_text d = stretch_text d (codes "held") (codes "held by its node") (codes "5") (codes "10")
+owned_text d = stretch_text d (record { class = codes "held"; title = codes "held by its node"; above = codes "5"; height = codes "10" })
 
 abbrev pub loan_text : Drawing → ℕ → ℕ → ℕ → ℕ → List ℕ
-loan_text d = stretch_text d (codes "held") (codes "held by a lease") (codes "3") (codes "6")
+loan_text d = stretch_text d (record { class = codes "held"; title = codes "held by a lease"; above = codes "3"; height = codes "6" })
 
 abbrev pub wait_text : Drawing → ℕ → ℕ → ℕ → ℕ → List ℕ
-wait_text d = stretch_text d (codes "waiting") (codes "waits, but where a lease holds it,") (codes "5") (codes "10")
+wait_text d =
+    stretch_text d (record { class = codes "waiting"; title = codes "waits, but where a lease holds it,"; above = codes "5"; height = codes "10" })
 
 -- a diamond where it is released, an arrow where it never was
 abbrev pub release_text : Drawing → ℕ → ℕ → ℕ → List ℕ
@@ -81,7 +85,7 @@ release_text d y taken end =
 
 abbrev pub shape_text : Drawing → ℕ → ℕ → ℕ → Shape → List ℕ
 shape_text d y n end (Node until ending) = life_text d y n until end ending
-shape_text d y n end Hub = line_text (codes "hub") (codes "a hub") (x_of d n) (x_of d end) y n end end
+shape_text d y n end Hub = line_text (codes "hub") (codes "a hub") (stretch_of d y n end end)
 shape_text d y n end (Resource after until taken) =
     wait_text d y n after end ++ wait_text d y until taken end ++ owned_text d y after until end ++ release_text d y taken end
 shape_text d y n end (Loan resource until) = loan_text d y n until end

@@ -9,6 +9,22 @@ use Rattle.rx_svg.specs.Said.{note_text}
 
 -- stretches ---------------------------------------------------------------------------------------
 
+-- a stretch of a lane: from which x to which, at which y, and after which event, until which one, of how many
+pub record Stretch : Type 0 where
+  pub from : ℕ
+  pub to : ℕ
+  pub y : ℕ
+  pub after : ℕ
+  pub until : ℕ
+  pub end : ℕ
+
+-- how a bar looks: its class, the words of its title, so high above its middle and so high in all
+pub record Look : Type 0 where
+  pub class : List ℕ
+  pub title : List ℕ
+  pub above : List ℕ
+  pub height : List ℕ
+
 -- what ends with the history has no event that ends it
 unfoldable pub until_text : ℕ → ℕ → List ℕ
 until_text until end = if until == end then codes " on" else text_of (words (codes ", until event ") ∷ number until ∷ [])
@@ -23,19 +39,18 @@ line_front class title from to y after =
     text_of (words (codes "<path class=\"") ∷ words class ∷ words (codes "\" d=\"M") ∷ number from ∷ words (codes " ") ∷ number y
     ∷ words (codes "H") ∷ number to ∷ words (codes "\"><title>") ∷ words title ∷ words (codes " from event ") ∷ number after ∷ [])
 
-unfoldable pub line_text : List ℕ → List ℕ → ℕ → ℕ → ℕ → ℕ → ℕ → ℕ → List ℕ
-line_text class title from to y after until end = line_front class title from to y after ++ stretch_end until end
+unfoldable pub line_text : List ℕ → List ℕ → Stretch → List ℕ
+line_text class title s = line_front class title s.from s.to s.y s.after ++ stretch_end s.until s.end
 
--- a bar between two places, so high above its middle and so high in all
+-- a bar between two places: its front, and the whole
 unfoldable pub bar_front : List ℕ → List ℕ → List ℕ → List ℕ → ℕ → ℕ → ℕ → ℕ → List ℕ
 bar_front class title above height from to y after =
     text_of (words (codes "<path class=\"") ∷ words class ∷ words (codes "\" d=\"M") ∷ number from ∷ words (codes " ") ∷ number y
     ∷ words (codes "m0 -") ∷ words above ∷ words (codes "H") ∷ number to ∷ words (codes "v") ∷ words height ∷ words (codes "H") ∷ number from
     ∷ words (codes "z\"><title>") ∷ words title ∷ words (codes " from event ") ∷ number after ∷ [])
 
-unfoldable pub bar_text : List ℕ → List ℕ → List ℕ → List ℕ → ℕ → ℕ → ℕ → ℕ → ℕ → ℕ → List ℕ
-bar_text class title above height from to y after until end =
-    bar_front class title above height from to y after ++ stretch_end until end
+unfoldable pub bar_text : Look → Stretch → List ℕ
+bar_text look s = bar_front look.class look.title look.above look.height s.from s.to s.y s.after ++ stretch_end s.until s.end
 
 -- marks -------------------------------------------------------------------------------------------
 

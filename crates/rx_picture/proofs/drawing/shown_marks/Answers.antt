@@ -6,5 +6,5 @@ use Rattle.rx_picture.proofs.drawing.shown_marks.Goals as goal
 
 pub returns : goal.returns
 returns c =
-    marks_chosen _ _ _ (is_left c.args.events.now) (at is_drawn c.args.events.now) 200 (length c.args.events.now) c.in_ok-left.ensures c.requires.drawn
+    marks_chosen _ (is_left c.args.events.now) (at is_drawn c.args.events.now) 200 (length c.args.events.now) c.in_ok-left.ensures c.requires.drawn
     (rw c.deref.ensures.value at c.in_ok-chosen.ensures.chosen)
