@@ -124,10 +124,11 @@ pub record IsReady (Ever : Placed → Type 0) (now : Turn) (next : Origin) (g : 
 
 -- later on, and said of the same steps in other words ----------------------------------------------
 
-abbrev pub labelled_as : (Ever Same : Placed → Type 0) (next beyond : Origin) (tickets : ℕ) (work : List Entry) (labels : List Binding)
+abbrev pub labelled_as : {Ever : Placed → Type 0} (Same : Placed → Type 0) {next : Origin} (beyond : Origin) {tickets : ℕ} (work : List Entry)
+    (labels : List Binding)
     → ((o : Origin) → IsScheduledBefore o next → IsScheduledBefore o beyond) → ((y : Placed) → Same y → Ever y) → ((y : Placed) → Ever y → Same y)
     → IsLabelled Ever next tickets work labels → IsLabelled Same beyond tickets work labels
-labelled_as Ever Same next beyond tickets work labels on to from was = record {
+labelled_as Same beyond work labels on to from was = record {
   unbound = λ l free y ever. was.unbound l free y (to y ever);
   first = λ l t w known there. let both = was.first l t w known there in (both.0, λ y ever. both.1 y (to y ever));
   given = was.given;
@@ -136,10 +137,11 @@ labelled_as Ever Same next beyond tickets work labels on to from was = record {
   bears = λ l f there waits first. was.bears l f there waits (λ y ever. first y (from y ever));
 }
 
-abbrev pub ready_later : (Ever Same : Placed → Type 0) (now : Turn) (next beyond : Origin) (g : PlacedAgenda) → IsScheduledBefore next beyond
+abbrev pub ready_later : {Ever : Placed → Type 0} (Same : Placed → Type 0) {now : Turn} (next beyond : Origin) (g : PlacedAgenda) →
+    IsScheduledBefore next beyond
     → ((y : Placed) → Same y → Ever y)
     → ((y : Placed) → Ever y → Same y) → IsReady Ever now next g → IsReady Same now beyond g
-ready_later Ever Same now next beyond g on to from r = record {
+ready_later Same {now} next beyond g on to from r = record {
   clock = r.clock;
   rises = r.rises;
   entries = λ e there. let was = r.entries e there in record {
@@ -154,6 +156,6 @@ ready_later Ever Same now next beyond g on to from r = record {
   members = λ x there. let was = r.members x there in
       record { in_turn = was.in_turn; at_once = was.at_once; known = scheduled-trans x.origin next beyond was.known on };
   head = scheduled-trans now.head next beyond r.head on;
-  labelled = labelled_as Ever Same next beyond g.timeline.tickets g.timeline.work g.labels
+  labelled = labelled_as Same beyond g.timeline.work g.labels
       (λ o before. scheduled-trans o next beyond before on) to from r.labelled;
 }

@@ -28,19 +28,19 @@ held_over steps one other k x agree (by_scenario i s got) below = by_scenario i 
 held_over steps one other k x agree (by_step j i e s there accepted got) below = by_step j i e s (sym (agree j (omega arith)) ∙ there) accepted got
 
 -- a step is told by where it is held
-step_told : (steps : List Step) (one other : List Executed) (k : ℕ) (x y : Placed) → Agrees one other k → IsHeld steps one x → IsHeld steps other y
+step_told : {steps : List Step} {one other : List Executed} (k : ℕ) (x y : Placed) → Agrees one other k → IsHeld steps one x → IsHeld steps other y
     → x.origin.holder ≤ k
     → x.origin ≡ y.origin → x.step ≡ y.step
-step_told steps one other k x y agree (by_scenario i s got) (by_scenario j t had) below same =
+step_told {steps} k x y agree (by_scenario i s got) (by_scenario j t had) below same =
     let place : i + 1 ≡ j + 1 = ap (λ (o : Origin). o.place) same in
     let at : i ≡ j = omega arith in
     let both : Some s ≡ Some t = sym got ∙ ap (slice_get steps) at ∙ had in
     cc
-step_told steps one other k x y agree (by_scenario i s got) (by_step m j f t there accepted had) below same =
+step_told k x y agree (by_scenario i s got) (by_step m j f t there accepted had) below same =
     let holder : 0 ≡ m + 1 = ap (λ (o : Origin). o.holder) same in absurd (omega arith)
-step_told steps one other k x y agree (by_step m i e s there accepted got) (by_scenario j t had) below same =
+step_told k x y agree (by_step m i e s there accepted got) (by_scenario j t had) below same =
     let holder : m + 1 ≡ 0 = ap (λ (o : Origin). o.holder) same in absurd (omega arith)
-step_told steps one other k x y agree (by_step m i e s there accepted got) (by_step n j f t there_too accepted_too had) below same =
+step_told {other} k x y agree (by_step m i e s there accepted got) (by_step n j f t there_too accepted_too had) below same =
     let holder : m + 1 ≡ n + 1 = ap (λ (o : Origin). o.holder) same in
     let number : m ≡ n = omega arith in
     let place : i + 1 ≡ j + 1 = ap (λ (o : Origin). o.place) same in
@@ -194,7 +194,7 @@ module _ (steps : List Step) (until : ℕ) (one other : List Executed) (first : 
     | inr same ↦
         let x_due : IsDue steps until one x.placed = first.only_due x.placed (record { number = k; by = x; there = at_a; same = refl }) in
         let y_due : IsDue steps until other y.placed = second.only_due y.placed (record { number = k; by = y; there = at_b; same = refl }) in
-        let step : x.placed.step ≡ y.placed.step = step_told steps one other k x.placed y.placed agree x_due.held y_due.held
+        let step : x.placed.step ≡ y.placed.step = step_told k x.placed y.placed agree x_due.held y_due.held
         (first.behind_holder k x at_a) same.1 in
         let placed : x.placed ≡ y.placed = λ i. record { step = step i; origin = same.1 i; turn = same.0 i } in
         let answer : x.answer ≡ y.answer = alike k agree x y at_a at_b placed in
@@ -275,13 +275,15 @@ module _ (steps : List Step) (one other : List Executed) (k : ℕ) (agree : Agre
   }
 
 -- and so it is answered the same
-pub cancel_alike : (steps : List Step) (one other : List Executed) (k : ℕ) → Agrees one other k → (x y : Executed) → x.placed ≡ y.placed → (label : Name)
+pub cancel_alike : {steps : List Step} {one other : List Executed} {k : ℕ} → Agrees one other k → {x : Executed} (y : Executed) → x.placed ≡ y.placed →
+    (label : Name)
     → (a b : Answer) → IsAnswered steps one label k x a → IsAnswered steps other label k y b → a ≡ b
-cancel_alike steps one other k agree x y same label a b (one_waits w) (one_waits v) = refl
-cancel_alike steps one other k agree x y same label a b (one_waits w) (no_step_waits none) = absurd (none (waits_over steps one other k agree x y same label w))
-cancel_alike steps one other k agree x y same label a b (no_step_waits none) (one_waits v) =
+cancel_alike agree y same label a b (one_waits w) (one_waits v) = refl
+cancel_alike {steps} {one} {other} {k} agree {x} y same label a b (one_waits w) (no_step_waits none) = absurd
+    (none (waits_over steps one other k agree x y same label w))
+cancel_alike {steps} {one} {other} {k} agree {x} y same label a b (no_step_waits none) (one_waits v) =
     absurd (none (waits_over steps other one k (agrees-sym one other k agree) y x (sym same) label v))
-cancel_alike steps one other k agree x y same label a b (no_step_waits none) (no_step_waits also) = refl
+cancel_alike agree y same label a b (no_step_waits none) (no_step_waits also) = refl
 
 -- a step stands behind the head of its turn --------------------------------------------------------
 

@@ -31,22 +31,22 @@ record ActsPlaced (Ever : Placed → Type 0) (now : Turn) (next : Origin) (g : P
   is_seen : b ≡ seen left
   well : ActsWell Ever now next g s answer left
 
-acts_placed : (Ever : Placed → Type 0) (now : Turn) (next : Origin) (g : PlacedAgenda) (s : Step) (answer : Answer) → IsReady Ever now next g
-    → ((y : Placed) → IsPending g y → Ever y) → (a b : Agenda) (action : Action) → s.action ≡ action → a ≡ seen g → Acts a action answer b
+acts_placed : {Ever : Placed → Type 0} {now : Turn} {next : Origin} {g : PlacedAgenda} (s : Step) {answer : Answer} → IsReady Ever now next g
+    → ((y : Placed) → IsPending g y → Ever y) → {a : Agenda} (b : Agenda) (action : Action) → s.action ≡ action → a ≡ seen g → Acts a action answer b
     → ActsPlaced Ever now next g s answer b
-acts_placed Ever now next g s answer r ever a b action is same (does_command {c}) =
+acts_placed {Ever} {now} {next} {g} s {answer} r ever b action is same (does_command {c}) =
     record { left = g; is_seen = same; well = command_well Ever now next g s answer r c is }
-acts_placed Ever now next g s answer r ever a b action is same (does_cancel {label} cancels) =
+acts_placed {Ever} {now} {next} {g} s {answer} r ever b action is same (does_cancel {label} cancels) =
     let t = takes_seen g label answer b (subst (λ (x : Agenda). Cancels x label answer b) same cancels) in
     record { left = t.left; is_seen = t.is_seen; well = cancel_well Ever now next g s answer r label t.left is ever t.takes_off }
 
 module _ (steps : List Step) (until : ℕ) where
   -- what follows the step joins, or is dropped
-  follows : (done : List (Step × Answer)) (a b : Agenda) (here : Reaches steps until done a) (p : Placed) (mid left : PlacedAgenda) (answer : Answer)
+  follows : {done : List (Step × Answer)} {a : Agenda} (b : Agenda) (here : Reaches steps until done a) {p : Placed} (mid left : PlacedAgenda) (answer : Answer)
       → PopsWell (IsHeld steps here.executed) until here.now (held_by (length here.executed) here.so_far.at.place) here.agenda p mid
       → ActsWell (IsHeld steps here.executed) p.turn (held_by (length here.executed) here.so_far.at.place) mid p.step answer left
       → b ≡ seen left → Reaches steps until (done ++ (p.step, answer) ∷ []) (followed_by answer (list_of p.step.followers) b)
-  follows done a b here p mid left Accepted pops acts same =
+  follows b here {p} mid left Accepted pops acts same =
       let e : Executed = record { placed = p; answer = Accepted } in
       let next : PlacedAgenda = with_all p.turn (length here.executed + 1) 0 (list_of p.step.followers) left in
       record {
@@ -57,7 +57,7 @@ module _ (steps : List Step) (until : ℕ) where
         now = p.turn;
         so_far = so_far_accepted steps until here.executed here.agenda here.now here.so_far e mid left pops acts refl;
       }
-  follows done a b here p mid left (Refused why) pops acts same =
+  follows b here {p} mid left (Refused why) pops acts same =
       let e : Executed = record { placed = p; answer = Refused why } in
       record {
         executed = here.executed ++ e ∷ [];
@@ -68,10 +68,10 @@ module _ (steps : List Step) (until : ℕ) where
         so_far = so_far_refused steps until here.executed here.agenda here.now here.so_far e mid left pops acts (λ is. absurd (cc));
       }
 
-  reaches_more : (done : List (Step × Answer)) (a rest b : Agenda) (s : Step) (answer : Answer) → Reaches steps until done a → next_step until a ≡ Some
+  reaches_more : {done : List (Step × Answer)} (a rest b : Agenda) (s : Step) (answer : Answer) → Reaches steps until done a → next_step until a ≡ Some
       (s, rest)
       → Acts rest s.action answer b → Reaches steps until (done ++ (s, answer) ∷ []) (followed_by answer (list_of s.followers) b)
-  reaches_more done a rest b s answer here comes acts =
+  reaches_more {done} a rest b s answer here comes acts =
       let g : PlacedAgenda = here.agenda in
       let comes_seen : next_step until (seen g) ≡ Some (s, rest) = subst (λ (x : Agenda). next_step until x ≡ Some (s, rest)) here.is_seen comes in
       let popped : PopsSeen until g s rest = pops_seen until g.timeline g.labels g.turn s rest comes_seen in
@@ -79,10 +79,10 @@ module _ (steps : List Step) (until : ℕ) where
       let well : PopsWell (IsHeld steps here.executed) until here.now next g popped.placed popped.left =
       pops_well (IsHeld steps here.executed) until here.now next g here.so_far.at.ready popped.placed popped.left popped.pops in
       let acted : ActsPlaced (IsHeld steps here.executed) popped.placed.turn next popped.left popped.placed.step answer b =
-      acts_placed (IsHeld steps here.executed) popped.placed.turn next popped.left popped.placed.step answer well.ready
-      (λ y at. here.so_far.held y (well.comes y at).0) rest b s.action (ap (λ (t : Step). t.action) popped.step) popped.is_seen acts in
+      acts_placed popped.placed.step well.ready
+      (λ y at. here.so_far.held y (well.comes y at).0) b s.action (ap (λ (t : Step). t.action) popped.step) popped.is_seen acts in
       subst (λ (t : Step). Reaches steps until (done ++ (t, answer) ∷ []) (followed_by answer (list_of t.followers) b)) popped.step
-      (follows done a b here popped.placed popped.left acted.left answer well acted.well acted.is_seen)
+      (follows b here popped.left acted.left answer well acted.well acted.is_seen)
 
   reaches : (done : List (Step × Answer)) (a : Agenda) → HaveCome until (with_steps steps empty_agenda) done a → Reaches steps until done a
   reaches done a none_yet = record {
@@ -94,7 +94,7 @@ module _ (steps : List Step) (until : ℕ) where
     so_far = so_far_none steps until;
   }
   reaches done a (one_more {done = before} {a = mid} {rest} {b} {s} {answer} run comes acts) =
-      reaches_more before mid rest b s answer (reaches before mid run) comes acts
+      reaches_more mid rest b s answer (reaches before mid run) comes acts
 
 pub runs_in_order : RunsAreInOrder
 runs_in_order steps until done left run over =

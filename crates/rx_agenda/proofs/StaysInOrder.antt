@@ -207,11 +207,11 @@ module _ (steps : List Step) (until : ℕ) (es : List Executed) (g : PlacedAgend
       let to : (y : Placed) → IsPending (with_all e.placed.turn (length es + 1) 0 followers left) y → IsPending left y ⊎ Joins y =
       λ y at. elim (pending_all e.placed.turn (length es + 1) 0 followers left y at) [ inl before ↦ inl before | inr one ↦ inr (accepted, one) ] in
       let ready : IsReady (IsHeld steps es) e.placed.turn (held_by (length es + 1) 0) left =
-      ready_later (IsHeld steps es) (IsHeld steps es) e.placed.turn (held_by (length es) so.at.place) (held_by (length es + 1) 0) left (inl (omega arith))
+      ready_later (IsHeld steps es) (held_by (length es) so.at.place) (held_by (length es + 1) 0) left (inl (omega arith))
       (λ y held. held) (λ y held. held) a.ready in
       record {
         at = subst (λ (n : ℕ). IsReadyAt (IsHeld steps more) e.placed.turn n (with_all e.placed.turn (length es + 1) 0 followers left)) one_longer
-            (ready_all (IsHeld steps es) (IsHeld steps more) e.placed.turn (length es + 1) 0 followers left ready
+            (ready_all (IsHeld steps es) (IsHeld steps more) (length es + 1) 0 followers ready
             (λ y held. elim (held_cases steps es e y held) [ inl old ↦ inl old | inr joins ↦ inr joins.1 ])
             (λ y each. elim each [ inl old ↦ held_more steps es e y old | inr one ↦ one_held steps es e accepted y one ]));
         held = λ y at. held_then y (to y at);
@@ -236,7 +236,7 @@ module _ (steps : List Step) (until : ℕ) (es : List Executed) (g : PlacedAgend
   so_far_refused refused = record {
     at = subst (λ (n : ℕ). IsReadyAt (IsHeld steps more) e.placed.turn n left) one_longer (record {
       place = 0;
-      ready = ready_later (IsHeld steps es) (IsHeld steps more) e.placed.turn (held_by (length es) so.at.place) (held_by (length es + 1) 0) left
+      ready = ready_later (IsHeld steps more) (held_by (length es) so.at.place) (held_by (length es + 1) 0) left
           (inl (omega arith))
           (λ y held. elim (held_cases steps es e y held) [ inl old ↦ old | inr joins ↦ absurd (refused joins.0) ]) (held_more steps es e) a.ready;
     });
@@ -304,7 +304,7 @@ module _ (steps : List Step) (until : ℕ) where
 
   pub so_far_none : IsSoFar steps until [] (with_all opening_turn 0 0 steps no_agenda) opening_turn
   so_far_none = record {
-    at = ready_all NoneEver (IsHeld steps []) opening_turn 0 0 steps no_agenda none_ready (λ y held. inr (held_first y held))
+    at = ready_all NoneEver (IsHeld steps []) 0 0 steps none_ready (λ y held. inr (held_first y held))
         (λ y each. elim each [ inl none ↦ absurd none | inr one ↦ first_held y one ]);
     held = λ y at. first_held y (first_pending y at);
     after = λ k e x got at. absurd (cc);

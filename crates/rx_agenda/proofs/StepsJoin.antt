@@ -242,12 +242,12 @@ module _ (Ever : Placed → Type 0) (x : Placed) (next beyond : Origin) (at : x.
 next_place : (h i : ℕ) → IsScheduledBefore (held_by h i) (held_by h (i + 1))
 next_place h i = inr (refl, omega arith)
 
-pub ready_one : (Ever : Placed → Type 0) (now : Turn) (h i : ℕ) (s : Step) (g : PlacedAgenda) → IsReady Ever now (held_by h i) g
+pub ready_one : {Ever : Placed → Type 0} (now : Turn) (h i : ℕ) (s : Step) (g : PlacedAgenda) → IsReady Ever now (held_by h i) g
     → (delay : Option ℕ) → s.delay ≡ delay
     → IsReady (OrOne Ever (placed_at now (held_by h i) s)) now (held_by h (i + 1)) (with_placed_after delay (placed_at now (held_by h i) s) g)
-ready_one Ever now h i s g r None is = ready_turn Ever (placed_at now (held_by h i) s) (held_by h i) (held_by h (i + 1)) refl (next_place h i) now g r
+ready_one {Ever} now h i s g r None is = ready_turn Ever (placed_at now (held_by h i) s) (held_by h i) (held_by h (i + 1)) refl (next_place h i) now g r
     (ap (turn_after now (held_by h i)) is) (ap is_some is)
-ready_one Ever now h i s g r (Some delay) is = ready_wait Ever (placed_at now (held_by h i) s) (held_by h i) (held_by h (i + 1)) refl
+ready_one {Ever} now h i s g r (Some delay) is = ready_wait Ever (placed_at now (held_by h i) s) (held_by h i) (held_by h (i + 1)) refl
     (next_place h i) now g r delay (ap (turn_after now (held_by h i)) is) (ap is_some is)
 
 pending_one : (delay : Option ℕ) (x y : Placed) (g : PlacedAgenda) → IsPending (with_placed_after delay x g) y → IsPending g y ⊎ (y ≡ x)
@@ -309,21 +309,21 @@ ready_as Ever Same now next g to from r = record {
   turn_rises = r.turn_rises;
   members = r.members;
   head = r.head;
-  labelled = labelled_as Ever Same next next g.timeline.tickets g.timeline.work g.labels (λ o before. before) to from r.labelled;
+  labelled = labelled_as Same next g.timeline.work g.labels (λ o before. before) to from r.labelled;
 }
 
-pub ready_all : (Ever Same : Placed → Type 0) (now : Turn) (h i : ℕ) (ss : List Step) (g : PlacedAgenda) → IsReady Ever now (held_by h i) g
+pub ready_all : (Ever Same : Placed → Type 0) {now : Turn} (h i : ℕ) (ss : List Step) {g : PlacedAgenda} → IsReady Ever now (held_by h i) g
     → ((y : Placed) → Same y → Ever y ⊎ IsOneOf now h i ss y) → ((y : Placed) → Ever y ⊎ IsOneOf now h i ss y → Same y) → IsReadyAt Same now h
     (with_all now h i ss g)
-ready_all Ever Same now h i [] g r to from =
+ready_all Ever Same {now} h i [] {g} r to from =
     record {
       place = i;
       ready = ready_as Ever Same now (held_by h i) g (λ y same. elim (to y same) [ inl ever ↦ ever | inr none ↦ absurd none ])
           (λ y ever. from y (inl ever)) r;
     }
-ready_all Ever Same now h i (s ∷ ss) g r to from =
+ready_all Ever Same {now} h i (s ∷ ss) {g} r to from =
     let x : Placed = placed_at now (held_by h i) s in
-    ready_all (OrOne Ever x) Same now h (i + 1) ss (with_placed x g) (ready_one Ever now h i s g r s.delay refl)
+    ready_all (OrOne Ever x) Same h (i + 1) ss (ready_one now h i s g r s.delay refl)
     (λ y same. elim (to y same) [
       | inl ever ↦ inl (inl ever)
       | inr one ↦ elim one [ inl is ↦ inl (inr is) | inr more ↦ inr more ]

@@ -30,9 +30,9 @@ at-push p h e n = by_order (cases_order (length h) n) where
   by_order (inr (inr older)) = at-append p h (e ∷ []) n older ∙ at_end false (ne_eqb (length h) n (omega arith))
 
 -- a node that is told something, and an event that makes none
-pub told_more : (h : List Event) (e : Event) (n place : ℕ) (old new : Bool) → place ≡ length h → is_told e ≡ true
+pub told_more : (h : List Event) (e : Event) (n : ℕ) {place : ℕ} {old : Bool} (new : Bool) → place ≡ length h → is_told e ≡ true
     → old ≡ at is_told h n → new ≡ cond (place == n) true old → new ≡ at is_told (h ++ e ∷ []) n
-told_more h e n place old new is told before here =
+told_more h e n new is told before here =
     here ∙ (λ i. cond (is i == n) (sym told i) (before i)) ∙ sym (at-push is_told h e n)
 
 pub told_same : (h : List Event) (e : Event) (n : ℕ) → is_told e ≡ false → at is_told h n ≡ at is_told (h ++ e ∷ []) n

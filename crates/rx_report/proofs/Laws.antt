@@ -42,18 +42,24 @@ same_of_number f xs a b once p q e =
     (λ above. once q.0 p.0 (f a) above (omega arith) (at_b ∙ sym at_a)) apart)) (cases_order p.0 q.0) in
     sym p.2 ∙ get_or_default xs p.0 a b p.1 ∙ ap (λ i. get_or xs i b) same ∙ q.2
 
+-- the numbers of the list's members are just those that pass the test
+pub record AreNumbered {A : Type 0} (f : A → ℕ) (test : ℕ → Bool) (xs : List A) : Type 0 where
+  pub just : AreJust test (map f xs)
+
+pub numbered : {A : Type 0} (f : A → ℕ) {test : ℕ → Bool} (xs : List A) → AreJust test (map f xs) → AreNumbered f test xs
+numbered f xs just = record { just = just }
+
 -- a key whose number is still good keeps standing in the list
-pub key_kept : {A : Type 0} (f : A → ℕ) (was is : ℕ → Bool) (old new : List A) (bound : ℕ) (k : A)
-    → AreJust was (map f old) → AreJust is (map f new) → ((j : A) → Contains new j → f j < bound → Contains old j)
-    → f k < bound → (IsTrue (was (f k)) → Contains old k) → IsTrue (is (f k)) → Contains new k
-key_kept f was is old new bound k before after older within found good =
-    let here = Contains-from_map f new k (f k) (after.every (f k) good) in
+pub key_kept : {A : Type 0} {f : A → ℕ} {was is : ℕ → Bool} {old new : List A} (bound : ℕ) (k : A) → AreNumbered f was old → AreNumbered f is new
+    → ((j : A) → Contains new j → f j < bound → Contains old j) → f k < bound → (IsTrue (was (f k)) → Contains old k) → IsTrue (is (f k)) → Contains new k
+key_kept {f = f} {was} {old = old} {new = new} bound k before after older within found good =
+    let here = Contains-from_map f new k (f k) (after.just.every (f k) good) in
     let j = here.0 in
     let there : Contains old j = older j here.1 (subst (λ n. n < bound) (sym here.2) within) in
     let listed = Contains-map f old j there in
-    let was_j : IsTrue (was (f j)) = subst (λ n. IsTrue (was n)) listed.2 (before.each listed.0 (f j) listed.1) in
+    let was_j : IsTrue (was (f j)) = subst (λ n. IsTrue (was n)) listed.2 (before.just.each listed.0 (f j) listed.1) in
     let mine : Contains old k = found (subst (λ n. IsTrue (was n)) here.2 was_j) in
-    subst (λ x. Contains new x) (same_of_number f old j k before.once there mine here.2) here.1
+    subst (λ x. Contains new x) (same_of_number f old j k before.just.once there mine here.2) here.1
 
 same_key : (k j : Key) → (j.slot == k.slot && j.number == k.number) ≡ true → k ≡ j
 same_key k j h =

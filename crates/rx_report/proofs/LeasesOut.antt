@@ -116,16 +116,16 @@ leases_few h r =
 
 -- one event more, by what it is ----------------------------------------------------------------------------
 
-pub out_leased : (h : List Event) (e : Event) (l place r : ℕ) (old new : Option ℕ) → IsLawful nothing_kept h → place ≡ length h → e ≡ Lease r
+pub out_leased : {h : List Event} {e : Event} (l : ℕ) {place r : ℕ} (old new : Option ℕ) → IsLawful nothing_kept h → place ≡ length h → e ≡ Lease r
     → old ≡ leased_out h l → new ≡ cond (place == l) (Some r) old → new ≡ leased_out (h ++ e ∷ []) l
-out_leased h e l place r old new law is leases before here =
+out_leased {h} {e} l {r} old new law is leases before here =
     here ∙ (λ i. cond (is i == l) (Some r) (before i))
     ∙ ap (λ e. cond (length h == l) (leased_of e) (cond (is_return_of l e) None (leased_out h l))) (sym leases)
     ∙ sym (leased_out-push h e l law)
 
-pub out_returned : (h : List Event) (e : Event) (l m : ℕ) (old new : Option ℕ) → IsLawful nothing_kept h → e ≡ Return m → old ≡ leased_out h l
+pub out_returned : {h : List Event} {e : Event} (l m : ℕ) (old new : Option ℕ) → IsLawful nothing_kept h → e ≡ Return m → old ≡ leased_out h l
     → new ≡ cond (m == l) None old → new ≡ leased_out (h ++ e ∷ []) l
-out_returned h e l m old new law returns before here =
+out_returned {h} {e} l m old new law returns before here =
     here ∙ ap (λ x. cond (m == l) None x) before ∙ ap (λ e. cond (is_return_of l e) None (leased_out h l)) (sym returns)
     ∙ sym (leased_out-plain h e l law (ap leased_of returns))
 

@@ -108,10 +108,11 @@ counted_first front h s t goes counts = record {
   past = let e = counts.events in omega arith;
 }
 
-pub counted_next : (front h : List Event) (s : State) (old new : Tallies) (e : Event) → GoesOn front h s → IsLawful nothing_kept h → Counted front h old
+pub counted_next : {front h : List Event} {s : State} {old : Tallies} (new : Tallies) (e : Event) → GoesOn front h s → IsLawful nothing_kept h →
+    Counted front h old
     → Some e ≡ event_since s.base s.history old.events → new.events ≡ old.events + 1
     → ((k : List Event) → IsLawful nothing_kept (k ++ e ∷ []) → AreCountsOf k old → AreCountsOf (k ++ e ∷ []) new) → Counted front h new
-counted_next front h s old new e goes law before found more count = record {
+counted_next {front} {h} {s} {old} new e goes law before found more count = record {
   counts = subst (λ k. AreCountsOf k new) (sym (ap (λ n. take n h) more ∙ longer)) (count (take old.events h) lawful before.counts);
   past = let p = before.past in omega arith;
 }

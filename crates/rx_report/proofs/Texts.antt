@@ -26,9 +26,9 @@ refused_lines-more xs i d h =
     ∙ ap (λ l. refused_lines (take i xs) ++ l)
     (append-nil (refused_line (0 + length (take i xs)) (get_or xs i d)) ∙ ap (λ k. refused_line k (get_or xs i d)) long)
 
-pub pushed_refused : (old mid new : List ℕ) (xs : List Answer) (i : ℕ) (d : Answer) → i < length xs
+pub pushed_refused : (old : List ℕ) {mid : List ℕ} (new : List ℕ) (xs : List Answer) (i : ℕ) (d : Answer) → i < length xs
     → mid ≡ old ++ refused_lines (take i xs) → new ≡ mid ++ refused_line i (get_or xs i d) → new ≡ old ++ refused_lines (take (i + 1) xs)
-pushed_refused old mid new xs i d h before here =
+pushed_refused old new xs i d h before here =
     here
     ∙ ap (λ l. l ++ refused_line i (get_or xs i d)) before
     ∙ append_assoc old (refused_lines (take i xs)) (refused_line i (get_or xs i d))

@@ -120,7 +120,7 @@ module _ {R : Type 0} (e : Engine R) {step : Command} {name : Name} {call : ℕ 
   pub node_nameless : key_of e.nodes name ≡ None → Carries e step (Refused NoName) (with e e.book e.stock)
   node_nameless none =
       let nameless : is_unbound (stored_stage e).nodes name ≡ true = ap is_none (node_unbound e.nodes name none) in
-      refused_own e step NoName e.book e.stock sound refl refl (is_step.own (stored_stage e) ∙ ap (λ b. cond b (Some NoName) None) nameless)
+      refused_own step NoName e.book e.stock sound refl refl (is_step.own (stored_stage e) ∙ ap (λ b. cond b (Some NoName) None) nameless)
 
   module _ (k : Key) (named : key_of e.nodes name ≡ Some k) where
     number_named : bound (stored_stage e).nodes name ≡ Some k.number
@@ -135,8 +135,9 @@ module _ {R : Type 0} (e : Engine R) {step : Command} {name : Name} {call : ℕ 
     abbrev asked : Request
     asked = node_request e.book k (call k.number)
 
-    agrees : Agrees e.book asked (stored_stage e) step
+    agrees : Agrees e asked step
     agrees = record {
+      own = no_own_cause;
       called = is_step.called (stored_stage e) ∙ ap (option_map call) number_named;
       same =
           ap first_cause (is_step.by_node k.number (has_key e.book.keys k) (causes e.book.base e.book.history e.book.limit true (call k.number)))
@@ -149,11 +150,11 @@ module _ {R : Type 0} (e : Engine R) {step : Command} {name : Name} {call : ℕ 
     pub node_refused : (book : State) (why : Refusal) → book ≡ e.book → IsRefusal (stands e.book (node_request e.book k (call k.number))) why
         → why ≢ NoMemory → Carries e step (Refused (Book why)) (with e book e.stock)
     node_refused book why same refusal other =
-        refused_there e step asked why book e.stock sound same refl no_own_cause agrees (cause_of (stands e.book asked) why refusal other)
+        refused_there book e.stock sound same refl agrees (cause_of (stands e.book asked) why refusal other)
 
     pub node_accepted : (book : State) → IsPromised book
         → Accepts e.book (node_request e.book k (call k.number)) book → Carries e step Accepted (with e book e.stock)
-    node_accepted book kept accepts = accepted_plain e step asked book sound kept no_own_cause agrees accepts (is_step.binds_none (stored_stage e))
+    node_accepted book kept accepts = accepted_plain sound agrees kept accepts (is_step.binds_none (stored_stage e))
 
 -- commands that name one resource ------------------------------------------------------------------
 
@@ -186,7 +187,7 @@ module _ {R : Type 0} (e : Engine R) {step : Command} {name : Name} {call : ℕ 
   pub res_nameless : key_of e.resources name ≡ None → Carries e step (Refused NoName) (with e e.book e.stock)
   res_nameless none =
       let nameless : is_unbound (stored_stage e).resources name ≡ true = ap is_none (res_unbound e.resources name none) in
-      refused_own e step NoName e.book e.stock sound refl refl (is_step.own (stored_stage e) ∙ ap (λ b. cond b (Some NoName) None) nameless)
+      refused_own step NoName e.book e.stock sound refl refl (is_step.own (stored_stage e) ∙ ap (λ b. cond b (Some NoName) None) nameless)
 
   module _ (k : ResKey) (named : key_of e.resources name ≡ Some k) where
     res_number : bound (stored_stage e).resources name ≡ Some k.number
@@ -201,8 +202,9 @@ module _ {R : Type 0} (e : Engine R) {step : Command} {name : Name} {call : ℕ 
     abbrev res_asked : Request
     res_asked = res_request e.book k (call k.number)
 
-    res_agrees : Agrees e.book res_asked (stored_stage e) step
+    res_agrees : Agrees e res_asked step
     res_agrees = record {
+      own = res_no_own_cause;
       called = is_step.called (stored_stage e) ∙ ap (option_map call) res_number;
       same = is_step.same_cause (has_res_key e.book.res_keys k) e.book.base e.book.history e.book.limit (front_is_fresh (stored_stage e)) k.number res_known;
     }
@@ -210,8 +212,8 @@ module _ {R : Type 0} (e : Engine R) {step : Command} {name : Name} {call : ℕ 
     pub res_refused : (book : State) (why : Refusal) → book ≡ e.book → IsRefusal (stands e.book (res_request e.book k (call k.number))) why
         → why ≢ NoMemory → Carries e step (Refused (Book why)) (with e book e.stock)
     res_refused book why same refusal other =
-        refused_there e step res_asked why book e.stock sound same refl res_no_own_cause res_agrees (cause_of (stands e.book res_asked) why refusal other)
+        refused_there book e.stock sound same refl res_agrees (cause_of (stands e.book res_asked) why refusal other)
 
     pub res_accepted : (book : State) → IsPromised book
         → Accepts e.book (res_request e.book k (call k.number)) book → Carries e step Accepted (with e book e.stock)
-    res_accepted book kept accepts = accepted_plain e step res_asked book sound kept res_no_own_cause res_agrees accepts (is_step.binds_none (stored_stage e))
+    res_accepted book kept accepts = accepted_plain sound res_agrees kept accepts (is_step.binds_none (stored_stage e))

@@ -2,7 +2,6 @@
 -- and the course by the whole one.
 use Rattle.std.proofs.Common.{◌≡◌, ◌≤◌, ◌+◌, ◌++◌, ℕ, List, [], Bool, true, false, refl, sym, ap, subst, ◌∙◌, arith, append_assoc, length}
 use Rattle.std.specs.Prelude.{Some, None}
-use Rattle.std.specs.List.{All}
 use Rattle.std.proofs.lemmas.Option.{none-some}
 use Rattle.rx_event.specs.declared.event.Event.{Event}
 use Rattle.rx_event.specs.declared.refusal.Refusal.{Refusal}
@@ -29,10 +28,9 @@ use Rattle.rx_script.specs.Course.{limited, Executes, refused, refused_by_book, 
 use Rattle.rx_script.specs.Shelf.{Shelf}
 use Rattle.rx_report.specs.declared.tallies.Tallies.{Tallies}
 use Rattle.rx_report.specs.Tallies.{AreTalliesOf}
-use Rattle.rx_report.specs.Keys.{IsNodeKey, IsHeldKey, IsLeaseKey}
 use Rattle.rx_script.specs.Engine.{stage_of, IsHistoryOf, IsSound, Carries}
 use Rattle.rx_book.proofs.Laws.StepsContinue.{step_taken, accepted_continues}
-use Rattle.rx_script.proofs.GivenKeysStay.{node_keys_kept, held_keys_kept, lease_keys_kept}
+use Rattle.rx_script.proofs.GivenKeysStay.{HasKeys, keys_kept}
 use Rattle.rx_script.proofs.SameRows.{same_row}
 use Rattle.rx_script.proofs.SameNames.{own_kept, call_kept, after_kept, connection_past, with_history}
 use Rattle.rx_script.proofs.WholeHistory.{whole_lawful, whole_agree, StepOver, step_over, DrainOver, drain_over}
@@ -42,14 +40,17 @@ pub first_cause-by_key : (known : Bool) (stand : Refusal → Bool) → (known �
 first_cause-by_key true stand gone = refl
 first_cause-by_key false stand gone = let stands_gone : stand Gone ≡ true = gone refl in rw stands_gone refl
 
--- the step makes the call that is asked for, and the first of the book's causes against it by keys is that by numbers
-pub record Agrees (s : State) (asked : Request) (stage : Stage) (step : Command) : Type 0 where
-  pub called : call_of stage step ≡ Some asked.call
-  pub same : first_cause (stands s asked) ≡ first_cause (causes s.base stage.history s.limit (front_is_fresh stage) asked.call)
-
 -- the stage that the stored history tells of
 abbrev pub stored_stage : {R : Type 0} → Engine R → Stage
 stored_stage e = with_history (stage_of e []) e.book.history 0
+
+-- no cause of the scenario's own stands against the step, it makes the call that is asked for, and the first of the book's causes
+-- against that by keys is the first by numbers
+pub record Agrees {R : Type 0} (e : Engine R) (asked : Request) (step : Command) : Type 0 where
+  pub own : own_cause (stored_stage e) step ≡ None
+  pub called : call_of (stored_stage e) step ≡ Some asked.call
+  pub same : first_cause (stands e.book asked)
+      ≡ first_cause (causes e.book.base e.book.history e.book.limit (front_is_fresh (stored_stage e)) asked.call)
 
 -- the engine with another book and stock
 abbrev pub with : {R : Type 0} → Engine R → State → Shelf → Engine R
@@ -108,11 +109,11 @@ module _ {t : Tallies} {s : State} {h : List Event} (w : IsHistoryOf h t s) (kep
 -- carrying out ---------------------------------------------------------------------------------------
 
 -- nothing was changed
-pub unchanged : {R : Type 0} (e : Engine R) (step : Command) (answer : Answer) (book : State) (stock : Shelf) → IsSound e → book ≡ e.book
+pub unchanged : {R : Type 0} {e : Engine R} (step : Command) (answer : Answer) (book : State) (stock : Shelf) → IsSound e → book ≡ e.book
     → stock.wares ≡ e.stock.wares
     → ((h : List Event) → IsHistoryOf h e.tallies e.book → Executes (limited e.book.limit) (stage_of e h) step answer (stage_of e h))
     → Carries e step answer (with e book stock)
-unchanged {R} e step answer book stock sound same_book same_stock executes =
+unchanged {R} {e} step answer book stock sound same_book same_stock executes =
     let at_book : Carries e step answer (with e e.book stock) = record {
       executes = λ h w. (
         h,
@@ -124,29 +125,35 @@ unchanged {R} e step answer book stock sound same_book same_stock executes =
     } in
     subst (λ b. Carries e step answer (with e b stock)) (sym same_book) at_book
 
-pub refused_own : {R : Type 0} (e : Engine R) (step : Command) (why : Cause) (book : State) (stock : Shelf) → IsSound e → book ≡ e.book
+pub refused_own : {R : Type 0} {e : Engine R} (step : Command) (why : Cause) (book : State) (stock : Shelf) → IsSound e → book ≡ e.book
     → stock.wares ≡ e.stock.wares
     → own_cause (stored_stage e) step ≡ Some why → Carries e step (Refused why) (with e book stock)
-refused_own e step why book stock sound same_book same_stock own =
-    unchanged e step (Refused why) book stock sound same_book same_stock (λ h w. refused (own_kept (stored_stage e) h e.book.base.at_length step ∙ own))
+refused_own {e} step why book stock sound same_book same_stock own =
+    unchanged step (Refused why) book stock sound same_book same_stock (λ h w. refused (own_kept (stored_stage e) h e.book.base.at_length step ∙ own))
 
-pub refused_there : {R : Type 0} (e : Engine R) (step : Command) (asked : Request) (why : Refusal) (book : State) (stock : Shelf) → IsSound e
-    → book ≡ e.book → stock.wares ≡ e.stock.wares
-    → own_cause (stored_stage e) step ≡ None → Agrees e.book asked (stored_stage e) step
+pub refused_there : {R : Type 0} {e : Engine R} {step : Command} {asked : Request} {why : Refusal} (book : State) (stock : Shelf) → IsSound e
+    → book ≡ e.book → stock.wares ≡ e.stock.wares → Agrees e asked step
     → first_cause (stands e.book asked) ≡ Some why → Carries e step (Refused (Book why)) (with e book stock)
-refused_there e step asked why book stock sound same_book same_stock own agrees cause =
-    unchanged e step (Refused (Book why)) book stock sound same_book same_stock (λ h w.
-    refused_by_book (own_kept (stored_stage e) h e.book.base.at_length step ∙ own) (call_kept (stored_stage e) h e.book.base.at_length step ∙ agrees.called)
+refused_there {e} {step} {asked} {why} book stock sound same_book same_stock agrees cause =
+    unchanged step (Refused (Book why)) book stock sound same_book same_stock (λ h w.
+    refused_by_book (own_kept (stored_stage e) h e.book.base.at_length step ∙ agrees.own)
+    (call_kept (stored_stage e) h e.book.base.at_length step ∙ agrees.called)
     (cause_same w sound.kept (front_is_fresh (stored_stage e)) asked.call ∙ sym agrees.same ∙ cause))
 
--- an accepted call, after which the names are these
-module _ {R : Type 0} (e new : Engine R) (step : Command) (asked : Request) (sound : IsSound e) (own : own_cause (stored_stage e) step ≡ None)
-    (agrees : Agrees e.book asked (stored_stage e) step) (accepts : Accepts e.book asked new.book)
-    (staged : stored_stage new ≡ after (stored_stage e) step new.book.history) (rest : KeepsRest e new) where
+-- what is known of the engine after a call that the book accepted: its names and its stock are those after the step
+pub record HasAccepted {R : Type 0} (e : Engine R) (asked : Request) (step : Command) (new : Engine R) : Type 0 where
+  pub kept : IsPromised new.book
+  pub accepts : Accepts e.book asked new.book
+  pub staged : stored_stage new ≡ after (stored_stage e) step new.book.history
+  pub keys : HasKeys new new.book
+  pub rest : KeepsRest e new
+
+module _ {R : Type 0} {e new : Engine R} {step : Command} {asked : Request} (sound : IsSound e) (agrees : Agrees e asked step)
+    (done : HasAccepted e asked step new) where
   module _ (h : List Event) (w : IsHistoryOf h e.tallies e.book) where
     over : StepOver w.front w.lawful w.settled e.book.base w.base w.since asked.call new.book.history
     over = step_over w.front w.lawful w.settled e.book.base w.base w.since asked.call new.book.history (stored_lawful w sound.kept)
-        (subst (λ (l : List Event). IsStepOf e.book.base l asked.call new.book.history) w.history accepts.step)
+        (subst (λ (l : List Event). IsStepOf e.book.base l asked.call new.book.history) w.history done.accepts.step)
 
     abbrev then : List Event
     then = on w sound.kept over.events
@@ -165,52 +172,48 @@ module _ {R : Type 0} (e new : Engine R) (step : Command) (asked : Request) (sou
         after_kept (stored_stage e) h e.book.base.at_length step plain then new.book.history long
         (ap (connection_made h) (on_whole w sound.kept over.events) ∙ connection_past h e.book.history over.events long
         ∙ ap (connection_made e.book.history) (sym (over.same ∙ on_stored w sound.kept over.events)))
-        ∙ ap (λ (s : Stage). with_history s then e.book.base.at_length) (sym staged)
-        ∙ ap (λ b. with_history (stored_stage new) then b.at_length) (sym accepts.base)
+        ∙ ap (λ (s : Stage). with_history s then e.book.base.at_length) (sym done.staged)
+        ∙ ap (λ b. with_history (stored_stage new) then b.at_length) (sym done.accepts.base)
 
     goes_to : (k : List Event) × Executes (limited e.book.limit) (stage_of e h) step Accepted (stage_of new k) × IsHistoryOf k new.tallies new.book
     goes_to = (
       then,
       subst (λ s. Executes (limited e.book.limit) (stage_of e h) step Accepted s) ends
-          (accepted then (own_kept (stored_stage e) h e.book.base.at_length step ∙ own) calls
-          (cause_same w sound.kept (front_is_fresh (stored_stage e)) asked.call ∙ sym agrees.same ∙ accepts.no_cause)
+          (accepted then (own_kept (stored_stage e) h e.book.base.at_length step ∙ agrees.own) calls
+          (cause_same w sound.kept (front_is_fresh (stored_stage e)) asked.call ∙ sym agrees.same ∙ done.accepts.no_cause)
           (subst (λ (l : List Event). IsStepOf nothing_kept l asked.call then) (sym w.whole) over.step)),
-      history_on w sound.kept new.tallies new.book over.events rest.1 accepts.base accepts.given over.same,
+      history_on w sound.kept new.tallies new.book over.events done.rest.1 done.accepts.base done.accepts.given over.same,
     )
 
-pub accepted_to : {R : Type 0} (e new : Engine R) (step : Command) (asked : Request) → IsSound e → IsPromised new.book
-    → own_cause (stored_stage e) step ≡ None → Agrees e.book asked (stored_stage e) step
-    → Accepts e.book asked new.book
-    → stored_stage new ≡ after (stored_stage e) step new.book.history
-    → All (λ n. IsNodeKey new.book n.key) new.nodes → All (λ n. IsHeldKey new.book n.key) new.resources
-    → All (λ n. IsLeaseKey new.book n.key) new.leases → KeepsRest e new
-    → Carries e step Accepted new
-accepted_to e new step asked sound kept own agrees accepts staged nodes resources leases rest = record {
-  executes = goes_to e new step asked sound own agrees accepts staged rest;
-  sound = record {
-    kept = kept;
-    nodes = nodes;
-    resources = resources;
-    leases = leases;
-    faults = let taken = step_taken e.book.base e.book.history new.book.history asked.call accepts.step in
-        let over = ap (λ b. taken_count b new.book.history) accepts.base in
-        let faults = sound.faults in
-        let same = rest.0 in omega arith;
-  };
-  limit = accepts.limit;
-}
+  pub accepted_to : Carries e step Accepted new
+  accepted_to = record {
+    executes = goes_to;
+    sound = record {
+      kept = done.kept;
+      nodes = done.keys.nodes;
+      resources = done.keys.resources;
+      leases = done.keys.leases;
+      faults = let taken = step_taken e.book.base e.book.history new.book.history asked.call done.accepts.step in
+          let over = ap (λ b. taken_count b new.book.history) done.accepts.base in
+          let faults = sound.faults in
+          let same = done.rest.0 in omega arith;
+    };
+    limit = done.accepts.limit;
+  }
 
 -- a call that binds no names
-pub accepted_plain : {R : Type 0} (e : Engine R) (step : Command) (asked : Request) (book : State) → IsSound e → IsPromised book
-    → own_cause (stored_stage e) step ≡ None → Agrees e.book asked (stored_stage e) step
-    → Accepts e.book asked book
-    → ((k : List Event) → after (stored_stage e) step k ≡ record (stored_stage e) { history = k })
+pub accepted_plain : {R : Type 0} {e : Engine R} {step : Command} {asked : Request} {book : State} → IsSound e → Agrees e asked step
+    → IsPromised book → Accepts e.book asked book → ((k : List Event) → after (stored_stage e) step k ≡ record (stored_stage e) { history = k })
     → Carries e step Accepted (with e book e.stock)
-accepted_plain e step asked book sound kept own agrees accepts plain =
-    let goes = accepted_continues e.book book asked accepts in
-    accepted_to e (with e book e.stock) step asked sound kept own agrees accepts (sym (plain book.history))
-    (node_keys_kept e.book book e.nodes sound.kept kept goes sound.nodes) (held_keys_kept e.book book e.resources sound.kept kept goes sound.resources)
-    (lease_keys_kept e.book book e.leases sound.kept kept goes sound.leases) (refl, refl)
+accepted_plain {e} {asked = asked} {book = book} sound agrees kept accepts plain =
+    let older = keys_kept sound kept (accepted_continues e.book book asked accepts) in
+    accepted_to {new = with e book e.stock} sound agrees (record {
+      kept = kept;
+      accepts = accepts;
+      staged = sym (plain book.history);
+      keys = record { nodes = older.nodes; resources = older.resources; leases = older.leases };
+      rest = (refl, refl);
+    })
 
 -- taking and releasing all that waits
 module _ {R : Type 0} (e : Engine R) (book : State) (faults : ℕ) (sound : IsSound e) (drains : Drains e.book.base e.book.history book.history)
@@ -238,11 +241,11 @@ module _ {R : Type 0} (e : Engine R) (book : State) (faults : ℕ) (sound : IsSo
       → Carries e drain Accepted drained_engine
   drained_to released kept rose few = record {
     executes = drains_to;
-    sound = record {
+    sound = let older = keys_kept sound kept goes in record {
       kept = kept;
-      nodes = node_keys_kept e.book book e.nodes sound.kept kept goes sound.nodes;
-      resources = held_keys_kept e.book book e.resources sound.kept kept goes sound.resources;
-      leases = lease_keys_kept e.book book e.leases sound.kept kept goes sound.leases;
+      nodes = older.nodes;
+      resources = older.resources;
+      leases = older.leases;
       faults = let before = sound.faults in omega arith;
     };
     limit = goes.limit;

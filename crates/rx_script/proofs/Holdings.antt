@@ -1,8 +1,7 @@
 -- The commands that hand a resource in, carried out by an engine.
-use Rattle.std.proofs.Common.{◌≡◌, ◌+◌, ◌++◌, ◌∷◌, [], List, Bool, true, false, refl, sym, ap, subst, ◌∙◌, map, length, add-zero, arith}
-use Rattle.std.specs.Prelude.{◌≢◌, ◌||◌, Some, None, IsTrue, is_none, is_some, slice_get, drop}
+use Rattle.std.proofs.Common.{◌≡◌, ◌∷◌, [], List, Bool, true, false, refl, sym, ap, ◌∙◌, length, arith}
+use Rattle.std.specs.Prelude.{◌≢◌, ◌||◌, Some, None, is_none, is_some, slice_get, drop}
 use Rattle.std.proofs.Math.Bool.{not}
-use Rattle.std.specs.List.{All}
 use Rattle.rx_event.specs.declared.refusal.Refusal.{Refusal}
 use Rattle.rx_event.specs.declared.refusal.Refusal.TheVariants.{NoMemory, Gone}
 use Rattle.rx_event.specs.Tree.{is_open}
@@ -11,31 +10,31 @@ use Rattle.rx_event.specs.Refusals.{first_cause, IsRefusal}
 use Rattle.rx_book.specs.declared.key.Key.{Key}
 use Rattle.rx_book.specs.declared.key.ResKey.{ResKey}
 use Rattle.rx_book.specs.declared.answer.At.{At}
-use Rattle.rx_book.specs.State.{State, IsPromised, has_key, has_res_key}
+use Rattle.rx_book.specs.declared.answer.OpenedUsing.{OpenedUsing}
+use Rattle.rx_book.specs.State.{State, IsPromised, has_key}
 use Rattle.rx_event.specs.Causes.{causes, by_key}
 use Rattle.rx_book.specs.Requests.{Request, place_of, is_known_place, stands}
-use Rattle.rx_book.specs.Answers.{Accepts}
+use Rattle.rx_book.specs.Answers.{Accepts, IsNewResKey, IsOpenedUsing}
 use Rattle.rx_agenda.specs.declared.answer.Answer.TheVariants.{Accepted, Refused}
 use Rattle.rx_agenda.specs.declared.answer.Cause.TheVariants.{NoName, NameTaken, NoStock, Book}
 use Rattle.rx_agenda.specs.declared.names.Named.{Named}
 use Rattle.rx_script.specs.declared.engine.Engine.{Engine}
 use Rattle.rx_scenario.specs.Scenario.{Name, Site, using, hold}
 use Rattle.rx_script.specs.Stage.{Ware, is_empty, own_cause, front, front_is_fresh}
-use Rattle.rx_agenda.specs.Bindings.{bound, is_unbound, with_binding}
+use Rattle.rx_agenda.specs.Bindings.{bound, is_unbound}
 use Rattle.rx_script.specs.Shelf.{Shelf}
-use Rattle.rx_agenda.specs.Names.{name_of, key_of}
-use Rattle.rx_report.specs.Keys.{node_binding, res_binding, lease_binding, IsNodeKey, IsHeldKey, IsLeaseKey}
-use Rattle.rx_agenda.specs.Shown.{number_binding}
+use Rattle.rx_agenda.specs.Names.{key_of}
+use Rattle.rx_report.specs.Keys.{IsNodeKey, IsHeldKey}
 use Rattle.rx_script.specs.Engine.{at_of, IsSound, Carries}
 use Rattle.rx_report.proofs.Laws.{has_key-is_open}
 use Rattle.rx_agenda.proofs.Laws.{key_of-holds}
 use Rattle.rx_script.proofs.NamesStandForKeys.{node_bound, node_unbound}
 use Rattle.rx_book.proofs.Laws.StepsContinue.{accepted_continues}
-use Rattle.rx_script.proofs.GivenKeysStay.{node_keys_kept, held_keys_kept, lease_keys_kept}
-use Rattle.rx_script.proofs.EngineCarriesOut.{Agrees, first_cause-by_key, with, refused_own, refused_there, accepted_to, stored_stage, KeepsRest}
+use Rattle.rx_script.proofs.GivenKeysStay.{keys_kept}
+use Rattle.rx_script.proofs.EngineCarriesOut.{Agrees, first_cause-by_key, with, refused_own, refused_there, accepted_to, stored_stage}
 use Rattle.rx_script.proofs.Commands.{cause_of}
 use Rattle.rx_script.proofs.Openings.{is_bound-nodes, is_bound-resources, IsPlaced, site_placed, site_nameless}
-use Rattle.rx_script.proofs.Openings.{new_node_key, new_held_key, nodes_bound, resources_bound, same_stage, all_pushed}
+use Rattle.rx_script.proofs.Openings.{Binds, numbers_bound, all_bound, new_node_key, new_held_key}
 
 -- a stock with a resource in front
 module _ {R : Type 0} (e : Engine R) (w : Ware) (rest : List Ware) (stocked : e.stock.wares ≡ w ∷ rest) where
@@ -63,7 +62,7 @@ module _ {R : Type 0} (e : Engine R) (w : Ware) (rest : List Ware) (stocked : e.
 
 module _ {R : Type 0} (e : Engine R) (name : Name) (site : Site) (res : Name) (sound : IsSound e) where
   pub using_nameless : at_of e.nodes site ≡ None → Carries e (using name site res) (Refused NoName) (with e e.book e.stock)
-  using_nameless none = let nameless = site_nameless e site none in refused_own e (using name site res) NoName e.book e.stock sound refl refl (rw nameless refl)
+  using_nameless none = let nameless = site_nameless e site none in refused_own (using name site res) NoName e.book e.stock sound refl refl (rw nameless refl)
 
   module _ (place : At) (at : at_of e.nodes site ≡ Some place) where
     facts : IsPlaced e site place
@@ -75,7 +74,7 @@ module _ {R : Type 0} (e : Engine R) (name : Name) (site : Site) (res : Name) (s
         let named = facts.named in
         let node_named = is_bound-nodes e.nodes name in
         let res_named = is_bound-resources e.resources res in
-        refused_own e (using name site res) NameTaken e.book e.stock sound refl refl (rw (named, node_named, res_named, taken) refl)
+        refused_own (using name site res) NameTaken e.book e.stock sound refl refl (rw (named, node_named, res_named, taken) refl)
 
     module _ (free : (is_some (key_of e.nodes name) || is_some (key_of e.resources res)) ≡ false) where
       pub using_stockless : (stock : Shelf) → e.stock.wares ≡ [] → stock.wares ≡ [] → Carries e (using name site res) (Refused NoStock) (with e e.book stock)
@@ -83,7 +82,7 @@ module _ {R : Type 0} (e : Engine R) (name : Name) (site : Site) (res : Name) (s
           let named = facts.named in
           let node_named = is_bound-nodes e.nodes name in
           let res_named = is_bound-resources e.resources res in
-          refused_own e (using name site res) NoStock e.book stock sound refl (same ∙ sym none) (rw (named, node_named, res_named, free, none) refl)
+          refused_own (using name site res) NoStock e.book stock sound refl (same ∙ sym none) (rw (named, node_named, res_named, free, none) refl)
 
       module _ (w : Ware) (rest : List Ware) (stocked : e.stock.wares ≡ w ∷ rest) where
         no_own_cause : own_cause (stored_stage e) (using name site res) ≡ None
@@ -97,11 +96,12 @@ module _ {R : Type 0} (e : Engine R) (name : Name) (site : Site) (res : Name) (s
         abbrev asked : Request
         asked = record { call = OpeningUsing (place_of place) w.tag; is_known = is_known_place e.book.keys place; is_fresh = w.is_fresh }
 
-        agrees : Agrees e.book asked (stored_stage e) (using name site res)
+        agrees : Agrees e asked (using name site res)
         agrees =
             let placed = facts.placed in
             let in_front = front_stocked e w rest stocked in
             record {
+              own = no_own_cause;
               called = rw (placed, in_front) refl;
               same = same_stocked e w rest stocked (is_known_place e.book.keys place) (OpeningUsing (place_of place) w.tag) facts.gone;
             }
@@ -114,34 +114,36 @@ module _ {R : Type 0} (e : Engine R) (name : Name) (site : Site) (res : Name) (s
             })) why → why ≢ NoMemory
             → Carries e (using name site res) (Refused (Book why)) (with e book stock)
         using_refused book stock why same same_stock refusal other =
-            refused_there e (using name site res) asked why book stock sound same same_stock no_own_cause agrees
+            refused_there book stock sound same same_stock agrees
             (cause_of (stands e.book asked) why refusal other)
 
-        pub using_accepted : (new : Engine R) (x : Named Key) (y : Named ResKey) → IsPromised new.book
-            → Accepts e.book
-            (record { call = OpeningUsing (place_of place) w.tag; is_known = is_known_place e.book.keys place; is_fresh = w.is_fresh }) new.book
-            → x.key.number ≡ length e.book.history → IsTrue (has_key new.book.keys x.key) → name_of x ≡ name
-            → y.key.number ≡ length e.book.history + 1 → IsTrue (has_res_key new.book.res_keys y.key) → name_of y ≡ res
-            → new.nodes ≡ e.nodes ++ x ∷ [] → new.hubs ≡ e.hubs → new.resources ≡ e.resources ++ y ∷ []
-            → new.leases ≡ e.leases → new.stock.wares ≡ rest → KeepsRest e new → Carries e (using name site res) Accepted new
-        using_accepted new x y kept accepts number listed same_name res_number
-            res_listed same_res pushed same_hubs res_pushed same_leases same_stock rest_kept =
-            let goes = accepted_continues e.book new.book asked accepts in
-            accepted_to e new (using name site res) asked sound kept no_own_cause agrees accepts
-            (same_stage new.book.history _ _ _ _ _ _ _ _ _ _
-            (nodes_bound e.nodes new.nodes x (length e.book.history) pushed number
-            ∙ ap (λ n. with_binding (map node_binding e.nodes) n (length e.book.history)) same_name)
-            (ap (map number_binding) same_hubs)
-            (resources_bound e.resources new.resources y (length e.book.history + 1) res_pushed res_number
-            ∙ ap (λ n. with_binding (map res_binding e.resources) n (length e.book.history + 1)) same_res)
-            (ap (map lease_binding) same_leases) (same_stock ∙ sym (rest_stocked e w rest stocked)))
-            (all_pushed (λ n. IsNodeKey new.book n.key) e.nodes new.nodes x pushed (node_keys_kept e.book new.book e.nodes sound.kept kept goes sound.nodes)
-            (new_node_key e.book new.book asked x.key accepts number (omega arith) listed))
-            (all_pushed (λ n. IsHeldKey new.book n.key) e.resources new.resources y res_pushed
-            (held_keys_kept e.book new.book e.resources sound.kept kept goes sound.resources)
-            (new_held_key e.book new.book asked y.key 1 accepts res_number (omega arith) res_listed))
-            (subst (All (λ n. IsLeaseKey new.book n.key)) (sym same_leases) (lease_keys_kept e.book new.book e.leases sound.kept kept goes sound.leases))
-            rest_kept
+        pub using_accepted : {book : State} {nodes : List (Named Key)} {resources : List (Named ResKey)} {stock : Shelf} {opened : OpenedUsing}
+            → IsPromised book
+            → Accepts e.book (record {
+              call = OpeningUsing (place_of place) w.tag;
+              is_known = is_known_place e.book.keys place;
+              is_fresh = w.is_fresh;
+            }) book → IsOpenedUsing e.book book opened
+            → Binds e.nodes name opened.key nodes → Binds e.resources res opened.res resources → stock.wares ≡ rest
+            → Carries e (using name site res) Accepted (record e { book = book; nodes = nodes; resources = resources; stock = stock })
+        using_accepted {book} {nodes} {resources} {stock} kept accepts given binds binds_res same_stock =
+            let older = keys_kept sound kept (accepted_continues e.book book asked accepts) in
+            accepted_to {new = record e { book = book; nodes = nodes; resources = resources; stock = stock }} sound agrees (record {
+              kept = kept;
+              accepts = accepts;
+              staged = λ i. record (stored_stage e) {
+                history = book.history;
+                nodes = numbers_bound binds (λ k. k.number) given.key.number i;
+                resources = numbers_bound binds_res (λ k. k.number) given.res.number i;
+                stock = (same_stock ∙ sym (rest_stocked e w rest stocked)) i;
+              };
+              keys = record {
+                nodes = all_bound binds (IsNodeKey book) older.nodes (new_node_key accepts given.key (omega arith));
+                resources = all_bound binds_res (IsHeldKey book) older.resources (new_held_key accepts given.res (omega arith));
+                leases = older.leases;
+              };
+              rest = (refl, refl);
+            })
 
 -- holding ------------------------------------------------------------------------------------------
 
@@ -149,7 +151,7 @@ module _ {R : Type 0} (e : Engine R) (node : Name) (res : Name) (sound : IsSound
   pub hold_nameless : key_of e.nodes node ≡ None → Carries e (hold node res) (Refused NoName) (with e e.book e.stock)
   hold_nameless none =
       let nameless : is_unbound (stored_stage e).nodes node ≡ true = ap is_none (node_unbound e.nodes node none) in
-      refused_own e (hold node res) NoName e.book e.stock sound refl refl (rw nameless refl)
+      refused_own (hold node res) NoName e.book e.stock sound refl refl (rw nameless refl)
 
   module _ (k : Key) (at : key_of e.nodes node ≡ Some k) where
     number_named : bound (stored_stage e).nodes node ≡ Some k.number
@@ -159,14 +161,14 @@ module _ {R : Type 0} (e : Engine R) (node : Name) (res : Name) (sound : IsSound
     hold_taken taken =
         let named = number_named in
         let res_named = is_bound-resources e.resources res ∙ taken in
-        refused_own e (hold node res) NameTaken e.book e.stock sound refl refl (rw (named, res_named) refl)
+        refused_own (hold node res) NameTaken e.book e.stock sound refl refl (rw (named, res_named) refl)
 
     module _ (free : is_some (key_of e.resources res) ≡ false) where
       pub hold_stockless : (stock : Shelf) → e.stock.wares ≡ [] → stock.wares ≡ [] → Carries e (hold node res) (Refused NoStock) (with e e.book stock)
       hold_stockless stock none same =
           let named = number_named in
           let res_named = is_bound-resources e.resources res ∙ free in
-          refused_own e (hold node res) NoStock e.book stock sound refl (same ∙ sym none) (rw (named, res_named, none) refl)
+          refused_own (hold node res) NoStock e.book stock sound refl (same ∙ sym none) (rw (named, res_named, none) refl)
 
       module _ (w : Ware) (rest : List Ware) (stocked : e.stock.wares ≡ w ∷ rest) where
         hold_no_own_cause : own_cause (stored_stage e) (hold node res) ≡ None
@@ -182,11 +184,12 @@ module _ {R : Type 0} (e : Engine R) (node : Name) (res : Name) (sound : IsSound
         abbrev hold_asked : Request
         hold_asked = record { call = Holding k.number w.tag; is_known = has_key e.book.keys k; is_fresh = w.is_fresh }
 
-        hold_agrees : Agrees e.book hold_asked (stored_stage e) (hold node res)
+        hold_agrees : Agrees e hold_asked (hold node res)
         hold_agrees =
             let named = number_named in
             let in_front = front_stocked e w rest stocked in
             record {
+              own = hold_no_own_cause;
               called = rw (named, in_front) refl;
               same = same_stocked e w rest stocked (has_key e.book.keys k) (Holding k.number w.tag) (λ unknown. ap not (sym hold_known ∙ unknown));
             }
@@ -195,28 +198,32 @@ module _ {R : Type 0} (e : Engine R) (node : Name) (res : Name) (sound : IsSound
             → IsRefusal (stands e.book (record { call = Holding k.number w.tag; is_known = has_key e.book.keys k; is_fresh = w.is_fresh })) why → why ≢ NoMemory
             → Carries e (hold node res) (Refused (Book why)) (with e book stock)
         hold_refused book stock why same same_stock refusal other =
-            refused_there e (hold node res) hold_asked why book stock sound same same_stock hold_no_own_cause hold_agrees
+            refused_there book stock sound same same_stock hold_agrees
             (cause_of (stands e.book hold_asked) why refusal other)
 
-        pub hold_accepted : (new : Engine R) (y : Named ResKey) → IsPromised new.book
-            → Accepts e.book (record { call = Holding k.number w.tag; is_known = has_key e.book.keys k; is_fresh = w.is_fresh }) new.book
-            → y.key.number ≡ length e.book.history → IsTrue (has_res_key new.book.res_keys y.key) → name_of y ≡ res
-            → new.nodes ≡ e.nodes → new.hubs ≡ e.hubs → new.resources ≡ e.resources ++ y ∷ []
-            → new.leases ≡ e.leases → new.stock.wares ≡ rest → KeepsRest e new → Carries e (hold node res) Accepted new
-        hold_accepted new y kept accepts number listed same_res same_nodes same_hubs pushed same_leases same_stock rest_kept =
-            let goes = accepted_continues e.book new.book hold_asked accepts in
-            accepted_to e new (hold node res) hold_asked sound kept hold_no_own_cause hold_agrees accepts
-            (same_stage new.book.history _ _ _ _ _ _ _ _ _ _ (ap (map node_binding) same_nodes) (ap (map number_binding) same_hubs)
-            (resources_bound e.resources new.resources y (length e.book.history) pushed number
-            ∙ ap (λ n. with_binding (map res_binding e.resources) n (length e.book.history)) same_res)
-            (ap (map lease_binding) same_leases) (same_stock ∙ sym (rest_stocked e w rest stocked)))
-            (subst (All (λ n. IsNodeKey new.book n.key)) (sym same_nodes) (node_keys_kept e.book new.book e.nodes sound.kept kept goes sound.nodes))
-            (all_pushed (λ n. IsHeldKey new.book n.key) e.resources new.resources y pushed
-            (held_keys_kept e.book new.book e.resources sound.kept kept goes sound.resources)
-            (new_held_key e.book new.book hold_asked y.key 0 accepts (number ∙ sym (add-zero (length e.book.history))) (omega arith) listed))
-            (subst (All (λ n. IsLeaseKey new.book n.key)) (sym same_leases) (lease_keys_kept e.book new.book e.leases sound.kept kept goes sound.leases))
-            rest_kept
+        pub hold_accepted : {book : State} {resources : List (Named ResKey)} {stock : Shelf} {held : ResKey} → IsPromised book
+            → Accepts e.book (record { call = Holding k.number w.tag; is_known = has_key e.book.keys k; is_fresh = w.is_fresh }) book
+            → IsNewResKey book (length e.book.history) held → Binds e.resources res held resources → stock.wares ≡ rest
+            → Carries e (hold node res) Accepted (record e { book = book; resources = resources; stock = stock })
+        hold_accepted {book} {resources} {stock} kept accepts given binds same_stock =
+            let older = keys_kept sound kept (accepted_continues e.book book hold_asked accepts) in
+            accepted_to {new = record e { book = book; resources = resources; stock = stock }} sound hold_agrees (record {
+              kept = kept;
+              accepts = accepts;
+              staged = λ i. record (stored_stage e) {
+                history = book.history;
+                resources = numbers_bound binds (λ j. j.number) given.number i;
+                stock = (same_stock ∙ sym (rest_stocked e w rest stocked)) i;
+              };
+              keys = record {
+                nodes = older.nodes;
+                resources = all_bound binds (IsHeldKey book) older.resources (new_held_key accepts given (omega arith));
+                leases = older.leases;
+              };
+              rest = (refl, refl);
+            })
 
 -- a resource that was put back in front
-pub put_back : {R : Type 0} (ware : R → Ware) (old mid new : List Ware) (r back : R) → old ≡ ware r ∷ mid → back ≡ r → new ≡ ware back ∷ mid → new ≡ old
-put_back ware old mid new r back taken same returned = returned ∙ ap (λ x. ware x ∷ mid) same ∙ sym taken
+pub put_back : {R : Type 0} (ware : R → Ware) {old : List Ware} (mid new : List Ware) (r back : R) → old ≡ ware r ∷ mid → back ≡ r
+    → new ≡ ware back ∷ mid → new ≡ old
+put_back ware mid new r back taken same returned = returned ∙ ap (λ x. ware x ∷ mid) same ∙ sym taken

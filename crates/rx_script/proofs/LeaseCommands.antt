@@ -1,7 +1,6 @@
 -- The commands that give a lease out and back, carried out by an engine.
-use Rattle.std.proofs.Common.{◌≡◌, ◌++◌, ◌∷◌, [], ℕ, List, Bool, true, false, refl, sym, ap, subst, ◌∙◌, map, length, arith}
-use Rattle.std.specs.Prelude.{◌≢◌, Some, None, IsTrue, is_none, is_some}
-use Rattle.std.specs.List.{All}
+use Rattle.std.proofs.Common.{◌≡◌, ℕ, List, Bool, true, false, refl, sym, ap, ◌∙◌, length, arith}
+use Rattle.std.specs.Prelude.{◌≢◌, Some, None, is_none, is_some}
 use Rattle.rx_event.specs.Kept.{Kept}
 use Rattle.rx_event.specs.declared.event.Event.{Event}
 use Rattle.rx_event.specs.declared.refusal.Refusal.{Refusal}
@@ -14,26 +13,25 @@ use Rattle.rx_book.specs.declared.key.LeaseKey.{LeaseKey}
 use Rattle.rx_book.specs.State.{State, IsPromised, has_res_key, has_lease_key}
 use Rattle.rx_event.specs.Causes.{causes, by_res_key, by_lease_key}
 use Rattle.rx_book.specs.Requests.{stands, lease_request, give_back_request}
-use Rattle.rx_book.specs.Answers.{Accepts}
+use Rattle.rx_book.specs.Answers.{Accepts, IsNewLeaseKey}
 use Rattle.rx_agenda.specs.declared.answer.Answer.TheVariants.{Accepted, Refused}
 use Rattle.rx_agenda.specs.declared.answer.Cause.TheVariants.{NoName, NameTaken, Book}
 use Rattle.rx_agenda.specs.declared.names.Named.{Named}
 use Rattle.rx_script.specs.declared.engine.Engine.{Engine}
 use Rattle.rx_scenario.specs.Scenario.{Name, lease, give_back}
 use Rattle.rx_script.specs.Stage.{own_cause, front_is_fresh}
-use Rattle.rx_agenda.specs.Bindings.{bound, is_unbound, with_binding}
-use Rattle.rx_agenda.specs.Names.{name_of, key_of}
-use Rattle.rx_report.specs.Keys.{node_binding, res_binding, lease_binding, IsNodeKey, IsHeldKey, IsLeaseKey}
-use Rattle.rx_agenda.specs.Shown.{number_binding}
+use Rattle.rx_agenda.specs.Bindings.{bound, is_unbound}
+use Rattle.rx_agenda.specs.Names.{key_of}
+use Rattle.rx_report.specs.Keys.{IsHeldKey, IsLeaseKey}
 use Rattle.rx_script.specs.Engine.{IsSound, Carries}
 use Rattle.rx_report.proofs.Laws.{has_res_key-is_held, has_lease_key-is_out}
 use Rattle.rx_agenda.proofs.Laws.{key_of-holds}
 use Rattle.rx_book.proofs.Laws.StepsContinue.{accepted_continues}
 use Rattle.rx_script.proofs.NamesStandForKeys.{res_bound, res_unbound, lease_bound, lease_unbound}
-use Rattle.rx_script.proofs.GivenKeysStay.{node_keys_kept, held_keys_kept, lease_keys_kept}
-use Rattle.rx_script.proofs.EngineCarriesOut.{Agrees, with, refused_own, refused_there, accepted_to, accepted_plain, stored_stage, KeepsRest}
+use Rattle.rx_script.proofs.GivenKeysStay.{keys_kept}
+use Rattle.rx_script.proofs.EngineCarriesOut.{Agrees, with, refused_own, refused_there, accepted_to, accepted_plain, stored_stage}
 use Rattle.rx_script.proofs.Commands.{cause_of}
-use Rattle.rx_script.proofs.Openings.{is_bound-leases, leases_bound, new_out_key, same_stage, all_pushed}
+use Rattle.rx_script.proofs.Openings.{is_bound-leases, Binds, numbers_bound, all_bound, new_out_key}
 
 -- to look for the key is to look whether the resource is held, or the lease out
 lease_same_cause : (known : Bool) (base : Kept) (h : List Event) (limit : ℕ) (is_fresh : Bool) (n : ℕ) → known ≡ is_held h n →
@@ -52,7 +50,7 @@ module _ {R : Type 0} (e : Engine R) (res name : Name) (sound : IsSound e) where
   pub lease_nameless : key_of e.resources res ≡ None → Carries e (lease res name) (Refused NoName) (with e e.book e.stock)
   lease_nameless none =
       let nameless : is_unbound (stored_stage e).resources res ≡ true = ap is_none (res_unbound e.resources res none) in
-      refused_own e (lease res name) NoName e.book e.stock sound refl refl (rw nameless refl)
+      refused_own (lease res name) NoName e.book e.stock sound refl refl (rw nameless refl)
 
   module _ (k : ResKey) (at : key_of e.resources res ≡ Some k) where
     res_named : bound (stored_stage e).resources res ≡ Some k.number
@@ -62,7 +60,7 @@ module _ {R : Type 0} (e : Engine R) (res name : Name) (sound : IsSound e) where
     lease_taken taken =
         let named = res_named in
         let is_there = is_bound-leases e.leases name ∙ taken in
-        refused_own e (lease res name) NameTaken e.book e.stock sound refl refl (rw (named, is_there) refl)
+        refused_own (lease res name) NameTaken e.book e.stock sound refl refl (rw (named, is_there) refl)
 
     module _ (free : is_some (key_of e.leases name) ≡ false) where
       lease_no_own_cause : own_cause (stored_stage e) (lease res name) ≡ None
@@ -74,10 +72,11 @@ module _ {R : Type 0} (e : Engine R) (res name : Name) (sound : IsSound e) where
       lease_known : has_res_key e.book.res_keys k ≡ is_held e.book.history k.number
       lease_known = has_res_key-is_held e.book k sound.kept (key_of-holds (IsHeldKey e.book) e.resources res k sound.resources at)
 
-      lease_agrees : Agrees e.book (lease_request e.book k) (stored_stage e) (lease res name)
+      lease_agrees : Agrees e (lease_request e.book k) (lease res name)
       lease_agrees =
           let named = res_named in
           record {
+            own = lease_no_own_cause;
             called = rw named refl;
             same = lease_same_cause (has_res_key e.book.res_keys k) e.book.base e.book.history e.book.limit
                 (front_is_fresh (stored_stage e)) k.number lease_known;
@@ -86,27 +85,25 @@ module _ {R : Type 0} (e : Engine R) (res name : Name) (sound : IsSound e) where
       pub lease_refused : (book : State) (why : Refusal) → book ≡ e.book → IsRefusal (stands e.book (lease_request e.book k)) why → why ≢ NoMemory
           → Carries e (lease res name) (Refused (Book why)) (with e book e.stock)
       lease_refused book why same refusal other =
-          refused_there e (lease res name) (lease_request e.book k) why book e.stock sound same refl lease_no_own_cause lease_agrees
+          refused_there book e.stock sound same refl lease_agrees
           (cause_of (stands e.book (lease_request e.book k)) why refusal other)
 
-      pub lease_accepted : (new : Engine R) (x : Named LeaseKey) → IsPromised new.book → Accepts e.book (lease_request e.book k) new.book
-          → x.key.number ≡ length e.book.history → IsTrue (has_lease_key new.book.lease_keys x.key) → name_of x ≡ name
-          → new.nodes ≡ e.nodes → new.hubs ≡ e.hubs → new.resources ≡ e.resources
-          → new.leases ≡ e.leases ++ x ∷ [] → new.stock.wares ≡ e.stock.wares → KeepsRest e new
-          → Carries e (lease res name) Accepted new
-      lease_accepted new x kept accepts number listed same_name same_nodes same_hubs same_resources pushed same_stock rest_kept =
-          let goes = accepted_continues e.book new.book (lease_request e.book k) accepts in
-          accepted_to e new (lease res name) (lease_request e.book k) sound kept lease_no_own_cause lease_agrees accepts
-          (same_stage new.book.history _ _ _ _ _ _ _ _ _ _ (ap (map node_binding) same_nodes)
-          (ap (map number_binding) same_hubs) (ap (map res_binding) same_resources)
-          (leases_bound e.leases new.leases x (length e.book.history) pushed number
-          ∙ ap (λ n. with_binding (map lease_binding e.leases) n (length e.book.history)) same_name)
-          same_stock)
-          (subst (All (λ n. IsNodeKey new.book n.key)) (sym same_nodes) (node_keys_kept e.book new.book e.nodes sound.kept kept goes sound.nodes))
-          (subst (All (λ n. IsHeldKey new.book n.key)) (sym same_resources) (held_keys_kept e.book new.book e.resources sound.kept kept goes sound.resources))
-          (all_pushed (λ n. IsLeaseKey new.book n.key) e.leases new.leases x pushed (lease_keys_kept e.book new.book e.leases sound.kept kept goes sound.leases)
-          (new_out_key e.book new.book (lease_request e.book k) x.key accepts number (omega arith) listed))
-          rest_kept
+      pub lease_accepted : {book : State} {leases : List (Named LeaseKey)} {given : LeaseKey} → IsPromised book
+          → Accepts e.book (lease_request e.book k) book → IsNewLeaseKey book (length e.book.history) given → Binds e.leases name given leases
+          → Carries e (lease res name) Accepted (record e { book = book; leases = leases })
+      lease_accepted {book} {leases} kept accepts given binds =
+          let older = keys_kept sound kept (accepted_continues e.book book (lease_request e.book k) accepts) in
+          accepted_to {new = record e { book = book; leases = leases }} sound lease_agrees (record {
+            kept = kept;
+            accepts = accepts;
+            staged = ap (λ bound. record (stored_stage e) { history = book.history; leases = bound }) (numbers_bound binds (λ j. j.number) given.number);
+            keys = record {
+              nodes = older.nodes;
+              resources = older.resources;
+              leases = all_bound binds (IsLeaseKey book) older.leases (new_out_key accepts given (omega arith));
+            };
+            rest = (refl, refl);
+          })
 
 -- giving one back ----------------------------------------------------------------------------------
 
@@ -114,7 +111,7 @@ module _ {R : Type 0} (e : Engine R) (name : Name) (sound : IsSound e) where
   pub return_nameless : key_of e.leases name ≡ None → Carries e (give_back name) (Refused NoName) (with e e.book e.stock)
   return_nameless none =
       let nameless : is_unbound (stored_stage e).leases name ≡ true = ap is_none (lease_unbound e.leases name none) in
-      refused_own e (give_back name) NoName e.book e.stock sound refl refl (rw nameless refl)
+      refused_own (give_back name) NoName e.book e.stock sound refl refl (rw nameless refl)
 
   module _ (k : LeaseKey) (at : key_of e.leases name ≡ Some k) where
     lease_named : bound (stored_stage e).leases name ≡ Some k.number
@@ -126,10 +123,11 @@ module _ {R : Type 0} (e : Engine R) (name : Name) (sound : IsSound e) where
     return_known : has_lease_key e.book.lease_keys k ≡ is_out e.book.history k.number
     return_known = has_lease_key-is_out e.book k sound.kept (key_of-holds (IsLeaseKey e.book) e.leases name k sound.leases at)
 
-    return_agrees : Agrees e.book (give_back_request e.book k) (stored_stage e) (give_back name)
+    return_agrees : Agrees e (give_back_request e.book k) (give_back name)
     return_agrees =
         let named = lease_named in
         record {
+          own = return_no_own_cause;
           called = rw named refl;
           same = return_same_cause (has_lease_key e.book.lease_keys k) e.book.base e.book.history e.book.limit
               (front_is_fresh (stored_stage e)) k.number return_known;
@@ -138,10 +136,10 @@ module _ {R : Type 0} (e : Engine R) (name : Name) (sound : IsSound e) where
     pub return_refused : (book : State) (why : Refusal) → book ≡ e.book → IsRefusal (stands e.book (give_back_request e.book k)) why → why ≢ NoMemory
         → Carries e (give_back name) (Refused (Book why)) (with e book e.stock)
     return_refused book why same refusal other =
-        refused_there e (give_back name) (give_back_request e.book k) why book e.stock sound same refl return_no_own_cause return_agrees
+        refused_there book e.stock sound same refl return_agrees
         (cause_of (stands e.book (give_back_request e.book k)) why refusal other)
 
     pub return_accepted : (book : State) → IsPromised book → Accepts e.book (give_back_request e.book k) book
         → Carries e (give_back name) Accepted (with e book e.stock)
     return_accepted book kept accepts =
-        accepted_plain e (give_back name) (give_back_request e.book k) book sound kept return_no_own_cause return_agrees accepts (λ h. refl)
+        accepted_plain sound return_agrees kept accepts (λ h. refl)

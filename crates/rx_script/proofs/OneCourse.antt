@@ -97,13 +97,13 @@ one_way_on : (s : Stage) (step : Command) (o : Option Call) (k j : List Event) �
 one_way_on s step None k j one other = one_rest s step k j one other
 one_way_on s step (Some call) k j one other = one_first_step s.history (outside_of s.history call) k j one other
 
-one_left : (f : Option Cause) (s : Stage) (step : Command) (a b : Answer) (x y : Stage) → Leaves f s step a x → Leaves f s step b y → (a ≡ b) × (x ≡ y)
-one_left (Some why) s step a b x y one other = (one.0 ∙ sym other.0, one.1 ∙ sym other.1)
-one_left None s step a b x y one other =
+one_left : (f : Option Cause) (s : Stage) (step : Command) {a b : Answer} {x y : Stage} → Leaves f s step a x → Leaves f s step b y → (a ≡ b) × (x ≡ y)
+one_left (Some why) s step one other = (one.0 ∙ sym other.0, one.1 ∙ sym other.1)
+one_left None s step one other =
     (one.2 ∙ sym other.2, one.3 ∙ ap (after s step) (one_way_on s step (call_of s step) one.0 other.0 one.1 other.1) ∙ sym other.3)
 
 one_executed : {s x y : Stage} {step : Command} {a b : Answer} → Executes in_one_order s step a x → Executes in_one_order s step b y → (a ≡ b) × (x ≡ y)
-one_executed {s = s} {x = x} {y = y} {step = step} {a = a} {b = b} one other = one_left (fate s step) s step a b x y (fated one) (fated other)
+one_executed {s = s} {step = step} one other = one_left (fate s step) s step (fated one) (fated other)
 
 -- one step after another -----------------------------------------------------------------------------------------------------------
 
@@ -129,26 +129,32 @@ one_played_on all_played all_played = refl
 one_played_on {y = y} (plays_one {done = done} did on) (plays_one other beyond) =
     one_played_on on (subst (λ (q : Stage). PlaysOn q done y) (sym (one_did did other).1) beyond)
 
--- where all before it is the same, a command is answered the same
-answered_alike : (k : ℕ) (one other : List Executed) {first x_last y_last : Stage} → PlaysOn first (map done_in one) x_last
-    → PlaysOn first (map done_in other) y_last → Agrees one other k → (x y : Executed) → slice_get one k ≡ Some x → slice_get other k ≡ Some y
-    → x.placed ≡ y.placed → (c : Command) → x.placed.step.action ≡ command c → x.answer ≡ y.answer
-answered_alike k [] other plays others agree x y at_x at_y same c is = absurd (cc)
-answered_alike k (e ∷ es) [] plays others agree x y at_x at_y same c is = absurd (cc)
-answered_alike zero (e ∷ es) (f ∷ fs) {first = first} (plays_one {q = p} did on) (plays_one {q = q} done beyond) agree x y at_x at_y same c is =
+-- two runs are the same before this place, and here come to these two steps, which are the same
+record MeetAt (one other : List Executed) (k : ℕ) (x y : Executed) : Type 0 where
+  pub before : Agrees one other k
+  pub at_one : slice_get one k ≡ Some x
+  pub at_other : slice_get other k ≡ Some y
+  pub same : x.placed ≡ y.placed
+
+-- there a command is answered the same
+answered_alike : (one other : List Executed) {k : ℕ} {x y : Executed} {first x_last y_last : Stage} {c : Command} → PlaysOn first (map done_in one) x_last
+    → PlaysOn first (map done_in other) y_last → MeetAt one other k x y → x.placed.step.action ≡ command c → x.answer ≡ y.answer
+answered_alike [] other plays others meet is = let at_x = meet.at_one in absurd (cc)
+answered_alike (e ∷ es) [] plays others meet is = let at_y = meet.at_other in absurd (cc)
+answered_alike (e ∷ es) (f ∷ fs) {k = zero} {x} {y} {first = first} {c = c} (plays_one {q = p} did on) (plays_one {q = q} done beyond) meet is =
     (one_did did_x did_y).0 c is where
       did_x : Does in_one_order first x.placed.step.action x.answer p
-      did_x = subst (λ (v : Executed). Does in_one_order first v.placed.step.action v.answer p) (same_Some e x at_x) did
+      did_x = subst (λ (v : Executed). Does in_one_order first v.placed.step.action v.answer p) (same_Some e x meet.at_one) did
 
       did_y : Does in_one_order first x.placed.step.action y.answer q
-      did_y = subst (λ (v : Placed). Does in_one_order first v.step.action y.answer q) (sym same)
-          (subst (λ (v : Executed). Does in_one_order first v.placed.step.action v.answer q) (same_Some f y at_y) done)
-answered_alike (suc k) (e ∷ es) (f ∷ fs) {first = first} {y_last = last} (plays_one {q = p} did on) (plays_one {q = q} done beyond)
-    agree x y at_x at_y same c is =
-    answered_alike k es fs on (subst (λ (s : Stage). PlaysOn s (map done_in fs) last) (sym stage) beyond) (λ j lt. agree (suc j) (omega arith)) x y at_x at_y
-    same c is where
+      did_y = subst (λ (v : Placed). Does in_one_order first v.step.action y.answer q) (sym meet.same)
+          (subst (λ (v : Executed). Does in_one_order first v.placed.step.action v.answer q) (same_Some f y meet.at_other) done)
+answered_alike (e ∷ es) (f ∷ fs) {k = suc k} {x} {y} {first = first} {y_last = last} (plays_one {q = p} did on) (plays_one {q = q} done beyond) meet is =
+    let further : MeetAt es fs k x y =
+    record { before = λ j lt. meet.before (suc j) (omega arith); at_one = meet.at_one; at_other = meet.at_other; same = meet.same } in
+    answered_alike es fs on (subst (λ (s : Stage). PlaysOn s (map done_in fs) last) (sym stage) beyond) further is where
       alike : e ≡ f
-      alike = same_Some e f (agree 0 (omega arith))
+      alike = same_Some e f (meet.before 0 (omega arith))
 
       stage : p ≡ q
       stage = (one_did did (subst (λ (v : Executed). Does in_one_order first v.placed.step.action v.answer q) (sym alike) done)).1
@@ -164,8 +170,9 @@ one_canonical_course script stock c d one other = λ i. record { answers = answe
       → x.placed ≡ y.placed → x.answer ≡ y.answer
   alike k agree x y at_x at_y same = by_action x.placed.step.action refl where
     by_action : (action : Action) → x.placed.step.action ≡ action → x.answer ≡ y.answer
-    by_action (command what) is = answered_alike k one.executed other.executed (plays c one) (plays d other) agree x y at_x at_y same what is
-    by_action (cancel label) is = cancel_alike script.steps one.executed other.executed k agree x y same label x.answer y.answer
+    by_action (command what) is = answered_alike one.executed other.executed (plays c one) (plays d other)
+        (record { before = agree; at_one = at_x; at_other = at_y; same = same }) is
+    by_action (cancel label) is = cancel_alike agree y same label x.answer y.answer
         (one.answered k x label at_x is) (other.answered k y label at_y (ap (λ (p : Placed). p.step.action) (sym same) ∙ is))
 
   executed : one.executed ≡ other.executed

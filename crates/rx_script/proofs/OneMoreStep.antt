@@ -42,10 +42,10 @@ module _ {R : Type 0} where
     clock = refl;
   }
 
-  pub performed_cancel : (e : Engine R) (a now : AgendaInCode) (label : String Global) (answer : Answer) → IsSound e
+  pub performed_cancel : {e : Engine R} (a now : AgendaInCode) (label : String Global) (answer : Answer) → IsSound e
       → Cancels (agenda_of a) (string_bytes label) answer (agenda_of now) → size_left now ≤ size_left a → now.timeline.clock ≡ a.timeline.clock
       → Performed e a (Cancel label) answer e now
-  performed_cancel e a now label answer sound cancelled size clock = record {
+  performed_cancel a now label answer sound cancelled size clock = record {
     performs = λ h w. (h, cancels cancelled, w);
     sound = sound;
     limit = refl;
@@ -120,6 +120,6 @@ module _ {R : Type 0} where
         )
 
   -- it has led to its end
-  pub has_ended : (limit until : ℕ) (first e : Engine R) (begun now : AgendaInCode) (answers : List Answer) → HasLed limit until first begun answers e now
+  pub has_ended : {limit : ℕ} (until : ℕ) (first e : Engine R) (begun now : AgendaInCode) (answers : List Answer) → HasLed limit until first begun answers e now
       → next_step until (agenda_of now) ≡ None → MovesOn first e (λ s t. Ends (limited limit) until (record { stage = s; agenda = agenda_of begun }) answers t)
-  has_ended limit until first e begun now answers led none = λ h w. let to = led h w in (to.0, record { left = agenda_of now; leads = to.1; over = none }, to.2)
+  has_ended until first e begun now answers led none = λ h w. let to = led h w in (to.0, record { left = agenda_of now; leads = to.1; over = none }, to.2)

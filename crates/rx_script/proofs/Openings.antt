@@ -1,7 +1,7 @@
 -- Names that commands bind, places where nodes are opened, and what is known of a name that is new.
 use Rattle.std.proofs.Common.{◌≡◌, ◌<◌, ◌+◌, ◌++◌, ◌∷◌, [], ℕ, List, Bool, true, false, cond}
 use Rattle.std.proofs.Common.{String, Global, string_bytes, refl, sym, ap, subst, ◌∙◌, map, length, arith}
-use Rattle.std.specs.Prelude.{◌||◌, Option, Some, None, IsTrue, IfSome, is_none, is_some, option_map}
+use Rattle.std.specs.Prelude.{◌||◌, Option, Some, None, IfSome, is_none, is_some, option_map}
 use Rattle.std.specs.Str.{bytes_eq}
 use Rattle.std.specs.Option.{option_map_or}
 use Rattle.std.proofs.Math.Bool.{not}
@@ -22,12 +22,12 @@ use Rattle.rx_book.specs.declared.answer.At.TheVariants.{Root as AtRoot, Source 
 use Rattle.rx_book.specs.State.{State, has_key, has_res_key, has_lease_key}
 use Rattle.rx_event.specs.Causes.{is_gone}
 use Rattle.rx_book.specs.Requests.{Request, place_of, is_known_place}
-use Rattle.rx_book.specs.Answers.{Accepts, IsOpened, makes_connection}
+use Rattle.rx_book.specs.Answers.{Accepts, IsNewKey, IsNewResKey, IsNewLeaseKey, IsOpened, makes_connection}
 use Rattle.rx_agenda.specs.declared.names.Named.{Named}
 use Rattle.rx_script.specs.declared.engine.Engine.{Engine}
 use Rattle.rx_scenario.specs.Scenario.{Name, Site, root, source, inner, notifier}
 use Rattle.rx_agenda.specs.Bindings.{Binding, bound, is_bound, is_unbound, with_binding}
-use Rattle.rx_script.specs.Stage.{Ware, Stage, is_unbound_site, place_at, with_connection}
+use Rattle.rx_script.specs.Stage.{Stage, is_unbound_site, place_at, with_connection}
 use Rattle.rx_agenda.specs.Names.{name_of, key_of}
 use Rattle.rx_report.specs.Keys.{node_binding, res_binding, lease_binding, IsNodeKey, IsHeldKey, IsLeaseKey}
 use Rattle.rx_agenda.specs.Shown.{number_binding}
@@ -126,53 +126,49 @@ site_nameless e (notifier name) at = below_nameless e notifier_below name at
 
 -- new names ----------------------------------------------------------------------------------------
 
-pub new_node_key : (old new : State) (asked : Request) (k : Key) → Accepts old asked new
-    → k.number ≡ length old.history → 0 < length (outside_of old.history asked.call)
-    → IsTrue (has_key new.keys k) → IsNodeKey new k
-new_node_key old new asked k accepts number some listed =
+pub new_node_key : {old new : State} {asked : Request} {k : Key} → Accepts old asked new → IsNewKey new (length old.history) k
+    → 0 < length (outside_of old.history asked.call) → IsNodeKey new k
+new_node_key {old} {new} {asked} {k} accepts given some =
     let longer = step_longer old.base old.history new.history asked.call accepts.step in
-    record { within = omega arith; found = λ open_now. has_key-contained new.keys k listed }
+    let number = given.number in
+    record { within = omega arith; found = λ open_now. has_key-contained new.keys k given.listed }
 
-pub new_held_key : (old new : State) (asked : Request) (k : ResKey) (place : ℕ) → Accepts old asked new
-    → k.number ≡ length old.history + place → place < length (outside_of old.history asked.call)
-    → IsTrue (has_res_key new.res_keys k) → IsHeldKey new k
-new_held_key old new asked k place accepts number some listed =
+pub new_held_key : {old new : State} {asked : Request} {place : ℕ} {k : ResKey} → Accepts old asked new → IsNewResKey new place k
+    → place < length old.history + length (outside_of old.history asked.call) → IsHeldKey new k
+new_held_key {old} {new} {asked} {k = k} accepts given some =
     let longer = step_longer old.base old.history new.history asked.call accepts.step in
-    record { within = omega arith; found = λ held_now. has_res_key-contained new.res_keys k listed }
+    let number = given.number in
+    record { within = omega arith; found = λ held_now. has_res_key-contained new.res_keys k given.listed }
 
-pub new_out_key : (old new : State) (asked : Request) (k : LeaseKey) → Accepts old asked new
-    → k.number ≡ length old.history → 0 < length (outside_of old.history asked.call)
-    → IsTrue (has_lease_key new.lease_keys k) → IsLeaseKey new k
-new_out_key old new asked k accepts number some listed =
+pub new_out_key : {old new : State} {asked : Request} {k : LeaseKey} → Accepts old asked new → IsNewLeaseKey new (length old.history) k
+    → 0 < length (outside_of old.history asked.call) → IsLeaseKey new k
+new_out_key {old} {new} {asked} {k} accepts given some =
     let longer = step_longer old.base old.history new.history asked.call accepts.step in
-    record { within = omega arith; found = λ out_now. has_lease_key-contained new.lease_keys k listed }
+    let number = given.number in
+    record { within = omega arith; found = λ out_now. has_lease_key-contained new.lease_keys k given.listed }
 
-pub nodes_bound : (xs ys : List (Named Key)) (x : Named Key) (number : ℕ) → ys ≡ xs ++ x ∷ []
-    → x.key.number ≡ number → map node_binding ys ≡ with_binding (map node_binding xs) (name_of x) number
-nodes_bound xs ys x number pushed same =
-    ap (map node_binding) pushed ∙ map-append node_binding xs (x ∷ []) ∙ ap (λ n. with_binding (map node_binding xs) (name_of x) n) same
+-- one more name is bound, to this key
+pub record Binds {K : Type 0} (old : List (Named K)) (name : Name) (key : K) (new : List (Named K)) : Type 0 where
+  pub text : String Global
+  pub spelt : string_bytes text ≡ name
+  pub pushed : new ≡ old ++ record { name = text; key = key } ∷ []
 
-pub resources_bound : (xs ys : List (Named ResKey)) (x : Named ResKey) (number : ℕ) → ys ≡ xs ++ x ∷ []
-    → x.key.number ≡ number → map res_binding ys ≡ with_binding (map res_binding xs) (name_of x) number
-resources_bound xs ys x number pushed same =
-    ap (map res_binding) pushed ∙ map-append res_binding xs (x ∷ []) ∙ ap (λ n. with_binding (map res_binding xs) (name_of x) n) same
+-- a name with its key's number
+abbrev pub binding_by : {K : Type 0} → (K → ℕ) → Named K → Binding
+binding_by number_of n = record { name = name_of n; number = number_of n.key }
 
-pub leases_bound : (xs ys : List (Named LeaseKey)) (x : Named LeaseKey) (number : ℕ) → ys ≡ xs ++ x ∷ []
-    → x.key.number ≡ number → map lease_binding ys ≡ with_binding (map lease_binding xs) (name_of x) number
-leases_bound xs ys x number pushed same =
-    ap (map lease_binding) pushed ∙ map-append lease_binding xs (x ∷ []) ∙ ap (λ n. with_binding (map lease_binding xs) (name_of x) n) same
+module _ {K : Type 0} {old new : List (Named K)} {name : Name} {key : K} (binds : Binds old name key new) where
+  abbrev last : Named K
+  last = record { name = binds.text; key = key }
 
-pub same_stage : (h : List Event) (n m g i r s j k : List Binding) (u v : List Ware) → n ≡ m → g ≡ i → r ≡ s → j ≡ k → u ≡ v
-    → let stage : List Binding → List Binding → List Binding → List Binding → List Ware → Stage =
-    λ x y z l w. record { history = h; checked = 0; nodes = x; hubs = y; resources = z; leases = l; stock = w } in
-    stage n g r j u ≡ stage m i s k v
-same_stage h n m g i r s j k u v p o q a t =
-    let stage : List Binding → List Binding → List Binding → List Binding → List Ware → Stage =
-    λ x y z l w. record { history = h; checked = 0; nodes = x; hubs = y; resources = z; leases = l; stock = w } in
-    ap (λ x. stage x g r j u) p ∙ ap (λ y. stage m y r j u) o ∙ ap (λ z. stage m i z j u) q ∙ ap (λ l. stage m i s l u) a ∙ ap (λ w. stage m i s k w) t
+  pub numbers_bound : (number_of : K → ℕ) {number : ℕ} → number_of key ≡ number
+      → map (binding_by number_of) new ≡ with_binding (map (binding_by number_of) old) name number
+  numbers_bound number_of same =
+      ap (map (binding_by number_of)) binds.pushed ∙ map-append (binding_by number_of) old (last ∷ [])
+      ∙ (λ i. with_binding (map (binding_by number_of) old) (binds.spelt i) (same i))
 
-pub all_pushed : {A : Type 0} (P : A → Type 0) (xs ys : List A) (x : A) → ys ≡ xs ++ x ∷ [] → All P xs → P x → All P ys
-all_pushed P xs ys x pushed all here = subst (All P) (sym pushed) (All-push P xs x all here)
+  pub all_bound : (P : K → Type 0) → All (λ n. P n.key) old → P key → All (λ n. P n.key) new
+  all_bound P all here = subst (All (λ n. P n.key)) (sym binds.pushed) (All-push (λ n. P n.key) old last all here)
 
 -- names for connections ----------------------------------------------------------------------------
 

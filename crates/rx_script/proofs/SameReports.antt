@@ -105,10 +105,14 @@ module _ (r s : ℕ → ℕ) (h c : List Event) (a : AreSameBy nothing_kept r s 
       (a.shown_back.held p made ∙ held, a.shown_back.apart p (made_at makes_resource is_named resource_named c p made))
 
   held_same : held_resources c ≡ map r (held_resources h)
-  held_same = same_list r s (is_held h) (is_held c) (length h) (length c) (is_held_within h) (is_held_within c)
-      (λ p held. a.shown.held p (held_resource h p held) ∙ held) held_back
-      (λ m n held also l. a.shown.in_order m n (made_at makes_resource is_named resource_named h m (held_resource h m held))
-      (made_at makes_resource is_named resource_named h n (held_resource h n also)) l)
+  held_same = same_list r s (is_held h) (is_held c) (length h) (length c) (record {
+    within = is_held_within h;
+    within_there = is_held_within c;
+    there = λ p held. a.shown.held p (held_resource h p held) ∙ held;
+    back = held_back;
+    grows = λ m n held also l. a.shown.in_order m n (made_at makes_resource is_named resource_named h m (held_resource h m held))
+        (made_at makes_resource is_named resource_named h n (held_resource h n also)) l;
+  })
 
   held_count_same : held_count c ≡ held_count h
   held_count_same = sym (length-filter (is_held c) (places c)) ∙ ap length held_same ∙ length-map (held_resources h) r ∙ length-filter (is_held h) (places h)

@@ -50,10 +50,10 @@ known_number h (Disconnecting g) known = known
 known_number h _ known = tt
 
 -- the book's cause is the same with no limit
-cause_same : (r s : ℕ → ℕ) (x y : Stage) (limit : ℕ) (call : Call) → AreSameStages r s x y → NamesKnown x.history call
+cause_same : {r : ℕ → ℕ} (s : ℕ → ℕ) (x y : Stage) (limit : ℕ) (call : Call) → AreSameStages r s x y → NamesKnown x.history call
     → (book_cause limit x call ≡ Some Full → ⊥)
     → cause_in in_one_order y (call_by r call) ≡ book_cause limit x call
-cause_same r s x y limit call a known room =
+cause_same {r} s x y limit call a known room =
     ap (λ (fresh : Bool). first_cause (unlimited (causes nothing_kept y.history 0 fresh (call_by r call))))
     (ap (λ (w : Option Ware). option_map_or (λ v. v.is_fresh) w true) (front_same r s x y a))
     ∙ same_cause nothing_kept r s x.history y.history a.histories 0 (x.checked + limit) (front_is_fresh x) call known
@@ -102,14 +102,14 @@ module _ (r s : ℕ → ℕ) (x y : Stage) (a : AreSameStages r s x y) where
     called_there = call_same r s x y a command ∙ ap (option_map (call_by r)) called
 
     free : cause_in in_one_order y (call_by r call) ≡ None
-    free = cause_same r s x y limit call a known (λ full. none-some Full (sym none ∙ full)) ∙ none
+    free = cause_same s x y limit call a known (λ full. none-some Full (sym none ∙ full)) ∙ none
 
     w : FirstStep y.history (outside_of y.history (call_by r call))
     w = ordered_step y.history (front_is_fresh y) (call_by r call) a.histories.numbers.other_law a.settled_there
         (call_ready y command (call_by r call) called_there) free
 
     since : AreSameSince nothing_kept r x.history y.history k w.last
-    since = steps_same nothing_kept r s x.history y.history k w.last call a.histories (known_number x.history call known) step w.step.step
+    since = steps_same call a.histories (known_number x.history call known) step w.step.step
 
   drained_alike : (k : List Event) → Drains nothing_kept x.history k → ExecutedAlike y drain Accepted (after x drain k)
   drained_alike k drains = record {
@@ -118,7 +118,7 @@ module _ (r s : ℕ → ℕ) (x y : Stage) (a : AreSameStages r s x y) where
     reads_back = s;
     done = drained o.drains;
     same = same_on r s r s x y k o.last a (record {
-      same = drained_same nothing_kept r s x.history y.history k o.last a.histories d.takes drains.none_waits o.drained.takes o.none;
+      same = drained_same y.history k o.last a.histories d.takes drains.none_waits o.drained.takes o.none;
       older = λ n l. refl;
       settled = d.settled;
       settled_there = o.drained.settled;
@@ -159,7 +159,7 @@ module _ (r s : ℕ → ℕ) (x y : Stage) (a : AreSameStages r s x y) where
   executed_alike (refused {step = command} {why = why} own) room = not_done command why (refused (own_same r s x y a command ∙ own))
   executed_alike {limit = limit} (refused_by_book {step = command} {call = call} {why = why} own called stands) room =
       not_done command (Book why) (refused_by_book (own_same r s x y a command ∙ own) (call_same r s x y a command ∙ ap (option_map (call_by r)) called)
-      (cause_same r s x y limit call a (call_known r s x y a command call called)
+      (cause_same s x y limit call a (call_known r s x y a command call called)
       (λ full. false≢true (sym room ∙ ap (λ (z : Refusal). is_full (Refused (Book z))) (same_Some why Full (sym stands ∙ full)))) ∙ stands))
   executed_alike {limit = limit} (accepted {step = command} {call = call} k own called none step) room = done_alike limit command call k own called none step
   executed_alike (drained {k = k} drains) room = drained_alike k drains

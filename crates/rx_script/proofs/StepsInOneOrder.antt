@@ -104,7 +104,7 @@ ordered_step h fresh call law settled ready none =
 -- a taking forces nothing
 pub settled_take : (h : List Event) (q : ℕ) → IsLawful nothing_kept h → MayFollow nothing_kept h (Take q)
     → IsSettled nothing_kept h → IsSettled nothing_kept (h ++ Take q ∷ [])
-settled_take h q law next settled = settled_on nothing_kept h (Take q) law next settled refl (λ n. refl) (closes_none_kept h (Take q) refl) refl
+settled_take h q law next settled = settled_on law next settled refl (λ n. refl) (closes_none_kept h (Take q) refl) refl
 
 -- a history has all that nothing shows
 none_shown : (h : List Event) → length (shown nothing_kept) ≤ length h

@@ -48,9 +48,9 @@ reported_as script stock c is room = record {
   found : Course
   found = record { answers = c.answers; last = w.last }
 
-canonical_report : (script : Script) (stock : List Ware) (form : Form) (c : Course) (text : List ℕ) (faults : ℕ) → IsCourseOf script stock c
+canonical_report : {script : Script} (stock : List Ware) (form : Form) (c : Course) (text : List ℕ) (faults : ℕ) → IsCourseOf script stock c
     → text ≡ output form c faults → HasNoFull c.answers → IsReportedCanonically script stock form c text faults
-canonical_report script stock form c text faults is lines room =
+canonical_report {script} stock form c text faults is lines room =
     let w = reported_as script stock c is room in
     record {
       one = w.one;
@@ -107,4 +107,4 @@ module _ {R : Type 0} (form : Form) (script : Script) (stock : List Ware) (limit
       → (c : Course) × (n : ℕ) × IsCourseOf script stock c × (n ≤ accepted_count nothing_kept c.last.history) × (whole ≡ output form c n)
       × (HasNoFull c.answers → IsReportedCanonically script stock form c whole n)
   whole_output at_end most kept few_at_end sum =
-      (course, faults, possible, few at_end most kept few_at_end sum, lines_whole, canonical_report script stock form course whole faults possible lines_whole)
+      (course, faults, possible, few at_end most kept few_at_end sum, lines_whole, canonical_report stock form course whole faults possible lines_whole)

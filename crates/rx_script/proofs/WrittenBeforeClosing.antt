@@ -30,10 +30,10 @@ module _ {R : Type 0} (e : Engine R) (sound : IsSound e) (h : List Event) (w : I
   all_gathered u given gathers = record { tallies = gathered w sound.kept u gathers; agree = history_agrees w sound.kept }
 
   -- the lines, one kind after the other
-  pub lines_report : (answers : List Answer) (a b c d : List ℕ) → a ≡ refused_lines answers → b ≡ a ++ node_lines h (map node_binding e.nodes)
+  pub lines_report : (answers : List Answer) {a : List ℕ} (b c d : List ℕ) → a ≡ refused_lines answers → b ≡ a ++ node_lines h (map node_binding e.nodes)
       → c ≡ b ++ res_lines h (map res_binding e.resources) → d ≡ c ++ totals_line (totals_of nothing_kept h) → d ≡ unclosed_report answers (stage_of e h)
   unfolding unclosed_report
-  lines_report answers a b c d refusals nodes resources totals =
+  lines_report answers b c d refusals nodes resources totals =
       let two : List ℕ = node_lines h (map node_binding e.nodes) in
       let three : List ℕ = res_lines h (map res_binding e.resources) in
       let four : List ℕ = totals_line (totals_of nothing_kept h) in
@@ -50,12 +50,12 @@ written_of (Ok x) p q s f a = f x p q s a
 written_of (Err e) p q s f a = a
 
 -- a run that led here, and what is written of it
-pub carried_out : {R : Type 0} (m : Manner) (until : ℕ) (first : Progress) (form : Form) (text : List ℕ) (e new : Engine R)
-    (answers : List Answer) (k : List Event)
+pub carried_out : {R : Type 0} {m : Manner} {until : ℕ} {first : Progress} {form : Form} {text : List ℕ} {e : Engine R} (new : Engine R)
+    {answers : List Answer} {k : List Event}
     → IsSound e → Ends m until first answers (stage_of e k) → IsHistoryOf k e.tallies e.book
     → ((form ≡ Dump → e.book.base.at_length ≡ 0) → text ≡ unclosed_output form answers (stage_of e k))
     → new.book.base ≡ e.book.base → new.book.history ≡ e.book.history → new.faults ≡ e.faults → IsCarriedOut m until first form text new
-carried_out m until first form text e new answers k sound ends w lines same_base same_history same_faults = record {
+carried_out {e} new {answers} {k} sound ends w lines same_base same_history same_faults = record {
   answers = answers;
   last = stage_of e k;
   ends = ends;

@@ -117,11 +117,10 @@ unfolding bound is_open is_shut ancestors parent most_nodes
 led_to_four =
     let begun : Led stock steps [] (begin stock steps) = record { least = 0; leads = λ limit room. not_begun } in
     let first = led_on (using a root a) (turn_of (doing (using b root b) ∷ doing (dispose a) ∷ doing (dispose b) ∷ doing drain ∷ []))
-    (OpeningUsing Root 5) one refl refl refl refl to_one begun in
-    let second = led_on (using b root b) (turn_of (doing (dispose a) ∷ doing (dispose b) ∷ doing drain ∷ []))
-    (OpeningUsing Root 6) two refl refl refl refl to_two first in
-    let third = led_on (dispose a) (turn_of (doing (dispose b) ∷ doing drain ∷ [])) (Disposing 0) three refl refl refl refl to_three second in
-    led_on (dispose b) (turn_of (doing drain ∷ [])) (Disposing 2) four refl refl refl refl to_four third
+    refl refl refl refl to_one begun in
+    let second = led_on (using b root b) (turn_of (doing (dispose a) ∷ doing (dispose b) ∷ doing drain ∷ [])) refl refl refl refl to_two first in
+    let third = led_on (dispose a) (turn_of (doing (dispose b) ∷ doing drain ∷ [])) refl refl refl refl to_three second in
+    led_on (dispose b) (turn_of (doing drain ∷ [])) refl refl refl refl to_four third
 
 abbrev course : List Event → Course
 course k = record { answers = Accepted ∷ Accepted ∷ Accepted ∷ Accepted ∷ Accepted ∷ []; last = record at_four { history = k } }

@@ -22,7 +22,7 @@ use Rattle.rx_event.specs.Calls.{Opening, Emitting, Ending, Publishing}
 use Rattle.rx_event.specs.Canonical.{source_end, first_forced, IsFirstStep, nothing_yet, first_next}
 use Rattle.rx_agenda.specs.declared.answer.Answer.TheVariants.{Accepted}
 use Rattle.rx_agenda.specs.Bindings.{bound}
-use Rattle.rx_scenario.specs.Scenario.{Name, root, source, notifier, leaf, until, sub, Command, make_hub, open_node, next, end, no_steps, Step, Script}
+use Rattle.rx_scenario.specs.Scenario.{Name, root, source, notifier, leaf, until, sub, Command, make_hub, open_node, next, end, Step, Script}
 use Rattle.rx_script.specs.Stage.{Stage}
 use Rattle.rx_script.specs.Course.{in_one_order, Course, IsCanonicalCourseOf}
 use Rattle.rx_report.specs.Text.{refused_line, node_line, note_text, totals_line, closed_line}
@@ -95,40 +95,40 @@ ended = leaf_made ++ End 5 Completed ∷ End 3 Completed ∷ End 2 Completed ∷
 to_hub : IsFirstStep nothing_kept [] (Hub Auto ∷ []) hub_made
 unfolding first_forced source_end child_terminal source_completed open_children is_fired owed projections moments stops climb most_visits most_nodes is_open
     is_shut ancestors parent most_hubs
-to_hub = ordered_to [] true (Publishing Auto) hub_made nothing_stands tt refl nothing_yet refl
+to_hub = ordered_to true (Publishing Auto) hub_made nothing_stands tt refl nothing_yet refl
 
 to_until : IsFirstStep nothing_kept hub_made (Open Root Until ∷ []) until_made
 unfolding first_forced source_end child_terminal source_completed open_children is_fired owed projections moments stops climb most_visits most_nodes is_open
     is_shut ancestors parent
-to_until = ordered_to hub_made true (Opening Root Until) until_made (stands_after (Publishing Auto) to_hub) tt refl nothing_yet refl
+to_until = ordered_to true (Opening Root Until) until_made (stands_after (Publishing Auto) to_hub) tt refl nothing_yet refl
 
 to_source : IsFirstStep nothing_kept until_made (Open (Source 1) (Sub 0) ∷ []) source_made
 unfolding first_forced source_end child_terminal source_completed open_children is_fired owed projections moments stops climb most_visits most_nodes is_open
     is_shut ancestors parent
-to_source = ordered_to until_made true (Opening (Source 1) (Sub 0)) source_made (stands_after (Opening Root Until) to_until) tt refl
+to_source = ordered_to true (Opening (Source 1) (Sub 0)) source_made (stands_after (Opening Root Until) to_until) tt refl
     (first_next nothing_yet refl) refl
 
 to_notifier : IsFirstStep nothing_kept source_made (Open (Notifier 1) (Sub 0) ∷ []) notifier_made
 unfolding first_forced source_end child_terminal source_completed open_children is_fired owed projections moments stops climb most_visits most_nodes is_open
     is_shut ancestors parent
-to_notifier = ordered_to source_made true (Opening (Notifier 1) (Sub 0)) notifier_made (stands_after (Opening (Source 1) (Sub 0)) to_source) tt refl
+to_notifier = ordered_to true (Opening (Notifier 1) (Sub 0)) notifier_made (stands_after (Opening (Source 1) (Sub 0)) to_source) tt refl
     nothing_yet refl
 
 to_leaf : IsFirstStep nothing_kept notifier_made (Open (Source 3) Leaf ∷ []) leaf_made
 unfolding first_forced source_end child_terminal source_completed open_children is_fired owed projections moments stops climb most_visits most_nodes is_open
     is_shut ancestors parent
-to_leaf = ordered_to notifier_made true (Opening (Source 3) Leaf) leaf_made (stands_after (Opening (Notifier 1) (Sub 0)) to_notifier) tt refl nothing_yet refl
+to_leaf = ordered_to true (Opening (Source 3) Leaf) leaf_made (stands_after (Opening (Notifier 1) (Sub 0)) to_notifier) tt refl nothing_yet refl
 
 to_item : IsFirstStep nothing_kept leaf_made (Item 5 (pos 9) ∷ []) fired
 unfolding first_forced source_end child_terminal source_completed open_children is_fired owed projections moments stops climb most_visits visits most_nodes
     is_open is_shut ancestors parent
-to_item = ordered_to leaf_made true (Emitting 5 (pos 9)) fired (stands_after (Opening (Source 3) Leaf) to_leaf) tt refl
+to_item = ordered_to true (Emitting 5 (pos 9)) fired (stands_after (Opening (Source 3) Leaf) to_leaf) tt refl
     (first_next (first_next nothing_yet refl) refl) refl
 
 to_end : IsFirstStep nothing_kept leaf_made (End 5 Completed ∷ []) ended
 unfolding first_forced source_end child_terminal source_completed open_children is_fired owed projections moments stops climb most_visits most_nodes is_open
     is_shut ancestors parent
-to_end = ordered_to leaf_made true (Ending 5 Completed) ended (stands_after (Opening (Source 3) Leaf) to_leaf) tt refl
+to_end = ordered_to true (Ending 5 Completed) ended (stands_after (Opening (Source 3) Leaf) to_leaf) tt refl
     (first_next (first_next (first_next nothing_yet refl) refl) refl) refl
 
 -- their courses ----------------------------------------------------------------------------------------------------------------------
@@ -152,33 +152,25 @@ to_last : (last : Command) → Ordered [] (steps last) 0 (Accepted ∷ Accepted 
     (record { stage = stage leaf_made; agenda = turn_of (doing last ∷ []) })
 unfolding bound is_open is_shut ancestors parent most_nodes most_hubs owed projections moments stops climb most_visits
 to_last last =
-    let first = ordered_on (steps last) None None (make_hub h Auto) no_steps (turn_of (from_until last)) (Publishing Auto) hub_made refl refl refl refl to_hub
-    (first_of_all [] (steps last) 0) in
-    let second = ordered_on (steps last) None None (open_node u root until) no_steps
-    (turn_of (from_source last)) (Opening Root Until) until_made refl refl refl refl to_until first in
-    let third = ordered_on (steps last) None None (open_node s (source u) (sub h (Some c))) no_steps
-    (turn_of (from_notifier last)) (Opening (Source 1) (Sub 0)) source_made
-    refl refl refl refl to_source second in
-    let fourth =
-    ordered_on (steps last) None None (open_node n (notifier u) (sub h None)) no_steps (turn_of (from_leaf last)) (Opening (Notifier 1) (Sub 0)) notifier_made
-    refl refl refl refl to_notifier third in
-    ordered_on (steps last) None None (open_node l (source c) leaf) no_steps
-    (turn_of (doing last ∷ [])) (Opening (Source 3) Leaf) leaf_made refl refl refl refl to_leaf fourth
+    let none = first_of_all [] (steps last) 0 in
+    let first = ordered_on none (make_hub h Auto) (Publishing Auto) refl refl refl refl to_hub in
+    let second = ordered_on first (open_node u root until) (Opening Root Until) refl refl refl refl to_until in
+    let third = ordered_on second (open_node s (source u) (sub h (Some c))) (Opening (Source 1) (Sub 0)) refl refl refl refl to_source in
+    let fourth = ordered_on third (open_node n (notifier u) (sub h None)) (Opening (Notifier 1) (Sub 0)) refl refl refl refl to_notifier in
+    ordered_on fourth (open_node l (source c) leaf) (Opening (Source 3) Leaf) refl refl refl refl to_leaf
 
 -- each is the one, whatever number of events the scenario allows
 pub item_course : (events : ℕ) → IsCanonicalCourseOf (script (next l (pos 9)) events) [] (course fired)
 unfolding bound is_open is_shut ancestors parent most_nodes most_hubs owed projections moments stops climb most_visits visits
 item_course events =
-    let last = ordered_on (steps (next l (pos 9))) None None (next l (pos 9)) no_steps
-    (turn_of []) (Emitting 5 (pos 9)) fired refl refl refl refl to_item (to_last (next l (pos 9))) in
+    let last = ordered_on (to_last (next l (pos 9))) (next l (pos 9)) (Emitting 5 (pos 9)) refl refl refl refl to_item in
     course_in_order in_one_order (script (next l (pos 9)) events) [] (course fired).answers
     (stage fired) (record { left = turn_of []; leads = last; over = refl })
 
 pub end_course : (events : ℕ) → IsCanonicalCourseOf (script (end l Completed) events) [] (course ended)
 unfolding bound is_open is_shut ancestors parent most_nodes most_hubs owed projections moments stops climb most_visits visits
 end_course events =
-    let last = ordered_on (steps (end l Completed)) None None (end l Completed) no_steps
-    (turn_of []) (Ending 5 Completed) ended refl refl refl refl to_end (to_last (end l Completed)) in
+    let last = ordered_on (to_last (end l Completed)) (end l Completed) (Ending 5 Completed) refl refl refl refl to_end in
     course_in_order in_one_order (script (end l Completed) events) [] (course ended).answers
     (stage ended) (record { left = turn_of []; leads = last; over = refl })
 

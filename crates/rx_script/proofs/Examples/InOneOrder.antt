@@ -33,11 +33,11 @@ pub nothing_stands : Stands []
 nothing_stands = record { law = IsLawful_nothing; settled = settled_empty nothing_kept }
 
 -- a call against which no cause stands, and what it forces in the one order
-pub ordered_to : (h : List Event) (fresh : Bool) (call : Call) (k : List Event) → Stands h → IsReady h call
+pub ordered_to : {h : List Event} (fresh : Bool) (call : Call) (k : List Event) → Stands h → IsReady h call
     → first_cause (unlimited (causes nothing_kept h 0 fresh call)) ≡ None → IsFirstOn nothing_kept (h ++ outside_of h call) k
     → first_forced nothing_kept k ≡ None → IsFirstStep nothing_kept h (outside_of h call) k
-ordered_to h fresh call k stands ready none ordered over = record {
-  step = step_to h fresh call k stands.law stands.settled ready none (first_forced_on nothing_kept ordered) over;
+ordered_to {h} fresh call k stands ready none ordered over = record {
+  step = step_to fresh call stands.law stands.settled ready none (first_forced_on nothing_kept ordered) over;
   ordered = ordered;
 }
 
@@ -51,36 +51,43 @@ Ordered stock steps until answers p = Leads in_one_order until (begin stock step
 pub first_of_all : (stock : List Ware) (steps : List Step) (until : ℕ) → Ordered stock steps until [] (begin stock steps)
 first_of_all stock steps until = not_begun
 
--- and one more, which is accepted
-pub ordered_on : {stock : List Ware} (steps : List Step) {until : ℕ} {answers : List Answer} {p : Progress}
-    (label : Option Name) (delay : Option ℕ) (c : Command) (followers : Steps) (rest : Agenda) (call : Call) (k : List Event)
+-- and one more, whose command makes this call and is accepted
+pub ordered_on : {until : ℕ} {first p : Progress} {answers : List Answer} {label : Option Name} {delay : Option ℕ} {followers : Steps} {rest : Agenda}
+    {k : List Event} → Leads in_one_order until first answers p → (c : Command) (call : Call)
     → next_step until p.agenda ≡ Some (record { label = label; delay = delay; action = command c; followers = followers }, rest)
     → own_cause p.stage c ≡ None → call_of p.stage c ≡ Some call → cause_in in_one_order p.stage call ≡ None
-    → IsFirstStep nothing_kept p.stage.history (outside_of p.stage.history call) k → Ordered stock steps until answers p
-    → Ordered stock steps until (answers ++ Accepted ∷ []) (record { stage = after p.stage c k; agenda = followed_by Accepted (list_of followers) rest })
-ordered_on steps {p = p} label delay c followers rest call k comes own called free one before = advanced before (record {
-  step = record { label = label; delay = delay; action = command c; followers = followers };
-  rest = rest;
-  comes = comes;
-  done = record { stage = after p.stage c k; agenda = rest };
-  performs = executes (accepted k own called free one);
-  stage = refl;
-  follows = refl;
-})
+    → IsFirstStep nothing_kept p.stage.history (outside_of p.stage.history call) k
+    → Leads in_one_order until first (answers ++ Accepted ∷ []) (record {
+      stage = after p.stage c k;
+      agenda = followed_by Accepted (list_of followers) rest;
+    })
+ordered_on {p = p} {label = label} {delay = delay} {followers = followers} {rest = rest} {k = k} before c call comes own called free one =
+    advanced before (record {
+      step = record { label = label; delay = delay; action = command c; followers = followers };
+      rest = rest;
+      comes = comes;
+      done = record { stage = after p.stage c k; agenda = rest };
+      performs = executes (accepted k own called free one);
+      stage = refl;
+      follows = refl;
+    })
 
--- and one more, which the book refuses
-pub refused_on : {stock : List Ware} (steps : List Step) {until : ℕ} {answers : List Answer} {p : Progress}
-    (label : Option Name) (delay : Option ℕ) (c : Command) (followers : Steps) (rest : Agenda) (call : Call) (why : Refusal)
+-- and one more, whose call the book refuses
+pub refused_on : {until : ℕ} {first p : Progress} {answers : List Answer} {label : Option Name} {delay : Option ℕ} {followers : Steps} {rest : Agenda}
+    → Leads in_one_order until first answers p → (c : Command) (call : Call) (why : Refusal)
     → next_step until p.agenda ≡ Some (record { label = label; delay = delay; action = command c; followers = followers }, rest)
-    → own_cause p.stage c ≡ None → call_of p.stage c ≡ Some call → cause_in in_one_order p.stage call ≡ Some why → Ordered stock steps until answers p
-    → Ordered stock steps until (answers ++ Refused (Book why) ∷ [])
-    (record { stage = p.stage; agenda = followed_by (Refused (Book why)) (list_of followers) rest })
-refused_on steps {p = p} label delay c followers rest call why comes own called stands before = advanced before (record {
-  step = record { label = label; delay = delay; action = command c; followers = followers };
-  rest = rest;
-  comes = comes;
-  done = record { stage = p.stage; agenda = rest };
-  performs = executes (refused_by_book own called stands);
-  stage = refl;
-  follows = refl;
-})
+    → own_cause p.stage c ≡ None → call_of p.stage c ≡ Some call → cause_in in_one_order p.stage call ≡ Some why
+    → Leads in_one_order until first (answers ++ Refused (Book why) ∷ []) (record {
+      stage = p.stage;
+      agenda = followed_by (Refused (Book why)) (list_of followers) rest;
+    })
+refused_on {p = p} {label = label} {delay = delay} {followers = followers} {rest = rest} before c call why comes own called stands =
+    advanced before (record {
+      step = record { label = label; delay = delay; action = command c; followers = followers };
+      rest = rest;
+      comes = comes;
+      done = record { stage = p.stage; agenda = rest };
+      performs = executes (refused_by_book own called stands);
+      stage = refl;
+      follows = refl;
+    })

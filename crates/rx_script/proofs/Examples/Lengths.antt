@@ -118,7 +118,7 @@ to_until = plain_step hub_made true (Opening Root Until) to_hub.lawful to_hub.se
 to_source : IsStepOf nothing_kept until_made (Opening (Source 1) (Sub 0)) source_made
 unfolding first_forced source_end child_terminal source_completed open_children is_fired owed projections moments stops climb most_visits most_nodes is_open
     is_shut ancestors parent
-to_source = step_to until_made true (Opening (Source 1) (Sub 0)) source_made to_until.lawful to_until.settled tt refl
+to_source = step_to true (Opening (Source 1) (Sub 0)) to_until.lawful to_until.settled tt refl
     (more stays (first_is_forced nothing_kept (until_made ++ Open (Source 1) (Sub 0) ∷ []) (Connect 0) refl)) refl
 
 to_notifier : IsStepOf nothing_kept source_made (Opening (Notifier 1) (Sub 0)) notifier_made
@@ -141,7 +141,7 @@ to_halfway =
 to_short : IsStepOf nothing_kept leaf_made (Ending 5 Completed) short
 unfolding first_forced source_end child_terminal source_completed open_children is_fired owed projections moments stops climb most_visits most_nodes is_open
     is_shut ancestors parent
-to_short = step_to leaf_made true (Ending 5 Completed) short to_leaf.lawful to_leaf.settled tt refl
+to_short = step_to true (Ending 5 Completed) to_leaf.lawful to_leaf.settled tt refl
     (more to_halfway (first_is_forced nothing_kept halfway (End 1 Completed) refl)) refl
 
 notifier_due : IsDue nothing_kept halfway (End 4 Completed)
@@ -151,7 +151,7 @@ notifier_due = cut refl (record { hub = 0; connection = 3; place = 7; subscribes
 to_long : IsStepOf nothing_kept leaf_made (Ending 5 Completed) long
 unfolding first_forced source_end child_terminal source_completed open_children is_fired owed projections moments stops climb most_visits most_nodes is_open
     is_shut ancestors parent
-to_long = step_to leaf_made true (Ending 5 Completed) long to_leaf.lawful to_leaf.settled tt refl
+to_long = step_to true (Ending 5 Completed) to_leaf.lawful to_leaf.settled tt refl
     (more (more to_halfway (due (none_connecting nothing_kept halfway refl) notifier_due))
     (first_is_forced nothing_kept (halfway ++ End 4 Completed ∷ []) (End 1 Completed) refl)) refl
 
@@ -183,13 +183,11 @@ led_to_leaf : Led [] steps (Accepted ∷ Accepted ∷ Accepted ∷ Accepted ∷ 
 unfolding bound is_open is_shut ancestors parent most_nodes most_hubs owed projections moments stops climb most_visits
 led_to_leaf =
     let begun : Led [] steps [] (begin [] steps) = record { least = 0; leads = λ limit room. not_begun } in
-    let first = led_on (make_hub g Auto) (turn_of from_until) (Publishing Auto) hub_made refl refl refl refl to_hub begun in
-    let second = led_on (open_node u root until) (turn_of from_source) (Opening Root Until) until_made refl refl refl refl to_until first in
-    let third = led_on (open_node s (source u) (sub g (Some c))) (turn_of from_notifier)
-    (Opening (Source 1) (Sub 0)) source_made refl refl refl refl to_source second in
-    let fourth = led_on (open_node n (notifier u) (sub g None)) (turn_of from_leaf)
-    (Opening (Notifier 1) (Sub 0)) notifier_made refl refl refl refl to_notifier third in
-    led_on (open_node l (source c) leaf) (turn_of from_end) (Opening (Source 3) Leaf) leaf_made refl refl refl refl to_leaf fourth
+    let first = led_on (make_hub g Auto) (turn_of from_until) refl refl refl refl to_hub begun in
+    let second = led_on (open_node u root until) (turn_of from_source) refl refl refl refl to_until first in
+    let third = led_on (open_node s (source u) (sub g (Some c))) (turn_of from_notifier) refl refl refl refl to_source second in
+    let fourth = led_on (open_node n (notifier u) (sub g None)) (turn_of from_leaf) refl refl refl refl to_notifier third in
+    led_on (open_node l (source c) leaf) (turn_of from_end) refl refl refl refl to_leaf fourth
 
 abbrev last_stage : List Event → ℕ → Stage
 last_stage k number = record {
@@ -212,15 +210,15 @@ led_short : Led [] steps (course (short ++ Open Root Leaf ∷ []) 10).answers
 unfolding first_forced source_end child_terminal source_completed open_children is_fired owed projections moments stops climb most_visits most_nodes is_open
     is_shut ancestors parent bound
 led_short =
-    let ended = led_on (end l Completed) (turn_of last_one) (Ending 5 Completed) short refl refl refl refl to_short led_to_leaf in
-    led_on (open_node x root leaf) (turn_of []) (Opening Root Leaf) (short ++ Open Root Leaf ∷ []) refl refl refl refl short_on ended
+    let ended = led_on (end l Completed) (turn_of last_one) refl refl refl refl to_short led_to_leaf in
+    led_on (open_node x root leaf) (turn_of []) refl refl refl refl short_on ended
 
 led_long : Led [] steps (course (long ++ Open Root Leaf ∷ []) 11).answers (record { stage = last_stage (long ++ Open Root Leaf ∷ []) 11; agenda = turn_of [] })
 unfolding first_forced source_end child_terminal source_completed open_children is_fired owed projections moments stops climb most_visits most_nodes is_open
     is_shut ancestors parent bound
 led_long =
-    let ended = led_on (end l Completed) (turn_of last_one) (Ending 5 Completed) long refl refl refl refl to_long led_to_leaf in
-    led_on (open_node x root leaf) (turn_of []) (Opening Root Leaf) (long ++ Open Root Leaf ∷ []) refl refl refl refl long_on ended
+    let ended = led_on (end l Completed) (turn_of last_one) refl refl refl refl to_long led_to_leaf in
+    led_on (open_node x root leaf) (turn_of []) refl refl refl refl long_on ended
 
 room : ℕ
 room = led_short.least + led_long.least

@@ -33,28 +33,28 @@ lawful_through stays law = law
 lawful_through (more {k = k} {e = e} on f) law = IsLawful-push nothing_kept k e (lawful_through on law) (forced f)
 
 -- a call against which no cause stands, and what it forces, after which nothing comes first
-pub step_to : (h : List Event) (fresh : Bool) (call : Call) (k : List Event) → IsLawful nothing_kept h → IsSettled nothing_kept h → IsReady h call
+pub step_to : {h : List Event} (fresh : Bool) (call : Call) {k : List Event} → IsLawful nothing_kept h → IsSettled nothing_kept h → IsReady h call
     → first_cause (unlimited (causes nothing_kept h 0 fresh call)) ≡ None
     → IsForcedOn nothing_kept (h ++ outside_of h call) k → first_forced nothing_kept k ≡ None → IsStepOf nothing_kept h call k
-step_to h fresh call k law settled ready none on over =
+step_to {h} fresh call {k} law settled ready none on over =
     record { forced = on; lawful = lawful_through on (outside_lawful h fresh call law settled ready none); settled = settled_by_order nothing_kept k over }
 
 -- a call that forces nothing
 pub plain_step : (h : List Event) (fresh : Bool) (call : Call) → IsLawful nothing_kept h → IsSettled nothing_kept h → IsReady h call
     → first_cause (unlimited (causes nothing_kept h 0 fresh call)) ≡ None
     → first_forced nothing_kept (h ++ outside_of h call) ≡ None → IsStepOf nothing_kept h call (h ++ outside_of h call)
-plain_step h fresh call law settled ready none over = step_to h fresh call (h ++ outside_of h call) law settled ready none stays over
+plain_step h fresh call law settled ready none over = step_to fresh call law settled ready none stays over
 
 -- with so much room, and with more, the steps so far lead here
 pub record Led (stock : List Ware) (steps : List Step) (answers : List Answer) (p : Progress) : Type 0 where
   pub least : ℕ
   pub leads : (limit : ℕ) → least ≤ limit → Leads (limited limit) 0 (begin stock steps) answers p
 
-pub led_on : {stock : List Ware} {steps : List Step} {answers : List Answer} {p : Progress} (c : Command) (rest : Agenda) (call : Call) (k : List Event)
+pub led_on : {stock : List Ware} {steps : List Step} {answers : List Answer} {p : Progress} (c : Command) (rest : Agenda) {call : Call} {k : List Event}
     → next_step 0 p.agenda ≡ Some (doing c, rest) → own_cause p.stage c ≡ None → call_of p.stage c ≡ Some call → cause_in in_one_order p.stage call ≡ None
     → IsStepOf nothing_kept p.stage.history call k → Led stock steps answers p
     → Led stock steps (answers ++ Accepted ∷ []) (record { stage = after p.stage c k; agenda = rest })
-led_on {p = p} c rest call k comes own called free step before = record {
+led_on {p = p} c rest {call} {k} comes own called free step before = record {
   least = before.least + roomy p.stage.history call;
   leads = λ limit room. advanced (before.leads limit (omega arith)) (record {
     step = doing c;

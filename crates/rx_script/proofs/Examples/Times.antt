@@ -76,27 +76,27 @@ disposed = told ++ Close 1 ∷ Close 2 ∷ []
 to_hub : IsFirstStep nothing_kept [] (Hub Auto ∷ []) hub_made
 unfolding first_forced source_end child_terminal source_completed open_children is_fired owed projections moments stops climb most_visits most_nodes is_open
     is_shut ancestors parent most_hubs
-to_hub = ordered_to [] true (Publishing Auto) hub_made nothing_stands tt refl nothing_yet refl
+to_hub = ordered_to true (Publishing Auto) hub_made nothing_stands tt refl nothing_yet refl
 
 to_subscriber : IsFirstStep nothing_kept hub_made (Open Root (Sub 0) ∷ []) subscribed
 unfolding first_forced source_end child_terminal source_completed open_children is_fired owed projections moments stops climb most_visits most_nodes is_open
     is_shut ancestors parent
-to_subscriber = ordered_to hub_made true (Opening Root (Sub 0)) subscribed (stands_after (Publishing Auto) to_hub) tt refl (first_next nothing_yet refl) refl
+to_subscriber = ordered_to true (Opening Root (Sub 0)) subscribed (stands_after (Publishing Auto) to_hub) tt refl (first_next nothing_yet refl) refl
 
 to_leaf : IsFirstStep nothing_kept subscribed (Open (Source 2) Leaf ∷ []) leaf_made
 unfolding first_forced source_end child_terminal source_completed open_children is_fired owed projections moments stops climb most_visits most_nodes is_open
     is_shut ancestors parent
-to_leaf = ordered_to subscribed true (Opening (Source 2) Leaf) leaf_made (stands_after (Opening Root (Sub 0)) to_subscriber) tt refl nothing_yet refl
+to_leaf = ordered_to true (Opening (Source 2) Leaf) leaf_made (stands_after (Opening Root (Sub 0)) to_subscriber) tt refl nothing_yet refl
 
 to_item : IsFirstStep nothing_kept leaf_made (Item 3 (negsuc 0) ∷ []) told
 unfolding first_forced source_end child_terminal source_completed open_children is_fired owed projections moments stops climb most_visits visits most_nodes
     is_open is_shut ancestors parent
-to_item = ordered_to leaf_made true (Emitting 3 (negsuc 0)) told (stands_after (Opening (Source 2) Leaf) to_leaf) tt refl nothing_yet refl
+to_item = ordered_to true (Emitting 3 (negsuc 0)) told (stands_after (Opening (Source 2) Leaf) to_leaf) tt refl nothing_yet refl
 
 to_disposal : IsFirstStep nothing_kept told (Close 1 ∷ []) disposed
 unfolding first_forced source_end child_terminal source_completed open_children is_fired owed projections moments stops climb most_visits most_nodes is_open
     is_shut ancestors parent
-to_disposal = ordered_to told true (Disposing 1) disposed (stands_after (Emitting 3 (negsuc 0)) to_item) tt refl (first_next nothing_yet refl) refl
+to_disposal = ordered_to true (Disposing 1) disposed (stands_after (Emitting 3 (negsuc 0)) to_item) tt refl (first_next nothing_yet refl) refl
 
 -- its course -------------------------------------------------------------------------------------------------------------------------
 
@@ -117,14 +117,13 @@ course = record { answers = Accepted ∷ Accepted ∷ Accepted ∷ Accepted ∷ 
 pub time_course : (events : ℕ) → IsCanonicalCourseOf (script events) [] course
 unfolding bound is_open is_shut ancestors parent most_nodes most_hubs owed projections moments stops climb most_visits visits
 time_course events =
-    let first = ordered_on steps None (Some 5) (make_hub h Auto) no_steps _ (Publishing Auto) hub_made refl refl refl refl to_hub
-    (first_of_all [] steps 1000000000000000) in
-    let second = ordered_on steps None (Some 5) (open_node s root (sub h (Some c))) (steps_of followers) _ (Opening Root (Sub 0)) subscribed
-    refl refl refl refl to_subscriber first in
-    let third = ordered_on steps None None (open_node l (source c) leaf) no_steps _ (Opening (Source 2) Leaf) leaf_made refl refl refl refl to_leaf second in
-    let fourth = ordered_on steps None (Some 2) (next l (negsuc 0)) no_steps _ (Emitting 3 (negsuc 0)) told refl refl refl refl to_item third in
-    let fifth = ordered_on steps None (Some 10) (dispose s) no_steps _ (Disposing 1) disposed refl refl refl refl to_disposal fourth in
-    let last = refused_on steps None (Some 10) (next l (pos 8)) no_steps _ (Emitting 3 (pos 8)) Gone refl refl refl refl fifth in
+    let none = first_of_all [] steps 1000000000000000 in
+    let first = ordered_on none (make_hub h Auto) (Publishing Auto) refl refl refl refl to_hub in
+    let second = ordered_on first (open_node s root (sub h (Some c))) (Opening Root (Sub 0)) refl refl refl refl to_subscriber in
+    let third = ordered_on second (open_node l (source c) leaf) (Opening (Source 2) Leaf) refl refl refl refl to_leaf in
+    let fourth = ordered_on third (next l (negsuc 0)) (Emitting 3 (negsuc 0)) refl refl refl refl to_item in
+    let fifth = ordered_on fourth (dispose s) (Disposing 1) refl refl refl refl to_disposal in
+    let last = refused_on fifth (next l (pos 8)) (Emitting 3 (pos 8)) Gone refl refl refl refl in
     course_in_order in_one_order (script events) [] course.answers last_stage (record { left = _; leads = last; over = refl })
 
 pub time_report : report course 0

@@ -20,7 +20,7 @@ loop-event-smaller g c =
 pub loop-event-preserved : goal.loop-event-preserved
 loop-event-preserved g c = record {
   counts = λ front h counts goes law.
-      counted_next front h c.args.book.now c.loop-event.tallies c.add_event.new.self c.in-Some.event goes law
+      counted_next c.add_event.new.self c.in-Some.event goes law
       (c.loop-event.invariant.counts front h counts goes law) c.in-Some.ensures
       c.in_ok-add_event.ensures.events c.in_ok-add_event.ensures.counts;
   notes = c.in_ok-add_event.ensures.notes ∙ c.loop-event.invariant.notes;

@@ -13,5 +13,5 @@ pub returns-in-Cancel : goal.returns-in-Cancel
 returns-in-Cancel g c =
     let cancelled : Cancels (agenda_of c.args.agenda.now) (string_bytes c.in-Cancel.label) c.cancel.result (agenda_of c.cancel.new.agenda) =
     subst (λ l. Cancels (agenda_of c.args.agenda.now) l c.cancel.result (agenda_of c.cancel.new.agenda)) c.as_str.ensures.value c.cancel.ensures.value in
-    rw c.in-Cancel.is (performed_cancel c.args.engine.now c.args.agenda.now c.cancel.new.agenda c.in-Cancel.label c.cancel.result c.requires cancelled
+    rw c.in-Cancel.is (performed_cancel c.args.agenda.now c.cancel.new.agenda c.in-Cancel.label c.cancel.result c.requires cancelled
     c.cancel.ensures.size c.cancel.ensures.clock)

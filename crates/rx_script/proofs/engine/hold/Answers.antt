@@ -31,15 +31,14 @@ returns-in_ok-bind-in-Ok g c =
     let pushed : c.bind.new.self ≡ c.args.engine.now.resources ++ record { name = c.args.res; key = c.in-Ok.held } ∷ [] = c.in_ok-bind-in-Ok.ensures in
     hold_accepted c.args.engine.now c.args.node.now (string_bytes c.args.res)
     c.requires c.in-Some.key at free _ c.take.new.self.wares c.in-Some-take.ensures.some
-    _ (record { name = c.args.res; key = c.in-Ok.held }) c.promise.ensures c.in-Ok.ensures.accepted
-    c.in-Ok.ensures.ok.number c.in-Ok.ensures.ok.listed refl refl refl pushed refl refl (refl, refl)
+    c.promise.ensures c.in-Ok.ensures.accepted c.in-Ok.ensures.ok (record { text = c.args.res; spelt = refl; pushed = pushed }) refl
 
 pub returns-in-Err : goal.returns-in-Err
 returns-in-Err g c =
     let at : key_of c.args.engine.now.nodes c.args.node.now ≡ Some c.in-Some.key = cc in
     let free : is_some (key_of c.args.engine.now.resources (string_bytes c.args.res)) ≡ false = cc in
     let ware : g.row.R.Denot → Ware = λ r. ware_of g.R.Resource r in
-    let same = put_back ware c.args.engine.now.stock.wares c.take.new.self.wares c.put_back.new.self.wares
+    let same = put_back ware c.take.new.self.wares c.put_back.new.self.wares
     c.in-Some-take.resource c.in-Err.unheld.back c.in-Some-take.ensures.some c.in-Err.ensures.refused.back c.put_back.ensures in
     answered _ _ _ c.refused.ensures.ok (λ other. hold_refused c.args.engine.now c.args.node.now
     (string_bytes c.args.res) c.requires c.in-Some.key at free (ware c.in-Some-take.resource) c.take.new.self.wares c.in-Some-take.ensures.some

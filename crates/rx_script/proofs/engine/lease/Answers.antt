@@ -22,8 +22,7 @@ returns-in_ok-bind-in-Ok g c =
     let free : is_some (key_of c.args.engine.now.leases (string_bytes c.args.name)) ≡ false = cc in
     let pushed : c.bind.new.self ≡ c.args.engine.now.leases ++ record { name = c.args.name; key = c.in-Ok.lease } ∷ [] = c.in_ok-bind-in-Ok.ensures in
     lease_accepted c.args.engine.now c.args.res.now (string_bytes c.args.name) c.requires c.in-Some.key at free
-    _ (record { name = c.args.name; key = c.in-Ok.lease }) c.promise.ensures c.in-Ok.ensures.accepted c.in-Ok.ensures.ok.number c.in-Ok.ensures.ok.listed
-    refl refl refl refl pushed refl (refl, refl)
+    c.promise.ensures c.in-Ok.ensures.accepted c.in-Ok.ensures.ok (record { text = c.args.name; spelt = refl; pushed = pushed })
 
 pub returns-in-Err : goal.returns-in-Err
 returns-in-Err g c =

@@ -47,10 +47,8 @@ returns-in_ok-bind-in-Ok-2 g c =
     c.in_ok-bind-in-Ok-2.ensures in
     using_accepted c.args.engine.now (string_bytes c.args.name) (site_of c.args.site.now)
     (string_bytes c.args.res) c.requires c.in-Some.place at (or_from _ _ node_free res_free) _ c.take.new.self.wares c.in-Some-take.ensures.some
-    _ (record { name = c.args.name; key = c.in-Ok.opened.key })
-    (record { name = c.args.res; key = c.in-Ok.opened.res }) c.promise.ensures c.in-Ok.ensures.accepted
-    c.in-Ok.ensures.ok.key.number c.in-Ok.ensures.ok.key.listed refl c.in-Ok.ensures.ok.res.number
-    c.in-Ok.ensures.ok.res.listed refl pushed refl res_pushed refl refl (refl, refl)
+    c.promise.ensures c.in-Ok.ensures.accepted c.in-Ok.ensures.ok (record { text = c.args.name; spelt = refl; pushed = pushed })
+    (record { text = c.args.res; spelt = refl; pushed = res_pushed }) refl
 
 pub returns-in-Err : goal.returns-in-Err
 returns-in-Err g c =
@@ -58,7 +56,7 @@ returns-in-Err g c =
     let node_free : is_some (key_of c.args.engine.now.nodes (string_bytes c.args.name)) ≡ false = cc in
     let res_free : is_some (key_of c.args.engine.now.resources (string_bytes c.args.res)) ≡ false = cc in
     let ware : g.row.R.Denot → Ware = λ r. ware_of g.R.Resource r in
-    let same = put_back ware c.args.engine.now.stock.wares c.take.new.self.wares c.put_back.new.self.wares
+    let same = put_back ware c.take.new.self.wares c.put_back.new.self.wares
     c.in-Some-take.resource c.in-Err.unheld.back c.in-Some-take.ensures.some c.in-Err.ensures.refused.back c.put_back.ensures in
     answered _ _ _ c.refused.ensures.ok (λ other. using_refused c.args.engine.now (string_bytes c.args.name) (site_of c.args.site.now) (string_bytes c.args.res)
     c.requires c.in-Some.place at (or_from _ _ node_free res_free) (ware c.in-Some-take.resource) c.take.new.self.wares c.in-Some-take.ensures.some

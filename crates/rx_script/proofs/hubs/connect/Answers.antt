@@ -1,4 +1,4 @@
-use Rattle.std.proofs.Common.{◌≡◌, Some, None, true, false, refl, string_bytes}
+use Rattle.std.proofs.Common.{◌≡◌, Some, None, true, false, string_bytes}
 use Rattle.std.specs.Prelude.{option_map}
 use Rattle.rx_agenda.specs.Names.{key_of}
 use Rattle.rx_script.specs.Engine.{is_taken, with_named}
@@ -24,7 +24,7 @@ returns-in_ok-bind_connection-in-Ok g c =
     let named_on : c.bind_connection.new.nodes ≡ with_named c.args.engine.now.nodes c.args.name (Some c.in-Ok.connection) =
     c.in_ok-bind_connection-in-Ok.ensures in
     connect_accepted c.args.engine.now c.args.hub.now c.args.name c.requires c.in-Some.number at free
-    _ c.in-Ok.connection c.promise.ensures c.in-Ok.ensures.accepted c.in-Ok.ensures.ok named_on refl refl refl refl (refl, refl)
+    c.promise.ensures c.in-Ok.ensures.accepted c.in-Ok.ensures.ok named_on
 
 pub returns-in-Err : goal.returns-in-Err
 returns-in-Err g c =

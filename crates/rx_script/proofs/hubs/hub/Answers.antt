@@ -15,8 +15,7 @@ returns-in_ok-bind-in-Ok g c =
     let free : is_some (key_of c.args.engine.now.hubs (string_bytes c.args.name)) ≡ false = cc in
     let pushed : c.bind.new.self ≡ c.args.engine.now.hubs ++ record { name = c.args.name; key = c.in-Ok.number } ∷ [] = c.in_ok-bind-in-Ok.ensures in
     hub_accepted c.args.engine.now (string_bytes c.args.name) c.args.mode c.requires free
-    _ (record { name = c.args.name; key = c.in-Ok.number }) c.promise.ensures
-    c.in-Ok.ensures.accepted c.in-Ok.ensures.ok refl refl pushed refl refl refl (refl, refl)
+    c.promise.ensures c.in-Ok.ensures.accepted c.in-Ok.ensures.ok (record { text = c.args.name; spelt = refl; pushed = pushed })
 
 pub returns-in-Err : goal.returns-in-Err
 returns-in-Err g c =

@@ -57,9 +57,8 @@ returns-in_ok-bind_connection-in-Ok g c =
     c.in_ok-bind_connection-in-Ok.ensures in
     open_accepted c.args.engine.now (string_bytes c.args.name) (site_of c.args.site.now)
     (sort_of c.args.sort) c.requires c.in-Some.place at c.in-Some-kind_of.kind is free beside
-    _ (record { name = c.args.name; key = c.in-Ok.opened.key }) c.bind.new.self c.connection_name-connection.result c.in-Ok.opened.connected
-    pushed named_on refl c.connection_name-connection.ensures c.in-Ok.ensures.ok
-    c.promise.ensures c.in-Ok.ensures.accepted refl refl refl refl (refl, refl)
+    c.connection_name-connection.result c.promise.ensures c.in-Ok.ensures.accepted c.in-Ok.ensures.ok
+    (record { text = c.args.name; spelt = refl; pushed = pushed }) named_on c.connection_name-connection.ensures
 
 pub returns-in-Err : goal.returns-in-Err
 returns-in-Err g c =

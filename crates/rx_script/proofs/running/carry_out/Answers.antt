@@ -1,7 +1,4 @@
-use Rattle.std.proofs.Common.{string_bytes, map, ap, ◌∙◌}
-use Rattle.rx_scenario.specs.Scenario.{step_of}
-use Rattle.rx_agenda.specs.Agenda.{with_steps, empty_agenda}
-use Rattle.rx_script.specs.Course.{limited}
+use Rattle.std.proofs.Common.{ap, ◌∙◌}
 use Rattle.rx_script.specs.Engine.{stage_of}
 use Rattle.rx_script.specs.Outputs.{unclosed_output}
 use Rattle.rx_script.proofs.WrittenBeforeClosing.{written_of, carried_out}
@@ -12,10 +9,7 @@ returns g c = record {
   ok = written_of c.unclosed_output.result c.unclosed_output.ensures.base c.unclosed_output.ensures.history c.unclosed_output.ensures.faults
       (λ s base history faults lines h w.
       let to = c.in_ok-answers.ensures.course h w in
-      carried_out (limited c.args.engine.now.book.limit) c.args.until
-      (record { stage = stage_of c.args.engine.now h; agenda = with_steps (map step_of c.args.steps.items) empty_agenda })
-      c.args.form (string_bytes s) c.run_course.new.engine c.unclosed_output.new.engine
-      c.in_ok-answers.answers.items to.0 c.in_ok-answers.ensures.sound to.1 to.2
+      carried_out c.unclosed_output.new.engine c.in_ok-answers.ensures.sound to.1 to.2
       (λ unchecked. lines to.0 to.2 unchecked ∙ ap (λ l. unclosed_output c.args.form l (stage_of c.run_course.new.engine to.0)) c.as_slice.ensures.value)
       base history faults) c.unclosed_output.ensures.ok;
 }

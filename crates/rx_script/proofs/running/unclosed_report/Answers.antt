@@ -11,7 +11,7 @@ returns-clause-ok g c = λ h w.
     let whole : IsWhole h c.gather.new.tallies c.gather.new.book =
     subst (IsWhole h c.gather.new.tallies) (sym c.in_ok-gather.ensures.kept)
     (all_gathered c.args.engine.now c.requires.sound h w c.gather.new.tallies c.gather.new.book.given c.in_ok-gather.ensures.ok) in
-    lines_report c.args.engine.now c.requires.sound h w c.args.answers.now _ _ _ _
+    lines_report c.args.engine.now c.requires.sound h w c.args.answers.now _ _ _
     (c.in_ok-push_all_refused.ensures ∙ ap (λ l. l ++ refused_lines c.args.answers.now) c.new-text.ensures.bytes)
     (c.in_ok-push_nodes.ensures h whole ∙ ap (λ ns. string_bytes c.push_all_refused.new.text ++ node_lines h (map node_binding ns)) c.in_order.ensures)
     (c.in_ok-push_resources.ensures h whole ∙ ap (λ ns. string_bytes c.push_nodes.new.text ++ res_lines h (map res_binding ns)) c.in_order-2.ensures)

@@ -22,7 +22,7 @@ returns-in_ok-raise-in-Lease-clause-leases c = λ h is short law before counts r
 
 pub returns-in_ok-raise-in-Lease-clause-out : goal.returns-in_ok-raise-in-Lease-clause-out
 returns-in_ok-raise-in-Lease-clause-out c = λ h is law before l.
-    out_leased h c.args.event.now l c.args.place c.in-Lease.resource _ _ (front_lawful h c.args.event.now law) is c.in-Lease.is (before l)
+    out_leased l _ _ (front_lawful h c.args.event.now law) is c.in-Lease.is (before l)
     (c.in_ok-insert-in-Lease.ensures.updates.0 l)
 
 pub returns-in-Some-clause-leases : goal.returns-in-Some-clause-leases
@@ -37,7 +37,7 @@ returns-in-Some-clause-leases c = λ h is short law before counts r.
 
 pub returns-in-Some-clause-out : goal.returns-in-Some-clause-out
 returns-in-Some-clause-out c = λ h is law before l.
-    out_returned h c.args.event.now l c.in-Return.lease _ _ (front_lawful h c.args.event.now law) c.in-Return.is (before l) (c.remove.ensures.updates.0 l)
+    out_returned l c.in-Return.lease _ _ (front_lawful h c.args.event.now law) c.in-Return.is (before l) (c.remove.ensures.updates.0 l)
 
 -- in a lawful history what comes back was out
 pub returns-in_default-remove-clause-leases : goal.returns-in_default-remove-clause-leases
@@ -49,7 +49,7 @@ returns-in_default-remove-clause-leases c = λ h is short law before counts r.
 
 pub returns-in_default-remove-clause-out : goal.returns-in_default-remove-clause-out
 returns-in_default-remove-clause-out c = λ h is law before l.
-    out_returned h c.args.event.now l c.in-Return.lease _ _ (front_lawful h c.args.event.now law) c.in-Return.is (before l) (c.remove.ensures.updates.0 l)
+    out_returned l c.in-Return.lease _ _ (front_lawful h c.args.event.now law) c.in-Return.is (before l) (c.remove.ensures.updates.0 l)
 
 pub returns-in_default : goal.returns-in_default
 returns-in_default c =
