@@ -7,6 +7,7 @@ use Rattle.std.proofs.lemmas.Bool.{eq-eqb, ne_eqb, eqb-true, eqb-false}
 use Rattle.std.proofs.lemmas.List.{take_more, take_all}
 use Rattle.std.proofs.lemmas.List.Folds.{list_any-append}
 use Rattle.rx_event.proofs.Laws.Searches.{list_any_push}
+use Rattle.rx_listing.specs.Parts.{IsKept}
 
 turned : (k n : ℕ) → nat_eq k n ≡ nat_eq n k
 turned k n = by_test (nat_eq k n) refl where
@@ -18,12 +19,6 @@ any_more : (n : ℕ) (ns : List ℕ) (i k : ℕ) → i < length ns → get_or ns
     list_any (nat_eq n) (take (i + 1) ns) ≡ (list_any (nat_eq n) (take i ns) || nat_eq n k)
 any_more n ns i k within at_i =
     ap (list_any (nat_eq n)) (take_more ns i k within ∙ ap (λ (m : ℕ). take i ns ++ m ∷ []) at_i) ∙ list_any_push (nat_eq n) (take i ns) k
-
-two : {X : Type 0} (a b : Bool) (w x : X) → cond b w (cond a w x) ≡ cond (a || b) w x
-two true true w x = refl
-two true false w x = refl
-two false true w x = refl
-two false false w x = refl
 
 -- three lists in a row
 any_first : (p : ℕ → Bool) (xs ys : List ℕ) → list_any p xs ≡ true → list_any p (xs ++ ys) ≡ true
@@ -46,25 +41,28 @@ module _ (p : ℕ → Bool) (a b c mid all : List ℕ) (longer : mid ≡ a ++ b)
   any_in_third there = ap (list_any p) longest ∙ any_second p mid c there
 
 -- a number more, for which its value is kept
-pub kept_next : {X : Type 0} (want first old new : ℕ → Option X) (ns : List ℕ) (i k : ℕ) → i < length ns → get_or ns i k ≡ k →
-    ((n : ℕ) → new n ≡ cond (nat_eq k n) (want n) (old n)) → ((n : ℕ) → old n ≡ cond (list_any (nat_eq n) (take i ns)) (want n) (first n)) →
-    (n : ℕ) → new n ≡ cond (list_any (nat_eq n) (take (i + 1) ns)) (want n) (first n)
-kept_next {X} want first old new ns i k within at_i next before n =
+pub kept_next : {X : Type 0} (want : ℕ → Option X) {old new : ℕ → Option X} (ns : List ℕ) (i : ℕ) {k : ℕ} → i < length ns → get_or ns i k ≡ k →
+    ((n : ℕ) → new n ≡ cond (nat_eq k n) (want n) (old n)) → IsKept (take i ns) want old → IsKept (take (i + 1) ns) want new
+kept_next {X} want ns i {k} within at_i next before n =
     next n ∙ ap (λ (o : Option X). cond (nat_eq k n) (want n) o) (before n)
-    ∙ ap (λ (b : Bool). cond b (want n) (cond (list_any (nat_eq n) (take i ns)) (want n) (first n))) (turned k n)
-    ∙ two (list_any (nat_eq n) (take i ns)) (nat_eq n k) (want n) (first n) ∙ sym (ap (λ (b : Bool). cond b (want n) (first n)) (any_more n ns i k within at_i))
+    ∙ ap (λ (b : Bool). cond b (want n) (cond (list_any (nat_eq n) (take i ns)) (want n) None)) (turned k n)
+    ∙ two (list_any (nat_eq n) (take i ns)) (nat_eq n k) ∙ sym (ap (λ (b : Bool). cond b (want n) None) (any_more n ns i k within at_i)) where
+      two : (a b : Bool) → cond b (want n) (cond a (want n) None) ≡ cond (a || b) (want n) None
+      two true true = refl
+      two true false = refl
+      two false true = refl
+      two false false = refl
 
 -- and one that has none
-pub none_next : {X : Type 0} (want old : ℕ → Option X) (ns : List ℕ) (i k : ℕ) → i < length ns → get_or ns i k ≡ k → want k ≡ None →
-    ((n : ℕ) → old n ≡ cond (list_any (nat_eq n) (take i ns)) (want n) None) → (n : ℕ) → old n ≡ cond (list_any (nat_eq n) (take (i + 1) ns)) (want n) None
-none_next {X} want old ns i k within at_i none before n =
+pub none_next : {X : Type 0} (want : ℕ → Option X) {old : ℕ → Option X} (ns : List ℕ) (i : ℕ) {k : ℕ} → i < length ns → get_or ns i k ≡ k →
+    want k ≡ None → IsKept (take i ns) want old → IsKept (take (i + 1) ns) want old
+none_next want ns i {k} within at_i none before n =
     before n ∙ by_test (list_any (nat_eq n) (take i ns)) (nat_eq n k) refl ∙ sym (ap (λ (b : Bool). cond b (want n) None) (any_more n ns i k within at_i)) where
       by_test : (a b : Bool) → nat_eq n k ≡ b → cond a (want n) None ≡ cond (a || b) (want n) None
       by_test true b is = refl
       by_test false true is = sym (ap want (eqb-true n k is) ∙ none)
       by_test false false is = refl
 
-pub kept_all : {X : Type 0} (want first new : ℕ → Option X) (ns : List ℕ) →
-    ((n : ℕ) → new n ≡ cond (list_any (nat_eq n) (take (length ns) ns)) (want n) (first n)) →
-    (n : ℕ) → new n ≡ cond (list_any (nat_eq n) ns) (want n) (first n)
-kept_all want first new ns all n = all n ∙ ap (λ (ms : List ℕ). cond (list_any (nat_eq n) ms) (want n) (first n)) (take_all (length ns) ns (omega arith))
+-- and all of them
+pub kept_all : {X : Type 0} (want : ℕ → Option X) {new : ℕ → Option X} (ns : List ℕ) → IsKept (take (length ns) ns) want new → IsKept ns want new
+kept_all want ns all n = all n ∙ ap (λ (ms : List ℕ). cond (list_any (nat_eq n) ms) (want n) None) (take_all (length ns) ns (omega arith))

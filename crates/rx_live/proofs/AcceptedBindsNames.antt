@@ -80,9 +80,9 @@ unnamed_lease s sound =
 pub placed_longer : (h k : List Event) (t : Names) → IsPlaced h t → length h ≤ length k → IsPlaced k t
 placed_longer h k t placed longer n past = placed n (omega arith)
 
-pub placed_bound : (h k : List Event) (old new : Names) (name : Name) (spot : Spot) → IsPlaced h old → Binds old name spot new → length h ≤ length k →
-    spot.number < length k → IsPlaced k new
-placed_bound h k old new name spot placed binds longer within n past =
+pub placed_bound : {h : List Event} (k : List Event) {old : Names} (new : Names) (name : Name) (spot : Spot) → IsPlaced h old →
+    Binds old name spot new → length h ≤ length k → spot.number < length k → IsPlaced k new
+placed_bound k {old} new name spot placed binds longer within n past =
     let apart : (spot.number == n) ≡ false = ne_eqb spot.number n (omega arith) in
     binds.names n ∙ ap (λ (b : Bool). cond b (Some name) (name_of old n)) apart ∙ placed n (omega arith)
 
@@ -127,21 +127,21 @@ sound_alike old new sound alike nodes hubs resources leases = record {
 -- outcomes -------------------------------------------------------------------------------------------
 
 -- the book refuses
-pub given_refused : (s t : Session) (asked : Option Request) (call : Request) (taken : Bool) (bound : Session → Type 0) (why : Refusal)
+pub given_refused : {s t : Session} {asked : Option Request} {call : Request} {taken : Bool} (bound : Session → Type 0) (why : Refusal)
     (result : Result Outcome AllocError) →
     asked ≡ Some call → taken ≡ false → IsCauseOrWant s.book call why → IsUnchanged s t → IfOk result (λ o. o ≡ Refused (Book why)) →
     IfOk result (λ o. GivesNames s asked taken bound o t)
-given_refused s t asked call taken bound why (Err e) known is cause unchanged told = told
-given_refused s t asked call taken bound why (Ok o) known is cause unchanged told =
+given_refused bound why (Err e) known is cause unchanged told = told
+given_refused {s} {t} {asked} {call} {taken} bound why (Ok o) known is cause unchanged told =
     subst (λ (p : Outcome). GivesNames s asked taken bound p t) (sym told)
     (subst (λ (j : Option Request). GivesNames s j taken bound (Refused (Book why)) t) (sym known)
     (subst (λ (b : Bool). GivesNames s (Some call) b bound (Refused (Book why)) t) (sym is)
     (record { gives = (cause, unchanged.alike); sound = unchanged.sound })))
 
 -- it accepts
-pub given_accepted : (s t : Session) (asked : Option Request) (call : Request) (taken : Bool) (bound : Session → Type 0) →
+pub given_accepted : {s t : Session} (asked : Option Request) {call : Request} (taken : Bool) (bound : Session → Type 0) →
     asked ≡ Some call → taken ≡ false → Accepts s.book call t.book → bound t → IsSound t → GivesNames s asked taken bound Accepted t
-given_accepted s t asked call taken bound known is accepts binds sound =
+given_accepted {s} {t} asked {call} taken bound known is accepts binds sound =
     subst (λ (j : Option Request). GivesNames s j taken bound Accepted t) (sym known)
     (subst (λ (b : Bool). GivesNames s (Some call) b bound Accepted t) (sym is) (record { gives = (accepts, binds); sound = sound }))
 
@@ -174,8 +174,8 @@ module _ (s : Session) (book : State) (name : Name) (spot : Spot) (mid t : Names
         resources = λ r. ap is_some (binds.names r) ∙ some_cond (spot.number == r) name (name_of s.resources r)
             ∙
             (λ i. cond (number i == r) true (sound.resources r i)) ∙
-            sym (kept_held s.book.base s.book.history book.history node tag sound.kept.lawful accepts.step r);
-        leases = λ l. sound.leases l ∙ sym (out_same s.book.base s.book.history book.history (Holding node tag) accepts.step refl l);
+            sym (kept_held sound.kept.lawful accepts.step r);
+        leases = λ l. sound.leases l ∙ sym (out_same accepts.step refl l);
         unnamed = λ n is. binds.spots n ∙ ap (λ (b : Bool). cond b (Some spot) (spot_of s.resources n)) (not_unnamed s name n free is) ∙ sound.unnamed n is;
       }
 
@@ -197,9 +197,9 @@ module _ (s : Session) (book : State) (name : Name) (spot : Spot) (mid t : Names
         lease_pairs = paired;
         nodes = placed_longer s.book.history book.history s.nodes sound.nodes longer;
         hubs = placed_longer s.book.history book.history s.hubs sound.hubs longer;
-        resources = λ r. sound.resources r ∙ sym (kept_same s.book.base s.book.history book.history (Leasing q) accepts.step refl r);
+        resources = λ r. sound.resources r ∙ sym (kept_same accepts.step refl r);
         leases = λ l. ap is_some (binds.names l) ∙ some_cond (spot.number == l) name (name_of s.leases l)
-            ∙ (λ i. cond (number i == l) true (sound.leases l i)) ∙ sym (out_leased s.book.base s.book.history book.history q sound.kept.lawful accepts.step l);
+            ∙ (λ i. cond (number i == l) true (sound.leases l i)) ∙ sym (out_leased sound.kept.lawful accepts.step l);
         unnamed = sound.unnamed;
       }
 
@@ -218,9 +218,9 @@ module _ (s : Session) (book : State) (name : Name) (spot : Spot) (mid t : Names
         resource_pairs = sound.resource_pairs;
         lease_pairs = sound.lease_pairs;
         nodes = placed_longer s.book.history book.history s.nodes sound.nodes (omega arith);
-        hubs = placed_bound s.book.history book.history s.hubs t name spot sound.hubs binds (omega arith) (omega arith);
-        resources = λ r. sound.resources r ∙ sym (kept_same s.book.base s.book.history book.history asked.call accepts.step resources r);
-        leases = λ l. sound.leases l ∙ sym (out_same s.book.base s.book.history book.history asked.call accepts.step leases l);
+        hubs = placed_bound book.history t name spot sound.hubs binds (omega arith) (omega arith);
+        resources = λ r. sound.resources r ∙ sym (kept_same accepts.step resources r);
+        leases = λ l. sound.leases l ∙ sym (out_same accepts.step leases l);
         unnamed = sound.unnamed;
       }
 
@@ -232,10 +232,10 @@ pub forgot : (old new : Names) (number : ℕ) (name : Name) (result : Option (St
 forgot old new number name None known value some = absurd (none-some name (value ∙ known))
 forgot old new number name (Some n) known value some = subst (λ (m : Name). Forgets old number m new) (same_Some (string_bytes n) name (value ∙ known)) some
 
-pub returned_sound : (s : Session) (book : State) (q : ℕ) (known : Bool) (name : Name) (t : Names) → IsSound s → IsPromised book → IsPaired t →
+pub returned_sound : {s : Session} {book : State} {q : ℕ} (known : Bool) (name : Name) (t : Names) → IsSound s → IsPromised book → IsPaired t →
     Forgets s.leases q name t →
     Accepts s.book (record { call = GivingBack q; is_known = known; is_fresh = true }) book → IsSound (record s { book = book; leases = t })
-returned_sound s book q known name t sound kept paired forgets accepts =
+returned_sound {s} {book} {q} known name t sound kept paired forgets accepts =
     let asked : Request = record { call = GivingBack q; is_known = known; is_fresh = true } in
     let longer : length s.book.history ≤ length book.history = accepted_longer s.book book asked accepts in
     record {
@@ -246,9 +246,9 @@ returned_sound s book q known name t sound kept paired forgets accepts =
       lease_pairs = paired;
       nodes = placed_longer s.book.history book.history s.nodes sound.nodes longer;
       hubs = placed_longer s.book.history book.history s.hubs sound.hubs longer;
-      resources = λ r. sound.resources r ∙ sym (kept_same s.book.base s.book.history book.history (GivingBack q) accepts.step refl r);
+      resources = λ r. sound.resources r ∙ sym (kept_same accepts.step refl r);
       leases = λ l. ap is_some (forgets.names l) ∙ some_gone (q == l) (name_of s.leases l)
-          ∙ ap (λ (b : Bool). cond (q == l) false b) (sound.leases l) ∙ sym (out_returned s.book.base s.book.history book.history q accepts.step l);
+          ∙ ap (λ (b : Bool). cond (q == l) false b) (sound.leases l) ∙ sym (out_returned accepts.step l);
       unnamed = sound.unnamed;
     }
 

@@ -24,10 +24,9 @@ use Rattle.rx_live.proofs.Acts.{carried_leads, refused_alike}
 use Rattle.rx_live.proofs.Listings.{leads_all}
 
 -- a command that is carried out
-pub carried_out : (old done new : Session) (c : Command) (front text : List ℕ) → Runs old c Accepted done → front ≡ ok_text (length old.book.history) →
-    TellsAll done front new text →
-    CarriesOut old c text new
-carried_out old done new c front text runs is tells =
+pub carried_out : {old : Session} (done new : Session) (c : Command) (front text : List ℕ) → Runs old c Accepted done →
+    front ≡ ok_text (length old.book.history) → TellsAll done front new text → CarriesOut old c text new
+carried_out {old} done new c front text runs is tells =
     let all : TellsAll done (ok_text (length old.book.history)) new text = subst (λ (t : List ℕ). TellsAll done t new text) is tells in
     carries (handed_by c ++ map released all.names) (record { done = done; runs = runs; left = new; tells = all; alike = alike_same new; acts_are = refl })
 
@@ -60,9 +59,9 @@ pub sent_first : (old new : Session) (line text : List ℕ) → Answered old lin
 sent_first old new line text answered sound =
     record { aged = old; ages = as_it_was; acts = answered.acts; answer = answered.answer; leads = answered.leads; sound = sound }
 
-pub sent_again : (old mid aged new : Session) (line text : List ℕ) → IsAlike old mid → Renews mid aged → Answered aged line text new → IsSound new →
+pub sent_again : {old mid : Session} (aged new : Session) (line text : List ℕ) → IsAlike old mid → Renews mid aged → Answered aged line text new → IsSound new →
     Sends old line text new
-sent_again old mid aged new line text alike renews answered sound =
+sent_again {old} {mid} aged new line text alike renews answered sound =
     let same : (n : Name) → has_resource aged n ≡ has_resource old n = renewed_held old mid aged alike renews in
     record {
       aged = aged;
@@ -74,10 +73,10 @@ sent_again old mid aged new line text alike renews answered sound =
     }
 
 -- the last line
-pub ended : (old left new : Session) (front after text : List ℕ) → IsSound old →
+pub ended : {old : Session} (left new : Session) (front after text : List ℕ) → IsSound old →
     front ≡ codes "{\"closed\":true" ++ member_text (codes "release") (map name_text (all_names old)) →
     WritesNotes old front left after → text ≡ after ++ late_text (is_some left.untold) ++ codes "}" → IsClosed new → Ends old text new
-ended old left new front after text sound is notes closing closed = record {
+ended {old} left new front after text sound is notes closing closed = record {
   names = all_names old;
   leads = leads_all old sound;
   told = notes.told;

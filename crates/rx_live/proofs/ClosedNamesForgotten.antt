@@ -55,15 +55,15 @@ left_open book nodes number spot found alive name known =
     node_found book nodes name spot true (sym (ap (option_and_then (spot_of nodes)) known) ∙ found) alive
 
 -- a closed one
-pub forgot_one : (book : State) (old new : Names) (number : ℕ) (spot : Spot) (result : Option (String Global)) → IsPaired old → spot_at old number ≡ Some spot →
+pub forgot_one : {book : State} {old new : Names} (number : ℕ) (spot : Spot) (result : Option (String Global)) → IsPaired old → spot_at old number ≡ Some spot →
     has_key book.keys (key_at spot) ≡ false → option_map string_bytes result ≡ name_of old number →
     IfSome result (λ n. Forgets old number (string_bytes n) new) →
     AreOpenSame None book old new × (name_of new number ≡ None)
-forgot_one book old new number spot result paired found closed value some =
+forgot_one {book} {old} {new} number spot result paired found closed value some =
     let s = stands old number spot paired found in
     let forgets : Forgets old number s.name new = forgot old new number s.name result s.known value some in
     let at_spot : Forgets old spot.number s.name new = subst (λ (k : ℕ). Forgets old k s.name new) (sym s.is) forgets in (
-      open_forgot None book old new s.name spot refl s.found closed at_spot,
+      open_forgot None book s.name spot refl s.found closed at_spot,
       forgets.names number ∙
           gone (number == number) (eq-eqb number number refl) (name_of old number),
     )

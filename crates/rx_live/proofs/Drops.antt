@@ -14,7 +14,6 @@ use Rattle.rx_event.specs.declared.event.Event.{Event}
 use Rattle.rx_event.specs.Events.{makes_resource, is_take_of}
 use Rattle.rx_event.specs.Tree.{at}
 use Rattle.rx_event.specs.Resources.{is_waiting, is_held, is_taken}
-use Rattle.rx_event.specs.Calls.{Taking}
 use Rattle.rx_scenario.specs.Scenario.{Name}
 use Rattle.rx_book.specs.State.{State, IsPromised}
 use Rattle.rx_book.specs.Requests.{take_request}
@@ -65,13 +64,13 @@ pub never_none : (result : Option (String Global)) (named : Option Name) (P : Ty
 never_none None named P value some = let e : false ≡ true = ap is_some value ∙ some in absurd (cc)
 never_none (Some n) named P value some = tt
 
-pub taken_sound : (s : Session) (book : State) (q : ℕ) (t : Names) (result : Option (String Global)) → IsSound s → IsPromised book → IsPaired t →
+pub taken_sound : {s : Session} {book : State} (q : ℕ) {t : Names} {result : Option (String Global)} → IsSound s → IsPromised book → IsPaired t →
     Accepts s.book (take_request q) book →
     is_some (name_of s.resources q) ≡ true → option_map string_bytes result ≡ name_of s.resources q →
     IfSome result (λ n. Forgets s.resources q (string_bytes n) t) →
     IsSound (record s { book = book; resources = t })
-taken_sound s book q t None sound kept paired accepts named value forgets = let e : false ≡ true = ap is_some value ∙ named in absurd (cc)
-taken_sound s book q t (Some n) sound kept paired accepts named value forgets =
+taken_sound q {result = None} sound kept paired accepts named value forgets = let e : false ≡ true = ap is_some value ∙ named in absurd (cc)
+taken_sound {s} {book} q {t} {result = Some n} sound kept paired accepts named value forgets =
     let name : Name = string_bytes n in
     let longer : length s.book.history ≤ length book.history = accepted_longer s.book book (take_request q) accepts in
     record {
@@ -83,8 +82,8 @@ taken_sound s book q t (Some n) sound kept paired accepts named value forgets =
       nodes = placed_longer s.book.history book.history s.nodes sound.nodes longer;
       hubs = placed_longer s.book.history book.history s.hubs sound.hubs longer;
       resources = λ r. ap is_some (forgets.names r) ∙ some_gone (q == r) (name_of s.resources r) ∙ ap (λ (b : Bool). cond (q == r) false b) (sound.resources r)
-          ∙ sym (kept_taken s.book.base s.book.history book.history q accepts.step r);
-      leases = λ l. sound.leases l ∙ sym (out_same s.book.base s.book.history book.history (Taking q) accepts.step refl l);
+          ∙ sym (kept_taken accepts.step r);
+      leases = λ l. sound.leases l ∙ sym (out_same accepts.step refl l);
       unnamed = λ m is. free_after m (bytes_eq name m) refl (sound.unnamed m is);
     }
   where

@@ -60,15 +60,20 @@ or_none : (b c : Bool) → c ≡ false → (b || c) ≡ b
 or_none false c none = none
 or_none true c none = refl
 
-module _ (made : Event → Bool) (gone : ℕ → Event → Bool) (plain : Event → Bool) (makes_none : (e : Event) → plain e ≡ true → made e ≡ false)
-    (takes_none : (e : Event) (n : ℕ) → plain e ≡ true → gone n e ≡ false) (forced : (e : Event) → may_be_forced e ≡ true → plain e ≡ true)
-    (closes : (c : ℕ) → plain (Close c) ≡ true) where
+-- a plain event makes nothing and takes nothing away, and all that are forced are plain, and all closings
+record LeavesAlone (made : Event → Bool) (gone : ℕ → Event → Bool) (plain : Event → Bool) : Type 0 where
+  pub makes : (e : Event) → plain e ≡ true → made e ≡ false
+  pub takes : (e : Event) (n : ℕ) → plain e ≡ true → gone n e ≡ false
+  pub follows : (e : Event) → may_be_forced e ≡ true → plain e ≡ true
+  pub closes : (c : ℕ) → plain (Close c) ≡ true
+
+module _ {made : Event → Bool} {gone : ℕ → Event → Bool} {plain : Event → Bool} (alone : LeavesAlone made gone plain) where
   -- by a plain event nothing changes
-  pub lasts_plain : (h : List Event) (e : Event) → plain e ≡ true → (n : ℕ) → lasts made gone (h ++ e ∷ []) n ≡ lasts made gone h n
+  lasts_plain : (h : List Event) (e : Event) → plain e ≡ true → (n : ℕ) → lasts made gone (h ++ e ∷ []) n ≡ lasts made gone h n
   lasts_plain h e p n =
       let any : list_any (gone n) (h ++ e ∷ []) ≡ list_any (gone n) h =
-      list_any_push (gone n) h e ∙ or_none (list_any (gone n) h) (gone n e) (takes_none e n p) in
-      (λ i. at_same made h e n (makes_none e p) i && not (any i))
+      list_any_push (gone n) h e ∙ or_none (list_any (gone n) h) (gone n e) (alone.takes e n p) in
+      (λ i. at_same made h e n (alone.makes e p) i && not (any i))
 
   lasts_all : (h es : List Event) → list_all plain es ≡ true → (n : ℕ) → lasts made gone (h ++ es) n ≡ lasts made gone h n
   lasts_all h [] p n = ap (λ (k : List Event). lasts made gone k n) (append-nil h)
@@ -77,23 +82,23 @@ module _ (made : Event → Bool) (gone : ℕ → Event → Bool) (plain : Event 
       lasts_all (h ++ e ∷ []) es (and_parts _ _ p).1 n ∙
       lasts_plain h e (and_parts _ _ p).0 n
 
-  lasts_forced : (base : Kept) → {h k : List Event} → IsForcedOn base h k → (n : ℕ) → lasts made gone k n ≡ lasts made gone h n
-  lasts_forced base stays n = refl
-  lasts_forced base (more {h} {k} {e} before is_forced) n = lasts_plain k e (forced e (forced_kind base is_forced)) n ∙ lasts_forced base before n
+  lasts_forced : {base : Kept} {h k : List Event} → IsForcedOn base h k → (n : ℕ) → lasts made gone k n ≡ lasts made gone h n
+  lasts_forced stays n = refl
+  lasts_forced {base} (more {h} {k} {e} before is_forced) n = lasts_plain k e (alone.follows e (forced_kind base is_forced)) n ∙ lasts_forced before n
 
   -- by a step of which no event is other than plain, too
-  pub lasts_step : (base : Kept) → (h k : List Event) (call : Call) → IsStepOf base h call k → list_all plain (outside_of h call) ≡ true → (n : ℕ) →
+  lasts_step : {base : Kept} {h k : List Event} {call : Call} → IsStepOf base h call k → list_all plain (outside_of h call) ≡ true → (n : ℕ) →
       lasts made gone k n ≡ lasts made gone h n
-  lasts_step base h k call step p n = lasts_forced base step.forced n ∙ lasts_all h (outside_of h call) p n
+  lasts_step {h = h} {call = call} step p n = lasts_forced step.forced n ∙ lasts_all h (outside_of h call) p n
 
   -- by a step of one event, the rest of what it changes
-  pub lasts_one : (base : Kept) → (h k : List Event) (e : Event) (call : Call) → IsStepOf base h call k → outside_of h call ≡ e ∷ [] → (n : ℕ) →
+  lasts_one : {base : Kept} {h k : List Event} {call : Call} (e : Event) → IsStepOf base h call k → outside_of h call ≡ e ∷ [] → (n : ℕ) →
       lasts made gone k n ≡ lasts made gone (h ++ e ∷ []) n
-  lasts_one base h k e call step one n = lasts_forced base step.forced n ∙ ap (λ (es : List Event). lasts made gone (h ++ es) n) one
+  lasts_one {h = h} e step one n = lasts_forced step.forced n ∙ ap (λ (es : List Event). lasts made gone (h ++ es) n) one
 
   all_closed : (cs : List ℕ) → list_all plain (map (λ c. Close c) cs) ≡ true
   all_closed [] = refl
-  all_closed (c ∷ cs) = ap (λ (b : Bool). b && list_all plain (map (λ d. Close d) cs)) (closes c) ∙ all_closed cs
+  all_closed (c ∷ cs) = ap (λ (b : Bool). b && list_all plain (map (λ d. Close d) cs)) (alone.closes c) ∙ all_closed cs
 
 -- one more is made
 lasts_made : (made : Event → Bool) (gone : ℕ → Event → Bool) (h : List Event) (e : Event) → made e ≡ true → ((n : ℕ) → gone n e ≡ false) →
@@ -151,6 +156,9 @@ resource_forced (Accept node tag) p = p
 resource_forced (Take r) p = p
 resource_forced _ p = refl
 
+resources_alone : LeavesAlone makes_resource is_take_of plain_for_resources
+resources_alone = record { makes = accepts_none; takes = takes_none; follows = resource_forced; closes = λ c. refl }
+
 -- leases ---------------------------------------------------------------------------------------------
 
 abbrev plain_for_leases : Event → Bool
@@ -173,6 +181,9 @@ lease_forced (Lease r) p = p
 lease_forced (Return l) p = p
 lease_forced _ p = refl
 
+leases_alone : LeavesAlone makes_lease is_return_of plain_for_leases
+leases_alone = record { makes = leases_none; takes = returns_none; follows = lease_forced; closes = λ c. refl }
+
 -- calls ----------------------------------------------------------------------------------------------
 
 -- the call accepts and takes nothing
@@ -193,7 +204,7 @@ resources_outside h (OpeningUsing place tag) p = p
 resources_outside h (Holding node tag) p = p
 resources_outside h (Taking r) p = p
 resources_outside h (Disconnecting g) p =
-    all_closed makes_resource is_take_of plain_for_resources accepts_none takes_none resource_forced (λ c. refl) (open_connections h g)
+    all_closed resources_alone (open_connections h g)
 resources_outside h (Opening place kind) p = refl
 resources_outside h (Applying r) p = refl
 resources_outside h (Removing r) p = refl
@@ -212,7 +223,7 @@ leases_outside : (h : List Event) (call : Call) → keeps_leases call ≡ true �
 leases_outside h (Leasing r) p = p
 leases_outside h (GivingBack l) p = p
 leases_outside h (Disconnecting g) p =
-    all_closed makes_lease is_return_of plain_for_leases leases_none returns_none lease_forced (λ c. refl) (open_connections h g)
+    all_closed leases_alone (open_connections h g)
 leases_outside h (OpeningUsing place tag) p = refl
 leases_outside h (Holding node tag) p = refl
 leases_outside h (Taking r) p = refl
@@ -229,64 +240,56 @@ leases_outside h (Publishing mode) p = refl
 leases_outside h (Connecting g) p = refl
 
 -- a step that accepts and takes nothing keeps what is kept
-pub kept_same : (base : Kept) → (h k : List Event) (call : Call) → IsStepOf base h call k → keeps_resources call ≡ true → (r : ℕ) → is_kept k r ≡ is_kept h r
+pub kept_same : {base : Kept} {h k : List Event} {call : Call} → IsStepOf base h call k → keeps_resources call ≡ true → (r : ℕ) → is_kept k r ≡ is_kept h r
 unfolding is_kept
-kept_same base h k call step plain r =
-    lasts_step makes_resource is_take_of plain_for_resources accepts_none takes_none resource_forced (λ c. refl) base h k call step
-    (resources_outside h call plain) r
+kept_same {h = h} {call = call} step plain r = lasts_step resources_alone step (resources_outside h call plain) r
 
-pub out_same : (base : Kept) → (h k : List Event) (call : Call) → IsStepOf base h call k → keeps_leases call ≡ true → (l : ℕ) → is_out k l ≡ is_out h l
+pub out_same : {base : Kept} {h k : List Event} {call : Call} → IsStepOf base h call k → keeps_leases call ≡ true → (l : ℕ) → is_out k l ≡ is_out h l
 unfolding is_out
-out_same base h k call step plain l =
-    lasts_step makes_lease is_return_of plain_for_leases leases_none returns_none lease_forced (λ c. refl) base h k call step (leases_outside h call plain) l
+out_same {h = h} {call = call} step plain l = lasts_step leases_alone step (leases_outside h call plain) l
 
 -- one that takes a resource
-pub kept_taken : (base : Kept) → (h k : List Event) (q : ℕ) → IsStepOf base h (Taking q) k → (r : ℕ) → is_kept k r ≡ cond (q == r) false (is_kept h r)
+pub kept_taken : {base : Kept} {h k : List Event} {q : ℕ} → IsStepOf base h (Taking q) k → (r : ℕ) → is_kept k r ≡ cond (q == r) false (is_kept h r)
 unfolding is_kept
-kept_taken base h k q step r =
-    lasts_one makes_resource is_take_of plain_for_resources accepts_none takes_none resource_forced (λ c. refl) base h k (Take q) (Taking q) step refl r
-    ∙ lasts_gone makes_resource is_take_of h (Take q) q refl (λ n. refl) r
+kept_taken {h = h} {q = q} step r =
+    lasts_one resources_alone (Take q) step refl r ∙ lasts_gone makes_resource is_take_of h (Take q) q refl (λ n. refl) r
 
 -- one that accepts a resource
-pub kept_held : (base : Kept) → (h k : List Event) (node tag : ℕ) → IsLawful base h → IsStepOf base h (Holding node tag) k → (r : ℕ) →
+pub kept_held : {base : Kept} {h k : List Event} {node tag : ℕ} → IsLawful base h → IsStepOf base h (Holding node tag) k → (r : ℕ) →
     is_kept k r ≡ cond (length h == r) true (is_kept h r)
 unfolding is_kept
-kept_held base h k node tag law step r =
-    lasts_one makes_resource is_take_of plain_for_resources accepts_none takes_none resource_forced (λ c. refl) base h k (Accept node tag) (Holding node tag)
-    step refl r
+kept_held {base} {h = h} {node = node} {tag = tag} law step r =
+    lasts_one resources_alone (Accept node tag) step refl r
     ∙ lasts_made makes_resource is_take_of h (Accept node tag) refl (λ n. refl) (no_take base h law (length h) (omega arith)) r
 
 -- one that accepts a resource with a node of its own
-pub kept_used : (base : Kept) → (h k : List Event) (place : Place) (tag : ℕ) → IsLawful base h → IsStepOf base h (OpeningUsing place tag) k → (r : ℕ) →
+pub kept_used : {base : Kept} {h k : List Event} {place : Place} {tag : ℕ} → IsLawful base h → IsStepOf base h (OpeningUsing place tag) k → (r : ℕ) →
     is_kept k r ≡ cond (length h + 1 == r) true (is_kept h r)
 unfolding is_kept
-kept_used base h k place tag law step r =
+kept_used {base} {h = h} {place = place} {tag = tag} law step r =
     let opened : List Event = h ++ Open place Pass ∷ [] in
     let accept : Event = Accept (length h) tag in
     let longer : length opened ≡ length h + 1 = length-append h (Open place Pass ∷ []) in
     let both : h ++ Open place Pass ∷ accept ∷ [] ≡ opened ++ accept ∷ [] = sym (append_assoc h (Open place Pass ∷ []) (accept ∷ [])) in
     let untaken : list_any (is_take_of (length opened)) opened ≡ false = list_any_push (is_take_of (length opened)) h (Open place Pass)
     ∙ or_none (list_any (is_take_of (length opened)) h) false refl ∙ no_take base h law (length opened) (omega arith) in
-    lasts_forced makes_resource is_take_of plain_for_resources accepts_none takes_none resource_forced (λ c. refl) base step.forced r
+    lasts_forced resources_alone step.forced r
     ∙ ap (λ (es : List Event). lasts makes_resource is_take_of es r) both
     ∙ lasts_made makes_resource is_take_of opened accept refl (λ n. refl) untaken r
-    ∙
-    (λ i. cond (longer i == r) true
-    (lasts_plain makes_resource is_take_of plain_for_resources accepts_none takes_none resource_forced (λ c. refl) h (Open place Pass) refl r i))
+    ∙ (λ i. cond (longer i == r) true (lasts_plain resources_alone h (Open place Pass) refl r i))
 
 -- one that gives a lease out, and one that takes it back
-pub out_leased : (base : Kept) → (h k : List Event) (q : ℕ) → IsLawful base h → IsStepOf base h (Leasing q) k → (l : ℕ) →
+pub out_leased : {base : Kept} {h k : List Event} {q : ℕ} → IsLawful base h → IsStepOf base h (Leasing q) k → (l : ℕ) →
     is_out k l ≡ cond (length h == l) true (is_out h l)
 unfolding is_out
-out_leased base h k q law step l =
-    lasts_one makes_lease is_return_of plain_for_leases leases_none returns_none lease_forced (λ c. refl) base h k (Lease q) (Leasing q) step refl l
+out_leased {base} {h = h} {q = q} law step l =
+    lasts_one leases_alone (Lease q) step refl l
     ∙ lasts_made makes_lease is_return_of h (Lease q) refl (λ n. refl) (no_return base h law (length h) (omega arith)) l
 
-pub out_returned : (base : Kept) → (h k : List Event) (q : ℕ) → IsStepOf base h (GivingBack q) k → (l : ℕ) → is_out k l ≡ cond (q == l) false (is_out h l)
+pub out_returned : {base : Kept} {h k : List Event} {q : ℕ} → IsStepOf base h (GivingBack q) k → (l : ℕ) → is_out k l ≡ cond (q == l) false (is_out h l)
 unfolding is_out
-out_returned base h k q step l =
-    lasts_one makes_lease is_return_of plain_for_leases leases_none returns_none lease_forced (λ c. refl) base h k (Return q) (GivingBack q) step refl l
-    ∙ lasts_gone makes_lease is_return_of h (Return q) q refl (λ n. refl) l
+out_returned {h = h} {q = q} step l =
+    lasts_one leases_alone (Return q) step refl l ∙ lasts_gone makes_lease is_return_of h (Return q) q refl (λ n. refl) l
 
 -- what has no place yet is not kept
 pub kept_past : (h : List Event) (r : ℕ) → length h ≤ r → is_kept h r ≡ false

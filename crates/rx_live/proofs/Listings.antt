@@ -94,9 +94,9 @@ names_all s before ns i sound past are =
     ap (λ (names : List Name). before ++ names)
     (ap (names_at s) (take_all i ns past ∙ are len (placed_resources s sound)) ∙ named_alone s (range_with_len 0 len) ∙ below_is s len)
 
-pub text_step : (names more : List Name) (o : Option Name) (begun text new : List ℕ) (first : Bool) → more ≡ names ++ option_to_list o → first ≡ is_nil names →
-    text ≡ begun ++ open_text names → new ≡ text ++ led_text first o → new ≡ begun ++ open_text more
-text_step names more o begun text new first longer is written next =
+pub text_step : (names : List Name) {more : List Name} (o : Option Name) (begun : List ℕ) {text new : List ℕ} (first : Bool) →
+    more ≡ names ++ option_to_list o → first ≡ is_nil names → text ≡ begun ++ open_text names → new ≡ text ++ led_text first o → new ≡ begun ++ open_text more
+text_step names o begun first longer is written next =
     next ∙ (λ i. written i ++ led_text (is i) o) ∙ append_assoc begun (open_text names) (led_text (is_nil names) o)
     ∙ ap (λ (t : List ℕ). begun ++ t) (sym (text_more names o) ∙ ap open_text (sym longer))
 

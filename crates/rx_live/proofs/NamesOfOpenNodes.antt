@@ -53,10 +53,10 @@ pub late_name : (untold : Option Mail) (book : State) (t : Names) (name : Name) 
 late_name untold book t name s found late =
     (λ i. is_some (node_in book t name) || (is_some untold && is_some (found i))) ∙ is_late_name (is_some (node_in book t name)) (is_some untold) late
 
-pub known_name : (untold : Option Mail) (book : State) (t : Names) (name : Name) (s : Spot) (b : Bool) → spot_of t name ≡ Some s → is_some untold ≡ false →
+pub known_name : (untold : Option Mail) (book : State) (t : Names) (name : Name) {s : Spot} (b : Bool) → spot_of t name ≡ Some s → is_some untold ≡ false →
     has_key book.keys (key_at s) ≡ b →
     is_node_in untold book t name ≡ b
-known_name untold book t name s b found told is =
+known_name untold book t name {s} b found told is =
     (λ i. node_found book t name s b found is i || (told i && is_some (spot_of t name))) ∙ or_nothing b where
       or_nothing : (c : Bool) → (c || (false && is_some (spot_of t name))) ≡ c
       or_nothing true = refl
@@ -76,10 +76,10 @@ either_same a b c is (inl same) = inl (is ∙ same)
 either_same a b c is (inr none) = inr (is ∙ none)
 
 -- as the name of a closed node is forgotten
-pub open_forgot : (untold : Option Mail) (book : State) (old new : Names) (name : Name) (s : Spot) → is_some untold ≡ false → spot_of old name ≡ Some s →
+pub open_forgot : (untold : Option Mail) (book : State) {old new : Names} (name : Name) (s : Spot) → is_some untold ≡ false → spot_of old name ≡ Some s →
     has_key book.keys (key_at s) ≡ false →
     Forgets old s.number name new → AreOpenSame untold book old new
-open_forgot untold book old new name s told found closed forgets = record {
+open_forgot untold book {old} {new} name s told found closed forgets = record {
   kept = λ late. (let e : false ≡ true = sym told ∙ late in absurd (cc));
   nodes = λ n. by_name n (bytes_eq name n) refl;
   spots =
@@ -123,14 +123,13 @@ placed_open untold h book old new same placed n past = by_case (same.names n) wh
   by_case (inr none) = none
 
 -- a name for what was made
-pub made_placed : (h k : List Event) (old new : Names) (name : Option Name) (made : Option ℕ) → BindsMade old name made new → IsPlaced h old →
-    length h ≤ length k →
-    ((n : ℕ) → made ≡ Some n → n < length k) → IsPlaced k new
-made_placed h k old new (Some name) (Some n) binds placed longer within =
+pub made_placed : {h : List Event} (k : List Event) {old : Names} (new : Names) (name : Option Name) (made : Option ℕ) → BindsMade old name made new →
+    IsPlaced h old → length h ≤ length k → ((n : ℕ) → made ≡ Some n → n < length k) → IsPlaced k new
+made_placed k new (Some name) (Some n) binds placed longer within =
     let inside : binds.spot.number < length k = let w = within n refl in omega (arith, binds.is) in
-    placed_bound h k old new name binds.spot placed binds.binds longer inside
-made_placed h k old new (Some name) None binds placed longer within = λ n past. ap (λ (t : Names). name_of t n) binds ∙ placed n (omega arith)
-made_placed h k old new None made binds placed longer within = λ n past. ap (λ (t : Names). name_of t n) binds ∙ placed n (omega arith)
+    placed_bound k new name binds.spot placed binds.binds longer inside
+made_placed k new (Some name) None binds placed longer within = λ n past. ap (λ (t : Names). name_of t n) binds ∙ placed n (omega arith)
+made_placed k new None made binds placed longer within = λ n past. ap (λ (t : Names). name_of t n) binds ∙ placed n (omega arith)
 
 pub made_within : (h k : List Event) (n : ℕ) → connection_made h k ≡ Some n → n < length k
 made_within h k n is = by_test (at makes_connection k (length h + 1)) refl is where

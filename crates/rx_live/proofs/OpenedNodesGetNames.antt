@@ -14,14 +14,14 @@ use Rattle.rx_scenario.specs.Scenario.{Name}
 use Rattle.rx_book.specs.declared.answer.At.{At}
 use Rattle.rx_book.specs.declared.answer.Opened.{Opened}
 use Rattle.rx_book.specs.State.{State, IsPromised}
-use Rattle.rx_book.specs.Requests.{Request, place_of, open_request, connect_request}
+use Rattle.rx_book.specs.Requests.{Request, open_request, connect_request}
 use Rattle.rx_book.specs.Answers.{Accepts, IsOpened, makes_connection, connection_made}
 use Rattle.rx_book.proofs.Laws.StepsContinue.{step_longer}
 use Rattle.rx_line.specs.declared.names.Spot.{Spot}
 use Rattle.rx_line.specs.declared.names.Names.{Names}
 use Rattle.rx_line.specs.Names.{spot_of, name_of, IsPaired, AreSame, Binds}
 use Rattle.rx_live.specs.Session.{Session, IsSound, IsPlaced, has_resource}
-use Rattle.rx_live.specs.Given.{AreOpenSame, IsAlike, IsUnchanged}
+use Rattle.rx_live.specs.Given.{AreOpenSame, IsAlike, IsUnchanged, NamesOne}
 use Rattle.rx_live.specs.Openings.{using_at, is_node, is_open_taken, BindsMade, BindsNode, BindsUsing, BindsConnection}
 use Rattle.rx_live.proofs.LastsThroughSteps.{keeps_resources, keeps_leases, kept_same, out_same, kept_used, kept_past}
 use Rattle.rx_live.proofs.Soundness.{accepted_longer}
@@ -53,10 +53,10 @@ pub unchanged_room : (s : Session) (mid t : Names) → IsSound s → AreOpenSame
 unchanged_room s mid t sound same room paired =
     unchanged_nodes s t sound (open_on s.untold s.book s.nodes mid t same (open_same s.untold s.book mid t room)) paired
 
-pub unchanged_rooms : (s : Session) (mid t r : Names) → IsSound s → AreOpenSame s.untold s.book s.nodes mid → AreSame mid t → AreSame s.resources r →
+pub unchanged_rooms : {s : Session} {mid : Names} (t r : Names) → IsSound s → AreOpenSame s.untold s.book s.nodes mid → AreSame mid t → AreSame s.resources r →
     IsPaired t → IsPaired r →
     IsUnchanged s (record s { nodes = t; resources = r })
-unchanged_rooms s mid t r sound same room more paired pairs =
+unchanged_rooms {s} {mid} t r sound same room more paired pairs =
     let alike : IsAlike s (record s { nodes = t; resources = r }) = record {
       book = refl;
       nodes = open_on s.untold s.book s.nodes mid t same (open_same s.untold s.book mid t room);
@@ -83,10 +83,10 @@ apart_of : (a b c : Bool) → (a || b || c) ≡ false → b ≡ false
 apart_of a b c none = (or_parts a b (or_parts (a || b) c none).0).1
 
 -- behind a node's own name that of its connection is free still
-pub connection_free : (s : Session) (name : Name) (spot : Spot) (mid t with_node : Names) (other : Option Name) → is_open_taken s name other ≡ false →
+pub connection_free : (s : Session) {name : Name} {spot : Spot} {mid : Names} (t with_node : Names) (other : Option Name) → is_open_taken s name other ≡ false →
     AreSame mid t → Binds t name spot with_node →
     IfSome other (λ n. spot_of mid n ≡ None) → IfSome other (λ n. spot_of with_node n ≡ None)
-connection_free s name spot mid t with_node other taken room binds free =
+connection_free s {name} {spot} {mid} t with_node other taken room binds free =
     other_free name spot t with_node other binds
     (apart_of (is_node s name) (option_map_or (bytes_eq name) other false) (option_map_or (is_node s) other false) taken)
     (room_free mid t other room free)
@@ -99,10 +99,10 @@ made_number h k n is = by_test (at makes_connection k (length h + 1)) is where
 
 -- an opened node -------------------------------------------------------------------------------------
 
-nodes_sound : (s : Session) (asked : Request) (book : State) (t : Names) → IsSound s → IsPromised book → IsPaired t → IsPlaced book.history t →
+nodes_sound : {s : Session} {asked : Request} {book : State} (t : Names) → IsSound s → IsPromised book → IsPaired t → IsPlaced book.history t →
     Accepts s.book asked book →
     keeps_resources asked.call ≡ true → keeps_leases asked.call ≡ true → IsSound (record s { book = book; nodes = t })
-nodes_sound s asked book t sound kept paired placed accepts resources leases = record {
+nodes_sound {s} {asked} {book} t sound kept paired placed accepts resources leases = record {
   kept = kept;
   node_pairs = paired;
   hub_pairs = sound.hub_pairs;
@@ -110,75 +110,65 @@ nodes_sound s asked book t sound kept paired placed accepts resources leases = r
   lease_pairs = sound.lease_pairs;
   nodes = placed;
   hubs = placed_longer s.book.history book.history s.hubs sound.hubs (accepted_longer s.book book asked accepts);
-  resources = λ r. sound.resources r ∙ sym (kept_same s.book.base s.book.history book.history asked.call accepts.step resources r);
-  leases = λ l. sound.leases l ∙ sym (out_same s.book.base s.book.history book.history asked.call accepts.step leases l);
+  resources = λ r. sound.resources r ∙ sym (kept_same accepts.step resources r);
+  leases = λ l. sound.leases l ∙ sym (out_same accepts.step leases l);
   unnamed = sound.unnamed;
 }
 
 -- names as some of closed nodes are forgotten, and as room is made
-module _ (s : Session) (mid t : Names) (sound : IsSound s) (same : AreOpenSame s.untold s.book s.nodes mid) (room : AreSame mid t) where
+module _ {s : Session} {mid t : Names} (sound : IsSound s) (same : AreOpenSame s.untold s.book s.nodes mid) (room : AreSame mid t) where
   all_same : AreOpenSame s.untold s.book s.nodes t
   all_same = open_on s.untold s.book s.nodes mid t same (open_same s.untold s.book mid t room)
 
   placed : IsPlaced s.book.history t
   placed = placed_open s.untold s.book.history s.book s.nodes t all_same sound.nodes
 
-  module _ (book : State) (name : Name) (spot : Spot) (with_node new : Names) (kept : IsPromised book) (paired : IsPaired new)
-      (binds : Binds t name spot with_node)
-      (number : spot.number ≡ length s.book.history) where
-    pub opened_bound : (o : Opened) (connection : Option Name) → IsOpened s.book book o →
-        BindsMade with_node connection (option_map (λ k. k.number) o.connected) new →
-        BindsNode s name connection (record s { book = book; nodes = new })
-    opened_bound o connection opened made = record {
-      nodes = t;
-      alike = alike_nodes s t all_same;
-      with_node = with_node;
-      node = record { spot = spot; is = number; binds = binds };
-      made = subst (λ (m : Option ℕ). BindsMade with_node connection m new) opened.connection made;
-      rest = refl;
-    }
+  module _ {book : State} {name : Name} {with_node new : Names} (node : NamesOne t name (length s.book.history) with_node)
+      {o : Opened} (opened : IsOpened s.book book o) (connection : Option Name)
+      (made : BindsMade with_node connection (option_map (λ k. k.number) o.connected) new) where
+    made_there : BindsMade with_node connection (connection_made s.book.history book.history) new
+    made_there = subst (λ (m : Option ℕ). BindsMade with_node connection m new) opened.connection made
 
-    pub opened_sound : (place : At) (kind : Kind) (o : Opened) (connection : Option Name) → IsOpened s.book book o →
-        BindsMade with_node connection (option_map (λ k. k.number) o.connected) new → Accepts s.book (open_request s.book place kind) book →
+    pub opened_bound : BindsNode s name connection (record s { book = book; nodes = new })
+    opened_bound = record { nodes = t; alike = alike_nodes s t all_same; with_node = with_node; node = node; made = made_there; rest = refl }
+
+    pub opened_sound : (place : At) (kind : Kind) → IsPromised book → IsPaired new → Accepts s.book (open_request s.book place kind) book →
         IsSound (record s { book = book; nodes = new })
-    opened_sound place kind o connection opened made accepts =
+    opened_sound place kind kept paired accepts =
         let asked : Request = open_request s.book place kind in
         let steps = step_longer s.book.base s.book.history book.history asked.call accepts.step in
         let longer : length s.book.history < length book.history = omega arith in
         let one : IsPlaced book.history with_node =
-        placed_bound s.book.history book.history t with_node name spot placed binds (omega arith)
-        (let l : spot.number ≡ length s.book.history = number in omega arith) in
-        let made_there : BindsMade with_node connection (connection_made s.book.history book.history) new =
-        subst (λ (m : Option ℕ). BindsMade with_node connection m new) opened.connection made in
+        placed_bound book.history with_node name node.spot placed node.binds (omega arith)
+        (let l : node.spot.number ≡ length s.book.history = node.is in omega arith) in
         let two : IsPlaced book.history new =
-        made_placed book.history book.history with_node new connection (connection_made s.book.history book.history) made_there one (omega arith)
+        made_placed book.history new connection (connection_made s.book.history book.history) made_there one (omega arith)
         (made_within s.book.history book.history) in
-        nodes_sound s asked book new sound kept paired two accepts refl refl
+        nodes_sound new sound kept paired two accepts refl refl
 
 -- one with a resource --------------------------------------------------------------------------------
 
-module _ (s : Session) (mid t : Names) (sound : IsSound s) (same : AreOpenSame s.untold s.book s.nodes mid) (room : AreSame mid t)
-    (book : State) (name res : Name) (spot held : Spot) (more nodes resources : Names) (kept : IsPromised book) (pairs : IsPaired nodes)
-    (paired : IsPaired resources)
-    (binds : Binds t name spot nodes) (number : spot.number ≡ length s.book.history) (grown : AreSame s.resources more)
-    (binds_res : Binds more res held resources)
-    (number_res : held.number ≡ length s.book.history + 1) where
+module _ {s : Session} {mid t : Names} (sound : IsSound s) (same : AreOpenSame s.untold s.book s.nodes mid) (room : AreSame mid t)
+    {book : State} {name res : Name} {more nodes resources : Names} (node : NamesOne t name (length s.book.history) nodes)
+    (grown : AreSame s.resources more) (held : NamesOne more res (length s.book.history + 1) resources) where
+  held_binds : Binds s.resources res held.spot resources
+  held_binds = bound_after s.resources more resources res held.spot grown held.binds
+
   pub used_bound : BindsUsing s name res (record s { book = book; nodes = nodes; resources = resources })
   used_bound = record {
     nodes = t;
-    alike = alike_nodes s t (all_same s mid t sound same room);
-    node = record { spot = spot; is = number; binds = binds };
-    resource = record { spot = held; is = number_res; binds = bound_after s.resources more resources res held grown binds_res };
+    alike = alike_nodes s t (all_same sound same room);
+    node = node;
+    resource = record { spot = held.spot; is = held.is; binds = held_binds };
     rest = refl;
   }
 
-  pub used_sound : (place : At) → has_resource s res ≡ false → Accepts s.book (using_at s.book place) book →
-      IsSound (record s { book = book; nodes = nodes; resources = resources })
-  used_sound place free accepts =
+  pub used_sound : (place : At) → IsPromised book → IsPaired nodes → IsPaired resources → has_resource s res ≡ false →
+      Accepts s.book (using_at s.book place) book → IsSound (record s { book = book; nodes = nodes; resources = resources })
+  used_sound place kept pairs paired free accepts =
       let asked : Request = using_at s.book place in
       let steps = step_longer s.book.base s.book.history book.history asked.call accepts.step in
       let longer : length s.book.history < length book.history = omega arith in
-      let bound : Binds s.resources res held resources = bound_after s.resources more resources res held grown binds_res in
       record {
         kept = kept;
         node_pairs = pairs;
@@ -186,15 +176,14 @@ module _ (s : Session) (mid t : Names) (sound : IsSound s) (same : AreOpenSame s
         resource_pairs = paired;
         lease_pairs = sound.lease_pairs;
         nodes =
-            placed_bound s.book.history book.history t nodes name spot (placed s mid t sound same room) binds (omega arith)
-            (let l : spot.number ≡ length s.book.history = number in omega arith);
+            placed_bound book.history nodes name node.spot (placed sound same room) node.binds (omega arith)
+            (let l : node.spot.number ≡ length s.book.history = node.is in omega arith);
         hubs = placed_longer s.book.history book.history s.hubs sound.hubs (omega arith);
-        resources = λ r. ap is_some (bound.names r) ∙ some_cond (held.number == r) res (name_of s.resources r)
-            ∙
-            (λ i. cond (number_res i == r) true (sound.resources r i)) ∙
-            sym (kept_used s.book.base s.book.history book.history (place_of place) 0 sound.kept.lawful accepts.step r);
-        leases = λ l. sound.leases l ∙ sym (out_same s.book.base s.book.history book.history asked.call accepts.step refl l);
-        unnamed = λ n is. bound.spots n ∙ ap (λ (b : Bool). cond b (Some held) (spot_of s.resources n)) (not_unnamed s res n free is) ∙ sound.unnamed n is;
+        resources = λ r. ap is_some (held_binds.names r) ∙ some_cond (held.spot.number == r) res (name_of s.resources r)
+            ∙ (λ i. cond (held.is i == r) true (sound.resources r i)) ∙ sym (kept_used sound.kept.lawful accepts.step r);
+        leases = λ l. sound.leases l ∙ sym (out_same accepts.step refl l);
+        unnamed = λ n is. held_binds.spots n ∙ ap (λ (b : Bool). cond b (Some held.spot) (spot_of s.resources n)) (not_unnamed s res n free is)
+            ∙ sound.unnamed n is;
       }
 
 pub unnamed_used : (s : Session) (more : Names) → IsSound s → AreSame s.resources more → name_of more (length s.book.history + 1) ≡ None
@@ -206,24 +195,20 @@ unnamed_used s more sound grown =
 
 -- a connection ---------------------------------------------------------------------------------------
 
-module _ (s : Session) (mid t : Names) (sound : IsSound s) (same : AreOpenSame s.untold s.book s.nodes mid) (room : AreSame mid t)
-    (book : State) (new : Names) (kept : IsPromised book) (paired : IsPaired new) (name : Option Name)
-    (made : BindsMade t name (Some (length s.book.history)) new)
-  where
-    pub connected_bound : BindsConnection s name (record s { book = book; nodes = new })
-    connected_bound = record { nodes = t; alike = alike_nodes s t (all_same s mid t sound same room); made = made; rest = refl }
+module _ {s : Session} {mid t : Names} (sound : IsSound s) (same : AreOpenSame s.untold s.book s.nodes mid) (room : AreSame mid t)
+    {book : State} {new : Names} (name : Option Name) (made : BindsMade t name (Some (length s.book.history)) new) where
+  pub connected_bound : BindsConnection s name (record s { book = book; nodes = new })
+  connected_bound = record { nodes = t; alike = alike_nodes s t (all_same sound same room); made = made; rest = refl }
 
-    pub connected_sound : (hub : ℕ) → Accepts s.book (connect_request hub) book → IsSound (record s { book = book; nodes = new })
-    connected_sound hub accepts =
-        let asked : Request = connect_request hub in
-        let steps = step_longer s.book.base s.book.history book.history asked.call accepts.step in
-        let longer : length s.book.history < length book.history = omega arith in
-        let all : IsPlaced book.history new =
-        made_placed s.book.history book.history t new name (Some (length s.book.history)) made (placed s mid t sound same room) (omega arith)
-        (λ n is. let l : length s.book.history ≡ n = same_Some (length s.book.history) n is in omega arith) in
-        nodes_sound s asked book new sound kept paired all accepts refl refl
-
--- what is asked --------------------------------------------------------------------------------------
+  pub connected_sound : (hub : ℕ) → IsPromised book → IsPaired new → Accepts s.book (connect_request hub) book → IsSound (record s { book = book; nodes = new })
+  connected_sound hub kept paired accepts =
+      let asked : Request = connect_request hub in
+      let steps = step_longer s.book.base s.book.history book.history asked.call accepts.step in
+      let longer : length s.book.history < length book.history = omega arith in
+      let all : IsPlaced book.history new =
+      made_placed book.history new name (Some (length s.book.history)) made (placed sound same room) (omega arith)
+      (λ n is. let l : length s.book.history ≡ n = same_Some (length s.book.history) n is in omega arith) in
+      nodes_sound new sound kept paired all accepts refl refl
 
 -- outcomes -------------------------------------------------------------------------------------------
 

@@ -1,5 +1,5 @@
 -- A session stays sound as its book goes on.
-use Rattle.std.proofs.Common.{◌≡◌, ℕ, ◌≤◌, true, false, Option, Some, None, Result, Ok, Err, length}
+use Rattle.std.proofs.Common.{◌≡◌, ℕ, ◌≤◌, true, false, Option, Some, Result, Ok, Err, length}
 use Rattle.std.proofs.Common.{refl, sym, ap, ◌∙◌, arith, subst, inl, option_map, List, []}
 use Rattle.std.specs.Prelude.{IfOk, IfErr, OnOk, OnErr, is_some}
 use Rattle.std.specs.declared.alloc.AllocError.{AllocError}
@@ -8,13 +8,14 @@ use Rattle.std.proofs.lemmas.Option.{none-some}
 use Rattle.rx_event.specs.declared.event.Event.{Event}
 use Rattle.rx_event.specs.Resources.{is_out}
 use Rattle.rx_event.proofs.Laws.Leases.{is_out_past}
-use Rattle.rx_line.specs.Names.{IsPaired, AreNone}
+use Rattle.rx_line.specs.Names.{IsPaired}
 use Rattle.rx_book.specs.State.{State, IsPromised}
 use Rattle.rx_book.specs.Requests.{Request}
 use Rattle.rx_book.specs.Answers.{Accepts, IsCause, IsCauseOrWant}
 use Rattle.rx_book.proofs.Laws.StepsContinue.{step_longer}
 use Rattle.rx_line.specs.declared.outcome.Outcome.{Outcome}
 use Rattle.rx_live.specs.Session.{Session, IsSound, is_kept}
+use Rattle.rx_live.specs.Lines.{IsFresh}
 use Rattle.rx_live.specs.Carried.{outcome_of, Goes}
 use Rattle.rx_live.proofs.LastsThroughSteps.{keeps_resources, keeps_leases, kept_same, out_same}
 
@@ -33,19 +34,19 @@ sound_on s asked book sound kept accepts resources leases = record {
   lease_pairs = sound.lease_pairs;
   nodes = λ n past. let l = accepted_longer s.book book asked accepts in sound.nodes n (omega arith);
   hubs = λ n past. let l = accepted_longer s.book book asked accepts in sound.hubs n (omega arith);
-  resources = λ r. sound.resources r ∙ sym (kept_same s.book.base s.book.history book.history asked.call accepts.step resources r);
-  leases = λ l. sound.leases l ∙ sym (out_same s.book.base s.book.history book.history asked.call accepts.step leases l);
+  resources = λ r. sound.resources r ∙ sym (kept_same accepts.step resources r);
+  leases = λ l. sound.leases l ∙ sym (out_same accepts.step leases l);
   unnamed = sound.unnamed;
 }
 
 -- what such a call is answered
-pub goes_on : {A : Type 0} (s : Session) (asked : Request) (book : State) (answer : Result A Refusal) (outcome : Outcome) → IsSound s → IsPromised book →
+pub goes_on : {A : Type 0} {s : Session} {asked : Request} {book : State} {answer : Result A Refusal} {outcome : Outcome} → IsSound s → IsPromised book →
     keeps_resources asked.call ≡ true → keeps_leases asked.call ≡ true → OnOk answer (Accepts s.book asked book) → IfErr answer (IsCauseOrWant s.book asked) →
     OnErr answer (book ≡ s.book) → outcome ≡ outcome_of answer → Goes s (Some asked) outcome (record s { book = book })
-goes_on s asked book (Ok a) outcome sound kept resources leases accepts refuses same is =
+goes_on {s} {asked} {book} {answer = Ok a} sound kept resources leases accepts refuses same is =
     subst (λ (o : Outcome). Goes s (Some asked) o (record s { book = book })) (sym is)
     (record { carries = (accepts, refl); sound = sound_on s asked book sound kept accepts resources leases })
-goes_on s asked book (Err why) outcome sound kept resources leases accepts refuses same is =
+goes_on {s} {asked} {book} {answer = Err why} sound kept resources leases accepts refuses same is =
     let stays : record s { book = book } ≡ s = ap (λ (b : State). record s { book = b }) same in
     subst (λ (o : Outcome). Goes s (Some asked) o (record s { book = book })) (sym is)
     (record { carries = (refuses, stays); sound = subst (λ (t : Session). IsSound t) (sym stays) sound })
@@ -66,31 +67,30 @@ pub record Called {A : Type 0} (old : State) (asked : Request) (answer : Result 
   pub same : OnErr answer (new ≡ old)
 
 -- the whole answer, where the name is bound
-pub call_ok : {A K : Type 0} (s : Session) (f : K → Request) (k : K) (key : Option K) → key ≡ Some k →
-    (book : State) (answer : Result A Refusal) (result : Result Outcome AllocError) →
+pub call_ok : {A K : Type 0} {s : Session} (f : K → Request) (k : K) (key : Option K) → key ≡ Some k →
+    {book : State} {answer : Result A Refusal} (result : Result Outcome AllocError) →
     IsSound s → Called s.book (f k) answer book → IfOk result (λ o. o ≡ outcome_of answer) →
     IfOk result (λ o. Goes s (option_map f key) o (record s { book = book }))
-call_ok s f k key found book answer (Err e) sound called told = told
-call_ok s f k key found book answer (Ok o) sound called told =
+call_ok f k key found (Err e) sound called told = told
+call_ok {s} f k key found {book} (Ok o) sound called told =
     subst (λ (j : Option _). Goes s (option_map f j) o (record s { book = book })) (sym found)
-    (goes_on s (f k) book answer o sound called.kept called.resources called.leases called.accepts called.refuses called.same told)
+    (goes_on sound called.kept called.resources called.leases called.accepts called.refuses called.same told)
 
 -- before the first line
 kept_none : (r : ℕ) → is_kept [] r ≡ false
 unfolding is_kept
 kept_none r = refl
 
-pub sound_start : (s : Session) → IsPromised s.book → s.book.history ≡ [] → IsPaired s.nodes → IsPaired s.hubs → IsPaired s.resources → IsPaired s.leases →
-    AreNone s.nodes → AreNone s.hubs → AreNone s.resources → AreNone s.leases → s.unnamed ≡ None → IsSound s
-sound_start s kept empty node_pairs hub_pairs resource_pairs lease_pairs nodes hubs resources leases unnamed = record {
+pub sound_start : {s : Session} → IsPromised s.book → IsFresh s → IsPaired s.nodes → IsPaired s.hubs → IsPaired s.resources → IsPaired s.leases → IsSound s
+sound_start kept fresh node_pairs hub_pairs resource_pairs lease_pairs = record {
   kept = kept;
   node_pairs = node_pairs;
   hub_pairs = hub_pairs;
   resource_pairs = resource_pairs;
   lease_pairs = lease_pairs;
-  nodes = λ n past. nodes.1 n;
-  hubs = λ n past. hubs.1 n;
-  resources = λ r. ap is_some (resources.1 r) ∙ sym (ap (λ (h : List Event). is_kept h r) empty ∙ kept_none r);
-  leases = λ l. ap is_some (leases.1 l) ∙ sym (ap (λ (h : List Event). is_out h l) empty ∙ is_out_past [] l (omega arith));
-  unnamed = λ name is. absurd (none-some name (sym unnamed ∙ is));
+  nodes = λ n past. fresh.nodes.1 n;
+  hubs = λ n past. fresh.hubs.1 n;
+  resources = λ r. ap is_some (fresh.resources.1 r) ∙ sym (ap (λ (h : List Event). is_kept h r) fresh.history ∙ kept_none r);
+  leases = λ l. ap is_some (fresh.leases.1 l) ∙ sym (ap (λ (h : List Event). is_out h l) fresh.history ∙ is_out_past [] l (omega arith));
+  unnamed = λ name is. absurd (none-some name (sym fresh.unnamed ∙ is));
 }

@@ -10,7 +10,7 @@ returns-clause-ok c =
     let s = session_of c.args.engine.now in
     let ask : Key → Request = λ k. abort_request s.book k c.args.code in
     let found : node_of s c.args.node.now ≡ Some c.in-Some.key = sym c.node.ensures ∙ c.in-Some.is in
-    call_ok s ask c.in-Some.key (node_of s c.args.node.now) found c.abort-answer.new.self c.abort-answer.result c.answered.result c.requires (record {
+    call_ok ask c.in-Some.key (node_of s c.args.node.now) found c.answered.result c.requires (record {
       kept = c.promise.ensures;
       resources = refl;
       leases = refl;

@@ -10,7 +10,7 @@ returns-clause-ok c =
     let s = session_of c.args.engine.now in
     let ask : ResKey → Request = λ k. apply_request s.book k in
     let found : resource_of s c.args.res.now ≡ Some c.in-Some.key = sym c.resource.ensures ∙ c.in-Some.is in
-    call_ok s ask c.in-Some.key (resource_of s c.args.res.now) found c.apply-answer.new.self c.apply-answer.result c.answered.result c.requires (record {
+    call_ok ask c.in-Some.key (resource_of s c.args.res.now) found c.answered.result c.requires (record {
       kept = c.promise.ensures;
       resources = refl;
       leases = refl;

@@ -10,7 +10,7 @@ returns-clause-ok c =
     let s = session_of c.args.engine.now in
     let ask : Key → Request = λ k. decline_request s.book k in
     let found : node_of s c.args.node.now ≡ Some c.in-Some.merging = sym c.node.ensures ∙ c.in-Some.is in
-    call_ok s ask c.in-Some.merging (node_of s c.args.node.now) found c.decline-answer.new.self c.decline-answer.result c.answered.result c.requires (record {
+    call_ok ask c.in-Some.merging (node_of s c.args.node.now) found c.answered.result c.requires (record {
       kept = c.promise.ensures;
       resources = refl;
       leases = refl;

@@ -9,7 +9,7 @@ returns-clause-ok c =
     let s = session_of c.args.engine.now in
     let ask : ℕ → Request = λ k. disconnect_request k in
     let found : hub_of s c.args.hub.now ≡ Some c.in-Some.number = sym c.hub_of.ensures ∙ c.in-Some.is in
-    call_ok s ask c.in-Some.number (hub_of s c.args.hub.now) found c.disconnect-answer.new.self c.disconnect-answer.result c.answered.result c.requires
+    call_ok ask c.in-Some.number (hub_of s c.args.hub.now) found c.answered.result c.requires
     (record {
       kept = c.promise.ensures;
       resources = refl;

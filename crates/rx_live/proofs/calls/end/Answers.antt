@@ -10,7 +10,7 @@ returns-clause-ok c =
     let s = session_of c.args.engine.now in
     let ask : Key → Request = λ k. end_request s.book k c.args.terminal in
     let found : node_of s c.args.node.now ≡ Some c.in-Some.leaf = sym c.node.ensures ∙ c.in-Some.is in
-    call_ok s ask c.in-Some.leaf (node_of s c.args.node.now) found c.end-answer.new.self c.end-answer.result c.answered.result c.requires (record {
+    call_ok ask c.in-Some.leaf (node_of s c.args.node.now) found c.answered.result c.requires (record {
       kept = c.promise.ensures;
       resources = refl;
       leases = refl;

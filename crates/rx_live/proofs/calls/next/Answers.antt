@@ -12,7 +12,7 @@ returns-clause-ok c =
     let ask : Key → Request = λ k. next_request s.book k c.args.value in
     let found : node_of s c.args.node.now ≡ Some c.in-Some.leaf = sym c.node.ensures ∙ c.in-Some.is in
     let value = to_z-of_z w64 c.args.value c.ranges.value in
-    call_ok s ask c.in-Some.leaf (node_of s c.args.node.now) found c.next-answer.new.self c.next-answer.result c.answered.result c.requires (record {
+    call_ok ask c.in-Some.leaf (node_of s c.args.node.now) found c.answered.result c.requires (record {
       kept = c.promise.ensures;
       resources = refl;
       leases = refl;

@@ -17,7 +17,7 @@ numbers-preserved c =
     record {
       first = first_step so_far more _ c.numbers.is_first c.in_ok-is_first-2.is_first (names_more s before ns i _ (omega arith))
           c.numbers.invariant.first c.in_ok-is_first-2.ensures.first;
-      written = text_step so_far more _ (string_bytes c.args.text.now) (string_bytes c.numbers.text) (string_bytes c.push_number.new.text) c.numbers.is_first
+      written = text_step so_far _ (string_bytes c.args.text.now) c.numbers.is_first
           (names_more s before ns i _ (omega arith)) c.numbers.invariant.first c.numbers.invariant.written c.in_ok-is_first-2.ensures.text;
     }
 

@@ -34,7 +34,7 @@ returns-in-Ok-clause-ok c =
     subst (λ (b : Bool). Accepts s.book (record { call = Holding key.number 0; is_known = has_key s.book.keys key; is_fresh = b }) book) fresh
     c.in-Ok.ensures.accepted in
     let paired = c.bind.ensures.paired (c.make_room.ensures.paired c.requires.resource_pairs) in
-    given_accepted s t (option_map (hold_asked s.book) (node_of s c.args.node.now)) (hold_asked s.book key) (has_resource s name) (BindsResource s name)
+    given_accepted (option_map (hold_asked s.book) (node_of s c.args.node.now)) (has_resource s name) (BindsResource s name)
     (ap (option_map (hold_asked s.book)) found) free accepts
     (held_bound s book name spot mid new c.requires c.promise.ensures paired c.make_room.ensures.same binds number)
     (held_sound s book name spot mid new c.requires c.promise.ensures paired key.number 0 (has_key s.book.keys key) c.make_room.ensures.same binds number free

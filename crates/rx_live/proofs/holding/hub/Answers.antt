@@ -29,6 +29,6 @@ returns-in-Ok-clause-ok c =
     let paired = c.bind.ensures.paired (c.make_room.ensures.paired c.requires.hub_pairs) in
     let steps = step_longer s.book.base s.book.history book.history asked.call accepts.step in
     let longer : length s.book.history < length book.history = omega arith in
-    given_accepted s t (Some asked) asked (is_some (hub_of s name)) (BindsHub s name) refl free accepts
+    given_accepted (Some asked) (is_some (hub_of s name)) (BindsHub s name) refl free accepts
     (hub_bound s book name spot mid new c.requires c.promise.ensures paired c.make_room.ensures.same binds number)
     (hub_sound s book name spot mid new c.requires c.promise.ensures paired asked c.make_room.ensures.same binds number accepts refl refl longer)

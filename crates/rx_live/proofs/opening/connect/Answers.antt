@@ -31,9 +31,7 @@ returns-in-Err-clause-ok c =
     let name : Option Name = option_map string_bytes c.args.name in
     let found : hub_of s c.args.hub.now ≡ Some c.in-Some.number = sym c.hub_of.ensures ∙ c.in-Some.is in
     let free : option_map_or (is_node s) name false ≡ false = sym c.is_other_taken.ensures.answer ∙ c.if-is_other_taken.false in
-    given_refused s (record s { book = c.connect.new.self; nodes = t }) (option_map connect_request (hub_of s c.args.hub.now))
-    (connect_request c.in-Some.number)
-    (option_map_or (is_node s) name false) (BindsConnection s name) c.in-Err.why c.answered.result
+    given_refused (BindsConnection s name) c.in-Err.why c.answered.result
     (ap (option_map connect_request) found) free c.in-Err.ensures.refused
     (with_book s c.connect.new.self t s.resources c.in-Err.ensures.kept
     (unchanged_room s c.is_other_taken.new.nodes t c.requires c.is_other_taken.ensures.same c.make_room.ensures.same
@@ -43,7 +41,6 @@ returns-in-Err-clause-ok c =
 pub returns-in-Ok-clause-ok : goal.returns-in-Ok-clause-ok
 returns-in-Ok-clause-ok c =
     let s = session_of c.args.engine.now in
-    let mid = c.is_other_taken.new.nodes in
     let t = c.make_room.new.self in
     let new = c.bind_made.new.nodes in
     let book = c.connect.new.self in
@@ -55,8 +52,7 @@ returns-in-Ok-clause-ok c =
     let made : BindsMade t name (Some (length s.book.history)) new = subst (λ (k : ℕ). BindsMade t name (Some k) new) c.in-Ok.ensures.ok.number named in
     let paired = c.bind_made.ensures.paired (c.make_room.ensures.paired c.is_other_taken.ensures.paired) in
     let accepts : Accepts s.book (connect_request c.in-Some.number) book = c.in-Ok.ensures.accepted in
-    given_accepted s (record s { book = book; nodes = new }) (option_map connect_request (hub_of s c.args.hub.now)) (connect_request c.in-Some.number)
+    given_accepted (option_map connect_request (hub_of s c.args.hub.now))
     (option_map_or (is_node s) name false) (BindsConnection s name) (ap (option_map connect_request) found) free accepts
-    (connected_bound s mid t c.requires c.is_other_taken.ensures.same c.make_room.ensures.same book new c.promise.ensures paired name made)
-    (connected_sound s mid t c.requires c.is_other_taken.ensures.same c.make_room.ensures.same book new c.promise.ensures paired name made c.in-Some.number
-    accepts)
+    (connected_bound c.requires c.is_other_taken.ensures.same c.make_room.ensures.same name made)
+    (connected_sound c.requires c.is_other_taken.ensures.same c.make_room.ensures.same name made c.in-Some.number c.promise.ensures paired accepts)

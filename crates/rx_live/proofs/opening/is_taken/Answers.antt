@@ -15,13 +15,13 @@ returns-then-is_some-clause-answer c =
 pub returns-then-is_open-clause-answer : goal.returns-then-is_open-clause-answer
 returns-then-is_open-clause-answer c =
     let found : spot_of c.args.nodes.now c.args.name.now ≡ Some c.in-Some.spot = sym c.get.ensures ∙ c.in-Some.is in
-    sym (known_name c.args.untold.now c.args.book.now c.args.nodes.now c.args.name.now c.in-Some.spot _ found (sym c.is_some.ensures ∙ c.if-is_some.false)
+    sym (known_name c.args.untold.now c.args.book.now c.args.nodes.now c.args.name.now _ found (sym c.is_some.ensures ∙ c.if-is_some.false)
     (sym c.is_open.ensures ∙ c.if-is_open.true))
 
 pub returns-clause-answer : goal.returns-clause-answer
 returns-clause-answer c =
     let found : spot_of c.args.nodes.now c.args.name.now ≡ Some c.in-Some.spot = sym c.get.ensures ∙ c.in-Some.is in
-    sym (known_name c.args.untold.now c.args.book.now c.args.nodes.now c.args.name.now c.in-Some.spot _ found (sym c.is_some.ensures ∙ c.if-is_some.false)
+    sym (known_name c.args.untold.now c.args.book.now c.args.nodes.now c.args.name.now _ found (sym c.is_some.ensures ∙ c.if-is_some.false)
     (sym c.is_open.ensures ∙ c.if-is_open.false))
 
 pub returns-clause-same : goal.returns-clause-same
@@ -32,6 +32,6 @@ returns-clause-same c =
     let spot = c.in-Some.spot in
     let found : spot_of old name ≡ Some spot = sym c.get.ensures ∙ c.in-Some.is in
     let known : name_of old spot.number ≡ Some name = c.requires.named name spot found in
-    open_forgot c.args.untold.now c.args.book.now old new name spot (sym c.is_some.ensures ∙ c.if-is_some.false) found
+    open_forgot c.args.untold.now c.args.book.now name spot (sym c.is_some.ensures ∙ c.if-is_some.false) found
     (sym c.is_open.ensures ∙ c.if-is_open.false)
     (forgot old new spot.number name c.forget-name.result known c.forget-name.ensures.value c.forget-name.ensures.some)

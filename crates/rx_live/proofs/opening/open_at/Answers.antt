@@ -7,6 +7,7 @@ use Rattle.rx_book.specs.Answers.{Accepts}
 use Rattle.rx_line.specs.declared.names.Spot.{Spot}
 use Rattle.rx_line.specs.Names.{spot_of, Binds}
 use Rattle.rx_live.specs.Session.{session_of}
+use Rattle.rx_live.specs.Given.{NamesOne}
 use Rattle.rx_live.specs.Openings.{is_open_taken, BindsMade, BindsNode}
 use Rattle.rx_live.proofs.AcceptedBindsNames.{given_accepted, given_refused}
 use Rattle.rx_live.proofs.OpenedNodesGetNames.{unchanged_room, connection_free, on_err, with_book, opened_bound, opened_sound}
@@ -36,7 +37,7 @@ returns-in-Err-clause-ok c =
     let call = open_request s.book c.args.place c.args.kind in
     let free : is_open_taken s name connection ≡ false =
     ap (λ (n : Name). is_open_taken s n connection) (sym c.as_str.ensures.value) ∙ sym c.are_taken.ensures.answer ∙ c.if-are_taken.false in
-    given_refused s (record s { book = c.open.new.self; nodes = t }) (Some call) call (is_open_taken s name connection) (BindsNode s name connection)
+    given_refused (BindsNode s name connection)
     c.in-Err.why c.answered.result
     refl free c.in-Err.ensures.refused
     (with_book s c.open.new.self t s.resources c.in-Err.ensures.kept
@@ -47,7 +48,6 @@ returns-in-Err-clause-ok c =
 pub returns-in-Ok-clause-ok : goal.returns-in-Ok-clause-ok
 returns-in-Ok-clause-ok c =
     let s = session_of c.args.engine.now in
-    let mid = c.are_taken.new.nodes in
     let t = c.make_room.new.self in
     let with_node = c.bind.new.self in
     let new = c.bind_made.new.nodes in
@@ -61,16 +61,16 @@ returns-in-Ok-clause-ok c =
     ap (λ (n : Name). is_open_taken s n connection) (sym c.as_str.ensures.value) ∙ sym c.are_taken.ensures.answer ∙ c.if-are_taken.false in
     let number : spot.number ≡ length s.book.history = ap (λ (p : Spot). p.number) c.spot_of.ensures ∙ c.in-Ok.ensures.ok.key.number in
     let binds : Binds t name spot with_node = subst (λ (n : Name). Binds t n spot with_node) c.in_ok-name.ensures c.bind.ensures.binds in
+    let node : NamesOne t name (length s.book.history) with_node = record { spot = spot; is = number; binds = binds } in
     let made : BindsMade with_node connection (option_map (λ (k : Key). k.number) opened.connected) new =
     subst (λ (n : Option Name). BindsMade with_node n (option_map (λ (k : Key). k.number) opened.connected) new) c.in_ok-connection.ensures
     c.bind_made.ensures.binds in
     let paired = c.bind_made.ensures.paired (c.bind.ensures.paired (c.make_room.ensures.paired c.are_taken.ensures.paired)) in
     let accepts : Accepts s.book call book = c.in-Ok.ensures.accepted in
-    given_accepted s (record s { book = book; nodes = new }) (Some call) call (is_open_taken s name connection) (BindsNode s name connection) refl free accepts
-    (opened_bound s mid t c.requires c.are_taken.ensures.same c.make_room.ensures.same book name spot with_node new c.promise.ensures paired binds number
-    opened connection c.in-Ok.ensures.ok made)
-    (opened_sound s mid t c.requires c.are_taken.ensures.same c.make_room.ensures.same book name spot with_node new c.promise.ensures paired binds number
-    c.args.place c.args.kind opened connection c.in-Ok.ensures.ok made accepts)
+    given_accepted (Some call) (is_open_taken s name connection) (BindsNode s name connection) refl free accepts
+    (opened_bound c.requires c.are_taken.ensures.same c.make_room.ensures.same node c.in-Ok.ensures.ok connection made)
+    (opened_sound c.requires c.are_taken.ensures.same c.make_room.ensures.same node c.in-Ok.ensures.ok connection made
+    c.args.place c.args.kind c.promise.ensures paired accepts)
 
 pub bind_made-requires-clause-free : goal.bind_made-requires-clause-free
 bind_made-requires-clause-free c =
@@ -84,5 +84,5 @@ bind_made-requires-clause-free c =
     ap (λ (n : Name). is_open_taken s n connection) (sym c.as_str.ensures.value) ∙ sym c.are_taken.ensures.answer ∙ c.if-are_taken.false in
     let binds : Binds t name spot with_node = subst (λ (n : Name). Binds t n spot with_node) c.in_ok-name.ensures c.bind.ensures.binds in
     subst (λ (o : Option Name). IfSome o (λ n. spot_of with_node n ≡ None)) (sym c.in_ok-connection.ensures)
-    (connection_free s name spot c.are_taken.new.nodes t with_node connection free c.make_room.ensures.same binds
+    (connection_free s t with_node connection free c.make_room.ensures.same binds
     (c.are_taken.ensures.other_free c.if-are_taken.false))

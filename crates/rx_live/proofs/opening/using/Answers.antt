@@ -1,4 +1,4 @@
-use Rattle.std.proofs.Common.{◌≡◌, Bool, false, Some, length, sym, ap, ◌∙◌, subst, option_map, string_bytes}
+use Rattle.std.proofs.Common.{◌≡◌, ◌+◌, Bool, false, Some, length, sym, ap, ◌∙◌, subst, option_map, string_bytes}
 use Rattle.std.proofs.Math.Bool.{◌||◌}
 use Rattle.rx_event.specs.Calls.{OpeningUsing}
 use Rattle.rx_scenario.specs.Scenario.{Name, site_of}
@@ -7,6 +7,7 @@ use Rattle.rx_book.specs.Answers.{Accepts, IsCauseOrWant}
 use Rattle.rx_line.specs.declared.names.Spot.{Spot}
 use Rattle.rx_line.specs.Names.{name_of, Binds}
 use Rattle.rx_live.specs.Session.{session_of, has_resource}
+use Rattle.rx_live.specs.Given.{NamesOne}
 use Rattle.rx_live.specs.Openings.{place_at, using_asked, using_at, is_node, is_using_taken, BindsUsing}
 use Rattle.rx_live.proofs.AcceptedBindsNames.{is_new, given_accepted, given_refused}
 use Rattle.rx_live.proofs.OpenedNodesGetNames.{unchanged_room, unchanged_rooms, unnamed_used, on_err, with_book, used_bound, used_sound}
@@ -23,7 +24,7 @@ pub returns-in_err-make_room-2-clause-err : goal.returns-in_err-make_room-2-clau
 returns-in_err-make_room-2-clause-err c =
     let s = session_of c.args.engine.now in
     on_err c.from_residual-in_err-make_room-2.result _
-    (unchanged_rooms s c.is_taken.new.nodes c.make_room.new.self c.make_room-2.new.self c.requires c.is_taken.ensures.same c.make_room.ensures.same
+    (unchanged_rooms c.make_room.new.self c.make_room-2.new.self c.requires c.is_taken.ensures.same c.make_room.ensures.same
     c.make_room-2.ensures.same
     (c.make_room.ensures.paired c.is_taken.ensures.paired) (c.make_room-2.ensures.paired c.requires.resource_pairs))
 
@@ -36,7 +37,7 @@ pub returns-in-Err-clause-err : goal.returns-in-Err-clause-err
 returns-in-Err-clause-err c =
     let s = session_of c.args.engine.now in
     on_err c.answered.result _ (with_book s c.open_using.new.self c.make_room.new.self c.make_room-2.new.self c.in-Err.ensures.kept
-    (unchanged_rooms s c.is_taken.new.nodes c.make_room.new.self c.make_room-2.new.self c.requires c.is_taken.ensures.same c.make_room.ensures.same
+    (unchanged_rooms c.make_room.new.self c.make_room-2.new.self c.requires c.is_taken.ensures.same c.make_room.ensures.same
     c.make_room-2.ensures.same
     (c.make_room.ensures.paired c.is_taken.ensures.paired) (c.make_room-2.ensures.paired c.requires.resource_pairs)))
 
@@ -55,12 +56,10 @@ returns-in-Err-clause-ok c =
     subst (λ (b : Bool). IsCauseOrWant s.book (record { call = OpeningUsing (place_of place) 0; is_known = is_known_place s.book.keys place; is_fresh = b })
     c.in-Err.unheld.why)
     fresh c.in-Err.ensures.refused.why in
-    given_refused s (record s { book = c.open_using.new.self; nodes = c.make_room.new.self; resources = c.make_room-2.new.self }) (using_asked s site)
-    (using_at s.book place)
-    (is_using_taken s name res) (BindsUsing s name res) c.in-Err.unheld.why c.answered.result
+    given_refused (BindsUsing s name res) c.in-Err.unheld.why c.answered.result
     (ap (option_map (using_at s.book)) found) (λ i. no_node i || free i) cause
     (with_book s c.open_using.new.self c.make_room.new.self c.make_room-2.new.self c.in-Err.ensures.kept
-    (unchanged_rooms s c.is_taken.new.nodes c.make_room.new.self c.make_room-2.new.self c.requires c.is_taken.ensures.same c.make_room.ensures.same
+    (unchanged_rooms c.make_room.new.self c.make_room-2.new.self c.requires c.is_taken.ensures.same c.make_room.ensures.same
     c.make_room-2.ensures.same
     (c.make_room.ensures.paired c.is_taken.ensures.paired) (c.make_room-2.ensures.paired c.requires.resource_pairs)))
     c.answered.ensures.ok
@@ -72,7 +71,6 @@ returns-in-Ok-clause-ok c =
     let place = c.in-Some.place in
     let name : Name = string_bytes c.args.name in
     let res : Name = string_bytes c.args.res in
-    let mid = c.is_taken.new.nodes in
     let t = c.make_room.new.self in
     let more = c.make_room-2.new.self in
     let nodes = c.bind.new.self in
@@ -90,14 +88,14 @@ returns-in-Ok-clause-ok c =
     let number : spot.number ≡ length s.book.history = ap (λ (p : Spot). p.number) c.spot_of.ensures ∙ c.in-Ok.ensures.ok.key.number in
     let binds : Binds t name spot nodes = subst (λ (n : Name). Binds t n spot nodes) c.in_ok-name.ensures c.bind.ensures.binds in
     let binds_res : Binds more res held resources = subst (λ (n : Name). Binds more n held resources) c.in_ok-res.ensures c.bind-in-Ok.ensures.binds in
+    let node : NamesOne t name (length s.book.history) nodes = record { spot = spot; is = number; binds = binds } in
+    let resource : NamesOne more res (length s.book.history + 1) resources =
+    record { spot = held; is = c.in-Ok.ensures.ok.res.number; binds = binds_res } in
     let pairs = c.bind.ensures.paired (c.make_room.ensures.paired c.is_taken.ensures.paired) in
     let paired = c.bind-in-Ok.ensures.paired (c.make_room-2.ensures.paired c.requires.resource_pairs) in
-    given_accepted s (record s { book = book; nodes = nodes; resources = resources }) (using_asked s site) (using_at s.book place) (is_using_taken s name res)
+    given_accepted (using_asked s site) (is_using_taken s name res)
     (BindsUsing s name res)
     (ap (option_map (using_at s.book)) found) (λ i. no_node i || free i) accepts
-    (used_bound s mid t c.requires c.is_taken.ensures.same c.make_room.ensures.same book name res spot held more nodes resources c.promise.ensures pairs
-    paired binds number
-    c.make_room-2.ensures.same binds_res c.in-Ok.ensures.ok.res.number)
-    (used_sound s mid t c.requires c.is_taken.ensures.same c.make_room.ensures.same book name res spot held more nodes resources c.promise.ensures pairs
-    paired binds number
-    c.make_room-2.ensures.same binds_res c.in-Ok.ensures.ok.res.number place free accepts)
+    (used_bound c.requires c.is_taken.ensures.same c.make_room.ensures.same node c.make_room-2.ensures.same resource)
+    (used_sound c.requires c.is_taken.ensures.same c.make_room.ensures.same node c.make_room-2.ensures.same resource
+    place c.promise.ensures pairs paired free accepts)

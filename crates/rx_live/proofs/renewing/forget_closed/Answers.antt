@@ -20,12 +20,12 @@ returns-then-is_open-clause-left c =
 pub returns-clause-same : goal.returns-clause-same
 returns-clause-same c =
     let found : spot_at c.args.nodes.now c.args.number ≡ Some c.in-Some.spot = sym c.spot_at.ensures ∙ c.in-Some.is in
-    (forgot_one c.args.book.now c.args.nodes.now c.forget-name.new.self c.args.number c.in-Some.spot c.forget-name.result c.requires found
+    (forgot_one c.args.number c.in-Some.spot c.forget-name.result c.requires found
     (sym c.is_open.ensures ∙ c.if-is_open.false) c.forget-name.ensures.value c.forget-name.ensures.some).0
 
 pub returns-clause-left : goal.returns-clause-left
 returns-clause-left c =
     let found : spot_at c.args.nodes.now c.args.number ≡ Some c.in-Some.spot = sym c.spot_at.ensures ∙ c.in-Some.is in
     left_forgotten c.args.book.now c.forget-name.new.self c.args.number
-    (forgot_one c.args.book.now c.args.nodes.now c.forget-name.new.self c.args.number c.in-Some.spot c.forget-name.result c.requires found
+    (forgot_one c.args.number c.in-Some.spot c.forget-name.result c.requires found
     (sym c.is_open.ensures ∙ c.if-is_open.false) c.forget-name.ensures.value c.forget-name.ensures.some).1

@@ -34,7 +34,7 @@ returns-in-Accepted-clause-some c =
     let done = session_of c.run.new.engine in
     let runs : Runs old (command_of c.args.command) Accepted done =
     subst (λ (o : Outcome). Runs old (command_of c.args.command) o done) c.in-Accepted.is c.in_ok-run.ensures.ok in
-    carried_out old done (session_of c.tell.new.engine) (command_of c.args.command) (string_bytes c.in_ok-text.text) (string_bytes c.tell.result) runs
+    carried_out done (session_of c.tell.new.engine) (command_of c.args.command) (string_bytes c.in_ok-text.text) (string_bytes c.tell.result) runs
     c.in_ok-text.ensures.text
     c.tell.ensures.tells
 

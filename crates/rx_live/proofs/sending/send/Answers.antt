@@ -55,4 +55,4 @@ returns-clause-ok c =
     let full : IsFullByAge old mid = subst (λ (o : Option (String Global)). IfNone o (IsFullByAge old mid)) c.in_default.is c.in_ok-text.ensures.none in
     let answered : Answered aged line (string_bytes c.in-Some-2.text) new =
     subst (λ (o : Option (String Global)). IfSome o (λ s. Answered aged line (string_bytes s) new)) c.in-Some-2.is c.in_ok-text-2.ensures.some in
-    sent_again old mid aged new line (string_bytes c.in-Some-2.text) full.alike c.in_ok-make_room.ensures.ok answered c.answer-2.ensures.sound
+    sent_again aged new line (string_bytes c.in-Some-2.text) full.alike c.in_ok-make_room.ensures.ok answered c.answer-2.ensures.sound

@@ -29,6 +29,6 @@ returns-clause-sound c =
     let named : is_some (name_of s.resources c.number-number.result) ≡ true =
     waiting_named s c.number-number.result c.requires
     (contains_number (λ l. l.number) s.book.waiting _ c.number-number.result c.in_ok-handed.ensures.cases c.number-number.ensures) in
-    taken_sound s c.take.new.self c.number-number.result c.forget.new.self c.forget.result c.requires c.promise-2.ensures c.forget.ensures.paired
+    taken_sound c.number-number.result c.requires c.promise-2.ensures c.forget.ensures.paired
     (subst (λ (q : ℕ). Accepts s.book (take_request q) c.take.new.self) (sym c.number-number.ensures) c.in_ok-handed.ensures.accepted) named
     c.forget.ensures.value c.forget.ensures.some

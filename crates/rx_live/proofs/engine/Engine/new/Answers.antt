@@ -1,6 +1,7 @@
 use Rattle.std.proofs.Common.{refl, ap}
 use Rattle.rx_book.specs.State.{State}
 use Rattle.rx_live.specs.Session.{Session}
+use Rattle.rx_live.specs.Lines.{IsFresh}
 use Rattle.rx_live.proofs.Soundness.{sound_start}
 use Rattle.rx_live.proofs.engine.Engine.new.Goals as goal
 use Rattle.std.specs.Prelude.{None}
@@ -17,19 +18,19 @@ returns c =
       untold = None;
       unnamed = None;
     } in
+    let fresh : IsFresh s = record {
+      history = ap (λ (b : State). b.history) c.new-book.ensures;
+      given = ap (λ (b : State). b.given) c.new-book.ensures;
+      nodes = c.new.ensures.none;
+      hubs = c.new-2.ensures.none;
+      resources = c.new-3.ensures.none;
+      leases = c.new-4.ensures.none;
+      untold = refl;
+      unnamed = refl;
+    } in
     record {
-      sound = sound_start s c.promise.ensures (ap (λ (b : State). b.history) c.new-book.ensures)
-          c.new.ensures.paired c.new-2.ensures.paired c.new-3.ensures.paired c.new-4.ensures.paired
-          c.new.ensures.none c.new-2.ensures.none c.new-3.ensures.none c.new-4.ensures.none refl;
-      fresh = record {
-        history = ap (λ (b : State). b.history) c.new-book.ensures;
-        given = ap (λ (b : State). b.given) c.new-book.ensures;
-        nodes = c.new.ensures.none;
-        hubs = c.new-2.ensures.none;
-        resources = c.new-3.ensures.none;
-        leases = c.new-4.ensures.none;
-        untold = refl;
-        unnamed = refl;
-      };
+      sound = sound_start c.promise.ensures fresh
+          c.new.ensures.paired c.new-2.ensures.paired c.new-3.ensures.paired c.new-4.ensures.paired;
+      fresh = fresh;
       limit = ap (λ (b : State). b.limit) c.new-book.ensures;
     }
