@@ -1,4 +1,3 @@
-pub mod AddedByItem
 pub mod Members
 pub mod KeysKept
 pub mod Keys

@@ -80,11 +80,11 @@ unnamed_lease s sound =
 pub placed_longer : (h k : List Event) (t : Names) → IsPlaced h t → length h ≤ length k → IsPlaced k t
 placed_longer h k t placed longer n past = placed n (omega arith)
 
-pub placed_bound : {h : List Event} (k : List Event) {old : Names} (new : Names) (name : Name) (spot : Spot) → IsPlaced h old →
-    Binds old name spot new → length h ≤ length k → spot.number < length k → IsPlaced k new
-placed_bound k {old} new name spot placed binds longer within n past =
+pub placed_bound : (h : List Event) {old new : Names} {name : Name} {spot : Spot} → IsPlaced h old → Binds old name spot new → spot.number < length h →
+    IsPlaced h new
+placed_bound h {old} {name = name} {spot = spot} placed binds within n past =
     let apart : (spot.number == n) ≡ false = ne_eqb spot.number n (omega arith) in
-    binds.names n ∙ ap (λ (b : Bool). cond b (Some name) (name_of old n)) apart ∙ placed n (omega arith)
+    binds.names n ∙ ap (λ (b : Bool). cond b (Some name) (name_of old n)) apart ∙ placed n past
 
 -- open nodes
 pub same_open : (untold : Option Mail) (book : State) (t : Names) → AreOpenSame untold book t t
@@ -175,7 +175,7 @@ module _ (s : Session) (book : State) (name : Name) (spot : Spot) (mid t : Names
             ∙
             (λ i. cond (number i == r) true (sound.resources r i)) ∙
             sym (kept_held sound.kept.lawful accepts.step r);
-        leases = λ l. sound.leases l ∙ sym (out_same accepts.step refl l);
+        leases = λ l. sound.leases l ∙ sym (out_same (Holding node tag) accepts.step refl l);
         unnamed = λ n is. binds.spots n ∙ ap (λ (b : Bool). cond b (Some spot) (spot_of s.resources n)) (not_unnamed s name n free is) ∙ sound.unnamed n is;
       }
 
@@ -197,7 +197,7 @@ module _ (s : Session) (book : State) (name : Name) (spot : Spot) (mid t : Names
         lease_pairs = paired;
         nodes = placed_longer s.book.history book.history s.nodes sound.nodes longer;
         hubs = placed_longer s.book.history book.history s.hubs sound.hubs longer;
-        resources = λ r. sound.resources r ∙ sym (kept_same accepts.step refl r);
+        resources = λ r. sound.resources r ∙ sym (kept_same (Leasing q) accepts.step refl r);
         leases = λ l. ap is_some (binds.names l) ∙ some_cond (spot.number == l) name (name_of s.leases l)
             ∙ (λ i. cond (number i == l) true (sound.leases l i)) ∙ sym (out_leased sound.kept.lawful accepts.step l);
         unnamed = sound.unnamed;
@@ -218,9 +218,9 @@ module _ (s : Session) (book : State) (name : Name) (spot : Spot) (mid t : Names
         resource_pairs = sound.resource_pairs;
         lease_pairs = sound.lease_pairs;
         nodes = placed_longer s.book.history book.history s.nodes sound.nodes (omega arith);
-        hubs = placed_bound book.history t name spot sound.hubs binds (omega arith) (omega arith);
-        resources = λ r. sound.resources r ∙ sym (kept_same accepts.step resources r);
-        leases = λ l. sound.leases l ∙ sym (out_same accepts.step leases l);
+        hubs = placed_bound book.history (placed_longer s.book.history book.history s.hubs sound.hubs (omega arith)) binds (omega arith);
+        resources = λ r. sound.resources r ∙ sym (kept_same asked.call accepts.step resources r);
+        leases = λ l. sound.leases l ∙ sym (out_same asked.call accepts.step leases l);
         unnamed = sound.unnamed;
       }
 
@@ -246,7 +246,7 @@ returned_sound {s} {book} {q} known name t sound kept paired forgets accepts =
       lease_pairs = paired;
       nodes = placed_longer s.book.history book.history s.nodes sound.nodes longer;
       hubs = placed_longer s.book.history book.history s.hubs sound.hubs longer;
-      resources = λ r. sound.resources r ∙ sym (kept_same accepts.step refl r);
+      resources = λ r. sound.resources r ∙ sym (kept_same (GivingBack q) accepts.step refl r);
       leases = λ l. ap is_some (forgets.names l) ∙ some_gone (q == l) (name_of s.leases l)
           ∙ ap (λ (b : Bool). cond (q == l) false b) (sound.leases l) ∙ sym (out_returned accepts.step l);
       unnamed = sound.unnamed;

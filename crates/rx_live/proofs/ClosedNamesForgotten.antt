@@ -83,10 +83,6 @@ abbrev pub AreLeft : State → Names → List ℕ → Type 0
 AreLeft book nodes numbers =
     (k : ℕ) (name : Name) → name_of nodes k ≡ Some name → (is_some (node_in book nodes name) ≡ true) ⊎ (list_any (nat_eq k) numbers ≡ true)
 
-pub left_all : (book : State) (nodes : Names) (numbers : List ℕ) → ((k : ℕ) → is_some (name_of nodes k) ≡ list_any (nat_eq k) numbers) →
-    AreLeft book nodes numbers
-left_all book nodes numbers named k name known = inr (sym (named k) ∙ ap is_some known)
-
 or_cases : (a b : Bool) → (a || b) ≡ true → (a ≡ true) ⊎ (b ≡ true)
 or_cases true b is = inl refl
 or_cases false b is = inr is

@@ -10,6 +10,7 @@ use Rattle.std.proofs.lemmas.List.{append-nil, map-append}
 use Rattle.std.proofs.lemmas.List.Elements.{All-contains}
 use Rattle.std.proofs.lemmas.Option.{none-some}
 use Rattle.std.proofs.lemmas.Slice.Eq.{bytes_eq-Decides}
+use Rattle.rx_event.specs.Calls.{Taking}
 use Rattle.rx_event.specs.declared.event.Event.{Event}
 use Rattle.rx_event.specs.Events.{makes_resource, is_take_of}
 use Rattle.rx_event.specs.Tree.{at}
@@ -64,32 +65,37 @@ pub never_none : (result : Option (String Global)) (named : Option Name) (P : Ty
 never_none None named P value some = let e : false ≡ true = ap is_some value ∙ some in absurd (cc)
 never_none (Some n) named P value some = tt
 
-pub taken_sound : {s : Session} {book : State} (q : ℕ) {t : Names} {result : Option (String Global)} → IsSound s → IsPromised book → IsPaired t →
-    Accepts s.book (take_request q) book →
-    is_some (name_of s.resources q) ≡ true → option_map string_bytes result ≡ name_of s.resources q →
-    IfSome result (λ n. Forgets s.resources q (string_bytes n) t) →
+-- of the names t, what is told of resource q is gone, and was its name
+pub record IsForgotten (s : Session) (q : ℕ) (told : Option (String Global)) (t : Names) : Type 0 where
+  pub paired : IsPaired t
+  pub value : option_map string_bytes told ≡ name_of s.resources q
+  pub forgets : IfSome told (λ n. Forgets s.resources q (string_bytes n) t)
+
+pub taken_sound : {s : Session} {book : State} {q : ℕ} {t : Names} {told : Option (String Global)} → IsSound s → IsPromised book →
+    Accepts s.book (take_request q) book → is_some (name_of s.resources q) ≡ true → IsForgotten s q told t →
     IsSound (record s { book = book; resources = t })
-taken_sound q {result = None} sound kept paired accepts named value forgets = let e : false ≡ true = ap is_some value ∙ named in absurd (cc)
-taken_sound {s} {book} q {t} {result = Some n} sound kept paired accepts named value forgets =
+taken_sound {told = None} sound kept accepts named gone = let e : false ≡ true = ap is_some gone.value ∙ named in absurd (cc)
+taken_sound {s} {book} {q} {t} {told = Some n} sound kept accepts named gone =
+    let forgets : Forgets s.resources q (string_bytes n) t = gone.forgets in
     let name : Name = string_bytes n in
     let longer : length s.book.history ≤ length book.history = accepted_longer s.book book (take_request q) accepts in
     record {
       kept = kept;
       node_pairs = sound.node_pairs;
       hub_pairs = sound.hub_pairs;
-      resource_pairs = paired;
+      resource_pairs = gone.paired;
       lease_pairs = sound.lease_pairs;
       nodes = placed_longer s.book.history book.history s.nodes sound.nodes longer;
       hubs = placed_longer s.book.history book.history s.hubs sound.hubs longer;
       resources = λ r. ap is_some (forgets.names r) ∙ some_gone (q == r) (name_of s.resources r) ∙ ap (λ (b : Bool). cond (q == r) false b) (sound.resources r)
           ∙ sym (kept_taken accepts.step r);
-      leases = λ l. sound.leases l ∙ sym (out_same accepts.step refl l);
+      leases = λ l. sound.leases l ∙ sym (out_same (Taking q) accepts.step refl l);
       unnamed = λ m is. free_after m (bytes_eq name m) refl (sound.unnamed m is);
     }
   where
     free_after : (m : Name) (b : Bool) → bytes_eq (string_bytes n) m ≡ b → spot_of s.resources m ≡ None → spot_of t m ≡ None
-    free_after m true same free = forgets.spots m ∙ ap (λ (b : Bool). cond b None (spot_of s.resources m)) same
-    free_after m false apart free = forgets.spots m ∙ ap (λ (b : Bool). cond b None (spot_of s.resources m)) apart ∙ free
+    free_after m true same free = gone.forgets.spots m ∙ ap (λ (b : Bool). cond b None (spot_of s.resources m)) same
+    free_after m false apart free = gone.forgets.spots m ∙ ap (λ (b : Bool). cond b None (spot_of s.resources m)) apart ∙ free
 
 -- one name ------------------------------------------------------------------------------------------
 

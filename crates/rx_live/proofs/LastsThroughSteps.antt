@@ -87,14 +87,14 @@ module _ {made : Event → Bool} {gone : ℕ → Event → Bool} {plain : Event 
   lasts_forced {base} (more {h} {k} {e} before is_forced) n = lasts_plain k e (alone.follows e (forced_kind base is_forced)) n ∙ lasts_forced before n
 
   -- by a step of which no event is other than plain, too
-  lasts_step : {base : Kept} {h k : List Event} {call : Call} → IsStepOf base h call k → list_all plain (outside_of h call) ≡ true → (n : ℕ) →
+  lasts_step : {base : Kept} {h k : List Event} (call : Call) → IsStepOf base h call k → list_all plain (outside_of h call) ≡ true → (n : ℕ) →
       lasts made gone k n ≡ lasts made gone h n
-  lasts_step {h = h} {call = call} step p n = lasts_forced step.forced n ∙ lasts_all h (outside_of h call) p n
+  lasts_step {h = h} call step p n = lasts_forced step.forced n ∙ lasts_all h (outside_of h call) p n
 
   -- by a step of one event, the rest of what it changes
-  lasts_one : {base : Kept} {h k : List Event} {call : Call} (e : Event) → IsStepOf base h call k → outside_of h call ≡ e ∷ [] → (n : ℕ) →
+  lasts_one : {base : Kept} {h k : List Event} (e : Event) (call : Call) → IsStepOf base h call k → outside_of h call ≡ e ∷ [] → (n : ℕ) →
       lasts made gone k n ≡ lasts made gone (h ++ e ∷ []) n
-  lasts_one {h = h} e step one n = lasts_forced step.forced n ∙ ap (λ (es : List Event). lasts made gone (h ++ es) n) one
+  lasts_one {h = h} e call step one n = lasts_forced step.forced n ∙ ap (λ (es : List Event). lasts made gone (h ++ es) n) one
 
   all_closed : (cs : List ℕ) → list_all plain (map (λ c. Close c) cs) ≡ true
   all_closed [] = refl
@@ -240,26 +240,26 @@ leases_outside h (Publishing mode) p = refl
 leases_outside h (Connecting g) p = refl
 
 -- a step that accepts and takes nothing keeps what is kept
-pub kept_same : {base : Kept} {h k : List Event} {call : Call} → IsStepOf base h call k → keeps_resources call ≡ true → (r : ℕ) → is_kept k r ≡ is_kept h r
+pub kept_same : {base : Kept} {h k : List Event} (call : Call) → IsStepOf base h call k → keeps_resources call ≡ true → (r : ℕ) → is_kept k r ≡ is_kept h r
 unfolding is_kept
-kept_same {h = h} {call = call} step plain r = lasts_step resources_alone step (resources_outside h call plain) r
+kept_same {h = h} call step plain r = lasts_step resources_alone call step (resources_outside h call plain) r
 
-pub out_same : {base : Kept} {h k : List Event} {call : Call} → IsStepOf base h call k → keeps_leases call ≡ true → (l : ℕ) → is_out k l ≡ is_out h l
+pub out_same : {base : Kept} {h k : List Event} (call : Call) → IsStepOf base h call k → keeps_leases call ≡ true → (l : ℕ) → is_out k l ≡ is_out h l
 unfolding is_out
-out_same {h = h} {call = call} step plain l = lasts_step leases_alone step (leases_outside h call plain) l
+out_same {h = h} call step plain l = lasts_step leases_alone call step (leases_outside h call plain) l
 
 -- one that takes a resource
 pub kept_taken : {base : Kept} {h k : List Event} {q : ℕ} → IsStepOf base h (Taking q) k → (r : ℕ) → is_kept k r ≡ cond (q == r) false (is_kept h r)
 unfolding is_kept
 kept_taken {h = h} {q = q} step r =
-    lasts_one resources_alone (Take q) step refl r ∙ lasts_gone makes_resource is_take_of h (Take q) q refl (λ n. refl) r
+    lasts_one resources_alone (Take q) (Taking q) step refl r ∙ lasts_gone makes_resource is_take_of h (Take q) q refl (λ n. refl) r
 
 -- one that accepts a resource
 pub kept_held : {base : Kept} {h k : List Event} {node tag : ℕ} → IsLawful base h → IsStepOf base h (Holding node tag) k → (r : ℕ) →
     is_kept k r ≡ cond (length h == r) true (is_kept h r)
 unfolding is_kept
 kept_held {base} {h = h} {node = node} {tag = tag} law step r =
-    lasts_one resources_alone (Accept node tag) step refl r
+    lasts_one resources_alone (Accept node tag) (Holding node tag) step refl r
     ∙ lasts_made makes_resource is_take_of h (Accept node tag) refl (λ n. refl) (no_take base h law (length h) (omega arith)) r
 
 -- one that accepts a resource with a node of its own
@@ -283,13 +283,13 @@ pub out_leased : {base : Kept} {h k : List Event} {q : ℕ} → IsLawful base h 
     is_out k l ≡ cond (length h == l) true (is_out h l)
 unfolding is_out
 out_leased {base} {h = h} {q = q} law step l =
-    lasts_one leases_alone (Lease q) step refl l
+    lasts_one leases_alone (Lease q) (Leasing q) step refl l
     ∙ lasts_made makes_lease is_return_of h (Lease q) refl (λ n. refl) (no_return base h law (length h) (omega arith)) l
 
 pub out_returned : {base : Kept} {h k : List Event} {q : ℕ} → IsStepOf base h (GivingBack q) k → (l : ℕ) → is_out k l ≡ cond (q == l) false (is_out h l)
 unfolding is_out
 out_returned {h = h} {q = q} step l =
-    lasts_one leases_alone (Return q) step refl l ∙ lasts_gone makes_lease is_return_of h (Return q) q refl (λ n. refl) l
+    lasts_one leases_alone (Return q) (GivingBack q) step refl l ∙ lasts_gone makes_lease is_return_of h (Return q) q refl (λ n. refl) l
 
 -- what has no place yet is not kept
 pub kept_past : (h : List Event) (r : ℕ) → length h ≤ r → is_kept h r ≡ false

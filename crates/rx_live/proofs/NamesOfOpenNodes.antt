@@ -1,5 +1,5 @@
 -- Names of nodes, as those of closed ones are forgotten and new ones bound.
-use Rattle.std.proofs.Common.{◌≡◌, ℕ, ◌+◌, ◌==◌, ◌<◌, ◌≤◌, Bool, true, false, cond, List, length, Option, Some, None, refl, sym, ap, ◌∙◌, arith, inl, inr, ◌⊎◌}
+use Rattle.std.proofs.Common.{◌≡◌, ℕ, ◌+◌, ◌==◌, ◌<◌, Bool, true, false, cond, List, length, Option, Some, None, refl, sym, ap, ◌∙◌, arith, inl, inr, ◌⊎◌}
 use Rattle.std.specs.Prelude.{is_some}
 use Rattle.std.proofs.Math.Bool.{◌&&◌, ◌||◌}
 use Rattle.std.specs.Str.{bytes_eq}
@@ -123,13 +123,13 @@ placed_open untold h book old new same placed n past = by_case (same.names n) wh
   by_case (inr none) = none
 
 -- a name for what was made
-pub made_placed : {h : List Event} (k : List Event) {old : Names} (new : Names) (name : Option Name) (made : Option ℕ) → BindsMade old name made new →
-    IsPlaced h old → length h ≤ length k → ((n : ℕ) → made ≡ Some n → n < length k) → IsPlaced k new
-made_placed k new (Some name) (Some n) binds placed longer within =
-    let inside : binds.spot.number < length k = let w = within n refl in omega (arith, binds.is) in
-    placed_bound k new name binds.spot placed binds.binds longer inside
-made_placed k new (Some name) None binds placed longer within = λ n past. ap (λ (t : Names). name_of t n) binds ∙ placed n (omega arith)
-made_placed k new None made binds placed longer within = λ n past. ap (λ (t : Names). name_of t n) binds ∙ placed n (omega arith)
+pub made_placed : (h : List Event) (old new : Names) (name : Option Name) (made : Option ℕ) → BindsMade old name made new → IsPlaced h old →
+    ((n : ℕ) → made ≡ Some n → n < length h) → IsPlaced h new
+made_placed h old new (Some name) (Some n) binds placed within =
+    let inside : binds.spot.number < length h = let w = within n refl in omega (arith, binds.is) in
+    placed_bound h placed binds.binds inside
+made_placed h old new (Some name) None binds placed within = λ n past. ap (λ (t : Names). name_of t n) binds ∙ placed n past
+made_placed h old new None made binds placed within = λ n past. ap (λ (t : Names). name_of t n) binds ∙ placed n past
 
 pub made_within : (h k : List Event) (n : ℕ) → connection_made h k ≡ Some n → n < length k
 made_within h k n is = by_test (at makes_connection k (length h + 1)) refl is where

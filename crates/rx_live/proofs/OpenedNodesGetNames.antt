@@ -110,8 +110,8 @@ nodes_sound {s} {asked} {book} t sound kept paired placed accepts resources leas
   lease_pairs = sound.lease_pairs;
   nodes = placed;
   hubs = placed_longer s.book.history book.history s.hubs sound.hubs (accepted_longer s.book book asked accepts);
-  resources = λ r. sound.resources r ∙ sym (kept_same accepts.step resources r);
-  leases = λ l. sound.leases l ∙ sym (out_same accepts.step leases l);
+  resources = λ r. sound.resources r ∙ sym (kept_same asked.call accepts.step resources r);
+  leases = λ l. sound.leases l ∙ sym (out_same asked.call accepts.step leases l);
   unnamed = sound.unnamed;
 }
 
@@ -126,11 +126,15 @@ module _ {s : Session} {mid t : Names} (sound : IsSound s) (same : AreOpenSame s
   module _ {book : State} {name : Name} {with_node new : Names} (node : NamesOne t name (length s.book.history) with_node)
       {o : Opened} (opened : IsOpened s.book book o) (connection : Option Name)
       (made : BindsMade with_node connection (option_map (λ k. k.number) o.connected) new) where
-    made_there : BindsMade with_node connection (connection_made s.book.history book.history) new
-    made_there = subst (λ (m : Option ℕ). BindsMade with_node connection m new) opened.connection made
-
     pub opened_bound : BindsNode s name connection (record s { book = book; nodes = new })
-    opened_bound = record { nodes = t; alike = alike_nodes s t all_same; with_node = with_node; node = node; made = made_there; rest = refl }
+    opened_bound = record {
+      nodes = t;
+      alike = alike_nodes s t all_same;
+      with_node = with_node;
+      node = node;
+      made = subst (λ (m : Option ℕ). BindsMade with_node connection m new) opened.connection made;
+      rest = refl;
+    }
 
     pub opened_sound : (place : At) (kind : Kind) → IsPromised book → IsPaired new → Accepts s.book (open_request s.book place kind) book →
         IsSound (record s { book = book; nodes = new })
@@ -139,22 +143,22 @@ module _ {s : Session} {mid t : Names} (sound : IsSound s) (same : AreOpenSame s
         let steps = step_longer s.book.base s.book.history book.history asked.call accepts.step in
         let longer : length s.book.history < length book.history = omega arith in
         let one : IsPlaced book.history with_node =
-        placed_bound book.history with_node name node.spot placed node.binds (omega arith)
+        placed_bound book.history (placed_longer s.book.history book.history t placed (omega arith)) node.binds
         (let l : node.spot.number ≡ length s.book.history = node.is in omega arith) in
         let two : IsPlaced book.history new =
-        made_placed book.history new connection (connection_made s.book.history book.history) made_there one (omega arith)
-        (made_within s.book.history book.history) in
+        made_placed book.history with_node new connection (connection_made s.book.history book.history)
+        (subst (λ (m : Option ℕ). BindsMade with_node connection m new) opened.connection made) one (made_within s.book.history book.history) in
         nodes_sound new sound kept paired two accepts refl refl
 
 -- one with a resource --------------------------------------------------------------------------------
 
 module _ {s : Session} {mid t : Names} (sound : IsSound s) (same : AreOpenSame s.untold s.book s.nodes mid) (room : AreSame mid t)
-    {book : State} {name res : Name} {more nodes resources : Names} (node : NamesOne t name (length s.book.history) nodes)
+    {name res : Name} {more nodes resources : Names} (node : NamesOne t name (length s.book.history) nodes)
     (grown : AreSame s.resources more) (held : NamesOne more res (length s.book.history + 1) resources) where
   held_binds : Binds s.resources res held.spot resources
   held_binds = bound_after s.resources more resources res held.spot grown held.binds
 
-  pub used_bound : BindsUsing s name res (record s { book = book; nodes = nodes; resources = resources })
+  pub used_bound : {book : State} → BindsUsing s name res (record s { book = book; nodes = nodes; resources = resources })
   used_bound = record {
     nodes = t;
     alike = alike_nodes s t (all_same sound same room);
@@ -163,9 +167,9 @@ module _ {s : Session} {mid t : Names} (sound : IsSound s) (same : AreOpenSame s
     rest = refl;
   }
 
-  pub used_sound : (place : At) → IsPromised book → IsPaired nodes → IsPaired resources → has_resource s res ≡ false →
+  pub used_sound : {book : State} (place : At) → IsPromised book → IsPaired nodes → IsPaired resources → has_resource s res ≡ false →
       Accepts s.book (using_at s.book place) book → IsSound (record s { book = book; nodes = nodes; resources = resources })
-  used_sound place kept pairs paired free accepts =
+  used_sound {book} place kept pairs paired free accepts =
       let asked : Request = using_at s.book place in
       let steps = step_longer s.book.base s.book.history book.history asked.call accepts.step in
       let longer : length s.book.history < length book.history = omega arith in
@@ -176,12 +180,12 @@ module _ {s : Session} {mid t : Names} (sound : IsSound s) (same : AreOpenSame s
         resource_pairs = paired;
         lease_pairs = sound.lease_pairs;
         nodes =
-            placed_bound book.history nodes name node.spot (placed sound same room) node.binds (omega arith)
+            placed_bound book.history (placed_longer s.book.history book.history t (placed sound same room) (omega arith)) node.binds
             (let l : node.spot.number ≡ length s.book.history = node.is in omega arith);
         hubs = placed_longer s.book.history book.history s.hubs sound.hubs (omega arith);
         resources = λ r. ap is_some (held_binds.names r) ∙ some_cond (held.spot.number == r) res (name_of s.resources r)
             ∙ (λ i. cond (held.is i == r) true (sound.resources r i)) ∙ sym (kept_used sound.kept.lawful accepts.step r);
-        leases = λ l. sound.leases l ∙ sym (out_same accepts.step refl l);
+        leases = λ l. sound.leases l ∙ sym (out_same asked.call accepts.step refl l);
         unnamed = λ n is. held_binds.spots n ∙ ap (λ (b : Bool). cond b (Some held.spot) (spot_of s.resources n)) (not_unnamed s res n free is)
             ∙ sound.unnamed n is;
       }
@@ -206,7 +210,8 @@ module _ {s : Session} {mid t : Names} (sound : IsSound s) (same : AreOpenSame s
       let steps = step_longer s.book.base s.book.history book.history asked.call accepts.step in
       let longer : length s.book.history < length book.history = omega arith in
       let all : IsPlaced book.history new =
-      made_placed book.history new name (Some (length s.book.history)) made (placed sound same room) (omega arith)
+      made_placed book.history t new name (Some (length s.book.history)) made
+      (placed_longer s.book.history book.history t (placed sound same room) (omega arith))
       (λ n is. let l : length s.book.history ≡ n = same_Some (length s.book.history) n is in omega arith) in
       nodes_sound new sound kept paired all accepts refl refl
 

@@ -34,28 +34,10 @@ sound_on s asked book sound kept accepts resources leases = record {
   lease_pairs = sound.lease_pairs;
   nodes = λ n past. let l = accepted_longer s.book book asked accepts in sound.nodes n (omega arith);
   hubs = λ n past. let l = accepted_longer s.book book asked accepts in sound.hubs n (omega arith);
-  resources = λ r. sound.resources r ∙ sym (kept_same accepts.step resources r);
-  leases = λ l. sound.leases l ∙ sym (out_same accepts.step leases l);
+  resources = λ r. sound.resources r ∙ sym (kept_same asked.call accepts.step resources r);
+  leases = λ l. sound.leases l ∙ sym (out_same asked.call accepts.step leases l);
   unnamed = sound.unnamed;
 }
-
--- what such a call is answered
-pub goes_on : {A : Type 0} {s : Session} {asked : Request} {book : State} {answer : Result A Refusal} {outcome : Outcome} → IsSound s → IsPromised book →
-    keeps_resources asked.call ≡ true → keeps_leases asked.call ≡ true → OnOk answer (Accepts s.book asked book) → IfErr answer (IsCauseOrWant s.book asked) →
-    OnErr answer (book ≡ s.book) → outcome ≡ outcome_of answer → Goes s (Some asked) outcome (record s { book = book })
-goes_on {s} {asked} {book} {answer = Ok a} sound kept resources leases accepts refuses same is =
-    subst (λ (o : Outcome). Goes s (Some asked) o (record s { book = book })) (sym is)
-    (record { carries = (accepts, refl); sound = sound_on s asked book sound kept accepts resources leases })
-goes_on {s} {asked} {book} {answer = Err why} sound kept resources leases accepts refuses same is =
-    let stays : record s { book = book } ≡ s = ap (λ (b : State). record s { book = b }) same in
-    subst (λ (o : Outcome). Goes s (Some asked) o (record s { book = book })) (sym is)
-    (record { carries = (refuses, stays); sound = subst (λ (t : Session). IsSound t) (sym stays) sound })
-
--- a call that takes no memory is refused for its first cause
-pub of_cause : {A : Type 0} (old : State) (asked : Request) (answer : Result A Refusal) → IfErr answer (IsCause old asked) →
-    IfErr answer (IsCauseOrWant old asked)
-of_cause old asked (Ok a) refuses = refuses
-of_cause old asked (Err why) refuses = inl refuses
 
 -- what is known of the book's answer to such a call
 pub record Called {A : Type 0} (old : State) (asked : Request) (answer : Result A Refusal) (new : State) : Type 0 where
@@ -66,6 +48,23 @@ pub record Called {A : Type 0} (old : State) (asked : Request) (answer : Result 
   pub refuses : IfErr answer (IsCauseOrWant old asked)
   pub same : OnErr answer (new ≡ old)
 
+-- what such a call is answered
+pub goes_on : {A : Type 0} {s : Session} {asked : Request} {book : State} {answer : Result A Refusal} {outcome : Outcome} → IsSound s →
+    Called s.book asked answer book → outcome ≡ outcome_of answer → Goes s (Some asked) outcome (record s { book = book })
+goes_on {s = s} {asked = asked} {book = book} {answer = Ok a} sound called is =
+    subst (λ (o : Outcome). Goes s (Some asked) o (record s { book = book })) (sym is)
+    (record { carries = (called.accepts, refl); sound = sound_on s asked book sound called.kept called.accepts called.resources called.leases })
+goes_on {s = s} {asked = asked} {book = book} {answer = Err why} sound called is =
+    let stays : record s { book = book } ≡ s = ap (λ (b : State). record s { book = b }) called.same in
+    subst (λ (o : Outcome). Goes s (Some asked) o (record s { book = book })) (sym is)
+    (record { carries = (called.refuses, stays); sound = subst (λ (t : Session). IsSound t) (sym stays) sound })
+
+-- a call that takes no memory is refused for its first cause
+pub of_cause : {A : Type 0} (old : State) (asked : Request) (answer : Result A Refusal) → IfErr answer (IsCause old asked) →
+    IfErr answer (IsCauseOrWant old asked)
+of_cause old asked (Ok a) refuses = refuses
+of_cause old asked (Err why) refuses = inl refuses
+
 -- the whole answer, where the name is bound
 pub call_ok : {A K : Type 0} {s : Session} (f : K → Request) (k : K) (key : Option K) → key ≡ Some k →
     {book : State} {answer : Result A Refusal} (result : Result Outcome AllocError) →
@@ -74,7 +73,7 @@ pub call_ok : {A K : Type 0} {s : Session} (f : K → Request) (k : K) (key : Op
 call_ok f k key found (Err e) sound called told = told
 call_ok {s} f k key found {book} (Ok o) sound called told =
     subst (λ (j : Option _). Goes s (option_map f j) o (record s { book = book })) (sym found)
-    (goes_on sound called.kept called.resources called.leases called.accepts called.refuses called.same told)
+    (goes_on sound called told)
 
 -- before the first line
 kept_none : (r : ℕ) → is_kept [] r ≡ false

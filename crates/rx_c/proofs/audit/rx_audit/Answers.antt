@@ -4,4 +4,4 @@ use Rattle.rx_c.proofs.audit.rx_audit.Goals as goal
 pub returns : goal.returns
 returns c =
     let told = c.verdict_on-outcome.ensures in
-    answered_through _ _ _ c.as_slice.ensures.value told.ok told.syntax told.shape c.hand_out.ensures
+    answered_through _ c.as_slice.ensures.value told.ok told.syntax told.shape c.hand_out.ensures

@@ -5,4 +5,4 @@ use Rattle.rx_c.proofs.running.run_in.Goals as goal
 pub returns : goal.returns
 returns c =
     let told = c.carry_out-outcome.ensures in
-    answered_through _ _ _ c.as_slice.ensures.value told.ok told.syntax (λ is. no_output _ _ (told.shape is)) c.hand_out.ensures
+    answered_through _ c.as_slice.ensures.value told.ok told.syntax (λ is. no_output _ _ (told.shape is)) c.hand_out.ensures

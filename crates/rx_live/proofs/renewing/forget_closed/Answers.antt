@@ -27,5 +27,5 @@ pub returns-clause-left : goal.returns-clause-left
 returns-clause-left c =
     let found : spot_at c.args.nodes.now c.args.number ≡ Some c.in-Some.spot = sym c.spot_at.ensures ∙ c.in-Some.is in
     left_forgotten c.args.book.now c.forget-name.new.self c.args.number
-    (forgot_one c.args.number c.in-Some.spot c.forget-name.result c.requires found
+    (forgot_one {book = c.args.book.now} c.args.number c.in-Some.spot c.forget-name.result c.requires found
     (sym c.is_open.ensures ∙ c.if-is_open.false) c.forget-name.ensures.value c.forget-name.ensures.some).1

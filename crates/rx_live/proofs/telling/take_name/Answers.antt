@@ -4,7 +4,7 @@ use Rattle.rx_book.specs.Answers.{Accepts}
 use Rattle.std.specs.Prelude.{is_some}
 use Rattle.rx_line.specs.Names.{name_of}
 use Rattle.rx_live.specs.Session.{session_of}
-use Rattle.rx_live.proofs.Drops.{contains_number, waiting_named, never_none, taken_sound}
+use Rattle.rx_live.proofs.Drops.{contains_number, waiting_named, IsForgotten, never_none, taken_sound}
 use Rattle.rx_live.proofs.telling.take_name.Goals as goal
 
 pub returns-clause-none : goal.returns-clause-none
@@ -29,6 +29,7 @@ returns-clause-sound c =
     let named : is_some (name_of s.resources c.number-number.result) ≡ true =
     waiting_named s c.number-number.result c.requires
     (contains_number (λ l. l.number) s.book.waiting _ c.number-number.result c.in_ok-handed.ensures.cases c.number-number.ensures) in
-    taken_sound c.number-number.result c.requires c.promise-2.ensures c.forget.ensures.paired
-    (subst (λ (q : ℕ). Accepts s.book (take_request q) c.take.new.self) (sym c.number-number.ensures) c.in_ok-handed.ensures.accepted) named
-    c.forget.ensures.value c.forget.ensures.some
+    let gone : IsForgotten s c.number-number.result c.forget.result c.forget.new.self =
+    record { paired = c.forget.ensures.paired; value = c.forget.ensures.value; forgets = c.forget.ensures.some } in
+    taken_sound c.requires c.promise-2.ensures
+    (subst (λ (q : ℕ). Accepts s.book (take_request q) c.take.new.self) (sym c.number-number.ensures) c.in_ok-handed.ensures.accepted) named gone
