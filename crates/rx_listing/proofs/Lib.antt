@@ -1,3 +1,4 @@
 pub mod Rises
 pub mod Knowing
 pub mod Keeping
+pub mod Recalling

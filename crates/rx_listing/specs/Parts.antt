@@ -1,43 +1,20 @@
 -- The parts of a text, of the values that the code has. No public clause cites this module.
-use Rattle.std.specs.Prelude.{◌≡◌, ℕ, ◌++◌, Bool, true, false, cond, List, codes, Option, Some, None, is_some, option_and_then}
+use Rattle.std.specs.Prelude.{◌≡◌, ℕ, ◌++◌, Bool, true, false, cond, List, codes, Option, Some, None, option_and_then}
 use Rattle.std.specs.Bool.{nat_eq}
 use Rattle.std.specs.List.{list_any}
-use Rattle.std.specs.Option.{option_map_or}
-use Rattle.rx_event.specs.declared.event.Event.{Event}
-use Rattle.rx_event.specs.declared.event.Event.TheVariants.{Connect, End, Close}
-use Rattle.rx_event.specs.Kept.{event_since}
-use Rattle.rx_event.specs.Events.{node_of_accept, hub_subscribed}
+use Rattle.rx_event.specs.Events.{hub_subscribed}
 use Rattle.rx_book.specs.State.{State}
 use Rattle.rx_line.specs.declared.names.Names.{Names}
-use Rattle.rx_line.specs.Names.{name_of}
 use Rattle.rx_listing.specs.declared.known.Known.{Known}
 use Rattle.rx_listing.specs.declared.list.Part.{Part}
 use Rattle.rx_listing.specs.declared.list.Part.TheVariants.{Nodes, Resources, Leases, Hubs}
-use Rattle.rx_listing.specs.declared.past.Past.{Past}
 use Rattle.rx_listing.specs.Listed.{open_name, IsPlaced}
-use Rattle.rx_listing.specs.Recalled.{made_in, holder_in}
-
--- what book and past tell of a number
-unfoldable pub made_by : State → Past → ℕ → Option Event
-made_by book past n = option_map_or (λ e. Some e) (event_since book.base book.history n) (made_in past n)
-
-unfoldable pub holder_by : State → Past → ℕ → Option ℕ
-holder_by book past r = option_map_or node_of_accept (event_since book.base book.history r) (holder_in past r)
+use Rattle.rx_listing.specs.Recalled.{made_by, IsNamed}
 
 -- the hub that an open node subscribes to, as book and past tell it
 abbrev pub hub_by : State → Known → ℕ → Option ℕ
 hub_by book known n =
     option_and_then (λ name. option_and_then hub_subscribed (made_by book known.past.now n)) (open_name book known.nodes.now n)
-
-abbrev pub IsNamed : Names → ℕ → Type 0
-IsNamed names n = is_some (name_of names n) ≡ true
-
--- what one more event makes of an open connection
-abbrev pub connection_after : (place : ℕ) → Event → (c : ℕ) → Option ℕ → Option ℕ
-connection_after place (Connect g) c was = cond (nat_eq place c) (Some g) was
-connection_after place (End n t) c was = cond (nat_eq n c) None was
-connection_after place (Close n) c was = cond (nat_eq n c) None was
-connection_after place _ c was = was
 
 -- one more number has a value, and this one alone
 abbrev pub IsPut : {X : Type 0} → (old : ℕ → Option X) → (number : ℕ) → (value : X) → (new : ℕ → Option X) → Type 0

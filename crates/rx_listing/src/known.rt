@@ -4,7 +4,7 @@ ghost use Rattle.std.specs.Prelude.{◌≡◌, false, option_map};
 ghost use Rattle.std.specs.Option.{option_map_or};
 ghost use Rattle.rx_event.specs.Events.{is_manual_hub};
 ghost use Rattle.rx_listing.specs.Listed.{is_open_name, open_name};
-ghost use Rattle.rx_listing.specs.Parts.{made_by, holder_by};
+ghost use Rattle.rx_listing.specs.Recalled.{made_by, holder_by};
 
 use crate::past::Past;
 use rx_book::{Book, Event, Key, Resource};
@@ -48,7 +48,7 @@ pub fn open_name<'a, R: Resource>(book: &Book<R>, nodes: &'a Names, number: u64)
 }
 
 /// The event that made what has this number.
-#[tactic(auto, unfolding(crate::specs::Parts::made_by))]
+#[tactic(auto, unfolding(crate::specs::Recalled::made_by))]
 pub fn made_at<R: Resource>(book: &Book<R>, past: &Past, number: u64) -> Option<Event>
     ensures { result ≡ made_by book.now past.now number }
 {
@@ -69,7 +69,7 @@ pub fn is_manual<R: Resource>(book: &Book<R>, past: &Past, hub: u64) -> bool
 }
 
 /// The node that a resource was accepted at.
-#[tactic(auto, unfolding(crate::specs::Parts::holder_by))]
+#[tactic(auto, unfolding(crate::specs::Recalled::holder_by))]
 pub fn holder_of<R: Resource>(book: &Book<R>, past: &Past, res: u64) -> Option<u64>
     ensures { result ≡ holder_by book.now past.now res }
 {

@@ -11,6 +11,8 @@
 //!
 //! - [`rising`] gives each number that has a name once, by rising number; [`since`] the place of the last
 //!   checkpoint.
+//! - [`past_of`] tells, of what has names, what the book and the past before it tell: what made it, the node and
+//!   the uses of a resource, the hub of each connection that is open (`Recalls` of `specs/Recalled.antt`).
 //! - Of the whole text nothing is promised yet; each object is the text of `specs/Text.antt`.
 //! - What is told of a book goes over the events since its last checkpoint and over what has names, and changes
 //!   nothing.

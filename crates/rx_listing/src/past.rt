@@ -1,10 +1,10 @@
 //! What is told of the events before the last checkpoint.
 
-ghost use Rattle.std.specs.Prelude.{◌≡◌, ℕ, Some, unwrap_or, IfOk, OnOk};
+ghost use Rattle.std.specs.Prelude.{◌≡◌, ℕ, Some, unwrap_or, length, IfOk, OnOk};
 ghost use Rattle.std.specs.Bool.{nat_eq};
 ghost use Rattle.std.specs.HashMap.{get};
-ghost use Rattle.rx_listing.specs.Recalled.{made_in, holder_in, IsBlank};
-ghost use Rattle.rx_listing.specs.Parts.{made_by, holder_by, IsPut, IsKept, HasNamed};
+ghost use Rattle.rx_listing.specs.Recalled.{made_in, holder_in, made_by, holder_by, ArePlaced, IsBlank, Recalls};
+ghost use Rattle.rx_listing.specs.Parts.{IsPut, IsKept, HasNamed};
 
 use crate::counts::{Counts, count_of, keep};
 use crate::known::{Known, holder_of, made_at};
@@ -139,7 +139,9 @@ pub fn past_of<R: Resource>(
     alloc: Global,
     book: &Book<R>,
     known: &Known,
-) -> Result<Past, AllocError> {
+) -> Result<Past, AllocError>
+    ensures { IfOk result (λ past. ArePlaced (length book.now.history) known.now → Recalls book.now known.now past) }
+{
     let seen = seen_of(book, known)?;
     let numbers = made_numbers(alloc, known)?;
     let made = made_of(alloc, book, known.past, numbers.as_slice())?;

@@ -1,11 +1,11 @@
 //! What the past and one pass over the events since it tell.
 
-ghost use Rattle.std.specs.Prelude.{◌≡◌, ℕ, ◌+◌, ◌<◌, cond, unwrap_or, OnOk};
+ghost use Rattle.std.specs.Prelude.{◌≡◌, ℕ, ◌+◌, ◌<◌, cond, length, unwrap_or, IfOk, OnOk};
 ghost use Rattle.std.specs.Bool.{nat_eq};
 ghost use Rattle.std.specs.List.{list_any};
 ghost use Rattle.std.specs.HashMap.{get, values};
 ghost use Rattle.rx_event.specs.Events.{is_use_of};
-ghost use Rattle.rx_listing.specs.Parts.{connection_after};
+ghost use Rattle.rx_listing.specs.Recalled.{connection_after, connection_by, uses_by, IsCountable};
 
 use crate::counts::{Counts, count, keep};
 use crate::known::Known;
@@ -54,7 +54,13 @@ impl Seen {
 }
 
 /// What the past and the events since tell.
-pub fn seen_of<R: Resource>(book: &Book<R>, known: &Known) -> Result<Seen, AllocError> {
+pub fn seen_of<R: Resource>(book: &Book<R>, known: &Known) -> Result<Seen, AllocError>
+    ensures uses { IfOk result (λ s. (r : ℕ) → IsCountable book.now known.now.past.now r →
+        unwrap_or (get nat_eq s.uses r) 0 ≡ uses_by book.now known.now.past.now (length book.now.history) r) }
+    ensures connections { IfOk result (λ s. (c : ℕ) →
+        get nat_eq s.connections c ≡ connection_by book.now known.now.past.now (length book.now.history) c) }
+{
+    book.promise();
     let mut seen = known.past.begin()?;
     'places: for place in since(book)..book.len() {
         if let Some(event) = book.event(place) {
