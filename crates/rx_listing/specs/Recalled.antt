@@ -61,7 +61,8 @@ connection_after place _ c was = was
 abbrev pub connection_by : State → Past → (place : ℕ) → (c : ℕ) → Option ℕ
 connection_by book past zero c = connected_in past c
 connection_by book past (suc k) c =
-    option_map_or (λ e. connection_after k e c (connection_by book past k c)) (event_since book.base book.history k) (connection_by book past k c)
+    let was = connection_by book past k c in
+    option_map_or (λ e. connection_after k e c was) (event_since book.base book.history k) was
 
 -- a past for what has names ------------------------------------------------------------------------
 
