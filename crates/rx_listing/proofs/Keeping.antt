@@ -9,7 +9,7 @@ use Rattle.std.proofs.lemmas.List.Folds.{list_any-append}
 use Rattle.rx_event.proofs.Laws.Searches.{list_any_push}
 use Rattle.rx_listing.specs.Parts.{IsKept}
 
-turned : (k n : ℕ) → nat_eq k n ≡ nat_eq n k
+pub turned : (k n : ℕ) → nat_eq k n ≡ nat_eq n k
 turned k n = by_test (nat_eq k n) refl where
   by_test : (b : Bool) → nat_eq k n ≡ b → b ≡ nat_eq n k
   by_test true same = sym (eq-eqb n k (sym (eqb-true k n same)))

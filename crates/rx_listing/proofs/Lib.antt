@@ -2,3 +2,4 @@ pub mod Rises
 pub mod Knowing
 pub mod Keeping
 pub mod Recalling
+pub mod Objects

@@ -1,4 +1,5 @@
 pub mod Text
 pub mod Listed
 pub mod Recalled
+pub mod Whole
 pub mod Parts

@@ -1,20 +1,17 @@
 -- The parts of a text, of the values that the code has. No public clause cites this module.
-use Rattle.std.specs.Prelude.{◌≡◌, ℕ, ◌++◌, Bool, true, false, cond, List, codes, Option, Some, None, option_and_then}
+use Rattle.std.specs.Prelude.{◌≡◌, ℕ, ◌++◌, Bool, true, false, cond, List, [], ◌∷◌, codes, Option, Some, None, unwrap_or}
 use Rattle.std.specs.Bool.{nat_eq}
 use Rattle.std.specs.List.{list_any}
-use Rattle.rx_event.specs.Events.{hub_subscribed}
+use Rattle.std.specs.HashMap.{get, values}
 use Rattle.rx_book.specs.State.{State}
 use Rattle.rx_line.specs.declared.names.Names.{Names}
 use Rattle.rx_listing.specs.declared.known.Known.{Known}
 use Rattle.rx_listing.specs.declared.list.Part.{Part}
+use Rattle.rx_listing.specs.declared.list.Sight.{Sight}
 use Rattle.rx_listing.specs.declared.list.Part.TheVariants.{Nodes, Resources, Leases, Hubs}
-use Rattle.rx_listing.specs.Listed.{open_name, IsPlaced}
-use Rattle.rx_listing.specs.Recalled.{made_by, IsNamed}
-
--- the hub that an open node subscribes to, as book and past tell it
-abbrev pub hub_by : State → Known → ℕ → Option ℕ
-hub_by book known n =
-    option_and_then (λ name. option_and_then hub_subscribed (made_by book known.past.now n)) (open_name book known.nodes.now n)
+use Rattle.rx_listing.specs.Listed.{IsPlaced}
+use Rattle.rx_listing.specs.Recalled.{IsNamed}
+use Rattle.rx_listing.specs.Whole.{Counted, node_object, resource_object, lease_object, hub_object}
 
 -- one more number has a value, and this one alone
 abbrev pub IsPut : {X : Type 0} → (old : ℕ → Option X) → (number : ℕ) → (value : X) → (new : ℕ → Option X) → Type 0
@@ -42,6 +39,25 @@ lead_of Nodes = codes ",\"nodes\":["
 lead_of Resources = codes "],\"resources\":["
 lead_of Leases = codes "],\"leases\":["
 lead_of Hubs = codes "],\"hubs\":["
+
+-- what is counted, by the code's tables
+abbrev pub counted_of : Sight → Counted
+counted_of sight =
+    record {
+      uses = λ r. unwrap_or (get nat_eq sight.seen.uses r) 0;
+      connected = λ g. list_any (λ one. nat_eq one g) (values sight.seen.connections);
+      subscribers = λ g. unwrap_or (get nat_eq sight.subscribers g) 0;
+    }
+
+abbrev pub part_object : State → Known → Counted → Part → ℕ → Option (List ℕ)
+part_object book known c Nodes = node_object book known
+part_object book known c Resources = resource_object book known c.uses
+part_object book known c Leases = lease_object book known
+part_object book known c Hubs = hub_object book known c
+
+abbrev pub is_nil : List (List ℕ) → Bool
+is_nil [] = true
+is_nil (object ∷ objects) = false
 
 -- an object behind those before it
 abbrev pub led_text : (is_first : Bool) → List ℕ → List ℕ

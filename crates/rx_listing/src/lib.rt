@@ -13,7 +13,9 @@
 //!   checkpoint.
 //! - [`past_of`] tells, of what has names, what the book and the past before it tell: what made it, the node and
 //!   the uses of a resource, the hub of each connection that is open (`Recalls` of `specs/Recalled.antt`).
-//! - Of the whole text nothing is promised yet; each object is the text of `specs/Text.antt`.
+//! - [`list_text`] is the text of `specs/Whole.antt`, by what book and past tell: for each open node, and each
+//!   resource, lease and hub that has a name, its object of `specs/Text.antt`, and nothing else. The uses of a
+//!   resource are exact as long as they are fewer than 2^64.
 //! - What is told of a book goes over the events since its last checkpoint and over what has names, and changes
 //!   nothing.
 #![tactic(auto)]

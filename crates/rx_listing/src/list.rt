@@ -1,7 +1,14 @@
 //! The whole text.
 
-ghost use Rattle.std.specs.Prelude.{◌≡◌, ◌++◌, string_bytes, OnOk};
-ghost use Rattle.rx_listing.specs.Parts.{hub_by, names_of, lead_of, led_text};
+ghost use Rattle.std.specs.Prelude.{◌≡◌, ℕ, ◌++◌, length, option_map, unwrap_or, count_by, string_bytes, IfOk, OnOk};
+ghost use Rattle.std.specs.Bool.{nat_eq};
+ghost use Rattle.std.specs.HashMap.{get};
+ghost use Rattle.std.specs.List.{range_with_len};
+ghost use Rattle.rx_listing.specs.Listed.{IsPlaced};
+ghost use Rattle.rx_listing.specs.Recalled.{ArePlaced};
+ghost use Rattle.rx_listing.specs.Parts.{names_of, lead_of, led_text, counted_of, part_object};
+ghost use Rattle.rx_listing.specs.Whole.{hub_by, subscribes, holder_name, leased_name, IsCounted, IsList, part_text};
+ghost use Rattle.rx_listing.specs.Whole.{node_object, resource_object, lease_object, hub_object};
 
 use crate::counts::{Counts, count, count_of};
 use crate::known::{Known, holder_of, is_manual, made_at, open_name};
@@ -31,6 +38,7 @@ struct Sight {
 }
 
 // The hub that an open node subscribes to.
+#[tactic(auto, unfolding(crate::specs::Whole::hub_by))]
 fn hub_of<R: Resource>(book: &Book<R>, known: &Known, number: u64) -> Option<u64>
     ensures { result ≡ hub_by book.now known.now number }
 {
@@ -44,7 +52,10 @@ fn subscribers_of<R: Resource>(
     alloc: Global,
     book: &Book<R>,
     known: &Known,
-) -> Result<Counts, AllocError> {
+) -> Result<Counts, AllocError>
+    ensures { IfOk result (λ v. IsPlaced (length book.now.history) known.now.nodes.now → (g : ℕ) →
+        unwrap_or (get nat_eq v g) 0 ≡ count_by (subscribes book.now known.now g) (range_with_len 0 (length book.now.history))) }
+{
     let mut subscribers = HashMap::new(alloc);
     let numbers = rising(alloc, known.nodes)?;
     'numbers: for number in &numbers {
@@ -55,23 +66,24 @@ fn subscribers_of<R: Resource>(
     Ok(subscribers)
 }
 
-fn sight_of<R: Resource>(
-    alloc: Global,
-    book: &Book<R>,
-    known: &Known,
-) -> Result<Sight, AllocError> {
-    Ok(Sight {
-        seen: seen_of(book, known)?,
-        subscribers: subscribers_of(alloc, book, known)?,
-    })
+fn sight_of<R: Resource>(alloc: Global, book: &Book<R>, known: &Known) -> Result<Sight, AllocError>
+    ensures { IfOk result (λ s. IsPlaced (length book.now.history) known.now.nodes.now → IsCounted book.now known.now (counted_of s)) }
+{
+    let seen = seen_of(book, known)?;
+    seen.promise();
+    let subscribers = subscribers_of(alloc, book, known)?;
+    Ok(Sight { seen, subscribers })
 }
 
+#[tactic(auto, unfolding(crate::specs::Whole::node_object))]
 fn node_at<R: Resource>(
     alloc: Global,
     book: &Book<R>,
     known: &Known,
     number: u64,
-) -> Result<Option<String>, AllocError> {
+) -> Result<Option<String>, AllocError>
+    ensures { IfOk result (λ o. option_map string_bytes o ≡ node_object book.now known.now number) }
+{
     let Some(name) = open_name(book, known.nodes, number) else {
         return Ok(None);
     };
@@ -81,18 +93,25 @@ fn node_at<R: Resource>(
 }
 
 // The name of the node of a resource. One whose node is closed has none; a lease holds it.
-fn holder_name<'a, R: Resource>(book: &Book<R>, known: &Known<'a>, res: u64) -> Option<&'a str> {
+#[tactic(auto, unfolding(crate::specs::Whole::holder_name))]
+fn holder_name<'a, R: Resource>(book: &Book<R>, known: &Known<'a>, res: u64) -> Option<&'a str>
+    ensures { option_map (λ s. s.now) result ≡ holder_name book.now known.now res }
+{
     let node = holder_of(book, known.past, res)?;
     open_name(book, known.nodes, node)
 }
 
+#[tactic(auto, unfolding(crate::specs::Whole::resource_object))]
 fn resource_at<R: Resource>(
     alloc: Global,
     book: &Book<R>,
     known: &Known,
     seen: &Seen,
     number: u64,
-) -> Result<Option<String>, AllocError> {
+) -> Result<Option<String>, AllocError>
+    ensures { IfOk result (λ o. option_map string_bytes o
+        ≡ resource_object book.now known.now (λ r. unwrap_or (get nat_eq seen.now.uses r) 0) number) }
+{
     let Some(name) = known.resources.name_of(number) else {
         return Ok(None);
     };
@@ -102,18 +121,24 @@ fn resource_at<R: Resource>(
 }
 
 // The name of the resource of a lease.
-fn leased_name<'a, R: Resource>(book: &Book<R>, known: &Known<'a>, lease: u64) -> Option<&'a str> {
+#[tactic(auto, unfolding(crate::specs::Whole::leased_name))]
+fn leased_name<'a, R: Resource>(book: &Book<R>, known: &Known<'a>, lease: u64) -> Option<&'a str>
+    ensures { option_map (λ s. s.now) result ≡ leased_name book.now known.now lease }
+{
     let made = made_at(book, known.past, lease)?;
     let res = made.leased()?;
     known.resources.name_of(res)
 }
 
+#[tactic(auto, unfolding(crate::specs::Whole::lease_object))]
 fn lease_at<R: Resource>(
     alloc: Global,
     book: &Book<R>,
     known: &Known,
     number: u64,
-) -> Result<Option<String>, AllocError> {
+) -> Result<Option<String>, AllocError>
+    ensures { IfOk result (λ o. option_map string_bytes o ≡ lease_object book.now known.now number) }
+{
     let Some(name) = known.leases.name_of(number) else {
         return Ok(None);
     };
@@ -121,13 +146,16 @@ fn lease_at<R: Resource>(
     Ok(Some(object))
 }
 
+#[tactic(auto, unfolding(crate::specs::Whole::hub_object))]
 fn hub_at<R: Resource>(
     alloc: Global,
     book: &Book<R>,
     known: &Known,
     sight: &Sight,
     number: u64,
-) -> Result<Option<String>, AllocError> {
+) -> Result<Option<String>, AllocError>
+    ensures { IfOk result (λ o. option_map string_bytes o ≡ hub_object book.now known.now (counted_of sight.now) number) }
+{
     let Some(name) = known.hubs.name_of(number) else {
         return Ok(None);
     };
@@ -146,7 +174,9 @@ fn object_at<R: Resource>(
     sight: &Sight,
     part: Part,
     number: u64,
-) -> Result<Option<String>, AllocError> {
+) -> Result<Option<String>, AllocError>
+    ensures { IfOk result (λ o. option_map string_bytes o ≡ part_object book.now known.now (counted_of sight.now) part number) }
+{
     match part {
         Part::Nodes => node_at(alloc, book, known, number),
         Part::Resources => resource_at(alloc, book, known, &sight.seen, number),
@@ -185,7 +215,10 @@ fn push_part<R: Resource>(
     known: &Known,
     sight: &Sight,
     part: Part,
-) -> Result<(), AllocError> {
+) -> Result<(), AllocError>
+    ensures { OnOk result (ArePlaced (length book.now.history) known.now → string_bytes text.new ≡ string_bytes text.old
+        ++ part_text (part_object book.now known.now (counted_of sight.now) part) (length book.now.history)) }
+{
     let numbers = rising(alloc, names_of(known, part))?;
     let mut is_first = true;
     'numbers: for number in &numbers {
@@ -205,7 +238,10 @@ fn push_led<R: Resource>(
     known: &Known,
     sight: &Sight,
     part: Part,
-) -> Result<(), AllocError> {
+) -> Result<(), AllocError>
+    ensures { OnOk result (ArePlaced (length book.now.history) known.now → string_bytes text.new ≡ string_bytes text.old
+        ++ lead_of part ++ part_text (part_object book.now known.now (counted_of sight.now) part) (length book.now.history)) }
+{
     text.push_str(lead_of(part))?;
     push_part(alloc, text, book, known, sight, part)
 }
@@ -228,7 +264,9 @@ pub fn list_text<R: Resource>(
     alloc: Global,
     book: &Book<R>,
     known: &Known,
-) -> Result<String, AllocError> {
+) -> Result<String, AllocError>
+    ensures { IfOk result (λ s. ArePlaced (length book.now.history) known.now → IsList book.now known.now (string_bytes s)) }
+{
     let sight = sight_of(alloc, book, known)?;
     let mut text = ok_text(alloc, book.len())?;
     push_led(alloc, &mut text, book, known, &sight, Part::Nodes)?;

@@ -3,7 +3,7 @@
 ghost use Rattle.std.specs.Prelude.{◌≡◌, ℕ, ◌+◌, ◌<◌, cond, length, unwrap_or, IfOk, OnOk};
 ghost use Rattle.std.specs.Bool.{nat_eq};
 ghost use Rattle.std.specs.List.{list_any};
-ghost use Rattle.std.specs.HashMap.{get, values};
+ghost use Rattle.std.specs.HashMap.{get, values, IsUnique};
 ghost use Rattle.rx_event.specs.Events.{is_use_of};
 ghost use Rattle.rx_listing.specs.Recalled.{connection_after, connection_by, uses_by, IsCountable};
 
@@ -43,6 +43,13 @@ impl Seen {
             }
             _ => Ok(()),
         }
+    }
+
+    /// No connection is kept twice, for proofs. It does nothing.
+    pub fn promise(&self)
+        ensures { IsUnique nat_eq self.now.connections }
+    {
+        let _hubs = self.connections.values();
     }
 
     /// Whether a hub has an open connection.

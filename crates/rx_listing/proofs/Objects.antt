@@ -1,0 +1,132 @@
+-- Numbers that have names, and the objects of those.
+use Rattle.std.proofs.Common.{◌≡◌, ◌↔◌, ℕ, ◌+◌, ◌<◌, ◌≤◌, Bool, true, false, cond, List, [], ◌∷◌, ◌++◌, codes, length, take, filter, count_by}
+use Rattle.std.proofs.Common.{flat_map, filter_map, get_or, Option, Some, None, HashMap, refl, sym, ap, ◌∙◌, arith, append_assoc, is_some}
+use Rattle.std.specs.Prelude.{IsTrue}
+use Rattle.std.specs.Bool.{nat_eq}
+use Rattle.std.specs.HashMap.{get, values, IsUnique}
+use Rattle.std.specs.List.{list_any, cons_option, range_with_len}
+use Rattle.std.specs.Option.{option_and_then}
+use Rattle.std.proofs.lemmas.Bool.{false≢true}
+use Rattle.std.proofs.lemmas.Cmp.{nat_eq_equiv}
+use Rattle.std.proofs.lemmas.List.{append-nil, take_more, take_all}
+use Rattle.std.proofs.lemmas.List.Elements.{filter_map-append}
+use Rattle.std.proofs.lemmas.List.Sums.{sum_by-cons}
+use Rattle.std.proofs.lemmas.List.Concat.{flat_map-append}
+use Rattle.std.proofs.lemmas.Map.Made.{Contains-from_values_of, Contains-values_of}
+use Rattle.std.proofs.lemmas.Map.Views.{Contains-from_any, list_any-from_Contains, exact_unsigned_eq, hash_map_get_iff}
+use Rattle.rx_event.proofs.Laws.Searches.{list_any_same_at}
+use Rattle.rx_book.specs.State.{State}
+use Rattle.rx_line.specs.Names.{name_of}
+use Rattle.rx_line.specs.Pieces.{joined}
+use Rattle.rx_listing.specs.declared.known.Known.{Known}
+use Rattle.rx_listing.specs.declared.list.Part.{Part}
+use Rattle.rx_listing.specs.declared.list.Part.TheVariants.{Nodes, Resources, Leases, Hubs}
+use Rattle.rx_listing.specs.Listed.{open_name, if_open, IsPlaced}
+use Rattle.rx_listing.specs.Parts.{is_nil, led_text, names_of, part_object}
+use Rattle.rx_listing.specs.Recalled.{ArePlaced}
+use Rattle.rx_listing.specs.Whole.{Counted, node_object, resource_object, lease_object, hub_object, hub_by, subscribes}
+use Rattle.rx_listing.proofs.Keeping.{turned}
+
+-- what passes a test is counted among what has names
+pub count_named : (p named : ℕ → Bool) (ns : List ℕ) → ((n : ℕ) → named n ≡ false → p n ≡ false) → count_by p (filter named ns) ≡ count_by p ns
+count_named p named [] all = refl
+count_named p named (n ∷ ns) all = by_name (named n) refl (count_named p named ns all) where
+  by_name : (b : Bool) → named n ≡ b → count_by p (filter named ns) ≡ count_by p ns →
+      count_by p (cond b (n ∷ filter named ns) (filter named ns)) ≡ count_by p (n ∷ ns)
+  by_name true is rest =
+      sum_by-cons (λ m. cond (p m) 1 0) n (filter named ns) ∙ ap (λ (k : ℕ). cond (p n) 1 0 + k) rest ∙ sym (sum_by-cons (λ m. cond (p m) 1 0) n ns)
+  by_name false is rest =
+      let none : count_by p (n ∷ ns) ≡ cond false 1 0 + count_by p ns =
+      sum_by-cons (λ m. cond (p m) 1 0) n ns ∙ ap (λ (b : Bool). cond b 1 0 + count_by p ns) (all n is) in
+      omega arith
+
+-- objects, one more
+module _ (f : ℕ → Option (List ℕ)) (ns : List ℕ) (i d : ℕ) (within : i < length ns) where
+  more : {o : Option (List ℕ)} → f (get_or ns i d) ≡ o → filter_map f (take (i + 1) ns) ≡ filter_map f (take i ns) ++ cons_option o []
+  more there =
+      ap (filter_map f) (take_more ns i d within) ∙ filter_map-append f (take i ns) (get_or ns i d ∷ [])
+      ∙ ap (λ (o : Option (List ℕ)). filter_map f (take i ns) ++ cons_option o []) there
+
+  pub object_same : f (get_or ns i d) ≡ None → filter_map f (take i ns) ≡ filter_map f (take (i + 1) ns)
+  object_same none = sym (more none ∙ append-nil (filter_map f (take i ns)))
+
+  not_nil : (xs : List (List ℕ)) (object : List ℕ) → false ≡ is_nil (xs ++ object ∷ [])
+  not_nil [] object = refl
+  not_nil (x ∷ xs) object = refl
+
+  pub object_nil : {object : List ℕ} → f (get_or ns i d) ≡ Some object → false ≡ is_nil (filter_map f (take (i + 1) ns))
+  object_nil {object} there = not_nil (filter_map f (take i ns)) object ∙ sym (ap is_nil (more there))
+
+  led : (xs : List (List ℕ)) (object : List ℕ) → joined xs ++ led_text (is_nil xs) object ≡ joined (xs ++ object ∷ [])
+  led [] object = sym (append-nil object)
+  led (x ∷ xs) object =
+      let comma = λ (q : List ℕ). codes "," ++ q in
+      append_assoc x (flat_map comma xs) (codes "," ++ object)
+      ∙ ap (λ (t : List ℕ). x ++ t) (ap (λ (t : List ℕ). flat_map comma xs ++ t) (sym (append-nil (codes "," ++ object)))
+      ∙ sym (flat_map-append comma xs (object ∷ [])))
+
+  pub object_text : {object : List ℕ} (first : Bool) (begun : List ℕ) {text new : List ℕ} → f (get_or ns i d) ≡ Some object →
+      first ≡ is_nil (filter_map f (take i ns)) → text ≡ begun ++ joined (filter_map f (take i ns)) → new ≡ text ++ led_text first object →
+      new ≡ begun ++ joined (filter_map f (take (i + 1) ns))
+  object_text {object} first begun {text} there is written next =
+      let xs = filter_map f (take i ns) in
+      next ∙ ap (λ (b : Bool). text ++ led_text b object) is ∙ ap (λ (t : List ℕ). t ++ led_text (is_nil xs) object) written
+      ∙ append_assoc begun (joined xs) (led_text (is_nil xs) object) ∙ ap (λ (t : List ℕ). begun ++ t) (led xs object)
+      ∙ ap (λ (objects : List (List ℕ)). begun ++ joined objects) (sym (more there))
+
+-- what has no name has no object
+named_alone : (f : ℕ → Option (List ℕ)) (named : ℕ → Bool) (ns : List ℕ) → ((n : ℕ) → named n ≡ false → f n ≡ None) →
+    filter_map f (filter named ns) ≡ filter_map f ns
+named_alone f named [] none = refl
+named_alone f named (n ∷ ns) none = by_name (named n) refl (named_alone f named ns none) where
+  by_name : (b : Bool) → named n ≡ b → filter_map f (filter named ns) ≡ filter_map f ns →
+      filter_map f (cond b (n ∷ filter named ns) (filter named ns)) ≡ filter_map f (n ∷ ns)
+  by_name true is rest = ap (cons_option (f n)) rest
+  by_name false is rest = rest ∙ sym (ap (λ (o : Option (List ℕ)). cons_option o (filter_map f ns)) (none n is))
+
+pub objects_all : (f : ℕ → Option (List ℕ)) (named : ℕ → Bool) (ns : List ℕ) (i len : ℕ) → length ns ≤ i → ns ≡ filter named (range_with_len 0 len) →
+    ((n : ℕ) → named n ≡ false → f n ≡ None) → filter_map f (take i ns) ≡ filter_map f (range_with_len 0 len)
+objects_all f named ns i len past are none = ap (filter_map f) (take_all i ns past ∙ are) ∙ named_alone f named (range_with_len 0 len) none
+
+no_one : {X : Type 0} (o : Option X) → is_some o ≡ false → o ≡ None
+no_one None is = refl
+no_one (Some x) is = absurd (false≢true (sym is))
+
+module _ (book : State) (known : Known) (n : ℕ) where
+  no_open_name : is_some (name_of known.nodes.now n) ≡ false → open_name book known.nodes.now n ≡ None
+  unfolding open_name
+  no_open_name is = ap (option_and_then (if_open book known.nodes.now)) (no_one (name_of known.nodes.now n) is)
+
+  pub no_subscriber : (hub : ℕ) → is_some (name_of known.nodes.now n) ≡ false → subscribes book known hub n ≡ false
+  unfolding hub_by
+  no_subscriber hub is = rw (no_open_name is) refl
+
+  pub no_object : (counted : Counted) (part : Part) → is_some (name_of (names_of known part) n) ≡ false → part_object book known counted part n ≡ None
+  unfolding node_object resource_object lease_object hub_object
+  no_object counted Nodes is = rw (no_open_name is) refl
+  no_object counted Resources is = rw (no_one (name_of known.resources.now n) is) refl
+  no_object counted Leases is = rw (no_one (name_of known.leases.now n) is) refl
+  no_object counted Hubs is = rw (no_one (name_of known.hubs.now n) is) refl
+
+pub placed_part : (len : ℕ) (known : Known) (part : Part) → ArePlaced len known → IsPlaced len (names_of known part)
+placed_part len known Nodes placed = placed.nodes
+placed_part len known Resources placed = placed.resources
+placed_part len known Leases placed = placed.leases
+placed_part len known Hubs placed = placed.hubs
+
+-- a hub is connected where the table has it
+pub is_connected : {S : Type 0} (m : HashMap ℕ ℕ S) (want : ℕ → Option ℕ) → IsUnique nat_eq m → ((c : ℕ) → get nat_eq m c ≡ want c) → (hub : ℕ) →
+    IsTrue (list_any (λ one. nat_eq one hub) (values m)) ↔ ((n : ℕ) × (want n ≡ Some hub))
+is_connected m want unique same hub = (to, from) where
+  back : list_any (λ one. nat_eq one hub) (values m) ≡ list_any (nat_eq hub) (values m)
+  back = list_any_same_at (λ one. nat_eq one hub) (nat_eq hub) (values m) (λ i one at. turned one hub)
+
+  to : IsTrue (list_any (λ one. nat_eq one hub) (values m)) → (n : ℕ) × (want n ≡ Some hub)
+  to any =
+      let there = Contains-from_values_of m.entries hub (Contains-from_any exact_unsigned_eq hub (values m) (sym back ∙ any)) in
+      (there.0, sym (same there.0) ∙ (hash_map_get_iff nat_eq_equiv exact_unsigned_eq m unique there.0 hub).1 there.1)
+
+  from : (n : ℕ) × (want n ≡ Some hub) → IsTrue (list_any (λ one. nat_eq one hub) (values m))
+  from w =
+      back ∙ list_any-from_Contains nat_eq_equiv hub (values m)
+      (Contains-values_of m.entries w.0 hub ((hash_map_get_iff nat_eq_equiv exact_unsigned_eq m unique w.0 hub).0 (same w.0 ∙ w.1)))

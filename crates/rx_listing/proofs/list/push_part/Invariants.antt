@@ -1,0 +1,11 @@
+use Rattle.std.proofs.Common.{◌≡◌, ◌++◌, take, filter_map, string_bytes}
+use Rattle.rx_line.specs.Pieces.{joined}
+use Rattle.rx_listing.specs.Parts.{counted_of, is_nil, part_object}
+use Rattle.rx_listing.proofs.list.push_part.Given as goal
+
+abbrev pub invariant-numbers : goal.invariant-numbers
+invariant-numbers g l = record {
+  first : l.is_first ≡ is_nil (filter_map (part_object l.book l.known (counted_of l.sight) l.part) (take l.number-index l.number-items));
+  written : string_bytes l.text ≡ string_bytes l.fn.text
+      ++ joined (filter_map (part_object l.book l.known (counted_of l.sight) l.part) (take l.number-index l.number-items));
+}
