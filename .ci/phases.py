@@ -2,6 +2,8 @@
 
     .ci/phases                    runs `rt ci` at the top of the repository
     .ci/phases rt must-fail NAME  runs that, as an example
+    .ci/phases --aloud            runs `rt ci` and passes on what it says, as .ci/run does: the line that ends
+                                  a crate gets its times, and no table follows
 
 It looks twice a second at the programs that the command starts. A phase is the proof of a crate, the
 proof of its tests, its edits or its runs. The first table has a line for each crate, the second a line
@@ -15,11 +17,13 @@ import resource
 import signal
 import subprocess
 import sys
+import threading
 import time
 
 TICK = os.sysconf("SC_CLK_TCK")
 PAGE = os.sysconf("SC_PAGE_SIZE")
 KINDS = ("proof", "tests", "edits", "runs")
+ENDS = re.compile(r"rt: (\w+)(?:(: its tests) are)? (?:NOT )?(?:proved|PROVED)$")
 
 
 class Process:
@@ -64,7 +68,7 @@ class Phase:
             self.by_program[key] = max(self.by_program.get(key, 0.0), seconds)
 
     def seconds(self):
-        return sum(self.by_program.values())
+        return sum(list(self.by_program.values()))
 
 
 def processes_below(top):
@@ -191,10 +195,38 @@ def interrupted(*_):
     raise KeyboardInterrupt
 
 
+def with_times(line, phases, now):
+    """The line, and where it ends a crate how long that took, of the processor too, and when it ended."""
+    ended = ENDS.match(line)
+    if not ended:
+        return line
+    it = phases.get((ended.group(1), "tests" if ended.group(2) else "proof"))
+    took = f"{clock(it.lasted)}, {clock(it.seconds())} of a processor, " if it else ""
+    return f"{line} ({took}at {clock(now)})"
+
+
+def aloud(command):
+    """Runs the command and passes on what it says, a line at a time."""
+    start, phases = time.monotonic(), {}
+    gate = subprocess.Popen(command, stdout=subprocess.PIPE, stderr=subprocess.STDOUT, stdin=subprocess.DEVNULL)
+    threading.Thread(target=watch, args=(gate, phases, start), daemon=True).start()
+    try:
+        for line in gate.stdout:
+            said = line.decode(errors="replace").rstrip("\n")
+            print(with_times(said, phases, time.monotonic() - start), flush=True)
+    except KeyboardInterrupt:
+        stop(gate)
+    return gate.wait()
+
+
 def main():
-    command = sys.argv[1:] or ["rt", "ci"]
+    words = sys.argv[1:]
+    is_aloud = words[:1] == ["--aloud"]
+    command = words[is_aloud:] or ["rt", "ci"]
     os.chdir(subprocess.run(["git", "rev-parse", "--show-toplevel"], capture_output=True, text=True, check=True).stdout.strip())
     signal.signal(signal.SIGTERM, interrupted)
+    if is_aloud:
+        return aloud(command)
     before, start, phases, name = resource.getrusage(resource.RUSAGE_CHILDREN), time.monotonic(), {}, os.environ.get("GATE_LOG", "gate.log")
     with open(name, "w", encoding="utf-8") as log:
         gate = subprocess.Popen(command, stdout=log, stderr=subprocess.STDOUT, stdin=subprocess.DEVNULL)
