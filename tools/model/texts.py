@@ -212,7 +212,7 @@ LIVE_COMMANDS = {**{do: it for do, it in COMMANDS.items() if do != 'cancel'}, 'l
 
 def line_of(text: bytes) -> dict[str, Any]:
     """The command of a line, which is given without its newline."""
-    if len(text) + 1 > MOST_LINE:
+    if len(text) > MOST_LINE:
         raise Faulty('too long')
     value = json_of(text)
     check_command(value, {}, LIVE_COMMANDS)
