@@ -3,142 +3,145 @@ from __future__ import annotations
 
 import json
 import random
+from collections.abc import Callable
 from typing import Any
 
-from .definitions import (COMPLETED, Accept, Close, Connect, Decline, End, Event, History, Hub, Item, Lease, Open, PLACES, Remove,
-                          Return, Take, Use, at, forced, hubs, is_out, kind_of, may_follow, nodes, open_nodes, owed, resources)
+from .definitions import (COMPLETED, PLACES, Accept, Close, Connect, Decline, End, Event, History, Hub, Item, Lease, Open, Remove,
+                          Return, Take, Use, at, children, forced, held_count, hubs, is_held, is_open, is_out, is_owned, is_settled,
+                          is_waiting, kind_of, makes_lease, may_follow, nodes, open_connections, open_nodes, owed, resources,
+                          was_opened)
+from .live import Live
+from .scenario import Book, Canonical
 from .texts import dump_of, form_of
 
 KINDS = ('leaf', 'pass', 'flat', 'switch', 'until', 'sub')
 
 
 class Commands:
-    """Commands by names, most of which find what they name, of a book that is guessed at and not run."""
+    """Commands by names. They are carried out on the model as they are made, so that most of them find what they name and
+    are accepted; in a scenario with times they come in another order, and find less."""
 
-    def __init__(self, rng: random.Random, live: bool):
-        self.rng, self.live, self.made = rng, live, 0
-        self.nodes: list[tuple[str, str]] = []
-        self.bare: list[tuple[str, str]] = []      # nodes whose source or notifier was not opened yet, with the place
-        self.owing: list[str] = []
-        self.names: dict[str, list[str]] = {'hub': [], 'auto': [], 'manual': [], 'res': [], 'lease': [], 'label': []}
+    def __init__(self, rng: random.Random, book: Book, checkpoints: float = 0, timed: bool = False):
+        self.rng, self.book, self.made, self.timed, self.checkpoints = rng, book, 0, timed, checkpoints
+        self.labels: list[str] = []
 
     def new(self, space: str) -> str:
         self.made += 1
-        if self.rng.random() < 0.03 and self.nodes:
-            return self.rng.choice(self.nodes)[0]
-        return f'{space}{self.made}'
+        names = list(self.book.names.get(space, ()))
+        return self.rng.choice(names) if names and self.rng.random() < 0.02 else f'{space[0]}{self.made}'
 
-    def known(self, names: list[str]) -> str:
-        """One of them, the younger the likelier; now and then one that is none."""
-        if not names or self.rng.random() < 0.03:
+    def known(self, space: str, fits: Callable[[int], bool] = lambda n: True) -> str:
+        """A name that fits, the younger the likelier; now and then one that does not, or is none."""
+        chance, names = self.rng.random(), list(self.book.names[space])
+        if chance < 0.02 or not names:
             return f'x{self.rng.randrange(4)}'
-        return names[-1 - min(int(self.rng.expovariate(0.35)), len(names) - 1)]
+        fit = names if chance < 0.07 else [name for name in names if (n := self.book.number(space, name)) is not None and fits(n)]
+        fit = fit or names
+        return fit[-1 - min(int(self.rng.expovariate(0.3)), len(fit) - 1)]
 
     def node(self, *kinds: str) -> str:
-        fit = [name for name, kind in self.nodes if not kinds or kind in kinds]
-        return self.known(fit if self.rng.random() < 0.95 else [name for name, _ in self.nodes])
+        h = self.book.h
+        return self.known('node', lambda n: is_open(h, n) and (not kinds or kind_of(h, n) in kinds))
+
+    def hub(self, mode: str | None = None, connected: bool | None = None) -> str:
+        h = self.book.h
+        return self.known('hub', lambda g: mode in (None, at(h, g).mode) and connected in (None, open_connections(h, g) != []))
 
     def place(self) -> dict[str, Any]:
-        if self.bare and self.rng.random() < 0.75:
-            index = -1 if self.rng.random() < 0.7 else self.rng.randrange(len(self.bare))
-            of, place = self.bare.pop(index)
+        """Where something may be opened: an inner that is owed, a place that is bare, a root; now and then anywhere."""
+        h, rng = self.book.h, self.rng
+        names = [(name, n) for name, n in self.book.names['node'].items() if is_open(h, n)]
+        bare = [(name, place) for name, n in names for place in PLACES[kind_of(h, n)] if place != 'inner' and not was_opened(h, n, place)]
+        owing = [name for name, n in names if owed(h, n) > 0]
+        if owing and rng.random() < 0.5:
+            return {'place': 'inner', 'of': rng.choice(owing)}
+        if bare and rng.random() < 0.8:
+            of, place = bare[-1 - min(int(rng.expovariate(0.5)), len(bare) - 1)]
             return {'place': place, 'of': of}
-        if self.owing and self.rng.random() < 0.6:
-            return {'place': 'inner', 'of': self.owing.pop(self.rng.randrange(len(self.owing)))}
-        if self.rng.random() < 0.1 and self.nodes:
-            return {'place': self.rng.choice(('source', 'inner', 'notifier')), 'of': self.node()}
+        if names and rng.random() < 0.12:
+            return {'place': rng.choice(('source', 'inner', 'notifier')), 'of': self.node()}
         return {'place': 'root'}
 
-    def opened(self, name: str, kind: str) -> None:
-        self.nodes.append((name, kind))
-        self.bare += [(name, place) for place in PLACES[kind] if place != 'inner']
-
     def open(self) -> dict[str, Any]:
-        name, at = self.new('n'), self.place()
-        kind = self.rng.choice(KINDS if self.names['hub'] else KINDS[:-1])
-        if at['place'] != 'root' and self.rng.random() < 0.4:
-            kind = 'leaf'
-        if at['place'] == 'root' and kind == 'leaf' and self.rng.random() < 0.7:
-            kind = self.rng.choice(('pass', 'flat', 'switch', 'until'))
-        step = {'do': 'open', 'name': name, **at, 'kind': kind}
+        name, where = self.new('node'), self.place()
+        shared = self.book.names['hub'] and self.rng.random() < 0.35
+        kind = 'sub' if shared else self.rng.choice(KINDS[1:-1] if where['place'] == 'root' or self.rng.random() < 0.4 else KINDS[:1])
+        step = {'do': 'open', 'name': name, **where, 'kind': kind}
         if kind == 'sub':
-            step['hub'] = self.known(self.names['hub'])
-            if self.rng.random() < 0.7:
-                step['connection'] = self.new('c')
-                self.opened(step['connection'], 'connection')
-        self.opened(name, kind)
+            step['hub'] = self.hub()
+            if self.rng.random() < 0.8:
+                step['connection'] = self.new('node')
         return step
 
     def command(self) -> dict[str, Any]:
-        rng, names = self.rng, self.names
+        h, rng = self.book.h, self.rng
+        some = lambda found, weight: weight if found else 0.3
+        leaves = [n for n in open_nodes(h) if kind_of(h, n) == 'leaf']
+        by_hand = [g for g in hubs(h) if at(h, g).mode == 'manual']
+        held, owing = held_count(h), [f for f in open_nodes(h) if owed(h, f) > 0]
         do = rng.choices(
             ('open', 'using', 'next', 'end', 'hub', 'connect', 'disconnect', 'hold', 'apply', 'remove', 'lease', 'return', 'abort',
              'fail', 'decline', 'dispose', 'drain', 'checkpoint', 'cancel'),
-            (34, 8, 18, 7, 6, 4 * bool(names['manual']), 2 * bool(names['manual']), 5, 3 * bool(names['res']), 2 * bool(names['res']),
-             4 * bool(names['res']), 4 * bool(names['lease']), 2, 2 * bool(self.owing), 2 * bool(self.owing), 4, 2, self.checkpoints,
-             2 * bool(names['label'])))[0]
+            (34, 7, some(leaves, 26), some(leaves, 6), 3 + 3 * (len(hubs(h)) < 2), some(by_hand, 5), some(by_hand, 2), some(h, 4),
+             some(held, 3), some(held, 1.5), some(held, 4), some(held, 2.5), some(h, 1.5), some(owing, 2), some(owing, 3), some(h, 3), 2,
+             self.checkpoints, 3 * bool(self.labels)))[0]
         step: dict[str, Any] = {'do': do}
         match do:
             case 'open':
                 return self.open()
             case 'using':
-                step |= {'name': self.new('n'), **self.place(), 'res': self.new('r')}
-                self.opened(step['name'], 'pass')
-                names['res'].append(step['res'])
+                step |= {'name': self.new('node'), **self.place(), 'res': self.new('res')}
             case 'next':
-                step |= {'node': self.node('leaf'), 'value': rng.choice((0, 1, 5, -7, 2**63 - 1, rng.randrange(-99, 99)))}
-                self.owing += [name for name, kind in self.nodes if kind in ('flat', 'switch') and rng.random() < 0.5][-3:]
+                step |= {'node': self.node('leaf'), 'value': rng.choice((0, 1, 5, -7, 2**63 - 1, -2**63, rng.randrange(-99, 99)))}
             case 'end':
-                step |= {'node': self.node('leaf'), **({'error': rng.randrange(9)} if rng.random() < 0.4 else {})}
+                step |= {'node': self.node('leaf'), **({'error': rng.randrange(9)} if rng.random() < 0.35 else {})}
             case 'hub':
-                mode = rng.choice(('auto', 'auto', 'manual'))
-                step |= {'name': self.new('h'), 'mode': mode}
-                names['hub'].append(step['name'])
-                names[mode].append(step['name'])
+                step |= {'name': self.new('hub'), 'mode': rng.choice(('auto', 'auto', 'manual'))}
             case 'connect':
-                step |= {'hub': self.known(names['manual'] if rng.random() < 0.95 else names['hub'])}
-                if rng.random() < 0.8:
-                    step['name'] = self.new('c')
-                    self.opened(step['name'], 'connection')
+                step |= {'hub': self.hub('manual', False), **({'name': self.new('node')} if rng.random() < 0.85 else {})}
             case 'disconnect':
-                step |= {'hub': self.known(names['manual'] if rng.random() < 0.95 else names['hub'])}
+                step |= {'hub': self.hub('manual', True)}
             case 'hold':
-                step |= {'node': self.node(), 'res': self.new('r')}
-                names['res'].append(step['res'])
+                step |= {'node': self.node(), 'res': self.new('res')}
             case 'apply':
-                step |= {'res': self.known(names['res']), 'word': rng.choice((0, 3, 2**64 - 1))}
+                step |= {'res': self.known('res', lambda r: is_held(h, r)), 'word': rng.choice((0, 3, 2**64 - 1))}
             case 'remove':
-                step |= {'res': self.known(names['res'])}
+                step |= {'res': self.known('res', lambda r: is_owned(h, r))}
             case 'lease':
-                step |= {'res': self.known(names['res']), 'name': self.new('l')}
-                names['lease'].append(step['name'])
+                step |= {'res': self.known('res', lambda r: is_owned(h, r)), 'name': self.new('lease')}
             case 'return':
-                step |= {'lease': self.known(names['lease'])}
+                step |= {'lease': self.known('lease', lambda l: is_out(h, l))}
             case 'abort':
-                step |= {'node': self.node('pass', 'flat', 'switch', 'until', 'connection'), 'error': rng.randrange(9)}
+                bare = lambda n: is_open(h, n) and kind_of(h, n) not in ('leaf', 'sub') and not any(is_open(h, c) for c in children(h, n))
+                step |= {'node': self.known('node', bare), 'error': rng.randrange(9)}
             case 'fail' | 'decline':
-                owing = self.owing.pop() if rng.random() < 0.9 else self.node('flat', 'switch')
-                step |= {'node': owing, **({'error': 2**32 - 1} if do == 'fail' else {})}
+                step |= {'node': self.known('node', lambda n: n in owing), **({'error': 2**32 - 1} if do == 'fail' else {})}
             case 'dispose':
-                step |= {'node': self.known([step_name for step_name, _ in self.nodes])}
+                root = lambda n: is_open(h, n) and isinstance(at(h, n), Open) and at(h, n).place == 'root'
+                step |= {'node': self.known('node', root)}
             case 'cancel':
-                step |= {'step': self.known(names['label'])}
+                step |= {'step': rng.choice(self.labels)}
         return step
 
-    checkpoints = 0
+    def next(self) -> dict[str, Any]:
+        """A command, which is carried out."""
+        step = self.command()
+        if step['do'] != 'cancel':
+            self.book.perform(step)
+        return step
 
     def steps(self, many: int, deep: int = 0) -> list[dict[str, Any]]:
         """Steps of a scenario, some with a time, a label and followers."""
-        steps = []
+        steps, rng = [], self.rng
         while many > 0:
             many -= 1
-            step, rng = self.command(), self.rng
-            if self.timed and rng.random() < 0.25:
+            step = self.next()
+            if self.timed and rng.random() < 0.15:
                 step['after' if deep else 'at'] = rng.randrange(6)
             if self.timed and rng.random() < 0.15:
-                step['label'] = f'w{self.made}'
                 self.made += 1
-                self.names['label'].append(step['label'])
+                step['label'] = f'w{self.made}'
+                self.labels.append(step['label'])
             if rng.random() < 0.15 and many and deep < 5:
                 below = rng.randint(0, min(many, 5))
                 many -= below
@@ -146,35 +149,29 @@ class Commands:
             steps.append(step)
         return steps
 
-    timed = False
-
 
 def scenario(rng: random.Random) -> bytes:
-    commands = Commands(rng, False)
-    commands.timed = rng.random() < 0.3
-    commands.checkpoints = 2 if rng.random() < 0.2 else 0
-    many = rng.randrange(1, 12) if rng.random() < 0.5 else rng.randrange(8, 34)
-    made = {'steps': commands.steps(many)}
+    timed, checkpoints = rng.random() < 0.3, 2 if rng.random() < 0.15 else 0
+    made: dict[str, Any] = {}
     if rng.random() < 0.2:
-        made['events'] = rng.randrange(1, 40)
-    if commands.timed and rng.random() < 0.3:
+        made['events'] = rng.randrange(1, 60)
+    commands = Commands(rng, Book(Canonical(), made.get('events')), checkpoints, timed)
+    made['steps'] = commands.steps(rng.randrange(1, 12) if rng.random() < 0.3 else rng.randrange(8, 40))
+    if timed and rng.random() < 0.3:
         made['until'] = rng.randrange(7)
     return json.dumps(made).encode()
 
 
 def session(rng: random.Random) -> list[bytes]:
     """Lines of a live book, most of them commands; its history is asked for before it is let go and at the end."""
-    commands = Commands(rng, True)
-    commands.checkpoints = 1 if rng.random() < 0.3 else 0
-    lines, many = [], rng.randrange(1, 12) if rng.random() < 0.4 else rng.randrange(8, 40)
-    for _ in range(many):
-        step = commands.command()
+    commands, lines = Commands(rng, Live(Canonical()), 1 if rng.random() < 0.3 else 0), []
+    for _ in range(rng.randrange(1, 12) if rng.random() < 0.3 else rng.randrange(8, 40)):
+        step = commands.next()
+        commands.book.drain()
+        line = json.dumps(step).encode()
         if step['do'] == 'checkpoint':
             lines.append(b'{"do":"dump"}')
-        line = json.dumps(step).encode()
-        if rng.random() < 0.04:
-            line = hurt(rng, line).replace(b'\n', b' ')
-        lines.append(line)
+        lines.append(hurt(rng, line).replace(b'\n', b' ') if rng.random() < 0.04 else line)
         if rng.random() < 0.05:
             lines.append(rng.choice((b'{"do":"list"}', b'{"do":"dump"}', b'{"do":"list"}', b'{"do":"dump","node":"a"}')))
     return [*lines, b'{"do":"list"}', b'{"do":"dump"}']
@@ -183,68 +180,76 @@ def session(rng: random.Random) -> list[bytes]:
 # Histories
 
 def candidate(rng: random.Random, h: History) -> Event:
-    """An event that may perhaps follow."""
-    far = rng.random() < 0.04
-    some = lambda numbers: (rng.choice(numbers[-6:]) if numbers and not far else rng.randrange(len(h) + 2))
+    """An event that may perhaps follow: what it names is mostly there, and mostly fits."""
     opened, made = open_nodes(h), resources(h)
-    of_kind = lambda *kinds: [n for n in opened if kind_of(h, n) in kinds]
+
+    def some(fit: list[int], all_of: list[int]) -> int:
+        chance = rng.random()
+        numbers = all_of if chance < 0.06 or not fit else fit[-6:]
+        return rng.choice(numbers) if numbers and chance > 0.01 else rng.randrange(len(h) + 2)
+    node = lambda *kinds: some([n for n in opened if not kinds or kind_of(h, n) in kinds], nodes(h))
+    resource = lambda fits: some([r for r in made if fits(h, r)], made)
+    owing = [f for f in opened if owed(h, f) > 0]
     what = rng.choices(('open', 'item', 'end', 'close', 'hub', 'connect', 'accept', 'use', 'remove', 'take', 'lease', 'return',
-                        'decline', 'fail'), (30, 20, 8, 5, 4, 3, 7, 2, 3, 5, 4, 4, 3, 4))[0]
-    if what == 'open':
-        owing = [f for f in of_kind('flat', 'switch') if owed(h, f) > 0]
-        above = rng.choice([('root', None), ('source', some(of_kind('pass', 'flat', 'switch', 'until', 'connection'))),
-                            ('notifier', some(of_kind('until'))), ('inner', some(owing))])
-        kind = rng.choice(KINDS if hubs(h) else KINDS[:-1])
-        if above[0] != 'root' and rng.random() < 0.4:
-            kind = 'leaf'
-        return Open(*above, kind, some(hubs(h)) if kind == 'sub' else None)
+                        'decline', 'fail'), (32, 20, 6, 3, 3 + 3 * (len(hubs(h)) < 2), 3, 6, 2, 2, 5, 4, 4, 2, 3))[0]
     match what:
-        case 'item': return Item(some(of_kind('leaf')), rng.choice((0, 1, -5, 2**63 - 1)))
-        case 'end': return End(some(of_kind('leaf')), rng.choice((COMPLETED, COMPLETED, 0, 3)))
-        case 'fail': return End(some(of_kind('pass', 'flat', 'switch', 'until', 'connection')), rng.choice((1, 2**32 - 1)))
-        case 'close': return Close(some([n for n in opened if kind_of(h, n) == 'connection' or at(h, n).place == 'root']))
+        case 'open':
+            bare = [(n, place) for n in opened for place in PLACES[kind_of(h, n)] if place != 'inner' and not was_opened(h, n, place)]
+            chance = rng.random()
+            of, place = (rng.choice(owing), 'inner') if owing and chance < 0.4 else rng.choice(bare[-4:]) if bare and chance < 0.8 else (
+                (node(), rng.choice(('source', 'inner', 'notifier'))) if chance < 0.84 else (None, 'root'))
+            kind = 'sub' if hubs(h) and rng.random() < 0.35 else rng.choice(
+                KINDS[1:-1] if place == 'root' or rng.random() < 0.4 else KINDS[:1])
+            return Open(place, of, kind, some(hubs(h), hubs(h)) if kind == 'sub' else None)
+        case 'item': return Item(node('leaf'), rng.choice((0, 1, -5, 2**63 - 1)))
+        case 'end': return End(node('leaf'), rng.choice((COMPLETED, COMPLETED, 0, 3)))
+        case 'fail': return End(node('pass', 'flat', 'switch', 'until', 'connection'), rng.choice((1, 2**32 - 1)))
+        case 'close': return Close(some([n for n in opened if isinstance(at(h, n), Connect) or at(h, n).place == 'root'], nodes(h)))
         case 'hub': return Hub(rng.choice(('auto', 'auto', 'manual')))
-        case 'connect': return Connect(some([g for g in hubs(h) if at(h, g).mode == 'manual']))
-        case 'accept': return Accept(some(opened), rng.choice((0, 7, 2**64 - 1)))
-        case 'use': return Use(some(made))
-        case 'remove': return Remove(some(made))
-        case 'take': return Take(some(made))
-        case 'lease': return Lease(some(made))
-        case 'return': return Return(some([n for n in range(len(h)) if is_out(h, n)]))
-    return Decline(some(of_kind('flat', 'switch')))
+        case 'connect': return Connect(some([g for g in hubs(h) if at(h, g).mode == 'manual' and not open_connections(h, g)], hubs(h)))
+        case 'accept': return Accept(node(), rng.choice((0, 7, 2**64 - 1)))
+        case 'use': return Use(resource(is_held))
+        case 'remove': return Remove(resource(is_owned))
+        case 'take': return Take(resource(is_waiting))
+        case 'lease': return Lease(resource(is_owned))
+        case 'return': return Return(some([l for l in range(len(h)) if is_out(h, l)], [l for l in range(len(h)) if makes_lease(h, l)]))
+    return Decline(some(owing, nodes(h)))
 
 
 def grown(rng: random.Random, h: History, many: int) -> History:
-    """h followed by so many events at most, each of which may follow."""
+    """h followed by about so many events, each of which may follow, and by what these force."""
     for _ in range(many):
-        if due := forced(h):
-            h = h.then(rng.choice(due)[1])
-            continue
-        for _ in range(12):
+        for _ in range(8):
             e = candidate(rng, h)
             if may_follow(h, e):
                 h = h.then(e)
                 if isinstance(e, Open) and e.kind == 'pass' and rng.random() < 0.3:
                     h = h.then(Accept(len(h) - 1, 3))
                 break
+        while due := forced(h):
+            h = h.then(rng.choice(due)[1])
     return h
 
 
 def grown_history(rng: random.Random) -> list[Event]:
     """A lawful history, or one that is turned at one event; most of these are unlawful there or behind it."""
-    h = grown(rng, History(), rng.randrange(1, 12) if rng.random() < 0.4 else rng.randrange(8, 30))
+    h = grown(rng, History(), rng.randrange(1, 12) if rng.random() < 0.3 else rng.randrange(8, 30))
     events, how = list(h), rng.random()
-    if how < 0.35 or not events:
+    if how < 0.3 or not events:
         return events
-    n = rng.randrange(len(events))
-    if how < 0.5:
-        return events[:n + 1]
+    unsettled = [n for n in range(len(events)) if not is_settled(h.before(n))]
+    n = rng.choice(unsettled) if unsettled and rng.random() < 0.5 else rng.randrange(len(events))
+    if how < 0.45:
+        return events[:n]
     if how < 0.7:
-        return [*events[:n], candidate(rng, h.before(n)), *events[n + rng.randrange(2):]]
+        wrong = next((e for _ in range(20) if not may_follow(h.before(n), e := candidate(rng, h.before(n)))), events[n])
+        return [*events[:n], wrong, *events[n + rng.randrange(2):]]
     if how < 0.8:
         return events[:n] + events[n + 1:]
-    if how < 0.9:
+    if how < 0.87:
         return events[:n] + [rng.choice(events)] + events[n:]
+    if how < 0.94 and isinstance(events[n], End):
+        return [*events[:n], End(events[n].node, rng.choice((COMPLETED, 0, 3))), *events[n + 1:]]
     m = rng.randrange(len(events))
     events[n], events[m] = events[m], events[n]
     return events
