@@ -2,8 +2,14 @@
 from __future__ import annotations
 
 import ctypes
+import importlib.util
+import json
 import os
+import pathlib
+import sys
 import tempfile
+from types import ModuleType
+from typing import Any
 
 DONE, TOO_SMALL = 0, 1
 
@@ -95,3 +101,50 @@ class Library:
                                            ctypes.byref(self.told)))
         answer(self.calls.rx_live_end(ctypes.byref(handle), self.buffer, room(self.capacity), ctypes.byref(self.told)))
         return answers
+
+
+def copy_of_the_model(name: str) -> ModuleType:
+    """The package once more, under another name, so that a definition can be turned there and nowhere else."""
+    folder = pathlib.Path(__file__).parent
+    for module in [it for it in sys.modules if it == name or it.startswith(f'{name}.')]:
+        del sys.modules[module]
+    spec = importlib.util.spec_from_file_location(name, folder / '__init__.py', submodule_search_locations=[str(folder)])
+    package = importlib.util.module_from_spec(spec)
+    sys.modules[name] = package
+    spec.loader.exec_module(package)
+    for module in ('definitions', 'texts', 'calls', 'scenario', 'live'):
+        importlib.import_module(f'{name}.{module}')
+    return package
+
+
+class Model:
+    """The model as a program, with its definitions as they are in this package."""
+
+    def __init__(self, package: ModuleType, way: str = 'Canonical'):
+        self.of, self.way = package, getattr(package.scenario, way)
+
+    def _faulty(self, read: Any, text: bytes) -> Any:
+        try:
+            return read(text)
+        except self.of.texts.Faulty:
+            return None
+
+    def run(self, text: bytes) -> tuple[int, bytes]:
+        scenario = self._faulty(self.of.texts.scenario_of, text)
+        return (3, b'') if scenario is None else (0, self.of.scenario.Course(scenario, self.way()).report().encode())
+
+    def dump(self, text: bytes) -> tuple[int, bytes]:
+        scenario = self._faulty(self.of.texts.scenario_of, text)
+        if scenario is None or self.of.texts.has_checkpoint(scenario['steps']):
+            return 3, b''
+        return 0, self.of.texts.dump_of(list(self.of.scenario.Course(scenario, self.way()).h))
+
+    def audit(self, text: bytes) -> tuple[int, bytes]:
+        events = self._faulty(self.of.texts.events_of, text)
+        verdict = None if events is None else self.of.definitions.verdict(events)
+        return (3, b'') if verdict is None else (0 if verdict.startswith('lawful') else 5, verdict.encode())
+
+    def live(self, lines: list[bytes], limit: int | None = None) -> list[str]:
+        book = self.of.live.Live(self.way(), limit or 4_194_304)
+        said = [book.answer(line) for line in lines]
+        return [json.dumps(it, separators=(',', ':')) for it in [*said, book.last()]]

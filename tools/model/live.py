@@ -3,11 +3,12 @@ they tell is free: the order of what is forced, and of a release."""
 from __future__ import annotations
 
 import json
+from collections.abc import Callable
 from typing import Any
 
 from .calls import Call
-from .definitions import (COMPLETED, Event, History, Take, at, forced, is_held, is_open, is_out, is_waiting, kind_of, notes,
-                          open_connections, open_nodes, open_subscribers, resources, uses)
+from .definitions import (COMPLETED, History, at, forced, is_held, is_open, is_out, is_waiting, kind_of, notes, open_connections,
+                          open_subscribers, resources, uses)
 from .scenario import Book, Canonical, Differs, Following
 from .texts import Faulty, events_of, form_of, line_of
 
@@ -39,7 +40,7 @@ class Live(Book):
         return [(name, n) for n, name in sorted(bound)]
 
     def list(self) -> dict[str, Any]:
-        nodes, below = [], lambda n: {'place': at(self.h, n).place}
+        nodes = []
         for name, n in self.named('node'):
             made, kind = at(self.h, n), kind_of(self.h, n)
             row = {'name': name, 'kind': kind, **({'hub': self.name_of('hub', made.hub)} if kind in ('sub', 'connection') else {})}
@@ -55,6 +56,29 @@ class Live(Book):
 
     def told(self, note: Any) -> dict[str, Any]:
         return {'to': self.name_of('node', note.to), note.what: True if note.what == COMPLETED else note.value}
+
+    def answer(self, text: bytes) -> dict[str, Any]:
+        """What a line is answered."""
+        try:
+            step = line_of(text)
+        except Faulty as fault:
+            return {'faulty': str(fault)}
+        place, said = len(self.h), len(notes(self.h))
+        if step['do'] == 'list':
+            return {'ok': place, **self.list()}
+        if step['do'] == 'dump':
+            return {'ok': place, **({'since': self.since} if self.since else {'dump': [form_of(e) for e in self.h]})}
+        if why := self.perform(step):
+            return {'refused': why}
+        names = {n: name for name, n in self.names['res'].items()}
+        released = [names[r] for r in self.drain()]
+        told = [self.told(note) for note in notes(self.h)[said:]]
+        return {'ok': place, **({'notes': told} if told else {}), **({'release': released} if released else {})}
+
+    def last(self) -> dict[str, Any]:
+        """The answer to the end of the input: all is closed, and what is held is to be released."""
+        left = [name for name in self.names['res'] if self.number('res', name) is not None]
+        return {'closed': True, **({'release': left} if left else {})}
 
 
 class Followed(Live):
@@ -75,71 +99,29 @@ class Followed(Live):
         def search(h: History) -> History | None:
             nonlocal tried
             due = list(dict.fromkeys(e for _, e in forced(h)))
-            if not due:
-                tried += 1
-                takes = sum(is_waiting(h, r) for r in resources(h))
-                told = [{'to': self.known_to(note, begin), **note_value(note)} for note in notes(h)[said:]]
-                fits = told == self.wanted.get('notes', []) and self.ends_at in (None, len(h) + takes)
-                return h if fits or tried > MOST_TRIED else None
-            return next((k for e in due if (k := search(h.then(e))) is not None or tried > MOST_TRIED), None)
+            if due:
+                return next((k for e in due if tried <= MOST_TRIED and (k := search(h.then(e))) is not None), None)
+            tried += 1
+            takes = sum(is_waiting(h, r) for r in resources(h))
+            fits = [self.told(note) for note in notes(h)[said:]] == self.wanted.get('notes', [])
+            return h if fits and self.ends_at in (None, len(h) + takes) else None
         found = search(begin)
         if found is None:
             return super().settle()
         self.h = found
 
-    def known_to(self, note: Any, h: History) -> str | None:
-        return self.name_of('node', note.to)
-
-    def drain(self) -> list[int]:
-        taken = []
-        for name in self.wanted.get('release', []) if not isinstance(self.way, Following) else []:
-            r = super(Live, self).number('res', name)
-            if r is not None and is_waiting(self.h, r):
-                self.h = self.h.then(Take(r))
-                taken.append(r)
-        return taken + super().drain()
-
-    def line(self, text: bytes, answer: str) -> None:
+    def compare(self, answer: str, mine: Callable[[], dict[str, Any]]) -> None:
+        """The order of a release is free, and so are the words of what is faulty."""
         try:
             self.wanted = json.loads(answer)
         except ValueError:
             raise Differs(f'{answer!r} is no JSON') from None
-        try:
-            step = line_of(text)
-        except Faulty:
-            step = None
-        if step is None:
-            if set(self.wanted) != {'faulty'} or not isinstance(self.wanted['faulty'], str) or not self.wanted['faulty']:
-                raise Differs(f'{answer}, and the line is faulty')
-            return
-        place, said = len(self.h), len(notes(self.h))
-        if step['do'] == 'list':
-            return self.compare({'ok': place, **self.list()})
-        if step['do'] == 'dump':
-            return self.compare({'ok': place, **({'since': self.since} if self.since else {'dump': [form_of(e) for e in self.h]})})
-        why = self.perform(step)
-        if why:
-            return self.compare({'refused': why})
-        names = {n: name for name, n in self.names['res'].items()}
-        released = [names[r] for r in self.drain()]
-        told = [self.told(note) for note in notes(self.h)[said:]]
-        self.compare({'ok': place, **({'notes': told} if told else {}), **({'release': released} if released else {})})
 
-    def end(self, answer: str) -> None:
-        self.wanted = json.loads(answer)
-        left = [name for name in self.names['res'] if self.number('res', name) is not None]
-        self.compare({'closed': True, **({'release': left} if left else {})})
-
-    def compare(self, mine: dict[str, Any]) -> None:
-        """The order of releases is free."""
         def plain(it: dict[str, Any]) -> dict[str, Any]:
-            return {**it, 'release': sorted(it['release'])} if 'release' in it else it
-        if plain(mine) != plain(self.wanted):
-            raise Differs(f'{json.dumps(self.wanted)}, and it is {json.dumps(mine)}')
-
-
-def note_value(note: Any) -> dict[str, Any]:
-    return {note.what: True if note.what == COMPLETED else note.value}
+            return {**it, **({'release': sorted(it['release'])} if 'release' in it else {}),
+                    **({'faulty': it['faulty'] != ''} if 'faulty' in it else {})}
+        if plain(it := mine()) != plain(self.wanted):
+            raise Differs(f'{answer}, and it is {json.dumps(it)}')
 
 
 def follow(lines: list[bytes], answers: list[str], limit: int = 4_194_304) -> None:
@@ -147,14 +129,13 @@ def follow(lines: list[bytes], answers: list[str], limit: int = 4_194_304) -> No
     if len(answers) != len(lines) + 1:
         raise Differs(f'{len(lines)} lines and {len(answers)} answers')
     book = Followed(limit)
-    dumps = [(i, answer) for i, answer in enumerate(answers) if answer.startswith('{"ok":') and '"dump":[' in answer]
-    whole = events_of(json.dumps(json.loads(dumps[-1][1])['dump']).encode()) if dumps else None
+    dumps = [i for i, answer in enumerate(answers) if answer.startswith('{"ok":') and '"dump":' in answer]
+    whole = events_of(json.dumps(json.loads(answers[dumps[-1]])['dump']).encode()) if dumps else []
     for i, (line, answer) in enumerate(zip(lines, answers)):
-        follows = whole is not None and i <= dumps[-1][0]
-        book.way = Following(whole) if follows else Canonical()
+        book.way = Following(whole) if dumps and i <= dumps[-1] else Canonical()
         book.ends_at = next((json.loads(it)['ok'] for it in answers[i + 1:-1] if it.startswith('{"ok":')), None)
         try:
-            book.line(line, answer)
+            book.compare(answer, lambda: book.answer(line))
         except Differs as difference:
             raise Differs(f'line {i}: {difference}') from None
-    book.end(answers[-1])
+    book.compare(answers[-1], book.last)

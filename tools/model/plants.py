@@ -10,12 +10,14 @@ import re
 from collections.abc import Callable
 from typing import Any
 
+from .engines import Model, copy_of_the_model
+
 
 class Turned:
     """An engine that is asked something else, or whose answers are turned."""
 
-    def __init__(self, engine: Any, step: Callable | None = None, status: Callable | None = None, **texts: Callable):
-        self.engine, self.step, self.texts = engine, step, texts
+    def __init__(self, engine: Any, step: Callable | None = None, only: str = '', **texts: Callable):
+        self.engine, self.step, self.only, self.texts = engine, step, only, texts
 
     def scenario(self, text: bytes) -> bytes:
         try:
@@ -41,7 +43,7 @@ class Turned:
         return self.told('report', self.engine.run(self.scenario(text)))
 
     def dump(self, text: bytes) -> tuple[int, bytes]:
-        return self.told('dump', self.engine.dump(self.scenario(text)))
+        return self.told('dump', self.engine.dump(text if self.only else self.scenario(text)))
 
     def audit(self, text: bytes) -> tuple[int, bytes]:
         return self.told('verdict', self.engine.audit(text))
@@ -146,7 +148,7 @@ for command, turn in COMMANDS.items():
     if not command.startswith('cancel'):
         planted(command, 'lines', step=turn)
 planted('drain takes nothing', 'json', step=lambda step: {**step, 'do': 'cancel', 'step': 'none'} if step['do'] == 'drain' else step)
-planted('checkpoint makes no room', 'json', step=nothing('checkpoint'))
+planted('checkpoint makes no room', 'json', step=nothing('checkpoint'), only='run')
 for name, how in {
         'a refusal is not told': replaced(r'^refused .*\n', ''),
         'a refusal is of the step behind it': replaced(r'^(refused )(\d+)', one_more),
@@ -200,3 +202,76 @@ class Lenient(Turned):
 
 
 PLANTS['input: a faulty input is taken'] = ('input', Lenient)
+
+
+# Wrong definitions: the model with one of its functions turned is asked in the place of a program.
+
+def wrong(name: str, *kinds: str, **functions: Callable[[Any], Callable]) -> None:
+    """Each function is given the module of the definitions, and gives what stands in the place of its namesake."""
+    def engine(_: Any) -> Model:
+        package = copy_of_the_model('turned')
+        for function, make in functions.items():
+            old = getattr(package.definitions, function, None) or getattr(package.calls, function)
+            new = make(package.definitions, old)
+            for module in (package.definitions, package.calls, package.scenario, package.live):
+                if getattr(module, function, None) is old:
+                    setattr(module, function, new)
+            package.definitions.RULES = tuple(new if rule is old else rule for rule in package.definitions.RULES)
+            new.__name__ = function
+        return Model(package)
+    for kind in kinds:
+        PLANTS[f'{kind}: definition: {name}'] = (kind, engine)
+
+
+wrong('a Switch keeps its old inner', 'json', 'dump', shuts=lambda d, old: lambda h, e, n: old(h, e, n) and not isinstance(e, d.Open))
+wrong('closing a node leaves what is below', 'json', 'dump', is_open=lambda d, old: lambda h, n: d.is_standing(h, n))
+wrong('a FlatMap completes with an inner, its source open', 'json', 'dump', completed=lambda d, old: lambda h: old(h) + [
+    d.End(f, d.COMPLETED) for f in d.open_nodes(h) if d.kind_of(h, f) in ('flat', 'switch') and d.owed(h, f) == 0
+    and any(d.COMPLETED in d.ends_of(h, c) for c in d.inners(h, f)) and not any(d.is_open(h, c) for c in d.inners(h, f))])
+wrong('a FlatMap completes though it owes', 'json', 'dump', completed=lambda d, old: lambda h: [
+    d.End(f, d.COMPLETED) for f in d.open_nodes(h) if d.kind_of(h, f) in ('flat', 'switch') and d.source_completed(h, f)
+    and not any(d.is_open(h, c) for c in d.children(h, f))])
+wrong('RefCount disconnects with the last but one', 'dump', left=lambda d, old: lambda h: [
+    d.Close(c) for c in d.open_nodes(h) if d.kind_of(h, c) == 'connection' and d.at(h, d.at(h, c).hub) == d.Hub('auto')
+    and len(d.open_subscribers(h, d.at(h, c).hub)) < 2 and len([n for n in d.nodes(h) if d.kind_of(h, n) == 'sub']) > 1])
+wrong('RefCount never disconnects', 'json', 'dump', left=lambda d, old: lambda h: [])
+wrong('RefCount never connects', 'json', 'dump', is_connect_due=lambda d, old: lambda h, g: False)
+wrong('an ended connection cuts off who comes later', 'json', 'dump', cuts=lambda d, old: lambda h, s: [
+    e.terminal for e in h if isinstance(e, d.End) and d.at(h, e.node) == d.Connect(d.at(h, s).hub)])
+wrong('an ended connection cuts off nobody', 'json', 'dump', cut=lambda d, old: lambda h: [])
+wrong('a TakeUntil mirrors its source alone', 'json', 'dump', mirrored=lambda d, old: lambda h: [
+    d.End(p, t) for p in d.open_nodes(h) if d.kind_of(h, p) in ('pass', 'until', 'connection')
+    for c in d.children(h, p) if d.at(h, c).place == 'source' for t in d.ends_of(h, c)])
+wrong('a TakeUntil is never fired', 'json', 'dump', fired=lambda d, old: lambda h: [])
+wrong('a FlatMap fails with its source alone', 'json', 'dump', failed=lambda d, old: lambda h: [
+    e for e in old(h) if any(d.at(h, c).place == 'source' and e.terminal in d.ends_of(h, c) for c in d.children(h, e.node))])
+wrong('subscribers are reached from the youngest on', 'json', open_subscribers=lambda d, old: lambda h, g: old(h, g)[::-1])
+wrong('a firing takes the item from later stops', 'json', stops=lambda d, old: lambda h, n: old(h, n)[:next(
+    (i + 1 for i, s in enumerate(old(h, n)) if s.what == 'firing'), None)])
+wrong('an item goes to each stop once', 'json', stops=lambda d, old: lambda h, n: list(dict.fromkeys(old(h, n))))
+wrong('a Decline leaves what is owed', 'json', 'dump', owed=lambda d, old: lambda h, f: old(h, f) + h.behind(f).count(d.Decline(f)))
+wrong('an inner leaves what is owed', 'json', 'dump', owed=lambda d, old: lambda h, f: old(h, f) + len(d.inners(h, f)))
+wrong('a lease holds nothing', 'json', 'dump', is_held=lambda d, old: lambda h, r: isinstance(d.at(h, r), d.Accept) and d.is_owned(h, r))
+wrong('one return gives all leases back', 'json', 'dump', leases_of=lambda d, old: lambda h, r: (
+    [] if any(isinstance(e, d.Return) and d.at(h, e.lease) == d.Lease(r) for e in h) else old(h, r)))
+wrong('a removal is forgotten', 'json', 'dump', is_owned=lambda d, old: lambda h, r: (
+    isinstance(d.at(h, r), d.Accept) and d.is_open(h, d.at(h, r).node)))
+wrong('what was taken waits again', 'dump', is_taken=lambda d, old: lambda h, r: False)
+wrong('a source may be opened again', 'json', 'dump', was_opened=lambda d, old: lambda h, p, place: any(
+    d.at(h, c).place == place and d.is_open(h, c) for c in d.children(h, p)))
+wrong('a subscriber may stand in a connection of its own hub', 'json', 'dump', not_hubbed=lambda d, old: lambda h, e: (
+    None if e.of is not None and e.kind == 'sub' and any(d.at(h, a) == d.Connect(e.hub) for a in d.ancestors(h, e.of)) else old(h, e)))
+wrong('Using is no exception', 'dump', accepts_for_using=lambda d, old: lambda h, e: False)
+wrong('any Accept may come before what is forced', 'dump', accepts_for_using=lambda d, old: lambda h, e: isinstance(e, d.Accept))
+wrong('callers go on before what is forced', 'dump', is_settled=lambda d, old: lambda h: h.length % 2 == 0 or old(h))
+wrong('a connection by RefCount may be closed by hand', 'dump', not_allowed=lambda d, old: lambda h, e: (
+    d.no_open_node(h, e.node, 'connection') if isinstance(e, d.Close) and d.kind_of(h, e.node) == 'connection' else old(h, e)))
+wrong('a node with an open child may be ended', 'dump', not_allowed=lambda d, old: lambda h, e: (
+    d.no_open_node(h, e.node, 'pass', 'until', 'connection') if isinstance(e, d.End) and d.kind_of(h, e.node) in (
+        'pass', 'until', 'connection') and e.terminal != d.COMPLETED else old(h, e)))
+wrong('an owned resource needs one event', 'json', debt=lambda d, old: lambda h: old(h) - sum(d.is_owned(h, r) for r in d.resources(h)))
+wrong('a lease needs no event', 'json', debt=lambda d, old: lambda h: old(h) - sum(d.is_out(h, l) for l in range(len(h))))
+wrong('what is owed needs no event', 'json', debt=lambda d, old: lambda h: old(h) - sum(d.owed(h, f) for f in d.open_nodes(h)))
+wrong('Full one event too early', 'json', adds=lambda d, old: lambda h, call: old(h, call) + (old(h, call) > 0))
+wrong('Full one event too late', 'json', adds=lambda d, old: lambda h, call: old(h, call) - (old(h, call) > 1))
+wrong('an inner reserves its room anew', 'json', adds=lambda d, old: lambda h, call: old(h, call) + (call.place == 'inner'))
