@@ -17,6 +17,13 @@ from .texts import dump_of, form_of
 KINDS = ('leaf', 'pass', 'flat', 'switch', 'until', 'sub')
 
 
+def kind_for(rng: random.Random, place: str, has_hubs: bool) -> str:
+    """What may be worth opening at such a place: below an operator mostly a subscriber, so that ways meet, or a leaf."""
+    if has_hubs and rng.random() < (0.25 if place == 'root' else 0.45):
+        return 'sub'
+    return rng.choice(KINDS[1:-1] if place == 'root' or rng.random() < 0.35 else KINDS[:1])
+
+
 class Commands:
     """Commands by names. They are carried out on the model as they are made, so that most of them find what they name and
     are accepted; in a scenario with times they come in another order, and find less."""
@@ -52,7 +59,10 @@ class Commands:
         h, rng = self.book.h, self.rng
         names = [(name, n) for name, n in self.book.names['node'].items() if is_open(h, n)]
         bare = [(name, place) for name, n in names for place in PLACES[kind_of(h, n)] if place != 'inner' and not was_opened(h, n, place)]
-        owing = [name for name, n in names if owed(h, n) > 0]
+        owing, operators = [[name for name, n in names if fits(n)] for fits in (
+            lambda n: owed(h, n) > 0, lambda n: kind_of(h, n) in ('flat', 'switch', 'until'))]
+        if operators and rng.random() < 0.05:
+            return {'place': 'source', 'of': rng.choice(operators)}
         if owing and rng.random() < 0.5:
             return {'place': 'inner', 'of': rng.choice(owing)}
         if bare and rng.random() < 0.8:
@@ -62,10 +72,12 @@ class Commands:
             return {'place': rng.choice(('source', 'inner', 'notifier')), 'of': self.node()}
         return {'place': 'root'}
 
+    def kind(self, place: str) -> str:
+        return kind_for(self.rng, place, bool(self.book.names['hub']))
+
     def open(self) -> dict[str, Any]:
         name, where = self.new('node'), self.place()
-        shared = self.book.names['hub'] and self.rng.random() < 0.35
-        kind = 'sub' if shared else self.rng.choice(KINDS[1:-1] if where['place'] == 'root' or self.rng.random() < 0.4 else KINDS[:1])
+        kind = self.kind(where['place'])
         step = {'do': 'open', 'name': name, **where, 'kind': kind}
         if kind == 'sub':
             step['hub'] = self.hub()
@@ -82,8 +94,8 @@ class Commands:
         do = rng.choices(
             ('open', 'using', 'next', 'end', 'hub', 'connect', 'disconnect', 'hold', 'apply', 'remove', 'lease', 'return', 'abort',
              'fail', 'decline', 'dispose', 'drain', 'checkpoint', 'cancel'),
-            (34, 7, some(leaves, 26), some(leaves, 6), 3 + 3 * (len(hubs(h)) < 2), some(by_hand, 5), some(by_hand, 2), some(h, 4),
-             some(held, 3), some(held, 1.5), some(held, 4), some(held, 2.5), some(h, 1.5), some(owing, 2), some(owing, 3), some(h, 3), 2,
+            (34, 7, some(leaves, 24), some(leaves, 9), 3 + 3 * (len(hubs(h)) < 2), some(by_hand, 5), some(by_hand, 2), some(h, 4),
+             some(held, 3), some(held, 1.5), some(held, 4), some(held, 2.5), some(h, 1.5), some(owing, 2), some(owing, 6), some(h, 3), 2,
              self.checkpoints, 3 * bool(self.labels)))[0]
         step: dict[str, Any] = {'do': do}
         match do:
@@ -191,15 +203,16 @@ def candidate(rng: random.Random, h: History) -> Event:
     resource = lambda fits: some([r for r in made if fits(h, r)], made)
     owing = [f for f in opened if owed(h, f) > 0]
     what = rng.choices(('open', 'item', 'end', 'close', 'hub', 'connect', 'accept', 'use', 'remove', 'take', 'lease', 'return',
-                        'decline', 'fail'), (32, 20, 6, 3, 3 + 3 * (len(hubs(h)) < 2), 3, 6, 2, 2, 5, 4, 4, 2, 3))[0]
+                        'decline', 'fail'), (32, 19, 9, 3, 3 + 3 * (len(hubs(h)) < 2), 3, 6, 2, 2, 5, 4, 4, 4, 3))[0]
     match what:
         case 'open':
             bare = [(n, place) for n in opened for place in PLACES[kind_of(h, n)] if place != 'inner' and not was_opened(h, n, place)]
             chance = rng.random()
-            of, place = (rng.choice(owing), 'inner') if owing and chance < 0.4 else rng.choice(bare[-4:]) if bare and chance < 0.8 else (
+            again = [n for n in opened if kind_of(h, n) in ('flat', 'switch', 'until')]
+            of, place = (rng.choice(again), 'source') if again and chance < 0.04 else (
+                rng.choice(owing), 'inner') if owing and chance < 0.4 else rng.choice(bare[-4:]) if bare and chance < 0.8 else (
                 (node(), rng.choice(('source', 'inner', 'notifier'))) if chance < 0.84 else (None, 'root'))
-            kind = 'sub' if hubs(h) and rng.random() < 0.35 else rng.choice(
-                KINDS[1:-1] if place == 'root' or rng.random() < 0.4 else KINDS[:1])
+            kind = kind_for(rng, place, hubs(h) != [])
             return Open(place, of, kind, some(hubs(h), hubs(h)) if kind == 'sub' else None)
         case 'item': return Item(node('leaf'), rng.choice((0, 1, -5, 2**63 - 1)))
         case 'end': return End(node('leaf'), rng.choice((COMPLETED, COMPLETED, 0, 3)))

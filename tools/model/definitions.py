@@ -256,24 +256,27 @@ def onward(h: History, n: int) -> Stop | list[int]:
     return [] if above is None else [above]
 
 @once
-def climb(h: History, n: int) -> tuple[list[Stop], int]:
-    """All stops from n, the climb of the first subscriber finished before the second begins, and how many nodes are
-    visited, each as often as it is reached. It ends after one visit more than an item may have."""
-    reached, visited, todo = [], 0, [n]
-    while todo and visited <= MOST_VISITS:
-        visited += 1
-        goes = onward(h, todo.pop())
+def climb(h: History, n: int) -> tuple[list[Stop], list[int]]:
+    """All stops from n, the climb of the first subscriber finished before the second begins, and the nodes visited, each
+    as often as it is reached. It ends after one visit more than an item may have."""
+    reached, seen, todo = [], [], [n]
+    while todo and len(seen) <= MOST_VISITS:
+        seen.append(todo.pop())
+        goes = onward(h, seen[-1])
         if isinstance(goes, Stop):
             reached.append(goes)
         else:
             todo += reversed(goes)
-    return reached, visited
+    return reached, seen
 
 def stops(h: History, n: int) -> list[Stop]:
     return climb(h, n)[0]
 
-def visits(h: History, n: int) -> int:
+def visited(h: History, n: int) -> list[int]:
     return climb(h, n)[1]
+
+def visits(h: History, n: int) -> int:
+    return len(visited(h, n))
 
 # 7. What each event did when it came (Rx: FlatMap, Switch, TakeUntil; that a projection is owed is own)
 
