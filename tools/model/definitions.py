@@ -7,102 +7,14 @@ what `once` remembers of it. It was written from that page and not from the prov
 """
 from __future__ import annotations
 
-import functools
-from collections.abc import Callable, Iterator
-from dataclasses import dataclass, field
-from typing import Any, NamedTuple
+from typing import NamedTuple
+
+from .events import (COMPLETED, Accept, Close, Connect, Decline, End, Event, History, Hub, Item, Kept, KeptNode, KeptResource, Lease,
+                     Open, Remove, Return, Take, Terminal, Use, history, once)
 
 MOST_NODES = 1_048_576   # open at a time
 MOST_HUBS = 1_024
 MOST_VISITS = 1_048_576  # of one item
-
-COMPLETED = 'completed'  # how an observable ends: so, or with the code of an error
-Terminal = str | int
-
-# The events. A node, a hub, a resource and a lease go by the place of the event that made them.
-
-event = dataclass(frozen=True, slots=True)
-
-@event
-class Open:  # a node is opened, at a root or at a place of the node `of`
-    place: str  # root, source, inner, notifier
-    of: int | None
-    kind: str  # leaf, pass (a mirroring node), flat (FlatMap), switch, until (TakeUntil), sub (a subscriber of the hub)
-    hub: int | None = None
-
-@event
-class Hub: mode: str  # an observable is published: auto is RefCount, manual is Connect by hand
-@event
-class Connect: hub: int  # a hub is connected; the connection is a node
-@event
-class Accept: node: int; tag: int  # a node accepts a resource
-@event
-class Use: resource: int
-@event
-class Remove: resource: int  # it is taken off its node
-@event
-class Take: resource: int  # it is handed out for its release
-@event
-class Lease: resource: int
-@event
-class Return: lease: int
-@event
-class Item: node: int; value: int  # a leaf emits
-@event
-class Decline: node: int  # a projection that is owed an inner gets none
-@event
-class End: node: int; terminal: Terminal
-@event
-class Close: node: int
-
-Event = Open | Hub | Connect | Accept | Use | Remove | Take | Lease | Return | Item | Decline | End | Close
-
-class History:
-    """A list of events, oldest first; it may begin with a base (section 20). `h.then(e)` is h followed by e."""
-
-    def __init__(self, kept: Kept | None = None):
-        self.kept = kept or NOTHING_KEPT
-        self._events: list[Event] = shown(self.kept)          # shared with the histories that this one goes on to
-        self._before: list[History | None] = [None] * len(self._events)
-        self.length = len(self._events)
-        self.memo: dict[Any, Any] = {}
-
-    def then(self, e: Event) -> History:
-        k = History.__new__(History)
-        k.kept, k.length, k.memo = self.kept, self.length + 1, {}
-        shares = len(self._events) == self.length
-        k._events = self._events if shares else self._events[:self.length]
-        k._before = self._before if shares else self._before[:self.length]
-        k._events.append(e)
-        k._before.append(self)
-        return k
-
-    def __len__(self) -> int:
-        return self.length
-
-    def __iter__(self) -> Iterator[Event]:
-        return iter(self._events[:self.length])
-
-    def behind(self, n: int) -> list[Event]:
-        """The events after place n."""
-        return self._events[n + 1:self.length]
-
-    def before(self, n: int) -> History | None:
-        """The history in which the event at place n came."""
-        return self._before[n]
-
-def history(events: list[Event]) -> History:
-    return functools.reduce(History.then, events, History())
-
-def once(define: Callable[..., Any]) -> Callable[..., Any]:
-    """A definition is asked once for each history and its words. Without this line it says the same, more slowly."""
-    @functools.wraps(define)
-    def known(h: History, *words: Any) -> Any:
-        key = (define, *words)
-        if key not in h.memo:
-            h.memo[key] = define(h, *words)
-        return h.memo[key]
-    return known
 
 # 1. Places and numbers
 
@@ -228,13 +140,10 @@ def open_subscribers(h: History, g: int) -> list[int]:
     """The open nodes of kind `sub` g, by rising number."""
     return [n for n in open_nodes(h) if kind_of(h, n) == 'sub' and at(h, n).hub == g]
 
-def connections(h: History, g: int) -> list[int]:
-    """The nodes that a Connect of g made, open or not."""
-    return [n for n in nodes(h) if at(h, n) == Connect(g)]
-
 @once
 def open_connections(h: History, g: int) -> list[int]:
-    return [n for n in connections(h, g) if is_open(h, n)]
+    """The open nodes that a Connect of g made."""
+    return [n for n in nodes(h) if at(h, n) == Connect(g) and is_open(h, n)]
 
 # 6. The climb of an item (Rx: Observable Contract, FlatMap, Switch, TakeUntil, Publish)
 
@@ -559,25 +468,6 @@ def debt(h: History) -> int:
             + sum(is_out(h, l) for l in range(len(h)))
             + sum(owed(h, f) for f in open_nodes(h) if kind_of(h, f) in ('flat', 'switch')))
 
-# 17. The report of a course
-
-def report(refused: list[tuple[int, str]], names: list[tuple[str, int]], stock: list[tuple[str, int]], h: History,
-           faults: int) -> str:
-    """The text that a course determines: its refusals, the nodes and resources with their names, and its history."""
-    lines = [f'refused {k} {name}' for k, name in refused]
-    for name, n in names:
-        if at(h, n).place == 'root' or kind_of(h, n) in ('flat', 'switch'):
-            told = [note.what if note.value is None else f'{note.what}={note.value}' for note in notes_to(h, n)]
-            lines.append(' '.join([f'node {name} {"open" if is_open(h, n) else "closed"}:', *told]))
-    for name, r in stock:
-        state = 'held' if is_held(h, r) else 'waiting' if is_waiting(h, r) else 'taken'
-        out = f' leases={len(leases_of(h, r))}' if is_leased(h, r) else ''
-        lines.append(f'res {name} tag={at(h, r).tag} uses={uses(h, r)} {state}{out}')
-    held, waiting = held_count(h), waiting_count(h)
-    lines.append(f'totals nodes={len(nodes(h))} open={len(open_nodes(h))} accepted={accepted_count(h)} held={held} '
-                 f'waiting={waiting} taken={taken_count(h)}')
-    return '\n'.join([*lines, f'closed {held + waiting} faults {faults}', ''])
-
 # 18. The verdict on a list of events
 
 def verdict(events: list[Event]) -> str:
@@ -600,34 +490,6 @@ def standing(h: History) -> str:
 
 # 20. A base and the events since
 
-@dataclass(frozen=True)
-class KeptNode:
-    made: Event
-    opened: tuple[str, ...]      # whether a source and a notifier were ever opened below it
-    source_completed: bool
-    owed: int
-
-@dataclass(frozen=True)
-class KeptResource:
-    node: int | None             # the node that owns it: None where leases alone hold it, or it waits
-    tag: int
-    uses: int
-
-@dataclass(frozen=True)
-class Kept:
-    """What a settled history leaves, in place of its events: hubs, open nodes, resources that were not taken, leases that
-    are out (each with its resource), and three totals."""
-    at: int = 0                  # how many events it stands for
-    items: int = 0
-    accepted: int = 0
-    taken: int = 0
-    hubs: dict[int, str] = field(default_factory=dict)
-    nodes: dict[int, KeptNode] = field(default_factory=dict)
-    resources: dict[int, KeptResource] = field(default_factory=dict)
-    leases: dict[int, int] = field(default_factory=dict)
-
-NOTHING_KEPT = Kept()
-
 def shown(b: Kept) -> list[Event]:
     """What a history over it begins with: at each number that is kept the event that made it, elsewhere the closing of a
     node that is not there. A resource that no node owns reads as accepted at itself, which is no node."""
@@ -642,8 +504,12 @@ def shown(b: Kept) -> list[Event]:
         events[l] = Lease(r)
     return events
 
+def over(b: Kept) -> History:
+    """The history that begins with the base, and goes on as those of which it is the base."""
+    return history(shown(b), b)
+
 def base_of(h: History) -> Kept:
-    """What h leaves. A history over it goes on as h does."""
+    """What h leaves."""
     return Kept(len(h), item_count(h), accepted_count(h), taken_count(h), {g: at(h, g).mode for g in hubs(h)},
                 {n: KeptNode(at(h, n), tuple(p for p in ('source', 'notifier') if was_opened(h, n, p)),
                              source_completed(h, n), owed(h, n)) for n in open_nodes(h)},

@@ -112,7 +112,7 @@ def copy_of_the_model(name: str) -> ModuleType:
     package = importlib.util.module_from_spec(spec)
     sys.modules[name] = package
     spec.loader.exec_module(package)
-    for module in ('definitions', 'texts', 'calls', 'scenario', 'live'):
+    for module in ('events', 'definitions', 'texts', 'calls', 'scenario', 'live'):
         importlib.import_module(f'{name}.{module}')
     return package
 

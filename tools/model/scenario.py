@@ -10,10 +10,9 @@ import heapq
 from collections import deque
 from typing import Any
 
-from .calls import Call, causes, first_cause, outside_of
-from .definitions import (COMPLETED, Accept, Connect, Event, History, Take, at, base_of, forced, is_held, is_open, is_out, is_waiting,
-                          kind_of, leases_of, notes, open_connections, open_nodes, open_subscribers, is_owned, report, resources,
-                          uses)
+from .calls import Call, first_cause, outside_of
+from .definitions import (COMPLETED, Connect, Event, History, Take, accepted_count, at, forced, held_count, is_held, is_leased, is_open,
+                          is_waiting, kind_of, leases_of, nodes, notes_to, open_nodes, resources, taken_count, uses, waiting_count)
 from .texts import MOST_UNTIL
 
 STOCK = 256
@@ -157,6 +156,24 @@ class Book:
         self.names[space][name] = place
         if space == 'res':
             self.tags += 1
+
+
+def report(refused: list[tuple[int, str]], names: list[tuple[str, int]], stock: list[tuple[str, int]], h: History,
+           faults: int) -> str:
+    """The text that a course determines: its refusals, the nodes and resources with their names, and its history."""
+    lines = [f'refused {k} {name}' for k, name in refused]
+    for name, n in names:
+        if at(h, n).place == 'root' or kind_of(h, n) in ('flat', 'switch'):
+            told = [note.what if note.value is None else f'{note.what}={note.value}' for note in notes_to(h, n)]
+            lines.append(' '.join([f'node {name} {"open" if is_open(h, n) else "closed"}:', *told]))
+    for name, r in stock:
+        state = 'held' if is_held(h, r) else 'waiting' if is_waiting(h, r) else 'taken'
+        out = f' leases={len(leases_of(h, r))}' if is_leased(h, r) else ''
+        lines.append(f'res {name} tag={at(h, r).tag} uses={uses(h, r)} {state}{out}')
+    held, waiting = held_count(h), waiting_count(h)
+    lines.append(f'totals nodes={len(nodes(h))} open={len(open_nodes(h))} accepted={accepted_count(h)} held={held} '
+                 f'waiting={waiting} taken={taken_count(h)}')
+    return '\n'.join([*lines, f'closed {held + waiting} faults {faults}', ''])
 
 
 class Course(Book):

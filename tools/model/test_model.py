@@ -58,7 +58,7 @@ class Laws(unittest.TestCase):
 
     def test_a_history_goes_on_as_over_its_base(self):
         for rng, h in self.histories(60):
-            k = History(base_of(h))
+            k = over(base_of(h))
             self.assertTrue(agree(h, k))
             for _ in range(12):
                 e = cases.candidate(rng, h)

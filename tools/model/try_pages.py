@@ -119,7 +119,7 @@ CLAIMS = [
      lambda h, to: shown(base_of(h)) == [Open('root', None, 'flat'), Close(1), Close(2), Close(3)]),
     (20, '`["open","inner",0,"leaf"]` may come next, at place 4, and then nothing is owed; another source may not, since that '
      'place was opened.',
-     lambda h, to: (k := History(base_of(h)), e := Open('inner', 0, 'leaf')) and may_follow(k, e) and owed(k.then(e), 0) == 0
+     lambda h, to: (k := over(base_of(h)), e := Open('inner', 0, 'leaf')) and may_follow(k, e) and owed(k.then(e), 0) == 0
      and not may_follow(k, Open('source', 0, 'leaf')) and agree(h, k) and agree(h.then(e), k.then(e))),
     (22, 'The connection ends at 7, and then both subscribers are due to end.',
      lambda h, to: forced(h) == [('mirrored', End(3, COMPLETED))]
