@@ -19,13 +19,22 @@ def expect(what: str, said: Any, wanted: Any) -> None:
         raise Differs(f'{what}: {said!r}, and it is {wanted!r}')
 
 
+def compare_words(engine: Any, text: bytes, accepted: bool) -> None:
+    """Nothing is explained of what is accepted, and in one line something of everything else."""
+    said = engine.explain(text) if hasattr(engine, 'explain') else None
+    if said and (said[0] != (0 if accepted else FAULTY_INPUT) or len(said[1].splitlines()) != (not accepted)):
+        raise Differs(f'explained: {said}, and it is {"" if accepted else "not "}accepted')
+
+
 def compare_scenario(engine: Any, text: bytes) -> None:
     """Its report, its dump and the verdict on that; a faulty one is refused."""
     try:
         scenario = scenario_of(text)
     except Faulty as fault:
         expect(f'a scenario that is faulty ({fault})', engine.run(text), (FAULTY_INPUT, b''))
-        return expect('its dump', engine.dump(text), (FAULTY_INPUT, b''))
+        expect('its dump', engine.dump(text), (FAULTY_INPUT, b''))
+        return None if text.lstrip(b' \n\t\r')[:1] == b'[' else compare_words(engine, text, False)
+    compare_words(engine, text, True)
     status, told = engine.run(text)
     expect('the status of run', status, 0)
     course = Course(scenario, Canonical())
@@ -51,8 +60,13 @@ def compare_history(engine: Any, text: bytes) -> None:
     try:
         events = events_of(text)
     except Faulty as fault:
-        return expect(f'a dump that is faulty ({fault})', engine.audit(text), (FAULTY_INPUT, b''))
+        expect(f'a dump that is faulty ({fault})', engine.audit(text), (FAULTY_INPUT, b''))
+        return compare_words(engine, text, False) if text.lstrip(b' \n\t\r')[:1] == b'[' else None
     wanted = verdict(events)
+    compare_words(engine, text, wanted.startswith('lawful'))
+    picture = engine.picture(text) if hasattr(engine, 'picture') else None
+    if picture:
+        expect('the front of the picture', (picture[0], picture[1][:4]), (0, b'<svg'))
     expect('verdict', engine.audit(text), (0 if wanted.startswith('lawful') else NOT_LAWFUL, wanted.encode()))
 
 

@@ -17,8 +17,8 @@ DONE, TOO_SMALL = 0, 1
 class Programs:
     """A process for each text; its input and output are files in memory."""
 
-    def __init__(self, rxbook: str | None, rxlive: str | None):
-        self.rxbook, self.rxlive = rxbook, rxlive
+    def __init__(self, rxbook: str, rxlive: str, rxexplain: str | None = None, rxpicture: str | None = None):
+        self.rxbook, self.rxlive, self.rxexplain, self.rxpicture = rxbook, rxlive, rxexplain, rxpicture
         folder = '/dev/shm' if os.path.isdir('/dev/shm') else None
         self.files = [tempfile.TemporaryFile(dir=folder) for _ in range(2)]
         self.input, self.output = (file.fileno() for file in self.files)
@@ -43,6 +43,12 @@ class Programs:
 
     def audit(self, text: bytes) -> tuple[int, bytes]:
         return self._ask([self.rxbook, 'audit'], text)
+
+    def explain(self, text: bytes) -> tuple[int, bytes] | None:
+        return self._ask([self.rxexplain], text) if self.rxexplain else None
+
+    def picture(self, text: bytes) -> tuple[int, bytes] | None:
+        return self._ask([self.rxpicture], text) if self.rxpicture else None
 
     def live(self, lines: list[bytes], limit: int | None = None) -> list[str]:
         status, text = self._ask([self.rxlive], b''.join(line + b'\n' for line in lines))

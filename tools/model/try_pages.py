@@ -17,8 +17,9 @@ from model.definitions import *
 from model.scenario import Canonical, Course
 from model.texts import event_of, json_of
 
-top = pathlib.Path(__file__).resolve().parents[2]
-PAGE, OURS = top / 'docs/DEFINITIONS.md', top / 'docs/dev/model.md'
+docs = pathlib.Path(__file__).resolve().parents[2] / 'docs'
+PAGE = next(it for it in (docs / 'explanation/definitions.md', docs / 'DEFINITIONS.md') if it.exists())
+REFUSALS, OURS = docs / 'reference/refusals.md', docs / 'dev/model.md'
 
 
 def ends(h):
@@ -53,16 +54,16 @@ STEPS = [{'do': 'using', 'name': 'a', 'place': 'root', 'res': 'r'},
          {'do': 'open', 'name': 'b', 'place': 'source', 'of': 'a', 'kind': 'leaf'},
          {'do': 'next', 'node': 'b', 'value': 5}, {'do': 'end', 'node': 'b'}, {'do': 'next', 'node': 'b', 'value': 6}]
 
-# The section, a sentence of it, and what that says of h, the history of its example, and of `to(n)`, h up to place n.
+# The section, a sentence of it (or wordings of it, of which one stands there), and what that says of h, the history of its example, and of `to(n)`, h up to place n.
 CLAIMS = [
     (1, '`nodes` is 0 2, `resources` is 1, `hubs` is empty.', lambda h, to: (nodes(h), resources(h), hubs(h)) == ([0, 2], [1], [])),
     (2, 'The ancestors of 2 are 2, 1 and 0.', lambda h, to: ancestors(h, 2) == [2, 1, 0]),
     (2, 'Node 2 is within 0, within 1 and within 2.', lambda h, to: [n for n in range(4) if is_within(h, 2, n)] == [0, 1, 2]),
-    (3, 'Open are 0, 1 and 5', lambda h, to: open_nodes(h) == [0, 1, 5]),
+    (3, ('0, 1 and 5 are open', 'Open are 0, 1 and 5'), lambda h, to: open_nodes(h) == [0, 1, 5]),
     *((4, said, lambda h, to, n=n, said=said: said.startswith(standing_of(to(n), 1))) for n, said in {
         1: 'owned, and so held', 2: 'owned, and lease 2 is out', 3: 'held by its lease alone', 5: 'waiting, with one use',
         6: 'taken'}.items()),
-    (5, 'The open subscribers of hub 0 are 3, its open connections are 2.',
+    (5, ('Of hub 0 the open subscriber is 3, the open connection 2.', 'The open subscribers of hub 0 are 3, its open connections are 2.'),
      lambda h, to: (open_subscribers(h, 0), open_connections(h, 0)) == ([3], [2])),
     (6, 'An item of leaf 5 visits 5, 3, 2, 1 and 4.', lambda h, to: visited(h, 5) == [5, 3, 2, 1, 4]),
     (6, 'Its stops are a delivery to 1, then a firing of 1.', lambda h, to: stops(h, 5) == [('delivery', 1), ('firing', 1)]),
@@ -89,7 +90,6 @@ CLAIMS = [
     (13, 'After 2 the debt is 4.', lambda h, to: debt(to(2)) == 4),
     (13, 'After 3 it is 1: nothing is open, and resource 1 waits.',
      lambda h, to: debt(h) == 1 and open_nodes(h) == [] and is_waiting(h, 1)),
-    (14, ', '.join(calls.REFUSAL_ORDER), lambda h, to: True),
     (14, 'After 1, opening another leaf at the source of 0 is refused `PlaceTaken`; opening at the source of 1, a leaf, '
      '`WrongKind`; disposing of 1 `NotRoot`. After 2 each of these is `Gone`, since that comes first.',
      lambda h, to: [[first_cause(to(n), call) for call in (Call('open', 0, 'source', 'leaf'), Call('open', 1, 'source', 'leaf'),
@@ -121,10 +121,10 @@ CLAIMS = [
      'place was opened.',
      lambda h, to: (k := over(base_of(h)), e := Open('inner', 0, 'leaf')) and may_follow(k, e) and owed(k.then(e), 0) == 0
      and not may_follow(k, Open('source', 0, 'leaf')) and agree(h, k) and agree(h.then(e), k.then(e))),
-    (22, 'The connection ends at 7, and then both subscribers are due to end.',
+    (22, ('The connection ends at 7; then both subscribers are due to end.', 'The connection ends at 7, and then both subscribers are due to end.'),
      lambda h, to: forced(h) == [('mirrored', End(3, COMPLETED))]
      and forced(h.then(End(3, COMPLETED))) == [('cut', End(2, COMPLETED)), ('cut', End(4, COMPLETED))]),
-    (22, 'One way is an event longer than the other', lambda h, to: ends(h) == {10, 11}),
+    (22, 'One way is an event longer', lambda h, to: ends(h) == {10, 11}),
 ]
 
 
@@ -150,14 +150,19 @@ def main():
     for section, sentence, holds in CLAIMS:
         text = page.get(section, '')
         events = example(text)
-        if ' '.join(sentence.split()) not in ' '.join(text.split()):
+        wordings = sentence if isinstance(sentence, tuple) else (sentence,)
+        if not any(' '.join(it.split()) in ' '.join(text.split()) for it in wordings):
             faults.append(f'{PAGE.name}, section {section}, does not say: {sentence}')
         elif not holds(history(events), lambda n: history(events[:n + 1])):
             faults.append(f'{PAGE.name}, section {section}: it is not so: {sentence}')
+    order = re.findall(r'^\| `(\w+)` \|', REFUSALS.read_text(encoding='utf-8'), re.M)[4:] if REFUSALS.exists() else re.findall(
+        r'\w+', page[14].partition('in this order: ')[2].partition('.')[0])
+    if tuple(order) != calls.REFUSAL_ORDER:
+        faults.append(f'the order of refusals is not {", ".join(order)}')
     names = set()
     if OURS.exists():
         table = OURS.read_text(encoding='utf-8').partition('## The functions')[2].partition('\n## ')[0]
-        names = set(re.findall(r'`(\w+)`', table))
+        names = set(re.findall(r'`(\w+)`', table.partition('| Section')[2]))
         faults += [f'{OURS.name}: the model has no {name}' for name in sorted(names)
                    if not (hasattr(definitions, name) or hasattr(calls, name) or hasattr(Course, name) or name == 'Course')]
     for fault in faults:
