@@ -1,7 +1,9 @@
 """Random scenarios, sessions, histories and faulty inputs, each by a `random.Random` alone: a seed gives a case again."""
 from __future__ import annotations
 
+import functools
 import json
+import pathlib
 import random
 from collections.abc import Callable
 from typing import Any
@@ -12,9 +14,29 @@ from .definitions import (COMPLETED, PLACES, Accept, Close, Connect, Decline, En
                           was_opened)
 from .live import Live
 from .scenario import Book, Canonical
-from .texts import dump_of, form_of
+from .texts import dump_of, events_of, form_of, scenario_of
 
 KINDS = ('leaf', 'pass', 'flat', 'switch', 'until', 'sub')
+DATA = pathlib.Path(__file__).resolve().parents[2] / 'crates/rx_replay/data'
+LONG = 45  # events or steps of a stored case with which a random one may begin
+
+
+@functools.cache
+def stored(suffix: str) -> list[Any]:
+    """The stored histories, or scenarios, that are short: what somebody thought of is a good beginning."""
+    read = {'.dump': events_of, '.json': lambda text: scenario_of(text)['steps']}[suffix]
+    files = [file for folder in (DATA, DATA / 'histories', DATA / 'cases') if folder.exists() for file in sorted(folder.glob(f'*{suffix}'))]
+    return [it for file in files if file.stat().st_size < 6_000 and len(it := read(file.read_bytes())) <= LONG]
+
+
+def begun(rng: random.Random) -> History:
+    """A front of a stored history, as far as it is lawful; mostly nothing."""
+    h = History()
+    for e in rng.choice(stored('.dump') or [[]])[:rng.randrange(LONG)] if rng.random() < 0.3 else []:
+        if not may_follow(h, e):
+            break
+        h = h.then(e)
+    return h
 
 
 def kind_for(rng: random.Random, place: str, has_hubs: bool) -> str:
@@ -142,6 +164,13 @@ class Commands:
             self.book.perform(step)
         return step
 
+    def repeated(self, step: dict[str, Any]) -> None:
+        """A stored step is carried out, and what follows it."""
+        self.labels += [step['label']] if 'label' in step else []
+        if step['do'] == 'cancel' or self.book.perform(step) is None:
+            for follower in step.get('then', []):
+                self.repeated(follower)
+
     def steps(self, many: int, deep: int = 0) -> list[dict[str, Any]]:
         """Steps of a scenario, some with a time, a label and followers."""
         steps, rng = [], self.rng
@@ -168,7 +197,10 @@ def scenario(rng: random.Random) -> bytes:
     if rng.random() < 0.2:
         made['events'] = rng.randrange(1, 60)
     commands = Commands(rng, Book(Canonical(), made.get('events')), checkpoints, timed)
-    made['steps'] = commands.steps(rng.randrange(1, 12) if rng.random() < 0.3 else rng.randrange(8, 40))
+    front = rng.choice(stored('.json') or [[]])[:rng.randrange(LONG)] if rng.random() < 0.2 else []
+    for step in front:
+        commands.repeated(step)
+    made['steps'] = front + commands.steps(rng.randrange(1, 12) if rng.random() < 0.3 or len(front) > 9 else rng.randrange(8, 40))
     if timed and rng.random() < 0.3:
         made['until'] = rng.randrange(7)
     return json.dumps(made).encode()
@@ -177,6 +209,13 @@ def scenario(rng: random.Random) -> bytes:
 def session(rng: random.Random) -> list[bytes]:
     """Lines of a live book, most of them commands; its history is asked for before it is let go and at the end."""
     commands, lines = Commands(rng, Live(Canonical()), 1 if rng.random() < 0.3 else 0), []
+    front = rng.choice(stored('.json') or [[]])[:rng.randrange(LONG)] if rng.random() < 0.2 else []
+    for step in front:
+        step = {member: it for member, it in step.items() if member not in ('at', 'label', 'then')}
+        if step['do'] not in ('cancel', 'checkpoint'):
+            commands.book.perform(step)
+            commands.book.drain()
+            lines.append(json.dumps(step).encode())
     for _ in range(rng.randrange(1, 12) if rng.random() < 0.3 else rng.randrange(8, 40)):
         step = commands.next()
         commands.book.drain()
@@ -246,7 +285,8 @@ def grown(rng: random.Random, h: History, many: int) -> History:
 
 def grown_history(rng: random.Random) -> list[Event]:
     """A lawful history, or one that is turned at one event; most of these are unlawful there or behind it."""
-    h = grown(rng, History(), rng.randrange(1, 12) if rng.random() < 0.3 else rng.randrange(8, 30))
+    h = begun(rng)
+    h = grown(rng, h, rng.randrange(1, 12) if rng.random() < 0.3 or len(h) > 12 else rng.randrange(8, 30))
     events, how = list(h), rng.random()
     if how < 0.3 or not events:
         return events
