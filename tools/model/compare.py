@@ -117,6 +117,8 @@ def smaller_steps(steps: list[Any]) -> Iterator[list[Any]]:
         for member in ('at', 'after', 'label', 'then', 'connection'):
             if member in step:
                 yield [*steps[:n], {name: it for name, it in step.items() if name != member}, *steps[n + 1:]]
+        if step.get('place') not in (None, 'root') and step.get('of'):
+            yield [*steps[:n], {name: it for name, it in step.items() if name != 'of'} | {'place': 'root'}, *steps[n + 1:]]
         if step.get('then'):
             for less in smaller_steps(step['then']):
                 yield [*steps[:n], {**step, 'then': less}, *steps[n + 1:]]
