@@ -1,0 +1,464 @@
+"""A book of subscriptions in this process, by typed calls over librx.
+
+    with Book() as book:
+        root, log = book.using(ROOT, None, 7)       # 7 is a tag, which stands for a resource of the caller's
+        leaf, _ = book.open(SOURCE, root, LEAF)
+        book.next(leaf, 5)
+        print(book.mail.popleft())                  # Mail(to=0, kind=0, value=5): the root is told the item 5
+        book.dispose(root)
+        print(book.tags.popleft())                  # 7: it is to be released now, and by nobody else
+
+A resource stays with the caller, and the book holds a tag in its place. Every call adds what is to be told to `mail`, and the
+tags that are to be released to `tags`; the caller takes them from there, oldest first. A refused call raises `Refused` and
+changes nothing. Values are whole numbers from -2^63 to 2^63 - 1, errors from 0 to 2^32 - 1, tags from 0 to 2^64 - 1.
+
+One call at a time is made on a book: threads that share one hold a lock around the call and around the taking.
+"""
+from __future__ import annotations
+
+import abc
+import ctypes
+from collections import deque
+from ctypes import addressof, c_int64, c_size_t, c_uint8, c_uint32, c_uint64, c_void_p
+from typing import Any, Deque, Dict, NamedTuple, Optional, Tuple
+
+from . import _library
+
+#: Places: at no node; and below one, as its source, as an inner observable that it owes, as its notifier.
+ROOT, SOURCE, INNER, NOTIFIER = range(4)
+#: Kinds: a source; a mirroring node; FlatMap; Switch; TakeUntil; a subscriber of a hub.
+LEAF, PASS, FLAT, SWITCH, UNTIL, SUB = range(6)
+#: How a hub is connected: by its subscribers (RefCount), or by hand.
+AUTO, MANUAL = range(2)
+#: What a note says: an item for a root, an item that an operator is owed an inner observable for, and the two ends.
+NEXT, PROJECT, ON_COMPLETED, ON_ERROR = range(4)
+
+REFUSALS: Dict[int, str] = dict(enumerate(
+    "Full Gone WrongKind PlaceTaken NothingOwed NotRoot NoHub HubOrder Connected NotConnected NotFresh NotHeld HasChild TooMany "
+    "NoLease Leased MailLeft".split(), 16))
+REFUSALS[6] = "Untaken"
+
+_NO_BOOK, _NO_MEMORY = 1, 4
+
+
+class Refused(Exception):
+    """The book refuses the call; nothing has changed. `name` says why."""
+
+    def __init__(self, name: str):
+        super().__init__(name)
+        self.name = name
+
+
+class Mail(NamedTuple):
+    """A note: the number of the root, or of the operator; NEXT, PROJECT, ON_COMPLETED or ON_ERROR; the item or the error."""
+
+    to: int
+    kind: int
+    value: int
+
+
+class Counts(NamedTuple):
+    """How much there is: open nodes; resources that are held, that wait, leases that are out; how many resources were
+    accepted and taken, and how many events there are since the last checkpoint."""
+
+    nodes: int
+    held: int
+    waiting: int
+    leases: int
+    accepted: int
+    taken: int
+    events: int
+
+
+class Calls(abc.ABC):
+    """The calls of a book, on which the operators of `cellarcliff.rx` stand.
+
+    A key, of a node, a resource or a lease, has a `number`, which is never given twice. Each call may raise `Refused`, with the
+    name of the cause: `Gone` where a node is closed, `NotHeld`, `NoLease`, `TooMany`, `Full` and so on.
+    """
+
+    #: What is to be told, oldest first. The caller takes it.
+    mail: Deque[Tuple[int, int, int]]
+    #: The tags of resources that are to be released. The caller takes them, and each comes once.
+    tags: Deque[int]
+
+    @abc.abstractmethod
+    def open(self, place: int, above: Any = None, kind: int = PASS, hub: int = 0) -> Tuple[Any, Optional[Any]]:
+        """Opens a node at a place of the node `above`; a SUB subscribes to `hub`. Answers its key, and that of the connection
+        which the opening made, if it made one."""
+
+    @abc.abstractmethod
+    def using(self, place: int, above: Any, tag: int) -> Tuple[Any, Any]:
+        """Opens a mirroring node that holds the resource of this tag: the keys of both."""
+
+    @abc.abstractmethod
+    def hold(self, node: Any, tag: int) -> Any:
+        """Lets a node hold the resource of this tag: its key."""
+
+    @abc.abstractmethod
+    def next(self, leaf: Any, value: int) -> None:
+        """The leaf emits the item."""
+
+    @abc.abstractmethod
+    def end(self, leaf: Any, error: Optional[int] = None) -> None:
+        """The leaf completes, or fails with an error."""
+
+    @abc.abstractmethod
+    def abort(self, node: Any, error: int) -> None:
+        """A node that is no leaf, and has none below it, fails."""
+
+    @abc.abstractmethod
+    def fail(self, merging: Any, error: int) -> None:
+        """A FlatMap or Switch fails in the place of an inner observable that it owes."""
+
+    @abc.abstractmethod
+    def decline(self, merging: Any) -> None:
+        """A FlatMap or Switch has no inner observable for an item that it is owed one for."""
+
+    @abc.abstractmethod
+    def dispose(self, root: Any) -> None:
+        """Unsubscribes a root."""
+
+    @abc.abstractmethod
+    def hub(self, mode: int) -> int:
+        """Makes a hub, AUTO or MANUAL, and answers its number; a book has 1,024 of them at most."""
+
+    @abc.abstractmethod
+    def connect(self, hub: int) -> Any:
+        """Connects a hub of mode MANUAL: the key of the connection, at whose source its observable is opened."""
+
+    @abc.abstractmethod
+    def disconnect(self, hub: int) -> None:
+        """Closes the connection of a hub of mode MANUAL."""
+
+    @abc.abstractmethod
+    def apply(self, res: Any, word: int) -> int:
+        """Notes a use of a resource: answers the word."""
+
+    @abc.abstractmethod
+    def remove(self, res: Any) -> None:
+        """Takes a resource from its node."""
+
+    @abc.abstractmethod
+    def lease(self, res: Any) -> Any:
+        """Gives out a lease of a resource, which is not released before that comes back: its key."""
+
+    @abc.abstractmethod
+    def give_back(self, lease: Any) -> None:
+        """Takes a lease back."""
+
+    @abc.abstractmethod
+    def is_open(self, node: Any) -> bool:
+        """Whether the node is open."""
+
+    @abc.abstractmethod
+    def is_held(self, res: Any) -> bool:
+        """Whether the resource is held."""
+
+    @abc.abstractmethod
+    def owed(self, merging: Any) -> Optional[int]:
+        """How many items an open FlatMap or Switch is owed an inner observable for; None for any other node."""
+
+    @abc.abstractmethod
+    def counts(self) -> Counts:
+        """How much there is."""
+
+    @abc.abstractmethod
+    def checkpoint(self) -> int:
+        """Puts what is open in the place of the events so far, and gives their memory back."""
+
+    @abc.abstractmethod
+    def close(self) -> None:
+        """Closes all, and takes leases back. It cannot be refused; what was held comes to `tags`."""
+
+    @abc.abstractmethod
+    def finish(self) -> None:
+        """Ends the book, if each tag was taken; it may not be used afterwards. Raises Refused("Untaken") otherwise."""
+
+
+# What crosses. Addresses are handed over as numbers, for which ctypes takes a third less time than for POINTER and byref; and
+# what the library wrote is read as words, by index.
+
+class _Handle(ctypes.Structure):
+    _fields_ = [("at", c_void_p)]
+
+
+class Node(ctypes.Structure):
+    """The key of a node."""
+
+    _fields_ = [("slot", c_uint64), ("number", c_uint64)]
+
+    def __repr__(self) -> str:
+        return f"{type(self).__name__}(slot={self.slot}, number={self.number})"
+
+    def __eq__(self, other: object) -> bool:
+        return type(self) is type(other) and self.number == other.number and self.slot == other.slot  # type: ignore[attr-defined]
+
+    def __hash__(self) -> int:
+        return hash(self.number)
+
+
+class Res(ctypes.Structure):
+    """The key of a resource."""
+
+    _fields_ = [("slot", c_uint64), ("number", c_uint64)]
+    __repr__, __eq__, __hash__ = Node.__repr__, Node.__eq__, Node.__hash__
+
+
+class Lease(ctypes.Structure):
+    """The key of a lease."""
+
+    _fields_ = [("slot", c_uint64), ("number", c_uint64)]
+    __repr__, __eq__, __hash__ = Node.__repr__, Node.__eq__, Node.__hash__
+
+
+_NONE = Node(0, 0)
+_ROOM = 4  # notes, and tags, that a call tells at once
+_TOLD_WORDS = 3 + 4 * _ROOM + _ROOM
+_MOST = 64  # that a drain takes
+
+
+class _Library:
+    """The calls of librx that are made here. PyDLL keeps the interpreter's lock while a call runs, which is some 100 ns."""
+
+    _told: Optional["_Library"] = None
+
+    def __init__(self) -> None:
+        library = _library.load(ctypes.PyDLL)
+
+        def call(name: str, *words: Any) -> Any:
+            function = getattr(library, "rx_book_" + name)
+            function.restype = c_uint8
+            function.argtypes = [c_void_p, *words]
+            return function
+
+        self.new = call("new", c_uint32)
+        self.open = call("open", c_uint8, Node, c_uint8, c_uint64, c_void_p)
+        self.using = call("using", c_uint8, Node, c_uint64, c_void_p)
+        self.hold = call("hold", Node, c_uint64, c_void_p)
+        self.next = call("next_told", Node, c_int64, c_void_p)
+        self.end = call("end_told", Node, c_uint8, c_uint32, c_void_p)
+        self.abort = call("abort_told", Node, c_uint32, c_void_p)
+        self.fail = call("fail_told", Node, c_uint32, c_void_p)
+        self.decline = call("decline_told", Node, c_void_p)
+        self.dispose = call("dispose_told", Node, c_void_p)
+        self.hub = call("hub", c_uint8, c_void_p)
+        self.connect = call("connect", c_uint64, c_void_p)
+        self.disconnect = call("disconnect_told", c_uint64, c_void_p)
+        self.apply = call("apply", Res, c_uint64, c_void_p)
+        self.remove = call("remove_told", Res, c_void_p)
+        self.lease = call("lease", Res, c_void_p)
+        self.give_back = call("give_back_told", Lease, c_void_p)
+        self.is_open = call("is_open", Node, c_void_p)
+        self.is_held = call("is_held", Res, c_void_p)
+        self.owed = call("owed", Node, c_void_p)
+        self.counts = call("counts", c_void_p)
+        self.drain = call("drain", c_void_p, c_size_t, c_void_p, c_size_t, c_void_p)
+        self.checkpoint = call("checkpoint", c_void_p)
+        self.close = call("close")
+        self.finish = call("finish")
+        self.drop = library.rx_book_drop
+        self.drop.restype, self.drop.argtypes = None, [c_void_p]
+
+    @classmethod
+    def get(cls) -> "_Library":
+        if cls._told is None:
+            cls._told = cls()
+        return cls._told
+
+
+class Book(Calls):
+    """A book over librx. Leaving `with` closes it; the tags that are left are in `tags`.
+
+    `max_events` bounds the history since the last checkpoint; a call that finds it full by its age makes a checkpoint and is
+    made again. Raises OSError without the library, MemoryError where memory was refused.
+    """
+
+    def __init__(self, max_events: int = 2**32 - 1):
+        self._library = _Library.get()
+        self.mail: Deque[Tuple[int, int, int]] = deque()
+        self.tags: Deque[int] = deque()
+        self._handle = _Handle()
+        self._at = addressof(self._handle)
+        self._words = (c_uint64 * _TOLD_WORDS)()  # what a call wrote: as unsigned words, and the same as signed ones
+        self._told = addressof(self._words)
+        self._unsigned = memoryview(self._words).cast("B").cast("Q")
+        self._signed = memoryview(self._words).cast("B").cast("q")
+        self._mails, self._tags, self._drained = (c_int64 * (4 * _MOST))(), (c_uint64 * _MOST)(), (c_uint64 * 2)()
+        self._next, self._end, self._dispose = self._library.next, self._library.end, self._library.dispose
+        status = self._library.new(self._at, max_events)
+        if status:
+            raise MemoryError
+
+    def __enter__(self) -> "Book":
+        return self
+
+    def __exit__(self, *_: Any) -> None:
+        if self._at:
+            self.close()
+            self._drop()
+
+    def __del__(self) -> None:
+        self._drop()
+
+    def _drop(self) -> None:
+        at, self._at = getattr(self, "_at", 0), 0
+        if at:
+            self._library.drop(at)
+
+    # what every call ends with
+
+    def _refuse(self, status: int) -> None:
+        if status == _NO_MEMORY:
+            raise MemoryError
+        if status == _NO_BOOK:
+            raise ValueError("the book is ended")
+        raise Refused(REFUSALS.get(status, f"status {status}"))
+
+    def _hear(self, status: int) -> None:
+        """Takes what the call told, whatever its status is."""
+        told = self._unsigned
+        mails, tags = told[1], told[2]
+        if mails:
+            signed = self._signed
+            for i in range(3, 3 + 4 * mails, 4):
+                self.mail.append((told[i + 1], signed[i + 3] & 255, signed[i + 2]))
+        if tags:
+            self.tags.extend(told[3 + 4 * _ROOM:3 + 4 * _ROOM + tags].tolist())
+        if mails == _ROOM or tags == _ROOM:
+            self._drain()
+        if status:
+            self._refuse(status)
+
+    def _drain(self) -> None:
+        """Takes what else waits."""
+        mails, tags, counts = self._mails, self._tags, self._drained
+        while True:
+            self._library.drain(self._at, addressof(mails), _MOST, addressof(tags), _MOST, addressof(counts))
+            many, others = counts
+            words = mails[:4 * many]
+            for i in range(0, 4 * many, 4):
+                self.mail.append((words[i + 1], words[i + 3] & 255, words[i + 2]))
+            self.tags.extend(tags[:others])
+            if many < _MOST and others < _MOST:
+                return
+
+    def _full(self, status: int) -> bool:
+        """Whether the call was refused as full, and may be made again behind a checkpoint."""
+        return status == 16 and self._library.checkpoint(self._at, self._told) == 0
+
+    # opening
+
+    def open(self, place: int, above: Any = None, kind: int = PASS, hub: int = 0) -> Tuple[Any, Optional[Any]]:
+        told = self._unsigned
+        status = self._library.open(self._at, place, above or _NONE, kind, hub, self._told)
+        if status:
+            if not self._full(status) or self._library.open(self._at, place, above or _NONE, kind, hub, self._told):
+                self._refuse(status)
+        node = Node(told[0], told[1])
+        connection = Node(told[2], told[3]) if kind == SUB and told[4] & 255 else None
+        if place == INNER:  # of a Switch: what the inner before it held may be to be released
+            self._drain()
+        return node, connection
+
+    def using(self, place: int, above: Any, tag: int) -> Tuple[Any, Any]:
+        told = self._unsigned
+        status = self._library.using(self._at, place, above or _NONE, tag, self._told)
+        if status:
+            if not self._full(status) or self._library.using(self._at, place, above or _NONE, tag, self._told):
+                self._refuse(status)
+        keys = Node(told[0], told[1]), Res(told[2], told[3])
+        if place == INNER:
+            self._drain()
+        return keys
+
+    def hold(self, node: Any, tag: int) -> Any:
+        status = self._library.hold(self._at, node, tag, self._told)
+        if status:
+            if not self._full(status) or self._library.hold(self._at, node, tag, self._told):
+                self._refuse(status)
+        told = self._unsigned
+        return Res(told[0], told[1])
+
+    # events
+
+    def next(self, leaf: Any, value: int) -> None:
+        status = self._next(self._at, leaf, value, self._told)
+        if self._unsigned[1] or self._unsigned[2] or status:
+            if status == 16 and self._full(status):
+                status = self._next(self._at, leaf, value, self._told)
+            self._hear(status)
+
+    def end(self, leaf: Any, error: Optional[int] = None) -> None:
+        self._hear(self._end(self._at, leaf, error is not None, error or 0, self._told))
+
+    def abort(self, node: Any, error: int) -> None:
+        self._hear(self._library.abort(self._at, node, error, self._told))
+
+    def fail(self, merging: Any, error: int) -> None:
+        self._hear(self._library.fail(self._at, merging, error, self._told))
+
+    def decline(self, merging: Any) -> None:
+        self._hear(self._library.decline(self._at, merging, self._told))
+
+    def dispose(self, root: Any) -> None:
+        self._hear(self._dispose(self._at, root, self._told))
+
+    # hubs and resources
+
+    def _word(self, status: int) -> int:
+        if status:
+            self._refuse(status)
+        return self._unsigned[0]
+
+    def hub(self, mode: int) -> int:
+        return self._word(self._library.hub(self._at, mode, self._told))
+
+    def connect(self, hub: int) -> Any:
+        slot = self._word(self._library.connect(self._at, hub, self._told))
+        return Node(slot, self._unsigned[1])
+
+    def disconnect(self, hub: int) -> None:
+        self._hear(self._library.disconnect(self._at, hub, self._told))
+
+    def apply(self, res: Any, word: int) -> int:
+        return self._word(self._library.apply(self._at, res, word, self._told))
+
+    def remove(self, res: Any) -> None:
+        self._hear(self._library.remove(self._at, res, self._told))
+
+    def lease(self, res: Any) -> Any:
+        slot = self._word(self._library.lease(self._at, res, self._told))
+        return Lease(slot, self._unsigned[1])
+
+    def give_back(self, lease: Any) -> None:
+        self._hear(self._library.give_back(self._at, lease, self._told))
+
+    # questions and upkeep
+
+    def is_open(self, node: Any) -> bool:
+        return bool(self._word(self._library.is_open(self._at, node, self._told)) & 255)
+
+    def is_held(self, res: Any) -> bool:
+        return bool(self._word(self._library.is_held(self._at, res, self._told)) & 255)
+
+    def owed(self, merging: Any) -> Optional[int]:
+        status = self._library.owed(self._at, merging, self._told)
+        return None if status == 2 else self._word(status)
+
+    def counts(self) -> Counts:
+        self._word(self._library.counts(self._at, self._told))
+        return Counts(*self._unsigned[:7].tolist())
+
+    def checkpoint(self) -> int:
+        return self._word(self._library.checkpoint(self._at, self._told))
+
+    def close(self) -> None:
+        self._library.close(self._at)
+        self._drain()
+
+    def finish(self) -> None:
+        status = self._library.finish(self._at)
+        if status:
+            self._refuse(status)
+        self._at = 0
