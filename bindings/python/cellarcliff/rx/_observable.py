@@ -1,0 +1,816 @@
+"""Observables: each opens something at a place of a book.
+
+`_open` opens a node at the place and then what it subscribes to below that, the observer first. A function on items is no node: a
+chain of them stands at a source, where items go through it on their way into the book; or at a root, where they go through
+it on their way to the observer; or, in the midst of a tree, at a source that a subscription of its own feeds.
+"""
+from __future__ import annotations
+
+import threading
+from collections import deque
+from collections.abc import Iterable
+from typing import Any, Callable, Deque, List, Optional, Tuple
+
+from ..book import AUTO, FLAT, INNER, LEAF, MANUAL, NOTIFIER, PASS, ROOT, SOURCE, SUB, SWITCH, UNTIL, Refused
+from ._engine import At, Engine, Leaf, Root, current, here
+from .disposable import CompositeDisposable, Disposable, SingleAssignmentDisposable
+
+
+def noop(*_: Any) -> None:
+    pass
+
+
+def default_error(error: Any) -> None:
+    raise error if isinstance(error, BaseException) else Exception(error)
+
+
+class Observer:
+    """An observer, of callbacks; on_error without one raises the error."""
+
+    def __init__(self, on_next: Optional[Callable[[Any], Any]] = None, on_error: Optional[Callable[[Exception], Any]] = None,
+                 on_completed: Optional[Callable[[], Any]] = None):
+        self.is_stopped = False
+        self._handler_on_next = on_next or noop
+        self._handler_on_error = on_error or default_error
+        self._handler_on_completed = on_completed or noop
+
+    def on_next(self, value: Any) -> None:
+        if not self.is_stopped:
+            self._on_next_core(value)
+
+    def _on_next_core(self, value: Any) -> None:
+        self._handler_on_next(value)
+
+    def on_error(self, error: Exception) -> None:
+        if not self.is_stopped:
+            self.is_stopped = True
+            self._on_error_core(error)
+
+    def _on_error_core(self, error: Exception) -> None:
+        self._handler_on_error(error)
+
+    def on_completed(self) -> None:
+        if not self.is_stopped:
+            self.is_stopped = True
+            self._on_completed_core()
+
+    def _on_completed_core(self) -> None:
+        self._handler_on_completed()
+
+    def dispose(self) -> None:
+        self.is_stopped = True
+
+
+class _Subscription(Disposable):
+    """What a subscription is disposed of by."""
+
+    __slots__ = ("_root",)
+
+    def __init__(self, root: Root):
+        self._root = root
+
+    @property
+    def is_disposed(self) -> bool:  # type: ignore[override]
+        return self._root.is_stopped
+
+    def dispose(self) -> None:
+        root = self._root
+        if root.is_over:
+            root.is_stopped = True
+            return
+        here.depth += 1
+        try:
+            root.dispose()
+            root.engine.serve()
+        finally:
+            here.leave()
+
+
+class Observable:
+    """A push-style collection: it can be subscribed to, and piped into operators."""
+
+    def __init__(self, subscribe: Optional[Callable[[Any, Any], Any]] = None):
+        self._subscribe = subscribe
+
+    @property
+    def lock(self) -> Any:
+        """A lock of the observable's own, as operators of RxPY want it."""
+        return self.__dict__.setdefault("_lock_of_its_own", threading.RLock())
+
+    def _open(self, at: At) -> None:
+        """Opens what this is at the place. Raises Refused("Gone") where that is closed."""
+        _create(self._subscribe or (lambda *_: None), at, [])
+
+    def _open_with(self, at: At, stages: List["Stage"]) -> bool:
+        """The same with functions on the items on their way into the book, the last first; only of what is a source."""
+        if type(self) is not Observable:
+            return False
+        _create(self._subscribe or (lambda *_: None), at, stages)
+        return True
+
+    def _below(self) -> Tuple[Any, ...]:
+        """The observables to which this one subscribes."""
+        return ()
+
+    def subscribe(self, observer: Any = None, on_error: Optional[Callable[[Exception], Any]] = None,
+                  on_completed: Optional[Callable[[], Any]] = None, on_next: Optional[Callable[[Any], Any]] = None, *,
+                  scheduler: Any = None) -> Disposable:
+        """Subscribes an observer, or callbacks. `observer` is an object with on_next, on_error and on_completed, or the
+        callback for items. Answers a disposable, which unsubscribes. Without `on_error` an error is raised where it was
+        emitted. What an observer raises disposes of its subscription, and is raised where it was emitted."""
+        if observer is not None:
+            if callable(getattr(observer, "on_next", None)):
+                on_next, on_error, on_completed = observer.on_next, observer.on_error, observer.on_completed
+            else:
+                on_next = observer
+        return self.subscribe_(on_next, on_error, on_completed, scheduler)
+
+    def subscribe_(self, on_next: Optional[Callable[[Any], Any]] = None, on_error: Optional[Callable[[Exception], Any]] = None,
+                   on_completed: Optional[Callable[[], Any]] = None, scheduler: Any = None) -> Disposable:
+        """Subscribes callbacks."""
+        engine = current()
+        root = Root(engine, on_next or noop, on_error or default_error, on_completed or noop)
+        here.depth += 1
+        try:
+            _subscribe(self, At(engine, ROOT, None, root, scheduler, None))
+            engine.serve()
+        finally:
+            here.leave()
+        return _Subscription(root)
+
+    def pipe(self, *operators: Callable[[Any], Any]) -> Any:
+        """The observable behind these operators, from left to right."""
+        observable = self
+        for it in operators:
+            observable = it(observable)
+        return observable
+
+    def run(self) -> Any:
+        """Subscribes, waits for the end, and answers the last item; raises the error that it ends with."""
+        ended, last = threading.Event(), []  # type: Tuple[threading.Event, List[Any]]
+        failed: List[Exception] = []
+
+        def on_error(error: Exception) -> None:
+            failed.append(error)
+            ended.set()
+        self.subscribe_(lambda value: last.__setitem__(slice(None), [value]), on_error, ended.set)
+        ended.wait()
+        if failed:
+            raise failed[0]
+        if not last:
+            raise Exception("Sequence contains no elements")
+        return last[0]
+
+
+def _subscribe(observable: Observable, at: At) -> None:
+    """Opens a root. What the observable raises meanwhile its observer is told."""
+    own = here.trampoline is None
+    if own:
+        here.trampoline = deque()
+    try:
+        try:
+            observable._open(at)
+        except Refused as why:
+            if why.name != "Gone":
+                at.engine.put(lambda error=why: at.root.on_error(error))  # type: ignore[misc,union-attr]
+        except Exception as error:
+            at.engine.put(lambda error=error: at.root.on_error(error))  # type: ignore[misc,union-attr]
+        if own:
+            here.run()
+    finally:
+        if own:
+            here.trampoline = None
+
+
+def _open_below(observable: Any, at: At) -> None:
+    """Opens below a node. What the observable raises is its error; that the node is closed is nothing."""
+    try:
+        to_observable(observable)._open(at)
+    except Refused as why:
+        if why.name != "Gone":
+            _failed(why, at)
+    except Exception as error:
+        _failed(error, at)
+
+
+def _failed(error: Exception, at: At) -> None:
+    """The place has an observable that fails at once."""
+    try:
+        leaf = at.engine.open(at, LEAF)
+    except Refused:
+        return
+    at.engine.end(leaf, error)
+
+
+def to_observable(value: Any) -> Observable:
+    """The value, if it is an observable of this package; else a wrap around any object with a `subscribe`, or an iterable."""
+    if isinstance(value, Observable):
+        return value
+    if callable(getattr(value, "subscribe", None)):
+        return Foreign(value)
+    if isinstance(value, Iterable):
+        return FromIterable(value, None)
+    raise TypeError(f"an observable is expected, an object with subscribe(), or an iterable, and not {type(value).__name__}")
+
+
+# sources
+
+class Stage:
+    """A function on items on their way: told by what is above it, it tells `down`."""
+
+    __slots__ = ("down",)
+
+    def __init__(self, down: Any):
+        self.down = down
+
+    def start(self) -> None:
+        """Before the source is subscribed to."""
+
+    def on_next(self, value: Any) -> None:
+        self.down.on_next(value)
+
+    def on_error(self, error: Exception) -> None:
+        self.down.on_error(error)
+
+    def on_completed(self) -> None:
+        self.down.on_completed()
+
+
+def _chained(makes: List[Callable[[Any], Any]], down: Any) -> Any:
+    """What the source tells, the functions being listed from the observer's side; the outermost starts first."""
+    for make in makes:
+        down = make(down)
+        down.start()
+    return down
+
+
+class _Emitter:
+    """A source's end of the book for whoever emits from anywhere: what it emits is told before the call ends."""
+
+    __slots__ = ("_up", "_leaf")
+
+    def __init__(self, up: Any, leaf: Leaf):
+        self._up, self._leaf = up, leaf
+
+    @property
+    def is_stopped(self) -> bool:
+        return self._leaf.is_stopped
+
+    def on_next(self, value: Any) -> None:
+        if not self._leaf.is_stopped:
+            here.depth += 1
+            try:
+                self._up.on_next(value)
+                self._leaf.engine.serve()
+            finally:
+                here.leave()
+
+    def on_error(self, error: Exception) -> None:
+        if not self._leaf.is_stopped:
+            here.depth += 1
+            try:
+                self._up.on_error(error)
+                self._leaf.engine.serve()
+            finally:
+                here.leave()
+
+    def on_completed(self) -> None:
+        if not self._leaf.is_stopped:
+            here.depth += 1
+            try:
+                self._up.on_completed()
+                self._leaf.engine.serve()
+            finally:
+                here.leave()
+
+    def dispose(self) -> None:
+        pass
+
+
+def _disposable(value: Any) -> Any:
+    """What a subscribe function answers: a disposable, a function, or nothing."""
+    return value if hasattr(value, "dispose") else Disposable(value)
+
+
+def _create(subscribe: Callable[[Any, Any], Any], at: At, makes: List[Any]) -> None:
+    """A source that a function of the user's subscribes to; its disposable is held by the book."""
+    leaf = Leaf(at.engine)
+    leaf.key = at.engine.open(at, LEAF, leaf.closed)
+    up = _chained(makes, leaf)
+    if leaf.is_stopped:
+        return
+    emitter = _Emitter(up, leaf)
+    try:
+        disposable = _disposable(subscribe(emitter, at.scheduler))
+    except Exception as error:
+        if leaf.is_stopped:
+            raise
+        up.on_error(error)
+    else:
+        if not (type(disposable) is Disposable and disposable.action is None):
+            at.engine.keep(leaf.key, disposable.dispose)
+
+
+class _Source(Observable):
+    """What opens a leaf, and no more."""
+
+    def _open(self, at: At) -> None:
+        self._open_with(at, [])
+
+
+class Foreign(_Source):
+    """An observable of another package: any object with a `subscribe`."""
+
+    def __init__(self, observable: Any):
+        self._observable = observable
+
+    def _open_with(self, at: At, makes: List[Any]) -> bool:
+        def subscribe(observer: Any, scheduler: Any) -> Any:
+            given = {} if scheduler is None else {"scheduler": scheduler}
+            return self._observable.subscribe(observer, **given)
+        _create(subscribe, at, makes)
+        return True
+
+
+class _Scheduled(_Source):
+    """A source that emits by a scheduler: `_emit` is given the head of its chain and its leaf."""
+
+    scheduler: Any = None
+
+    def _emit(self, up: Any, leaf: Leaf) -> None:
+        raise NotImplementedError
+
+    def _open_with(self, at: At, makes: List[Any]) -> bool:
+        engine, leaf = at.engine, Leaf(at.engine)
+        leaf.key = engine.open(at, LEAF, leaf.closed)
+        up = _chained(makes, leaf)
+        scheduler = self.scheduler or at.scheduler
+
+        def action(*_: Any) -> None:
+            if leaf.is_stopped:
+                return
+            here.depth += 1
+            try:
+                self._emit(up, leaf)
+                engine.serve()
+            finally:
+                here.leave()
+        if leaf.is_stopped:
+            pass
+        elif scheduler is not None:
+            engine.keep(leaf.key, scheduler.schedule(action).dispose)
+        elif self._is_immediate:
+            self._emit(up, leaf)
+        else:
+            here.trampoline.append(action)  # type: ignore[union-attr]
+        return True
+
+    _is_immediate = False
+
+
+class FromIterable(_Scheduled):
+    def __init__(self, iterable: Any, scheduler: Any):
+        self._iterable, self.scheduler = iterable, scheduler
+
+    def _emit(self, up: Any, leaf: Leaf) -> None:
+        serve = leaf.engine.serve
+        try:
+            items = iter(self._iterable)
+            while not leaf.is_stopped:
+                value = next(items)
+                up.on_next(value)
+                serve()
+        except StopIteration:
+            up.on_completed()
+        except Exception as error:
+            up.on_error(error)
+
+
+class Just(_Scheduled):
+    def __init__(self, value: Any, scheduler: Any):
+        self._value, self.scheduler = value, scheduler
+
+    def _emit(self, up: Any, leaf: Leaf) -> None:
+        up.on_next(self._value)
+        leaf.engine.serve()
+        up.on_completed()
+
+
+class Empty(_Scheduled):
+    _is_immediate = True
+
+    def __init__(self, scheduler: Any):
+        self.scheduler = scheduler
+
+    def _emit(self, up: Any, leaf: Leaf) -> None:
+        up.on_completed()
+
+
+class Throw(_Scheduled):
+    _is_immediate = True
+
+    def __init__(self, error: Any, scheduler: Any):
+        self._error = error if isinstance(error, Exception) else Exception(error)
+        self.scheduler = scheduler
+
+    def _emit(self, up: Any, leaf: Leaf) -> None:
+        up.on_error(self._error)
+
+
+class Never(_Source):
+    def _open_with(self, at: At, makes: List[Any]) -> bool:
+        leaf = Leaf(at.engine)
+        leaf.key = at.engine.open(at, LEAF)
+        _chained(makes, leaf)
+        return True
+
+
+class Created(_Source):
+    def __init__(self, subscribe: Callable[[Any, Any], Any]):
+        self._subscribe = subscribe
+
+    def _open_with(self, at: At, makes: List[Any]) -> bool:
+        _create(self._subscribe, at, makes)
+        return True
+
+
+# functions on items
+
+class Fn(Observable):
+    """A function on the notes of a source, of which `make` makes a Stage."""
+
+    def __init__(self, source: Any, make: Callable[[Any], Stage]):
+        self._source, self._make = to_observable(source), make
+
+    def _below(self) -> Tuple[Any, ...]:
+        return (self._source,)
+
+    def _open(self, at: At) -> None:
+        makes: List[Callable[[Any], Stage]] = []
+        core: Observable = self
+        while isinstance(core, Fn):
+            makes.append(core._make)
+            core = core._source
+        if core._open_with(at, makes):
+            return
+        if at.root is not None:
+            self._at_root(core, at, makes)
+        else:
+            _linked(core, at, makes)
+
+    @staticmethod
+    def _at_root(core: Observable, at: At, makes: List[Callable[[Any], Stage]]) -> None:
+        root = at.root
+        assert root is not None
+        down: Any = root
+        for make in makes:
+            down = make(down)
+            if type(down).start is not Stage.start:
+                at.engine.put(down.start)
+        root.head = down
+        at.engine.serve()
+        if not root.is_stopped:
+            core._open(at)
+
+
+def _linked(core: Observable, at: At, makes: List[Callable[[Any], Stage]]) -> None:
+    """A source which a subscription of its own feeds; that goes when the source does."""
+    engine, leaf = at.engine, Leaf(at.engine)
+    root = Root(engine, noop, noop, noop, is_inner=True)
+
+    def closed() -> None:
+        leaf.closed()
+        root.dispose()
+    leaf.key = engine.open(at, LEAF, soon=closed)
+    root.head = _Last(_chained(makes, leaf), root)
+    if not leaf.is_stopped:
+        _subscribe(core, At(engine, ROOT, None, root, at.scheduler, None))
+
+
+class _Last:
+    """Tells the head of a chain, and lets its root go once that has ended."""
+
+    __slots__ = ("_up", "_root")
+
+    def __init__(self, up: Any, root: Root):
+        self._up, self._root = up, root
+
+    def on_next(self, value: Any) -> None:
+        self._up.on_next(value)
+
+    def on_error(self, error: Exception) -> None:
+        self._root.is_stopped = True
+        self._up.on_error(error)
+
+    def on_completed(self) -> None:
+        self._root.is_stopped = True
+        self._up.on_completed()
+
+
+# operators that are nodes
+
+class Using(Observable):
+    def __init__(self, resource_factory: Callable[[], Any], observable_factory: Callable[[Any], Any]):
+        self._make_resource, self._make_source = resource_factory, observable_factory
+
+    def _open(self, at: At) -> None:
+        engine, node = at.engine, None
+        if at.is_exchange:  # what stands there gives way before the resource is made
+            node = engine.open(at, PASS)
+        try:
+            resource = self._make_resource()
+        except Exception as error:
+            Throw(error, None)._open(at if node is None else at.below(SOURCE, node))
+            return
+        if node is not None:
+            if resource is not None:
+                engine.keep(node, resource.dispose)
+        elif resource is None:
+            node = engine.open(at, PASS)
+        else:
+            try:
+                node = engine.using(at, resource.dispose)
+            except Refused:
+                engine.put(resource.dispose)
+                raise
+        below = at.below(SOURCE, node)
+        try:
+            source = self._make_source(resource)
+        except Exception as error:
+            source = Throw(error, None)
+        _open_below(source, below)
+
+
+class Finally(Observable):
+    def __init__(self, source: Any, action: Callable[[], Any]):
+        self._source, self._action = to_observable(source), action
+
+    def _below(self) -> Tuple[Any, ...]:
+        return (self._source,)
+
+    def _open(self, at: At) -> None:
+        node = at.engine.using(at, self._action)
+        _open_below(self._source, at.below(SOURCE, node))
+
+
+class Defer(Observable):
+    def __init__(self, factory: Callable[[Any], Any]):
+        self._factory = factory
+
+    def _open(self, at: At) -> None:
+        node = at.engine.open(at, PASS)
+        try:
+            source = self._factory(at.scheduler)
+        except Exception as error:
+            source = Throw(error, None)
+        _open_below(source, at.below(SOURCE, node))
+
+
+class Merging(Observable):
+    """FlatMap, or Switch where `is_switch`: each item of the source becomes an observable."""
+
+    def __init__(self, source: Any, mapper: Callable[[Any], Any], is_switch: bool):
+        self._source, self._mapper, self._is_switch = to_observable(source), mapper, is_switch
+
+    def _below(self) -> Tuple[Any, ...]:
+        return (self._source,)
+
+    def _open(self, at: At) -> None:
+        engine, mapper, is_switch = at.engine, self._mapper, self._is_switch
+        inner = At(engine, INNER, None, None, at.scheduler, at.hub, is_switch)
+
+        def project(value: Any) -> None:
+            try:
+                to_observable(mapper(value))._open(inner)
+            except Refused as why:
+                if why.name not in ("Gone", "NothingOwed"):
+                    engine.fail(inner.above, why)
+            except Exception as error:
+                engine.fail(inner.above, error)
+        inner.above = engine.open_merging(at, SWITCH if is_switch else FLAT, project)
+        _open_below(self._source, at.below(SOURCE, inner.above))
+
+
+class Until(Observable):
+    def __init__(self, source: Any, notifier: Any):
+        self._source, self._notifier = to_observable(source), Fn(notifier, _WithoutItsEnd)
+
+    def _below(self) -> Tuple[Any, ...]:
+        return (self._source, self._notifier)
+
+    def _open(self, at: At) -> None:
+        node = at.engine.open(at, UNTIL)
+        _open_below(self._source, at.below(SOURCE, node))
+        _open_below(self._notifier, at.below(NOTIFIER, node))
+
+
+class _WithoutItsEnd(Stage):
+    """A notifier that completes ends nothing."""
+
+    __slots__ = ()
+
+    def on_completed(self) -> None:
+        pass
+
+
+# what is shared
+
+class _Share:
+    """A source that a hub shares. It takes a hub with its first subscriber or connection, and gives it back with the last."""
+
+    def __init__(self, source: Observable, mode: int):
+        self.source, self._mode = source, mode
+        self._index: Optional[int] = None
+        self._many = 0
+        self._connection: Any = None
+
+    def _take(self, engine: Engine, limit: Optional[int]) -> int:
+        if self._index is None:
+            self._index = engine.take_hub(self._mode, _level(self.source), limit)
+        return engine.hub_number(self._index)
+
+    def _give(self, engine: Engine) -> None:
+        if not self._many and self._connection is None and self._index is not None:
+            engine.give_hub(self._index)
+            self._index = None
+
+    def open(self, at: At) -> bool:
+        """Opens a subscriber; False where the order of hubs forbids it there."""
+        engine = at.engine
+        with engine.lock:
+            if self._index is not None and at.hub is not None and self._index >= at.hub:
+                return False
+            try:
+                number = self._take(engine, at.hub)
+                node, connection = engine.book.open(at.place, at.above, SUB, number)
+            except BaseException:
+                self._give(engine)
+                raise
+            engine._bind(at, node)
+            self._many += 1
+            engine.hold(node, engine._now, lambda: self._left(engine))
+            if connection is not None:
+                self._connected(engine, connection)
+            index = self._index
+            if engine.book.mail or engine.book.tags:
+                engine._fill()
+        if engine._first or engine._projections:
+            engine._first_of_all()
+        if connection is not None:
+            _open_below(self.source, At(engine, SOURCE, connection, None, at.scheduler, index))
+        return True
+
+    def _left(self, engine: Engine) -> None:
+        self._many -= 1
+        self._give(engine)
+
+    def _connected(self, engine: Engine, connection: Any) -> None:
+        self._connection = connection
+
+        def closed() -> None:
+            if self._connection is connection:
+                self._connection = None
+                self._give(engine)
+        engine.hold(connection, engine._now, closed)
+
+    def connect(self, engine: Engine, scheduler: Any) -> Any:
+        """The connection, which is made if there is none."""
+        with engine.lock:
+            if self._connection is not None:
+                return self._connection
+            number = self._take(engine, None)
+            connection = engine.book.connect(number)
+            self._connected(engine, connection)
+            index = self._index
+        own = here.trampoline is None
+        if own:
+            here.trampoline = deque()
+        try:
+            _open_below(self.source, At(engine, SOURCE, connection, None, scheduler, index))
+            if own:
+                here.run()
+        finally:
+            if own:
+                here.trampoline = None
+        return connection
+
+    def disconnect(self, engine: Engine, connection: Any) -> None:
+        with engine.lock:
+            if self._connection is not connection or self._index is None:
+                return
+            number = engine.hub_number(self._index)
+        engine.disconnect(number)
+
+
+def _level(observable: Observable) -> int:
+    """How many shares stand one below another, as far as can be seen; a mapper may make more."""
+    if isinstance(observable, (RefCount, Published)):
+        return 1 + _level(observable._share.source)
+    least = 3 if isinstance(observable, (Merging, Using, Defer)) else 0
+    return max([least, *map(_level, observable._below())])
+
+
+class ConnectableObservable(Observable):
+    """An observable that can be connected and disconnected."""
+
+    def connect(self, scheduler: Any = None) -> Any:
+        raise NotImplementedError
+
+    def auto_connect(self, subscriber_count: int = 1) -> Observable:
+        raise NotImplementedError("auto_connect() is not here: call connect(), or use ref_count()")
+
+
+class Published(ConnectableObservable):
+    """publish(): a hub that is connected by hand."""
+
+    def __init__(self, source: Any):
+        self.source = to_observable(source)
+        self._share = _Share(self.source, MANUAL)
+        self._connection: Any = None
+        self._subscription: Any = None
+
+    def _open(self, at: At) -> None:
+        if not self._share.open(at):
+            _linked(self, at, [])
+
+    def connect(self, scheduler: Any = None) -> Any:
+        """Connects it to its source, if it is not connected. Answers the disposable that disconnects it."""
+        engine = current()
+        here.depth += 1
+        try:
+            connection = self._share.connect(engine, scheduler)
+            engine.serve()
+        finally:
+            here.leave()
+        if connection is not self._connection:
+            self._connection = connection
+            self._subscription = Disposable(lambda: _leave(self._share, engine, connection))
+        return self._subscription
+
+
+def _leave(share: _Share, engine: Engine, connection: Any) -> None:
+    here.depth += 1
+    try:
+        share.disconnect(engine, connection)
+        engine.serve()
+    finally:
+        here.leave()
+
+
+class RefCount(Observable):
+    """ref_count(): a hub that is connected while it has subscribers."""
+
+    def __init__(self, source: Any):
+        self._share = _Share(to_observable(source), AUTO)
+
+    def _open(self, at: At) -> None:
+        if not self._share.open(at):
+            _linked(self, at, [])
+
+
+class Multicast(ConnectableObservable):
+    """multicast(subject): what the source tells goes through a subject of the user's."""
+
+    def __init__(self, source: Any, subject: Any):
+        self.source, self.subject = to_observable(source), subject
+        self._subscription: Any = None
+
+    def _open(self, at: At) -> None:
+        to_observable(self.subject)._open(at)
+
+    def _open_with(self, at: At, makes: List[Any]) -> bool:
+        return to_observable(self.subject)._open_with(at, makes)
+
+    def connect(self, scheduler: Any = None) -> Any:
+        """Subscribes the subject to the source, if it is not subscribed."""
+        if self._subscription is None:
+            def forget() -> None:
+                self._subscription = None
+            whole = CompositeDisposable(Disposable(forget))
+            self._subscription = whole
+            whole.add(self.source.subscribe(self.subject, scheduler=scheduler))
+        return self._subscription
+
+
+def counted(source: Any) -> Observable:
+    """ref_count() of a connectable that is none of publish(): counted here."""
+    lock = threading.RLock()
+    state = {"many": 0, "connection": None}
+
+    def subscribe(observer: Any, scheduler: Any = None) -> Any:
+        with lock:
+            state["many"] += 1
+            is_first = state["many"] == 1
+        subscription = source.subscribe(observer, scheduler=scheduler)
+        if is_first:
+            state["connection"] = source.connect(scheduler)
+
+        def dispose() -> None:
+            subscription.dispose()
+            with lock:
+                state["many"] -= 1
+                connection = None if state["many"] else state["connection"]
+            if connection is not None:
+                connection.dispose()
+        return Disposable(dispose)
+    return Created(subscribe)

@@ -1,0 +1,134 @@
+"""Schedulers: the two that sources use where they are given none, and the immediate one.
+
+Any scheduler of RxPY may be given in their place: what is called of one is `now`, `to_seconds`, `to_timedelta`, `schedule`,
+`schedule_relative`, `schedule_absolute` and `schedule_periodic`. Times are seconds, or timedelta.
+"""
+from __future__ import annotations
+
+import threading
+from collections import deque
+from datetime import datetime, timedelta, timezone
+from typing import Any, Callable, Optional, Union
+
+from .._engine import here
+from ..disposable import Disposable, MultipleAssignmentDisposable, SerialDisposable, SingleAssignmentDisposable
+
+RelativeTime = Union[float, timedelta]
+AbsoluteTime = Union[float, datetime]
+Action = Callable[[Any, Any], Any]
+
+
+class Scheduler:
+    """The times of RxPY: `now` is a datetime in UTC, without a zone."""
+
+    @property
+    def now(self) -> datetime:
+        return datetime.now(timezone.utc).replace(tzinfo=None)
+
+    @classmethod
+    def to_seconds(cls, value: Union[AbsoluteTime, RelativeTime]) -> float:
+        if isinstance(value, datetime):
+            return (value - datetime(1970, 1, 1)).total_seconds()
+        return value.total_seconds() if isinstance(value, timedelta) else float(value)
+
+    @classmethod
+    def to_timedelta(cls, value: Union[AbsoluteTime, RelativeTime]) -> timedelta:
+        return timedelta(seconds=cls.to_seconds(value)) if not isinstance(value, timedelta) else value
+
+    @classmethod
+    def to_datetime(cls, value: Union[AbsoluteTime, RelativeTime]) -> datetime:
+        return value if isinstance(value, datetime) else datetime(1970, 1, 1) + cls.to_timedelta(value)
+
+    def schedule(self, action: Action, state: Any = None) -> Any:
+        raise NotImplementedError
+
+    def schedule_relative(self, duetime: RelativeTime, action: Action, state: Any = None) -> Any:
+        raise NotImplementedError
+
+    def schedule_absolute(self, duetime: AbsoluteTime, action: Action, state: Any = None) -> Any:
+        return self.schedule_relative((self.to_datetime(duetime) - self.now).total_seconds(), action, state)
+
+    def schedule_periodic(self, period: RelativeTime, action: Callable[[Any], Any], state: Any = None) -> Any:
+        """Calls the action each period with what it answered before; None leaves that as it was."""
+        seconds, current = max(0.0, self.to_seconds(period)), MultipleAssignmentDisposable()
+
+        def tick(_: Any, __: Any = None) -> None:
+            nonlocal state
+            if not current.is_disposed:
+                current.disposable = self.schedule_relative(seconds, tick)
+                answer = action(state)
+                state = state if answer is None else answer
+        current.disposable = self.schedule_relative(seconds, tick)
+        return current
+
+    def invoke_action(self, action: Action, state: Any = None) -> Any:
+        answer = action(self, state)
+        return answer if hasattr(answer, "dispose") else Disposable()
+
+
+class ImmediateScheduler(Scheduler):
+    """Does it at once, in this thread."""
+
+    def schedule(self, action: Action, state: Any = None) -> Any:
+        return self.invoke_action(action, state)
+
+    def schedule_relative(self, duetime: RelativeTime, action: Action, state: Any = None) -> Any:
+        if self.to_seconds(duetime) > 0:
+            raise RuntimeError("the immediate scheduler waits for nothing")
+        return self.invoke_action(action, state)
+
+
+class CurrentThreadScheduler(Scheduler):
+    """Does it in this thread, behind what is under way."""
+
+    _one: Optional["CurrentThreadScheduler"] = None
+
+    @classmethod
+    def singleton(cls) -> "CurrentThreadScheduler":
+        cls._one = cls._one or cls()
+        return cls._one
+
+    def schedule_required(self) -> bool:
+        return here.trampoline is None
+
+    def schedule(self, action: Action, state: Any = None) -> Any:
+        whole = SingleAssignmentDisposable()
+
+        def act() -> None:
+            if not whole.is_disposed:
+                whole.disposable = self.invoke_action(action, state)
+        if here.trampoline is not None:
+            here.trampoline.append(act)
+            return whole
+        here.trampoline = deque([act])
+        try:
+            here.run()
+        finally:
+            here.trampoline = None
+        return whole
+
+
+class TimeoutScheduler(Scheduler):
+    """Does it in a thread of its own, when its time has come."""
+
+    _one: Optional["TimeoutScheduler"] = None
+
+    @classmethod
+    def singleton(cls) -> "TimeoutScheduler":
+        cls._one = cls._one or cls()
+        return cls._one
+
+    def schedule(self, action: Action, state: Any = None) -> Any:
+        return self.schedule_relative(0.0, action, state)
+
+    def schedule_relative(self, duetime: RelativeTime, action: Action, state: Any = None) -> Any:
+        whole = SerialDisposable()
+
+        def act() -> None:
+            if not whole.is_disposed:
+                whole.disposable = self.invoke_action(action, state)
+        timer = threading.Timer(max(0.0, self.to_seconds(duetime)), act)
+        timer.daemon = True
+        whole.disposable = Disposable(timer.cancel)
+        timer.start()
+        return whole

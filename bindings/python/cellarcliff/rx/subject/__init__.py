@@ -1,0 +1,138 @@
+"""Subjects."""
+from __future__ import annotations
+
+from collections import deque
+from threading import Lock, get_ident
+from typing import Any, Callable, Deque, Dict, List, Optional, Tuple
+
+from ...book import LEAF
+from .._engine import At, Leaf, here
+from .._observable import Observable, Observer, _chained, _Source
+from ..internal import DisposedException
+
+_NEXT, _ERROR, _COMPLETED = range(3)
+
+
+class Subject(_Source, Observer):
+    """An observable and an observer: what it is told, each that subscribed is told, in the order in which they did.
+
+    Threads may tell it at once: what one tells while another is at it is told by that one, behind it, so that no item
+    overtakes another.
+    """
+
+    def __init__(self) -> None:
+        Observer.__init__(self)
+        self.is_disposed = False
+        self.exception: Optional[Exception] = None
+        self._lock = Lock()
+        self._ups: Dict[int, Tuple[Any, Leaf]] = {}
+        self._emissions: Deque[Tuple[Deque[Tuple[Any, Leaf]], int, Any]] = deque()
+        self._owner = 0
+
+    @property
+    def observers(self) -> List[Any]:
+        """Those that subscribed."""
+        return [up for up, _ in self._ups.values()]
+
+    def check_disposed(self) -> None:
+        if self.is_disposed:
+            raise DisposedException()
+
+    def _open_with(self, at: At, makes: List[Callable[[Any], Any]]) -> bool:
+        self.check_disposed()
+        engine, leaf, ups = at.engine, Leaf(at.engine), self._ups
+
+        def closed() -> None:
+            leaf.is_stopped = True
+            ups.pop(id(leaf), None)
+        leaf.key = engine.open(at, LEAF, closed)
+        up = _chained(makes, leaf) if makes else leaf
+        if leaf.is_stopped:
+            return True
+        with self._lock:
+            is_open = not self.is_stopped
+            if is_open:
+                ups[id(leaf)] = (up, leaf)
+        if not is_open:
+            if self.exception is not None:
+                up.on_error(self.exception)
+            else:
+                up.on_completed()
+        elif leaf.is_stopped:
+            ups.pop(id(leaf), None)
+        return True
+
+    def on_next(self, value: Any) -> None:
+        """Tells the item to each that subscribed."""
+        if self.is_disposed:
+            raise DisposedException()
+        if not self.is_stopped:
+            self._emit(_NEXT, value)
+
+    def on_error(self, error: Exception) -> None:
+        """Tells the error; whoever subscribes later is told it too."""
+        self.check_disposed()
+        self._end(_ERROR, error)
+
+    def on_completed(self) -> None:
+        """Tells the completion; whoever subscribes later is told it too."""
+        self.check_disposed()
+        self._end(_COMPLETED, None)
+
+    def _end(self, kind: int, error: Optional[Exception]) -> None:
+        with self._lock:
+            if self.is_stopped:
+                return
+            self.is_stopped, self.exception = True, error
+        self._emit(kind, error)
+
+    def _emit(self, kind: int, value: Any) -> None:
+        me = get_ident()
+        here.depth += 1
+        try:
+            with self._lock:
+                self._emissions.append((deque(self._ups.values()), kind, value))
+                if self._owner not in (0, me):
+                    return
+                is_outermost, self._owner = not self._owner, me
+            try:
+                self._go_on(is_outermost)
+            finally:
+                if is_outermost and self._owner == me:
+                    self._owner = 0
+        finally:
+            here.leave()
+
+    def _go_on(self, is_outermost: bool) -> None:
+        """Tells what is to be told, oldest first. Who calls this from within goes on with what is under way further out."""
+        emissions, engine = self._emissions, None
+        while True:
+            with self._lock:
+                while emissions and not emissions[0][0]:
+                    emissions.popleft()
+                if not emissions:
+                    if is_outermost:
+                        self._owner = 0
+                    break
+                ups, kind, value = emissions[0]
+                up, leaf = ups.popleft()
+            engine = leaf.engine
+            if leaf.is_stopped:
+                continue
+            if kind == _NEXT:
+                up.on_next(value)
+            elif kind == _ERROR:
+                up.on_error(value)
+            else:
+                up.on_completed()
+            if not ups:
+                engine.serve()
+        if engine is not None:
+            engine.serve()
+
+    def dispose(self) -> None:
+        """Lets go of all that subscribed, and refuses what it is told."""
+        with self._lock:
+            self.is_disposed = self.is_stopped = True
+            self._ups.clear()
+            self.exception = None
