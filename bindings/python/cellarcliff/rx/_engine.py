@@ -24,6 +24,7 @@ class _Here(threading.local):
     """Of each thread: how deep it is in calls of this package, what was raised meanwhile, and the work that it put off."""
 
     depth = 0
+    is_projecting = False  # whether it serves what is projected
     errors: Optional[List[BaseException]] = None
     trampoline: Optional[Deque[Callable[[], Any]]] = None
 
@@ -253,9 +254,19 @@ class Engine:
                 self.hold(node, self._due, due)
             if self.book.mail or self.book.tags:
                 self._fill()
+        self.opened(at)
+        return node
+
+    def opened(self, at: At) -> None:
+        """Behind an opening: what it closed is released before more is made, where it took the place of something."""
         if self._first or self._projections:
             self._first_of_all()
-        return node
+        if at.is_exchange and self._queue:
+            # the new one stands where it does: whatever is projected meanwhile comes behind it
+            if here.is_projecting:
+                here.is_projecting = False
+                self._projecting.release()
+            self.serve()
 
     def _bind(self, at: At, node: Any) -> None:
         self._events += 2
@@ -274,8 +285,7 @@ class Engine:
             self.hold(node, self._now, lambda: self._merging.pop(number, None))
             if self.book.mail or self.book.tags:
                 self._fill()
-        if self._first or self._projections:
-            self._first_of_all()
+        self.opened(at)
         return node
 
     def using(self, at: At, release: Callable[[], Any]) -> Any:
@@ -287,8 +297,7 @@ class Engine:
             self._bind(at, node)
             if self.book.mail or self.book.tags:
                 self._fill()
-        if self._first or self._projections:
-            self._first_of_all()
+        self.opened(at)
         return node
 
     def keep(self, node: Any, release: Callable[[], Any]) -> None:
@@ -387,15 +396,18 @@ class Engine:
         try:
             while True:
                 while self._projections and self._projecting.acquire(False):
+                    here.is_projecting = True
                     try:
-                        while self._projections:
+                        while self._projections and here.is_projecting:
                             call, value, thread = self._projections.popleft()
                             try:
                                 call(value)
                             except Exception as error:
                                 self._raised(error, thread)
                     finally:
-                        self._projecting.release()
+                        if here.is_projecting:
+                            here.is_projecting = False
+                            self._projecting.release()
                 # what a source put off comes behind, where what it emits is projected at once
                 if not own or not here.trampoline:
                     return

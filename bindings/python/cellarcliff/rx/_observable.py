@@ -654,8 +654,7 @@ class _Share:
             index = self._index
             if engine.book.mail or engine.book.tags:
                 engine._fill()
-        if engine._first or engine._projections:
-            engine._first_of_all()
+        engine.opened(at)
         if connection is not None:
             _open_below(self.source, At(engine, SOURCE, connection, None, at.scheduler, index))
         return True

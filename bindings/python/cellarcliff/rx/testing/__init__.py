@@ -1,0 +1,274 @@
+"""Virtual time for tests, with the names of RxPY's: TestScheduler, ReactiveTest and what they record.
+
+    scheduler = TestScheduler()
+    source = scheduler.create_hot_observable(on_next(210, 1), on_completed(250))
+    results = scheduler.start(lambda: source.pipe(ops.map(str)))
+    assert results.messages == [on_next(210, "1"), on_completed(250)]
+"""
+from __future__ import annotations
+
+import heapq
+import itertools
+import sys
+from datetime import datetime
+from typing import Any, Callable, List, Optional, Tuple
+
+from .._observable import Observable
+from ..disposable import CompositeDisposable, Disposable, SingleAssignmentDisposable
+from ..scheduler import Scheduler
+
+
+class _Notification:
+    kind = ""
+
+    def __eq__(self, other: object) -> bool:
+        return str(self) == str(other)
+
+    def __repr__(self) -> str:
+        return str(self)
+
+    __hash__ = None  # type: ignore[assignment]
+
+
+class OnNext(_Notification):
+    kind, has_value = "N", True
+
+    def __init__(self, value: Any):
+        self.value = value
+
+    def accept(self, observer: Any) -> None:
+        observer.on_next(self.value)
+
+    def __str__(self) -> str:
+        return f"OnNext({self.value})"
+
+
+class OnError(_Notification):
+    kind, has_value = "E", False
+
+    def __init__(self, error: Any):
+        self.exception = error if isinstance(error, Exception) else Exception(error)
+
+    def accept(self, observer: Any) -> None:
+        observer.on_error(self.exception)
+
+    def __str__(self) -> str:
+        return f"OnError({self.exception})"
+
+
+class OnCompleted(_Notification):
+    kind, has_value = "C", False
+
+    def accept(self, observer: Any) -> None:
+        observer.on_completed()
+
+    def __str__(self) -> str:
+        return "OnCompleted()"
+
+
+class Recorded:
+    """A notification and its time, in ticks."""
+
+    def __init__(self, time: float, value: Any):
+        self.time, self.value = time, value
+
+    def __eq__(self, other: Any) -> bool:
+        return bool(self.time == other.time and self.value == other.value)
+
+    def __repr__(self) -> str:
+        return f"{self.value}@{self.time}"
+
+    __hash__ = None  # type: ignore[assignment]
+
+
+class Subscription:
+    """From when to when an observable was subscribed to, in ticks."""
+
+    def __init__(self, start: float, end: Optional[float] = None):
+        self.subscribe, self.unsubscribe = start, end or sys.maxsize
+
+    def __eq__(self, other: Any) -> bool:
+        return bool(self.subscribe == other.subscribe and self.unsubscribe == other.unsubscribe)
+
+    def __repr__(self) -> str:
+        return f"({self.subscribe}, {'Infinite' if self.unsubscribe == sys.maxsize else self.unsubscribe})"
+
+    __hash__ = None  # type: ignore[assignment]
+
+
+class ReactiveTest:
+    created, subscribed, disposed = 100, 200, 1000
+
+    @staticmethod
+    def on_next(ticks: float, value: Any) -> Recorded:
+        return Recorded(ticks, OnNext(value))
+
+    @staticmethod
+    def on_error(ticks: float, exception: Any) -> Recorded:
+        return Recorded(ticks, OnError(exception))
+
+    @staticmethod
+    def on_completed(ticks: float) -> Recorded:
+        return Recorded(ticks, OnCompleted())
+
+    @staticmethod
+    def subscribe(start: float, end: Optional[float] = None) -> Subscription:
+        return Subscription(start, end)
+
+
+class MockObserver:
+    """Records what it is told, and when."""
+
+    def __init__(self, scheduler: "VirtualTimeScheduler"):
+        self.scheduler, self.messages = scheduler, []  # type: Tuple[VirtualTimeScheduler, List[Recorded]]
+
+    def on_next(self, value: Any) -> None:
+        self.messages.append(Recorded(self.scheduler.clock, OnNext(value)))
+
+    def on_error(self, error: Exception) -> None:
+        self.messages.append(Recorded(self.scheduler.clock, OnError(error)))
+
+    def on_completed(self) -> None:
+        self.messages.append(Recorded(self.scheduler.clock, OnCompleted()))
+
+
+class VirtualTimeScheduler(Scheduler):
+    """A clock that goes on as the work is done; times are ticks."""
+
+    def __init__(self, initial_clock: float = 0):
+        self.clock: float = initial_clock
+        self._queue: List[Tuple[float, int, Callable[[], Any]]] = []
+        self._numbers = itertools.count()
+        self._is_enabled = False
+
+    @property
+    def now(self) -> datetime:
+        return self.to_datetime(self.clock)
+
+    def schedule(self, action: Any, state: Any = None) -> Any:
+        return self.schedule_absolute(self.clock, action, state)
+
+    def schedule_relative(self, duetime: Any, action: Any, state: Any = None) -> Any:
+        return self.schedule_absolute(self.clock + self.to_seconds(duetime), action, state)
+
+    def schedule_absolute(self, duetime: Any, action: Any, state: Any = None) -> Any:
+        whole = SingleAssignmentDisposable()
+
+        def act() -> None:
+            if not whole.is_disposed:
+                whole.disposable = self.invoke_action(action, state)
+        heapq.heappush(self._queue, (self.to_seconds(duetime), next(self._numbers), act))
+        return whole
+
+    def _run(self, until: Optional[float]) -> None:
+        if self._is_enabled:
+            return
+        self._is_enabled = True
+        spinning = 0
+        while self._is_enabled and self._queue and (until is None or self._queue[0][0] <= until):
+            duetime, _, act = heapq.heappop(self._queue)
+            if duetime > self.clock:
+                self.clock, spinning = duetime, 0
+            elif spinning > 100:  # so that what schedules itself at once gets on
+                self.clock, spinning = self.clock + 1, 0
+            spinning += 1
+            act()
+        self._is_enabled = False
+
+    def start(self) -> Any:
+        """Does all work, and what that schedules."""
+        self._run(None)
+
+    def stop(self) -> None:
+        self._is_enabled = False
+
+    def advance_to(self, time: Any) -> None:
+        """Does the work up to a time."""
+        until = self.to_seconds(time)
+        if until < self.clock:
+            raise ValueError("the time is over")
+        self._run(until)
+        self.clock = until
+
+    def advance_by(self, time: Any) -> None:
+        self.advance_to(self.clock + self.to_seconds(time))
+
+
+class _Recording(Observable):
+    """An observable that notes from when to when it was subscribed to."""
+
+    def __init__(self, scheduler: VirtualTimeScheduler, messages: List[Recorded]):
+        super().__init__(self._subscribe_core)
+        self.scheduler, self.messages = scheduler, messages
+        self.subscriptions: List[Subscription] = []
+
+    def _begin(self) -> Callable[[], None]:
+        self.subscriptions.append(Subscription(self.scheduler.clock))
+        index = len(self.subscriptions) - 1
+
+        def end() -> None:
+            self.subscriptions[index] = Subscription(self.subscriptions[index].subscribe, self.scheduler.clock)
+        return end
+
+    def _open(self, at: Any) -> None:
+        self._open_with(at, [])
+
+    def _open_with(self, at: Any, makes: List[Any]) -> bool:
+        from .._observable import _create
+        _create(self._subscribe_core, at, makes)
+        return True
+
+    def _subscribe_core(self, observer: Any, scheduler: Any = None) -> Any:
+        raise NotImplementedError
+
+
+class HotObservable(_Recording):
+    def __init__(self, scheduler: VirtualTimeScheduler, messages: List[Recorded]):
+        super().__init__(scheduler, messages)
+        self.observers: List[Any] = []
+        for it in messages:
+            scheduler.schedule_absolute(it.time, lambda _, __, told=it.value: [told.accept(each) for each in self.observers[:]])
+
+    def _subscribe_core(self, observer: Any, scheduler: Any = None) -> Any:
+        self.observers.append(observer)
+        end = self._begin()
+
+        def dispose() -> None:
+            self.observers.remove(observer)
+            end()
+        return Disposable(dispose)
+
+
+class ColdObservable(_Recording):
+    def _subscribe_core(self, observer: Any, scheduler: Any = None) -> Any:
+        end = self._begin()
+        return CompositeDisposable(Disposable(end), *(
+            self.scheduler.schedule_relative(it.time, lambda _, __, told=it.value: told.accept(observer)) for it in self.messages))
+
+
+class TestScheduler(VirtualTimeScheduler):
+    """Virtual time that creates, subscribes to and disposes of what is tested."""
+
+    __test__ = False
+
+    def start(self, create: Optional[Callable[[], Any]] = None, created: Optional[float] = None, subscribed: Optional[float] = None,
+              disposed: Optional[float] = None) -> MockObserver:
+        """Calls `create` at 100, subscribes at 200 and unsubscribes at 1000, unless otherwise told. Answers what was told."""
+        observer, made = self.create_observer(), []  # type: Tuple[MockObserver, List[Any]]
+        self.schedule_absolute(created or ReactiveTest.created, lambda *_: made.append((create or Observable)()))
+        self.schedule_absolute(subscribed or ReactiveTest.subscribed,
+                               lambda scheduler, _: made.append(made[0].subscribe(observer, scheduler=scheduler)))
+        self.schedule_absolute(disposed or ReactiveTest.disposed, lambda *_: made[1].dispose())
+        super().start()
+        return observer
+
+    def create_hot_observable(self, *args: Any) -> HotObservable:
+        """Emits these at their times, whoever is subscribed."""
+        return HotObservable(self, args[0] if args and isinstance(args[0], list) else list(args))
+
+    def create_cold_observable(self, *args: Any) -> ColdObservable:
+        """Emits these at their times, counted from each subscription."""
+        return ColdObservable(self, args[0] if args and isinstance(args[0], list) else list(args))
+
+    def create_observer(self) -> MockObserver:
+        return MockObserver(self)
