@@ -14,11 +14,11 @@ import builtins
 from typing import Any, Callable, Iterable, Optional
 
 from ._engine import _hook, _print, current, use
-from ._observable import (ConnectableObservable, Created, Defer, Empty, FromIterable, Just, Merging, Never, Observable, Observer, Throw,
+from ._observable import (Concat, ConnectableObservable, Created, Defer, Empty, FromIterable, Just, Merging, Never, Observable, Observer, Throw,
                           Using, to_observable)
 from ._time import Timer
 
-__all__ = ["ConnectableObservable", "Observable", "Observer", "create", "current", "defer", "empty", "from_", "from_iterable",
+__all__ = ["ConnectableObservable", "Observable", "Observer", "concat", "create", "current", "defer", "empty", "from_", "from_iterable",
            "from_list", "interval", "just", "merge", "never", "of", "pipe", "range", "return_value", "set_error_hook", "throw",
            "timer", "to_observable", "use", "using"]
 
@@ -38,6 +38,11 @@ def set_error_hook(hook: Optional[Callable[[BaseException], Any]]) -> None:
     """What is called with an exception that an observer or a release raised where no thread is left to raise it: that of a
     source which another thread emitted, or a second one. Without one it goes to sys.excepthook."""
     _hook[0] = hook or _print
+
+
+def concat(*sources: Any) -> Observable:
+    """The items of each of these, once the one before has completed."""
+    return Concat(sources)
 
 
 def create(subscribe: Callable[[Any, Any], Any]) -> Observable:

@@ -38,6 +38,14 @@ class _Here(threading.local):
                 on_unhandled(it)
             raise first
 
+    def leave_with(self, is_over: bool) -> None:
+        """The end of a call whose answer is wanted unless all is over: what was raised goes to the hook then."""
+        if self.errors and self.depth == 1 and not is_over:
+            errors, self.errors = self.errors, None
+            for it in errors:
+                on_unhandled(it)
+        self.leave()
+
     def run(self) -> None:
         """Does what was put off, in order."""
         trampoline = self.trampoline

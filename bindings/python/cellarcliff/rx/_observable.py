@@ -13,7 +13,8 @@ from typing import Any, Callable, Deque, List, Optional, Tuple
 
 from ..book import AUTO, FLAT, INNER, LEAF, MANUAL, NOTIFIER, PASS, ROOT, SOURCE, SUB, SWITCH, UNTIL, Refused
 from ._engine import At, Engine, Leaf, Root, current, here
-from .disposable import CompositeDisposable, Disposable, SingleAssignmentDisposable
+from .disposable import CompositeDisposable, Disposable
+from .scheduler import CurrentThreadScheduler
 
 
 def noop(*_: Any) -> None:
@@ -135,7 +136,7 @@ class Observable:
             _subscribe(self, At(engine, ROOT, None, root, scheduler, None))
             engine.serve()
         finally:
-            here.leave()
+            here.leave_with(root.is_over)
         return _Subscription(root)
 
     def pipe(self, *operators: Callable[[Any], Any]) -> Any:
@@ -591,6 +592,44 @@ class Merging(Observable):
         _open_below(self._source, at.below(SOURCE, inner.above))
 
 
+class Concat(Observable):
+    """Observables one after another: a FlatMap, to which the next is given once the one before has completed."""
+
+    def __init__(self, sources: Iterable):
+        self._sources = sources
+
+    def _below(self) -> Tuple[Any, ...]:
+        return tuple(self._sources) if isinstance(self._sources, tuple) else ()
+
+    def _open(self, at: At) -> None:
+        engine, leaf = at.engine, Leaf(at.engine)
+        inner = At(engine, INNER, None, None, at.scheduler, at.hub)
+        scheduler = at.scheduler or CurrentThreadScheduler.singleton()
+
+        def project(source: Any) -> None:
+            node = engine.open(inner, PASS, soon=go_on)
+            _open_below(source, inner.below(SOURCE, node))
+
+        def go_on() -> None:
+            if not leaf.is_stopped:
+                scheduler.schedule(act)
+
+        def act(*_: Any) -> None:
+            try:
+                source = to_observable(next(sources))
+            except StopIteration:
+                leaf.on_completed()
+            except Exception as error:
+                leaf.on_error(error)
+            else:
+                leaf.on_next(source)
+            engine.serve()
+        sources = iter(self._sources)
+        inner.above = engine.open_merging(at, FLAT, project)
+        leaf.key = engine.open(at.below(SOURCE, inner.above), LEAF, leaf.closed)
+        go_on()
+
+
 class Until(Observable):
     def __init__(self, source: Any, notifier: Any):
         self._source, self._notifier = to_observable(source), Fn(notifier, _WithoutItsEnd)
@@ -705,7 +744,7 @@ def _level(observable: Observable) -> int:
     """How many shares stand one below another, as far as can be seen; a mapper may make more."""
     if isinstance(observable, (RefCount, Published)):
         return 1 + _level(observable._share.source)
-    least = 3 if isinstance(observable, (Merging, Using, Defer)) else 0
+    least = 3 if isinstance(observable, (Merging, Using, Defer, Concat)) else 0
     return max([least, *map(_level, observable._below())])
 
 

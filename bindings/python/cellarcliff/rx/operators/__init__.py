@@ -3,10 +3,10 @@ from __future__ import annotations
 
 from typing import Any, Callable, List, Optional
 
-from .._observable import (ConnectableObservable, Defer, Finally, Fn, FromIterable, Merging, Multicast, Observable, Published, RefCount,
+from .._observable import (Concat, ConnectableObservable, Defer, Finally, Fn, FromIterable, Merging, Multicast, Observable, Published, RefCount,
                            Stage, Until, counted, to_observable)
 
-__all__ = ["connect", "do", "do_action", "filter", "filter_indexed", "finally_action", "flat_map", "flat_map_indexed",
+__all__ = ["concat", "connect", "do", "do_action", "filter", "filter_indexed", "finally_action", "flat_map", "flat_map_indexed",
            "flat_map_latest", "map", "map_indexed", "merge", "merge_all", "multicast", "pairwise", "publish", "ref_count", "scan",
            "share", "skip", "start_with", "switch_latest", "take", "take_until", "take_while"]
 
@@ -100,17 +100,6 @@ class _Skip(Stage):
             self._left -= 1
         else:
             self.down.on_next(value)
-
-
-class _StartWith(Stage):
-    __slots__ = ("_values",)
-
-    def __init__(self, down: Any, values: Any):
-        self.down, self._values = down, values
-
-    def start(self) -> None:
-        for it in self._values:
-            self.down.on_next(it)
 
 
 class _Do(Stage):
@@ -233,7 +222,7 @@ def pairwise() -> Operator:
 
 def start_with(*args: Any) -> Operator:
     """These items first."""
-    return lambda source: Fn(source, lambda down: _StartWith(down, args))
+    return lambda source: Concat((FromIterable(args, None), to_observable(source)))
 
 
 def do_action(on_next: Optional[Callable[[Any], Any]] = None, on_error: Optional[Callable[[Exception], Any]] = None,
@@ -248,6 +237,11 @@ def do(observer: Any) -> Operator:
 
 
 # operators of the book
+
+def concat(*sources: Any) -> Operator:
+    """The items of the source, and then of each of these, once the one before has completed."""
+    return lambda source: Concat((to_observable(source), *sources))
+
 
 def finally_action(action: Callable[[], Any]) -> Operator:
     """Calls the action once: after the end, or when the subscription is disposed of."""
