@@ -1,22 +1,23 @@
 """Judges a history of subscriptions, and runs a scenario of them, by the library librx.
 
-    import rx
+    from cellarcliff import audit
 
-    verdict = rx.audit([["open", "root", "leaf"], ["end", 0, "completed"]])
+    verdict = audit.audit([["open", "root", "leaf"], ["end", 0, "completed"]])
     assert verdict.is_lawful and verdict.leaves_nothing
-    print(rx.run({"steps": [{"do": "open", "name": "a", "place": "root", "kind": "leaf"}]}), end="")
+    print(audit.run({"steps": [{"do": "open", "name": "a", "place": "root", "kind": "leaf"}]}), end="")
 
-The library is looked for as the system looks for any (LD_LIBRARY_PATH, ldconfig), or is the file that the
-environment names by RX_LIBRARY. Nothing but the standard library is needed. Calls may be made by several threads
-at once: each has memory of its own.
+Calls may be made by several threads at once: each has memory of its own.
 """
 from __future__ import annotations
 
 import ctypes
 import json
-import os
+import subprocess
 from dataclasses import dataclass
-from typing import Any, Sequence, Union
+from functools import lru_cache
+from typing import Any, Dict, List, Optional, Sequence, Tuple, Union
+
+from . import _library
 
 #: A list of events, or the text of one; a scenario, or the text of one.
 History = Union[Sequence[Sequence[Any]], str, bytes]
@@ -40,11 +41,11 @@ class Verdict:
     #: "lawful", "unlawful" or "unsettled"
     word: str
     #: where it is unlawful: the place of the first event, from 0, that may not come there
-    place: int | None = None
+    place: Optional[int] = None
     #: where it is lawful: the subscriptions that are open, and the resources that are held and that wait
-    live: tuple[int, ...] = ()
-    held: tuple[int, ...] = ()
-    waiting: tuple[int, ...] = ()
+    live: Tuple[int, ...] = ()
+    held: Tuple[int, ...] = ()
+    waiting: Tuple[int, ...] = ()
 
     @property
     def is_lawful(self) -> bool:
@@ -57,17 +58,15 @@ class Verdict:
         return self.is_lawful and not (self.live or self.held or self.waiting)
 
 
-def _calls() -> dict[str, Any]:
-    library = ctypes.CDLL(os.environ.get("RX_LIBRARY") or "librx.so")
+@lru_cache(maxsize=None)
+def _calls() -> Dict[str, Any]:
+    library = _library.load()
     size = ctypes.c_size_t
     calls = {name: getattr(library, name) for name in ("rx_audit", "rx_run", "rx_run_dump")}
     for call in calls.values():
         call.argtypes = [ctypes.c_char_p, size, ctypes.c_char_p, size, ctypes.POINTER(size)]
         call.restype = ctypes.c_uint8
     return calls
-
-
-_CALLS = _calls()
 
 
 def _answer(name: str, value: Any) -> bytes:
@@ -79,7 +78,7 @@ def _answer(name: str, value: Any) -> bytes:
     capacity = 4096
     while True:
         buffer, told = ctypes.create_string_buffer(capacity), ctypes.c_size_t(0)
-        status = _CALLS[name](value, len(value), buffer, capacity, ctypes.byref(told))
+        status = _calls()[name](value, len(value), buffer, capacity, ctypes.byref(told))
         if status == FAULTY_INPUT:
             raise FaultyInput("no history" if name == "rx_audit" else "no scenario")
         if status == OUT_OF_MEMORY:
@@ -102,6 +101,17 @@ def run(scenario: Scenario) -> str:
     return _answer("rx_run", scenario).decode()
 
 
-def run_dump(scenario: Scenario) -> list[list[Any]]:
+def run_dump(scenario: Scenario) -> List[List[Any]]:
     """The history of the scenario, which `audit` judges."""
     return json.loads(_answer("rx_run_dump", scenario))
+
+
+def picture(history: History, program: Union[str, Sequence[str]] = "rxpicture") -> str:
+    """The history as SVG, drawn by the program rxpicture: its name, or the command that runs it. Raises FaultyInput, and
+    FileNotFoundError where there is no such program."""
+    text = history if isinstance(history, (str, bytes)) else json.dumps(history)
+    command = [program] if isinstance(program, str) else list(program)
+    done = subprocess.run(command, input=text.encode() if isinstance(text, str) else text, stdout=subprocess.PIPE)
+    if done.returncode:
+        raise FaultyInput("no history") if done.returncode == FAULTY_INPUT else OSError(f"{command[0]}: status {done.returncode}")
+    return done.stdout.decode()

@@ -1,15 +1,18 @@
 """Four threads read a file each through one live book; one of them fails. No file stays open.
 
 Run as `python3 live_example.py PROGRAM ..`, where the words are those that start a live book: ./rxbook live
-Without any word the book is in this process, by the shared library.
+Without any word the book is in this process, by the shared library. The package is found where it is installed, or beside
+this folder.
 """
+import pathlib
 import sys
 import tempfile
 import threading
 
-import live
-import live_ctypes
-from live import Refused
+sys.path.append(str(pathlib.Path(__file__).resolve().parent.parent))
+
+from cellarcliff import live  # noqa: E402
+from cellarcliff.live import Refused  # noqa: E402
 
 FAILS = 2
 files = []
@@ -23,7 +26,7 @@ def read(book, number):
     files.append(file)
     name, source = f"file{number}", f"source{number}"
     book.using(name, lambda note: print(f"{name}: {note}\n", end=""), file.close)
-    book.send("open", name=source, place="source", of=name, kind="leaf")
+    book.open(source, place="source", of=name, kind="leaf")
     for line in file:
         book.send("next", node=source, value=int(line))
         if number == FAILS:
@@ -39,7 +42,7 @@ def run(book, number):
 
 
 def main():
-    with live.Book(sys.argv[1:]) if sys.argv[1:] else live_ctypes.Book() as book:
+    with live.Book(sys.argv[1:]) as book:
         threads = [threading.Thread(target=run, args=(book, number)) for number in range(4)]
         for thread in threads:
             thread.start()
