@@ -9,7 +9,7 @@ from cellarcliff.rx.disposable import (CompositeDisposable, Disposable, Multiple
                                        SingleAssignmentDisposable)
 from cellarcliff.rx.scheduler import TimeoutScheduler
 from cellarcliff.rx.subject import Subject
-from tests.kits import fresh_book
+from tests.kits import fresh_book, rxpy
 
 
 class Manners(unittest.TestCase):
@@ -246,6 +246,18 @@ class Manners(unittest.TestCase):
         told = []
         rx.of("x").pipe(ops.flat_map(lambda _: Ticks())).subscribe(told.append, None, lambda: told.append("completed"))
         self.assertEqual((told, disposed), ([1, 2, "completed"], [True]))
+
+    @unittest.skipIf(rxpy is None, "RxPY is not installed")
+    def test_operators_of_rxpy_take_what_is_here(self):
+        import rx.operators as others
+        told, source = [], Subject()
+        whole = source.pipe(ops.share(), others.buffer_with_count(2), ops.flat_map(lambda pair: rx.just(sum(pair))))
+        subscription = rxpy.merge(whole, rx.of("a")).pipe(others.zip(rx.merge(rx.of(1, 2), rx.never())), ops.map(tuple)).subscribe(told.append)
+        source.on_next(1)
+        source.on_next(2)
+        self.assertEqual(told, [("a", 1), (3, 2)])
+        subscription.dispose()
+        self.assertEqual(len(source.observers), 0)
 
     def test_what_is_not_here_says_what_to_do(self):
         for get in lambda: ops.debounce, lambda: rx.zip:

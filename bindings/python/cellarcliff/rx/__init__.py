@@ -11,6 +11,7 @@ NotImplementedError, and says what to do; README.md has the differences from RxP
 from __future__ import annotations
 
 import builtins
+import importlib
 from typing import Any, Callable, Iterable, Optional
 
 from ._engine import _hook, _print, current, use
@@ -23,15 +24,22 @@ __all__ = ["ConnectableObservable", "Observable", "Observer", "concat", "create"
            "timer", "to_observable", "use", "using"]
 
 
+#: What RxPY's module has besides.
+_ELSEWHERE = frozenset((
+    "amb case catch catch_with_iterable cold combine_latest concat_with_iterable for_in fork_join from_callable "
+    "from_callback from_future from_marbles generate generate_with_relative_time hot if_then on_error_resume_next "
+    "repeat_value start start_async to_async with_latest_from zip "
+).split())
+
+
 def __getattr__(name: str) -> Any:
-    if name.startswith("_"):
-        raise AttributeError(name)
     if name in ("operators", "subject", "disposable", "scheduler", "core", "testing"):
-        import importlib
         return importlib.import_module(f"{__name__}.{name}")
-    raise NotImplementedError(
-        f"cellarcliff.rx has no {name}(): an observable of RxPY may stand wherever one of this package may, so make it with "
-        f"RxPY's rx.{name}(..), or write it with create()")
+    if name in _ELSEWHERE:
+        raise NotImplementedError(
+            f"cellarcliff.rx has no {name}(): an observable of RxPY may stand wherever one of this package may, so make it with "
+            f"RxPY's rx.{name}(..), or write it with create()")
+    raise AttributeError(f"module {__name__!r} has no attribute {name!r}")
 
 
 def set_error_hook(hook: Optional[Callable[[BaseException], Any]]) -> None:

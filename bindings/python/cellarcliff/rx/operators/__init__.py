@@ -14,12 +14,29 @@ Operator = Callable[[Any], Observable]
 _NOTHING = object()
 
 
+#: What RxPY's module has besides.
+_ELSEWHERE = frozenset((
+    "all amb as_observable average buffer buffer_toggle buffer_when buffer_with_count buffer_with_time "
+    "buffer_with_time_or_count catch combine_latest contains count debounce default_if_empty delay delay_subscription "
+    "delay_with_mapper dematerialize distinct distinct_until_changed do_while element_at element_at_or_default exclusive "
+    "expand find find_index first first_or_default fork_join group_by group_by_until group_join ignore_elements is_empty "
+    "join last last_or_default materialize max max_by min min_by observe_on on_error_resume_next partition "
+    "partition_indexed pluck pluck_attr publish_value reduce repeat replay retry sample sequence_equal single "
+    "single_or_default single_or_default_async skip_last skip_last_with_time skip_until skip_until_with_time skip_while "
+    "skip_while_indexed skip_with_time slice some starmap starmap_indexed subscribe_on sum take_last take_last_buffer "
+    "take_last_with_time take_until_with_time take_while_indexed take_with_time throttle_first throttle_with_mapper "
+    "throttle_with_timeout time_interval timeout timeout_with_mapper timestamp to_dict to_future to_iterable to_list "
+    "to_marbles to_set while_do window window_toggle window_when window_with_count window_with_time "
+    "window_with_time_or_count with_latest_from zip zip_with_iterable zip_with_list "
+).split())
+
+
 def __getattr__(name: str) -> Any:
-    if name.startswith("_"):
-        raise AttributeError(name)
-    raise NotImplementedError(
-        f"cellarcliff.rx.operators has no {name}(): subscribe through RxPY's own, which takes an observable of this package as its "
-        f"source (source.pipe(rx.operators.{name}(..))), or write it with create(), flat_map() or scan()")
+    if name in _ELSEWHERE:
+        raise NotImplementedError(
+            f"cellarcliff.rx.operators has no {name}(): RxPY's own takes an observable of this package as its source, so pipe it into "
+            f"rx.operators.{name}(..), or write it with create(), flat_map() or scan()")
+    raise AttributeError(f"module {__name__!r} has no attribute {name!r}")
 
 
 # functions on items
