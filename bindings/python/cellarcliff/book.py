@@ -36,9 +36,7 @@ NEXT, PROJECT, ON_COMPLETED, ON_ERROR = range(4)
 REFUSALS: Dict[int, str] = dict(enumerate(
     "Full Gone WrongKind PlaceTaken NothingOwed NotRoot NoHub HubOrder Connected NotConnected NotFresh NotHeld HasChild TooMany "
     "NoLease Leased MailLeft".split(), 16))
-REFUSALS[6] = "Untaken"
-
-_NO_BOOK, _NO_MEMORY = 1, 4
+REFUSALS.update({6: "Untaken", 8: "Cut"})
 
 
 class Refused(Exception):
@@ -213,9 +211,11 @@ class Lease(ctypes.Structure):
 
 
 _NONE = Node(0, 0)
-_ROOM = 4  # notes, and tags, that a call tells at once
-_TOLD_WORDS = 3 + 4 * _ROOM + _ROOM
+_ROOM = 4  # notes, and resources, that a call tells at once
+_MAIL, _RESOURCE = 3, 3 + 4 * _ROOM  # where they begin, in words: a note has four, a resource its number and its tag
+_TOLD_WORDS = _RESOURCE + 2 * _ROOM
 _MOST = 64  # that a drain takes
+_DONE, _NO_BOOK, _NOTHING, _NO_MEMORY, _SMALL, _CUT, _FULL = 0, 1, 2, 4, 7, 8, 16
 
 
 class _Library:
@@ -233,8 +233,8 @@ class _Library:
             return function
 
         self.new = call("new", c_uint32)
-        self.open = call("open", c_uint8, Node, c_uint8, c_uint64, c_void_p)
-        self.using = call("using", c_uint8, Node, c_uint64, c_void_p)
+        self.open = call("open_told", c_uint8, Node, c_uint8, c_uint64, c_void_p, c_void_p)
+        self.using = call("using_told", c_uint8, Node, c_uint64, c_void_p, c_void_p)
         self.hold = call("hold", Node, c_uint64, c_void_p)
         self.next = call("next_told", Node, c_int64, c_void_p)
         self.end = call("end_told", Node, c_uint8, c_uint32, c_void_p)
@@ -255,6 +255,7 @@ class _Library:
         self.counts = call("counts", c_void_p)
         self.drain = call("drain", c_void_p, c_size_t, c_void_p, c_size_t, c_void_p)
         self.checkpoint = call("checkpoint", c_void_p)
+        self.dump = call("dump", c_void_p, c_size_t, c_void_p)
         self.close = call("close")
         self.finish = call("finish")
         self.drop = library.rx_book_drop
@@ -275,19 +276,20 @@ class Book(Calls):
     """
 
     def __init__(self, max_events: int = 2**32 - 1):
-        self._library = _Library.get()
+        library = self._library = _Library.get()
         self.mail: Deque[Tuple[int, int, int]] = deque()
         self.tags: Deque[int] = deque()
         self._handle = _Handle()
         self._at = addressof(self._handle)
-        self._words = (c_uint64 * _TOLD_WORDS)()  # what a call wrote: as unsigned words, and the same as signed ones
-        self._told = addressof(self._words)
-        self._unsigned = memoryview(self._words).cast("B").cast("Q")
-        self._signed = memoryview(self._words).cast("B").cast("q")
-        self._mails, self._tags, self._drained = (c_int64 * (4 * _MOST))(), (c_uint64 * _MOST)(), (c_uint64 * 2)()
-        self._next, self._end, self._dispose = self._library.next, self._library.end, self._library.dispose
-        status = self._library.new(self._at, max_events)
-        if status:
+        told, made = (c_uint64 * _TOLD_WORDS)(), (c_uint64 * 8)()
+        self._told, self._made = addressof(told), addressof(made)
+        self._words = memoryview(told).cast("B").cast("Q")  # what a call told
+        self._signed = memoryview(told).cast("B").cast("q")
+        self._keys = memoryview(made).cast("B").cast("Q")  # the keys that it made, or what else it answers
+        self._mails, self._tags, self._drained = (c_int64 * (4 * _MOST))(), (c_uint64 * (2 * _MOST))(), (c_uint64 * 2)()
+        self._open, self._using, self._hold = library.open, library.using, library.hold
+        self._next, self._end, self._dispose = library.next, library.end, library.dispose
+        if library.new(self._at, max_events):
             raise MemoryError
 
     def __enter__(self) -> "Book":
@@ -317,15 +319,15 @@ class Book(Calls):
 
     def _hear(self, status: int) -> None:
         """Takes what the call told, whatever its status is."""
-        told = self._unsigned
-        mails, tags = told[1], told[2]
+        words = self._words
+        mails, resources = words[1], words[2]
         if mails:
             signed = self._signed
-            for i in range(3, 3 + 4 * mails, 4):
-                self.mail.append((told[i + 1], signed[i + 3] & 255, signed[i + 2]))
-        if tags:
-            self.tags.extend(told[3 + 4 * _ROOM:3 + 4 * _ROOM + tags].tolist())
-        if mails == _ROOM or tags == _ROOM:
+            for i in range(_MAIL, _MAIL + 4 * mails, 4):
+                self.mail.append((words[i + 1], signed[i + 3] & 255, signed[i + 2]))
+        if resources:
+            self.tags.extend(words[_RESOURCE + 1:_RESOURCE + 2 * resources:2].tolist())
+        if mails == _ROOM or resources == _ROOM:
             self._drain()
         if status:
             self._refuse(status)
@@ -339,55 +341,52 @@ class Book(Calls):
             words = mails[:4 * many]
             for i in range(0, 4 * many, 4):
                 self.mail.append((words[i + 1], words[i + 3] & 255, words[i + 2]))
-            self.tags.extend(tags[:others])
+            self.tags.extend(tags[1:2 * others:2])
             if many < _MOST and others < _MOST:
                 return
 
-    def _full(self, status: int) -> bool:
-        """Whether the call was refused as full, and may be made again behind a checkpoint."""
-        return status == 16 and self._library.checkpoint(self._at, self._told) == 0
+    def _again(self, status: int, call: Any, *words: Any) -> int:
+        """Makes a call again that was refused, if it found the history full by its age, behind a checkpoint."""
+        if status == _FULL and self._library.checkpoint(self._at, self._made) == _DONE:
+            status = call(self._at, *words)
+        return status
 
     # opening
 
     def open(self, place: int, above: Any = None, kind: int = PASS, hub: int = 0) -> Tuple[Any, Optional[Any]]:
-        told = self._unsigned
-        status = self._library.open(self._at, place, above or _NONE, kind, hub, self._told)
-        if status:
-            if not self._full(status) or self._library.open(self._at, place, above or _NONE, kind, hub, self._told):
-                self._refuse(status)
-        node = Node(told[0], told[1])
-        connection = Node(told[2], told[3]) if kind == SUB and told[4] & 255 else None
-        if place == INNER:  # of a Switch: what the inner before it held may be to be released
-            self._drain()
-        return node, connection
+        words = place, above or _NONE, kind, hub, self._made, self._told
+        status = self._open(self._at, *words)
+        told = self._words
+        if status or told[1] or told[2]:
+            self._hear(self._again(status, self._open, *words) if status else status)
+        keys = self._keys
+        return Node(keys[0], keys[1]), Node(keys[2], keys[3]) if kind == SUB and keys[4] & 255 else None
 
     def using(self, place: int, above: Any, tag: int) -> Tuple[Any, Any]:
-        told = self._unsigned
-        status = self._library.using(self._at, place, above or _NONE, tag, self._told)
-        if status:
-            if not self._full(status) or self._library.using(self._at, place, above or _NONE, tag, self._told):
-                self._refuse(status)
-        keys = Node(told[0], told[1]), Res(told[2], told[3])
-        if place == INNER:
-            self._drain()
-        return keys
+        words = place, above or _NONE, tag, self._made, self._told
+        status = self._using(self._at, *words)
+        told = self._words
+        if status or told[1] or told[2]:
+            self._hear(self._again(status, self._using, *words) if status else status)
+        keys = self._keys
+        return Node(keys[0], keys[1]), Res(keys[2], keys[3])
 
     def hold(self, node: Any, tag: int) -> Any:
-        status = self._library.hold(self._at, node, tag, self._told)
+        status = self._hold(self._at, node, tag, self._made)
         if status:
-            if not self._full(status) or self._library.hold(self._at, node, tag, self._told):
+            status = self._again(status, self._hold, node, tag, self._made)
+            if status:
                 self._refuse(status)
-        told = self._unsigned
-        return Res(told[0], told[1])
+        keys = self._keys
+        return Res(keys[0], keys[1])
 
     # events
 
     def next(self, leaf: Any, value: int) -> None:
         status = self._next(self._at, leaf, value, self._told)
-        if self._unsigned[1] or self._unsigned[2] or status:
-            if status == 16 and self._full(status):
-                status = self._next(self._at, leaf, value, self._told)
-            self._hear(status)
+        words = self._words
+        if status or words[1] or words[2]:
+            self._hear(self._again(status, self._next, leaf, value, self._told) if status == _FULL else status)
 
     def end(self, leaf: Any, error: Optional[int] = None) -> None:
         self._hear(self._end(self._at, leaf, error is not None, error or 0, self._told))
@@ -409,27 +408,27 @@ class Book(Calls):
     def _word(self, status: int) -> int:
         if status:
             self._refuse(status)
-        return self._unsigned[0]
+        return self._keys[0]
 
     def hub(self, mode: int) -> int:
-        return self._word(self._library.hub(self._at, mode, self._told))
+        return self._word(self._library.hub(self._at, mode, self._made))
 
     def connect(self, hub: int) -> Any:
-        slot = self._word(self._library.connect(self._at, hub, self._told))
-        return Node(slot, self._unsigned[1])
+        slot = self._word(self._library.connect(self._at, hub, self._made))
+        return Node(slot, self._keys[1])
 
     def disconnect(self, hub: int) -> None:
         self._hear(self._library.disconnect(self._at, hub, self._told))
 
     def apply(self, res: Any, word: int) -> int:
-        return self._word(self._library.apply(self._at, res, word, self._told))
+        return self._word(self._library.apply(self._at, res, word, self._made))
 
     def remove(self, res: Any) -> None:
         self._hear(self._library.remove(self._at, res, self._told))
 
     def lease(self, res: Any) -> Any:
-        slot = self._word(self._library.lease(self._at, res, self._told))
-        return Lease(slot, self._unsigned[1])
+        slot = self._word(self._library.lease(self._at, res, self._made))
+        return Lease(slot, self._keys[1])
 
     def give_back(self, lease: Any) -> None:
         self._hear(self._library.give_back(self._at, lease, self._told))
@@ -437,21 +436,32 @@ class Book(Calls):
     # questions and upkeep
 
     def is_open(self, node: Any) -> bool:
-        return bool(self._word(self._library.is_open(self._at, node, self._told)) & 255)
+        return bool(self._word(self._library.is_open(self._at, node, self._made)) & 255)
 
     def is_held(self, res: Any) -> bool:
-        return bool(self._word(self._library.is_held(self._at, res, self._told)) & 255)
+        return bool(self._word(self._library.is_held(self._at, res, self._made)) & 255)
 
     def owed(self, merging: Any) -> Optional[int]:
-        status = self._library.owed(self._at, merging, self._told)
-        return None if status == 2 else self._word(status)
+        status = self._library.owed(self._at, merging, self._made)
+        return None if status == _NOTHING else self._word(status)
 
     def counts(self) -> Counts:
-        self._word(self._library.counts(self._at, self._told))
-        return Counts(*self._unsigned[:7].tolist())
+        self._word(self._library.counts(self._at, self._made))
+        return Counts(*self._keys[:7].tolist())
 
     def checkpoint(self) -> int:
-        return self._word(self._library.checkpoint(self._at, self._told))
+        return self._word(self._library.checkpoint(self._at, self._made))
+
+    def dump(self) -> str:
+        """The history so far, which `cellarcliff.audit` judges. Raises Refused("Cut") where a checkpoint took events away."""
+        size = 4096
+        while True:
+            buffer, told = ctypes.create_string_buffer(size), c_size_t()
+            status = self._library.dump(self._at, addressof(buffer), size, addressof(told))
+            if status != _SMALL:
+                self._word(status)
+                return buffer.raw[:told.value].decode()
+            size = told.value
 
     def close(self) -> None:
         self._library.close(self._at)

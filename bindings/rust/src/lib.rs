@@ -1,0 +1,591 @@
+//! A book of subscriptions over the proved library `rx`: each resource that it accepts is handed back exactly once.
+//!
+//! ```
+//! use cellarcliff::{At, Book, Kind, Terminal, What};
+//!
+//! # fn main() -> Result<(), Box<dyn std::error::Error>> {
+//! let mut book: Book<&str, std::fs::File> = Book::new()?;
+//! let file = std::fs::File::open("Cargo.toml")?;
+//! let root = book.using(At::Root, file)?;                     // a node that holds the file
+//! let leaf = book.open(At::Source(root.node), Kind::Leaf)?;   // the source that it mirrors
+//! book.next(leaf.node, "an item")?;
+//! book.end(leaf.node, Terminal::Completed)?;
+//! let told = book.take_mail().unwrap();
+//! assert!(told.to == root.node.number() && told.what == What::Next("an item"));
+//! assert_eq!(book.take_mail().unwrap().what, What::End(Terminal::Completed));
+//! drop(book.take());                                          // the file comes back, and is closed here
+//! assert!(book.take().is_none());
+//! # Ok(())
+//! # }
+//! ```
+//!
+//! A `Book<T, R>` has items of the type `T` and resources of the type `R`. Who emits an item reads with [`Book::take_mail`] who is
+//! told it; what was held by a node that closed comes out of [`Book::take`], and is released by dropping it. A refused call changes
+//! nothing, and hands back what it was given. Dropping a book closes it and drops every resource that is left.
+//!
+//! Not proved is this crate, which the tests try, and not what a caller does with a resource once it has it.
+#![deny(missing_docs)]
+
+mod ffi;
+
+use ffi::{Handle, Told};
+use std::collections::VecDeque;
+use std::fmt;
+
+macro_rules! key {
+    ($(#[$doc:meta])* $name:ident) => {
+        $(#[$doc])*
+        #[derive(Clone, Copy, Debug, PartialEq, Eq, Hash)]
+        pub struct $name(ffi::Key);
+
+        impl $name {
+            /// The place of the event that made it, which is given once.
+            pub fn number(self) -> u64 {
+                self.0.number
+            }
+        }
+    };
+}
+
+key! {
+    /// The key of a node: a plain value, which is refused once the node is closed.
+    Node
+}
+key! {
+    /// The key of a lease.
+    Lease
+}
+
+/// The key of a resource.
+#[derive(Clone, Copy, Debug, PartialEq, Eq, Hash)]
+pub struct Res {
+    key: ffi::Key,
+    tag: u64,
+}
+
+/// A hub, which shares one source among its subscribers.
+#[derive(Clone, Copy, Debug, PartialEq, Eq, Hash)]
+pub struct Hub(u64);
+
+/// Where a node is opened.
+#[derive(Clone, Copy, Debug, PartialEq, Eq)]
+pub enum At {
+    /// Below nothing: an observer's subscription.
+    Root,
+    /// As the source of a node.
+    Source(Node),
+    /// As an inner observable that a FlatMap or a Switch is owed.
+    Inner(Node),
+    /// As the notifier of a TakeUntil.
+    Notifier(Node),
+}
+
+/// What a node is.
+#[derive(Clone, Copy, Debug, PartialEq, Eq)]
+pub enum Kind {
+    /// A source, which the caller drives.
+    Leaf,
+    /// It mirrors its source.
+    Pass,
+    /// FlatMap.
+    Flat,
+    /// Switch.
+    Switch,
+    /// TakeUntil.
+    Until,
+    /// A subscriber of a hub.
+    Sub(Hub),
+}
+
+/// How a hub is connected.
+#[derive(Clone, Copy, Debug, PartialEq, Eq)]
+pub enum Mode {
+    /// While it has a subscriber (RefCount).
+    Auto,
+    /// By `connect` and `disconnect`.
+    Manual,
+}
+
+/// How an observable ends; an error is a number of the caller's.
+#[derive(Clone, Copy, Debug, PartialEq, Eq)]
+pub enum Terminal {
+    /// It completes.
+    Completed,
+    /// It fails.
+    Error(u32),
+}
+
+/// What a note says.
+#[derive(Clone, Debug, PartialEq, Eq)]
+pub enum What<T> {
+    /// A root is told the item.
+    Next(T),
+    /// A FlatMap or a Switch is owed an inner observable for the item.
+    Project(T),
+    /// A root is told the end.
+    End(Terminal),
+}
+
+/// A note: the number of the root or operator, and what it is told.
+#[derive(Clone, Debug, PartialEq, Eq)]
+pub struct Mail<T> {
+    /// The number of its key.
+    pub to: u64,
+    /// What it is told.
+    pub what: What<T>,
+}
+
+/// A node, and the connection that its opening made, if it made one.
+#[derive(Clone, Copy, Debug)]
+pub struct Opened {
+    /// Its key.
+    pub node: Node,
+    /// The connection of its RefCount hub, at whose source the shared observable is opened now.
+    pub connection: Option<Node>,
+}
+
+/// A node with a resource.
+#[derive(Clone, Copy, Debug)]
+pub struct Using {
+    /// Its key.
+    pub node: Node,
+    /// The key of the resource.
+    pub res: Res,
+}
+
+/// Why a call is refused.
+#[derive(Clone, Copy, Debug, PartialEq, Eq, Hash)]
+#[non_exhaustive]
+pub enum Refusal {
+    /// Memory was refused.
+    NoMemory,
+    /// The history is full of what is open.
+    Full,
+    /// The node is closed.
+    Gone,
+    /// The node or hub takes no such call, or has no such place.
+    WrongKind,
+    /// The place was opened before.
+    PlaceTaken,
+    /// No item is owed an inner observable.
+    NothingOwed,
+    /// The node is no root.
+    NotRoot,
+    /// There is no such hub.
+    NoHub,
+    /// A subscriber would stand below a connection of a hub that was not made after its own.
+    HubOrder,
+    /// The hub is connected.
+    Connected,
+    /// The hub is not connected.
+    NotConnected,
+    /// The resource is not held.
+    NotHeld,
+    /// Something is open below the node.
+    HasChild,
+    /// There would be too many nodes, hubs or visits of one item.
+    TooMany,
+    /// The lease is not out.
+    NoLease,
+    /// A lease of the resource is out.
+    Leased,
+}
+
+impl Refusal {
+    fn of(status: u8) -> Refusal {
+        use Refusal::*;
+        match status {
+            4 => NoMemory,
+            16 => Full,
+            17 => Gone,
+            18 => WrongKind,
+            19 => PlaceTaken,
+            20 => NothingOwed,
+            21 => NotRoot,
+            22 => NoHub,
+            23 => HubOrder,
+            24 => Connected,
+            25 => NotConnected,
+            27 => NotHeld,
+            28 => HasChild,
+            29 => TooMany,
+            30 => NoLease,
+            31 => Leased,
+            other => unreachable!("librx answers the status {other}"),
+        }
+    }
+}
+
+impl fmt::Display for Refusal {
+    fn fmt(&self, out: &mut fmt::Formatter) -> fmt::Result {
+        write!(out, "the book refuses the call: {self:?}")
+    }
+}
+
+impl std::error::Error for Refusal {}
+
+/// A refused call, with what it was given.
+pub struct Refused<B> {
+    /// Why.
+    pub why: Refusal,
+    /// The item or the resource.
+    pub back: B,
+}
+
+impl<B> fmt::Debug for Refused<B> {
+    fn fmt(&self, out: &mut fmt::Formatter) -> fmt::Result {
+        write!(out, "Refused({:?})", self.why)
+    }
+}
+
+impl<B> fmt::Display for Refused<B> {
+    fn fmt(&self, out: &mut fmt::Formatter) -> fmt::Result {
+        self.why.fmt(out)
+    }
+}
+
+impl<B> std::error::Error for Refused<B> {}
+
+/// How much there is.
+#[derive(Clone, Copy, Debug, PartialEq, Eq)]
+pub struct Counts {
+    /// Open nodes.
+    pub nodes: u64,
+    /// Resources that are held.
+    pub held: u64,
+    /// Leases that are out.
+    pub leases: u64,
+    /// Resources that were ever accepted.
+    pub accepted: u64,
+    /// Events since the last checkpoint.
+    pub events: u64,
+}
+
+/// A book of subscriptions, with items of the type `T` and resources of the type `R`.
+///
+/// It may go to another thread where `T` and `R` may. Threads that share one put it into a `Mutex`: a call takes some hundred
+/// nanoseconds, and what it told is read, and resources are dropped, outside the lock.
+pub struct Book<T, R> {
+    handle: Handle,
+    told: Told,
+    mail: VecDeque<Mail<T>>,
+    resources: Vec<Option<R>>, // by tag
+    free: Vec<u64>,
+    waiting: VecDeque<R>,
+}
+
+// SAFETY: the library keeps nothing of a thread's, as is proved of its handle; the rest is T and R.
+unsafe impl<T: Send, R: Send> Send for Book<T, R> {}
+
+impl<T: Clone, R> Book<T, R> {
+    /// A new book. Its history is bounded by memory alone, since it makes checkpoints by itself.
+    pub fn new() -> Result<Self, Refusal> {
+        Self::with_room(u32::MAX)
+    }
+
+    /// A new book whose history has so many events at most, with those that closing everything may need.
+    pub fn with_room(max_events: u32) -> Result<Self, Refusal> {
+        let mut handle = Handle { at: std::ptr::null_mut() };
+        // SAFETY: the handle is zeros, and lives.
+        match unsafe { ffi::rx_book_new(&mut handle, max_events) } {
+            0 => Ok(Book {
+                handle,
+                told: Told::default(),
+                mail: VecDeque::new(),
+                resources: Vec::new(),
+                free: Vec::new(),
+                waiting: VecDeque::new(),
+            }),
+            status => Err(Refusal::of(status)),
+        }
+    }
+
+    // What every call ends with. The item is the one that was emitted, if one was.
+    fn hear(&mut self, status: u8, item: Option<T>) -> Result<(), Refused<Option<T>>> {
+        let told = self.told;
+        let (mails, resources) = (told.mails as usize, told.resources as usize);
+        let mut notes: Vec<ffi::Mail> = told.mail[..mails].to_vec();
+        for it in &told.resource[..resources] {
+            self.set_free(it.tag);
+        }
+        if mails == ffi::ROOM || resources == ffi::ROOM {
+            self.drain(&mut notes);
+        }
+        if status != 0 {
+            return Err(Refused { why: Refusal::of(status), back: item });
+        }
+        self.tell(&notes, item);
+        Ok(())
+    }
+
+    // The last note with the item has it, each before that a copy.
+    fn tell(&mut self, notes: &[ffi::Mail], mut item: Option<T>) {
+        let mut left = notes.iter().filter(|it| it.kind < 2).count();
+        for it in notes {
+            let what = match it.kind {
+                2 => What::End(Terminal::Completed),
+                3 => What::End(Terminal::Error(it.value as u32)),
+                kind => {
+                    left -= 1;
+                    let item = if left == 0 { item.take() } else { item.clone() }.expect("an item is told where one was emitted");
+                    if kind == 0 {
+                        What::Next(item)
+                    } else {
+                        What::Project(item)
+                    }
+                }
+            };
+            self.mail.push_back(Mail { to: it.to, what });
+        }
+    }
+
+    fn drain(&mut self, notes: &mut Vec<ffi::Mail>) {
+        loop {
+            let (mut mails, mut taken) = ([ffi::Mail::default(); 64], [ffi::Taken::default(); 64]);
+            let mut drained = ffi::Drained::default();
+            // SAFETY: the arrays live, are initialized and apart, and have this room.
+            unsafe { ffi::rx_book_drain(&mut self.handle, mails.as_mut_ptr(), 64, taken.as_mut_ptr(), 64, &mut drained) };
+            notes.extend_from_slice(&mails[..drained.mails as usize]);
+            for it in &taken[..drained.resources as usize] {
+                self.set_free(it.tag);
+            }
+            if drained.mails < 64 && drained.resources < 64 {
+                return;
+            }
+        }
+    }
+
+    // A call that was refused as full is made again behind a checkpoint, which makes room where the history is full by its age.
+    fn call(&mut self, call: impl Fn(&mut Handle, &mut Told) -> u8) -> u8 {
+        let status = call(&mut self.handle, &mut self.told);
+        if status == 16 && self.checkpoint() {
+            return call(&mut self.handle, &mut self.told);
+        }
+        status
+    }
+
+    fn plainly(&mut self, call: impl Fn(&mut Handle, &mut Told) -> u8) -> Result<(), Refusal> {
+        let status = self.call(call);
+        self.hear(status, None).map_err(|it| it.why)
+    }
+
+    // Resources, by tag.
+
+    fn tag(&mut self) -> u64 {
+        self.free.pop().unwrap_or_else(|| {
+            self.resources.push(None);
+            self.resources.len() as u64 - 1
+        })
+    }
+
+    fn place(at: At) -> (u8, ffi::Key) {
+        match at {
+            At::Root => (0, ffi::Key::default()),
+            At::Source(node) => (1, node.0),
+            At::Inner(node) => (2, node.0),
+            At::Notifier(node) => (3, node.0),
+        }
+    }
+
+    /// Opens a node.
+    pub fn open(&mut self, at: At, kind: Kind) -> Result<Opened, Refusal> {
+        let (place, above) = Self::place(at);
+        let (kind, hub) = match kind {
+            Kind::Leaf => (0, 0),
+            Kind::Pass => (1, 0),
+            Kind::Flat => (2, 0),
+            Kind::Switch => (3, 0),
+            Kind::Until => (4, 0),
+            Kind::Sub(hub) => (5, hub.0),
+        };
+        let opened = std::cell::Cell::new(ffi::Opened::default());
+        // SAFETY: all of these live and are apart.
+        let status = self.call(|handle, told| unsafe { ffi::rx_book_open_told(handle, place, above, kind, hub, opened.as_ptr(), told) });
+        self.hear(status, None).map_err(|it| it.why)?;
+        let opened = opened.get();
+        Ok(Opened { node: Node(opened.node), connection: (opened.is_connected == 1).then_some(Node(opened.connection)) })
+    }
+
+    /// Opens a mirroring node that holds the resource; refused it hands that back.
+    pub fn using(&mut self, at: At, resource: R) -> Result<Using, Refused<R>> {
+        let (place, above) = Self::place(at);
+        let tag = self.tag();
+        let used = std::cell::Cell::new(ffi::Using::default());
+        // SAFETY: all of these live and are apart.
+        let status = self.call(|handle, told| unsafe { ffi::rx_book_using_told(handle, place, above, tag, used.as_ptr(), told) });
+        if let Err(refused) = self.hear(status, None) {
+            self.free.push(tag);
+            return Err(Refused { why: refused.why, back: resource });
+        }
+        self.resources[tag as usize] = Some(resource);
+        Ok(Using { node: Node(used.get().node), res: Res { key: used.get().res, tag } })
+    }
+
+    /// Lets a node hold the resource; refused it hands that back.
+    pub fn hold(&mut self, node: Node, resource: R) -> Result<Res, Refused<R>> {
+        let tag = self.tag();
+        let held = std::cell::Cell::new(ffi::Key::default());
+        // SAFETY: these live and are apart.
+        match self.call(|handle, _| unsafe { ffi::rx_book_hold(handle, node.0, tag, held.as_ptr()) }) {
+            0 => {
+                self.resources[tag as usize] = Some(resource);
+                Ok(Res { key: held.get(), tag })
+            }
+            status => {
+                self.free.push(tag);
+                Err(Refused { why: Refusal::of(status), back: resource })
+            }
+        }
+    }
+
+    /// The leaf emits the item; refused it hands that back.
+    pub fn next(&mut self, leaf: Node, item: T) -> Result<(), Refused<T>> {
+        // SAFETY: these live and are apart; so in the calls below.
+        let status = self.call(|handle, told| unsafe { ffi::rx_book_next_told(handle, leaf.0, 0, told) });
+        self.hear(status, Some(item)).map_err(|it| Refused { why: it.why, back: it.back.expect("a refused item is told to nobody") })
+    }
+
+    /// The leaf ends.
+    pub fn end(&mut self, leaf: Node, terminal: Terminal) -> Result<(), Refusal> {
+        let (how, error) = match terminal {
+            Terminal::Completed => (0, 0),
+            Terminal::Error(code) => (1, code),
+        };
+        self.plainly(|handle, told| unsafe { ffi::rx_book_end_told(handle, leaf.0, how, error, told) })
+    }
+
+    /// A node that is no leaf, and has none below it, fails.
+    pub fn abort(&mut self, node: Node, error: u32) -> Result<(), Refusal> {
+        self.plainly(|handle, told| unsafe { ffi::rx_book_abort_told(handle, node.0, error, told) })
+    }
+
+    /// A FlatMap or a Switch fails in the place of an inner observable that it owes.
+    pub fn fail(&mut self, merging: Node, error: u32) -> Result<(), Refusal> {
+        self.plainly(|handle, told| unsafe { ffi::rx_book_fail_told(handle, merging.0, error, told) })
+    }
+
+    /// A FlatMap or a Switch has no inner observable for an item.
+    pub fn decline(&mut self, merging: Node) -> Result<(), Refusal> {
+        self.plainly(|handle, told| unsafe { ffi::rx_book_decline_told(handle, merging.0, told) })
+    }
+
+    /// Unsubscribes a root.
+    pub fn dispose(&mut self, root: Node) -> Result<(), Refusal> {
+        self.plainly(|handle, told| unsafe { ffi::rx_book_dispose_told(handle, root.0, told) })
+    }
+
+    /// Makes a hub; there are 1,024 at most.
+    pub fn hub(&mut self, mode: Mode) -> Result<Hub, Refusal> {
+        let number = std::cell::Cell::new(0);
+        match self.call(|handle, _| unsafe { ffi::rx_book_hub(handle, (mode == Mode::Manual) as u8, number.as_ptr()) }) {
+            0 => Ok(Hub(number.get())),
+            status => Err(Refusal::of(status)),
+        }
+    }
+
+    /// Connects a hub of mode `Manual`: the connection, at whose source the shared observable is opened.
+    pub fn connect(&mut self, hub: Hub) -> Result<Node, Refusal> {
+        let key = std::cell::Cell::new(ffi::Key::default());
+        match self.call(|handle, _| unsafe { ffi::rx_book_connect(handle, hub.0, key.as_ptr()) }) {
+            0 => Ok(Node(key.get())),
+            status => Err(Refusal::of(status)),
+        }
+    }
+
+    /// Disconnects a hub of mode `Manual`.
+    pub fn disconnect(&mut self, hub: Hub) -> Result<(), Refusal> {
+        self.plainly(|handle, told| unsafe { ffi::rx_book_disconnect_told(handle, hub.0, told) })
+    }
+
+    /// Uses a resource that is held.
+    pub fn apply<A>(&mut self, res: Res, using: impl FnOnce(&mut R) -> A) -> Result<A, Refusal> {
+        let answer = std::cell::Cell::new(0);
+        match self.call(|handle, _| unsafe { ffi::rx_book_apply(handle, res.key, res.tag, answer.as_ptr()) }) {
+            0 => Ok(using(self.resources[answer.get() as usize].as_mut().expect("what is held is here"))),
+            status => Err(Refusal::of(status)),
+        }
+    }
+
+    /// Takes a resource from its node.
+    pub fn remove(&mut self, res: Res) -> Result<(), Refusal> {
+        self.plainly(|handle, told| unsafe { ffi::rx_book_remove_told(handle, res.key, told) })
+    }
+
+    /// Gives out a lease, before whose return the resource is not released.
+    pub fn lease(&mut self, res: Res) -> Result<Lease, Refusal> {
+        let key = std::cell::Cell::new(ffi::Key::default());
+        match self.call(|handle, _| unsafe { ffi::rx_book_lease(handle, res.key, key.as_ptr()) }) {
+            0 => Ok(Lease(key.get())),
+            status => Err(Refusal::of(status)),
+        }
+    }
+
+    /// Takes a lease back.
+    pub fn give_back(&mut self, lease: Lease) -> Result<(), Refusal> {
+        self.plainly(|handle, told| unsafe { ffi::rx_book_give_back_told(handle, lease.0, told) })
+    }
+
+    /// The next note.
+    pub fn take_mail(&mut self) -> Option<Mail<T>> {
+        self.mail.pop_front()
+    }
+
+    /// A resource that is to be released now: drop it.
+    pub fn take(&mut self) -> Option<R> {
+        self.waiting.pop_front()
+    }
+
+    /// Whether the node is open.
+    pub fn is_open(&mut self, node: Node) -> bool {
+        let mut is_open = 0;
+        unsafe { ffi::rx_book_is_open(&mut self.handle, node.0, &mut is_open) };
+        is_open == 1
+    }
+
+    /// How many items an open FlatMap or Switch is owed an inner observable for.
+    pub fn owed(&mut self, merging: Node) -> Option<u64> {
+        let mut count = 0;
+        (unsafe { ffi::rx_book_owed(&mut self.handle, merging.0, &mut count) } == 0).then_some(count)
+    }
+
+    /// How much there is.
+    pub fn counts(&mut self) -> Counts {
+        let mut it = ffi::Counts::default();
+        unsafe { ffi::rx_book_counts(&mut self.handle, &mut it) };
+        Counts { nodes: it.nodes, held: it.held, leases: it.leases, accepted: it.accepted, events: it.events }
+    }
+
+    /// Puts what is open in the place of the events so far, and gives their memory back: whether it could be done.
+    pub fn checkpoint(&mut self) -> bool {
+        let mut place = 0;
+        unsafe { ffi::rx_book_checkpoint(&mut self.handle, &mut place) == 0 }
+    }
+
+    /// Closes all and takes leases back: what was held comes out of `take`.
+    pub fn close(&mut self) {
+        unsafe { ffi::rx_book_close(&mut self.handle) };
+        let mut notes = Vec::new();
+        self.drain(&mut notes);
+        self.tell(&notes, None);
+    }
+}
+
+impl<T, R> Book<T, R> {
+    fn set_free(&mut self, tag: u64) {
+        let resource = self.resources[tag as usize].take().expect("a tag is told once");
+        self.free.push(tag);
+        self.waiting.push_back(resource);
+    }
+}
+
+impl<T, R> Drop for Book<T, R> {
+    fn drop(&mut self) {
+        // What is left, held or waiting, is dropped with the tables, each once.
+        // SAFETY: the handle is ours, and nobody has it afterwards.
+        unsafe {
+            if ffi::rx_book_finish(&mut self.handle) != 0 {
+                ffi::rx_book_drop(&mut self.handle);
+            }
+        }
+    }
+}
