@@ -184,6 +184,7 @@ class Engine:
         self._tag = 0
         self._now: Dict[int, Callable[[], Any]] = {}  # by tag: this package's own, done while the lock is held
         self._soon: Dict[int, Callable[[], Any]] = {}  # its own, done before anybody is told
+        self._behind: Dict[int, Callable[[Any], Any]] = {}  # its own, done behind what is projected
         self._due: Dict[int, Callable[[], Any]] = {}  # the user's, done in the order of the queue
         self._first: Deque[Callable[[], Any]] = deque()
         self._projections: Deque[Tuple[Callable[[Any], Any], Any, int]] = deque()
@@ -225,6 +226,8 @@ class Engine:
                     now()
                 elif tag in self._soon:
                     self._first.append(self._soon.pop(tag))
+                elif tag in self._behind:
+                    self._projections.append((self._behind.pop(tag), None, me))
                 else:
                     due.append(tag)
             due.sort(reverse=True)  # what was taken last is released first, as along a chain of disposables
@@ -249,8 +252,8 @@ class Engine:
         kind[tag] = release
 
     def open(self, at: At, kind: int, now: Optional[Callable[[], Any]] = None, due: Optional[Callable[[], Any]] = None,
-             soon: Optional[Callable[[], Any]] = None) -> Any:
-        """Opens a node; when it closes, `now`, `soon` and `due` are called."""
+             soon: Optional[Callable[[], Any]] = None, behind: Optional[Callable[[Any], Any]] = None) -> Any:
+        """Opens a node; when it closes, `now`, `soon`, `behind` and `due` are called."""
         with self.lock:
             node, _ = self.book.open(at.place, at.above, kind)
             self._bind(at, node)
@@ -258,6 +261,8 @@ class Engine:
                 self.hold(node, self._now, now)
             if soon is not None:
                 self.hold(node, self._soon, soon)
+            if behind is not None:
+                self.hold(node, self._behind, behind)
             if due is not None:
                 self.hold(node, self._due, due)
             if self.book.mail or self.book.tags:

@@ -437,27 +437,34 @@ class Created(_Source):
 
 # functions on items
 
+#: How a function behaves in the midst of a tree: it tells at most one item for each, and passes ends on as they are; or so, but
+#: it may complete by itself; or it hears of ends.
+PLAIN, ENDING, HEARING = range(3)
+
+
 class Fn(Observable):
     """A function on the notes of a source, of which `make` makes a Stage."""
 
-    def __init__(self, source: Any, make: Callable[[Any], Stage]):
-        self._source, self._make = to_observable(source), make
+    def __init__(self, source: Any, make: Callable[[Any], Stage], manner: int = HEARING):
+        self._source, self._make, self._manner = to_observable(source), make, manner
 
     def _below(self) -> Tuple[Any, ...]:
         return (self._source,)
 
     def _open(self, at: At) -> None:
         makes: List[Callable[[Any], Stage]] = []
-        core: Observable = self
+        manner, core = PLAIN, self  # type: Tuple[int, Observable]
         while isinstance(core, Fn):
             makes.append(core._make)
-            core = core._source
+            manner, core = max(manner, core._manner), core._source
         if core._open_with(at, makes):
             return
         if at.root is not None:
             self._at_root(core, at, makes)
-        else:
+        elif manner == HEARING:
             _linked(core, at, makes)
+        else:
+            _Relay(core, at, makes, manner == ENDING)
 
     @staticmethod
     def _at_root(core: Observable, at: At, makes: List[Callable[[Any], Stage]]) -> None:
@@ -472,6 +479,60 @@ class Fn(Observable):
         at.engine.serve()
         if not root.is_stopped:
             core._open(at)
+
+
+class _Relay:
+    """Functions in the midst of a tree: a FlatMap whose items go through them, and out of one inner source. So the book
+    closes all of it in one."""
+
+    __slots__ = ("_engine", "_node", "_inner", "_leaf", "_stop", "_up", "_is_owed")
+
+    def __init__(self, core: Observable, at: At, makes: List[Callable[[Any], Stage]], is_ending: bool):
+        engine = self._engine = at.engine
+        self._leaf: Optional[Leaf] = None
+        self._stop: Any = None  # the notifier that ends the source
+        self._is_owed = False
+        self._node = engine.open_merging(at, FLAT, self._project)
+        self._inner = at.below(INNER, self._node)
+        below = engine.open(at.below(SOURCE, self._node), UNTIL if is_ending else PASS, behind=self._over)
+        if is_ending:
+            self._stop = engine.open(at.below(NOTIFIER, below), LEAF)
+        self._up = _chained(makes, self)
+        _open_below(core, at.below(SOURCE, below))
+
+    def _project(self, value: Any) -> None:
+        self._is_owed = True
+        self._up.on_next(value)
+        if self._is_owed:
+            self._engine.decline(self._node)
+
+    def _over(self, _: Any) -> None:
+        """The source is closed. If it failed, or something further out closed it, so is all else."""
+        if self._leaf is not None:
+            self._leaf.on_completed()
+
+    # what the last of the functions calls
+
+    def on_next(self, value: Any) -> None:
+        if self._leaf is None:
+            self._leaf = Leaf(self._engine)
+            self._leaf.key = self._engine.open(self._inner, LEAF, self._leaf.closed)
+        else:
+            self._engine.decline(self._node)
+        self._is_owed = False
+        self._leaf.on_next(value)
+
+    def on_error(self, error: Exception) -> None:
+        self._is_owed = False
+        self._engine.fail(self._node, error)
+
+    def on_completed(self) -> None:
+        if self._leaf is not None:
+            self._leaf.on_completed()
+        if self._is_owed:
+            self._is_owed = False
+            self._engine.decline(self._node)
+        self._engine.end(self._stop, None)
 
 
 def _linked(core: Observable, at: At, makes: List[Callable[[Any], Stage]]) -> None:

@@ -3,8 +3,8 @@ from __future__ import annotations
 
 from typing import Any, Callable, List, Optional
 
-from .._observable import (Concat, ConnectableObservable, Defer, Finally, Fn, FromIterable, Merging, Multicast, Observable, Published, RefCount,
-                           Stage, Until, counted, to_observable)
+from .._observable import (ENDING, HEARING, PLAIN, Concat, ConnectableObservable, Defer, Finally, Fn, FromIterable,
+                           Merging, Multicast, Observable, Published, RefCount, Stage, Until, counted, to_observable)
 
 __all__ = ["concat", "connect", "do", "do_action", "filter", "filter_indexed", "finally_action", "flat_map", "flat_map_indexed",
            "flat_map_latest", "map", "map_indexed", "merge", "merge_all", "multicast", "pairwise", "publish", "ref_count", "scan",
@@ -180,24 +180,24 @@ def _indexed(function: Callable[[Any, int], Any]) -> Callable[[], Callable[[Any]
 def map(mapper: Optional[Callable[[Any], Any]] = None) -> Operator:
     """Each item through a function; where that raises, the observable fails."""
     function = mapper or (lambda value: value)
-    return lambda source: Fn(source, lambda down: _Map(down, function))
+    return lambda source: Fn(source, lambda down: _Map(down, function), PLAIN)
 
 
 def map_indexed(mapper_indexed: Optional[Callable[[Any, int], Any]] = None) -> Operator:
     """The same, of an item and its index, from 0."""
     make = _indexed(mapper_indexed or (lambda value, _: value))
-    return lambda source: Fn(source, lambda down: _Map(down, make()))
+    return lambda source: Fn(source, lambda down: _Map(down, make()), PLAIN)
 
 
 def filter(predicate: Callable[[Any], Any]) -> Operator:
     """The items of which the predicate is true."""
-    return lambda source: Fn(source, lambda down: _Filter(down, predicate))
+    return lambda source: Fn(source, lambda down: _Filter(down, predicate), PLAIN)
 
 
 def filter_indexed(predicate_indexed: Optional[Callable[[Any, int], Any]] = None) -> Operator:
     """The same, of an item and its index, from 0."""
     make = _indexed(predicate_indexed or (lambda _, __: True))
-    return lambda source: Fn(source, lambda down: _Filter(down, make()))
+    return lambda source: Fn(source, lambda down: _Filter(down, make()), PLAIN)
 
 
 def scan(accumulator: Callable[[Any, Any], Any], seed: Any = _NOTHING) -> Operator:
@@ -210,31 +210,31 @@ def scan(accumulator: Callable[[Any, Any], Any], seed: Any = _NOTHING) -> Operat
             so_far = value if so_far is _NOTHING else accumulator(so_far, value)
             return so_far
         return call
-    return lambda source: Fn(source, lambda down: _Map(down, make()))
+    return lambda source: Fn(source, lambda down: _Map(down, make()), PLAIN)
 
 
 def take(count: int) -> Operator:
     """The first items, and then the completion."""
     if count < 0:
         raise ValueError("take: a count of 0 or more is expected")
-    return lambda source: Fn(source, lambda down: _Take(down, count))
+    return lambda source: Fn(source, lambda down: _Take(down, count), ENDING)
 
 
 def take_while(predicate: Callable[[Any], Any], inclusive: bool = False) -> Operator:
     """The items before the first of which the predicate is false; with it, if `inclusive`."""
-    return lambda source: Fn(source, lambda down: _TakeWhile(down, predicate, inclusive))
+    return lambda source: Fn(source, lambda down: _TakeWhile(down, predicate, inclusive), ENDING)
 
 
 def skip(count: int) -> Operator:
     """All but the first items."""
     if count < 0:
         raise ValueError("skip: a count of 0 or more is expected")
-    return lambda source: Fn(source, lambda down: _Skip(down, count))
+    return lambda source: Fn(source, lambda down: _Skip(down, count), PLAIN)
 
 
 def pairwise() -> Operator:
     """Each item with the one before it."""
-    return lambda source: Fn(source, _Pairwise)
+    return lambda source: Fn(source, _Pairwise, PLAIN)
 
 
 def start_with(*args: Any) -> Operator:
@@ -245,7 +245,8 @@ def start_with(*args: Any) -> Operator:
 def do_action(on_next: Optional[Callable[[Any], Any]] = None, on_error: Optional[Callable[[Exception], Any]] = None,
               on_completed: Optional[Callable[[], Any]] = None) -> Operator:
     """Calls these for each note, before the observer is told; where one raises, the observable fails."""
-    return lambda source: Fn(source, lambda down: _Do(down, on_next, on_error, on_completed))
+    manner = PLAIN if on_error is None and on_completed is None else HEARING
+    return lambda source: Fn(source, lambda down: _Do(down, on_next, on_error, on_completed), manner)
 
 
 def do(observer: Any) -> Operator:
