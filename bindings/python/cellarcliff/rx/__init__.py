@@ -15,8 +15,8 @@ import importlib
 from typing import Any, Callable, Iterable, Optional
 
 from ._engine import _hook, _print, current, use
-from ._observable import (Concat, ConnectableObservable, Created, Defer, Empty, FromIterable, Just, Merging, Never, Observable, Observer, Throw,
-                          Using, to_observable)
+from ._observable import (Concat, ConnectableObservable, Created, Defer, Empty, FromIterable, Just, Merging, Never,
+                          Observable, Observer, Throw, Using, to_observable)
 from ._time import Timer
 
 __all__ = ["ConnectableObservable", "Observable", "Observer", "concat", "create", "current", "defer", "empty", "from_", "from_iterable",

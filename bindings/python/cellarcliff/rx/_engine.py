@@ -13,7 +13,7 @@ from collections import deque
 from threading import get_ident
 from typing import Any, Callable, Deque, Dict, List, Optional, Tuple
 
-from ..book import AUTO, LEAF, MANUAL, NEXT, ON_COMPLETED, PROJECT, ROOT, Book, Calls, Refused
+from ..book import AUTO, MANUAL, NEXT, ON_COMPLETED, PROJECT, Book, Calls, Refused
 
 _ONLY = object()  # the argument of a call that takes none
 _LEVELS, _MOST_HUBS = 8, 1024

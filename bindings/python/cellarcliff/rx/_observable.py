@@ -9,7 +9,7 @@ from __future__ import annotations
 import threading
 from collections import deque
 from collections.abc import Iterable
-from typing import Any, Callable, Deque, List, Optional, Tuple
+from typing import Any, Callable, List, Optional, Tuple
 
 from ..book import AUTO, FLAT, INNER, LEAF, MANUAL, NOTIFIER, PASS, ROOT, SOURCE, SUB, SWITCH, UNTIL, Refused
 from ._engine import At, Engine, Leaf, Root, current, here

@@ -2,7 +2,7 @@
 from __future__ import annotations
 
 from datetime import datetime
-from typing import Any, List, Optional
+from typing import Any, List
 
 from ..book import LEAF
 from ._engine import At, Leaf

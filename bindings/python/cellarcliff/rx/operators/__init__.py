@@ -1,7 +1,7 @@
 """Operators, with the names and the signatures of RxPY 3: each answers a function from an observable to an observable."""
 from __future__ import annotations
 
-from typing import Any, Callable, List, Optional
+from typing import Any, Callable, Optional
 
 from .._observable import (ENDING, HEARING, PLAIN, Concat, ConnectableObservable, Defer, Finally, Fn, FromIterable,
                            Merging, Multicast, Observable, Published, RefCount, Stage, Until, counted, to_observable)

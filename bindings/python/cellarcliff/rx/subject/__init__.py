@@ -7,7 +7,7 @@ from typing import Any, Callable, Deque, Dict, List, Optional, Tuple
 
 from ...book import LEAF
 from .._engine import At, Leaf, here
-from .._observable import Observable, Observer, _chained, _Source
+from .._observable import Observer, _chained, _Source
 from ..internal import DisposedException
 
 _NEXT, _ERROR, _COMPLETED = range(3)
