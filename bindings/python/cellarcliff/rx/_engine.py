@@ -101,7 +101,10 @@ class Root:
     def told_next(self, value: Any) -> None:
         if not self.is_stopped:
             try:
-                self.head.on_next(value)
+                if self.head is self:
+                    self._on_next(value)
+                else:
+                    self.head.on_next(value)
             except BaseException:
                 self.dispose()
                 raise

@@ -13,6 +13,15 @@ from ..internal import DisposedException
 _NEXT, _ERROR, _COMPLETED = range(3)
 
 
+def _tell(up: Any, kind: int, value: Any) -> None:
+    if kind == _NEXT:
+        up.on_next(value)
+    elif kind == _ERROR:
+        up.on_error(value)
+    else:
+        up.on_completed()
+
+
 class Subject(_Source, Observer):
     """An observable and an observer: what it is told, each that subscribed is told, in the order in which they did.
 
@@ -91,17 +100,37 @@ class Subject(_Source, Observer):
         here.depth += 1
         try:
             with self._lock:
-                self._emissions.append((deque(self._ups.values()), kind, value))
-                if self._owner not in (0, me):
-                    return
-                is_outermost, self._owner = not self._owner, me
+                ups, owner = self._ups, self._owner
+                if owner and owner != me or self._emissions or len(ups) != 1:
+                    self._emissions.append((deque(ups.values()), kind, value))
+                    if owner and owner != me:
+                        return
+                    alone = None
+                else:  # nothing is under way, and one has subscribed
+                    [alone] = ups.values()
+                self._owner = me
             try:
-                self._go_on(is_outermost)
+                if alone is not None:
+                    up, leaf = alone
+                    _tell(up, kind, value)
+                    leaf.engine.serve()
+                if alone is None or self._emissions:
+                    self._go_on(not owner)
             finally:
-                if is_outermost and self._owner == me:
-                    self._owner = 0
+                if not owner:
+                    self._leave(me)
         finally:
             here.leave()
+
+    def _leave(self, me: int) -> None:
+        """The outermost has told all, or was cut off."""
+        while True:
+            with self._lock:
+                if not self._emissions or self._owner != me:
+                    if self._owner == me:
+                        self._owner = 0
+                    return
+            self._go_on(True)
 
     def _go_on(self, is_outermost: bool) -> None:
         """Tells what is to be told, oldest first. Who calls this from within goes on with what is under way further out."""
@@ -117,14 +146,8 @@ class Subject(_Source, Observer):
                 ups, kind, value = emissions[0]
                 up, leaf = ups.popleft()
             engine = leaf.engine
-            if leaf.is_stopped:
-                continue
-            if kind == _NEXT:
-                up.on_next(value)
-            elif kind == _ERROR:
-                up.on_error(value)
-            else:
-                up.on_completed()
+            if not leaf.is_stopped:
+                _tell(up, kind, value)
             if not ups:
                 engine.serve()
         if engine is not None:
