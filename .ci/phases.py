@@ -9,7 +9,7 @@ It looks twice a second at the programs that the command starts. A phase is the 
 proof of its tests, its edits or its runs. The first table has a line for each crate, the second a line
 for each phase. The log of the command goes to the file gate.log, or to the one that the variable
 GATE_LOG names. An interrupt, or the signal TERM, stops the command; the tables then say what was seen.
-The exit status is the command's own. docs/GATE.md says how to read the tables. It needs Linux, for /proc.
+The exit status is the command's own. docs/dev/gate.md says how to read the tables. It needs Linux, for /proc.
 """
 import os
 import re

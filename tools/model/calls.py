@@ -1,4 +1,4 @@
-"""The calls of a book, what each adds to its history, and for what it is refused: docs/DEFINITIONS.md, 12 to 14."""
+"""The calls of a book, what each adds to its history, and for what it is refused: docs/explanation/definitions.md, 12 to 14."""
 from __future__ import annotations
 
 from dataclasses import dataclass

@@ -1,6 +1,6 @@
 """What a history of subscriptions means, and which histories may be: the definitions, as Python that can be run.
 
-One function is one definition, in the order and by the names of docs/DEFINITIONS.md, with the sentence that it says and,
+One function is one definition, in the order and by the names of docs/explanation/definitions.md, with the sentence that it says and,
 where the rule is public, its source: Rx stands for the pages of reactivex.io, System.Reactive for its documentation of
 disposables. What has no source is this project's own. Every function is a search of the history, and keeps nothing but
 what `once` remembers of it. It was written from that page and not from the proved code, with which it shares nothing.

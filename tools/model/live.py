@@ -1,4 +1,4 @@
-"""A live book (docs/LIVE.md): what each line is to be answered. The answers of a program are followed, since some of what
+"""A live book (docs/reference/live-protocol.md): what each line is to be answered. The answers of a program are followed, since some of what
 they tell is free: the order of what is forced, and of a release."""
 from __future__ import annotations
 

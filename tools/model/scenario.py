@@ -1,4 +1,4 @@
-"""Runs scenarios (docs/FORMATS.md; docs/DEFINITIONS.md, 16) and the lines of a live book (docs/LIVE.md) on the definitions.
+"""Runs scenarios (docs/reference/scenario.md; docs/explanation/definitions.md, 16) and the lines of a live book (docs/reference/live-protocol.md) on the definitions.
 
 Where a choice is free, which of several forced events comes first and which of the waiting resources is taken, a `Way`
 makes it: by the canonical order, or as a history that somebody else wrote, which is followed event by event, and refused

@@ -1,4 +1,4 @@
-"""The texts that come in and go out: dumps and scenarios as docs/FORMATS.md has them, lines as docs/LIVE.md has them."""
+"""The texts that come in and go out: dumps and scenarios as docs/reference/scenario.md has them, lines as docs/reference/live-protocol.md has them."""
 from __future__ import annotations
 
 import json

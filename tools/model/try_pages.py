@@ -1,5 +1,5 @@
 #!/usr/bin/env python3
-"""Runs the worked examples of docs/DEFINITIONS.md on the model: what the page says of each is so there.
+"""Runs the worked examples of docs/explanation/definitions.md on the model: what the page says of each is so there.
 
 Usage: tools/model/try_pages.py, from anywhere; it takes a second. A claim is a sentence of the page, which has to stand in
 its section, and what it says of the section's example. Each fault is a line; the last line counts them, and the status is 1
@@ -18,7 +18,7 @@ from model.scenario import Canonical, Course
 from model.texts import event_of, json_of
 
 docs = pathlib.Path(__file__).resolve().parents[2] / 'docs'
-PAGE = next(it for it in (docs / 'explanation/definitions.md', docs / 'DEFINITIONS.md') if it.exists())
+PAGE = docs / 'explanation/definitions.md'
 REFUSALS, OURS = docs / 'reference/refusals.md', docs / 'dev/model.md'
 
 

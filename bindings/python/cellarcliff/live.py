@@ -157,7 +157,7 @@ class Book(contextlib.AbstractContextManager):
 
     def send(self, do: str, *, observer: Optional[Observer] = None, release: Optional[Release] = None,
              **members: Any) -> Dict[str, Any]:
-        """One command, as docs/FORMATS.md names it, and its answer. `observer` hears what the node that it opens is told: a
+        """One command, as docs/reference/scenario.md names it, and its answer. `observer` hears what the node that it opens is told: a
         root, a FlatMap or a Switch. `release` is called once for the resource of a `using` or `hold`, also where that is
         refused. Raises Refused. A line whose call is cut off by an interrupt is carried out all the same."""
         if do in ("using", "hold") and release is None:
