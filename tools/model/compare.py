@@ -19,9 +19,14 @@ def expect(what: str, said: Any, wanted: Any) -> None:
         raise Differs(f'{what}: {said!r}, and it is {wanted!r}')
 
 
+def is_sampled(text: bytes) -> bool:
+    """Whether it is one of four, for what takes another process or another course."""
+    return len(text) % 4 == 0
+
+
 def compare_words(engine: Any, text: bytes, accepted: bool) -> None:
     """Nothing is explained of what is accepted, and in one line something of everything else."""
-    said = engine.explain(text) if hasattr(engine, 'explain') else None
+    said = engine.explain(text) if hasattr(engine, 'explain') and is_sampled(text) else None
     if said and (said[0] != (0 if accepted else FAULTY_INPUT) or len(said[1].splitlines()) != (not accepted)):
         raise Differs(f'explained: {said}, and it is {"" if accepted else "not "}accepted')
 
@@ -37,9 +42,9 @@ def compare_scenario(engine: Any, text: bytes) -> None:
     compare_words(engine, text, True)
     status, told = engine.run(text)
     expect('the status of run', status, 0)
-    course = Course(scenario, Canonical())
     if has_checkpoint(scenario['steps']):
         expect('the dump of a scenario with a checkpoint', engine.dump(text), (FAULTY_INPUT, b''))
+        course = Course(scenario, Canonical())
         if course.was_full() and Course(scenario, Last()).report() != course.report():
             return None  # what is refused Full rests on the order, and the order is not told
         return expect('report', told.decode(), course.report())
@@ -50,8 +55,8 @@ def compare_scenario(engine: Any, text: bytes) -> None:
     followed = Course(scenario, Following(told_events))
     expect('the events of the dump', len(told_events), len(followed.h))
     expect('report', told.decode(), followed.report())
-    if not course.was_full() and not followed.was_full():
-        expect('report of the canonical course', told.decode(), course.report())
+    if is_sampled(text) and not followed.was_full():
+        expect('report of the canonical course', told.decode(), Course(scenario, Canonical(), limited=False).report())
     expect('the verdict on the dump', engine.audit(dump), (0, standing(followed.h).encode()))
 
 
@@ -64,7 +69,7 @@ def compare_history(engine: Any, text: bytes) -> None:
         return compare_words(engine, text, False) if text.lstrip(b' \n\t\r')[:1] == b'[' else None
     wanted = verdict(events)
     compare_words(engine, text, wanted.startswith('lawful'))
-    picture = engine.picture(text) if hasattr(engine, 'picture') else None
+    picture = engine.picture(text) if hasattr(engine, 'picture') and is_sampled(text) else None
     if picture:
         expect('the front of the picture', (picture[0], picture[1][:4]), (0, b'<svg'))
     expect('verdict', engine.audit(text), (0 if wanted.startswith('lawful') else NOT_LAWFUL, wanted.encode()))
