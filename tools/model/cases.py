@@ -300,7 +300,8 @@ def grown_history(rng: random.Random) -> list[Event]:
     if how < 0.3 or not events:
         return events
     unsettled = [n for n in range(len(events)) if not is_settled(h.before(n))]
-    n = rng.choice(unsettled) if unsettled and rng.random() < 0.5 else rng.randrange(len(events))
+    outlived = [n for n in range(len(events)) if n not in unsettled and any(source_completed(h.before(n), f) for f in open_nodes(h.before(n)))]
+    n = rng.choice(rng.choice([it for it in (unsettled, outlived, range(len(events))) if it]))
     if how < 0.45:
         return events[:n]
     if how < 0.7:
