@@ -18,6 +18,7 @@ class Turned:
 
     def __init__(self, engine: Any, step: Callable | None = None, only: str = '', **texts: Callable):
         self.engine, self.step, self.only, self.texts = engine, step, only, texts
+        self.answers_cut = hasattr(engine, 'answers_cut') and engine.answers_cut
 
     def scenario(self, text: bytes) -> bytes:
         try:
@@ -48,9 +49,9 @@ class Turned:
     def audit(self, text: bytes) -> tuple[int, bytes]:
         return self.told('verdict', self.engine.audit(text))
 
-    def live(self, lines: list[bytes], limit: int | None = None) -> list[str]:
+    def live(self, lines: list[bytes], limit: int | None = None, cut: bytes = b'') -> list[str]:
         turn = self.texts.get('answers', lambda answers: answers)
-        return turn(self.engine.live([self.line(line) for line in lines], limit))
+        return turn(self.engine.live([self.line(line) for line in lines], limit, cut))
 
 
 def instead(do: str, /, **members: Any) -> Callable:
