@@ -9,9 +9,9 @@ from collections.abc import Callable
 from typing import Any
 
 from .definitions import (COMPLETED, PLACES, Accept, Close, Connect, Decline, End, Event, History, Hub, Item, Lease, Open, Remove,
-                          Return, Take, Use, at, children, forced, held_count, hubs, is_held, is_open, is_out, is_owned, is_settled,
+                          Return, Take, Use, at, children, debt, forced, held_count, hubs, is_held, is_open, is_out, is_owned, is_settled,
                           is_waiting, kind_of, makes_lease, may_follow, nodes, open_connections, open_nodes, owed, resources,
-                          was_opened)
+                          source_completed, was_opened)
 from .live import Live
 from .scenario import Book, Canonical
 from .texts import dump_of, events_of, form_of, scenario_of
@@ -53,6 +53,8 @@ class Commands:
     def __init__(self, rng: random.Random, book: Book, checkpoints: float = 0, timed: bool = False):
         self.rng, self.book, self.made, self.timed, self.checkpoints = rng, book, 0, timed, checkpoints
         self.labels: list[str] = []
+        self.most = 0  # events and debt at a time, where that is asked for
+        self.counts = False
 
     def new(self, space: str) -> str:
         self.made += 1
@@ -81,10 +83,9 @@ class Commands:
         h, rng = self.book.h, self.rng
         names = [(name, n) for name, n in self.book.names['node'].items() if is_open(h, n)]
         bare = [(name, place) for name, n in names for place in PLACES[kind_of(h, n)] if place != 'inner' and not was_opened(h, n, place)]
-        owing, operators = [[name for name, n in names if fits(n)] for fits in (
-            lambda n: owed(h, n) > 0, lambda n: kind_of(h, n) in ('flat', 'switch', 'until'))]
-        if operators and rng.random() < 0.05:
-            return {'place': 'source', 'of': rng.choice(operators)}
+        owing, done = [[name for name, n in names if fits(n)] for fits in (lambda n: owed(h, n) > 0, lambda n: source_completed(h, n))]
+        if done and rng.random() < 0.06:
+            return {'place': 'source', 'of': rng.choice(done)}
         if owing and rng.random() < 0.5:
             return {'place': 'inner', 'of': rng.choice(owing)}
         if bare and rng.random() < 0.8:
@@ -128,7 +129,8 @@ class Commands:
             case 'next':
                 step |= {'node': self.node('leaf'), 'value': rng.choice((0, 1, 5, -7, 2**63 - 1, -2**63, rng.randrange(-99, 99)))}
             case 'end':
-                step |= {'node': self.node('leaf'), **({'error': rng.randrange(9)} if rng.random() < 0.35 else {})}
+                fed = lambda n: is_open(h, n) and kind_of(h, n) == 'leaf' and at(h, n).place == 'source' and owed(h, at(h, n).of) > 0
+                step |= {'node': self.known('node', fed) if owing and rng.random() < 0.4 else self.node('leaf'), **({'error': rng.randrange(9)} if rng.random() < 0.35 else {})}
             case 'hub':
                 step |= {'name': self.new('hub'), 'mode': rng.choice(('auto', 'auto', 'manual'))}
             case 'connect':
@@ -162,6 +164,8 @@ class Commands:
         step = self.command()
         if step['do'] != 'cancel':
             self.book.perform(step)
+        if self.counts:
+            self.most = max(self.most, len(self.book.h) - self.book.since + debt(self.book.h))
         return step
 
     def repeated(self, step: dict[str, Any]) -> None:
@@ -194,13 +198,16 @@ class Commands:
 def scenario(rng: random.Random) -> bytes:
     timed, checkpoints = rng.random() < 0.3, 2 if rng.random() < 0.15 else 0
     made: dict[str, Any] = {}
-    if rng.random() < 0.2:
+    if rng.random() < 0.06:
         made['events'] = rng.randrange(1, 60)
     commands = Commands(rng, Book(Canonical(), made.get('events')), checkpoints, timed)
+    commands.counts = rng.random() < 0.2
     front = rng.choice(stored('.json') or [[]])[:rng.randrange(LONG)] if rng.random() < 0.2 else []
     for step in front:
         commands.repeated(step)
     made['steps'] = front + commands.steps(rng.randrange(1, 12) if rng.random() < 0.3 or len(front) > 9 else rng.randrange(8, 40))
+    if commands.counts:
+        made['events'] = max(1, commands.most - rng.randrange(-1, 4))  # there is just room, or not quite
     if timed and rng.random() < 0.3:
         made['until'] = rng.randrange(7)
     return json.dumps(made).encode()
@@ -247,14 +254,16 @@ def candidate(rng: random.Random, h: History) -> Event:
         case 'open':
             bare = [(n, place) for n in opened for place in PLACES[kind_of(h, n)] if place != 'inner' and not was_opened(h, n, place)]
             chance = rng.random()
-            again = [n for n in opened if kind_of(h, n) in ('flat', 'switch', 'until')]
-            of, place = (rng.choice(again), 'source') if again and chance < 0.04 else (
-                rng.choice(owing), 'inner') if owing and chance < 0.4 else rng.choice(bare[-4:]) if bare and chance < 0.8 else (
+            done = [n for n in opened if source_completed(h, n)]
+            of, place = (rng.choice(done), 'source') if done and chance < 0.25 else (
+                rng.choice(owing), 'inner') if owing and chance < 0.45 else rng.choice(bare[-4:]) if bare and chance < 0.8 else (
                 (node(), rng.choice(('source', 'inner', 'notifier'))) if chance < 0.84 else (None, 'root'))
             kind = kind_for(rng, place, hubs(h) != [])
             return Open(place, of, kind, some(hubs(h), hubs(h)) if kind == 'sub' else None)
         case 'item': return Item(node('leaf'), rng.choice((0, 1, -5, 2**63 - 1)))
-        case 'end': return End(node('leaf'), rng.choice((COMPLETED, COMPLETED, 0, 3)))
+        case 'end':
+            fed = [n for n in opened if kind_of(h, n) == 'leaf' and at(h, n).place == 'source' and at(h, n).of in owing]
+            return End(rng.choice(fed) if fed and rng.random() < 0.4 else node('leaf'), rng.choice((COMPLETED, COMPLETED, 0, 3)))
         case 'fail': return End(node('pass', 'flat', 'switch', 'until', 'connection'), rng.choice((1, 2**32 - 1)))
         case 'close': return Close(some([n for n in opened if isinstance(at(h, n), Connect) or at(h, n).place == 'root'], nodes(h)))
         case 'hub': return Hub(rng.choice(('auto', 'auto', 'manual')))
@@ -291,7 +300,8 @@ def grown_history(rng: random.Random) -> list[Event]:
     if how < 0.3 or not events:
         return events
     unsettled = [n for n in range(len(events)) if not is_settled(h.before(n))]
-    n = rng.choice(unsettled) if unsettled and rng.random() < 0.5 else rng.randrange(len(events))
+    outlived = [n for n in range(len(events)) if n not in unsettled and any(source_completed(h.before(n), f) for f in open_nodes(h.before(n)))]
+    n = rng.choice(rng.choice([it for it in (unsettled, outlived, range(len(events))) if it]))
     if how < 0.45:
         return events[:n]
     if how < 0.7:

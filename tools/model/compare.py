@@ -19,9 +19,14 @@ def expect(what: str, said: Any, wanted: Any) -> None:
         raise Differs(f'{what}: {said!r}, and it is {wanted!r}')
 
 
+def is_sampled(text: bytes) -> bool:
+    """Whether it is one of four, for what takes another process or another course."""
+    return len(text) % 4 == 0
+
+
 def compare_words(engine: Any, text: bytes, accepted: bool) -> None:
     """Nothing is explained of what is accepted, and in one line something of everything else."""
-    said = engine.explain(text) if hasattr(engine, 'explain') else None
+    said = engine.explain(text) if hasattr(engine, 'explain') and is_sampled(text) else None
     if said and (said[0] != (0 if accepted else FAULTY_INPUT) or len(said[1].splitlines()) != (not accepted)):
         raise Differs(f'explained: {said}, and it is {"" if accepted else "not "}accepted')
 
@@ -37,9 +42,9 @@ def compare_scenario(engine: Any, text: bytes) -> None:
     compare_words(engine, text, True)
     status, told = engine.run(text)
     expect('the status of run', status, 0)
-    course = Course(scenario, Canonical())
     if has_checkpoint(scenario['steps']):
         expect('the dump of a scenario with a checkpoint', engine.dump(text), (FAULTY_INPUT, b''))
+        course = Course(scenario, Canonical())
         if course.was_full() and Course(scenario, Last()).report() != course.report():
             return None  # what is refused Full rests on the order, and the order is not told
         return expect('report', told.decode(), course.report())
@@ -50,8 +55,8 @@ def compare_scenario(engine: Any, text: bytes) -> None:
     followed = Course(scenario, Following(told_events))
     expect('the events of the dump', len(told_events), len(followed.h))
     expect('report', told.decode(), followed.report())
-    if not course.was_full() and not followed.was_full():
-        expect('report of the canonical course', told.decode(), course.report())
+    if is_sampled(text) and not followed.was_full():
+        expect('report of the canonical course', told.decode(), Course(scenario, Canonical(), limited=False).report())
     expect('the verdict on the dump', engine.audit(dump), (0, standing(followed.h).encode()))
 
 
@@ -64,7 +69,7 @@ def compare_history(engine: Any, text: bytes) -> None:
         return compare_words(engine, text, False) if text.lstrip(b' \n\t\r')[:1] == b'[' else None
     wanted = verdict(events)
     compare_words(engine, text, wanted.startswith('lawful'))
-    picture = engine.picture(text) if hasattr(engine, 'picture') else None
+    picture = engine.picture(text) if hasattr(engine, 'picture') and is_sampled(text) else None
     if picture:
         expect('the front of the picture', (picture[0], picture[1][:4]), (0, b'<svg'))
     expect('verdict', engine.audit(text), (0 if wanted.startswith('lawful') else NOT_LAWFUL, wanted.encode()))
@@ -78,9 +83,12 @@ def compare_input(engine: Any, text: bytes) -> None:
 
 def compare_session(engine: Any, text: bytes) -> None:
     """Each answer to the lines, of which the first may tell the limit: {"limit":N}."""
-    lines = text.split(b'\n')[:-1]
+    *lines, cut = text.split(b'\n')
     limit = json.loads(lines.pop(0))['limit'] if lines and lines[0].startswith(b'{"limit":') else None
-    follow(lines, engine.live(lines, limit), limit or 4_194_304)
+    answers = engine.live(lines, limit, cut)
+    if cut and getattr(engine, 'answers_cut', False):
+        expect('the answer to a last line that is cut off', list(json.loads(answers.pop(-2))), ['faulty'])
+    follow(lines, answers, limit or 4_194_304)
 
 
 COMPARE: dict[str, Callable[[Any, bytes], None]] = {
@@ -161,8 +169,8 @@ def smaller(suffix: str, text: bytes) -> Iterator[bytes]:
             for n in range(len(events) - 1, -1, -1):
                 yield dump_of(without(events, n))
         elif suffix == 'lines':
-            for lines in parts_left_out(text.split(b'\n')[:-1]):
-                yield b''.join(line + b'\n' for line in lines)
+            for lines in parts_left_out(text.split(b'\n')):
+                yield b'\n'.join(lines)
         else:
             for n in range(len(text)):
                 yield text[:n] + text[n + 1:]

@@ -17,6 +17,8 @@ DONE, TOO_SMALL = 0, 1
 class Programs:
     """A process for each text; its input and output are files in memory."""
 
+    answers_cut = True  # a last line that has no newline is answered
+
     def __init__(self, rxbook: str, rxlive: str, rxexplain: str | None = None, rxpicture: str | None = None):
         self.rxbook, self.rxlive, self.rxexplain, self.rxpicture = rxbook, rxlive, rxexplain, rxpicture
         folder = '/dev/shm' if os.path.isdir('/dev/shm') else None
@@ -50,8 +52,8 @@ class Programs:
     def picture(self, text: bytes) -> tuple[int, bytes] | None:
         return self._ask([self.rxpicture], text) if self.rxpicture else None
 
-    def live(self, lines: list[bytes], limit: int | None = None) -> list[str]:
-        status, text = self._ask([self.rxlive], b''.join(line + b'\n' for line in lines))
+    def live(self, lines: list[bytes], limit: int | None = None, cut: bytes = b'') -> list[str]:
+        status, text = self._ask([self.rxlive], b''.join(line + b'\n' for line in lines) + cut)
         return [*text.decode().splitlines(), *([f'status {status}'] if status else [])]
 
 
@@ -91,7 +93,7 @@ class Library:
     def audit(self, text: bytes) -> tuple[int, bytes]:
         return self._ask('rx_audit', text)
 
-    def live(self, lines: list[bytes], limit: int | None = None) -> list[str]:
+    def live(self, lines: list[bytes], limit: int | None = None, cut: bytes = b'') -> list[str]:
         handle, answers = Handle(), []
         if self.calls.rx_live_new(ctypes.byref(handle), ctypes.c_uint32(limit or 4_194_304)) != DONE:
             return ['no book']
@@ -150,7 +152,7 @@ class Model:
         verdict = None if events is None else self.of.definitions.verdict(events)
         return (3, b'') if verdict is None else (0 if verdict.startswith('lawful') else 5, verdict.encode())
 
-    def live(self, lines: list[bytes], limit: int | None = None) -> list[str]:
+    def live(self, lines: list[bytes], limit: int | None = None, cut: bytes = b'') -> list[str]:
         book = self.of.live.Live(self.way(), limit or 4_194_304)
         said = [book.answer(line) for line in lines]
         return [json.dumps(it, separators=(',', ':')) for it in [*said, book.last()]]

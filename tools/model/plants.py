@@ -18,6 +18,7 @@ class Turned:
 
     def __init__(self, engine: Any, step: Callable | None = None, only: str = '', **texts: Callable):
         self.engine, self.step, self.only, self.texts = engine, step, only, texts
+        self.answers_cut = hasattr(engine, 'answers_cut') and engine.answers_cut
 
     def scenario(self, text: bytes) -> bytes:
         try:
@@ -48,9 +49,9 @@ class Turned:
     def audit(self, text: bytes) -> tuple[int, bytes]:
         return self.told('verdict', self.engine.audit(text))
 
-    def live(self, lines: list[bytes], limit: int | None = None) -> list[str]:
+    def live(self, lines: list[bytes], limit: int | None = None, cut: bytes = b'') -> list[str]:
         turn = self.texts.get('answers', lambda answers: answers)
-        return turn(self.engine.live([self.line(line) for line in lines], limit))
+        return turn(self.engine.live([self.line(line) for line in lines], limit, cut))
 
 
 def instead(do: str, /, **members: Any) -> Callable:
@@ -245,10 +246,10 @@ wrong('a TakeUntil mirrors its source alone', 'json', 'dump', mirrored=lambda d,
 wrong('a TakeUntil is never fired', 'json', 'dump', fired=lambda d, old: lambda h: [])
 wrong('a FlatMap fails with its source alone', 'json', 'dump', failed=lambda d, old: lambda h: [
     e for e in old(h) if any(d.at(h, c).place == 'source' and e.terminal in d.ends_of(h, c) for c in d.children(h, e.node))])
-wrong('subscribers are reached from the youngest on', 'json', open_subscribers=lambda d, old: lambda h, g: old(h, g)[::-1])
-wrong('a firing takes the item from later stops', 'json', stops=lambda d, old: lambda h, n: old(h, n)[:next(
+wrong('subscribers are reached from the youngest on', 'lines', open_subscribers=lambda d, old: lambda h, g: old(h, g)[::-1])
+wrong('a firing takes the item from later stops', 'json', 'lines', stops=lambda d, old: lambda h, n: old(h, n)[:next(
     (i + 1 for i, s in enumerate(old(h, n)) if s.what == 'firing'), None)])
-wrong('an item goes to each stop once', 'json', stops=lambda d, old: lambda h, n: list(dict.fromkeys(old(h, n))))
+wrong('an item goes to each stop once', 'json', 'lines', stops=lambda d, old: lambda h, n: list(dict.fromkeys(old(h, n))))
 wrong('a Decline leaves what is owed', 'json', 'dump', owed=lambda d, old: lambda h, f: old(h, f) + h.behind(f).count(d.Decline(f)))
 wrong('an inner leaves what is owed', 'json', 'dump', owed=lambda d, old: lambda h, f: old(h, f) + len(d.inners(h, f)))
 wrong('a lease holds nothing', 'json', 'dump', is_held=lambda d, old: lambda h, r: isinstance(d.at(h, r), d.Accept) and d.is_owned(h, r))

@@ -130,7 +130,8 @@ class Comparing(unittest.TestCase):
     def test_another_order_is_as_good(self):
         engine = Model(copy_of_the_model('other'), 'Last')
         for seed in range(60):
-            for kind, make in (('json', cases.scenario), ('lines', lambda rng: b''.join(it + b'\n' for it in cases.session(rng)))):
+            limit = [b'{"limit":%d}' % seed] * (seed % 2)  # of the events since a checkpoint, which a live book makes by itself
+            for kind, make in (('json', cases.scenario), ('lines', lambda rng: b''.join(it + b'\n' for it in limit + cases.session(rng)))):
                 self.assertIsNone(difference(kind, engine, make(random.Random(seed))), (kind, seed))
 
     def test_a_case_that_differs_is_made_smaller(self):
