@@ -169,6 +169,31 @@ class Manners(unittest.TestCase):
         self.assertLess(max(sizes), 8)
         subscription.dispose()
 
+    def test_a_finalizer_may_dispose_in_the_midst_of_a_call(self):
+        subject, released = Subject(), []
+
+        class Owner:
+            def __init__(self):
+                self.subscription = rx.using(lambda: Disposable(lambda: released.append(True)), lambda _: subject).subscribe()
+
+            def __del__(self):
+                self.subscription.dispose()
+        owners = [Owner() for _ in range(3)]
+        with self.engine.lock:  # as where the collector comes in between
+            owners.clear()
+        subject.on_next(1)
+        subject.on_next(2)
+        self.assertEqual((released, len(subject.observers)), ([True] * 3, 0))
+
+    def test_a_source_that_raises_as_it_is_subscribed_to_in_the_midst_of_a_tree(self):
+        gone = Subject()
+        gone.dispose()
+        told = []
+        rx.of(1).pipe(ops.flat_map(lambda _: gone.pipe(ops.share(), ops.do_action(None, lambda error: told.append("seen")),
+                                                       ops.finally_action(lambda: told.append("finally"))))
+                      ).subscribe(told.append, lambda error: told.append(type(error).__name__))
+        self.assertEqual(told, ["seen", "DisposedException", "finally"])
+
     def test_short_subscriptions_leave_nothing_behind(self):
         subject = Subject()
         for _ in range(3000):

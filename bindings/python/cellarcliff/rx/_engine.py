@@ -179,7 +179,7 @@ class Engine:
 
     def __init__(self, book: Optional[Calls] = None):
         self.book: Calls = Book() if book is None else book
-        self.lock = threading.Lock()
+        self.lock = threading.RLock()
         self._roots: Dict[int, Root] = {}
         self._merging: Dict[int, Callable[[Any], None]] = {}
         self._values: Dict[int, Any] = {}  # by index, while the book may tell them
@@ -237,9 +237,12 @@ class Engine:
             for tag in due:
                 self._queue.append((self._due.pop(tag), _ONLY, me))
 
-    def _checkpoint(self) -> None:
-        self.book.checkpoint()
-        self._events, self._checkpoint_at = 0, max(_CHECKPOINT, 4 * self.book.counts().nodes)
+    def _happened(self) -> None:
+        """Behind events: makes a checkpoint now and then, so that the history does not grow. The lock is held."""
+        self._events += 3
+        if self._events > self._checkpoint_at:
+            self.book.checkpoint()
+            self._events, self._checkpoint_at = 0, max(_CHECKPOINT, 4 * self.book.counts().nodes)
 
     def _first_of_all(self) -> None:
         """Does what comes before anybody is told."""
@@ -342,9 +345,7 @@ class Engine:
                 if book.mail or book.tags:
                     self._fill()
                 del self._values[index]
-            self._events += 3
-            if self._events > self._checkpoint_at:
-                self._checkpoint()
+            self._happened()
         if self._first or self._projections:
             self._first_of_all()
         return True
@@ -365,6 +366,7 @@ class Engine:
                     self._fill()
                 if code is not None:
                     del self._values[code]
+            self._happened()
         if self._first or self._projections:
             self._first_of_all()
 
@@ -385,6 +387,7 @@ class Engine:
                     raise
             if self.book.mail or self.book.tags:
                 self._fill()
+            self._happened()
         if self._first or self._projections:
             self._first_of_all()
 
@@ -393,6 +396,10 @@ class Engine:
 
     def dispose(self, root: Any) -> None:
         """Unsubscribes; a second time is none."""
+        if self.lock._is_owned():  # type: ignore[attr-defined]
+            # a finalizer that runs in the midst of a call on the book; what is under way does it next
+            self._first.append(lambda: self.dispose(root))
+            return
         self._roots.pop(root.number, None)
         self._plainly(self.book.dispose, root)
 

@@ -173,14 +173,24 @@ def _subscribe(observable: Observable, at: At) -> None:
             observable._open(at)
         except Refused as why:
             if why.name != "Gone":
-                at.engine.put(lambda error=why: at.root.on_error(error))  # type: ignore[misc,union-attr]
+                _fails(at, why)
         except Exception as error:
-            at.engine.put(lambda error=error: at.root.on_error(error))  # type: ignore[misc,union-attr]
+            _fails(at, error)
         if own:
             here.run()
     finally:
         if own:
             here.trampoline = None
+
+
+def _fails(at: At, error: Exception) -> None:
+    """The observable at a root raised as it was subscribed to."""
+    root = at.root
+    assert root is not None
+    if root.is_inner:
+        root.head.on_error(error)
+    else:
+        at.engine.put(lambda: root.head.on_error(error))
 
 
 def _open_below(observable: Any, at: At) -> None:
@@ -561,11 +571,11 @@ class _Last:
         self._up.on_next(value)
 
     def on_error(self, error: Exception) -> None:
-        self._root.is_stopped = True
+        self._root.dispose()
         self._up.on_error(error)
 
     def on_completed(self) -> None:
-        self._root.is_stopped = True
+        self._root.dispose()
         self._up.on_completed()
 
 

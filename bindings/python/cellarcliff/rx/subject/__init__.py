@@ -100,14 +100,13 @@ class Subject(_Source, Observer):
         here.depth += 1
         try:
             with self._lock:
-                ups, owner = self._ups, self._owner
-                if owner and owner != me or self._emissions or len(ups) != 1:
-                    self._emissions.append((deque(ups.values()), kind, value))
-                    if owner and owner != me:
+                ups, owner, alone = tuple(self._ups.values()), self._owner, None
+                if len(ups) == 1 and not self._emissions and owner in (0, me):
+                    alone = ups[0]  # nothing is under way, and one has subscribed
+                else:
+                    self._emissions.append((deque(ups), kind, value))
+                    if owner not in (0, me):
                         return
-                    alone = None
-                else:  # nothing is under way, and one has subscribed
-                    [alone] = ups.values()
                 self._owner = me
             try:
                 if alone is not None:
