@@ -1,4 +1,5 @@
 """A live book by lines, over a pipe to a book in Python."""
+import os
 import pathlib
 import signal
 import sys
@@ -38,9 +39,12 @@ def shared(book, observers):
 
 
 class Live(unittest.TestCase):
+    def book(self):
+        return Book(PROGRAM)
+
     def test_what_an_observer_does_is_told_behind_what_waits(self):
         a, b = [], []
-        with Book(PROGRAM) as book:
+        with self.book() as book:
             def first(note):
                 a.append(note)
                 if "next" in note:
@@ -52,7 +56,7 @@ class Live(unittest.TestCase):
 
     def test_threads_tell_in_order_and_nothing_after_an_end(self):
         a, b = [], []
-        with Book(PROGRAM) as book:
+        with self.book() as book:
             shared(book, {"a": (a.append, lambda: a.append("released")), "b": (b.append, lambda: b.append("released"))})
 
             def emit(number):
@@ -74,7 +78,7 @@ class Live(unittest.TestCase):
 
     def test_a_resource_that_is_held_is_released(self):
         told = []
-        with Book(PROGRAM) as book:
+        with self.book() as book:
             book.using("a", None, lambda: told.append("a"))
             book.hold("a", "r", lambda: told.append("r"))
             self.assertRaises(TypeError, book.send, "hold", node="a", res="s")
@@ -85,7 +89,7 @@ class Live(unittest.TestCase):
 
     def test_a_call_that_is_interrupted_leaves_every_answer_with_its_line(self):
         told = []
-        with Book(PROGRAM) as book:
+        with self.book() as book:
             book.using("a", told.append, lambda: told.append("released"))
             book.open("leaf", place="source", of="a", kind="leaf")
             slow = lambda: book.send("next", node="leaf", value=1, slow=0.3)
@@ -100,13 +104,13 @@ class Live(unittest.TestCase):
 
     def test_a_call_that_is_interrupted_before_the_end(self):
         told = []
-        with Book(PROGRAM) as book:
+        with self.book() as book:
             slow = lambda: book.using("a", None, lambda: told.append("a"), place="root", slow=0.3)
             self.assertRaises(Interrupt, interrupted, 0.1, slow)
         self.assertEqual(told, ["a"])
 
     def test_observers_are_let_go(self):
-        with Book(PROGRAM) as book:
+        with self.book() as book:
             for number in range(300):
                 book.using(f"a{number}", lambda _: None, lambda: None)
                 book.send("dispose", node=f"a{number}")
@@ -122,7 +126,7 @@ class Live(unittest.TestCase):
 
     def test_a_name_that_is_given_again_is_not_heard_by_the_observer_before(self):
         old, new = [], []
-        with Book(PROGRAM) as book:
+        with self.book() as book:
             book.using("a", old.append, lambda: None)
             book.send("dispose", node="a")
             book.open("a", place="root", kind="leaf")
@@ -134,7 +138,7 @@ class Live(unittest.TestCase):
 
     def test_a_projection_is_told_to_the_operator(self):
         told = []
-        with Book(PROGRAM) as book:
+        with self.book() as book:
             book.open("f", told.append, place="root", kind="flat")
             book.open("leaf", place="source", of="f", kind="leaf")
             book.send("next", node="leaf", value=3)
@@ -146,7 +150,7 @@ class Live(unittest.TestCase):
         def fail():
             told.append("fails")
             raise OSError("busy")
-        with Book(PROGRAM) as book:
+        with self.book() as book:
             book.using("a", None, fail)
             book.hold("a", "r", lambda: told.append("r"))
             with self.assertRaises(OSError):
@@ -156,12 +160,32 @@ class Live(unittest.TestCase):
 
     def test_a_book_whose_program_is_gone_releases_what_is_left(self):
         told = []
-        with Book(PROGRAM) as book:
+        with self.book() as book:
             book.using("a", None, lambda: told.append("a"))
             with self.assertRaises(Refused):
                 book.send("next", node="a", value=1, die=True)
             self.assertEqual(told, [])
         self.assertEqual(told, ["a"])
+
+
+@unittest.skipUnless(os.environ.get("CELLARCLIFF_LIBRARY"), "without the library")
+class InProcess(Live):
+    """The same over librx, but for what the program in Python alone can do."""
+
+    def book(self):
+        return Book()
+
+    test_a_call_that_is_interrupted_leaves_every_answer_with_its_line = None
+    test_a_call_that_is_interrupted_before_the_end = None
+    test_a_book_whose_program_is_gone_releases_what_is_left = None
+
+    def test_an_answer_that_is_longer_than_the_buffer(self):
+        told = []
+        with self.book() as book:
+            for number in range(300):
+                book.using(f"a-{number}-{'x' * 20}", None, lambda: told.append(True))
+            self.assertEqual(len(book.send("list")["nodes"]), 300)
+        self.assertEqual(len(told), 300)
 
 
 if __name__ == "__main__":
