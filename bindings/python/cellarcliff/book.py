@@ -296,17 +296,12 @@ class Book(Calls):
         return self
 
     def __exit__(self, *_: Any) -> None:
-        if self._at:
-            self.close()
-            self._drop()
+        self.close()
+        self._library.drop(self._at)
 
     def __del__(self) -> None:
-        self._drop()
-
-    def _drop(self) -> None:
-        at, self._at = getattr(self, "_at", 0), 0
-        if at:
-            self._library.drop(at)
+        if hasattr(self, "_at"):
+            self._library.drop(self._at)  # of what keeps nothing any more it is nothing
 
     # what every call ends with
 
@@ -471,4 +466,3 @@ class Book(Calls):
         status = self._library.finish(self._at)
         if status:
             self._refuse(status)
-        self._at = 0

@@ -277,26 +277,28 @@ class FakeBook(Calls):
         the_hub = self._hubs.get(hub)
         if the_hub is None:
             raise Refused("NoHub")
+        if the_hub.mode == AUTO:
+            raise Refused("WrongKind")
         if the_hub.connection is None:
             raise Refused("NotConnected")
         self._place()
         self._shut(the_hub.connection)
 
     def _owned(self, res: Any) -> _Resource:
-        if self._resources.get(res.number) is not res or not res.is_owned:
+        if self._resources.get(getattr(res, "number", None)) is not res:
             raise Refused("NotHeld")
+        if not res.is_owned:
+            raise Refused("Leased")
         return res
 
     def apply(self, res, word):
-        if self._resources.get(res.number) is not res:
+        if self._resources.get(getattr(res, "number", None)) is not res:
             raise Refused("NotHeld")
         self._place()
         return word
 
     def remove(self, res):
         res = self._owned(res)
-        if res.leases:
-            raise Refused("Leased")
         self._place()
         res.node.held.remove(res)
         res.is_owned = False

@@ -50,7 +50,7 @@ class Books(unittest.TestCase):
     def course(self, rand):
         self.real_names, self.fake_names = {}, {}
         nodes, held, leases, hubs, tag = [], [], [], [], 0
-        none = Pair(it.Node(0, 0), object())
+        none = Pair(it.Node(2**62, 2**62), object())
         any_of = lambda them: rand.choice(them[-12:]) if them else none
         for _ in range(rand.randrange(20, 90)):
             choice = rand.randrange(18)

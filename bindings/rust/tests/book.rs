@@ -101,8 +101,8 @@ fn a_lease_keeps_a_resource_and_apply_uses_it() -> Result<(), Box<dyn std::error
     let root = book.using(At::Root, vec![1])?;
     assert_eq!(book.apply(root.res, |it| { it.push(2); it.len() }), Ok(2));
     let lease = book.lease(root.res)?;
-    assert_eq!(book.remove(root.res), Err(Refusal::Leased));
     book.dispose(root.node)?;
+    assert_eq!(book.remove(root.res), Err(Refusal::Leased));
     assert_eq!(book.take(), None);
     assert_eq!(book.apply(root.res, |it| it.len()), Ok(2));
     book.give_back(lease)?;
@@ -205,13 +205,13 @@ fn random_courses_drop_every_resource_once() -> Result<(), Box<dyn std::error::E
                         if random(2) == 0 {
                             leases.extend(book.lease(res).ok());
                         } else {
-                            drop(book.remove(res));
+                            let _ = book.remove(res);
                         }
                     }
                 }
                 _ => {
                     if let Some(&lease) = leases.get(random(leases.len())) {
-                        drop(book.give_back(lease));
+                        let _ = book.give_back(lease);
                     }
                 }
             }
