@@ -93,6 +93,14 @@ class Calls(abc.ABC):
     def hold(self, node: Any, tag: int) -> Any:
         """Lets a node hold the resource of this tag: its key."""
 
+    def open_using(self, place: int, above: Any, tag: int) -> Any:
+        """As `using`; answers the key of the node alone."""
+        return self.using(place, above, tag)[0]
+
+    def hold_tag(self, node: Any, tag: int) -> None:
+        """As `hold`; answers nothing."""
+        self.hold(node, tag)
+
     @abc.abstractmethod
     def next(self, leaf: Any, value: int) -> None:
         """The leaf emits the item."""
@@ -316,11 +324,15 @@ class Book(Calls):
         """Takes what the call told, whatever its status is."""
         words = self._words
         mails, resources = words[1], words[2]
-        if mails:
+        if mails == 1:
+            self.mail.append((words[_MAIL + 1], words[_MAIL + 3] & 255, self._signed[_MAIL + 2]))
+        elif mails:
             signed = self._signed
             for i in range(_MAIL, _MAIL + 4 * mails, 4):
-                self.mail.append((words[i + 1], signed[i + 3] & 255, signed[i + 2]))
-        if resources:
+                self.mail.append((words[i + 1], words[i + 3] & 255, signed[i + 2]))
+        if resources == 1:
+            self.tags.append(words[_RESOURCE + 1])
+        elif resources:
             self.tags.extend(words[_RESOURCE + 1:_RESOURCE + 2 * resources:2].tolist())
         if mails == _ROOM or resources == _ROOM:
             self._drain()
@@ -357,21 +369,28 @@ class Book(Calls):
         keys = self._keys
         return Node(keys[0], keys[1]), Node(keys[2], keys[3]) if kind == SUB and keys[4] & 255 else None
 
-    def using(self, place: int, above: Any, tag: int) -> Tuple[Any, Any]:
+    def open_using(self, place: int, above: Any, tag: int) -> Any:
         words = place, above or _NONE, tag, self._made, self._told
         status = self._using(self._at, *words)
         told = self._words
         if status or told[1] or told[2]:
             self._hear(self._again(status, self._using, *words) if status else status)
         keys = self._keys
-        return Node(keys[0], keys[1]), Res(keys[2], keys[3])
+        return Node(keys[0], keys[1])
 
-    def hold(self, node: Any, tag: int) -> Any:
+    def using(self, place: int, above: Any, tag: int) -> Tuple[Any, Any]:
+        node, keys = self.open_using(place, above, tag), self._keys
+        return node, Res(keys[2], keys[3])
+
+    def hold_tag(self, node: Any, tag: int) -> None:
         status = self._hold(self._at, node, tag, self._made)
         if status:
             status = self._again(status, self._hold, node, tag, self._made)
             if status:
                 self._refuse(status)
+
+    def hold(self, node: Any, tag: int) -> Any:
+        self.hold_tag(node, tag)
         keys = self._keys
         return Res(keys[0], keys[1])
 

@@ -220,7 +220,7 @@ class FakeBook(Calls):
         node = self._open_node(node)
         if node.kind in (LEAF, SUB):
             raise Refused("WrongKind")
-        if node.below and not (node.kind in (FLAT, SWITCH) and node.owed):
+        if node.below:
             raise Refused("HasChild")
         self._place()
         self._end(node, error)

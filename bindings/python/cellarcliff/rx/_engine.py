@@ -10,12 +10,17 @@ import sys
 import threading
 from bisect import bisect_left
 from collections import deque
+from operator import itemgetter
 from threading import get_ident
 from typing import Any, Callable, Deque, Dict, List, Optional, Tuple
 
 from ..book import AUTO, MANUAL, NEXT, ON_COMPLETED, PROJECT, Book, Calls, Refused
 
 _ONLY = object()  # the argument of a call that takes none
+_first_of = itemgetter(0)
+#: When what a node held is done with: this package's own while the lock is held, before anybody is told, or behind what is
+#: projected; the user's in the order of the queue.
+NOW, SOON, BEHIND, DUE = range(4)
 _LEVELS, _MOST_HUBS = 8, 1024
 _CHECKPOINT = 1 << 16  # events behind which a checkpoint is made
 
@@ -86,11 +91,11 @@ class At:
 class Root:
     """A subscription. Its head is the first of the functions through which its notes go; it is itself the last of them."""
 
-    __slots__ = ("engine", "key", "head", "is_stopped", "is_over", "is_inner", "_on_next", "_on_error", "_on_completed")
+    __slots__ = ("engine", "key", "number", "head", "is_stopped", "is_over", "is_inner", "_on_next", "_on_error", "_on_completed")
 
     def __init__(self, engine: "Engine", on_next: Callable[[Any], Any], on_error: Callable[[Exception], Any],
                  on_completed: Callable[[], Any], is_inner: bool = False):
-        self.engine, self.key, self.head = engine, None, self
+        self.engine, self.key, self.number, self.head = engine, None, -1, self
         self._on_next, self._on_error, self._on_completed = on_next, on_error, on_completed
         self.is_stopped = False  # nothing is told any more
         self.is_over = False  # the book has ended it
@@ -145,7 +150,7 @@ class Root:
         self.is_stopped = True
         if not self.is_over and self.key is not None:
             self.is_over = True
-            self.engine.dispose(self.key)
+            self.engine.dispose(self)
 
 
 class Leaf:
@@ -185,10 +190,7 @@ class Engine:
         self._values: Dict[int, Any] = {}  # by index, while the book may tell them
         self._index = 0
         self._tag = 0
-        self._now: Dict[int, Callable[[], Any]] = {}  # by tag: this package's own, done while the lock is held
-        self._soon: Dict[int, Callable[[], Any]] = {}  # its own, done before anybody is told
-        self._behind: Dict[int, Callable[[Any], Any]] = {}  # its own, done behind what is projected
-        self._due: Dict[int, Callable[[], Any]] = {}  # the user's, done in the order of the queue
+        self._kept: Dict[int, Tuple[int, Callable[..., Any]]] = {}  # by tag, what is done when it is handed back
         self._first: Deque[Callable[[], Any]] = deque()
         self._projections: Deque[Tuple[Callable[[Any], Any], Any, int]] = deque()
         self._queue: Deque[Tuple[Callable[..., Any], Any, int]] = deque()
@@ -221,28 +223,33 @@ class Engine:
             else:
                 queue.append((root.told_error, self._values[value], me))
         if tags:
-            due = []
-            while tags:
-                tag = tags.popleft()
-                now = self._now.pop(tag, None)
-                if now is not None:
-                    now()
-                elif tag in self._soon:
-                    self._first.append(self._soon.pop(tag))
-                elif tag in self._behind:
-                    self._projections.append((self._behind.pop(tag), None, me))
-                else:
-                    due.append(tag)
-            due.sort(reverse=True)  # what was taken last is released first, as along a chain of disposables
-            for tag in due:
-                self._queue.append((self._due.pop(tag), _ONLY, me))
+            self._set_free(tags, me)
 
-    def _happened(self) -> None:
-        """Behind events: makes a checkpoint now and then, so that the history does not grow. The lock is held."""
-        self._events += 3
-        if self._events > self._checkpoint_at:
-            self.book.checkpoint()
-            self._events, self._checkpoint_at = 0, max(_CHECKPOINT, 4 * self.book.counts().nodes)
+    def _set_free(self, tags: Deque[int], me: int) -> None:
+        due, kept = None, self._kept
+        while tags:
+            tag = tags.popleft()
+            when, call = kept.pop(tag)
+            if when == NOW:
+                call()
+            elif when == SOON:
+                self._first.append(call)
+            elif when == BEHIND:
+                self._projections.append((call, None, me))
+            elif due is None:
+                due = [(tag, call)]
+            else:
+                due.append((tag, call))
+        if due:
+            if len(due) > 1:
+                due.sort(key=_first_of, reverse=True)  # what was taken last is released first, as along a chain of disposables
+            for _, call in due:
+                self._queue.append((call, _ONLY, me))
+
+    def _checkpoint(self) -> None:
+        """Puts what is open in the place of the history, so that that does not grow. The lock is held."""
+        self.book.checkpoint()
+        self._events, self._checkpoint_at = 0, max(_CHECKPOINT, 4 * self.book.counts().nodes)
 
     def _first_of_all(self) -> None:
         """Does what comes before anybody is told."""
@@ -251,29 +258,28 @@ class Engine:
         if self._projections:
             self._project()
 
-    def hold(self, node: Any, kind: Dict[int, Callable[[], Any]], release: Callable[[], Any]) -> None:
+    def hold(self, node: Any, when: int, call: Callable[..., Any]) -> None:
         """Lets a node hold something. The lock is held."""
         self._tag = tag = self._tag + 1
-        self.book.hold(node, tag)
-        kind[tag] = release
+        self.book.hold_tag(node, tag)
+        self._kept[tag] = when, call
 
-    def open(self, at: At, kind: int, now: Optional[Callable[[], Any]] = None, due: Optional[Callable[[], Any]] = None,
-             soon: Optional[Callable[[], Any]] = None, behind: Optional[Callable[[Any], Any]] = None) -> Any:
-        """Opens a node; when it closes, `now`, `soon`, `behind` and `due` are called."""
+    def open(self, at: At, kind: int, when: int = NOW, call: Optional[Callable[..., Any]] = None) -> Any:
+        """Opens a node, which calls this when it closes."""
+        book, root = self.book, at.root
         with self.lock:
-            node, _ = self.book.open(at.place, at.above, kind)
-            self._bind(at, node)
-            if now is not None:
-                self.hold(node, self._now, now)
-            if soon is not None:
-                self.hold(node, self._soon, soon)
-            if behind is not None:
-                self.hold(node, self._behind, behind)
-            if due is not None:
-                self.hold(node, self._due, due)
-            if self.book.mail or self.book.tags:
+            node, _ = book.open(at.place, at.above, kind)
+            if root is not None:
+                root.key, root.number = node, node.number
+                self._roots[root.number] = root
+            if call is not None:
+                self._tag = tag = self._tag + 1
+                book.hold_tag(node, tag)
+                self._kept[tag] = when, call
+            if book.mail or book.tags:
                 self._fill()
-        self.opened(at)
+        if self._first or self._projections or at.is_exchange:
+            self.opened(at)
         return node
 
     def opened(self, at: At) -> None:
@@ -288,11 +294,10 @@ class Engine:
             self.serve()
 
     def _bind(self, at: At, node: Any) -> None:
-        self._events += 2
         root = at.root
         if root is not None:
-            root.key = node
-            self._roots[node.number] = root
+            root.key, root.number = node, node.number
+            self._roots[root.number] = root
 
     def open_merging(self, at: At, kind: int, project: Callable[[Any], None]) -> Any:
         """Opens a FlatMap or a Switch."""
@@ -301,7 +306,7 @@ class Engine:
             self._bind(at, node)
             number = node.number
             self._merging[number] = project
-            self.hold(node, self._now, lambda: self._merging.pop(number, None))
+            self.hold(node, NOW, lambda: self._merging.pop(number, None))
             if self.book.mail or self.book.tags:
                 self._fill()
         self.opened(at)
@@ -309,21 +314,25 @@ class Engine:
 
     def using(self, at: At, release: Callable[[], Any]) -> Any:
         """Opens a node that holds a resource of the user's."""
+        book, root = self.book, at.root
         with self.lock:
             self._tag = tag = self._tag + 1
-            node, _ = self.book.using(at.place, at.above, tag)
-            self._due[tag] = release
-            self._bind(at, node)
-            if self.book.mail or self.book.tags:
+            node = book.open_using(at.place, at.above, tag)
+            self._kept[tag] = DUE, release
+            if root is not None:
+                root.key, root.number = node, node.number
+                self._roots[root.number] = root
+            if book.mail or book.tags:
                 self._fill()
-        self.opened(at)
+        if self._first or self._projections or at.is_exchange:
+            self.opened(at)
         return node
 
     def keep(self, node: Any, release: Callable[[], Any]) -> None:
         """Lets a node hold a resource of the user's; where the node is closed it is released."""
         try:
             with self.lock:
-                self.hold(node, self._due, release)
+                self.hold(node, DUE, release)
         except Refused as why:
             self.put(release)
             if why.name != "Gone":
@@ -345,7 +354,9 @@ class Engine:
                 if book.mail or book.tags:
                     self._fill()
                 del self._values[index]
-            self._happened()
+            self._events += 3
+            if self._events > self._checkpoint_at:
+                self._checkpoint()
         if self._first or self._projections:
             self._first_of_all()
         return True
@@ -366,7 +377,9 @@ class Engine:
                     self._fill()
                 if code is not None:
                     del self._values[code]
-            self._happened()
+            self._events += 3
+            if self._events > self._checkpoint_at:
+                self._checkpoint()
         if self._first or self._projections:
             self._first_of_all()
 
@@ -387,21 +400,36 @@ class Engine:
                     raise
             if self.book.mail or self.book.tags:
                 self._fill()
-            self._happened()
+            self._events += 3
+            if self._events > self._checkpoint_at:
+                self._checkpoint()
         if self._first or self._projections:
             self._first_of_all()
 
     def decline(self, merging: Any) -> None:
         self._plainly(self.book.decline, merging)
 
-    def dispose(self, root: Any) -> None:
+    def dispose(self, root: Root) -> None:
         """Unsubscribes; a second time is none."""
-        if self.lock._is_owned():  # type: ignore[attr-defined]
+        book, lock = self.book, self.lock
+        if lock._is_owned():  # type: ignore[attr-defined]
             # a finalizer that runs in the midst of a call on the book; what is under way does it next
             self._first.append(lambda: self.dispose(root))
             return
-        self._roots.pop(root.number, None)
-        self._plainly(self.book.dispose, root)
+        with lock:
+            self._roots.pop(root.number, None)
+            try:
+                book.dispose(root.key)
+            except Refused as why:
+                if why.name != "Gone":
+                    raise
+            if book.mail or book.tags:
+                self._fill()
+            self._events += 3
+            if self._events > self._checkpoint_at:
+                self._checkpoint()
+        if self._first or self._projections:
+            self._first_of_all()
 
     def disconnect(self, hub: int) -> None:
         self._plainly(self.book.disconnect, hub)

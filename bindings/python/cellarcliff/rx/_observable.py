@@ -12,7 +12,7 @@ from collections.abc import Iterable
 from typing import Any, Callable, List, Optional, Tuple
 
 from ..book import AUTO, FLAT, INNER, LEAF, MANUAL, NOTIFIER, PASS, ROOT, SOURCE, SUB, SWITCH, UNTIL, Refused
-from ._engine import At, Engine, Leaf, Root, current, here
+from ._engine import BEHIND, NOW, SOON, At, Engine, Leaf, Root, current, here
 from .disposable import CompositeDisposable, Disposable
 from .scheduler import CurrentThreadScheduler
 
@@ -306,7 +306,7 @@ def _disposable(value: Any) -> Any:
 def _create(subscribe: Callable[[Any, Any], Any], at: At, makes: List[Any]) -> None:
     """A source that a function of the user's subscribes to; its disposable is held by the book."""
     leaf = Leaf(at.engine)
-    leaf.key = at.engine.open(at, LEAF, leaf.closed)
+    leaf.key = at.engine.open(at, LEAF, NOW, leaf.closed)
     up = _chained(makes, leaf)
     if leaf.is_stopped:
         return
@@ -353,7 +353,7 @@ class _Scheduled(_Source):
 
     def _open_with(self, at: At, makes: List[Any]) -> bool:
         engine, leaf = at.engine, Leaf(at.engine)
-        leaf.key = engine.open(at, LEAF, leaf.closed)
+        leaf.key = engine.open(at, LEAF, NOW, leaf.closed)
         up = _chained(makes, leaf)
         scheduler = self.scheduler or at.scheduler
 
@@ -504,7 +504,7 @@ class _Relay:
         self._is_owed = False
         self._node = engine.open_merging(at, FLAT, self._project)
         self._inner = at.below(INNER, self._node)
-        below = engine.open(at.below(SOURCE, self._node), UNTIL if is_ending else PASS, behind=self._over)
+        below = engine.open(at.below(SOURCE, self._node), UNTIL if is_ending else PASS, BEHIND, self._over)
         if is_ending:
             self._stop = engine.open(at.below(NOTIFIER, below), LEAF)
         self._up = _chained(makes, self)
@@ -526,7 +526,7 @@ class _Relay:
     def on_next(self, value: Any) -> None:
         if self._leaf is None:
             self._leaf = Leaf(self._engine)
-            self._leaf.key = self._engine.open(self._inner, LEAF, self._leaf.closed)
+            self._leaf.key = self._engine.open(self._inner, LEAF, NOW, self._leaf.closed)
         else:
             self._engine.decline(self._node)
         self._is_owed = False
@@ -553,7 +553,7 @@ def _linked(core: Observable, at: At, makes: List[Callable[[Any], Stage]]) -> No
     def closed() -> None:
         leaf.closed()
         root.dispose()
-    leaf.key = engine.open(at, LEAF, soon=closed)
+    leaf.key = engine.open(at, LEAF, SOON, closed)
     root.head = _Last(_chained(makes, leaf), root)
     if not leaf.is_stopped:
         _subscribe(core, At(engine, ROOT, None, root, at.scheduler, None))
@@ -678,7 +678,7 @@ class Concat(Observable):
         scheduler = at.scheduler or CurrentThreadScheduler.singleton()
 
         def project(source: Any) -> None:
-            node = engine.open(inner, PASS, soon=go_on)
+            node = engine.open(inner, PASS, SOON, go_on)
             _open_below(source, inner.below(SOURCE, node))
 
         def go_on() -> None:
@@ -697,7 +697,7 @@ class Concat(Observable):
             engine.serve()
         sources = iter(self._sources)
         inner.above = engine.open_merging(at, FLAT, project)
-        leaf.key = engine.open(at.below(SOURCE, inner.above), LEAF, leaf.closed)
+        leaf.key = engine.open(at.below(SOURCE, inner.above), LEAF, NOW, leaf.closed)
         go_on()
 
 
@@ -758,7 +758,7 @@ class _Share:
                 raise
             engine._bind(at, node)
             self._many += 1
-            engine.hold(node, engine._now, lambda: self._left(engine))
+            engine.hold(node, NOW, lambda: self._left(engine))
             if connection is not None:
                 self._connected(engine, connection)
             index = self._index
@@ -780,7 +780,7 @@ class _Share:
             if self._connection is connection:
                 self._connection = None
                 self._give(engine)
-        engine.hold(connection, engine._now, closed)
+        engine.hold(connection, NOW, closed)
 
     def connect(self, engine: Engine, scheduler: Any) -> Any:
         """The connection, which is made if there is none."""

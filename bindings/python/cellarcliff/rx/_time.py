@@ -5,7 +5,7 @@ from datetime import datetime
 from typing import Any, List
 
 from ..book import LEAF
-from ._engine import At, Leaf
+from ._engine import NOW, At, Leaf
 from ._observable import _chained, _Emitter, _Source
 from .disposable import MultipleAssignmentDisposable
 from .scheduler import TimeoutScheduler
@@ -19,7 +19,7 @@ class Timer(_Source):
 
     def _open_with(self, at: At, makes: List[Any]) -> bool:
         engine, leaf = at.engine, Leaf(at.engine)
-        leaf.key = engine.open(at, LEAF, leaf.closed)
+        leaf.key = engine.open(at, LEAF, NOW, leaf.closed)
         emitter = _Emitter(_chained(makes, leaf), leaf)
         if not leaf.is_stopped:
             scheduler = self._scheduler or at.scheduler or TimeoutScheduler.singleton()

@@ -6,7 +6,7 @@ from threading import Lock, get_ident
 from typing import Any, Callable, Deque, Dict, List, Optional, Tuple
 
 from ...book import LEAF
-from .._engine import At, Leaf, here
+from .._engine import NOW, At, Leaf, here
 from .._observable import Observer, _chained, _Source
 from ..internal import DisposedException
 
@@ -54,7 +54,7 @@ class Subject(_Source, Observer):
         def closed() -> None:
             leaf.is_stopped = True
             ups.pop(id(leaf), None)
-        leaf.key = engine.open(at, LEAF, closed)
+        leaf.key = engine.open(at, LEAF, NOW, closed)
         up = _chained(makes, leaf) if makes else leaf
         if leaf.is_stopped:
             return True
