@@ -19,7 +19,7 @@ class Operators(unittest.TestCase):
                     self.assertEqual(counts.accepted, counts.taken)
                     engine = kit.engine
                     tables = (engine._roots, engine._merging, engine._values, engine._kept,
-                              engine._queue)
+                              engine.queue)
                     self.assertEqual([len(it) for it in tables], [0] * 5)
 
     # sources

@@ -25,37 +25,48 @@ _LEVELS, _MOST_HUBS = 8, 1024
 _CHECKPOINT = 1 << 16  # events behind which a checkpoint is made
 
 
-class _Here(threading.local):
-    """Of each thread: how deep it is in calls of this package, what was raised meanwhile, and the work that it put off."""
+class _Thread:
+    """How deep a thread is in calls of this package, what was raised meanwhile, and the work that it put off."""
 
-    depth = 0
-    is_projecting = False  # whether it serves what is projected
-    errors: Optional[List[BaseException]] = None
-    trampoline: Optional[Deque[Callable[[], Any]]] = None
+    __slots__ = ("depth", "is_projecting", "errors", "trampoline")
+
+    def __init__(self) -> None:
+        self.depth = 0
+        self.is_projecting = False  # whether it serves what is projected
+        self.errors: Optional[List[BaseException]] = None
+        self.trampoline: Optional[Deque[Callable[[], Any]]] = None
 
     def leave(self) -> None:
-        """The end of a call: the outermost raises the first of what observers and releases raised."""
+        """The end of a call."""
         self.depth -= 1
+        if self.errors:
+            self.raise_first()
+
+    def raise_first(self) -> None:
+        """The outermost call raises the first of what observers and releases raised."""
         if self.errors and not self.depth:
-            first, *others = self.errors
-            self.errors = None
-            for it in others:
-                on_unhandled(it)
+            first = self.errors.pop(0)
+            self.hand_over()
             raise first
 
-    def leave_with(self, is_over: bool) -> None:
-        """The end of a call whose answer is wanted unless all is over: what was raised goes to the hook then."""
-        if self.errors and self.depth == 1 and not is_over:
-            errors, self.errors = self.errors, None
-            for it in errors:
-                on_unhandled(it)
-        self.leave()
+    def hand_over(self) -> None:
+        """What no call raises goes to the hook."""
+        errors, self.errors = self.errors, None
+        for it in errors or ():
+            on_unhandled(it)
 
     def run(self) -> None:
         """Does what was put off, in order."""
         trampoline = self.trampoline
         while trampoline:
             trampoline.popleft()()
+
+
+class _Here(threading.local):
+    """The state of this thread."""
+
+    def __init__(self) -> None:
+        self.it = _Thread()
 
 
 here = _Here()
@@ -89,13 +100,14 @@ class At:
 
 
 class Root:
-    """A subscription. Its head is the first of the functions through which its notes go; it is itself the last of them."""
+    """A subscription. Its head is the first of the functions through which its notes go, if there are any; it is itself the last
+    of them."""
 
     __slots__ = ("engine", "key", "number", "head", "is_stopped", "is_over", "is_inner", "_on_next", "_on_error", "_on_completed")
 
     def __init__(self, engine: "Engine", on_next: Callable[[Any], Any], on_error: Callable[[Exception], Any],
                  on_completed: Callable[[], Any], is_inner: bool = False):
-        self.engine, self.key, self.number, self.head = engine, None, -1, self
+        self.engine, self.key, self.number, self.head = engine, None, -1, None
         self._on_next, self._on_error, self._on_completed = on_next, on_error, on_completed
         self.is_stopped = False  # nothing is told any more
         self.is_over = False  # the book has ended it
@@ -106,7 +118,7 @@ class Root:
     def told_next(self, value: Any) -> None:
         if not self.is_stopped:
             try:
-                if self.head is self:
+                if self.head is None:
                     self._on_next(value)
                 else:
                     self.head.on_next(value)
@@ -117,12 +129,12 @@ class Root:
     def told_error(self, error: Exception) -> None:
         self.is_over = True
         if not self.is_stopped:
-            self.head.on_error(error)
+            (self.head or self).on_error(error)
 
     def told_completed(self, _: Any) -> None:
         self.is_over = True
         if not self.is_stopped:
-            self.head.on_completed()
+            (self.head or self).on_completed()
 
     # what the last of its functions calls
 
@@ -193,7 +205,7 @@ class Engine:
         self._kept: Dict[int, Tuple[int, Callable[..., Any]]] = {}  # by tag, what is done when it is handed back
         self._first: Deque[Callable[[], Any]] = deque()
         self._projections: Deque[Tuple[Callable[[Any], Any], Any, int]] = deque()
-        self._queue: Deque[Tuple[Callable[..., Any], Any, int]] = deque()
+        self.queue: Deque[Tuple[Callable[..., Any], Any, int]] = deque()
         self._projecting, self._serving = threading.Lock(), threading.Lock()
         self._events, self._checkpoint_at = 0, _CHECKPOINT
         self._hubs: List[int] = []
@@ -215,7 +227,7 @@ class Engine:
             root = self._roots.get(to) if kind == NEXT else self._roots.pop(to, None)
             if root is None:
                 continue
-            queue = self._projections if root.is_inner else self._queue
+            queue = self._projections if root.is_inner else self.queue
             if kind == NEXT:
                 queue.append((root.told_next, self._values[value], me))
             elif kind == ON_COMPLETED:
@@ -224,6 +236,19 @@ class Engine:
                 queue.append((root.told_error, self._values[value], me))
         if tags:
             self._set_free(tags, me)
+
+    def _told_one(self, value: Any) -> None:
+        """The same of one note, of an item that was emitted just now."""
+        to, kind, _ = self.book.mail.popleft()
+        if kind == NEXT:
+            root = self._roots.get(to)
+            if root is not None:
+                (self._projections if root.is_inner else self.queue).append((root.told_next, value, get_ident()))
+        elif kind == PROJECT:
+            self._projections.append((self._merging[to], value, get_ident()))
+        else:
+            self.book.mail.appendleft((to, kind, _))
+            self._fill()
 
     def _set_free(self, tags: Deque[int], me: int) -> None:
         due, kept = None, self._kept
@@ -244,7 +269,7 @@ class Engine:
             if len(due) > 1:
                 due.sort(key=_first_of, reverse=True)  # what was taken last is released first, as along a chain of disposables
             for _, call in due:
-                self._queue.append((call, _ONLY, me))
+                self.queue.append((call, _ONLY, me))
 
     def _checkpoint(self) -> None:
         """Puts what is open in the place of the history, so that that does not grow. The lock is held."""
@@ -286,10 +311,10 @@ class Engine:
         """Behind an opening: what it closed is released before more is made, where it took the place of something."""
         if self._first or self._projections:
             self._first_of_all()
-        if at.is_exchange and self._queue:
+        if at.is_exchange and self.queue:
             # the new one stands where it does: whatever is projected meanwhile comes behind it
-            if here.is_projecting:
-                here.is_projecting = False
+            if here.it.is_projecting:
+                here.it.is_projecting = False
                 self._projecting.release()
             self.serve()
 
@@ -346,6 +371,8 @@ class Engine:
             self._values[index] = value
             try:
                 book.next(leaf, index)
+                if len(book.mail) == 1 and not book.tags:  # as is usual
+                    self._told_one(value)
             except Refused as why:
                 if why.name != "Gone":
                     raise
@@ -438,40 +465,40 @@ class Engine:
 
     def put(self, call: Callable[[], Any]) -> None:
         """Puts a call of the user's behind what waits."""
-        self._queue.append((call, _ONLY, get_ident()))
+        self.queue.append((call, _ONLY, get_ident()))
 
     def _project(self) -> None:
-        own = here.trampoline is None
+        own = here.it.trampoline is None
         if own:
-            here.trampoline = deque()
+            here.it.trampoline = deque()
         try:
             while True:
                 while self._projections and self._projecting.acquire(False):
-                    here.is_projecting = True
+                    here.it.is_projecting = True
                     try:
-                        while self._projections and here.is_projecting:
+                        while self._projections and here.it.is_projecting:
                             call, value, thread = self._projections.popleft()
                             try:
                                 call(value)
                             except Exception as error:
                                 self._raised(error, thread)
                     finally:
-                        if here.is_projecting:
-                            here.is_projecting = False
+                        if here.it.is_projecting:
+                            here.it.is_projecting = False
                             self._projecting.release()
                 # what a source put off comes behind, where what it emits is projected at once
-                if not own or not here.trampoline:
+                if not own or not here.it.trampoline:
                     return
-                here.trampoline.popleft()()
+                here.it.trampoline.popleft()()
         finally:
             if own:
-                here.trampoline = None
+                here.it.trampoline = None
 
     def serve(self) -> None:
         """Tells observers and releases, in order, unless a thread is at it; this one may be, further out."""
-        while self._queue and self._serving.acquire(False):
+        while self.queue and self._serving.acquire(False):
             try:
-                queue = self._queue
+                queue = self.queue
                 while queue:
                     call, value, thread = queue.popleft()
                     try:
@@ -486,10 +513,10 @@ class Engine:
 
     def _raised(self, error: Exception, thread: int) -> None:
         """What an observer or a release raised: the thread that emitted raises it, if it is this one."""
-        if thread == get_ident() and here.depth:
-            if here.errors is None:
-                here.errors = []
-            here.errors.append(error)
+        if thread == get_ident() and here.it.depth:
+            if here.it.errors is None:
+                here.it.errors = []
+            here.it.errors.append(error)
         else:
             on_unhandled(error)
 
@@ -524,7 +551,7 @@ class Engine:
 
     def close(self) -> None:
         """Closes all, and releases what is held."""
-        here.depth += 1
+        here.it.depth += 1
         try:
             with self.lock:
                 self.book.close()
@@ -533,7 +560,7 @@ class Engine:
             self._first_of_all()
             self.serve()
         finally:
-            here.leave()
+            here.it.leave()
 
 
 _engine: List[Optional[Engine]] = [None]

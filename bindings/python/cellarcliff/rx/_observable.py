@@ -65,8 +65,6 @@ class Observer:
 class _Subscription(Disposable):
     """What a subscription is disposed of by."""
 
-    __slots__ = ("_root",)
-
     def __init__(self, root: Root):
         self._root = root
 
@@ -76,15 +74,19 @@ class _Subscription(Disposable):
 
     def dispose(self) -> None:
         root = self._root
-        if root.is_over:
-            root.is_stopped = True
+        root.is_stopped = True
+        if root.is_over or root.key is None:
             return
-        here.depth += 1
+        root.is_over, me, engine = True, here.it, root.engine
+        me.depth += 1
         try:
-            root.dispose()
-            root.engine.serve()
+            engine.dispose(root)
+            if engine.queue:
+                engine.serve()
         finally:
-            here.leave()
+            me.depth -= 1
+            if me.errors:
+                me.raise_first()
 
 
 class Observable:
@@ -129,14 +131,19 @@ class Observable:
     def subscribe_(self, on_next: Optional[Callable[[Any], Any]] = None, on_error: Optional[Callable[[Exception], Any]] = None,
                    on_completed: Optional[Callable[[], Any]] = None, scheduler: Any = None) -> Disposable:
         """Subscribes callbacks."""
-        engine = current()
+        engine, me = current(), here.it
         root = Root(engine, on_next or noop, on_error or default_error, on_completed or noop)
-        here.depth += 1
+        me.depth += 1
         try:
             _subscribe(self, At(engine, ROOT, None, root, scheduler, None))
-            engine.serve()
+            if engine.queue:
+                engine.serve()
         finally:
-            here.leave_with(root.is_over)
+            me.depth -= 1
+            if me.errors and not me.depth:
+                if root.is_over:
+                    me.raise_first()
+                me.hand_over()
         return _Subscription(root)
 
     def pipe(self, *operators: Callable[[Any], Any]) -> Any:
@@ -165,9 +172,10 @@ class Observable:
 
 def _subscribe(observable: Observable, at: At) -> None:
     """Opens a root. What the observable raises meanwhile its observer is told."""
-    own = here.trampoline is None
+    me = here.it
+    own = me.trampoline is None
     if own:
-        here.trampoline = deque()
+        me.trampoline = deque()
     try:
         try:
             observable._open(at)
@@ -176,11 +184,11 @@ def _subscribe(observable: Observable, at: At) -> None:
                 _fails(at, why)
         except Exception as error:
             _fails(at, error)
-        if own:
-            here.run()
+        if own and me.trampoline:
+            me.run()
     finally:
         if own:
-            here.trampoline = None
+            me.trampoline = None
 
 
 def _fails(at: At, error: Exception) -> None:
@@ -188,15 +196,17 @@ def _fails(at: At, error: Exception) -> None:
     root = at.root
     assert root is not None
     if root.is_inner:
-        root.head.on_error(error)
+        (root.head or root).on_error(error)
     else:
-        at.engine.put(lambda: root.head.on_error(error))
+        at.engine.put(lambda: (root.head or root).on_error(error))
 
 
 def _open_below(observable: Any, at: At) -> None:
     """Opens below a node. What the observable raises is its error; that the node is closed is nothing."""
     try:
-        to_observable(observable)._open(at)
+        if not isinstance(observable, Observable):
+            observable = to_observable(observable)
+        observable._open(at)
     except Refused as why:
         if why.name != "Gone":
             _failed(why, at)
@@ -269,30 +279,30 @@ class _Emitter:
 
     def on_next(self, value: Any) -> None:
         if not self._leaf.is_stopped:
-            here.depth += 1
+            here.it.depth += 1
             try:
                 self._up.on_next(value)
                 self._leaf.engine.serve()
             finally:
-                here.leave()
+                here.it.leave()
 
     def on_error(self, error: Exception) -> None:
         if not self._leaf.is_stopped:
-            here.depth += 1
+            here.it.depth += 1
             try:
                 self._up.on_error(error)
                 self._leaf.engine.serve()
             finally:
-                here.leave()
+                here.it.leave()
 
     def on_completed(self) -> None:
         if not self._leaf.is_stopped:
-            here.depth += 1
+            here.it.depth += 1
             try:
                 self._up.on_completed()
                 self._leaf.engine.serve()
             finally:
-                here.leave()
+                here.it.leave()
 
     def dispose(self) -> None:
         pass
@@ -360,12 +370,12 @@ class _Scheduled(_Source):
         def action(*_: Any) -> None:
             if leaf.is_stopped:
                 return
-            here.depth += 1
+            here.it.depth += 1
             try:
                 self._emit(up, leaf)
                 engine.serve()
             finally:
-                here.leave()
+                here.it.leave()
         if leaf.is_stopped:
             pass
         elif scheduler is not None:
@@ -373,7 +383,7 @@ class _Scheduled(_Source):
         elif self._is_immediate:
             self._emit(up, leaf)
         else:
-            here.trampoline.append(action)  # type: ignore[union-attr]
+            here.it.trampoline.append(action)  # type: ignore[union-attr]
         return True
 
     _is_immediate = False
@@ -791,16 +801,16 @@ class _Share:
             connection = engine.book.connect(number)
             self._connected(engine, connection)
             index = self._index
-        own = here.trampoline is None
+        own = here.it.trampoline is None
         if own:
-            here.trampoline = deque()
+            here.it.trampoline = deque()
         try:
             _open_below(self.source, At(engine, SOURCE, connection, None, scheduler, index))
             if own:
-                here.run()
+                here.it.run()
         finally:
             if own:
-                here.trampoline = None
+                here.it.trampoline = None
         return connection
 
     def disconnect(self, engine: Engine, connection: Any) -> None:
@@ -845,12 +855,12 @@ class Published(ConnectableObservable):
     def connect(self, scheduler: Any = None) -> Any:
         """Connects it to its source, if it is not connected. Answers the disposable that disconnects it."""
         engine = current()
-        here.depth += 1
+        here.it.depth += 1
         try:
             connection = self._share.connect(engine, scheduler)
             engine.serve()
         finally:
-            here.leave()
+            here.it.leave()
         if connection is not self._connection:
             self._connection = connection
             self._subscription = Disposable(lambda: _leave(self._share, engine, connection))
@@ -858,12 +868,12 @@ class Published(ConnectableObservable):
 
 
 def _leave(share: _Share, engine: Engine, connection: Any) -> None:
-    here.depth += 1
+    here.it.depth += 1
     try:
         share.disconnect(engine, connection)
         engine.serve()
     finally:
-        here.leave()
+        here.it.leave()
 
 
 class RefCount(Observable):

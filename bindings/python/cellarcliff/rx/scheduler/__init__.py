@@ -89,7 +89,7 @@ class CurrentThreadScheduler(Scheduler):
         return cls._one
 
     def schedule_required(self) -> bool:
-        return here.trampoline is None
+        return here.it.trampoline is None
 
     def schedule(self, action: Action, state: Any = None) -> Any:
         whole = SingleAssignmentDisposable()
@@ -97,14 +97,14 @@ class CurrentThreadScheduler(Scheduler):
         def act() -> None:
             if not whole.is_disposed:
                 whole.disposable = self.invoke_action(action, state)
-        if here.trampoline is not None:
-            here.trampoline.append(act)
+        if here.it.trampoline is not None:
+            here.it.trampoline.append(act)
             return whole
-        here.trampoline = deque([act])
+        here.it.trampoline = deque([act])
         try:
-            here.run()
+            here.it.run()
         finally:
-            here.trampoline = None
+            here.it.trampoline = None
         return whole
 
 

@@ -3,7 +3,7 @@ from __future__ import annotations
 
 from collections import deque
 from threading import Lock, get_ident
-from typing import Any, Callable, Deque, Dict, List, Optional, Tuple
+from typing import Any, Callable, Deque, Dict, List, Optional, Sequence, Tuple
 
 from ...book import LEAF
 from .._engine import NOW, At, Leaf, here
@@ -30,8 +30,7 @@ class Subject(_Source, Observer):
     """
 
     def __init__(self) -> None:
-        Observer.__init__(self)
-        self.is_disposed = False
+        self.is_stopped = self.is_disposed = False
         self.exception: Optional[Exception] = None
         self._lock = Lock()
         self._ups: Dict[int, Tuple[Any, Leaf]] = {}
@@ -47,9 +46,14 @@ class Subject(_Source, Observer):
         if self.is_disposed:
             raise DisposedException()
 
-    def _open_with(self, at: At, makes: List[Callable[[Any], Any]]) -> bool:
-        self.check_disposed()
-        engine, leaf, ups = at.engine, Leaf(at.engine), self._ups
+    def _open(self, at: At) -> None:
+        self._open_with(at, ())
+
+    def _open_with(self, at: At, makes: Sequence[Callable[[Any], Any]]) -> bool:
+        if self.is_disposed:
+            raise DisposedException()
+        engine, ups = at.engine, self._ups
+        leaf = Leaf(engine)
 
         def closed() -> None:
             leaf.is_stopped = True
@@ -73,10 +77,10 @@ class Subject(_Source, Observer):
 
     def on_next(self, value: Any) -> None:
         """Tells the item to each that subscribed."""
-        if self.is_disposed:
-            raise DisposedException()
-        if not self.is_stopped:
-            self._emit(_NEXT, value)
+        if self.is_stopped:
+            self.check_disposed()
+            return
+        self._emit(_NEXT, value)
 
     def on_error(self, error: Exception) -> None:
         """Tells the error; whoever subscribes later is told it too."""
@@ -96,8 +100,8 @@ class Subject(_Source, Observer):
         self._emit(kind, error)
 
     def _emit(self, kind: int, value: Any) -> None:
-        me = get_ident()
-        here.depth += 1
+        me, thread = get_ident(), here.it
+        thread.depth += 1
         try:
             with self._lock:
                 ups, owner, alone = tuple(self._ups.values()), self._owner, None
@@ -111,15 +115,25 @@ class Subject(_Source, Observer):
             try:
                 if alone is not None:
                     up, leaf = alone
-                    _tell(up, kind, value)
-                    leaf.engine.serve()
+                    if kind == _NEXT:
+                        up.on_next(value)
+                    else:
+                        _tell(up, kind, value)
+                    if leaf.engine.queue:
+                        leaf.engine.serve()
                 if alone is None or self._emissions:
                     self._go_on(not owner)
             finally:
                 if not owner:
-                    self._leave(me)
+                    with self._lock:
+                        if not self._emissions:
+                            self._owner = 0
+                    if self._owner == me:
+                        self._leave(me)
         finally:
-            here.leave()
+            thread.depth -= 1
+            if thread.errors:
+                thread.raise_first()
 
     def _leave(self, me: int) -> None:
         """The outermost has told all, or was cut off."""
