@@ -1,0 +1,132 @@
+"""Where this package differs from RxPY, as README.md has it: what each of the two tells."""
+import unittest
+
+from cellarcliff import rx
+from tests import kits
+
+
+def emits_as_it_is_told(k, told):
+    subject = k.Subject()
+
+    def first(value):
+        told.append(("a", value))
+        if value == 1:
+            subject.on_next(2)
+    subject.subscribe(first)
+    subject.subscribe(lambda value: told.append(("b", value)))
+    subject.on_next(1)
+
+
+def fails(value):
+    raise KeyError(value)
+
+
+def observer_of_of_raises(k, told):
+    k.rx.of(1, 2).subscribe(fails, lambda error: told.append("on_error"))
+
+
+def others_behind_one_that_raises(k, told):
+    subject = k.Subject()
+    subject.subscribe(fails)
+    subject.subscribe(told.append)
+    subject.on_next(1)
+
+
+def failing(k, told, name):
+    def release():
+        told.append(name)
+        raise KeyError(name)
+    return k.disposable.Disposable(release)
+
+
+def a_resource_below_another_raises(k, told):
+    inner = k.rx.using(lambda: failing(k, told, "inner"), lambda _: k.rx.never())
+    k.rx.using(lambda: k.disposable.Disposable(lambda: told.append("outer")), lambda _: inner).subscribe().dispose()
+
+
+def a_release_raises_as_it_is_subscribed_to(k, told):
+    ended = k.rx.using(lambda: failing(k, told, "released"), lambda _: k.rx.of(1))
+    told.append(hasattr(k.rx.merge(ended, k.rx.never()).subscribe(told.append), "dispose"))
+
+
+def a_share_that_has_ended(k, told):
+    shared = k.rx.of(1).pipe(k.ops.share())
+    for _ in range(2):
+        shared.subscribe(told.append, None, lambda: told.append("completed"))
+
+
+def a_publish_that_has_ended(k, told):
+    subject = k.Subject()
+    shared = subject.pipe(k.ops.publish())
+    shared.connect()
+    subject.on_completed()
+    shared.subscribe(told.append, None, lambda: told.append("completed"))
+
+
+def an_exchange_between_subscribers(k, told):
+    source, routes = k.Subject(), k.Subject()
+
+    def make():
+        told.append("made")
+        return k.disposable.Disposable(lambda: told.append("released"))
+    feed = k.rx.using(make, lambda _: source).pipe(k.ops.share())
+    routes.pipe(k.ops.flat_map_latest(lambda _: feed)).subscribe(told.append)
+    for value in "xy":
+        routes.on_next(value)
+        source.on_next(value)
+
+
+def map_indexed_twice(k, told):
+    indexed = k.rx.of("a").pipe(k.ops.map_indexed(lambda value, index: index))
+    for _ in range(2):
+        indexed.subscribe(told.append)
+
+
+def ref_count_of_one_that_is_connected(k, told):
+    shared = k.rx.create(lambda observer, scheduler: told.append("subscribed")).pipe(k.ops.publish())
+    shared.connect()
+    shared.pipe(k.ops.ref_count()).subscribe()
+
+
+def one_of_a_group_raises(k, told):
+    k.disposable.CompositeDisposable(failing(k, told, "a"), k.disposable.Disposable(lambda: told.append("b"))).dispose()
+
+
+#: The rows of the page: what RxPY tells, and what is told here.
+ROWS = {
+    emits_as_it_is_told: ([("a", 1), ("a", 2), ("b", 2), ("b", 1)], [("a", 1), ("b", 1), ("a", 2), ("b", 2)]),
+    observer_of_of_raises: (["on_error"], ["raised"]),
+    others_behind_one_that_raises: (["raised"], [1, "raised"]),
+    a_resource_below_another_raises: (["inner", "raised"], ["inner", "outer", "raised"]),
+    a_release_raises_as_it_is_subscribed_to: ([1, "released", "raised"], [1, "released", True]),
+    a_share_that_has_ended: ([1, "completed", "completed"], [1, "completed", 1, "completed"]),
+    a_publish_that_has_ended: (["completed"], []),
+    an_exchange_between_subscribers: (["made", "x", "released", "made", "y"], ["made", "x", "y"]),
+    map_indexed_twice: ([0, 1], [0, 0]),
+    ref_count_of_one_that_is_connected: (["subscribed"], ["subscribed", "subscribed"]),
+    one_of_a_group_raises: (["a", "raised"], ["a", "b", "raised"]),
+}
+
+
+class Differences(unittest.TestCase):
+    def tearDown(self):
+        rx.set_error_hook(None)
+
+    def test_each_row(self):
+        rx.set_error_hook(lambda error: None)
+        for make, which in ((kits.theirs, 0), (kits.ours, 1)):
+            if make is kits.theirs and kits.rxpy is None:
+                continue
+            kit = make()
+            for row, wanted in ROWS.items():
+                with self.subTest(row.__name__, kit=kit.name):
+                    told = []
+                    try:
+                        row(kit, told)
+                    except KeyError:
+                        told.append("raised")
+                    self.assertEqual(told, wanted[which])
+
+
+if __name__ == "__main__":
+    unittest.main()
