@@ -74,9 +74,7 @@ def children(h: History, p: int) -> list[int]:
 def shuts(h: History, e: Event, n: int) -> bool:
     """Its End, its Close, and, of an inner of a Switch, the opening of another inner there."""
     if isinstance(e, Open):
-        made = at(h, n)
-        return (e.place == 'inner' and isinstance(made, Open) and made.place == 'inner'
-                and e.of == parent(h, n) and kind_of(h, e.of) == 'switch')
+        return e.place == 'inner' and e.of == parent(h, n) and at(h, n).place == 'inner' and kind_of(h, e.of) == 'switch'
     return isinstance(e, (End, Close)) and e.node == n
 
 @once
@@ -110,7 +108,7 @@ def is_out(h: History, l: int) -> bool:
 
 def leases_of(h: History, r: int) -> list[int]:
     """The leases of it that are out."""
-    return [l for l, e in enumerate(h) if e == Lease(r) and is_out(h, l)]
+    return [l for l, e in enumerate(h) if isinstance(e, Lease) and e.resource == r and is_out(h, l)]
 
 def is_leased(h: History, r: int) -> bool:
     return leases_of(h, r) != []
@@ -143,7 +141,7 @@ def open_subscribers(h: History, g: int) -> list[int]:
 @once
 def open_connections(h: History, g: int) -> list[int]:
     """The open nodes that a Connect of g made."""
-    return [n for n in nodes(h) if at(h, n) == Connect(g) and is_open(h, n)]
+    return [n for n in open_nodes(h) if kind_of(h, n) == 'connection' and at(h, n).hub == g]
 
 # 6. The climb of an item (Rx: Observable Contract, FlatMap, Switch, TakeUntil, Publish)
 

@@ -116,7 +116,7 @@ def once(define: Callable[..., Any]) -> Callable[..., Any]:
     """A definition is asked once for each history and its words. Without this line it says the same, more slowly."""
     @functools.wraps(define)
     def known(h: History, *words: Any) -> Any:
-        key = (define, *words)
+        key = (define, words)
         if key not in h.memo:
             h.memo[key] = define(h, *words)
         return h.memo[key]

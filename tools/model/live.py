@@ -12,7 +12,7 @@ from .definitions import (COMPLETED, History, at, forced, is_held, is_open, is_o
 from .scenario import Book, Canonical, Differs, Following
 from .texts import Faulty, events_of, form_of, line_of
 
-MOST_TRIED = 400  # orders of what one line forces
+MOST_TRIED = 5_000  # sets of what one line forces
 
 
 class Live(Book):
@@ -93,18 +93,20 @@ class Followed(Live):
         """What is forced, in an order that fits what the answer tells and how many events came."""
         if isinstance(self.way, Following):
             return super().settle()
-        begin, tried = self.h, 0
-        said = len(notes(begin.before(len(begin) - 1)))
+        begin, seen = self.h, set()
+        said, wanted = len(notes(begin.before(len(begin) - 1))), self.wanted.get('notes', [])
 
         def search(h: History) -> History | None:
-            nonlocal tried
+            told = [self.told(note) for note in notes(h)[said:]]
+            came = (frozenset(h.behind(len(begin) - 1)), len(told))  # another order of the same goes on alike
+            if told != wanted[:len(told)] or came in seen or len(seen) > MOST_TRIED:
+                return None
+            seen.add(came)
             due = list(dict.fromkeys(e for _, e in forced(h)))
             if due:
-                return next((k for e in due if tried <= MOST_TRIED and (k := search(h.then(e))) is not None), None)
-            tried += 1
+                return next((k for e in due if (k := search(h.then(e))) is not None), None)
             takes = sum(is_waiting(h, r) for r in resources(h))
-            fits = [self.told(note) for note in notes(h)[said:]] == self.wanted.get('notes', [])
-            return h if fits and self.ends_at in (None, len(h) + takes) else None
+            return h if told == wanted and self.ends_at in (None, len(h) + takes) else None
         found = search(begin)
         if found is None:
             return super().settle()
