@@ -5,10 +5,9 @@ use Rattle.std.specs.Option.{option_map_or}
 use Rattle.std.proofs.Math.Bool.{not}
 use Rattle.std.proofs.lemmas.Bool.{false≢true, false_from_ne_true}
 use Rattle.rx_event.specs.declared.marks.Marks.{Marks}
-use Rattle.rx_event.specs.Marks.{terminal_due}
 use Rattle.rx_slots.specs.declared.Key.{Key}
 use Rattle.rx_slots.specs.declared.Entry.{Entry}
-use Rattle.rx_slots.specs.Slots.{Slots, entry_of, entry_at, find, key_at, Changes, KeepsOthers}
+use Rattle.rx_slots.specs.Slots.{Slots, entry_at, find, key_at}
 use Rattle.rx_tree.specs.declared.links.Place.{Place}
 use Rattle.rx_tree.specs.declared.links.Place.TheVariants.{Due, Noted}
 use Rattle.rx_tree.specs.declared.node.Node.{Node}

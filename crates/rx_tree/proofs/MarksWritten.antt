@@ -9,7 +9,6 @@ use Rattle.rx_tree.specs.declared.linked.Record.{Record}
 use Rattle.rx_tree.specs.declared.links.Place.TheVariants.{Children, Held, Sibling, Noted}
 use Rattle.rx_tree.specs.declared.node.Node.{Node}
 use Rattle.rx_tree.specs.declared.store.Store.{Store}
-use Rattle.rx_tree.specs.Owed.{owed_in}
 use Rattle.rx_tree.specs.Store.{alone, no_counts, nodes_of}
 use Rattle.rx_tree.specs.Ties.{IsCounted, IsRemarked}
 use Rattle.rx_tree.specs.Tree.{with_marks}

@@ -257,11 +257,8 @@ impl Record {
     {
         match self.kind {
             KindWord::Flat | KindWord::Switch => true,
-            KindWord::Leaf
-            | KindWord::Pass
-            | KindWord::Until
-            | KindWord::Sub
-            | KindWord::Connect => false,
+            KindWord::Leaf | KindWord::Pass | KindWord::Until | KindWord::Sub | KindWord::Connect =>
+                false,
         }
     }
 
@@ -369,9 +366,7 @@ impl Record {
             KindWord::Pass | KindWord::Connect => false,
             KindWord::Until => self.marks.fired,
             KindWord::Flat | KindWord::Switch => {
-                self.marks.source_completed
-                    && self.marks.open_children == 0
-                    && self.marks.owed == 0
+                self.marks.source_completed && self.marks.open_children == 0 && self.marks.owed == 0
             }
             KindWord::Leaf | KindWord::Sub => return None,
         };
@@ -396,8 +391,10 @@ impl Record {
     #[inline(always)]
     pub(crate) fn end_child(&mut self, is_source: bool, terminal: Terminal)
         requires { 0 < self.old.node.marks.open_children }
-        ensures { self.new ≡ record self.old { node =
-            with_marks (after_child is_source (is_merging self.old.node.made) terminal self.old.node.marks) self.old.node } }
+        ensures { self.new ≡ record self.old {
+          node =
+              with_marks (after_child is_source (is_merging self.old.node.made) terminal self.old.node.marks) self.old.node;
+        } }
     {
         let merging = self.is_merging();
         self.marks = self.marks.after_child(is_source, merging, terminal);

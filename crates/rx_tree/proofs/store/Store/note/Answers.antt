@@ -1,4 +1,4 @@
-use Rattle.std.proofs.Common.{◌≡◌, Bool, true, false, refl, sym, ap, ◌∙◌, true≢false}
+use Rattle.std.proofs.Common.{◌≡◌, Bool, true, false, refl, sym, ◌∙◌, true≢false}
 use Rattle.std.proofs.Math.Bool.{not}
 use Rattle.rx_tree.specs.declared.links.Place.TheVariants.{Due}
 use Rattle.rx_tree.specs.Store.{nodes_of, resources_of, next_of, previous_of}

@@ -1,4 +1,4 @@
-use Rattle.std.proofs.Common.{◌+◌, ◌-◌, ap, ◌∙◌, arith}
+use Rattle.std.proofs.Common.{◌+◌, ◌-◌, ap, arith}
 use Rattle.rx_tree.proofs.MarksWritten.{slot_there, owed_within, remarked}
 use Rattle.rx_tree.proofs.store.Store.write_marks.Goals as goal
 

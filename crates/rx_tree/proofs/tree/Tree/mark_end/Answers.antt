@@ -1,4 +1,4 @@
-use Rattle.std.proofs.Common.{◌≡◌, Some, ap, ◌∙◌}
+use Rattle.std.proofs.Common.{◌≡◌, Some, ◌∙◌}
 use Rattle.rx_slots.specs.Slots.{find}
 use Rattle.rx_tree.specs.Store.{nodes_of}
 use Rattle.rx_tree.proofs.Laws.Keys.{some_of}
