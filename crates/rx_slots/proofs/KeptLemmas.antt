@@ -7,10 +7,10 @@ use Rattle.std.proofs.lemmas.List.FromFn.{length-map-range_with_len, get_or-map-
 use Rattle.slab.specs.Slab.{Slab, get, slab_len, with_value, Updates}
 use Rattle.rx_slots.specs.declared.Entry.{Entry}
 use Rattle.rx_slots.specs.declared.Key.{Key}
-use Rattle.rx_slots.specs.Slots.{entry_at, with_number, find, IsWithin, placed, with_value as written_at, entry_of, with_value_at}
+use Rattle.rx_slots.specs.Slots.{entry_at, find, IsWithin, placed, entry_of, with_value_at}
 use Rattle.rx_slots.specs.Kept.{table, shown, IsKept}
 use Rattle.rx_slots.proofs.SlotsLemmas.{get_or-append-nothing, sum_by-same_reads}
-use Rattle.rx_slots.proofs.Laws.EntryByNumber.{numbered_entry, with_number-same}
+use Rattle.rx_slots.proofs.Laws.EntryByNumber.{numbered_entry}
 use Rattle.slab.proofs.SlabLemmas.{ContainsKey-within, Updates-with_value}
 use Rattle.std.proofs.lemmas.List.Sums.{sum_by-set}
 
@@ -25,6 +25,10 @@ module _ {T : Type 0} where
         | inl within ↦ get_or-map-range_with_len (get cells) 0 n slot slot None within (zero-add slot)
         | inr past ↦ get_or_past (table cells n) slot None (omega (arith, length-table cells n)) ∙ sym (kept.below slot past)
       ]
+
+  -- so a slot that shows a value has it in the slab
+  pub there_in : (cells : Slab (Entry T)) (n slot : ℕ) → IsKept cells n → IsSome (entry_at (shown cells n) slot) → IsSome (get cells slot)
+  there_in cells n slot kept there = ap is_some (sym (get_or-table cells n slot kept)) ∙ there
 
   -- a slot with a value is below the count of slots
   pub IsKept-within : (cells : Slab (Entry T)) (n slot : ℕ) → IsKept cells n → IsSome (get cells slot) → slot < n
@@ -84,28 +88,6 @@ module _ {T : Type 0} where
       let values = kept.values_fit in
       omega (arith, below, slots, values)
 
-  -- an update after the slab grew is one of the slab as it was before
-  pub Updates-grown : (old grown new : Slab (Entry T)) (slot : ℕ) (entry : Option (Entry T)) → grown ≡ record old { capacity = grown.capacity } →
-      Updates grown new slot entry → Updates old new slot entry
-  Updates-grown old grown new slot entry same updates =
-      record { changed = updates.changed; others = λ other differs. updates.others other differs ∙ ap (λ s. get s other) same }
-
-  -- the entry that the slab has where a key finds a value has the key's number
-  pub stored_number : (cells : Slab (Entry T)) (n : ℕ) (key : Key) (e : Entry T) → IsKept cells n → IsSome (find (shown cells n) key) →
-      get cells key.slot ≡ Some e → e.number ≡ key.number
-  stored_number cells n key e kept found read =
-      let at = stored_entry cells n key kept found in
-      let here = at.1 in
-      let same : e ≡ at.0 = cc in
-      ap (λ x. x.number) same ∙ at.2
-
-  -- and its value is what the key finds
-  pub find-stored : (cells : Slab (Entry T)) (n : ℕ) (key : Key) (e : Entry T) → IsKept cells n → IsSome (find (shown cells n) key) →
-      get cells key.slot ≡ Some e → find (shown cells n) key ≡ Some e.value
-  find-stored cells n key e kept found read =
-      ap (with_number key.number) (get_or-table cells n key.slot kept ∙ read)
-      ∙ with_number-same key.number e (stored_number cells n key e kept found read)
-
   -- a write through a reference into the slab changes the table at that slot alone
   pub table-with_value : (cells : Slab (Entry T)) (n slot : ℕ) (old new : Entry T) → IsKept cells n → get cells slot ≡ Some old →
       table (with_value cells slot new) n ≡ set (table cells n) slot (Some new)
@@ -136,18 +118,6 @@ module _ {T : Type 0} where
       let rest : Option (Entry T) → List (Option (Entry T)) =
       λ at. set (table cells n) slot (option_map (λ number. entry_of number value) (option_map (λ x. x.number) at)) in
       let written = entries ∙ ap rest (sym (entry_at-stored cells n slot e kept read)) in
-      λ i. record { entries = written i; next_slot = cells.vacant_key; count = count i; room = cells.capacity - count i }
-
-  -- and of one at a key
-  pub shown-with_value : (cells : Slab (Entry T)) (n : ℕ) (key : Key) (e : Entry T) (value : T) → IsKept cells n → get cells key.slot ≡ Some e →
-      e.number ≡ key.number → shown (with_value cells key.slot (record e { value = value })) n ≡ written_at (shown cells n) key value
-  shown-with_value cells n key e value kept read number =
-      let new : Entry T = record e { value = value } in
-      let entries = table-with_value cells n key.slot e new kept read in
-      let count = slab_len-with_value cells key.slot e new read in
-      let renumbered : ℕ → Entry T = λ m. record { number = m; value = value } in
-      let named = ap (λ m. set (table cells n) key.slot (Some (renumbered m))) number in
-      let written = entries ∙ named in
       λ i. record { entries = written i; next_slot = cells.vacant_key; count = count i; room = cells.capacity - count i }
 
 -- a `&mut` leaves what two functions that agree everywhere say alike

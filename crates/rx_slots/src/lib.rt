@@ -14,6 +14,10 @@
 //! `proofs/SlotsLemmas.antt` has lemmas on these for callers, and `src/tests.rt` three callers with
 //! contracts of their own: an insert that counts, a walk over all slots, and a write through a key.
 //!
+//! Where a value is known to stand at a slot, [`Slots::at`], [`Slots::number_of`] and [`Slots::at_mut`]
+//! read it in place and [`Slots::take_at`] takes it out, and where there is room [`Slots::place`] puts one
+//! in: a proved build asks nothing there.
+//!
 //! Promised: each answer is the one that the entries tell, and after `reserve(n)` n inserts succeed
 //! with no memory. A walk over all values, by [`Slots::slot_count`] or [`Slots::next_key`], takes no
 //! memory. Values need not be `Drop`.
@@ -72,7 +76,7 @@ impl<T> Model for Slots<T> {
 
 impl<T> Slots<T> {
     ghost use Rattle.rx_slots.specs.Slots.{entry_of, slot_count, placed, entry_at, number_at, value_at, key_at, find, IsWithin, Changes, KeepsOthers};
-    ghost use Rattle.rx_slots.specs.Lends.{lends_value, lends_value_at};
+    ghost use Rattle.rx_slots.specs.Lends.{lends_value, lends_value_at, lends_at};
 
     /// An empty store, which takes no memory until the first `reserve` or `insert`.
     pub fn new(alloc: Global) -> Self
@@ -90,6 +94,7 @@ impl<T> Slots<T> {
     /// Makes room for `additional` values more, so that as many inserts succeed and take no memory.
     ///
     /// Refused only where there was less room and memory was refused. No entry changes either way.
+    #[inline(always)]
     pub fn reserve(&mut self, additional: usize) -> Result<(), AllocError>
         ensures ok { OnOk result (additional ≤ self.new.room) }
         ensures succeeds { additional ≤ self.old.room → IsOk result }
@@ -97,7 +102,33 @@ impl<T> Slots<T> {
         ensures kept { self.new ≡ record self.old { room = self.new.room } }
         ensures room { self.old.room ≤ self.new.room }
     {
+        if additional <= self.room() {
+            return Ok(());
+        }
+        self.grow(additional)
+    }
+
+    // Growing may copy all values, so it is done rarely: fourfold, where there is memory for that.
+    #[cold]
+    #[inline(never)]
+    fn grow(&mut self, additional: usize) -> Result<(), AllocError>
+        ensures ok { OnOk result (additional ≤ self.new.room) }
+        ensures kept { self.new ≡ record self.old { room = self.new.room } }
+        ensures room { self.old.room ≤ self.new.room }
+    {
+        let more = self.cells.len().saturating_mul(3);
+        if additional < more && self.cells.reserve(more).is_ok() {
+            return Ok(());
+        }
         self.cells.reserve(additional)
+    }
+
+    /// How many values more need no memory.
+    #[inline(always)]
+    pub fn room(&self) -> usize
+        ensures { result ≡ self.now.room }
+    {
+        self.cells.capacity() - self.cells.len()
     }
 
     /// Puts a value at the next slot, under a number that its caller gives.
@@ -128,16 +159,35 @@ impl<T> Slots<T> {
         ensures err { OnErr result (self.new ≡ record self.old { room = self.new.room }) }
         ensures room { OnErr result (self.old.room ≤ self.new.room) }
     {
-        if self.cells.reserve(1).is_err() {
+        if self.reserve(1).is_err() {
             return Err(value);
         }
-        let slot = self.cells.insert_reserved(Entry { number, value });
-        prove!(slot < self.cells.capacity());
-        self.slot_count = self.slot_count.max(slot + 1);
+        let slot = self.place(number, value);
         Ok(Key { slot, number })
     }
 
+    /// `insert` where there is room, which cannot be refused. It gives the slot alone.
+    #[inline(always)]
+    pub fn place(&mut self, number: u64, value: T) -> usize
+        requires room { 0 < self.old.room }
+        ensures slot { result ≡ self.old.next_slot }
+        ensures was_free { entry_at self.old result ≡ None }
+        ensures placed { self.new.entries ≡ placed self.old.entries result (entry_of number value) }
+        ensures changes { Changes self.old self.new result (Some (entry_of number value)) }
+        ensures found { find self.new (record { slot = result; number = number }) ≡ Some value }
+        ensures kept { KeepsOthers self.old self.new (record { slot = result; number = number }) }
+        ensures slot_count { slot_count self.new ≡ max (slot_count self.old) (result + 1) }
+        ensures count { self.new.count ≡ self.old.count + 1 }
+        ensures had_room { self.new.room + 1 ≡ self.old.room }
+    {
+        let slot = self.cells.insert_reserved(Entry { number, value });
+        prove!(slot < self.cells.capacity());
+        self.slot_count = self.slot_count.max(slot + 1);
+        slot
+    }
+
     /// The value of a key; None where its slot has no value, or one of another number.
+    #[inline(always)]
     pub fn get(&self, key: Key) -> Option<&T>
         ensures { option_copied result ≡ find self.now key }
     {
@@ -150,6 +200,7 @@ impl<T> Slots<T> {
     }
 
     /// Whether a key finds a value.
+    #[inline(always)]
     pub fn contains(&self, key: Key) -> bool
         ensures { IsTrue result ↔ IsSome (find self.now key) }
     {
@@ -157,12 +208,13 @@ impl<T> Slots<T> {
     }
 
     /// The value of a key for writing; None where its slot has no value, or one of another number.
+    #[inline(always)]
     pub fn get_mut(&mut self, key: Key) -> Option<&mut T>
         ensures* writes_back { sem 𝓛 (lends_value T.row self.entry key result) }
         ensures value { option_copied_mut result ≡ find self.old key }
     {
         if self.contains(key) {
-            Some(&mut self.cells[key.slot].value)
+            Some(self.at_mut(key.slot))
         } else {
             None
         }
@@ -171,6 +223,7 @@ impl<T> Slots<T> {
     /// Takes the value of a key out; None where its slot has no value, or one of another number.
     ///
     /// The slot is free again, and the next that `insert` uses.
+    #[inline(always)]
     pub fn take(&mut self, key: Key) -> Option<T>
         ensures value { result ≡ find self.old key }
         ensures removed { OnSome result
@@ -187,11 +240,27 @@ impl<T> Slots<T> {
         if !self.contains(key) {
             return None;
         }
-        let Entry { number: _, value } = self.cells.remove(key.slot);
-        Some(value)
+        Some(self.take_at(key.slot))
+    }
+
+    /// Takes the value out at a slot that has one. The slot is free again, and the next that `insert` uses.
+    #[inline(always)]
+    pub fn take_at(&mut self, slot: usize) -> T
+        requires there { IsSome (entry_at self.old slot) }
+        ensures value { value_at self.old slot ≡ Some result }
+        ensures removed { self.new.entries ≡ slice_set self.old.entries slot None }
+        ensures changes { Changes self.old self.new slot None }
+        ensures slot_count { slot_count self.new ≡ slot_count self.old }
+        ensures next_slot { self.new.next_slot ≡ slot }
+        ensures count { self.new.count + 1 ≡ self.old.count }
+        ensures room { self.new.room ≡ self.old.room + 1 }
+    {
+        let Entry { number: _, value } = self.cells.remove(slot);
+        value
     }
 
     /// How many values there are.
+    #[inline(always)]
     pub fn len(&self) -> usize
         ensures value { result ≡ self.now.count }
         ensures counted { result ≡ count_by is_some self.now.entries }
@@ -208,6 +277,7 @@ impl<T> Slots<T> {
 
     /// How many values there are and have room: each is at a slot below, also those that are put in
     /// without a request for memory.
+    #[inline(always)]
     pub fn capacity(&self) -> usize
         ensures value { result ≡ self.now.count + self.now.room }
         ensures within { IsWithin self.now }
@@ -234,6 +304,7 @@ impl<T> Slots<T> {
     }
 
     /// The value at a slot with its number, if one stands there.
+    #[inline(always)]
     pub fn entry_at(&self, slot: usize) -> Option<&Entry<T>>
         ensures { option_copied result ≡ entry_at self.now slot }
     {
@@ -241,6 +312,7 @@ impl<T> Slots<T> {
     }
 
     /// The number at a slot, if a value stands there.
+    #[inline(always)]
     pub fn number_at(&self, slot: usize) -> Option<u64>
         ensures { result ≡ number_at self.now slot }
     {
@@ -248,6 +320,7 @@ impl<T> Slots<T> {
     }
 
     /// The key of the value at a slot, if one stands there.
+    #[inline(always)]
     pub fn key_at(&self, slot: usize) -> Option<Key>
         ensures { result ≡ key_at self.now slot }
     {
@@ -256,6 +329,7 @@ impl<T> Slots<T> {
     }
 
     /// The value at a slot, if one stands there.
+    #[inline(always)]
     pub fn value_at(&self, slot: usize) -> Option<&T>
         ensures { option_copied result ≡ value_at self.now slot }
     {
@@ -263,15 +337,44 @@ impl<T> Slots<T> {
     }
 
     /// The value at a slot for writing, if one stands there.
+    #[inline(always)]
     pub fn value_at_mut(&mut self, slot: usize) -> Option<&mut T>
         ensures* writes_back { sem 𝓛 (lends_value_at T.row self.entry slot result) }
         ensures value { option_copied_mut result ≡ value_at self.old slot }
     {
         if self.entry_at(slot).is_some() {
-            Some(&mut self.cells[slot].value)
+            Some(self.at_mut(slot))
         } else {
             None
         }
+    }
+
+    /// The value at a slot that has one.
+    #[inline(always)]
+    pub fn at(&self, slot: usize) -> &T
+        requires there { IsSome (entry_at self.now slot) }
+        ensures { value_at self.now slot ≡ Some result.now }
+    {
+        &self.cells[slot].value
+    }
+
+    /// The number at a slot that has a value.
+    #[inline(always)]
+    pub fn number_of(&self, slot: usize) -> u64
+        requires there { IsSome (entry_at self.now slot) }
+        ensures { number_at self.now slot ≡ Some result }
+    {
+        self.cells[slot].number
+    }
+
+    /// The value at a slot that has one, for writing.
+    #[inline(always)]
+    pub fn at_mut(&mut self, slot: usize) -> &mut T
+        requires there { IsSome (entry_at self.old slot) }
+        ensures* writes_back { sem 𝓛 (lends_at T.row self.entry slot result) }
+        ensures value { value_at self.old slot ≡ Some result.now }
+    {
+        &mut self.cells[slot].value
     }
 
     /// The key of the first value at this slot or a later one; None where no value stands there.

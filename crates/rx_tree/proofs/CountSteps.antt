@@ -11,7 +11,7 @@ use Rattle.rx_slots.specs.declared.Key.{Key}
 use Rattle.rx_slots.specs.Slots.{Slots, entry_of, value_at, find, Changes}
 use Rattle.rx_tree.specs.declared.node.Node.{Node}
 use Rattle.rx_tree.specs.declared.node.Stowed.{Stowed}
-use Rattle.rx_tree.specs.declared.linked.Linked.{Linked}
+use Rattle.rx_tree.specs.declared.linked.Record.{Record}
 use Rattle.rx_tree.specs.declared.store.Counts.{Counts}
 use Rattle.rx_tree.specs.declared.store.Store.{Store}
 use Rattle.rx_tree.specs.declared.store.Stored.{Stored as Kept}
@@ -366,7 +366,7 @@ module _ {T : Type 0} (a b : Store T) where
           omega (arith, counts, e, one)
 
       pub counted_taken : b.nodes ≡ a.nodes → b.waiting_count ≡ one_less false a.waiting_count → b.owed ≡ a.owed → IsCounted b
-      counted_taken nodes waiting owed = counted_of b (λ l. subst (λ (n : Slots Linked). AreCountedAs l (project (λ x. x.node) n) (resources_of b)
+      counted_taken nodes waiting owed = counted_of b (λ l. subst (λ (n : Slots Record). AreCountedAs l (project (λ x. x.node) n) (resources_of b)
           b.waiting_count (λ j. option_map_or (λ x. x.held_count) (value_at n j) no_counts)) (sym nodes)
           (counted_changed (test_of l) (part l b.waiting_count) (λ j. part l (held_count_at a j)) (sort_of a c l) within_out
           (entry_found (resources_of a) key stowed found) change (less l) (λ j. let none = each_out l j in omega (arith, none))))
@@ -407,7 +407,7 @@ module _ {T : Type 0} (a b : Store T) where
         each false j = λ i. bit (not (lent i) && (owns i && ((node i).slot == j)))
 
   -- a node is taken out, and what it owned no node owns
-  module _ (c : IsCounted a) (key : Key) (linked : Linked) (found : find a.nodes key ≡ Some linked) (change : Changes
+  module _ (c : IsCounted a) (key : Key) (linked : Record) (found : find a.nodes key ≡ Some linked) (change : Changes
       (nodes_of a) (nodes_of b) key.slot None) where
     here : held_count_at a key.slot ≡ linked.held_count
     here = ap (λ o. option_map_or (λ l. l.held_count) (option_map (λ e. e.value) o) no_counts) (entry_found a.nodes key linked found)
@@ -439,7 +439,7 @@ module _ {T : Type 0} (a b : Store T) where
         (λ j apart. ap (λ o. part l (value o)) (out.others j apart)))))
         (let was = c.owed in let less = owed_less in let e : b.owed ≡ owed_in (nodes_of b) = omega (arith, owed, was, less) in e)
       where
-        value : Option (Entry Linked) → Counts
+        value : Option (Entry Record) → Counts
         value o = option_map_or (λ l. l.held_count) (option_map (λ e. e.value) o) no_counts
 
         sum : (l : Bool) → AreCounted (test_of l) (nodes_of b) (resources_of a) (part l a.waiting_count + part l (held_count_at a key.slot))
@@ -452,8 +452,8 @@ module _ {T : Type 0} (a b : Store T) where
 
 module _ {T : Type 0} (s : Store T) (c : IsCounted s) where
   -- more room changes no count
-  pub counted_room_nodes : (m : Slots Linked) → m ≡ record s.nodes { room = m.room } → IsCounted (record s { nodes = m })
-  counted_room_nodes m same = subst (λ (n : Slots Linked). IsCounted (record s { nodes = n })) (sym same) wider where
+  pub counted_room_nodes : (m : Slots Record) → m ≡ record s.nodes { room = m.room } → IsCounted (record s { nodes = m })
+  counted_room_nodes m same = subst (λ (n : Slots Record). IsCounted (record s { nodes = n })) (sym same) wider where
     wider : IsCounted (record s { nodes = record s.nodes { room = m.room } })
     wider = record {
       free = record { by_none = c.free.by_none; by_each = c.free.by_each };

@@ -13,6 +13,8 @@ pub mod TieSteps
 pub mod Sound
 pub mod TieRecords
 pub mod Chain
+pub mod InPlace
+pub mod MarksWritten
 pub mod There
 pub mod MarkSteps
 pub mod RecordSteps

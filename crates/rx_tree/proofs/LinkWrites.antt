@@ -5,7 +5,7 @@ use Rattle.rx_slots.specs.Slots.{value_at, with_value_at}
 use Rattle.rx_tree.specs.declared.links.Link.{Link}
 use Rattle.rx_tree.specs.declared.links.Place.{Place}
 use Rattle.rx_tree.specs.declared.links.Place.TheVariants.{Children, Held, Sibling, Noted, Stored}
-use Rattle.rx_tree.specs.declared.linked.Linked.{Linked}
+use Rattle.rx_tree.specs.declared.linked.Record.{Record}
 use Rattle.rx_tree.specs.declared.store.Stored.{Stored as Kept}
 use Rattle.rx_tree.specs.declared.store.Store.{Store}
 use Rattle.rx_rings.specs.Rings.{set_step}
@@ -41,7 +41,7 @@ module _ {T : Type 0} where
 
 -- each kind of place that has a slot
 module _ {T : Type 0} (s : Store T) (slot : ℕ) (link : Link) where
-  pub writes-Children : (l : Linked) → value_at s.nodes slot ≡ Some l →
+  pub writes-Children : (l : Record) → value_at s.nodes slot ≡ Some l →
       WritesLink s (record s { nodes = with_value_at s.nodes slot (record l { children = link }) }) (Children slot) l.children link
   writes-Children l at =
       record {
@@ -50,7 +50,7 @@ module _ {T : Type 0} (s : Store T) (slot : ℕ) (link : Link) where
         rest = relinks-Children s slot link l at;
       }
 
-  pub writes-Held : (l : Linked) → value_at s.nodes slot ≡ Some l →
+  pub writes-Held : (l : Record) → value_at s.nodes slot ≡ Some l →
       WritesLink s (record s { nodes = with_value_at s.nodes slot (record l { held = link }) }) (Held slot) l.held link
   writes-Held l at =
       record {
@@ -59,7 +59,7 @@ module _ {T : Type 0} (s : Store T) (slot : ℕ) (link : Link) where
         rest = relinks-Held s slot link l at;
       }
 
-  pub writes-Sibling : (l : Linked) → value_at s.nodes slot ≡ Some l →
+  pub writes-Sibling : (l : Record) → value_at s.nodes slot ≡ Some l →
       WritesLink s (record s { nodes = with_value_at s.nodes slot (record l { sibling = link }) }) (Sibling slot) l.sibling link
   writes-Sibling l at =
       record {
@@ -68,7 +68,7 @@ module _ {T : Type 0} (s : Store T) (slot : ℕ) (link : Link) where
         rest = relinks-Sibling s slot link l at;
       }
 
-  pub writes-Noted : (l : Linked) → value_at s.nodes slot ≡ Some l →
+  pub writes-Noted : (l : Record) → value_at s.nodes slot ≡ Some l →
       WritesLink s (record s { nodes = with_value_at s.nodes slot (record l { noted = link }) }) (Noted slot) l.noted link
   writes-Noted l at =
       record {

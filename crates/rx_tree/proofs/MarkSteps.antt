@@ -1,14 +1,13 @@
 -- What calls on the chain leave of a tree.
-use Rattle.std.proofs.Common.{◌≡◌, ◌≢◌, ℕ, ◌&&◌, cond, map, drop, Bool, true, false, List, [], ◌∷◌, ◌++◌, Option, Some, None, option_map, is_some, refl, sym}
+use Rattle.std.proofs.Common.{◌≡◌, ◌≢◌, ℕ, ◌&&◌, cond, map, drop, Bool, true, false, List, [], ◌∷◌, ◌++◌, Option, Some, None, option_map, is_some, IsSome, refl, sym}
 use Rattle.std.proofs.Common.{ap, subst, ◌∙◌}
 use Rattle.std.specs.Option.{option_map_or}
 use Rattle.std.proofs.Math.Bool.{not}
 use Rattle.std.proofs.lemmas.Bool.{false≢true, false_from_ne_true}
 use Rattle.rx_event.specs.declared.marks.Marks.{Marks}
-use Rattle.rx_event.specs.Marks.{terminal_due}
 use Rattle.rx_slots.specs.declared.Key.{Key}
 use Rattle.rx_slots.specs.declared.Entry.{Entry}
-use Rattle.rx_slots.specs.Slots.{Slots, entry_of, entry_at, find, key_at, Changes, KeepsOthers}
+use Rattle.rx_slots.specs.Slots.{Slots, entry_at, find, key_at}
 use Rattle.rx_tree.specs.declared.links.Place.{Place}
 use Rattle.rx_tree.specs.declared.links.Place.TheVariants.{Due, Noted}
 use Rattle.rx_tree.specs.declared.node.Node.{Node}
@@ -20,13 +19,14 @@ use Rattle.rx_tree.proofs.PlacesApart.{tells}
 use Rattle.rx_rings.proofs.Laws.Places.{place_differs, among_here, without_none}
 use Rattle.rx_rings.proofs.Laws.Links.{no_loop, first_among}
 use Rattle.rx_rings.proofs.Laws.Rings.{some_none}
-use Rattle.rx_tree.specs.Store.{key_on, nodes_of, resources_of, next_of, previous_of, KeepsLinks, Relinks, shown}
-use Rattle.rx_tree.specs.Ties.{home_of, IsTiedAt, IsTied}
-use Rattle.rx_tree.specs.Tree.{is_on, is_due, with_last, with_due, with_marks, first_of}
+use Rattle.rx_tree.specs.Store.{key_on, project, nodes_of, resources_of, next_of, previous_of, Relinks, shown}
+use Rattle.rx_tree.specs.Ties.{home_of, IsTiedAt, IsTied, IsKept, IsRemarked}
+use Rattle.rx_tree.specs.Tree.{is_on, with_last, with_due, with_marks, first_of, Rewrites}
 use Rattle.rx_tree.proofs.TieSteps.{tied_links, tied_noted, tied_unnoted}
 use Rattle.rx_tree.proofs.TieRecords.{tied_marked, by_entry, home_stands}
 use Rattle.rx_tree.proofs.Chain.{chain_is, retie, due_is, on_places, places_on, key_on_found}
-use Rattle.rx_tree.proofs.Laws.Keys.{same_key}
+use Rattle.rx_tree.proofs.Laws.Keys.{same_key, some_of}
+use Rattle.rx_tree.proofs.There.{slot_stands}
 
 map_append : {X Y : Type 0} (f : X → Y) (xs ys : List X) → map f (xs ++ ys) ≡ map f xs ++ map f ys
 map_append f [] ys = refl
@@ -58,80 +58,79 @@ module _ {T : Type 0} where
         absurd (place_differs tells (n (Noted slot)) (Noted slot) other (tied.ringed.loose (Noted slot) refl home).to)
 
   -- marks are set
-  module _ (s m : Store T) (key : Key) (node : Node) (marks : Marks) (tied : IsTied s) (found : find (nodes_of s) key ≡ Some node)
-      (change : Changes (nodes_of s) (nodes_of m) key.slot (Some (entry_of key.number (with_marks marks node))))
-      (kept : KeepsOthers (nodes_of s) (nodes_of m) key) (links : KeepsLinks s m) (rest : resources_of m ≡ resources_of s) where
-    abbrev pub marked : IsTiedAt (next_of m) (previous_of m) (nodes_of m) (resources_of s)
-    marked = tied_links (previous_of s) (next_of m) (previous_of m) (nodes_of m) (resources_of s) (λ q. ap (λ l. l.next) (links q))
-        (λ q. ap (λ l. l.previous) (links q))
-        (tied_marked (nodes_of s) (nodes_of m) (resources_of s) key node marks found change kept (next_of s) (previous_of s) tied)
+  module _ (s m : Store T) (key : Key) (node : Node) (marks : Marks) (kept : IsKept s) (found : find (nodes_of s) key ≡ Some node)
+      (written : IsRemarked s m key node marks) where
+    abbrev marked : IsTiedAt (next_of m) (previous_of m) (nodes_of m) (resources_of s)
+    marked = tied_links (previous_of s) (next_of m) (previous_of m) (nodes_of m) (resources_of s) (λ q. ap (λ l. l.next) (written.links q))
+        (λ q. ap (λ l. l.previous) (written.links q))
+        (tied_marked (nodes_of s) (nodes_of m) (resources_of s) key node marks found written.changes written.rewrites.others (next_of s) (previous_of s)
+        kept.tied)
 
-    pub marked_tied : IsTied m
-    marked_tied = retie m (nodes_of m) (resources_of s) refl rest marked
+    pub marked_resources : resources_of m ≡ resources_of s
+    marked_resources = ap (project (λ r. r.stowed)) written.resources
 
-    same_keys : (q : Place) → key_on (nodes_of m) q ≡ key_on (nodes_of s) q
-    same_keys q = same_key (key_on (nodes_of m) q) (key_on (nodes_of s) q) refl
-        (by_entry {T = T} (nodes_of s) (nodes_of m) (resources_of s) key node marks found change kept
-        (λ o. option_map_or (λ n. n) (option_map (λ e. e.number) o) 0) refl (slot_of q))
+    pub marked_kept : IsKept m
+    marked_kept = record { tied = retie m (nodes_of m) (resources_of s) refl marked_resources marked; counted = written.counted }
 
-    chain_before : (shown s).chain ≡ map (key_on (nodes_of s)) (tied.rings Due)
-    chain_before = chain_is s (nodes_of s) (resources_of s) refl tied
+    pub marked_open : IsSome (find (nodes_of m) key)
+    marked_open = ap is_some (written.rewrites.changed ∙ ap (option_map (with_marks marks)) found)
 
     -- the chain is the one before
-    marked_same : (shown m).chain ≡ (shown s).chain
-    marked_same = chain_is m (nodes_of m) (resources_of s) refl marked ∙
-        map_same (key_on (nodes_of m)) (key_on (nodes_of s)) (tied.rings Due) same_keys ∙ sym chain_before
+    pub marked_chain : (shown m).chain ≡ (shown s).chain
+    marked_chain = chain_is m (nodes_of m) (resources_of s) refl marked ∙
+        map_same (key_on (nodes_of m)) (key_on (nodes_of s)) (kept.tied.rings Due)
+        (λ q. same_key (key_on (nodes_of m) q) (key_on (nodes_of s) q) refl
+        (by_entry {T = T} (nodes_of s) (nodes_of m) (resources_of s) key node marks found written.changes written.rewrites.others
+        (λ o. option_map_or (λ n. n) (option_map (λ e. e.number) o) 0) refl (slot_of q))) ∙
+        sym (chain_is s (nodes_of s) (resources_of s) refl kept.tied)
 
-    -- the node has to end by its new marks, or it has not
-    due_now : find (nodes_of m) key ≡ Some (with_marks marks node) → is_due (nodes_of m) key ≡ is_some (terminal_due node.made marks)
-    due_now now = ap (λ o. option_map_or (λ (x : Node). is_some (terminal_due x.made x.marks)) o false) now
+    -- and stays one with the nodes and the resources of before where links alone change after that
+    pub marked_nodes : (t : Store T) → Relinks m t → Rewrites (nodes_of s) (nodes_of t) key (with_marks marks)
+    marked_nodes t rest = subst (λ (n : Slots Node). Rewrites (nodes_of s) n key (with_marks marks)) (sym rest.nodes) written.rewrites
 
-    -- where it has not, it is not put there
-    pub marked_undue : find (nodes_of m) key ≡ Some (with_marks marks node) → is_some (terminal_due node.made marks) ≡ false →
-        (shown m).chain ≡ with_due (nodes_of m) key (shown s).chain
-    marked_undue now undue = marked_same ∙ sym (ap (λ b. cond b (with_last key (shown s).chain) (shown s).chain) (due_now now ∙ undue))
+    pub marked_due : (t : Store T) → Relinks m t → (shown t).chain ≡ with_due (nodes_of m) key (shown m).chain →
+        (shown t).chain ≡ with_due (nodes_of t) key (shown s).chain
+    marked_due t rest chain = chain ∙ (λ i. with_due (sym rest.nodes i) key (marked_chain i))
 
-    -- it was on the chain
-    pub marked_on : is_place (next_of m (Noted key.slot)) (Noted key.slot) ≡ false → (shown m).chain ≡ with_due (nodes_of m) key (shown s).chain
-    marked_on other = marked_same ∙ sym (by_test (is_due (nodes_of m) key)) where
-      among : is_among places (Noted key.slot) (tied.rings Due) ≡ true
-      among = on_chain (next_of m) (previous_of m) (nodes_of m) (resources_of s) marked key.slot other
+  -- a node is put on the chain
+  module _ (m : Store T) (key : Key) (tied : IsTied m) («open» : IsSome (find (nodes_of m) key)) where
+    chain_before : (shown m).chain ≡ map (key_on (nodes_of m)) (tied.rings Due)
+    chain_before = chain_is m (nodes_of m) (resources_of m) refl tied
 
-      on : is_on key (shown s).chain ≡ true
-      on = ap (is_on key) chain_before ∙ subst (λ k. is_on k (map (key_on (nodes_of s)) (tied.rings Due)) ≡ true)
-          (key_on_found (nodes_of s) key node (Noted key.slot) refl found) (places_on (nodes_of s) (tied.rings Due) (Noted key.slot) among)
+    last_key : key_on (nodes_of m) (Noted key.slot) ≡ key
+    last_key = let h = some_of (find (nodes_of m) key) «open» in key_on_found (nodes_of m) key h.0 (Noted key.slot) refl h.1
 
-      by_test : (b : Bool) → cond b (with_last key (shown s).chain) (shown s).chain ≡ (shown s).chain
-      by_test true = ap (λ b. cond b (shown s).chain ((shown s).chain ++ key ∷ [])) on
-      by_test false = refl
+    -- it was there
+    pub noted_already : is_place (next_of m (Noted key.slot)) (Noted key.slot) ≡ false → (shown m).chain ≡ with_last key (shown m).chain
+    noted_already other =
+        let among = on_chain (next_of m) (previous_of m) (nodes_of m) (resources_of m) tied key.slot other in
+        let on : is_on key (shown m).chain ≡ true =
+        ap (is_on key) chain_before ∙ subst (λ k. is_on k (map (key_on (nodes_of m)) (tied.rings Due)) ≡ true) last_key
+        (places_on (nodes_of m) (tied.rings Due) (Noted key.slot) among) in
+        sym (ap (λ b. cond b (shown m).chain ((shown m).chain ++ key ∷ [])) on)
 
-    -- it was not, and is put there
+    -- it was not
     module _ (t : Store T) (off : is_place (next_of m (Noted key.slot)) (Noted key.slot) ≡ true)
         (joins : Joins places (next_of m) (previous_of m) (next_of t) (previous_of t) Due (Noted key.slot)) (relinks : Relinks m t) where
-      home_none : home_of (nodes_of m) (resources_of s) marked.noted (Noted key.slot) ≡ None
-      home_none = off_chain (next_of m) (previous_of m) (nodes_of m) (resources_of s) marked key.slot off
+      home_none : home_of (nodes_of m) (resources_of m) tied.noted (Noted key.slot) ≡ None
+      home_none = off_chain (next_of m) (previous_of m) (nodes_of m) (resources_of m) tied key.slot off
 
-      abbrev joined : IsTiedAt (next_of t) (previous_of t) (nodes_of m) (resources_of s)
-      joined = tied_noted (nodes_of m) (resources_of s) (previous_of m) (next_of t) (previous_of t) key.slot marked home_none
-          (ap is_some change.changed) joins
+      abbrev joined : IsTiedAt (next_of t) (previous_of t) (nodes_of m) (resources_of m)
+      joined = tied_noted (nodes_of m) (resources_of m) (previous_of m) (next_of t) (previous_of t) key.slot tied home_none
+          (slot_stands (nodes_of m) key «open») joins
 
-      pub joined_tied : IsTied t
-      joined_tied = retie t (nodes_of m) (resources_of s) relinks.nodes (relinks.resources ∙ rest) joined
+      pub noted_tied : IsTied t
+      noted_tied = retie t (nodes_of m) (resources_of m) relinks.nodes relinks.resources joined
 
-      pub joined_chain : find (nodes_of m) key ≡ Some (with_marks marks node) → is_some (terminal_due node.made marks) ≡ true →
-          (shown t).chain ≡ with_due (nodes_of t) key (shown s).chain
-      joined_chain now due =
-          let off_it : is_on key (shown s).chain ≡ false = false_from_ne_true (is_on key (shown s).chain)
-          (λ on. let h = on_places (nodes_of s) (tied.rings Due) key (subst (λ c. is_on key c ≡ true) chain_before on) in let home =
-          tied.ringed.members Due h.place h.among in let is : h.place ≡ Noted key.slot = due_is (nodes_of s) (resources_of s) tied.noted h.place home ∙
-          ap (λ j. Noted j) (sym h.slot) in some_none (home_of (nodes_of m) (resources_of s) marked.noted (Noted key.slot)) Due
-          (marked.ringed.members Due (Noted key.slot) (subst (λ z. is_among places z (tied.rings Due) ≡ true) is h.among)) home_none) in
-          let last : key_on (nodes_of m) (Noted key.slot) ≡ key = same_keys (Noted key.slot) ∙ key_on_found (nodes_of s) key node (Noted key.slot) refl found in
-          chain_is t (nodes_of m) (resources_of s) relinks.nodes joined ∙ map_append (key_on (nodes_of m)) (tied.rings Due) (Noted key.slot ∷ []) ∙
-          (λ i. map_same (key_on (nodes_of m)) (key_on (nodes_of s)) (tied.rings Due) same_keys i ++ last i ∷ []) ∙
-          ap (λ c. c ++ key ∷ []) (sym chain_before) ∙
-          sym (ap (λ b. cond b (shown s).chain ((shown s).chain ++ key ∷ [])) off_it) ∙
-          sym (ap (λ b. cond b (with_last key (shown s).chain) (shown s).chain) (ap (λ ns. is_due ns key) relinks.nodes ∙ due_now now ∙ due))
+      pub noted_chain : (shown t).chain ≡ with_last key (shown m).chain
+      noted_chain =
+          let off_it : is_on key (shown m).chain ≡ false = false_from_ne_true (is_on key (shown m).chain)
+          (λ on. let h = on_places (nodes_of m) (tied.rings Due) key (subst (λ c. is_on key c ≡ true) chain_before on) in let home =
+          tied.ringed.members Due h.place h.among in let is : h.place ≡ Noted key.slot = due_is (nodes_of m) (resources_of m) tied.noted h.place home ∙
+          ap (λ j. Noted j) (sym h.slot) in some_none (home_of (nodes_of m) (resources_of m) tied.noted (Noted key.slot)) Due
+          (tied.ringed.members Due (Noted key.slot) (subst (λ z. is_among places z (tied.rings Due) ≡ true) is h.among)) home_none) in
+          chain_is t (nodes_of m) (resources_of m) relinks.nodes joined ∙ map_append (key_on (nodes_of m)) (tied.rings Due) (Noted key.slot ∷ []) ∙
+          (λ i. sym chain_before i ++ last_key i ∷ []) ∙ sym (ap (λ b. cond b (shown m).chain ((shown m).chain ++ key ∷ [])) off_it)
 
   -- the first of the chain
   module _ (s : Store T) (tied : IsTied s) where

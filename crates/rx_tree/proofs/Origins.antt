@@ -1,5 +1,5 @@
 -- What made a node is what its words and numbers tell.
-use Rattle.std.proofs.Common.{◌≡◌, ℕ, Option, Some, None, true, option_map, is_some, refl, sym, ap, true≢false}
+use Rattle.std.proofs.Common.{◌≡◌, ℕ, Option, Some, None, true, option_map, is_some, IfSome, refl, sym, ap, true≢false}
 use Rattle.std.specs.Option.{option_map_or}
 use Rattle.rx_event.specs.Events.{makes_node, parent_named}
 use Rattle.rx_event.specs.declared.event.Event.{Event}
@@ -8,6 +8,8 @@ use Rattle.rx_event.specs.declared.event.Kind.TheVariants.{Leaf, Pass, Flat, Swi
 use Rattle.rx_event.specs.declared.event.Place.TheVariants.{Root, Source, Inner, Notifier}
 use Rattle.rx_slots.specs.declared.Key.{Key}
 use Rattle.rx_tree.specs.declared.node.Node.{Node}
+use Rattle.rx_tree.specs.declared.origin.Origin.{Origin}
+use Rattle.rx_tree.specs.declared.origin.PlaceWord.{PlaceWord}
 use Rattle.rx_tree.specs.Record.{place_word, kind_word, origin_of, made_of, above_of, node_of}
 
 -- of a number that the key of the node above has
@@ -85,3 +87,10 @@ above_back (Take a) above m e = absurd (true≢false (sym m))
 pub node_back : (node : Node) → makes_node node.made ≡ true → parent_named node.made ≡ option_map (λ key. key.number) node.above →
     node_of (place_word node.made) (kind_word node.made) (origin_of node.made node.above) node.marks ≡ node
 node_back node m e = λ i. record { made = made_back node.made node.above m e i; above = above_back node.made node.above m e i; marks = node.marks }
+
+-- the slot beside the words is that of the node above
+pub slot_above : (place : PlaceWord) (o : Origin) → IfSome (above_of place o) (λ key. o.slot ≡ key.slot)
+slot_above PlaceWord.Root o = tt
+slot_above PlaceWord.Source o = refl
+slot_above PlaceWord.Inner o = refl
+slot_above PlaceWord.Notifier o = refl

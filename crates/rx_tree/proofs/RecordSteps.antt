@@ -15,7 +15,7 @@ use Rattle.rx_tree.specs.declared.links.Place.{Place}
 use Rattle.rx_tree.specs.declared.links.Place.TheVariants.{Roots, Due, Waiting, Children, Held, Sibling, Noted, Stored}
 use Rattle.rx_tree.specs.declared.node.Node.{Node}
 use Rattle.rx_tree.specs.declared.node.Stowed.{Stowed}
-use Rattle.rx_tree.specs.declared.linked.Linked.{Linked}
+use Rattle.rx_tree.specs.declared.linked.Record.{Record}
 use Rattle.rx_tree.specs.declared.store.Stored.{Stored as Kept}
 use Rattle.rx_tree.specs.declared.store.Store.{Store}
 use Rattle.rx_tree.specs.Resources.{is_owned, is_lent}
@@ -111,8 +111,8 @@ module _ {T : Type 0} where
     held_chain = chain_kept s t tied (resources_of m) (relinks.nodes ∙ rest) now_held refl (λ x there. refl)
 
   -- room changes nothing else
-  pub room_nodes : (s : Store T) (m : Slots Linked) → m ≡ record s.nodes { room = m.room } → IsTied s → IsTied (record s { nodes = m })
-  room_nodes s m same tied = subst (λ (n : Slots Linked). IsTied (record s { nodes = n })) (sym same) wider where
+  pub room_nodes : (s : Store T) (m : Slots Record) → m ≡ record s.nodes { room = m.room } → IsTied s → IsTied (record s { nodes = m })
+  room_nodes s m same tied = subst (λ (n : Slots Record). IsTied (record s { nodes = n })) (sym same) wider where
     other : Store T
     other = record s { nodes = record s.nodes { room = m.room } }
 

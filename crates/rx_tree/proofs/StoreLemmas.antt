@@ -13,7 +13,7 @@ use Rattle.rx_slots.specs.Slots.{Slots, entry_of, entry_at, value_at, number_at,
 use Rattle.rx_tree.specs.declared.links.Link.{Link}
 use Rattle.rx_tree.specs.declared.links.Place.{Place}
 use Rattle.rx_tree.specs.declared.links.Place.TheVariants.{Roots, Due, Waiting, Children, Held, Sibling, Noted, Stored}
-use Rattle.rx_tree.specs.declared.linked.Linked.{Linked}
+use Rattle.rx_tree.specs.declared.linked.Record.{Record}
 use Rattle.rx_tree.specs.declared.store.Stored.{Stored as Kept}
 use Rattle.rx_tree.specs.declared.store.Store.{Store}
 use Rattle.rx_tree.specs.Store.{on_entry, project, alone, link_at, set_link_at, Relinks, KeepsLinks, Inserts, Takes_out, no_counts}
@@ -98,7 +98,7 @@ module _ {X : Type 0} where
     of false e = refl
 
 module _ {T : Type 0} (s : Store T) (slot : ℕ) (link : Link) where
-  pub linked-Children : (l : Linked) → value_at s.nodes slot ≡ Some l → (q : Place) →
+  pub linked-Children : (l : Record) → value_at s.nodes slot ≡ Some l → (q : Place) →
       link_at (record s { nodes = with_value_at s.nodes slot (record l { children = link }) }) q ≡ set_link_at (Children slot) link s q
   linked-Children l at Roots = refl
   linked-Children l at Due = refl
@@ -112,7 +112,7 @@ module _ {T : Type 0} (s : Store T) (slot : ℕ) (link : Link) where
       part-kept (λ x. x.noted) (record { next = Noted j; previous = Noted j }) s.nodes slot (record l { children = link }) j at refl
   linked-Children l at (Stored j) = refl
 
-  pub relinks-Children : (l : Linked) → value_at s.nodes slot ≡ Some l → Relinks s
+  pub relinks-Children : (l : Record) → value_at s.nodes slot ≡ Some l → Relinks s
       (record s { nodes = with_value_at s.nodes slot (record l { children = link }) })
   relinks-Children l at = record {
     nodes = project-written (λ x. x.node) s.nodes slot l (record l { children = link }) at refl;
@@ -122,7 +122,7 @@ module _ {T : Type 0} (s : Store T) (slot : ℕ) (link : Link) where
     held_count = λ j. part-kept (λ x. x.held_count) no_counts s.nodes slot (record l { children = link }) j at refl;
   }
 
-  pub linked-Held : (l : Linked) → value_at s.nodes slot ≡ Some l → (q : Place) →
+  pub linked-Held : (l : Record) → value_at s.nodes slot ≡ Some l → (q : Place) →
       link_at (record s { nodes = with_value_at s.nodes slot (record l { held = link }) }) q ≡ set_link_at (Held slot) link s q
   linked-Held l at Roots = refl
   linked-Held l at Due = refl
@@ -135,7 +135,7 @@ module _ {T : Type 0} (s : Store T) (slot : ℕ) (link : Link) where
   linked-Held l at (Noted j) = part-kept (λ x. x.noted) (record { next = Noted j; previous = Noted j }) s.nodes slot (record l { held = link }) j at refl
   linked-Held l at (Stored j) = refl
 
-  pub relinks-Held : (l : Linked) → value_at s.nodes slot ≡ Some l → Relinks s (record s { nodes = with_value_at s.nodes slot (record l { held = link }) })
+  pub relinks-Held : (l : Record) → value_at s.nodes slot ≡ Some l → Relinks s (record s { nodes = with_value_at s.nodes slot (record l { held = link }) })
   relinks-Held l at = record {
     nodes = project-written (λ x. x.node) s.nodes slot l (record l { held = link }) at refl;
     resources = refl;
@@ -144,7 +144,7 @@ module _ {T : Type 0} (s : Store T) (slot : ℕ) (link : Link) where
     held_count = λ j. part-kept (λ x. x.held_count) no_counts s.nodes slot (record l { held = link }) j at refl;
   }
 
-  pub linked-Sibling : (l : Linked) → value_at s.nodes slot ≡ Some l → (q : Place) →
+  pub linked-Sibling : (l : Record) → value_at s.nodes slot ≡ Some l → (q : Place) →
       link_at (record s { nodes = with_value_at s.nodes slot (record l { sibling = link }) }) q ≡ set_link_at (Sibling slot) link s q
   linked-Sibling l at Roots = refl
   linked-Sibling l at Due = refl
@@ -158,7 +158,7 @@ module _ {T : Type 0} (s : Store T) (slot : ℕ) (link : Link) where
       part-kept (λ x. x.noted) (record { next = Noted j; previous = Noted j }) s.nodes slot (record l { sibling = link }) j at refl
   linked-Sibling l at (Stored j) = refl
 
-  pub relinks-Sibling : (l : Linked) → value_at s.nodes slot ≡ Some l → Relinks s
+  pub relinks-Sibling : (l : Record) → value_at s.nodes slot ≡ Some l → Relinks s
       (record s { nodes = with_value_at s.nodes slot (record l { sibling = link }) })
   relinks-Sibling l at = record {
     nodes = project-written (λ x. x.node) s.nodes slot l (record l { sibling = link }) at refl;
@@ -168,7 +168,7 @@ module _ {T : Type 0} (s : Store T) (slot : ℕ) (link : Link) where
     held_count = λ j. part-kept (λ x. x.held_count) no_counts s.nodes slot (record l { sibling = link }) j at refl;
   }
 
-  pub linked-Noted : (l : Linked) → value_at s.nodes slot ≡ Some l → (q : Place) →
+  pub linked-Noted : (l : Record) → value_at s.nodes slot ≡ Some l → (q : Place) →
       link_at (record s { nodes = with_value_at s.nodes slot (record l { noted = link }) }) q ≡ set_link_at (Noted slot) link s q
   linked-Noted l at Roots = refl
   linked-Noted l at Due = refl
@@ -181,7 +181,7 @@ module _ {T : Type 0} (s : Store T) (slot : ℕ) (link : Link) where
   linked-Noted l at (Noted j) = part-written (λ x. x.noted) (record { next = Noted j; previous = Noted j }) s.nodes slot l (record l { noted = link }) j at
   linked-Noted l at (Stored j) = refl
 
-  pub relinks-Noted : (l : Linked) → value_at s.nodes slot ≡ Some l → Relinks s (record s { nodes = with_value_at s.nodes slot (record l { noted = link }) })
+  pub relinks-Noted : (l : Record) → value_at s.nodes slot ≡ Some l → Relinks s (record s { nodes = with_value_at s.nodes slot (record l { noted = link }) })
   relinks-Noted l at = record {
     nodes = project-written (λ x. x.node) s.nodes slot l (record l { noted = link }) at refl;
     resources = refl;
@@ -334,7 +334,7 @@ module _ {X Z : Type 0} (g : X → Z) (d : ℕ → Z) (old new : Slots X) (slot 
 
 module _ {T : Type 0} (old : Store T) where
   -- links stay where each part of the nodes' records does, but for that of a node among its siblings, which goes with it
-  pub links_taken : (nodes : Slots Linked) (slot : ℕ) → let new = record old { nodes = nodes } in
+  pub links_taken : (nodes : Slots Record) (slot : ℕ) → let new = record old { nodes = nodes } in
       ((j : ℕ) → link_at new (Children j) ≡ link_at old (Children j)) → ((j : ℕ) → link_at new (Held j) ≡ link_at old (Held j)) →
       ((j : ℕ) → link_at new (Sibling j) ≡ set_link_at (Sibling slot) (alone (Sibling slot)) old (Sibling j)) →
       ((j : ℕ) → link_at new (Noted j) ≡ link_at old (Noted j)) → (q : Place) → link_at new q ≡ set_link_at (Sibling slot) (alone (Sibling slot)) old q
@@ -348,7 +348,7 @@ module _ {T : Type 0} (old : Store T) where
   links_taken nodes slot c h s n (Stored j) = refl
 
   -- links stay where each part of the nodes' records does
-  pub nodes_keep_links : (nodes : Slots Linked) → let new = record old { nodes = nodes } in
+  pub nodes_keep_links : (nodes : Slots Record) → let new = record old { nodes = nodes } in
       ((j : ℕ) → link_at new (Children j) ≡ link_at old (Children j)) → ((j : ℕ) → link_at new (Held j) ≡ link_at old (Held j)) →
       ((j : ℕ) → link_at new (Sibling j) ≡ link_at old (Sibling j)) → ((j : ℕ) → link_at new (Noted j) ≡ link_at old (Noted j)) → KeepsLinks old new
   nodes_keep_links nodes c h s n Roots = refl

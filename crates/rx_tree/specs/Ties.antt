@@ -4,7 +4,9 @@ use Rattle.std.specs.Option.{option_map_or, option_and_then}
 use Rattle.std.proofs.Math.Bool.{not}
 use Rattle.rx_event.specs.Events.{is_root}
 use Rattle.rx_slots.specs.declared.Entry.{Entry}
-use Rattle.rx_slots.specs.Slots.{Slots, entry_at}
+use Rattle.rx_event.specs.declared.marks.Marks.{Marks}
+use Rattle.rx_slots.specs.declared.Key.{Key}
+use Rattle.rx_slots.specs.Slots.{Slots, entry_of, entry_at, Changes}
 use Rattle.rx_tree.specs.declared.links.Place.{Place}
 use Rattle.rx_tree.specs.declared.links.Place.TheVariants.{Roots, Due, Waiting, Children, Held, Sibling, Noted, Stored}
 use Rattle.rx_tree.specs.declared.node.Node.{Node}
@@ -14,8 +16,8 @@ use Rattle.rx_tree.specs.Owed.{owed_in}
 use Rattle.rx_rings.specs.Rings.{is_among, Steps, AreRings}
 use Rattle.rx_tree.specs.Places.{places}
 use Rattle.rx_tree.specs.Resources.{is_owned, is_lent}
-use Rattle.rx_tree.specs.Store.{key_on, next_of, previous_of, nodes_of, resources_of, held_count_at}
-use Rattle.rx_tree.specs.Tree.{IsSound, AreApart}
+use Rattle.rx_tree.specs.Store.{key_on, next_of, previous_of, nodes_of, resources_of, held_count_at, KeepsLinks}
+use Rattle.rx_tree.specs.Tree.{IsSound, AreApart, Rewrites, with_marks}
 
 -- the ring that a node stands on among its siblings; a connection stands on none
 abbrev pub sibling_ring : Node → Option Place
@@ -80,6 +82,14 @@ module _ {T : Type 0} where
     pub free : AreCounted is_free (nodes_of s) (resources_of s) s.waiting_count.free (λ slot. (held_count_at s slot).free)
     pub lent : AreCounted is_lent (nodes_of s) (resources_of s) s.waiting_count.lent (λ slot. (held_count_at s slot).lent)
     pub owed : s.owed ≡ owed_in (nodes_of s)
+
+  -- the record of this key, which was this one, has these marks now, and nothing else changes
+  pub record IsRemarked (old new : Store T) (key : Key) (node : Node) (marks : Marks) : Type 0 where
+    pub changes : Changes (nodes_of old) (nodes_of new) key.slot (Some (entry_of key.number (with_marks marks node)))
+    pub rewrites : Rewrites (nodes_of old) (nodes_of new) key (with_marks marks)
+    pub links : KeepsLinks old new
+    pub resources : new.resources ≡ old.resources
+    pub counted : IsCounted new
 
   -- what holds of each store between calls
   pub record IsKept (s : Store T) : Type 0 where

@@ -20,6 +20,11 @@
 //! marks of all nodes owe. `proofs/Laws` has lemmas on these for the proofs of
 //! callers.
 //!
+//! [`Tree::get`], [`Tree::at`] and [`Tree::above`] lend a node's [`Record`], which answers one question
+//! at a time where it stands: no event and no marks are made and copied for that. Its contracts speak of
+//! its field `node`. [`Tree::mark_end`] and the other calls of that name write in place what one event
+//! changes of the marks, where [`Tree::set_marks`] writes all of them.
+//!
 //! # What is promised
 //!
 //! Each call says what it answers, which record it changes, and that the others stay. A closing moves
@@ -46,6 +51,7 @@ mod store;
 mod subtree;
 mod tree;
 
+pub use linked::Record;
 pub use node::{Closed, Node, ResKey, Stowed};
 pub use rx_slots::Key;
 pub use tree::Tree;

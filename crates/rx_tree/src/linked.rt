@@ -1,7 +1,9 @@
-//! The record of a node with its links, as it stands at a slot.
+//! The record of a node with its links, as it stands at a slot, and what it tells of the node in place.
 
-ghost use Rattle.std.specs.Prelude.{◌≡◌, IsTrue, option_map};
-ghost use Rattle.rx_event.specs.Events.{makes_node, parent_named};
+ghost use Rattle.std.specs.Prelude.{◌≡◌, ◌+◌, ◌<◌, ◌^◌, IsTrue, IfSome, option_map, is_some};
+ghost use Rattle.rx_event.specs.Events.{makes_node, parent_named, is_root, is_leaf, is_switch, is_until, is_merging, has_source, is_connect};
+ghost use Rattle.rx_event.specs.Events.{source_named, inner_named, notifier_named, hub_connected, hub_subscribed};
+ghost use Rattle.rx_event.specs.Marks.{terminal_due, after_child, after_source, after_notifier, after_inner, after_projection, after_firing, after_decline};
 ghost use Rattle.rx_tree.specs.Store.{alone, no_counts};
 ghost use Rattle.rx_tree.specs.Tree.{with_marks};
 ghost use Rattle.rx_tree.specs.declared.links.Place.TheVariants.{Children, Held, Sibling, Noted};
@@ -10,13 +12,17 @@ use crate::links::{Link, LinkKinds, LinkSlots, Place};
 use crate::node::Node;
 use crate::origin::{KindWord, Origin, PlaceWord};
 use crate::store::Counts;
-use rx_event::Marks;
+use rx_event::{Event, Marks, Place as At, Terminal};
+use rx_slots::Key;
 use std::marker::Model;
 
-/// The record of a node with its links. Numbers stand apart from kinds and words, which are a byte
-/// each, so that a record takes little memory.
+/// The record of an open node as it stands in the tree, to be read in place: what made the node, its
+/// marks, and its links. It is seen as a record with the field `node`; its links are the tree's own.
+///
+/// Numbers stand apart from kinds and words, which are a byte each, so that a record takes little
+/// memory.
 #[derive(Drop)]
-pub(crate) struct Linked {
+pub struct Record {
     origin: Origin,
     marks: Marks,
     sibling: LinkSlots,
@@ -32,7 +38,7 @@ pub(crate) struct Linked {
     held_kinds: LinkKinds,
 }
 
-impl Model for Linked {
+impl Model for Record {
     ghost use Rattle.rx_tree.specs.Record.{LinkedNode};
 
     ghost Value = { LinkedNode };
@@ -49,7 +55,7 @@ impl Model for Linked {
     } };
 }
 
-impl Linked {
+impl Record {
     // A record at a slot that stands on no ring.
     #[tactic(auto, using(crate::proofs::Origins::node_back))]
     pub(crate) fn alone(node: Node, slot: usize) -> Self
@@ -66,7 +72,7 @@ impl Linked {
         let noted = Link::alone(Place::Noted(slot));
         let children = Link::alone(Place::Children(slot));
         let held = Link::alone(Place::Held(slot));
-        Linked {
+        Record {
             origin: Origin::of(node),
             marks: node.marks,
             sibling: sibling.slots(),
@@ -94,11 +100,363 @@ impl Linked {
         }
     }
 
+    /// The Open or Connect that made it.
+    #[inline(always)]
+    pub fn made(&self) -> Event
+        ensures { result ≡ self.now.node.made }
+    {
+        self.origin.made(self.place, self.kind)
+    }
+
+    /// The key of the node that it stands below; None for a root and for a connection.
+    #[inline(always)]
+    pub fn parent(&self) -> Option<Key>
+        ensures { result ≡ self.now.node.above }
+    {
+        self.origin.above(self.place)
+    }
+
+    // The slot of that node.
+    #[inline(always)]
+    #[tactic(auto, using(crate::proofs::Origins::slot_above))]
+    pub(crate) fn above_slot(&self) -> usize
+        ensures { IfSome self.now.node.above (λ key. result ≡ key.slot) }
+    {
+        self.origin.slot
+    }
+
+    /// What it remembers of what happened below it.
+    pub fn marks(&self) -> Marks
+        ensures { result ≡ self.now.node.marks }
+    {
+        self.marks
+    }
+
+    /// How many projected items have neither got an inner observable nor been declined.
+    #[inline(always)]
+    pub fn owed(&self) -> u64
+        ensures { result ≡ self.now.node.marks.owed }
+    {
+        self.marks.owed
+    }
+
+    /// How many nodes are open directly below it.
+    #[inline(always)]
+    pub fn open_children(&self) -> u64
+        ensures { result ≡ self.now.node.marks.open_children }
+    {
+        self.marks.open_children
+    }
+
+    /// Whether a source was ever opened below it.
+    #[inline(always)]
+    pub fn source_opened(&self) -> bool
+        ensures { result ≡ self.now.node.marks.source_opened }
+    {
+        self.marks.source_opened
+    }
+
+    /// Whether a notifier was ever opened below it.
+    #[inline(always)]
+    pub fn notifier_opened(&self) -> bool
+        ensures { result ≡ self.now.node.marks.notifier_opened }
+    {
+        self.marks.notifier_opened
+    }
+
+    /// Whether it stands below a node.
+    #[inline(always)]
+    pub fn is_below(&self) -> bool
+        ensures { result ≡ is_some self.now.node.above }
+    {
+        match self.place {
+            PlaceWord::Root => false,
+            PlaceWord::Source | PlaceWord::Inner | PlaceWord::Notifier => true,
+        }
+    }
+
+    // Where a test asks for the place, the event is written out for the proof alone: it is inlined, and
+    // no event is made.
+
+    /// Whether it is a root. A connection is none.
+    #[inline(always)]
+    pub fn is_root(&self) -> bool
+        ensures { result ≡ is_root self.now.node.made }
+    {
+        matches!(
+            self.made(),
+            Event::Open {
+                place: At::Root,
+                ..
+            }
+        )
+    }
+
+    /// Whether it stands at a Source place.
+    #[inline(always)]
+    pub fn is_source(&self) -> bool
+        ensures { result ≡ is_some (source_named self.now.node.made) }
+    {
+        matches!(
+            self.made(),
+            Event::Open {
+                place: At::Source(_),
+                ..
+            }
+        )
+    }
+
+    /// Whether it stands at an Inner place.
+    #[inline(always)]
+    pub fn is_inner(&self) -> bool
+        ensures { result ≡ is_some (inner_named self.now.node.made) }
+    {
+        matches!(
+            self.made(),
+            Event::Open {
+                place: At::Inner(_),
+                ..
+            }
+        )
+    }
+
+    /// Whether it stands at a Notifier place.
+    #[inline(always)]
+    pub fn is_notifier(&self) -> bool
+        ensures { result ≡ is_some (notifier_named self.now.node.made) }
+    {
+        matches!(
+            self.made(),
+            Event::Open {
+                place: At::Notifier(_),
+                ..
+            }
+        )
+    }
+
+    /// Whether it is a leaf.
+    #[inline(always)]
+    pub fn is_leaf(&self) -> bool
+        ensures { result ≡ is_leaf self.now.node.made }
+    {
+        match self.kind {
+            KindWord::Leaf => true,
+            KindWord::Pass
+            | KindWord::Flat
+            | KindWord::Switch
+            | KindWord::Until
+            | KindWord::Sub
+            | KindWord::Connect => false,
+        }
+    }
+
+    /// Whether it is a FlatMap or a Switch.
+    #[inline(always)]
+    pub fn is_merging(&self) -> bool
+        ensures { result ≡ is_merging self.now.node.made }
+    {
+        match self.kind {
+            KindWord::Flat | KindWord::Switch => true,
+            KindWord::Leaf | KindWord::Pass | KindWord::Until | KindWord::Sub | KindWord::Connect =>
+                false,
+        }
+    }
+
+    /// Whether it is a Switch.
+    #[inline(always)]
+    pub fn is_switch(&self) -> bool
+        ensures { result ≡ is_switch self.now.node.made }
+    {
+        match self.kind {
+            KindWord::Switch => true,
+            KindWord::Leaf
+            | KindWord::Pass
+            | KindWord::Flat
+            | KindWord::Until
+            | KindWord::Sub
+            | KindWord::Connect => false,
+        }
+    }
+
+    /// Whether it is a TakeUntil.
+    #[inline(always)]
+    pub fn is_until(&self) -> bool
+        ensures { result ≡ is_until self.now.node.made }
+    {
+        match self.kind {
+            KindWord::Until => true,
+            KindWord::Leaf
+            | KindWord::Pass
+            | KindWord::Flat
+            | KindWord::Switch
+            | KindWord::Sub
+            | KindWord::Connect => false,
+        }
+    }
+
+    /// Whether it has a place for a source: it is neither a leaf nor a subscriber.
+    #[inline(always)]
+    pub fn has_source(&self) -> bool
+        ensures { result ≡ has_source self.now.node.made }
+    {
+        match self.kind {
+            KindWord::Leaf | KindWord::Sub => false,
+            KindWord::Pass
+            | KindWord::Flat
+            | KindWord::Switch
+            | KindWord::Until
+            | KindWord::Connect => true,
+        }
+    }
+
+    /// Whether it is a connection.
+    #[inline(always)]
+    pub fn is_connection(&self) -> bool
+        ensures { result ≡ is_connect self.now.node.made }
+    {
+        match self.kind {
+            KindWord::Connect => true,
+            KindWord::Leaf
+            | KindWord::Pass
+            | KindWord::Flat
+            | KindWord::Switch
+            | KindWord::Until
+            | KindWord::Sub => false,
+        }
+    }
+
+    /// The hub that it connects; None where it is no connection.
+    #[inline(always)]
+    pub fn connects(&self) -> Option<u64>
+        ensures { result ≡ hub_connected self.now.node.made }
+    {
+        match self.kind {
+            KindWord::Connect => Some(self.origin.hub),
+            KindWord::Leaf
+            | KindWord::Pass
+            | KindWord::Flat
+            | KindWord::Switch
+            | KindWord::Until
+            | KindWord::Sub => None,
+        }
+    }
+
+    /// The hub that it subscribes to; None where it is no subscriber.
+    #[inline(always)]
+    pub fn subscribes_to(&self) -> Option<u64>
+        ensures { result ≡ hub_subscribed self.now.node.made }
+    {
+        match self.kind {
+            KindWord::Sub => Some(self.origin.hub),
+            KindWord::Leaf
+            | KindWord::Pass
+            | KindWord::Flat
+            | KindWord::Switch
+            | KindWord::Until
+            | KindWord::Connect => None,
+        }
+    }
+
+    /// How it has to end, by its marks.
+    #[inline(always)]
+    pub fn terminal_due(&self) -> Option<Terminal>
+        ensures { result ≡ terminal_due self.now.node.made self.now.node.marks }
+    {
+        let other = match self.kind {
+            KindWord::Pass | KindWord::Connect => false,
+            KindWord::Until => self.marks.fired,
+            KindWord::Flat | KindWord::Switch => {
+                self.marks.source_completed && self.marks.open_children == 0 && self.marks.owed == 0
+            }
+            KindWord::Leaf | KindWord::Sub => return None,
+        };
+        if self.marks.child_terminal.is_some() {
+            return self.marks.child_terminal;
+        }
+        if other {
+            return Some(Terminal::Completed);
+        }
+        None
+    }
+
     // Writes its marks.
+    #[inline(always)]
     pub(crate) fn set_marks(&mut self, marks: Marks)
         ensures { self.new ≡ record self.old { node = with_marks marks self.old.node } }
     {
         self.marks = marks;
+    }
+
+    // A node below it ended.
+    #[inline(always)]
+    pub(crate) fn end_child(&mut self, is_source: bool, terminal: Terminal)
+        requires { 0 < self.old.node.marks.open_children }
+        ensures { self.new ≡ record self.old {
+          node =
+              with_marks (after_child is_source (is_merging self.old.node.made) terminal self.old.node.marks) self.old.node;
+        } }
+    {
+        let merging = self.is_merging();
+        self.marks = self.marks.after_child(is_source, merging, terminal);
+    }
+
+    // A source was opened below it.
+    #[inline(always)]
+    pub(crate) fn open_source(&mut self)
+        requires { self.old.node.marks.open_children + 1 < 2 ^ 64 }
+        ensures { self.new ≡ record self.old { node = with_marks (after_source self.old.node.marks) self.old.node } }
+    {
+        self.marks.source_opened = true;
+        self.marks.open_children += 1;
+    }
+
+    // A notifier was opened below it.
+    #[inline(always)]
+    pub(crate) fn open_notifier(&mut self)
+        requires { self.old.node.marks.open_children + 1 < 2 ^ 64 }
+        ensures { self.new ≡ record self.old { node = with_marks (after_notifier self.old.node.marks) self.old.node } }
+    {
+        self.marks.notifier_opened = true;
+        self.marks.open_children += 1;
+    }
+
+    // An inner was opened below it: in the place of another, or beside the others.
+    #[inline(always)]
+    pub(crate) fn open_inner(&mut self, replaces: bool)
+        requires owes { 0 < self.old.node.marks.owed }
+        requires room { self.old.node.marks.open_children + 1 < 2 ^ 64 }
+        ensures { self.new ≡ record self.old { node = with_marks (after_inner replaces self.old.node.marks) self.old.node } }
+    {
+        self.marks.owed -= 1;
+        if !replaces {
+            self.marks.open_children += 1;
+        }
+    }
+
+    // An item was projected to it.
+    #[inline(always)]
+    pub(crate) fn project(&mut self)
+        requires { self.old.node.marks.owed + 1 < 2 ^ 64 }
+        ensures { self.new ≡ record self.old { node = with_marks (after_projection self.old.node.marks) self.old.node } }
+    {
+        self.marks.owed += 1;
+    }
+
+    // An item reached its notifier's place.
+    #[inline(always)]
+    pub(crate) fn fire(&mut self)
+        ensures { self.new ≡ record self.old { node = with_marks (after_firing self.old.node.marks) self.old.node } }
+    {
+        self.marks.fired = true;
+    }
+
+    // One of its projected items was declined.
+    #[inline(always)]
+    pub(crate) fn decline(&mut self)
+        requires { 0 < self.old.node.marks.owed }
+        ensures { self.new ≡ record self.old { node = with_marks (after_decline self.old.node.marks) self.old.node } }
+    {
+        self.marks.owed -= 1;
     }
 
     // How many resources it owns.

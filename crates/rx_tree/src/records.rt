@@ -1,27 +1,28 @@
 //! The records of a store as they come, change and go, and how many resources wait and are held.
 
 ghost use Rattle.std.specs.Prelude.{◌≡◌, ◌+◌, ◌<◌, ◌≤◌, ◌^◌, IsTrue, ◌==◌, ◌&&◌, cond, IsOk, IfOk, IfSome, IfErr, OnOk};
-ghost use Rattle.std.specs.Prelude.{OnErr, OnSome, Some, false, option_map};
-ghost use Rattle.rx_event.specs.Events.{makes_node, parent_named};
+ghost use Rattle.std.specs.Prelude.{OnErr, OnSome, Some, false, option_map, IsSome};
+ghost use Rattle.rx_event.specs.Events.{makes_node, parent_named, is_merging};
+ghost use Rattle.rx_event.specs.Marks.{after_child, after_source, after_notifier, after_inner, after_projection, after_firing, after_decline};
 ghost use Rattle.rx_slots.specs.declared.Key.{Key};
 ghost use Rattle.rx_tree.specs.declared.node.Stowed.{Stowed};
 ghost use Rattle.rx_slots.specs.Slots.{find, key_at, Changes, entry_of};
-ghost use Rattle.rx_tree.specs.Tree.{Rewrites, with_marks};
+ghost use Rattle.rx_tree.specs.Tree.{Rewrites, with_last, with_due};
 ghost use Rattle.rx_tree.specs.Owed.{owed_in};
 ghost use Rattle.rx_tree.specs.Resources.{is_owned, is_held, is_lent, removed, one_lease_more, one_lease_less};
 ghost use Rattle.rx_tree.specs.Places.{is_place};
 ghost use Rattle.rx_tree.specs.Store.{alone, link_at, set_link_at, next_of, nodes_of, resources_of};
-ghost use Rattle.rx_tree.specs.Store.{is_there, held_count_at, freed, KeepsLinks, Inserts, Takes_out};
-ghost use Rattle.rx_tree.specs.Ties.{IsCounted, resource_ring};
+ghost use Rattle.rx_tree.specs.Store.{is_there, held_count_at, freed, shown, KeepsLinks, Relinks, Inserts, Takes_out};
+ghost use Rattle.rx_tree.specs.Ties.{IsCounted, IsKept, IsRemarked, resource_ring};
 ghost use Rattle.std.proofs.Math.Bool.{not};
 ghost use Rattle.std.specs.Option.{option_map_or, option_and_then};
 ghost use Rattle.rx_tree.specs.declared.links.Place.TheVariants.{Children, Held, Sibling, Noted, Stored as At};
 
-use crate::linked::Linked;
+use crate::linked::Record;
 use crate::links::{Link, Place};
 use crate::node::{Node, Stowed};
 use crate::store::{Counts, Store, Stored};
-use rx_event::Marks;
+use rx_event::{Marks, Terminal};
 use rx_slots::Key;
 use std::alloc::AllocError;
 
@@ -75,7 +76,7 @@ impl<R: Drop> Store<R> {
             { nodes = record self.old.nodes { room = self.new.nodes.room } }) }
         ensures room { OnErr result (self.old.nodes.room ≤ self.new.nodes.room) }
     {
-        let linked = Linked::alone(node, self.nodes.next_slot());
+        let linked = Record::alone(node, self.nodes.next_slot());
         match self.nodes.insert(number, linked) {
             Ok(key) => Ok(key),
             Err(_) => Err(AllocError),
@@ -83,21 +84,130 @@ impl<R: Drop> Store<R> {
     }
 
     // Writes a record's marks.
+    #[inline(always)]
     pub(crate) fn write_marks(&mut self, key: Key, marks: Marks)
         requires counted { IsCounted self.old }
+        requires open { IsSome (find (nodes_of self.old) key) }
         requires countable { owed_in (nodes_of self.old) + marks.owed < 18446744073709551616 }
-        ensures counted { IsCounted self.new }
-        ensures rewrites { Rewrites (nodes_of self.old) (nodes_of self.new) key (with_marks marks) }
-        ensures changes { (node : Node) → find (nodes_of self.old) key ≡ Some node →
-            Changes (nodes_of self.old) (nodes_of self.new) key.slot
-            (Some (entry_of key.number (with_marks marks node))) }
-        ensures links { KeepsLinks self.old self.new }
-        ensures resources { self.new.resources ≡ self.old.resources }
+        ensures { (node : Node) → find (nodes_of self.old) key ≡ Some node → IsRemarked self.old self.new key node marks }
     {
-        if let Some(linked) = self.nodes.get_mut(key) {
-            let before = linked.node().marks.owed;
-            linked.set_marks(marks);
-            self.owed = self.owed + marks.owed - before;
+        let record = self.nodes.at_mut(key.slot);
+        let before = record.owed();
+        record.set_marks(marks);
+        self.owed = self.owed + marks.owed - before;
+    }
+
+    // A node below this one ended.
+    #[inline(always)]
+    pub(crate) fn end_child(&mut self, key: Key, is_source: bool, terminal: Terminal)
+        requires counted { IsCounted self.old }
+        requires open { IsSome (find (nodes_of self.old) key) }
+        requires child { IfSome (find (nodes_of self.old) key) (λ node. 0 < node.marks.open_children) }
+        ensures { (node : Node) → find (nodes_of self.old) key ≡ Some node →
+            IsRemarked self.old self.new key node (after_child is_source (is_merging node.made) terminal node.marks) }
+    {
+        self.nodes.at_mut(key.slot).end_child(is_source, terminal);
+    }
+
+    // A source was opened below it.
+    #[inline(always)]
+    pub(crate) fn open_source(&mut self, key: Key)
+        requires counted { IsCounted self.old }
+        requires open { IsSome (find (nodes_of self.old) key) }
+        requires room { IfSome (find (nodes_of self.old) key) (λ node. node.marks.open_children + 1 < 2 ^ 64) }
+        ensures { (node : Node) → find (nodes_of self.old) key ≡ Some node →
+            IsRemarked self.old self.new key node (after_source node.marks) }
+    {
+        self.nodes.at_mut(key.slot).open_source();
+    }
+
+    // A notifier was opened below it.
+    #[inline(always)]
+    pub(crate) fn open_notifier(&mut self, key: Key)
+        requires counted { IsCounted self.old }
+        requires open { IsSome (find (nodes_of self.old) key) }
+        requires room { IfSome (find (nodes_of self.old) key) (λ node. node.marks.open_children + 1 < 2 ^ 64) }
+        ensures { (node : Node) → find (nodes_of self.old) key ≡ Some node →
+            IsRemarked self.old self.new key node (after_notifier node.marks) }
+    {
+        self.nodes.at_mut(key.slot).open_notifier();
+    }
+
+    // An inner was opened below it.
+    #[inline(always)]
+    pub(crate) fn open_inner(&mut self, key: Key, replaces: bool)
+        requires counted { IsCounted self.old }
+        requires open { IsSome (find (nodes_of self.old) key) }
+        requires owes { IfSome (find (nodes_of self.old) key) (λ node. 0 < node.marks.owed) }
+        requires room { IfSome (find (nodes_of self.old) key) (λ node. node.marks.open_children + 1 < 2 ^ 64) }
+        ensures { (node : Node) → find (nodes_of self.old) key ≡ Some node →
+            IsRemarked self.old self.new key node (after_inner replaces node.marks) }
+    {
+        self.nodes.at_mut(key.slot).open_inner(replaces);
+        self.owed -= 1;
+    }
+
+    // An item was projected to it.
+    #[inline(always)]
+    pub(crate) fn project(&mut self, key: Key)
+        requires counted { IsCounted self.old }
+        requires open { IsSome (find (nodes_of self.old) key) }
+        requires countable { owed_in (nodes_of self.old) + 1 < 2 ^ 64 }
+        ensures { (node : Node) → find (nodes_of self.old) key ≡ Some node →
+            IsRemarked self.old self.new key node (after_projection node.marks) }
+    {
+        self.nodes.at_mut(key.slot).project();
+        self.owed += 1;
+    }
+
+    // An item reached its notifier's place.
+    #[inline(always)]
+    pub(crate) fn fire(&mut self, key: Key)
+        requires counted { IsCounted self.old }
+        requires open { IsSome (find (nodes_of self.old) key) }
+        ensures { (node : Node) → find (nodes_of self.old) key ≡ Some node →
+            IsRemarked self.old self.new key node (after_firing node.marks) }
+    {
+        self.nodes.at_mut(key.slot).fire();
+    }
+
+    // One of its projected items was declined.
+    #[inline(always)]
+    pub(crate) fn decline(&mut self, key: Key)
+        requires counted { IsCounted self.old }
+        requires open { IsSome (find (nodes_of self.old) key) }
+        requires owes { IfSome (find (nodes_of self.old) key) (λ node. 0 < node.marks.owed) }
+        ensures { (node : Node) → find (nodes_of self.old) key ≡ Some node →
+            IsRemarked self.old self.new key node (after_decline node.marks) }
+    {
+        self.nodes.at_mut(key.slot).decline();
+        self.owed -= 1;
+    }
+
+    // Puts a node last on the chain of what may be due, where it is not there.
+    pub(crate) fn note(&mut self, key: Key)
+        requires kept { IsKept self.old }
+        requires open { IsSome (find (nodes_of self.old) key) }
+        ensures kept { IsKept self.new }
+        ensures chain { (shown self.new).chain ≡ with_last key (shown self.old).chain }
+        ensures rest { Relinks self.old self.new }
+    {
+        if !self.is_noted(key.slot) {
+            self.join(Place::Due, Place::Noted(key.slot));
+        }
+    }
+
+    // Puts it there where by its marks it has to end.
+    #[inline(always)]
+    pub(crate) fn note_due(&mut self, key: Key)
+        requires kept { IsKept self.old }
+        requires open { IsSome (find (nodes_of self.old) key) }
+        ensures kept { IsKept self.new }
+        ensures chain { (shown self.new).chain ≡ with_due (nodes_of self.old) key (shown self.old).chain }
+        ensures rest { Relinks self.old self.new }
+    {
+        if self.nodes.at(key.slot).terminal_due().is_some() {
+            self.note(key);
         }
     }
 

@@ -7,7 +7,7 @@ ghost use Rattle.rx_tree.specs.Store.{alone, link_at, set_link_at, next_of, prev
 ghost use Rattle.rx_tree.specs.Store.{is_there, no_counts, count_if, one_more, one_less, Relinks};
 ghost use Rattle.rx_tree.specs.declared.links.Place.TheVariants.{Roots, Due, Waiting, Children, Held, Sibling, Noted};
 
-use crate::linked::Linked;
+use crate::linked::Record;
 use crate::links::{Link, Place};
 use crate::node::Stowed;
 use rx_slots::Slots;
@@ -68,7 +68,7 @@ pub(crate) struct Stored<R: Drop> {
 /// The records and the resources, and where the rings begin that belong to no node.
 #[derive(Drop)]
 pub(crate) struct Store<R: Drop> {
-    pub(crate) nodes: Slots<Linked>,
+    pub(crate) nodes: Slots<Record>,
     pub(crate) resources: Slots<Stored<R>>,
     pub(crate) roots: Link,
     pub(crate) due: Link,

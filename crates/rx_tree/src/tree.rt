@@ -2,16 +2,19 @@
 
 ghost use Rattle.std.specs.Prelude.{◌≡◌, ◌+◌, ◌<◌, ◌≤◌, ◌^◌, ◌↔◌, [], IsOk, IsSome, IsTrue, IfOk, IfErr};
 ghost use Rattle.std.specs.Prelude.{IfSome, IfNone, OnOk, OnErr, Some, None, option_map, vec_len};
-ghost use Rattle.std.specs.Prelude.{vec_capacity, take, drop, length, cond, is_some, count_by};
+ghost use Rattle.std.specs.Prelude.{vec_capacity, take, drop, length, cond, is_some, count_by, option_copied};
+ghost use Rattle.rx_event.specs.Events.{is_merging};
+ghost use Rattle.rx_event.specs.Marks.{after_child, after_source, after_notifier, after_inner, after_projection, after_firing, after_decline};
 ghost use Rattle.rx_resource.specs.declared.Life.{Life};
 ghost use Rattle.rx_slots.specs.declared.Key.{Key};
-ghost use Rattle.rx_slots.specs.Slots.{find, entry_at, IsWithin, KeepsOthers};
+ghost use Rattle.rx_slots.specs.Slots.{find, entry_at, value_at, number_at, IsWithin, KeepsOthers};
 ghost use Rattle.rx_tree.specs.Ties.{sibling_ring};
 
+use crate::linked::Record;
 use crate::links::Place;
 use crate::node::{Closed, Node, ResKey, Stowed};
 use crate::store::Store;
-use rx_event::{Event, Marks};
+use rx_event::{Event, Marks, Terminal};
 use rx_resource::Resource;
 use rx_slots::Key;
 use std::alloc::{AllocError, Global};
@@ -65,7 +68,7 @@ impl<R: Resource> Model for Tree<R> {
 
 impl<R: Resource> Tree<R> {
     ghost use Rattle.rx_tree.specs.Tree.{IsPromised, IsNewest, IsPast, IsPlaced, IsChild, IsRoot, IsFirst, HasNone};
-    ghost use Rattle.rx_tree.specs.Tree.{Rewrites, blank_node, parent_number, with_marks, with_due, first_of};
+    ghost use Rattle.rx_tree.specs.Tree.{Rewrites, blank_node, parent_number, with_marks, with_last, with_due, first_of};
     ghost use Rattle.rx_tree.specs.Below.{is_below};
     ghost use Rattle.rx_tree.specs.Closing.{IsSubtree, outside};
     ghost use Rattle.rx_tree.specs.Owed.{owed_in};
@@ -147,11 +150,67 @@ impl<R: Resource> Tree<R> {
         self.store.owed
     }
 
+    /// For how many nodes more there is room.
+    #[inline(always)]
+    pub fn room(&self) -> usize
+        ensures { result ≡ self.now.nodes.room }
+    {
+        self.store.nodes.room()
+    }
+
+    /// For how many resources more there is room.
+    #[inline(always)]
+    pub fn resource_room(&self) -> usize
+        ensures { result ≡ self.now.resources.room }
+    {
+        self.store.resources.room()
+    }
+
+    /// The node's record, to be read in place; None where the key finds none. The node above it is open.
+    #[inline(always)]
+    pub fn get(&self, key: Key) -> Option<&Record>
+        ensures value { option_map (λ r. r.node) (option_copied result) ≡ find self.now.nodes key }
+        ensures above { IfSome (option_copied result) (λ r. IfSome r.node.above (λ up. IsSome (find self.now.nodes up))) }
+    {
+        self.store.nodes.get(key)
+    }
+
+    /// The record at a slot that has one.
+    #[inline(always)]
+    pub fn at(&self, slot: usize) -> &Record
+        requires there { IsSome (entry_at self.now.nodes slot) }
+        ensures value { value_at self.now.nodes slot ≡ Some result.now.node }
+        ensures above { IfSome result.now.node.above (λ up. IsSome (find self.now.nodes up)) }
+    {
+        self.store.nodes.at(slot)
+    }
+
+    /// The number of the node at a slot that has one.
+    #[inline(always)]
+    pub fn number_of(&self, slot: usize) -> u64
+        requires there { IsSome (entry_at self.now.nodes slot) }
+        ensures { number_at self.now.nodes slot ≡ Some result }
+    {
+        self.store.nodes.number_of(slot)
+    }
+
+    /// The record of the node above one that stands below a node.
+    #[inline(always)]
+    pub fn above(&self, node: &Record) -> &Record
+        requires below { IsSome node.now.node.above }
+        requires there { IfSome node.now.node.above (λ up. IsSome (find self.now.nodes up)) }
+        ensures value { IfSome node.now.node.above (λ up. find self.now.nodes up ≡ Some result.now.node) }
+        ensures above { IfSome result.now.node.above (λ up. IsSome (find self.now.nodes up)) }
+    {
+        self.store.nodes.at(node.above_slot())
+    }
+
     /// Whether a key finds a node.
+    #[inline(always)]
     pub fn contains(&self, key: Key) -> bool
         ensures { IsTrue result ↔ IsSome (find self.now.nodes key) }
     {
-        self.store.node(key).is_some()
+        self.store.nodes.contains(key)
     }
 
     /// The Open or Connect that made the node; None where the key finds none.
@@ -268,13 +327,117 @@ impl<R: Resource> Tree<R> {
         ensures chain { self.new.chain ≡ with_due self.new.nodes key self.old.chain }
         ensures resources { self.new.resources ≡ self.old.resources }
     {
-        if let Some(node) = self.store.node(key) {
+        if self.contains(key) {
             self.store.write_marks(key, marks);
-            if marks.terminal_due(node.made).is_some() {
-                if !self.store.is_noted(key.slot) {
-                    self.store.join(Place::Due, Place::Noted(key.slot));
-                }
-            }
+            self.store.note_due(key);
+        }
+    }
+
+    /// Marks the node as one below which a node ended by itself, and puts it last on the chain of what may
+    /// be due where it has to end by that and it is not there. As all that marks, it takes no memory.
+    #[inline(always)]
+    pub fn mark_end(&mut self, key: Key, is_source: bool, terminal: Terminal)
+        requires open { IsSome (find self.old.nodes key) }
+        requires child { IfSome (find self.old.nodes key) (λ node. 0 < node.marks.open_children) }
+        ensures nodes { (node : Node) → find self.old.nodes key ≡ Some node → Rewrites self.old.nodes self.new.nodes key
+            (with_marks (after_child is_source (is_merging node.made) terminal node.marks)) }
+        ensures chain { self.new.chain ≡ with_due self.new.nodes key self.old.chain }
+        ensures resources { self.new.resources ≡ self.old.resources }
+    {
+        self.store.end_child(key, is_source, terminal);
+        self.store.note_due(key);
+    }
+
+    /// Marks the node as one of whose projected items a caller declined one, and chains it likewise.
+    #[inline(always)]
+    pub fn mark_decline(&mut self, key: Key)
+        requires open { IsSome (find self.old.nodes key) }
+        requires owes { IfSome (find self.old.nodes key) (λ node. 0 < node.marks.owed) }
+        ensures nodes { (node : Node) → find self.old.nodes key ≡ Some node →
+            Rewrites self.old.nodes self.new.nodes key (with_marks (after_decline node.marks)) }
+        ensures chain { self.new.chain ≡ with_due self.new.nodes key self.old.chain }
+        ensures resources { self.new.resources ≡ self.old.resources }
+    {
+        self.store.decline(key);
+        self.store.note_due(key);
+    }
+
+    /// Marks the node as one at whose notifier's place an item arrived, and puts it last on the chain of
+    /// what may be due where it is not there.
+    #[inline(always)]
+    pub fn mark_firing(&mut self, key: Key)
+        requires open { IsSome (find self.old.nodes key) }
+        ensures nodes { (node : Node) → find self.old.nodes key ≡ Some node →
+            Rewrites self.old.nodes self.new.nodes key (with_marks (after_firing node.marks)) }
+        ensures chain { self.new.chain ≡ with_last key self.old.chain }
+        ensures resources { self.new.resources ≡ self.old.resources }
+    {
+        self.store.fire(key);
+        self.store.note(key);
+    }
+
+    /// Marks the node as one to which an item was projected. By that no node has to end.
+    #[inline(always)]
+    pub fn mark_projection(&mut self, key: Key)
+        requires open { IsSome (find self.old.nodes key) }
+        requires countable { owed_in self.old.nodes + 1 < 2 ^ 64 }
+        ensures nodes { (node : Node) → find self.old.nodes key ≡ Some node →
+            Rewrites self.old.nodes self.new.nodes key (with_marks (after_projection node.marks)) }
+        ensures chain { self.new.chain ≡ self.old.chain }
+        ensures resources { self.new.resources ≡ self.old.resources }
+    {
+        self.store.project(key);
+    }
+
+    /// Marks the node as one at whose Source place a node was opened. By an opening none has to end.
+    #[inline(always)]
+    pub fn mark_source(&mut self, key: Key)
+        requires open { IsSome (find self.old.nodes key) }
+        requires room { IfSome (find self.old.nodes key) (λ node. node.marks.open_children + 1 < 2 ^ 64) }
+        ensures nodes { (node : Node) → find self.old.nodes key ≡ Some node →
+            Rewrites self.old.nodes self.new.nodes key (with_marks (after_source node.marks)) }
+        ensures chain { self.new.chain ≡ self.old.chain }
+        ensures resources { self.new.resources ≡ self.old.resources }
+    {
+        self.store.open_source(key);
+    }
+
+    /// Marks the node as one at whose Notifier place a node was opened.
+    #[inline(always)]
+    pub fn mark_notifier(&mut self, key: Key)
+        requires open { IsSome (find self.old.nodes key) }
+        requires room { IfSome (find self.old.nodes key) (λ node. node.marks.open_children + 1 < 2 ^ 64) }
+        ensures nodes { (node : Node) → find self.old.nodes key ≡ Some node →
+            Rewrites self.old.nodes self.new.nodes key (with_marks (after_notifier node.marks)) }
+        ensures chain { self.new.chain ≡ self.old.chain }
+        ensures resources { self.new.resources ≡ self.old.resources }
+    {
+        self.store.open_notifier(key);
+    }
+
+    /// Marks the node as one at whose Inner place a node was opened for an item that was owed: in the place
+    /// of an open one, or beside the others.
+    #[inline(always)]
+    pub fn mark_inner(&mut self, key: Key, replaces: bool)
+        requires open { IsSome (find self.old.nodes key) }
+        requires owes { IfSome (find self.old.nodes key) (λ node. 0 < node.marks.owed) }
+        requires room { IfSome (find self.old.nodes key) (λ node. node.marks.open_children + 1 < 2 ^ 64) }
+        ensures nodes { (node : Node) → find self.old.nodes key ≡ Some node →
+            Rewrites self.old.nodes self.new.nodes key (with_marks (after_inner replaces node.marks)) }
+        ensures chain { self.new.chain ≡ self.old.chain }
+        ensures resources { self.new.resources ≡ self.old.resources }
+    {
+        self.store.open_inner(key, replaces);
+    }
+
+    /// Whether the chain of what may be due is empty.
+    #[inline(always)]
+    pub fn is_calm(&self) -> bool
+        ensures { IsTrue result ↔ self.now.chain ≡ [] }
+    {
+        match self.store.link(Place::Due).next {
+            Place::Noted(_) => false,
+            _ => true,
         }
     }
 

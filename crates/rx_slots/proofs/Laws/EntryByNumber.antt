@@ -1,9 +1,9 @@
 -- What a number finds in an entry, and a key in its slot.
-use Rattle.std.proofs.Common.{◌≡◌, ◌≢◌, ℕ, Option, Some, None, IsSome, refl, sym, inl, inr, rules, true≢false}
+use Rattle.std.proofs.Common.{◌≡◌, ◌≢◌, ℕ, Option, Some, None, is_some, IsSome, option_map, set, refl, sym, ap, ◌∙◌, inl, inr, rules, true≢false}
 use Rattle.std.proofs.lemmas.Bool.{cases_eq}
 use Rattle.rx_slots.specs.declared.Entry.{Entry}
 use Rattle.rx_slots.specs.declared.Key.{Key}
-use Rattle.rx_slots.specs.Slots.{Slots, entry_at, with_number, find}
+use Rattle.rx_slots.specs.Slots.{Slots, entry_of, entry_at, number_at, value_at, with_number, find, with_value, with_value_at}
 
 module _ {T : Type 0} where
   -- the number of an entry finds its value
@@ -26,3 +26,20 @@ module _ {T : Type 0} where
   -- a key that finds a value has the number of its slot
   pub found_entry : (s : Slots T) (key : Key) → IsSome (find s key) → (e : Entry T) × (entry_at s key.slot ≡ Some e) × (e.number ≡ key.number)
   found_entry s key found = numbered_entry key.number (entry_at s key.slot) found
+
+  -- so its slot has a value
+  pub found_there : (s : Slots T) (key : Key) → IsSome (find s key) → IsSome (entry_at s key.slot)
+  found_there s key found = ap is_some (found_entry s key found).1
+
+  -- which is the one that it finds
+  pub find-value_at : (s : Slots T) (key : Key) → IsSome (find s key) → find s key ≡ value_at s key.slot
+  find-value_at s key found =
+      let at = found_entry s key found in
+      ap (with_number key.number) at.1 ∙ with_number-same key.number at.0 at.2 ∙ sym (ap (option_map (λ e. e.value)) at.1)
+
+  -- and a write at the slot is one at the key
+  pub with_value_at-found : (s : Slots T) (key : Key) (value : T) → IsSome (find s key) → with_value_at s key.slot value ≡ with_value s key value
+  with_value_at-found s key value found =
+      let at = found_entry s key found in
+      let number : number_at s key.slot ≡ Some key.number = ap (option_map (λ e. e.number)) at.1 ∙ ap Some at.2 in
+      ap (λ n. record s { entries = set s.entries key.slot (option_map (λ m. entry_of m value) n) }) number

@@ -1,84 +1,53 @@
-use Rattle.std.proofs.Common.{◌≡◌, Bool, true, false, is_some, option_map, refl, sym, ap, ◌∙◌, true≢false}
-use Rattle.std.proofs.Math.Bool.{not}
-use Rattle.rx_tree.specs.Store.{project, nodes_of, resources_of}
-use Rattle.rx_tree.specs.Store.{next_of, previous_of}
-use Rattle.rx_tree.specs.Tree.{with_marks}
-use Rattle.rx_tree.specs.declared.links.Place.TheVariants.{Due}
-use Rattle.rx_tree.proofs.There.{previous_stands}
-use Rattle.rx_tree.proofs.MarkSteps.{marked_tied, marked_on, marked_undue, joined_tied, joined_chain}
-use Rattle.rx_tree.proofs.CountSteps.{counted_relinked}
+use Rattle.std.proofs.Common.{◌≡◌, cond, true, false, Option, Some, None, option_map, is_some, refl, sym, ap, ◌∙◌, true≢false}
+use Rattle.std.specs.Option.{option_map_or}
+use Rattle.rx_event.specs.Marks.{terminal_due}
+use Rattle.rx_slots.specs.Slots.{find}
+use Rattle.rx_tree.specs.declared.node.Node.{Node}
+use Rattle.rx_tree.specs.Store.{nodes_of}
+use Rattle.rx_tree.specs.Tree.{with_last, with_marks}
+use Rattle.rx_tree.proofs.Laws.Keys.{some_of}
+use Rattle.rx_tree.proofs.MarkSteps.{marked_kept, marked_open, marked_nodes, marked_due, marked_resources}
 use Rattle.rx_tree.proofs.tree.Tree.set_marks.Goals as goal
 
-not_false : (b : Bool) → false ≡ not b → b ≡ true
-not_false true e = refl
-not_false false e = absurd (true≢false (sym e))
+none_of : (o : Option Node) → (is_some o ≡ true → ⊥) → o ≡ None
+none_of None none = refl
+none_of (Some node) none = absurd (none refl)
 
-not_true : (b : Bool) → true ≡ not b → b ≡ false
-not_true false e = refl
-not_true true e = absurd (true≢false e)
+pub note_due-requires-clause-kept : goal.note_due-requires-clause-kept
+note_due-requires-clause-kept g c =
+    let h = some_of (find (nodes_of c.self.inside.store) c.args.key) (rw (← c.self.view_is) at (c.contains.ensures.0 c.if-contains.true)) in
+    marked_kept c.self.inside.store c.write_marks.new.self c.args.key h.0 c.args.marks c.self.invariant h.1 (c.write_marks.ensures h.0 h.1)
 
-pub join-requires-clause-last : goal.join-requires-clause-last
-join-requires-clause-last g c =
-    let m = c.write_marks.new.self in
-    let found = sym c.node.ensures ∙ c.in-Some.is in
-    previous_stands (nodes_of m) (resources_of m) (next_of m) (previous_of m)
-    (marked_tied c.self.inside.store m c.args.key c.in-Some.node c.args.marks c.self.invariant.tied found
-    (c.write_marks.ensures.changes c.in-Some.node found) c.write_marks.ensures.rewrites.others c.write_marks.ensures.links
-    (ap (project (λ r. r.stowed)) c.write_marks.ensures.resources)) Due refl
+pub note_due-requires-clause-open : goal.note_due-requires-clause-open
+note_due-requires-clause-open g c =
+    let h = some_of (find (nodes_of c.self.inside.store) c.args.key) (rw (← c.self.view_is) at (c.contains.ensures.0 c.if-contains.true)) in
+    marked_open c.self.inside.store c.write_marks.new.self c.args.key h.0 c.args.marks c.self.invariant h.1 (c.write_marks.ensures h.0 h.1)
 
-pub invariant_of-self : goal.invariant_of-self
-invariant_of-self g c =
-    let found = sym c.node.ensures ∙ c.in-Some.is in
-    record {
-      tied = joined_tied c.self.inside.store c.write_marks.new.self c.args.key c.in-Some.node c.args.marks c.self.invariant.tied found
-          (c.write_marks.ensures.changes c.in-Some.node found) c.write_marks.ensures.rewrites.others c.write_marks.ensures.links
-          (ap (project (λ r. r.stowed)) c.write_marks.ensures.resources) c.join.new.self
-          (not_false _ (sym c.if-not-is_noted.true ∙ c.is_noted.ensures)) c.join.ensures.joins c.join.ensures.rest;
-      counted = counted_relinked c.write_marks.new.self c.join.new.self c.join.ensures.rest c.write_marks.ensures.counted;
-    }
+pub returns-then-contains-clause-nodes : goal.returns-then-contains-clause-nodes
+returns-then-contains-clause-nodes g c =
+    let h = some_of (find (nodes_of c.self.inside.store) c.args.key) (rw (← c.self.view_is) at (c.contains.ensures.0 c.if-contains.true)) in
+    rw (← c.self.view_is) (marked_nodes c.self.inside.store c.write_marks.new.self c.args.key h.0 c.args.marks c.self.invariant h.1
+    (c.write_marks.ensures h.0 h.1) c.note_due.new.self c.note_due.ensures.rest)
 
-pub invariant_of-self-else-not-is_noted : goal.invariant_of-self-else-not-is_noted
-invariant_of-self-else-not-is_noted g c =
-    let found = sym c.node.ensures ∙ c.in-Some.is in
-    record {
-      tied = marked_tied c.self.inside.store c.write_marks.new.self c.args.key c.in-Some.node c.args.marks c.self.invariant.tied found
-          (c.write_marks.ensures.changes c.in-Some.node found) c.write_marks.ensures.rewrites.others c.write_marks.ensures.links
-          (ap (project (λ r. r.stowed)) c.write_marks.ensures.resources);
-      counted = c.write_marks.ensures.counted;
-    }
+pub returns-then-contains-clause-chain : goal.returns-then-contains-clause-chain
+returns-then-contains-clause-chain g c =
+    let h = some_of (find (nodes_of c.self.inside.store) c.args.key) (rw (← c.self.view_is) at (c.contains.ensures.0 c.if-contains.true)) in
+    rw (← c.self.view_is) (marked_due c.self.inside.store c.write_marks.new.self c.args.key h.0 c.args.marks c.self.invariant h.1
+    (c.write_marks.ensures h.0 h.1) c.note_due.new.self c.note_due.ensures.rest c.note_due.ensures.chain)
 
-pub invariant_of-self-else-is_some : goal.invariant_of-self-else-is_some
-invariant_of-self-else-is_some g c =
-    let found = sym c.node.ensures ∙ c.in-Some.is in
-    record {
-      tied = marked_tied c.self.inside.store c.write_marks.new.self c.args.key c.in-Some.node c.args.marks c.self.invariant.tied found
-          (c.write_marks.ensures.changes c.in-Some.node found) c.write_marks.ensures.rewrites.others c.write_marks.ensures.links
-          (ap (project (λ r. r.stowed)) c.write_marks.ensures.resources);
-      counted = c.write_marks.ensures.counted;
-    }
+pub returns-then-contains-clause-resources : goal.returns-then-contains-clause-resources
+returns-then-contains-clause-resources g c =
+    let h = some_of (find (nodes_of c.self.inside.store) c.args.key) (rw (← c.self.view_is) at (c.contains.ensures.0 c.if-contains.true)) in
+    rw (← c.self.view_is) (c.note_due.ensures.rest.resources ∙
+    marked_resources c.self.inside.store c.write_marks.new.self c.args.key h.0 c.args.marks c.self.invariant h.1 (c.write_marks.ensures h.0 h.1))
 
-pub returns-then-not-is_noted-clause-chain : goal.returns-then-not-is_noted-clause-chain
-returns-then-not-is_noted-clause-chain g c =
-    let found = sym c.node.ensures ∙ c.in-Some.is in
-    let now = c.write_marks.ensures.rewrites.changed ∙ ap (option_map (with_marks c.args.marks)) found in
-    let due = ap is_some (sym c.terminal_due.ensures) ∙ sym c.is_some.ensures ∙ c.if-is_some.true in
-    rw (← c.self.view_is) (joined_chain c.self.inside.store c.write_marks.new.self c.args.key c.in-Some.node c.args.marks c.self.invariant.tied found
-    (c.write_marks.ensures.changes c.in-Some.node found) c.write_marks.ensures.rewrites.others c.write_marks.ensures.links
-    (ap (project (λ r. r.stowed)) c.write_marks.ensures.resources) c.join.new.self (not_false _ (sym c.if-not-is_noted.true ∙ c.is_noted.ensures))
-    c.join.ensures.joins c.join.ensures.rest now due)
+pub returns-else-contains-clause-nodes : goal.returns-else-contains-clause-nodes
+returns-else-contains-clause-nodes g c =
+    let none = none_of (find c.args.self.now.nodes c.args.key) (λ some. true≢false (sym (c.contains.ensures.1 some) ∙ c.if-contains.false)) in
+    record { changed = none ∙ ap (option_map (with_marks c.args.marks)) (sym none); others = λ k apart. refl; rest = refl }
 
-pub returns-else-not-is_noted-clause-chain : goal.returns-else-not-is_noted-clause-chain
-returns-else-not-is_noted-clause-chain g c =
-    let found = sym c.node.ensures ∙ c.in-Some.is in
-    rw (← c.self.view_is) (marked_on c.self.inside.store c.write_marks.new.self c.args.key c.in-Some.node c.args.marks c.self.invariant.tied found
-    (c.write_marks.ensures.changes c.in-Some.node found) c.write_marks.ensures.rewrites.others c.write_marks.ensures.links
-    (ap (project (λ r. r.stowed)) c.write_marks.ensures.resources) (not_true _ (sym c.if-not-is_noted.false ∙ c.is_noted.ensures)))
-
-pub returns-else-is_some-clause-chain : goal.returns-else-is_some-clause-chain
-returns-else-is_some-clause-chain g c =
-    let found = sym c.node.ensures ∙ c.in-Some.is in
-    let now = c.write_marks.ensures.rewrites.changed ∙ ap (option_map (with_marks c.args.marks)) found in
-    let undue = ap is_some (sym c.terminal_due.ensures) ∙ sym c.is_some.ensures ∙ c.if-is_some.false in
-    rw (← c.self.view_is) (marked_undue c.self.inside.store c.write_marks.new.self c.args.key c.in-Some.node c.args.marks c.self.invariant.tied found
-    (c.write_marks.ensures.changes c.in-Some.node found) c.write_marks.ensures.rewrites.others c.write_marks.ensures.links
-    (ap (project (λ r. r.stowed)) c.write_marks.ensures.resources) now undue)
+pub returns-else-contains-clause-chain : goal.returns-else-contains-clause-chain
+returns-else-contains-clause-chain g c =
+    let chain = c.args.self.now.chain in
+    let none = none_of (find c.args.self.now.nodes c.args.key) (λ some. true≢false (sym (c.contains.ensures.1 some) ∙ c.if-contains.false)) in
+    sym (ap (λ o. cond (option_map_or (λ (x : Node). is_some (terminal_due x.made x.marks)) o false) (with_last c.args.key chain) chain) none)

@@ -1,27 +1,22 @@
-use Rattle.std.proofs.Common.{length, refl, sym, ap, ◌∙◌, arith}
-use Rattle.slab.specs.Slab.{get}
+use Rattle.std.proofs.Common.{length, refl, ap, ◌∙◌, arith}
 use Rattle.rx_slots.specs.declared.Entry.{Entry}
 use Rattle.rx_slots.specs.declared.Key.{Key}
 use Rattle.rx_slots.specs.Slots.{with_number, placed}
 use Rattle.rx_slots.specs.Kept.{table}
 use Rattle.rx_slots.proofs.SlotsLemmas.{length-placed, Changes-placed, KeepsOthers-insert}
 use Rattle.rx_slots.proofs.Laws.EntryByNumber.{with_number-same}
-use Rattle.rx_slots.proofs.KeptLemmas.{get_or-table, Updates-grown, table-placed}
-use Rattle.rx_slots.proofs.Slots.insert.Goals as goal
+use Rattle.rx_slots.proofs.KeptLemmas.{get_or-table, table-placed}
+use Rattle.rx_slots.proofs.Slots.place.Goals as goal
 
 pub returns-clause-was_free : goal.returns-clause-was_free
 returns-clause-was_free g c =
-    let slot = c.insert_reserved-slot.result in
-    rw (← c.self.view_is) (get_or-table c.self.inside.cells c.self.inside.slot_count slot c.self.invariant ∙
-    sym (ap (λ s. get s slot) c.reserve.ensures.rest_kept) ∙
-    c.insert_reserved-slot.ensures.was_vacant)
+    rw (← c.self.view_is) (get_or-table _ _ c.insert_reserved-slot.result c.self.invariant ∙ c.insert_reserved-slot.ensures.was_vacant)
 
 pub returns-clause-placed : goal.returns-clause-placed
 returns-clause-placed g c =
     let slot = c.insert_reserved-slot.result in
-    let updates = Updates-grown c.self.inside.cells _ _ slot _ c.reserve.ensures.rest_kept c.insert_reserved-slot.ensures.updates in
     ap (table c.insert_reserved-slot.new.self) c.max-self-inside.ensures
-    ∙ table-placed c.self.inside.cells _ c.self.inside.slot_count slot _ c.self.invariant updates
+    ∙ table-placed c.self.inside.cells _ c.self.inside.slot_count slot _ c.self.invariant c.insert_reserved-slot.ensures.updates
     ∙ ap (λ s. placed s.entries slot (record { number = c.args.number; value = c.args.value })) c.self.view_is
 
 pub returns-clause-slot_count : goal.returns-clause-slot_count

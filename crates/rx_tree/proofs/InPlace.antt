@@ -1,0 +1,48 @@
+-- What is read in place, at a slot that has a record, is what callers see there.
+use Rattle.std.proofs.Common.{◌≡◌, ℕ, Option, Some, None, option_map, is_some, IsSome, IfSome, refl, sym, ap, ◌∙◌, true≢false}
+use Rattle.rx_slots.specs.declared.Entry.{Entry}
+use Rattle.rx_slots.specs.declared.Key.{Key}
+use Rattle.rx_slots.specs.Slots.{Slots, entry_of, entry_at, value_at, number_at, find}
+use Rattle.rx_rings.proofs.Laws.Rings.{some_same}
+use Rattle.rx_tree.specs.declared.linked.Record.{Record}
+use Rattle.rx_tree.specs.declared.node.Node.{Node}
+use Rattle.rx_tree.specs.Store.{on_entry, project}
+use Rattle.rx_tree.specs.Tree.{IsSound}
+use Rattle.rx_tree.proofs.Laws.FoundAfterWrite.{found_entry}
+use Rattle.rx_tree.proofs.StoreLemmas.{entry_at-project}
+
+module _ {X Y : Type 0} (f : X → Y) (s : Slots X) (i : ℕ) where
+  pub value_at-project : value_at (project f s) i ≡ option_map f (value_at s i)
+  value_at-project = ap (option_map (λ e. e.value)) (entry_at-project f s i) ∙ of (entry_at s i) where
+    of : (o : Option (Entry X)) → option_map (λ e. e.value) (option_map (on_entry f) o) ≡ option_map f (option_map (λ e. e.value) o)
+    of None = refl
+    of (Some e) = refl
+
+  pub number_at-project : number_at (project f s) i ≡ number_at s i
+  number_at-project = ap (option_map (λ e. e.number)) (entry_at-project f s i) ∙ of (entry_at s i) where
+    of : (o : Option (Entry X)) → option_map (λ e. e.number) (option_map (on_entry f) o) ≡ option_map (λ e. e.number) o
+    of None = refl
+    of (Some e) = refl
+
+  pub there_project : IsSome (entry_at (project f s) i) → IsSome (entry_at s i)
+  there_project there = of (entry_at s i) (ap is_some (sym (entry_at-project f s i)) ∙ there) where
+    of : (o : Option (Entry X)) → IsSome (option_map (on_entry f) o) → IsSome o
+    of None some = some
+    of (Some e) some = refl
+
+-- the node above one that a key finds is open
+pub above_found : (nodes : Slots Node) → IsSound nodes → (key : Key) (o : Option Record) → option_map (λ l. l.node) o ≡ find nodes key →
+    IfSome o (λ l. IfSome l.node.above (λ up. IsSome (find nodes up)))
+above_found nodes sound key None is = tt
+above_found nodes sound key (Some l) is = (sound.placed key l.node (sym is)).there
+
+-- and so is that above one that stands at a slot
+pub above_at : (nodes : Slots Node) → IsSound nodes → (slot : ℕ) (node : Node) → value_at nodes slot ≡ Some node →
+    IfSome node.above (λ up. IsSome (find nodes up))
+above_at nodes sound slot node at = of (entry_at nodes slot) refl at where
+  of : (o : Option (Entry Node)) → entry_at nodes slot ≡ o → option_map (λ e. e.value) o ≡ Some node → IfSome node.above (λ up. IsSome (find nodes up))
+  of None read e = absurd (true≢false (ap is_some (sym e)))
+  of (Some x) read e =
+      let key : Key = record { slot = slot; number = x.number } in
+      let same : x.value ≡ node = some_same x.value node e in
+      (sound.placed key node (found_entry nodes key node (read ∙ ap (λ v. Some (entry_of x.number v)) same))).there

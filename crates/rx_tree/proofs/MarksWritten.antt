@@ -1,0 +1,95 @@
+-- What a store has once the marks of one record are written in place.
+use Rattle.std.proofs.Common.{◌≡◌, ℕ, ◌+◌, ◌-◌, ◌<◌, ◌≤◌, Option, Some, None, option_map, is_some, IsSome, IfSome, refl, sym, ap, subst, ◌∙◌, arith}
+use Rattle.rx_event.specs.declared.marks.Marks.{Marks}
+use Rattle.rx_slots.specs.declared.Key.{Key}
+use Rattle.rx_slots.specs.Slots.{Slots, entry_at, value_at, find, with_value, with_value_at}
+use Rattle.rx_slots.proofs.Laws.EntryByNumber.{found_there, find-value_at, with_value_at-found}
+use Rattle.rx_rings.proofs.Laws.Rings.{some_same}
+use Rattle.rx_tree.specs.declared.linked.Record.{Record}
+use Rattle.rx_tree.specs.declared.links.Place.TheVariants.{Children, Held, Sibling, Noted}
+use Rattle.rx_tree.specs.declared.node.Node.{Node}
+use Rattle.rx_tree.specs.declared.store.Store.{Store}
+use Rattle.rx_tree.specs.Store.{alone, no_counts, nodes_of}
+use Rattle.rx_tree.specs.Ties.{IsCounted, IsRemarked}
+use Rattle.rx_tree.specs.Tree.{with_marks}
+use Rattle.rx_tree.proofs.Laws.Owed.{owed_part, owed_written}
+use Rattle.rx_tree.proofs.StoreLemmas.{find-project, changes-written, rewrites-project, part-rewritten, nodes_keep_links}
+use Rattle.rx_tree.proofs.CountSteps.{counted_kept, found_marked}
+
+-- what is owed in all after one record owes other than it did
+pub owed_alike : (all part : ℕ) → all ≡ all + part - part
+owed_alike all part = omega arith
+
+pub owed_more : (all part : ℕ) → all + 1 ≡ all + (part + 1) - part
+owed_more all part = omega arith
+
+pub owed_less : (all part : ℕ) → 0 < part → all - 1 ≡ all + (part - 1) - part
+owed_less all part some = omega (arith, some)
+
+module _ {T : Type 0} (s : Store T) (key : Key) («open» : IsSome (find (nodes_of s) key)) where
+  -- a node that is seen has its record
+  found_in : IsSome (find s.nodes key)
+  found_in = of (find s.nodes key) (ap is_some (sym (find-project (λ l. l.node) s.nodes key)) ∙ «open») where
+    of : (o : Option Record) → IsSome (option_map (λ l. l.node) o) → IsSome o
+    of None some = some
+    of (Some l) some = refl
+
+  pub slot_there : IsSome (entry_at s.nodes key.slot)
+  slot_there = found_there s.nodes key found_in
+
+  module _ (l : Record) (at : value_at s.nodes key.slot ≡ Some l) where
+    record_found : find s.nodes key ≡ Some l
+    record_found = find-value_at s.nodes key found_in ∙ at
+
+    pub node_found : find (nodes_of s) key ≡ Some l.node
+    node_found = find-project (λ x. x.node) s.nodes key ∙ ap (option_map (λ x. x.node)) record_found
+
+    pub node_holds : (P : Node → Type 0) → IfSome (find (nodes_of s) key) P → P l.node
+    node_holds P holds = rw node_found at holds
+
+    module _ (counted : IsCounted s) where
+      -- what it owes is within what all owe
+      pub owed_within : l.node.marks.owed ≤ s.owed
+      owed_within =
+          let part = owed_part (nodes_of s) key l.node node_found in
+          let was = counted.owed in
+          omega (arith, part, was)
+
+      module _ (f : Node → Marks) (owed : ℕ) (is : owed ≡ s.owed + (f l.node).owed - l.node.marks.owed) where
+        abbrev marked : Record
+        marked = record l { node = with_marks (f l.node) l.node }
+
+        abbrev stored : Store T
+        stored = record s { nodes = with_value s.nodes key marked; owed = owed }
+
+        written : IsRemarked s stored key l.node (f l.node)
+        written =
+            let change = changes-written (λ x. x.node) s.nodes key marked l.node (with_marks (f l.node)) record_found refl node_found in
+            let rewrite = rewrites-project (λ x. x.node) s.nodes key l marked (with_marks (f l.node)) record_found refl in
+            record {
+              changes = change;
+              rewrites = rewrite;
+              links = nodes_keep_links s (with_value s.nodes key marked)
+                  (part-rewritten (λ x. x.children) (λ j. alone (Children j)) s.nodes _ key.slot key.number l marked record_found refl refl)
+                  (part-rewritten (λ x. x.held) (λ j. alone (Held j)) s.nodes _ key.slot key.number l marked record_found refl refl)
+                  (part-rewritten (λ x. x.sibling) (λ j. alone (Sibling j)) s.nodes _ key.slot key.number l marked record_found refl refl)
+                  (part-rewritten (λ x. x.noted) (λ j. alone (Noted j)) s.nodes _ key.slot key.number l marked record_found refl refl);
+              resources = refl;
+              counted = counted_kept s stored counted refl
+                  (part-rewritten (λ x. x.held_count) (λ j. no_counts) s.nodes _ key.slot key.number l marked record_found refl refl) refl
+                  (λ k stowed found. found_marked s stored key (with_marks (f l.node)) rewrite stowed.node)
+                  (let part = owed_part (nodes_of s) key l.node node_found in
+                  let more = owed_written (nodes_of s) (nodes_of stored) key l.node (with_marks (f l.node) l.node) node_found change in
+                  let was = counted.owed in
+                  let now = is in
+                  omega (arith, part, more, was, now));
+            }
+
+        pub remarked : (after : Record) → after ≡ marked → (node : Node) → find (nodes_of s) key ≡ Some node →
+            IsRemarked s (record s { nodes = with_value_at s.nodes key.slot after; owed = owed }) key node (f node)
+        remarked after wrote node found =
+            let same : l.node ≡ node = some_same l.node node (sym node_found ∙ found) in
+            let nodes : with_value_at s.nodes key.slot after ≡ with_value s.nodes key marked =
+            ap (with_value_at s.nodes key.slot) wrote ∙ with_value_at-found s.nodes key marked found_in in
+            subst (λ (x : Node). IsRemarked s (record s { nodes = with_value_at s.nodes key.slot after; owed = owed }) key x (f x)) same
+            (subst (λ (n : Slots Record). IsRemarked s (record s { nodes = n; owed = owed }) key l.node (f l.node)) (sym nodes) written)

@@ -1,0 +1,18 @@
+use Rattle.rx_tree.proofs.MarksWritten.{slot_there, node_holds, owed_alike, remarked}
+use Rattle.rx_event.specs.Events.{is_merging}
+use Rattle.rx_event.specs.Marks.{after_child}
+use Rattle.std.proofs.Common.{◌<◌}
+use Rattle.rx_tree.proofs.store.Store.end_child.Goals as goal
+
+pub at_mut-requires : goal.at_mut-requires
+at_mut-requires g c = record { there = slot_there c.args.self.now c.args.key c.requires.«open» }
+
+pub end_child-requires : goal.end_child-requires
+end_child-requires g c =
+    node_holds c.args.self.now c.args.key c.requires.«open» c.at_mut.result.now c.at_mut.ensures.value (λ node. 0 < node.marks.open_children)
+    c.requires.child
+
+pub returns : goal.returns
+returns g c =
+    remarked c.args.self.now c.args.key c.requires.«open» c.at_mut.result.now c.at_mut.ensures.value c.requires.counted
+    (λ node. after_child c.args.is_source (is_merging node.made) c.args.terminal node.marks) _ (owed_alike _ _) _ c.end_child.ensures

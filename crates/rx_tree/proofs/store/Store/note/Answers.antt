@@ -1,0 +1,44 @@
+use Rattle.std.proofs.Common.{◌≡◌, Bool, true, false, refl, sym, ◌∙◌, true≢false}
+use Rattle.std.proofs.Math.Bool.{not}
+use Rattle.rx_tree.specs.declared.links.Place.TheVariants.{Due}
+use Rattle.rx_tree.specs.Store.{nodes_of, resources_of, next_of, previous_of}
+use Rattle.rx_tree.proofs.CountSteps.{counted_relinked}
+use Rattle.rx_tree.proofs.MarkSteps.{noted_already, noted_tied, noted_chain}
+use Rattle.rx_tree.proofs.There.{slot_stands, previous_stands}
+use Rattle.rx_tree.proofs.store.Store.note.Goals as goal
+
+not_false : (b : Bool) → false ≡ not b → b ≡ true
+not_false true e = refl
+not_false false e = absurd (true≢false (sym e))
+
+not_true : (b : Bool) → true ≡ not b → b ≡ false
+not_true false e = refl
+not_true true e = absurd (true≢false e)
+
+pub join-requires-clause-place : goal.join-requires-clause-place
+join-requires-clause-place g c = slot_stands (nodes_of c.args.self.now) c.args.key c.requires.«open»
+
+pub join-requires-clause-last : goal.join-requires-clause-last
+join-requires-clause-last g c =
+    let s = c.args.self.now in
+    previous_stands (nodes_of s) (resources_of s) (next_of s) (previous_of s) c.requires.kept.tied Due refl
+
+pub returns-then-not-is_noted-clause-kept : goal.returns-then-not-is_noted-clause-kept
+returns-then-not-is_noted-clause-kept g c = record {
+  tied = noted_tied c.args.self.now c.args.key c.requires.kept.tied c.requires.«open» c.join.new.self
+      (not_false _ (sym c.if-not-is_noted.true ∙ c.is_noted.ensures)) c.join.ensures.joins c.join.ensures.rest;
+  counted = counted_relinked c.args.self.now c.join.new.self c.join.ensures.rest c.requires.kept.counted;
+}
+
+pub returns-then-not-is_noted-clause-chain : goal.returns-then-not-is_noted-clause-chain
+returns-then-not-is_noted-clause-chain g c =
+    noted_chain c.args.self.now c.args.key c.requires.kept.tied c.requires.«open» c.join.new.self
+    (not_false _ (sym c.if-not-is_noted.true ∙ c.is_noted.ensures)) c.join.ensures.joins c.join.ensures.rest
+
+pub returns-else-not-is_noted-clause-chain : goal.returns-else-not-is_noted-clause-chain
+returns-else-not-is_noted-clause-chain g c =
+    noted_already c.args.self.now c.args.key c.requires.kept.tied c.requires.«open»
+    (not_true _ (sym c.if-not-is_noted.false ∙ c.is_noted.ensures))
+
+pub returns-else-not-is_noted-clause-rest : goal.returns-else-not-is_noted-clause-rest
+returns-else-not-is_noted-clause-rest g c = record { nodes = refl; resources = refl; waiting_count = refl; owed = refl; held_count = λ j. refl }

@@ -1,0 +1,34 @@
+use Rattle.std.proofs.Common.{◌≡◌, true, Option, Some, None, is_some, option_map, refl, sym, ap, ◌∙◌}
+use Rattle.std.proofs.lemmas.Bool.{false≢true}
+use Rattle.rx_slots.specs.declared.Entry.{Entry}
+use Rattle.rx_slots.specs.declared.Key.{Key}
+use Rattle.rx_slots.specs.Slots.{entry_at}
+use Rattle.rx_tree.specs.declared.node.Node.{Node}
+use Rattle.rx_tree.specs.Store.{nodes_of}
+use Rattle.rx_tree.specs.Tree.{first_of}
+use Rattle.rx_tree.proofs.MarkSteps.{chain_none, chain_first, first_stands}
+use Rattle.rx_tree.proofs.tree.Tree.is_calm.Goals as goal
+
+some_key : (key_of : Entry Node → Key) (o : Option (Entry Node)) → is_some o ≡ true → is_some (option_map key_of o) ≡ true
+some_key key_of None some = some
+some_key key_of (Some e) some = refl
+
+pub returns-in-Noted : goal.returns-in-Noted
+returns-in-Noted g c =
+    let s = c.self.inside.store in
+    let slot = c.in-Noted.field-0 in
+    let at = ap (λ l. l.next) (sym c.link.ensures) ∙ c.in-Noted.is in
+    let first = chain_first s c.self.invariant.tied slot at in
+    let some = some_key (λ e. record { slot = slot; number = e.number }) (entry_at (nodes_of s) slot) (first_stands s c.self.invariant.tied slot at) in
+    rw (← c.self.view_is) (
+      λ t. absurd (false≢true t),
+      λ none. absurd (false≢true (sym (ap is_some first ∙ ap (λ ks. is_some (first_of ks)) none) ∙ some)),
+    )
+
+pub returns-in_default : goal.returns-in_default
+returns-in_default g c =
+    let s = c.self.inside.store in
+    rw (← c.self.view_is) (
+      λ t. chain_none s c.self.invariant.tied (λ slot e. c.in_default.not-Noted slot (ap (λ l. l.next) c.link.ensures ∙ e)),
+      λ none. refl,
+    )
