@@ -14,7 +14,7 @@ use Rattle.rx_event.specs.Kept.{Kept}
 use Rattle.rx_event.specs.declared.event.Event.{Event}
 use Rattle.rx_event.specs.declared.event.Event.TheVariants.{Accept, Lease, Close, Take}
 use Rattle.rx_event.specs.declared.refusal.Refusal.{Refusal}
-use Rattle.rx_event.specs.Events.{makes_hub, makes_resource, makes_lease, is_take, is_root, is_manual_hub, node_of_accept}
+use Rattle.rx_event.specs.Events.{makes_hub, makes_resource, makes_lease, is_take, is_root, is_manual_hub, is_connect_of, node_of_accept}
 use Rattle.rx_event.specs.Tree.{at, places, is_open, open_connections}
 use Rattle.rx_event.specs.Resources.{is_owned, is_out, is_leased, is_held, is_waiting, waiting_resources}
 use Rattle.rx_event.specs.Totals.{accepted_count, taken_count, held_count, waiting_count}
@@ -39,6 +39,7 @@ use Rattle.rx_book.specs.State.{State, AreJust, IsPromised, has_key, has_lease_k
 use Rattle.rx_book.specs.Requests.{Request, stands, give_back_request, dispose_request, disconnect_request}
 use Rattle.rx_book.specs.Answers.{Accepts}
 use Rattle.rx_book.specs.Drains.{Takes, none_taken, next_taken}
+use Rattle.rx_book.specs.Courses.{LetsGo, none_let_go, next_let_go}
 use Rattle.rx_book.proofs.Laws.StepsContinue.{count_by-append, step_longer}
 
 -- counting -----------------------------------------------------------------------------------------
@@ -219,6 +220,39 @@ closed_released {old} mid {new} before after accepted taken drained none_held =
     let whole = after.in_one_place in
     omega arith
 
+filter_none : {A : Type 0} (p : A → Bool) (xs : List A) → ((x : A) → p x ≡ false) → filter p xs ≡ []
+filter_none p [] never = refl
+filter_none p (x ∷ xs) never = ap (λ b. cond b (x ∷ filter p xs) (filter p xs)) (never x) ∙ filter_none p xs never
+
+-- letting go, and then more
+pub lets_all : {s t u : State} → LetsGo s t → LetsGo t u → LetsGo s u
+lets_all before none_let_go = before
+lets_all before (next_let_go rest kept lets accepted) = next_let_go (lets_all before rest) kept lets accepted
+
+none_numbered : {A : Type 0} (number : A → ℕ) (test : ℕ → Bool) (xs : List A) → AreJust test (map number xs) → xs ≡ [] → (n : ℕ) → test n ≡ false
+none_numbered number test xs just empty n =
+    false_from_ne_true (test n) (λ passes. let within = (just.every n passes).1 in
+    let none : length (map number xs) ≡ 0 = ap (λ ys. length (map number ys)) empty in
+    absurd (omega arith))
+
+-- where no key is left nothing is open, and so a caller holds nothing open
+pub shut_let_go : (s : State) → IsPromised s → s.keys ≡ [] → IsLetGo s.history
+shut_let_go s kept none =
+    let closed = none_numbered (λ k. k.number) (is_open s.history) s.keys kept.keys none in
+    record {
+      unsubscribed = λ n. ap (λ (b : Bool). b && at is_root s.history n) (closed n);
+      disconnected =
+          λ g manual. filter_none (λ n. at (is_connect_of g) s.history n && is_open s.history n) (places s.history)
+          (λ n. and_closed (at (is_connect_of g) s.history n) (is_open s.history n) (closed n));
+    }
+  where
+    and_closed : (a b : Bool) → b ≡ false → (a && b) ≡ false
+    and_closed true b none = none
+    and_closed false b none = refl
+
+pub shut_none_out : (s : State) → IsPromised s → s.lease_keys ≡ [] → (l : ℕ) → is_out s.history l ≡ false
+shut_none_out s kept none = none_numbered (λ k. k.number) (is_out s.history) s.lease_keys kept.lease_keys none
+
 place_listed : (h : List Event) (n : ℕ) → n < length h → Contains (places h) n
 place_listed h n within =
     let long : length (places h) ≡ length h = length-range_with_len 0 (length h) in
@@ -348,10 +382,6 @@ less_room old new asked accepts kept some =
     let limit = accepts.limit in
     let base = ap (λ (b : Kept). b.at_length) accepts.base in
     omega arith
-
-filter_none : {A : Type 0} (p : A → Bool) (xs : List A) → ((x : A) → p x ≡ false) → filter p xs ≡ []
-filter_none p [] never = refl
-filter_none p (x ∷ xs) never = ap (λ b. cond b (x ∷ filter p xs) (filter p xs)) (never x) ∙ filter_none p xs never
 
 -- nothing waits where the list of what waits is empty
 pub none_waits : (s : State) → IsPromised s → s.waiting ≡ [] → waiting_resources s.history ≡ []

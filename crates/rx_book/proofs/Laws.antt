@@ -1,2 +1,5 @@
 pub mod StepsContinue
 pub mod Keys
+pub mod LastsThroughSteps
+pub mod NotesGoOn
+pub mod EventsWithoutBase

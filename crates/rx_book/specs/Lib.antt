@@ -2,6 +2,7 @@ pub mod State
 pub mod Requests
 pub mod Answers
 pub mod Drains
+pub mod Courses
 pub mod Shown
 pub mod Places
 pub mod Checkpoints

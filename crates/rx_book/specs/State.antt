@@ -1,5 +1,6 @@
 -- What a book is to its callers.
 use Rattle.std.specs.Prelude.{◌≡◌, ◌≢◌, ℕ, ◌+◌, ◌<◌, ◌≤◌, Bool, nat_lt, ◌&&◌, ◌==◌, Option, Some, None, List, length, map, IsTrue}
+use Rattle.std.proofs.Math.Bool.{not}
 use Rattle.std.specs.List.{All, AllPairs, Contains, list_any}
 use Rattle.std.specs.Option.{option_and_then}
 use Rattle.rx_note.specs.Notes.{IsGrammatical}
@@ -7,7 +8,7 @@ use Rattle.rx_resource.specs.declared.Life.TheVariants.{Live}
 use Rattle.rx_event.specs.declared.event.Event.{Event}
 use Rattle.rx_event.specs.declared.event.Event.TheVariants.{Accept}
 use Rattle.rx_event.specs.Kept.{Kept}
-use Rattle.rx_event.specs.Events.{is_auto_hub}
+use Rattle.rx_event.specs.Events.{is_auto_hub, makes_resource, is_take_of}
 use Rattle.rx_event.specs.Tree.{at, is_open, open_subscribers, open_connections}
 use Rattle.rx_event.specs.Resources.{is_out, is_held, is_waiting, accepted_by, uses}
 use Rattle.rx_event.specs.Notes.{notes, notes_to}
@@ -58,6 +59,10 @@ pub record IsLabelOf (base : Kept) (h : List Event) (l : Label) : Type 0 where
   pub live : l.life ≡ Live
   pub tag : option_and_then accepted_tag (accepted_by base h l.number) ≡ Some l.tag
   pub uses : l.uses ≡ uses base h l.number
+
+-- accepted, and not taken yet
+unfoldable pub is_kept : List Event → ℕ → Bool
+is_kept h r = at makes_resource h r && not (list_any (is_take_of r) h)
 
 -- the hub has an open subscriber
 abbrev pub has_subscriber : List Event → ℕ → Bool

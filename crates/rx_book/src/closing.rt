@@ -1,13 +1,14 @@
 //! Ending a book: all leases are given back, all that is open is unsubscribed or disconnected, and all
 //! that waits is released.
 
-ghost use Rattle.std.specs.Prelude.{◌≡◌, ◌+◌, ◌≤◌, ℕ, [], true, false};
+ghost use Rattle.std.specs.Prelude.{◌≡◌, ◌+◌, ◌≤◌, ℕ, [], length, true, false};
 ghost use Rattle.rx_event.specs.Events.{is_manual_hub};
 ghost use Rattle.rx_event.specs.Tree.{at, open_connections};
 ghost use Rattle.rx_event.specs.Resources.{is_out};
 ghost use Rattle.rx_event.specs.Totals.{accepted_count, taken_count, held_count, waiting_count};
 ghost use Rattle.rx_event.specs.Claims.Closing.{is_open_root};
 ghost use Rattle.rx_book.specs.Drains.{Drains};
+ghost use Rattle.rx_book.specs.Courses.{LetsGo};
 ghost use Rattle.rx_book.specs.State.{Continues};
 
 use crate::Book;
@@ -54,6 +55,7 @@ impl<R: Resource> Book<R> {
         ensures limit { self.new.limit ≡ self.old.limit }
         ensures given { self.new.given ≡ self.old.given }
         ensures none_out { (l : ℕ) → is_out self.new.history l ≡ false }
+        ensures lets_go { LetsGo self.old self.new }
         ensures accepted { accepted_count self.new.base self.new.history ≡ accepted_count self.old.base self.old.history }
         ensures taken { taken_count self.new.base self.new.history ≡ taken_count self.old.base self.old.history }
     {
@@ -72,6 +74,7 @@ impl<R: Resource> Book<R> {
         ensures limit { self.new.limit ≡ self.old.limit }
         ensures given { self.new.given ≡ self.old.given }
         ensures none_open { (n : ℕ) → is_open_root self.new.history n ≡ false }
+        ensures lets_go { LetsGo self.old self.new }
         ensures out { (l : ℕ) → is_out self.new.history l ≡ true → is_out self.old.history l ≡ true }
         ensures accepted { accepted_count self.new.base self.new.history ≡ accepted_count self.old.base self.old.history }
         ensures taken { taken_count self.new.base self.new.history ≡ taken_count self.old.base self.old.history }
@@ -91,6 +94,7 @@ impl<R: Resource> Book<R> {
         ensures limit { self.new.limit ≡ self.old.limit }
         ensures given { self.new.given ≡ self.old.given }
         ensures disconnected { (g : ℕ) → at is_manual_hub self.new.history g ≡ true → open_connections self.new.history g ≡ [] }
+        ensures lets_go { LetsGo self.old self.new }
         ensures roots { (n : ℕ) → is_open_root self.new.history n ≡ true → is_open_root self.old.history n ≡ true }
         ensures out { (l : ℕ) → is_out self.new.history l ≡ true → is_out self.old.history l ≡ true }
         ensures accepted { accepted_count self.new.base self.new.history ≡ accepted_count self.old.base self.old.history }
@@ -103,6 +107,29 @@ impl<R: Resource> Book<R> {
                 Err(_) => unreachable!(),
             }
         }
+    }
+
+    /// Gives back all leases, unsubscribes all open roots and disconnects all hubs that were connected by
+    /// hand: nothing is open or held afterwards, no lease is out, and each resource that was held waits. It
+    /// is as so many calls of [`Book::give_back`], [`Book::dispose`] and [`Book::disconnect`]. The limit
+    /// stays, and the notes that were not handed out yet still are. It takes no memory.
+    pub fn shut(&mut self)
+        ensures none_open { self.new.keys ≡ [] }
+        ensures none_held { self.new.held ≡ [] }
+        ensures none_out { self.new.lease_keys ≡ [] }
+        ensures lets_go { LetsGo self.old self.new }
+        ensures base { self.new.base ≡ self.old.base }
+        ensures limit { self.new.limit ≡ self.old.limit }
+        ensures given { self.new.given ≡ self.old.given }
+        ensures accepted { accepted_count self.new.base self.new.history ≡ accepted_count self.old.base self.old.history }
+        ensures taken { taken_count self.new.base self.new.history ≡ taken_count self.old.base self.old.history }
+        ensures waiting { length self.new.waiting ≡ length self.old.held + length self.old.waiting }
+    {
+        self.promise();
+        self.return_leases();
+        self.dispose_roots();
+        self.disconnect_hubs();
+        self.promise();
     }
 
     /// Gives back all leases, unsubscribes all open roots, disconnects all hubs that were connected by
@@ -123,9 +150,8 @@ impl<R: Resource> Book<R> {
         ensures faults { result.faults ≤ result.released }
     {
         self.promise();
-        self.return_leases();
-        self.dispose_roots();
-        self.disconnect_hubs();
+        self.shut();
+        self.promise();
         let closed = self.release_waiting();
         self.promise();
         closed

@@ -1,8 +1,10 @@
 //! Items, ends and unsubscriptions.
 
+ghost use Rattle.std.specs.Prelude.{◌≡◌, ◌<◌, Some, length, slice_get};
 ghost use Rattle.rx_book.specs.Requests.{next_request, end_request, abort_request, dispose_request};
 ghost use Rattle.rx_book.specs.Requests.{decline_request, fail_request};
 ghost use Rattle.rx_book.specs.Answers.{AnswersPlace, AnswersPlaceOrWant};
+ghost use Rattle.rx_book.specs.Courses.{EmitsAll};
 
 use crate::Book;
 use crate::admit::{Wish, admit};
@@ -10,6 +12,23 @@ use crate::asked::Asked;
 use crate::key::{Key, tree_key};
 use rx_event::{Refusal, Terminal};
 use rx_resource::Resource;
+
+/// How many of several items were emitted, and why the next one was refused, where one was.
+#[derive(Clone, Copy, Debug, PartialEq, Eq)]
+pub struct Emitted {
+    /// How many were emitted.
+    pub count: usize,
+    /// Why the item behind these was refused; None where each was emitted.
+    pub refused: Option<Refusal>,
+}
+
+// One of several items.
+fn item(values: &[i64], at: usize) -> i64
+    requires { at < length values.now }
+    ensures { slice_get values.now at ≡ Some result }
+{
+    values[at]
+}
 
 impl<R: Resource> Book<R> {
     /// A leaf emits an item (OnNext), which goes up to its root, but stops on its way at the first source
@@ -27,6 +46,30 @@ impl<R: Resource> Book<R> {
         self.ground.write_item(tree_key(leaf), value);
         self.ground.settle();
         Ok(place)
+    }
+
+    /// A leaf emits several items, one after another, up to the first that is refused: as so many calls of
+    /// [`Book::next`].
+    pub fn next_all(&mut self, leaf: Key, values: &[i64]) -> Emitted
+        ensures { EmitsAll self.old leaf values.now self.new result }
+    {
+        let mut count = 0;
+        while count < values.len() {
+            self.promise();
+            match self.next(leaf, item(values, count)) {
+                Ok(_) => count += 1,
+                Err(why) => {
+                    return Emitted {
+                        count,
+                        refused: Some(why),
+                    };
+                }
+            }
+        }
+        Emitted {
+            count,
+            refused: None,
+        }
     }
 
     /// A leaf ends (OnCompleted or OnError), and after it each node that mirrors it or of which it is the

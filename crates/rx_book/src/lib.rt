@@ -81,6 +81,7 @@ mod place;
 pub use answer::{At, Opened, OpenedUsing, Refused};
 pub use book::Book;
 pub use closing::Closed;
+pub use ending::Emitted;
 pub use key::{Key, LeaseKey, ResKey};
 pub use rx_event::{Event, Kind, Mail, Mode, Refusal, Terminal};
 pub use rx_note::Note;

@@ -1,9 +1,14 @@
-use Rattle.std.proofs.Common.{ap, ◌∙◌}
+use Rattle.std.proofs.Common.{refl, ap, ◌∙◌}
 use Rattle.rx_event.specs.Kept.{Kept}
 use Rattle.rx_event.specs.Totals.{accepted_count, taken_count}
 use Rattle.rx_book.proofs.Closings.{disconnected_out, disconnected_taken, disconnected_accepted, roots_older}
 use Rattle.rx_book.proofs.Closings.{hub_found, hub_missing, disconnectable, closes_some, less_room}
+use Rattle.rx_book.specs.Courses.{none_let_go, next_let_go}
 use Rattle.rx_book.proofs.book.Book.disconnect_hubs.Goals as goal
+
+pub loop-hub-init : goal.loop-hub-init
+loop-hub-init g c =
+    record { kept = c.promise.ensures; lets_go = none_let_go; base = refl; limit = refl; given = refl; roots = λ n found. found; out = λ n found. found; accepted = refl; taken = refl }
 
 pub loop-hub-smaller : goal.loop-hub-smaller
 loop-hub-smaller g c =
@@ -14,6 +19,7 @@ loop-hub-smaller g c =
 pub loop-hub-preserved : goal.loop-hub-preserved
 loop-hub-preserved g c = record {
   kept = c.promise-in-Ok.ensures;
+  lets_go = next_let_go c.loop-hub.invariant.lets_go c.loop-hub.invariant.kept refl c.in-Ok.ensures.accepted;
   base = c.in-Ok.ensures.accepted.base ∙ c.loop-hub.invariant.base;
   limit = c.in-Ok.ensures.accepted.limit ∙ c.loop-hub.invariant.limit;
   given = c.in-Ok.ensures.accepted.given ∙ c.loop-hub.invariant.given;

@@ -4,11 +4,13 @@ use Rattle.rx_event.specs.Claims.Closing.{is_open_root}
 use Rattle.rx_event.specs.Resources.{is_out}
 use Rattle.rx_event.specs.Totals.{accepted_count, taken_count}
 use Rattle.rx_book.specs.State.{IsPromised}
+use Rattle.rx_book.specs.Courses.{LetsGo}
 use Rattle.rx_book.proofs.book.Book.disconnect_hubs.Given as goal
 
 abbrev pub invariant-loop-hub : goal.invariant-loop-hub
 invariant-loop-hub g l = record {
   kept : IsPromised l.self;
+  lets_go : LetsGo l.initial.self l.self;
   base : l.self.base ≡ l.initial.self.base;
   limit : l.self.limit ≡ l.initial.self.limit;
   given : l.self.given ≡ l.initial.self.given;

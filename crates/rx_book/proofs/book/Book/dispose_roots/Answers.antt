@@ -1,8 +1,13 @@
-use Rattle.std.proofs.Common.{ap, ◌∙◌, arith}
+use Rattle.std.proofs.Common.{refl, ap, ◌∙◌, arith}
 use Rattle.rx_event.specs.Kept.{Kept}
 use Rattle.rx_event.specs.Totals.{accepted_count, taken_count}
 use Rattle.rx_book.proofs.Closings.{disposed_out, disposed_taken, disposed_accepted, root_found, root_missing, disposable, less_room}
+use Rattle.rx_book.specs.Courses.{none_let_go, next_let_go}
 use Rattle.rx_book.proofs.book.Book.dispose_roots.Goals as goal
+
+pub loop-root-init : goal.loop-root-init
+loop-root-init g c =
+    record { kept = c.promise.ensures; lets_go = none_let_go; base = refl; limit = refl; given = refl; out = λ n found. found; accepted = refl; taken = refl }
 
 pub loop-root-smaller : goal.loop-root-smaller
 loop-root-smaller g c = less_room c.loop-root.self c.dispose.new.self _ c.in-Ok.ensures.accepted c.promise-in-Ok.ensures (omega arith)
@@ -10,6 +15,7 @@ loop-root-smaller g c = less_room c.loop-root.self c.dispose.new.self _ c.in-Ok.
 pub loop-root-preserved : goal.loop-root-preserved
 loop-root-preserved g c = record {
   kept = c.promise-in-Ok.ensures;
+  lets_go = next_let_go c.loop-root.invariant.lets_go c.loop-root.invariant.kept refl c.in-Ok.ensures.accepted;
   base = c.in-Ok.ensures.accepted.base ∙ c.loop-root.invariant.base;
   limit = c.in-Ok.ensures.accepted.limit ∙ c.loop-root.invariant.limit;
   given = c.in-Ok.ensures.accepted.given ∙ c.loop-root.invariant.given;

@@ -3,11 +3,13 @@ use Rattle.std.proofs.Common.{◌≡◌, ◌-◌, ℕ, true, length, ◌+◌}
 use Rattle.rx_event.specs.Resources.{is_out}
 use Rattle.rx_event.specs.Totals.{accepted_count, taken_count}
 use Rattle.rx_book.specs.State.{IsPromised}
+use Rattle.rx_book.specs.Courses.{LetsGo}
 use Rattle.rx_book.proofs.book.Book.dispose_roots.Given as goal
 
 abbrev pub invariant-loop-root : goal.invariant-loop-root
 invariant-loop-root g l = record {
   kept : IsPromised l.self;
+  lets_go : LetsGo l.initial.self l.self;
   base : l.self.base ≡ l.initial.self.base;
   limit : l.self.limit ≡ l.initial.self.limit;
   given : l.self.given ≡ l.initial.self.given;

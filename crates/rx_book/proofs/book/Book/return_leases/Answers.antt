@@ -1,8 +1,13 @@
-use Rattle.std.proofs.Common.{ap, ◌∙◌, arith}
+use Rattle.std.proofs.Common.{refl, ap, ◌∙◌, arith}
 use Rattle.rx_event.specs.Kept.{Kept}
 use Rattle.rx_event.specs.Totals.{accepted_count, taken_count}
 use Rattle.rx_book.proofs.Closings.{returned_taken, returned_accepted, lease_found, lease_missing, returnable, less_room}
+use Rattle.rx_book.specs.Courses.{none_let_go, next_let_go}
 use Rattle.rx_book.proofs.book.Book.return_leases.Goals as goal
+
+pub loop-lease-init : goal.loop-lease-init
+loop-lease-init g c =
+    record { kept = c.promise.ensures; lets_go = none_let_go; base = refl; limit = refl; given = refl; accepted = refl; taken = refl }
 
 pub loop-lease-smaller : goal.loop-lease-smaller
 loop-lease-smaller g c = less_room c.loop-lease.self c.give_back.new.self _ c.in-Ok.ensures.accepted c.promise-in-Ok.ensures (omega arith)
@@ -10,6 +15,7 @@ loop-lease-smaller g c = less_room c.loop-lease.self c.give_back.new.self _ c.in
 pub loop-lease-preserved : goal.loop-lease-preserved
 loop-lease-preserved g c = record {
   kept = c.promise-in-Ok.ensures;
+  lets_go = next_let_go c.loop-lease.invariant.lets_go c.loop-lease.invariant.kept refl c.in-Ok.ensures.accepted;
   base = c.in-Ok.ensures.accepted.base ∙ c.loop-lease.invariant.base;
   limit = c.in-Ok.ensures.accepted.limit ∙ c.loop-lease.invariant.limit;
   given = c.in-Ok.ensures.accepted.given ∙ c.loop-lease.invariant.given;

@@ -2,11 +2,13 @@
 use Rattle.std.proofs.Common.{◌≡◌, ◌-◌, length, ◌+◌}
 use Rattle.rx_event.specs.Totals.{accepted_count, taken_count}
 use Rattle.rx_book.specs.State.{IsPromised}
+use Rattle.rx_book.specs.Courses.{LetsGo}
 use Rattle.rx_book.proofs.book.Book.return_leases.Given as goal
 
 abbrev pub invariant-loop-lease : goal.invariant-loop-lease
 invariant-loop-lease g l = record {
   kept : IsPromised l.self;
+  lets_go : LetsGo l.initial.self l.self;
   base : l.self.base ≡ l.initial.self.base;
   limit : l.self.limit ≡ l.initial.self.limit;
   given : l.self.given ≡ l.initial.self.given;

@@ -1,0 +1,38 @@
+-- What several calls of a book come to, one after another.
+use Rattle.std.specs.Prelude.{◌≡◌, ℤ, ◌<◌, Bool, true, false, ◌++◌, ◌∷◌, List, [], length, take, slice_get, Some, IfSome, IfNone}
+use Rattle.rx_event.specs.Calls.{Call, GivingBack, Disposing, Disconnecting}
+use Rattle.rx_book.specs.declared.key.Key.{Key}
+use Rattle.rx_book.specs.declared.ending.Emitted.{Emitted}
+use Rattle.rx_book.specs.State.{State, IsPromised}
+use Rattle.rx_book.specs.Requests.{Request, next_request}
+use Rattle.rx_book.specs.Answers.{Accepts, IsCauseOrWant}
+
+-- letting go --------------------------------------------------------------------------------------
+
+-- it gives a lease back, unsubscribes a root or disconnects a hub
+abbrev pub lets_go : Call → Bool
+lets_go (GivingBack l) = true
+lets_go (Disposing root) = true
+lets_go (Disconnecting g) = true
+lets_go _ = false
+
+-- from s one thing after another was let go, each by a call that was accepted
+pub data LetsGo (s : State) : State → Type 0 where
+  none_let_go : LetsGo s s
+  next_let_go : {t u : State} {asked : Request} → LetsGo s t → IsPromised t → lets_go asked.call ≡ true → Accepts t asked u → LetsGo s u
+
+-- items -------------------------------------------------------------------------------------------
+
+-- from s the leaf emitted one value after another, each by a call of `next` that was accepted
+pub data Emits (leaf : Key) (s : State) : List ℤ → State → Type 0 where
+  none_emitted : Emits leaf s [] s
+  next_emitted : {values : List ℤ} {t u : State} (value : ℤ) → Emits leaf s values t → IsPromised t
+      → Accepts t (next_request t leaf value) u → Emits leaf s (values ++ value ∷ []) u
+
+-- the values up to the first that was refused, or all of them
+pub record EmitsAll (old : State) (leaf : Key) (values : List ℤ) (new : State) (answer : Emitted) : Type 0 where
+  pub emits : Emits leaf old (take answer.count values) new
+  pub whole : IfNone answer.refused (answer.count ≡ length values)
+  pub within : IfSome answer.refused (λ why. answer.count < length values)
+  pub refused : IfSome answer.refused (λ why. (value : ℤ) → slice_get values answer.count ≡ Some value
+      → IsCauseOrWant new (next_request new leaf value) why)
