@@ -8,7 +8,7 @@ use Rattle.rx_c.specs.Courses.{IsServed, is_put_off, answers, ends}
 
 served_leads : {s : Session} {lines texts : List (List ℕ)} {acts : List Act} → IsServed s lines texts acts
     → Leads (has_resource s) acts (λ n. false)
-served_leads (is_put_off {s} {t} {lines} {texts} {acts} off rest) =
+served_leads (is_put_off {s} {t} {line} {lines} {texts} {acts} off rest) =
     leads_same (has_resource s) (has_resource t) (λ n. false) acts (put_off_held s t off) (served_leads rest)
 served_leads (answers line text sent rest) = leads_on sent.leads (served_leads rest)
 served_leads (ends text ended) = ended.leads

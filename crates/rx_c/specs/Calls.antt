@@ -4,7 +4,7 @@
 --     4 memory was refused        5 the handle keeps something already        6 nothing waits
 use Rattle.std.specs.Prelude.{◌≡◌, ℕ, List, length}
 use Rattle.rx_live.specs.Session.{Session}
-use Rattle.rx_live.specs.Renewals.{IsPutOff}
+use Rattle.rx_live.specs.Lines.{IsPutOff}
 use Rattle.rx_live.specs.Lines.{Sends, Ends, IsFresh}
 use Rattle.rx_c.specs.Stages.{Stage, absent, opened, waiting, ended, IsPresent, Waits}
 use Rattle.rx_c.specs.Answers.{IsGiven, IsTooLong, IsUntouched, IsSilent}
@@ -25,7 +25,7 @@ module _ (old new : Stage) (line buffer buffer' : List ℕ) (told status : ℕ) 
     has_none : old ≡ absent → new ≡ old → status ≡ 2 → IsSilent buffer buffer' told → IsSent
     has_mail : {text : List ℕ} → Waits text old → new ≡ old → status ≡ 3
         → IsUntouched (length text) buffer buffer' told → IsSent
-    is_starved : {s t : Session} → old ≡ opened s → IsPutOff s t → new ≡ opened t
+    is_starved : {s t : Session} → old ≡ opened s → IsPutOff line s t → new ≡ opened t
         → status ≡ 4 → IsSilent buffer buffer' told → IsSent
 
 module _ (old new : Stage) (buffer buffer' : List ℕ) (told status : ℕ) where

@@ -2,7 +2,7 @@
 -- out come out.
 use Rattle.std.specs.Prelude.{ℕ, ◌==◌, ◌||◌, List, [], ◌∷◌, ◌++◌, map, take, if◌then◌else◌}
 use Rattle.rx_live.specs.Session.{Session}
-use Rattle.rx_live.specs.Renewals.{IsPutOff}
+use Rattle.rx_live.specs.Lines.{IsPutOff}
 use Rattle.rx_live.specs.Promise.{Act, released, IsKept}
 use Rattle.rx_live.specs.Lines.{Sends, Ends, IsFresh}
 use Rattle.rx_c.specs.Stages.{Stage, absent, opened}
@@ -33,7 +33,7 @@ pub data Course : Stage → List (List ℕ) → List (List ℕ) → Stage → Ty
 -- a book from here to its end: each line with its answer, in order, and the last answer; and what they hand in and
 -- release. Where memory was refused a line was put off.
 pub data IsServed : Session → (lines texts : List (List ℕ)) → List Act → Type 0 where
-  is_put_off : {s t : Session} {lines texts : List (List ℕ)} {acts : List Act} → IsPutOff s t
+  is_put_off : {s t : Session} {line : List ℕ} {lines texts : List (List ℕ)} {acts : List Act} → IsPutOff line s t
       → IsServed t lines texts acts → IsServed s lines texts acts
   answers : {s t : Session} {lines texts : List (List ℕ)} {acts : List Act} (line text : List ℕ)
       → (sent : Sends s line text t) → IsServed t lines texts acts

@@ -48,8 +48,8 @@ impl Gate for Open {
 /// A run's status is 0 where it is done, 1 where a stream failed, 3 where the input is no scenario, 4
 /// where memory was refused. An audit's is 0 where the verdict is lawful and 5 where it is another,
 /// and else as a run's, with 3 where the input is no dump. A storm's is 0 where its threads agree with the
-/// book, 5 where they do not, 1 where the output failed or a thread could not be started, 4 where memory
-/// was refused. Words that `clap` refuses give 2, and a request for help or for the version 0, or 1 where the
+/// book, 5 where they do not, 4 where memory was refused, and else 1 where the output failed or a thread could
+/// not be started. Words that `clap` refuses give 2, and a request for help or for the version 0, or 1 where the
 /// output refuses its text, or 4 where memory is refused for it; then nothing is read. Each status but 0, and 5
 /// of an audit, comes with its line on `errors`; what `errors` refuses is lost, and the status stays.
 ///

@@ -1,7 +1,7 @@
 -- What a line's answer says of the session.
 use Rattle.std.proofs.Common.{◌≡◌, ℕ, List, [], ◌++◌, codes, length, map, Option, Some, None, Result}
 use Rattle.std.proofs.Common.{Ok, Err, refl, ap, ◌∙◌, subst, String, Global, string_bytes}
-use Rattle.std.specs.Prelude.{IfOk, IfSome, is_some}
+use Rattle.std.specs.Prelude.{IfOk, IfSome, IfNone, is_some}
 use Rattle.std.specs.declared.alloc.AllocError.{AllocError}
 use Rattle.rx_scenario.specs.Scenario.{Name, Command}
 use Rattle.rx_line.specs.Orders.{command, list, dump, IsOrderOf, IsFaulty}
@@ -13,11 +13,11 @@ use Rattle.rx_live.specs.Promise.{released, no_act}
 use Rattle.rx_live.specs.Answers.{told_text, WritesNotes, late_text}
 use Rattle.rx_live.specs.Listed.{all_names}
 use Rattle.rx_live.specs.Given.{IsAlike}
-use Rattle.rx_live.specs.Renewals.{Renews, as_it_was, renewed, IsFullByOpen}
+use Rattle.rx_live.specs.Renewals.{Renews, IsFullByOpen}
 use Rattle.rx_live.specs.Dumps.{dump_text}
 use Rattle.rx_live.specs.Lines.{Runs, handed_by, TellsAll, CarriesOut, refuses, carries, is_faulty, is_refused}
-use Rattle.rx_live.specs.Lines.{is_carried, is_listed, is_dumped, Sends, Ends, IsClosed}
-use Rattle.rx_live.specs.Taken.{Answered}
+use Rattle.rx_live.specs.Lines.{as_it_was, renewed, FindsFull, is_carried, is_listed, is_dumped, Sends, Ends, IsClosed}
+use Rattle.rx_live.specs.Taken.{Answered, IsFullByAge}
 use Rattle.rx_live.proofs.Laws.HeldStaysHeld.{leads_same, alike_held, renewed_held}
 use Rattle.rx_live.proofs.AcceptedBindsNames.{alike_same}
 use Rattle.rx_live.proofs.Acts.{carried_leads, refused_alike}
@@ -44,6 +44,13 @@ answered_command old new line c (Err e) order carried = carried
 answered_command old new line c (Ok None) order carried = carried
 answered_command old new line c (Ok (Some s)) order carried = answered_one old new line (string_bytes s) c order carried
 
+-- of one that finds the history full by its age
+pub full_command : (old new : Session) (line : List ℕ) (c : Command) (result : Result (Option (String Global)) AllocError) → IsOrderOf line (command c) →
+    IfOk result (λ a. IfNone a (FindsFull old c new)) → IfOk result (λ a. IfNone a (IsFullByAge old line new))
+full_command old new line c (Err e) order full = full
+full_command old new line c (Ok None) order full = record { asked = c; order = order; full = full }
+full_command old new line c (Ok (Some s)) order full = full
+
 -- of the others
 pub answered_listed : (old : Session) (line text : List ℕ) → IsOrderOf line list → Answered old line text old
 answered_listed old line text order = record { acts = []; answer = is_listed order; leads = no_act (λ n. refl) }
@@ -59,13 +66,13 @@ pub sent_first : (old new : Session) (line text : List ℕ) → Answered old lin
 sent_first old new line text answered sound =
     record { aged = old; ages = as_it_was; acts = answered.acts; answer = answered.answer; leads = answered.leads; sound = sound }
 
-pub sent_again : {old mid : Session} (aged new : Session) (line text : List ℕ) → IsAlike old mid → Renews mid aged → Answered aged line text new → IsSound new →
+pub sent_again : {old mid : Session} (aged new : Session) (line text : List ℕ) → IsFullByAge old line mid → Renews mid aged → Answered aged line text new → IsSound new →
     Sends old line text new
-sent_again {old} {mid} aged new line text alike renews answered sound =
-    let same : (n : Name) → has_resource aged n ≡ has_resource old n = renewed_held old mid aged alike renews in
+sent_again {old} {mid} aged new line text full renews answered sound =
+    let same : (n : Name) → has_resource aged n ≡ has_resource old n = renewed_held old mid aged full.full.alike renews in
     record {
       aged = aged;
-      ages = renewed mid alike renews;
+      ages = renewed mid full.asked full.order full.full renews;
       acts = answered.acts;
       answer = answered.answer;
       leads = leads_same (has_resource old) (has_resource aged) (has_resource new) answered.acts same answered.leads;

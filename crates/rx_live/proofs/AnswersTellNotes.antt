@@ -22,8 +22,8 @@ use Rattle.rx_live.specs.Session.{Session, hub_of}
 use Rattle.rx_live.specs.Carried.{Carries, Goes}
 use Rattle.rx_live.specs.Given.{IsAlike, Gives, BindsHub}
 use Rattle.rx_live.specs.Answers.{to_tell, Takes, none_taken, one_taken}
-use Rattle.rx_live.specs.Renewals.{Renews, IsAged, as_it_was, renewed}
-use Rattle.rx_live.specs.Lines.{Runs, IsCarried, IsAnswer, is_faulty, is_refused, is_carried, is_listed, is_dumped, GoesOn, no_line, one_line, IsFresh}
+use Rattle.rx_live.specs.Renewals.{Renews}
+use Rattle.rx_live.specs.Lines.{Runs, IsCarried, IsAnswer, is_faulty, is_refused, is_carried, is_listed, is_dumped, GoesOn, no_line, one_line, IsFresh, IsAged, as_it_was, renewed}
 use Rattle.rx_live.specs.Promise.{Act}
 use Rattle.rx_live.specs.Sessions.{told_by, written_of, written_by, told_in, written_in}
 use Rattle.rx_live.proofs.Acts.{refused_alike}
@@ -215,13 +215,13 @@ answer_balances old new line text acts behind (is_listed order) = idle old old r
 answer_balances old new line text acts behind (is_dumped order is) = idle old old refl
 
 -- a checkpoint before it
-aged_tells : (old aged : Session) → IsAged old aged → to_tell aged ≡ to_tell old
-aged_tells old aged as_it_was = refl
-aged_tells old aged (renewed mid alike renews) = renews.untold ∙ sym renews.told ∙ alike_tells old mid alike
+aged_tells : {line : List ℕ} (old aged : Session) → IsAged line old aged → to_tell aged ≡ to_tell old
+aged_tells {line} old aged as_it_was = refl
+aged_tells {line} old aged (renewed mid c order full renews) = renews.untold ∙ sym renews.told ∙ alike_tells old mid full.alike
 
-aged_behind : (old aged : Session) → IsAged old aged → IsBehind old → IsBehind aged
-aged_behind old aged as_it_was behind = behind
-aged_behind old aged (renewed mid alike renews) behind = let none = renews.book.given in omega (arith, none)
+aged_behind : {line : List ℕ} (old aged : Session) → IsAged line old aged → IsBehind old → IsBehind aged
+aged_behind {line} old aged as_it_was behind = behind
+aged_behind {line} old aged (renewed mid c order full renews) behind = let none = renews.book.given in omega (arith, none)
 
 -- many lines ------------------------------------------------------------------------------------------
 

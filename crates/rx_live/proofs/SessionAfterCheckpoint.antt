@@ -35,8 +35,10 @@ use Rattle.rx_line.specs.Names.{name_of, IsPaired}
 use Rattle.rx_live.specs.Session.{Session, IsSound, is_kept}
 use Rattle.rx_live.specs.Given.{AreOpenSame, IsAlike}
 use Rattle.rx_live.specs.Answers.{to_tell}
-use Rattle.rx_live.specs.Renewals.{AreOpen, Renews, renewing_causes, Renewing, IsFullByOpen}
-use Rattle.rx_live.specs.Taken.{is_full, may_renew, IsFullByAge}
+use Rattle.rx_live.specs.Renewals.{AreOpen, Renews, renewing_causes, Renewing, IsFullByOpen, may_renew}
+use Rattle.rx_scenario.specs.Scenario.{Command}
+use Rattle.rx_live.specs.Lines.{Runs, FindsFull}
+use Rattle.rx_live.specs.Taken.{is_full}
 
 -- what is kept ----------------------------------------------------------------------------------------
 
@@ -159,8 +161,14 @@ by_open s (Book Full) kept none =
 by_open s _ kept none = tt
 
 -- after a refusal, which changed nothing
-pub full_by_age : (old new : Session) (why : Cause) → IsAlike old new → (is_full why && may_renew new) ≡ true → IsFullByAge old new
-full_by_age old new why alike both = record {
+full_why : (why : Cause) → is_full why ≡ true → why ≡ Book Full
+full_why (Book Full) e = refl
+full_why _ e = absurd (cc)
+
+pub full_by_age : (old new : Session) (c : Command) (why : Cause) → Runs old c (Refused why) new → IsAlike old new →
+    (is_full why && may_renew new) ≡ true → FindsFull old c new
+full_by_age old new c why runs alike both = record {
+  runs = subst (λ (w : Cause). Runs old c (Refused w) new) (full_why why (and_parts (is_full why) (may_renew new) both).0) runs;
   alike = alike;
   aged = subst (λ (b : State). may_renew (record old { book = b }) ≡ true) alike.book (and_parts (is_full why) (may_renew new) both).1;
 }

@@ -1,5 +1,6 @@
 pub mod Session
 pub mod Carried
+pub mod Deeds
 pub mod Given
 pub mod Openings
 pub mod Promise

@@ -1,5 +1,5 @@
 -- What a line is answered, and what the last line says.
-use Rattle.std.specs.Prelude.{◌≡◌, ℕ, false, List, [], ◌∷◌, ◌++◌, codes, map, length, Some, None, is_some, option_map}
+use Rattle.std.specs.Prelude.{◌≡◌, ℕ, true, false, List, [], ◌∷◌, ◌++◌, codes, map, length, Some, None, is_some, option_map}
 use Rattle.std.specs.Option.{option_map_or}
 use Rattle.rx_scenario.specs.Scenario.{Name, Command, using, open_node, hold, apply, remove, lease, give_back, next, end}
 use Rattle.rx_scenario.specs.Scenario.{abort, decline, fail, dispose, make_hub, connect, disconnect, drain, checkpoint}
@@ -15,7 +15,9 @@ use Rattle.rx_live.specs.Session.{Session, node_of, resource_of, lease_of, hub_o
 use Rattle.rx_live.specs.Carried.{Goes}
 use Rattle.rx_live.specs.Given.{IsAlike, GivesNames, BindsResource, BindsLease, BindsHub, FreesLease, hold_asked}
 use Rattle.rx_live.specs.Openings.{open_asked, using_asked, connection_of, is_node, is_open_taken, is_using_taken, BindsNode, BindsUsing, BindsConnection}
-use Rattle.rx_live.specs.Renewals.{Renewing, IsFullByOpen, IsAged}
+use Rattle.rx_event.specs.declared.refusal.Refusal.TheVariants.{Full}
+use Rattle.rx_line.specs.declared.outcome.Cause.TheVariants.{Book}
+use Rattle.rx_live.specs.Renewals.{Renews, Renewing, IsFullByOpen, may_renew}
 use Rattle.rx_live.specs.Promise.{Act, handed_in, released, Leads}
 use Rattle.rx_live.specs.Dumps.{dump_text}
 use Rattle.rx_live.specs.Answers.{Told, told_text, TellsNotes, IsTold, ReleasesNames, IsReleased, is_late, late_text}
@@ -91,11 +93,28 @@ pub data IsAnswer (old : Session) (line text : List ℕ) : List Act → Session 
   is_listed : IsOrderOf line list → IsAnswer old line text [] old
   is_dumped : IsOrderOf line dump → text ≡ dump_text old → IsAnswer old line text [] old
 
+-- a command found the history full by its age: it is refused Full, and a checkpoint makes room
+pub record FindsFull (old : Session) (c : Command) (mid : Session) : Type 0 where
+  pub runs : Runs old c (Refused (Book Full)) mid
+  pub alike : IsAlike old mid
+  pub aged : may_renew old ≡ true
+
+-- before a line is taken: nothing, or a checkpoint, where its command found the history full by its age
+pub data IsAged (line : List ℕ) (old : Session) : Session → Type 0 where
+  as_it_was : IsAged line old old
+  renewed : {new : Session} (mid : Session) (c : Command) → IsOrderOf line (command c) → FindsFull old c mid → Renews mid new → IsAged line old new
+
+-- a line that was not taken: nothing but a checkpoint took place
+pub record IsPutOff (line : List ℕ) (old new : Session) : Type 0 where
+  pub aged : Session
+  pub ages : IsAged line old aged
+  pub alike : IsAlike aged new
+
 -- a line's answer, and the names that it hands in and releases; a line that finds the history full by its age is taken again behind
 -- a checkpoint
 pub record Sends (old : Session) (line text : List ℕ) (new : Session) : Type 0 where
   pub aged : Session
-  pub ages : IsAged old aged
+  pub ages : IsAged line old aged
   pub acts : List Act
   pub answer : IsAnswer aged line text acts new
   pub leads : Leads (has_resource old) acts (has_resource new)

@@ -1,5 +1,6 @@
 -- A checkpoint of a live book: the book makes one, and the names of closed nodes are forgotten.
-use Rattle.std.specs.Prelude.{◌≡◌, ◌<◌, ◌⊎◌, Bool, false, nat_lt, [], length, is_some}
+use Rattle.std.specs.Prelude.{◌≡◌, ◌<◌, ◌⊎◌, ◌&&◌, Bool, false, nat_lt, [], length, is_some}
+use Rattle.std.proofs.Math.Bool.{not}
 use Rattle.rx_event.specs.declared.refusal.Refusal.{Refusal}
 use Rattle.rx_event.specs.declared.refusal.Refusal.TheVariants.{Full, MailLeft, TooMany}
 use Rattle.rx_event.specs.Refusals.{IsRefusal}
@@ -45,18 +46,11 @@ Renewing old (Refused (Book why)) new = IsRefusal (renewing_causes old) why × (
 
 -- by its age ------------------------------------------------------------------------------------------
 
--- before a line is taken: nothing, or a checkpoint, where the line found the history full
-pub data IsAged (old : Session) : Session → Type 0 where
-  as_it_was : IsAged old old
-  renewed : {new : Session} (mid : Session) → IsAlike old mid → Renews mid new → IsAged old new
+-- a checkpoint makes room
+abbrev pub may_renew : Session → Bool
+may_renew s = not (nat_lt most_places (length s.book.history)) && nat_lt s.book.base.at_length (length s.book.history)
 
 -- a history is full by what is open alone: no event was written since its last checkpoint; or it is past the last place for one
 abbrev pub IsFullByOpen : Session → Cause → Type 0
 IsFullByOpen s (Book Full) = (length s.book.history ≡ s.book.base.at_length) ⊎ (most_places < length s.book.history)
 IsFullByOpen s _ = Unit {0}
-
--- a line that was not taken: nothing but a checkpoint took place
-pub record IsPutOff (old new : Session) : Type 0 where
-  pub aged : Session
-  pub ages : IsAged old aged
-  pub alike : IsAlike aged new

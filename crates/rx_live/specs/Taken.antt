@@ -1,27 +1,23 @@
 -- One attempt at a line. No public clause cites this module.
-use Rattle.std.specs.Prelude.{◌≡◌, ℕ, ◌&&◌, Bool, true, false, nat_lt, List, length}
-use Rattle.std.proofs.Math.Bool.{not}
+use Rattle.std.specs.Prelude.{ℕ, Bool, true, false, List}
 use Rattle.rx_event.specs.declared.refusal.Refusal.TheVariants.{Full}
-use Rattle.rx_event.specs.Causes.{most_places}
+use Rattle.rx_scenario.specs.Scenario.{Command}
+use Rattle.rx_line.specs.Orders.{command, IsOrderOf}
 use Rattle.rx_line.specs.declared.outcome.Cause.{Cause}
 use Rattle.rx_line.specs.declared.outcome.Cause.TheVariants.{Book}
 use Rattle.rx_live.specs.Session.{Session, has_resource}
-use Rattle.rx_live.specs.Given.{IsAlike}
 use Rattle.rx_live.specs.Promise.{Act, Leads}
-use Rattle.rx_live.specs.Lines.{IsAnswer}
+use Rattle.rx_live.specs.Lines.{IsAnswer, FindsFull}
 
 abbrev pub is_full : Cause → Bool
 is_full (Book Full) = true
 is_full _ = false
 
--- a checkpoint makes room
-abbrev pub may_renew : Session → Bool
-may_renew s = not (nat_lt most_places (length s.book.history)) && nat_lt s.book.base.at_length (length s.book.history)
-
--- a command found the history full, and a checkpoint makes room
-pub record IsFullByAge (old new : Session) : Type 0 where
-  pub alike : IsAlike old new
-  pub aged : may_renew old ≡ true
+-- the line's command found the history full by its age
+pub record IsFullByAge (old : Session) (line : List ℕ) (new : Session) : Type 0 where
+  pub asked : Command
+  pub order : IsOrderOf line (command asked)
+  pub full : FindsFull old asked new
 
 -- a line was answered
 pub record Answered (old : Session) (line text : List ℕ) (new : Session) : Type 0 where

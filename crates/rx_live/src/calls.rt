@@ -1,14 +1,17 @@
 //! Commands that give no name.
 
-ghost use Rattle.std.specs.Prelude.{◌≡◌, Err, option_map, IfOk, OnErr};
+ghost use Rattle.std.specs.Prelude.{◌≡◌, ◌≢◌, Err, option_map, IfOk, OnErr};
 ghost use Rattle.rx_event.specs.declared.refusal.Refusal.{Refusal};
-ghost use Rattle.rx_book.specs.Requests.{next_request, end_request, abort_request, decline_request, fail_request, dispose_request, apply_request, remove_request, disconnect_request};
+ghost use Rattle.rx_book.specs.Requests.{next_request, apply_request, remove_request, disconnect_request};
 ghost use Rattle.rx_live.specs.Session.{session_of, node_of, resource_of, hub_of, IsSound};
+ghost use Rattle.rx_line.specs.declared.outcome.Cause.TheVariants.{Book};
+ghost use Rattle.rx_line.specs.declared.outcome.Outcome.TheVariants.{Refused};
 ghost use Rattle.rx_live.specs.Carried.{outcome_of, Goes};
+ghost use Rattle.rx_live.specs.Deeds.{deed_request};
 
+use crate::deeds::{Deed, done_at};
 use crate::engine::Engine;
 use rx_book::Refusal;
-use rx_event::Terminal;
 use rx_line::{Cause, Outcome};
 use std::alloc::AllocError;
 
@@ -16,6 +19,7 @@ use std::alloc::AllocError;
 pub fn answered<T: Drop>(answer: Result<T, Refusal>) -> Result<Outcome, AllocError>
     ensures ok { IfOk result (λ o. o ≡ outcome_of answer) }
     ensures err { OnErr result (answer ≡ Err Refusal.NoMemory) }
+    ensures want { IfOk result (λ o. o ≢ Refused (Book Refusal.NoMemory)) }
 {
     match answer {
         Ok(_) => Ok(Outcome::Accepted),
@@ -30,6 +34,7 @@ pub fn next(engine: &mut Engine, node: &str, value: i64) -> Result<Outcome, Allo
     ensures ok { IfOk result (λ o. Goes (session_of engine.old)
         (option_map (λ k. next_request engine.old.book k value) (node_of (session_of engine.old) node.now)) o (session_of engine.new)) }
     ensures err { OnErr result (session_of engine.new ≡ session_of engine.old) }
+    ensures want { IfOk result (λ o. o ≢ Refused (Book Refusal.NoMemory)) }
 {
     let Some(leaf) = engine.node(node) else {
         return Ok(Outcome::Refused(Cause::NoName));
@@ -39,77 +44,18 @@ pub fn next(engine: &mut Engine, node: &str, value: i64) -> Result<Outcome, Allo
     answered(answer)
 }
 
-/// A leaf ends.
-pub fn end(engine: &mut Engine, node: &str, terminal: Terminal) -> Result<Outcome, AllocError>
+/// Does this at the node of this name.
+pub fn at_node(engine: &mut Engine, node: &str, deed: Deed) -> Result<Outcome, AllocError>
     requires { IsSound (session_of engine.old) }
     ensures ok { IfOk result (λ o. Goes (session_of engine.old)
-        (option_map (λ k. end_request engine.old.book k terminal) (node_of (session_of engine.old) node.now)) o (session_of engine.new)) }
+        (option_map (λ k. deed_request engine.old.book k deed) (node_of (session_of engine.old) node.now)) o (session_of engine.new)) }
     ensures err { OnErr result (session_of engine.new ≡ session_of engine.old) }
-{
-    let Some(leaf) = engine.node(node) else {
-        return Ok(Outcome::Refused(Cause::NoName));
-    };
-    let answer = engine.book.end(leaf, terminal);
-    engine.book.promise();
-    answered(answer)
-}
-
-/// A node that is no leaf ends with an error.
-pub fn abort(engine: &mut Engine, node: &str, code: u32) -> Result<Outcome, AllocError>
-    requires { IsSound (session_of engine.old) }
-    ensures ok { IfOk result (λ o. Goes (session_of engine.old)
-        (option_map (λ k. abort_request engine.old.book k code) (node_of (session_of engine.old) node.now)) o (session_of engine.new)) }
-    ensures err { OnErr result (session_of engine.new ≡ session_of engine.old) }
+    ensures want { IfOk result (λ o. o ≢ Refused (Book Refusal.NoMemory)) }
 {
     let Some(key) = engine.node(node) else {
         return Ok(Outcome::Refused(Cause::NoName));
     };
-    let answer = engine.book.abort(key, code);
-    engine.book.promise();
-    answered(answer)
-}
-
-/// A FlatMap or a Switch gives an item that was projected to it no inner observable.
-pub fn decline(engine: &mut Engine, node: &str) -> Result<Outcome, AllocError>
-    requires { IsSound (session_of engine.old) }
-    ensures ok { IfOk result (λ o. Goes (session_of engine.old)
-        (option_map (λ k. decline_request engine.old.book k) (node_of (session_of engine.old) node.now)) o (session_of engine.new)) }
-    ensures err { OnErr result (session_of engine.new ≡ session_of engine.old) }
-{
-    let Some(merging) = engine.node(node) else {
-        return Ok(Outcome::Refused(Cause::NoName));
-    };
-    let answer = engine.book.decline(merging);
-    engine.book.promise();
-    answered(answer)
-}
-
-/// A FlatMap or a Switch ends with an error in place of giving a projected item its inner observable.
-pub fn fail(engine: &mut Engine, node: &str, code: u32) -> Result<Outcome, AllocError>
-    requires { IsSound (session_of engine.old) }
-    ensures ok { IfOk result (λ o. Goes (session_of engine.old)
-        (option_map (λ k. fail_request engine.old.book k code) (node_of (session_of engine.old) node.now)) o (session_of engine.new)) }
-    ensures err { OnErr result (session_of engine.new ≡ session_of engine.old) }
-{
-    let Some(merging) = engine.node(node) else {
-        return Ok(Outcome::Refused(Cause::NoName));
-    };
-    let answer = engine.book.fail(merging, code);
-    engine.book.promise();
-    answered(answer)
-}
-
-/// A root is unsubscribed.
-pub fn dispose(engine: &mut Engine, node: &str) -> Result<Outcome, AllocError>
-    requires { IsSound (session_of engine.old) }
-    ensures ok { IfOk result (λ o. Goes (session_of engine.old)
-        (option_map (λ k. dispose_request engine.old.book k) (node_of (session_of engine.old) node.now)) o (session_of engine.new)) }
-    ensures err { OnErr result (session_of engine.new ≡ session_of engine.old) }
-{
-    let Some(root) = engine.node(node) else {
-        return Ok(Outcome::Refused(Cause::NoName));
-    };
-    let answer = engine.book.dispose(root);
+    let answer = done_at(&mut engine.book, key, deed);
     engine.book.promise();
     answered(answer)
 }
@@ -120,6 +66,7 @@ pub fn apply(engine: &mut Engine, res: &str, word: u64) -> Result<Outcome, Alloc
     ensures ok { IfOk result (λ o. Goes (session_of engine.old)
         (option_map (λ k. apply_request engine.old.book k) (resource_of (session_of engine.old) res.now)) o (session_of engine.new)) }
     ensures err { OnErr result (session_of engine.new ≡ session_of engine.old) }
+    ensures want { IfOk result (λ o. o ≢ Refused (Book Refusal.NoMemory)) }
 {
     let Some(key) = engine.resource(res) else {
         return Ok(Outcome::Refused(Cause::NoName));
@@ -135,6 +82,7 @@ pub fn remove(engine: &mut Engine, res: &str) -> Result<Outcome, AllocError>
     ensures ok { IfOk result (λ o. Goes (session_of engine.old)
         (option_map (λ k. remove_request engine.old.book k) (resource_of (session_of engine.old) res.now)) o (session_of engine.new)) }
     ensures err { OnErr result (session_of engine.new ≡ session_of engine.old) }
+    ensures want { IfOk result (λ o. o ≢ Refused (Book Refusal.NoMemory)) }
 {
     let Some(key) = engine.resource(res) else {
         return Ok(Outcome::Refused(Cause::NoName));
@@ -150,6 +98,7 @@ pub fn disconnect(engine: &mut Engine, hub: &str) -> Result<Outcome, AllocError>
     ensures ok { IfOk result (λ o. Goes (session_of engine.old)
         (option_map (λ k. disconnect_request k) (hub_of (session_of engine.old) hub.now)) o (session_of engine.new)) }
     ensures err { OnErr result (session_of engine.new ≡ session_of engine.old) }
+    ensures want { IfOk result (λ o. o ≢ Refused (Book Refusal.NoMemory)) }
 {
     let Some(number) = engine.hub_of(hub) else {
         return Ok(Outcome::Refused(Cause::NoName));

@@ -34,6 +34,7 @@
 
 mod calls;
 mod closing;
+mod deeds;
 mod dumping;
 mod engine;
 mod holding;

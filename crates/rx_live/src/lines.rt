@@ -3,8 +3,7 @@
 ghost use Rattle.std.specs.Prelude.{◌≡◌, ◌≤◌, string_bytes, IfOk, OnErr};
 ghost use Rattle.rx_live.specs.Session.{IsSound};
 ghost use Rattle.rx_live.specs.Live.{session};
-ghost use Rattle.rx_live.specs.Renewals.{IsPutOff};
-ghost use Rattle.rx_live.specs.Lines.{Sends, Ends, IsFresh};
+ghost use Rattle.rx_live.specs.Lines.{IsPutOff, Sends, Ends, IsFresh};
 
 use crate::engine::Engine;
 use crate::live::Live;
@@ -46,7 +45,7 @@ impl Live {
     /// may have been made.
     pub fn send(&mut self, line: &[u8]) -> Result<String, AllocError>
         ensures ok { IfOk result (λ s. Sends (session self.old) line.now (string_bytes s) (session self.new)) }
-        ensures err { OnErr result (IsPutOff (session self.old) (session self.new)) }
+        ensures err { OnErr result (IsPutOff line.now (session self.old) (session self.new)) }
     {
         self.engine.book.promise();
         send(&mut self.engine, line)

@@ -1,6 +1,8 @@
 //! Checkpoints: what the history leaves in place of its events, and which names are forgotten with them.
 
 ghost use Rattle.std.specs.Prelude.{◌≡◌, ℕ, None, Some, true, is_some, option_and_then, IfOk, OnErr};
+ghost use Rattle.rx_line.specs.declared.outcome.Cause.{Cause};
+ghost use Rattle.rx_line.specs.declared.outcome.Outcome.TheVariants.{Refused};
 ghost use Rattle.std.specs.Bool.{nat_eq};
 ghost use Rattle.std.specs.List.{list_any};
 ghost use Rattle.rx_scenario.specs.Scenario.{Name};
@@ -65,6 +67,8 @@ pub fn renew(engine: &mut Engine) -> Result<Outcome, AllocError>
     requires { IsSound (session_of engine.old) }
     ensures ok { IfOk result (λ o. Renewing (session_of engine.old) o (session_of engine.new)) }
     ensures err { OnErr result (session_of engine.new ≡ session_of engine.old) }
+    ensures past_err { OnErr result (engine.new.past ≡ engine.old.past) }
+    ensures past_refused { IfOk result (λ o. (why : Cause) → o ≡ Refused why → engine.new.past ≡ engine.old.past) }
     ensures sound { IsSound (session_of engine.new) }
 {
     if engine.untold.is_some() {

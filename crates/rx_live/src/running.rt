@@ -6,6 +6,7 @@ ghost use Rattle.rx_live.specs.Session.{session_of, IsSound};
 ghost use Rattle.rx_live.specs.Given.{IsUnchanged};
 ghost use Rattle.rx_live.specs.Lines.{Runs};
 
+use crate::deeds::Deed;
 use crate::engine::Engine;
 use crate::renewing::renew;
 use crate::{calls, holding, opening};
@@ -29,11 +30,15 @@ pub fn run(engine: &mut Engine, command: Command) -> Result<Outcome, AllocError>
         Command::Lease { res, name } => holding::lease(engine, res.as_str(), name),
         Command::Return { lease } => holding::give_back(engine, lease.as_str()),
         Command::Next { node, value } => calls::next(engine, node.as_str(), value),
-        Command::End { node, terminal } => calls::end(engine, node.as_str(), terminal),
-        Command::Abort { node, code } => calls::abort(engine, node.as_str(), code),
-        Command::Decline { node } => calls::decline(engine, node.as_str()),
-        Command::Fail { node, code } => calls::fail(engine, node.as_str(), code),
-        Command::Dispose { node } => calls::dispose(engine, node.as_str()),
+        Command::End { node, terminal } => calls::at_node(
+            engine,
+            node.as_str(),
+            Deed::End(terminal),
+        ),
+        Command::Abort { node, code } => calls::at_node(engine, node.as_str(), Deed::Abort(code)),
+        Command::Decline { node } => calls::at_node(engine, node.as_str(), Deed::Decline),
+        Command::Fail { node, code } => calls::at_node(engine, node.as_str(), Deed::Fail(code)),
+        Command::Dispose { node } => calls::at_node(engine, node.as_str(), Deed::Dispose),
         Command::Hub { name, mode } => holding::hub(engine, name, mode),
         Command::Connect { hub, name } => opening::connect(engine, hub.as_str(), name),
         Command::Disconnect { hub } => calls::disconnect(engine, hub.as_str()),

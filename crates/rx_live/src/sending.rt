@@ -6,9 +6,9 @@ ghost use Rattle.rx_line.specs.Pieces.{ok_text};
 ghost use Rattle.rx_live.specs.Session.{session_of, IsSound};
 ghost use Rattle.rx_live.specs.Given.{IsAlike, IsUnchanged};
 ghost use Rattle.rx_live.specs.Answers.{late_text};
-ghost use Rattle.rx_live.specs.Renewals.{Renews, IsPutOff};
-ghost use Rattle.rx_live.specs.Lines.{TellsAll, CarriesOut, Sends, Ends};
-ghost use Rattle.rx_live.specs.Taken.{may_renew, is_full, IsFullByAge, Answered};
+ghost use Rattle.rx_live.specs.Renewals.{Renews, may_renew};
+ghost use Rattle.rx_live.specs.Lines.{TellsAll, CarriesOut, FindsFull, IsPutOff, Sends, Ends};
+ghost use Rattle.rx_live.specs.Taken.{is_full, IsFullByAge, Answered};
 ghost use Rattle.rx_live.specs.Room.{HasRoom};
 
 use crate::closing::{close, push_names};
@@ -89,7 +89,7 @@ fn is_full_by_age(engine: &Engine, why: Cause) -> bool
 fn carry_out(engine: &mut Engine, command: Command) -> Result<Option<String>, AllocError>
     requires { IsSound (session_of engine.old) }
     ensures some { IfOk result (λ a. IfSome a (λ s. CarriesOut (session_of engine.old) (command_of command) (string_bytes s) (session_of engine.new))) }
-    ensures none { IfOk result (λ a. IfNone a (IsFullByAge (session_of engine.old) (session_of engine.new))) }
+    ensures none { IfOk result (λ a. IfNone a (FindsFull (session_of engine.old) (command_of command) (session_of engine.new))) }
     ensures err { OnErr result (IsUnchanged (session_of engine.old) (session_of engine.new)) }
     ensures sound { IsSound (session_of engine.new) }
 {
@@ -110,7 +110,7 @@ fn carry_out(engine: &mut Engine, command: Command) -> Result<Option<String>, Al
 fn answer(engine: &mut Engine, line: &[u8]) -> Result<Option<String>, AllocError>
     requires { IsSound (session_of engine.old) }
     ensures some { IfOk result (λ a. IfSome a (λ s. Answered (session_of engine.old) line.now (string_bytes s) (session_of engine.new))) }
-    ensures none { IfOk result (λ a. IfNone a (IsFullByAge (session_of engine.old) (session_of engine.new))) }
+    ensures none { IfOk result (λ a. IfNone a (IsFullByAge (session_of engine.old) line.now (session_of engine.new))) }
     ensures err { OnErr result (IsAlike (session_of engine.old) (session_of engine.new)) }
     ensures sound { IsSound (session_of engine.new) }
 {
@@ -141,7 +141,7 @@ fn make_room(engine: &mut Engine) -> Result<(), AllocError>
 pub fn send(engine: &mut Engine, line: &[u8]) -> Result<String, AllocError>
     requires { IsSound (session_of engine.old) }
     ensures ok { IfOk result (λ s. Sends (session_of engine.old) line.now (string_bytes s) (session_of engine.new)) }
-    ensures err { OnErr result (IsPutOff (session_of engine.old) (session_of engine.new)) }
+    ensures err { OnErr result (IsPutOff line.now (session_of engine.old) (session_of engine.new)) }
     ensures sound { IsSound (session_of engine.new) }
 {
     if let Some(text) = answer(engine, line)? {

@@ -107,11 +107,6 @@ pub record TellsFront (old new : Option (List ℕ)) : Type 0 where
   pub faults : ℕ
   pub tells : TellsFrontOf shares receipts released faults old new
 
--- what was lacked first
-abbrev pub first_lack : Option Lack → Lack → Option Lack
-first_lack (Some before) lack = Some before
-first_lack None lack = Some lack
-
 -- what the storm lacked; else the figures, and whether seats and receipts agree with the book
 abbrev pub outcome_of : Option Lack → Figures → Result Totals Mismatch → Result (Figures × Bool) Lack
 outcome_of (Some lack) figures verdict = Err lack

@@ -66,7 +66,7 @@ const MOST_EVENTS: u64 = 16_777_216;
 pub enum StormFault {
     /// Memory was refused.
     Memory,
-    /// A thread could not be started.
+    /// A thread could not be started, and no memory was refused.
     Thread,
     /// The writer failed, or took no byte.
     Write,
@@ -166,8 +166,8 @@ fn storm_named<
 /// what waits, between the calls of `gate`. Then the feeds are joined, the desk is shut, the workers
 /// are joined, and the seats and receipts are compared with the book. Ok tells whether they agree.
 ///
-/// Refused are `Thread` where a thread could not be started and `Memory` where memory was refused to
-/// the storm or to one of its calls: nothing is written then. With `Write` a front of the text may
+/// Refused are `Memory` where memory was refused to the storm or to one of its calls, and else `Thread`
+/// where a thread could not be started: nothing is written then. With `Write` a front of the text may
 /// have been. In each case all that was open is disposed of and all that waits is released.
 pub fn storm<R: Resource, G: Gate, T: Threads + Wait + Sync, W: Write>(
     rt: &T,

@@ -11,7 +11,7 @@ use rx_crew::{Mismatch, Totals};
 pub enum Lack {
     /// Memory was refused.
     Memory,
-    /// A thread could not be started.
+    /// A thread could not be started, and no memory was refused.
     Thread,
 }
 

@@ -1,10 +1,9 @@
 //! The threads of a storm.
 
-ghost use Rattle.std.specs.Prelude.{◌≡◌, ◌+◌, ◌++◌, ◌∷◌, [], min, vec_len, None, Some, IsErr, IsSome, IfSome};
+ghost use Rattle.std.specs.Prelude.{◌≡◌, ◌≢◌, ◌+◌, ◌++◌, ◌∷◌, [], min, vec_len, None, Some, IsErr, IsSome, IfSome, IfNone};
 ghost use Rattle.std.specs.Thread.{IsSend, IsSync};
 ghost use Rattle.rx_crew.specs.declared.working.Stop.{Stop};
 ghost use Rattle.rx_storm.specs.declared.outcome.Lack.{Lack};
-ghost use Rattle.rx_storm.specs.Storms.{first_lack};
 
 use crate::numbers::Numbers;
 use crate::outcome::Lack;
@@ -30,7 +29,7 @@ pub struct Gathered<I: Ledger, A: Ledger, K: Ledger> {
     pub released: u64,
     /// How many of those releases answered a fault.
     pub faults: u64,
-    /// What kept the storm from its end, if something did.
+    /// What kept the storm from its end, if something did: a thread only where no memory was refused.
     pub fault: Option<Lack>,
 }
 
@@ -46,47 +45,52 @@ impl<I: Ledger, A: Ledger, K: Ledger> Gathered<I, A, K> {
         }
     }
 
-    /// Notes what kept the storm from its end, where nothing did before.
-    fn blame(&mut self, fault: Lack)
-        ensures { self.new ≡ record self.old { fault = first_lack self.old.fault fault } }
+    /// Notes that memory was refused, also where a thread could not be started before.
+    fn lack_memory(&mut self)
+        ensures { self.new ≡ record self.old { fault = Some Lack.Memory } }
     {
-        if self.fault.is_none() {
-            self.fault = Some(fault);
-        }
+        self.fault = Some(Lack::Memory);
     }
 
     /// Keeps a seat, or notes that there was no memory for it.
     fn keep(&mut self, seat: Seat<I, A, K>)
         ensures kept { self.new.fault ≡ None → self.new.seats.items ≡ self.old.seats.items ++ (seat ∷ []) }
-        ensures before { IfSome self.old.fault (λ lack. self.new.fault ≡ Some lack) }
+        ensures lacked { IsSome self.old.fault → IsSome self.new.fault }
+        ensures memory { self.old.fault ≡ Some Lack.Memory → self.new.fault ≡ Some Lack.Memory }
+        ensures thread { self.new.fault ≡ Some Lack.Thread → self.old.fault ≡ Some Lack.Thread }
         ensures receipts { self.new.receipts ≡ self.old.receipts }
         ensures released { self.new.released ≡ self.old.released }
         ensures faults { self.new.faults ≡ self.old.faults }
     {
         if self.seats.push(seat).is_err() {
-            self.blame(Lack::Memory);
+            self.lack_memory();
         }
     }
 
     /// Adds what a feed did; None where it could not open its nodes. Where nothing is lacked after it, the
-    /// feed came to its end, and its receipts and its seat are kept.
+    /// feed came to its end, and its receipts and its seat are kept. One that was refused lacks memory, whatever
+    /// was lacked before.
     fn add_fed(&mut self, fed: Option<Fed<I, A, K>>)
         ensures fed { self.new.fault ≡ None → IsSome fed }
         ensures done { IfSome fed (λ did. self.new.fault ≡ None → did.stop ≡ Stop.Done) }
+        ensures unopened { IfNone fed (self.new.fault ≡ Some Lack.Memory) }
+        ensures stopped { IfSome fed (λ did. did.stop ≢ Stop.Done → self.new.fault ≡ Some Lack.Memory) }
         ensures receipts { IfSome fed (λ did. self.new.fault ≡ None
             → self.new.receipts.items ≡ self.old.receipts.items ++ did.receipts.items) }
         ensures seats { IfSome fed (λ did. self.new.fault ≡ None
             → self.new.seats.items ≡ self.old.seats.items ++ (did.seat ∷ [])) }
-        ensures before { IfSome self.old.fault (λ lack. self.new.fault ≡ Some lack) }
+        ensures lacked { IsSome self.old.fault → IsSome self.new.fault }
+        ensures memory { self.old.fault ≡ Some Lack.Memory → self.new.fault ≡ Some Lack.Memory }
+        ensures thread { self.new.fault ≡ Some Lack.Thread → self.old.fault ≡ Some Lack.Thread }
         ensures released { self.new.released ≡ self.old.released }
         ensures faults { self.new.faults ≡ self.old.faults }
     {
         let Some(fed) = fed else {
-            self.blame(Lack::Memory);
+            self.lack_memory();
             return;
         };
         if fed.stop != Stop::Done || self.receipts.extend_from_slice(&fed.receipts).is_err() {
-            self.blame(Lack::Memory);
+            self.lack_memory();
         }
         self.keep(fed.seat);
     }
@@ -96,7 +100,9 @@ impl<I: Ledger, A: Ledger, K: Ledger> Gathered<I, A, K> {
         ensures released { self.new.released ≡ min (self.old.released + worked.released) 18446744073709551615 }
         ensures faults { self.new.faults ≡ min (self.old.faults + worked.faults) 18446744073709551615 }
         ensures seats { self.new.fault ≡ None → self.new.seats.items ≡ self.old.seats.items ++ (worked.seat ∷ []) }
-        ensures before { IfSome self.old.fault (λ lack. self.new.fault ≡ Some lack) }
+        ensures lacked { IsSome self.old.fault → IsSome self.new.fault }
+        ensures memory { self.old.fault ≡ Some Lack.Memory → self.new.fault ≡ Some Lack.Memory }
+        ensures thread { self.new.fault ≡ Some Lack.Thread → self.old.fault ≡ Some Lack.Thread }
         ensures receipts { self.new.receipts ≡ self.old.receipts }
     {
         self.released = self.released.saturating_add(worked.released);

@@ -1,46 +1,94 @@
 //! The program `rxexplain`: what is wrong with the input on standard input, which `rxbook` refuses.
+//!
+//! Its exit status is 0 where there is nothing to say, 3 where there is, 4 where memory was refused, and 1
+//! with any other fault.
 #![tactic(auto)]
 
-use rx_device::{ScriptError, Watched, read_all};
+ghost use Rattle.std.specs.Prelude.{◌≡◌, ◌≢◌, false, IfOk, IfErr, IsErrOf};
+ghost use Rattle.rx_device.specs.declared.fault.ScriptError.{ScriptError};
+ghost use Rattle.rx_device.specs.Device.{device_of, HasReadFault, HasWriteFault, IsFresh};
+ghost use Rattle.rxexplain.specs.Explained.{IsOn, Says, status_of};
+
+use rx_device::{ScriptError, Watched, read_all, write_text};
 use rx_explain::{explain, too_long};
-use std::alloc::{AllocError, Global};
-use std::io::Read;
+use std::alloc::Global;
+use std::io;
+use std::io::{Read, Write};
 use std::process::ExitCode;
 
 // What there is to say of the input that the reader has left.
-fn told_of<R: Read>(alloc: Global, reader: &mut R) -> Result<Option<String>, ScriptError> {
-    let told = match read_all(alloc, &mut Watched::new(reader)) {
-        Ok(input) => explain(alloc, input.as_slice()),
-        Err(ScriptError::Syntax) => long_told(alloc),
-        Err(error) => return Err(error),
-    };
-    match told {
-        Ok(told) => Ok(told),
-        Err(_) => Err(ScriptError::Memory),
+fn told_of<R: Read>(
+    alloc: Global,
+    reader: &mut Watched<'_, R>,
+) -> Result<Option<String>, ScriptError>
+    requires { IsFresh reader.old }
+    ensures ok { IfOk result (IsOn (R.remaining (device_of reader.old)) (R.remaining (device_of reader.new))) }
+    ensures read { IsErrOf result ScriptError.Read → HasReadFault reader.new }
+    ensures never { IfErr result (λ e. (e ≢ ScriptError.Write) × (e ≢ ScriptError.Syntax) × (e ≢ ScriptError.Shape)) }
+{
+    match read_all(alloc, reader) {
+        Ok(input) => match explain(alloc, input.as_slice()) {
+            Ok(told) => Ok(told),
+            Err(_) => Err(ScriptError::Memory),
+        },
+        Err(ScriptError::Syntax) => match too_long(alloc) {
+            Ok(told) => Ok(Some(told)),
+            Err(_) => Err(ScriptError::Memory),
+        },
+        Err(error) => Err(error),
     }
 }
 
-// What there is to say of an input that is too long.
-fn long_told(alloc: Global) -> Result<Option<String>, AllocError> {
-    Ok(Some(too_long(alloc)?))
+// Writes what there is to say of the input that the reader has left, as a line, and answers whether there
+// is something. With any fault but one of the writer nothing is written.
+fn serve<R: Read, W: Write>(
+    alloc: Global,
+    reader: &mut Watched<'_, R>,
+    writer: &mut Watched<'_, W>,
+) -> Result<bool, ScriptError>
+    requires { IsFresh reader.old }
+    ensures ok { IfOk result (λ said. Says said
+        (R.remaining (device_of reader.old)) (R.remaining (device_of reader.new))
+        (W.contents (device_of writer.old)) (W.contents (device_of writer.new))) }
+    ensures unsaid { IfOk result (λ said. said ≡ false → writer.new ≡ writer.old) }
+    ensures silent { IfErr result (λ e. e ≢ ScriptError.Write → writer.new ≡ writer.old) }
+    ensures read { IsErrOf result ScriptError.Read → HasReadFault reader.new }
+    ensures write { IsErrOf result ScriptError.Write → HasWriteFault writer.new }
+    ensures never { IfErr result (λ e. (e ≢ ScriptError.Syntax) × (e ≢ ScriptError.Shape)) }
+{
+    let Some(told) = told_of(alloc, reader)? else {
+        return Ok(false);
+    };
+    let Ok(line) = format!(in alloc; "{told}\n") else {
+        return Err(ScriptError::Memory);
+    };
+    match write_text(writer, line.as_str().as_bytes()) {
+        Ok(()) => Ok(true),
+        Err(_) => Err(ScriptError::Write),
+    }
 }
 
-// The exit status of a fault, as `rxbook` has it.
-fn status_of(error: &ScriptError) -> u8 {
-    match error {
-        ScriptError::Memory => 4,
-        _ => 1,
+// The exit status of what was done.
+fn status_of(outcome: &Result<bool, ScriptError>) -> u8
+    ensures { result ≡ status_of outcome.now }
+{
+    match outcome {
+        Ok(said) => { if *said { 3 } else { 0 } }
+        Err(ScriptError::Memory) => 4,
+        Err(_) => 1,
     }
 }
 
 fn main(rt: HostRuntime) -> ExitCode {
-    let alloc = rt.alloc();
-    match told_of(alloc, &mut rt.reader()) {
-        Ok(None) => ExitCode::from(0),
-        Ok(Some(told)) => ExitCode::from(if println!(rt; "{told}").is_ok() { 3 } else { 1 }),
-        Err(error) => {
-            let _ = eprintln!(rt; "rxexplain: {error}");
-            ExitCode::from(status_of(&error))
-        }
+    let mut input = rt.reader();
+    let mut output = io::writer(&rt);
+    let outcome = serve(
+        rt.alloc(),
+        &mut Watched::new(&mut input),
+        &mut Watched::new(&mut output),
+    );
+    if let Err(error) = &outcome {
+        let _ = eprintln!(rt; "rxexplain: {error}");
     }
+    ExitCode::from(status_of(&outcome))
 }

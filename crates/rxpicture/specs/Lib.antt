@@ -1,1 +1,2 @@
 pub mod Pictured
+pub mod Status

@@ -1,14 +1,21 @@
 //! The program `rxpicture`: the picture of a history, whose dump is on standard input, as an SVG
 //! document.
+//!
+//! Its exit status is 0 where the picture is written, 1 where a stream failed, 3 where the input is no dump,
+//! and 4 where memory was refused.
 #![tactic(auto)]
 
-ghost use Rattle.std.specs.Prelude.{IfOk, string_bytes};
+ghost use Rattle.std.specs.Prelude.{◌≡◌, ◌≢◌, ◌⊎◌, None, IfOk, IfErr, OnOk, IsErrOf, string_bytes};
+ghost use Rattle.std.specs.Io.KnownBytes.{Appends};
 ghost use Rattle.serde_json.specs.Data.{Data};
 ghost use Rattle.serde_json.specs.View.{view};
-ghost use Rattle.rx_device.specs.Device.{device_of, IsFresh};
-ghost use Rattle.rx_device.specs.Input.{GivesJson};
+ghost use Rattle.rx_device.specs.declared.fault.ScriptError.{ScriptError};
+ghost use Rattle.rx_device.specs.Device.{device_of, HasReadFault, HasWriteFault, IsFresh, AppendsPrefix};
+ghost use Rattle.rx_device.specs.Input.{GivesJson, GivesTooMuch, GivesNoJson};
+ghost use Rattle.rx_dump.specs.Checking.{GivesNoDump};
 ghost use Rattle.rx_dump.specs.History.{history_of};
-ghost use Rattle.rxpicture.specs.Pictured.{IsPictureOn};
+ghost use Rattle.rxpicture.specs.Pictured.{IsPictureOn, Draws};
+ghost use Rattle.rxpicture.specs.Status.{status_of};
 
 use rx_device::{ScriptError, ShapeError, Watched, read_value, write_text};
 use rx_dump::history_of;
@@ -21,7 +28,9 @@ use std::process::ExitCode;
 
 // The picture of the history of which the value is a dump.
 fn picture_on(alloc: Global, value: &Value) -> Result<String, ScriptError>
-    ensures { IfOk result (λ s. IsPictureOn (view value.now) (string_bytes s)) }
+    ensures ok { IfOk result (λ s. IsPictureOn (view value.now) (string_bytes s)) }
+    ensures shape { IsErrOf result ScriptError.Shape → history_of (view value.now) ≡ None }
+    ensures never { IfErr result (λ e. (e ≢ ScriptError.Read) × (e ≢ ScriptError.Write) × (e ≢ ScriptError.Syntax)) }
 {
     let history = match history_of(alloc, value) {
         Ok(history) => history,
@@ -34,47 +43,58 @@ fn picture_on(alloc: Global, value: &Value) -> Result<String, ScriptError>
     }
 }
 
-// The picture of the history whose dump the reader has left.
-fn picture_read<R: Read>(alloc: Global, reader: &mut Watched<'_, R>) -> Result<String, ScriptError>
-    requires { IsFresh reader.old }
-    ensures { IfOk result (λ s. (d : Data)
-        × GivesJson (R.remaining (device_of reader.old)) (R.remaining (device_of reader.new)) d
-        × IsPictureOn d (string_bytes s)) }
-{
-    let value = read_value(alloc, reader)?;
-    picture_on(alloc, &value)
-}
-
 // Writes the picture of the history whose dump the reader has left. With any fault but one of the
 // writer nothing is written.
 fn draw<R: Read, W: Write>(
     alloc: Global,
-    reader: &mut R,
-    writer: &mut W,
-) -> Result<(), ScriptError> {
-    let text = picture_read(alloc, &mut Watched::new(reader))?;
-    match write_text(&mut Watched::new(writer), text.as_bytes()) {
+    reader: &mut Watched<'_, R>,
+    writer: &mut Watched<'_, W>,
+) -> Result<(), ScriptError>
+    requires { IsFresh reader.old }
+    ensures ok { OnOk result (Draws (R.remaining (device_of reader.old)) (R.remaining (device_of reader.new))
+        (Appends (W.contents (device_of writer.old)) (W.contents (device_of writer.new)))) }
+    ensures front { IsErrOf result ScriptError.Write
+        → Draws (R.remaining (device_of reader.old)) (R.remaining (device_of reader.new))
+        (AppendsPrefix (W.contents (device_of writer.old)) (W.contents (device_of writer.new))) }
+    ensures silent { IfErr result (λ e. e ≢ ScriptError.Write → writer.new ≡ writer.old) }
+    ensures read { IsErrOf result ScriptError.Read → HasReadFault reader.new }
+    ensures write { IsErrOf result ScriptError.Write → HasWriteFault writer.new }
+    ensures syntax { IsErrOf result ScriptError.Syntax
+        → GivesTooMuch (R.remaining (device_of reader.old)) (R.remaining (device_of reader.new))
+        ⊎ GivesNoJson (R.remaining (device_of reader.old)) (R.remaining (device_of reader.new)) }
+    ensures shape { IsErrOf result ScriptError.Shape
+        → GivesNoDump (R.remaining (device_of reader.old)) (R.remaining (device_of reader.new)) }
+{
+    let value = read_value(alloc, reader)?;
+    let text = picture_on(alloc, &value)?;
+    match write_text(writer, text.as_str().as_bytes()) {
         Ok(()) => Ok(()),
         Err(_) => Err(ScriptError::Write),
     }
 }
 
-// The exit status of a fault, as `rxbook` has it.
-fn status_of(error: &ScriptError) -> u8 {
-    match error {
-        ScriptError::Read | ScriptError::Write => 1,
-        ScriptError::Syntax | ScriptError::Shape => 3,
-        ScriptError::Memory => 4,
+// The exit status of what was done, as `rxbook` has it.
+fn status_of(outcome: &Result<(), ScriptError>) -> u8
+    ensures { result ≡ status_of outcome.now }
+{
+    match outcome {
+        Ok(()) => 0,
+        Err(ScriptError::Read | ScriptError::Write) => 1,
+        Err(ScriptError::Syntax | ScriptError::Shape) => 3,
+        Err(ScriptError::Memory) => 4,
     }
 }
 
 fn main(rt: HostRuntime) -> ExitCode {
+    let mut input = rt.reader();
     let mut output = io::writer(&rt);
-    match draw(rt.alloc(), &mut rt.reader(), &mut output) {
-        Ok(()) => ExitCode::from(0),
-        Err(error) => {
-            let _ = eprintln!(rt; "rxpicture: {error}");
-            ExitCode::from(status_of(&error))
-        }
+    let outcome = draw(
+        rt.alloc(),
+        &mut Watched::new(&mut input),
+        &mut Watched::new(&mut output),
+    );
+    if let Err(error) = &outcome {
+        let _ = eprintln!(rt; "rxpicture: {error}");
     }
+    ExitCode::from(status_of(&outcome))
 }

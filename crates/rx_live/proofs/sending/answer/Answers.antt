@@ -4,7 +4,7 @@ use Rattle.rx_line.specs.declared.order.Order.{Order as OrderInCode}
 use Rattle.rx_line.specs.declared.order.Unread.{Unread}
 use Rattle.rx_line.specs.Orders.{command, list, dump, order_of, IsOrderOf, IsFaulty, IsUnread}
 use Rattle.rx_live.specs.Session.{session_of}
-use Rattle.rx_live.proofs.AnswerToEachLine.{answered_command, answered_listed, answered_dumped, answered_faulty}
+use Rattle.rx_live.proofs.AnswerToEachLine.{answered_command, full_command, answered_listed, answered_dumped, answered_faulty}
 use Rattle.rx_live.proofs.sending.answer.Goals as goal
 
 pub returns-in-Ok-Command-clause-some : goal.returns-in-Ok-Command-clause-some
@@ -33,3 +33,11 @@ returns-in_ok-faulty_text-in-Err-Faulty-clause-some c =
     let faulty : IsFaulty line = subst (λ (u : Unread). IsUnread (IsFaulty line) u) c.in-Err-Faulty.field-0-is c.in-Err-Faulty.ensures.err in
     answered_faulty (session_of c.args.engine.now) line (string_bytes c.in-Err-Faulty.told) (string_bytes c.in_ok-faulty_text-in-Err-Faulty.field-0) faulty
     c.in_ok-faulty_text-in-Err-Faulty.ensures
+
+pub returns-in-Ok-Command-clause-none : goal.returns-in-Ok-Command-clause-none
+returns-in-Ok-Command-clause-none c =
+    let line = c.args.line.now in
+    let order : IsOrderOf line (command (command_of c.in-Ok-Command.command)) =
+    subst (λ (o : OrderInCode). IsOrderOf line (order_of o)) c.in-Ok-Command.field-0-is c.in-Ok-Command.ensures.ok in
+    full_command (session_of c.args.engine.now) (session_of c.carry_out.new.engine) line (command_of c.in-Ok-Command.command) c.carry_out.result order
+    c.carry_out.ensures.none

@@ -16,7 +16,7 @@ returns-then-is_full_by_age-clause-none c =
     let new = session_of c.run.new.engine in
     let runs : Runs old (command_of c.args.command) (Refused c.in-Refused.why) new =
     subst (λ (o : Outcome). Runs old (command_of c.args.command) o new) c.in-Refused.is c.in_ok-run.ensures.ok in
-    full_by_age old new c.in-Refused.why (refused_alike old new (command_of c.args.command) c.in-Refused.why runs)
+    full_by_age old new (command_of c.args.command) c.in-Refused.why runs (refused_alike old new (command_of c.args.command) c.in-Refused.why runs)
     (sym c.is_full_by_age.ensures ∙ c.if-is_full_by_age.true)
 
 pub returns-in_err-refused_text-in-Refused-clause-err : goal.returns-in_err-refused_text-in-Refused-clause-err
