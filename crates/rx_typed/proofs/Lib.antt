@@ -1,0 +1,3 @@
+mod EachIsTaken
+mod HandedBackOnce
+mod NotesToldOnce

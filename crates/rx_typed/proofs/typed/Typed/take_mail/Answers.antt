@@ -1,0 +1,6 @@
+use Rattle.std.proofs.Common.{refl, sym}
+use Rattle.rx_typed.specs.Calls.{tells}
+use Rattle.rx_typed.proofs.typed.Typed.take_mail.Goals as goal
+
+pub returns-in-Some : goal.returns-in-Some
+returns-in-Some c = tells (sym c.in-Some.ensures.value) c.in-Some.ensures.given c.mail_of.ensures refl
