@@ -1,6 +1,6 @@
 //! Histories of roots, mirroring nodes and resources.
 
-use crate::{next_number, root, source};
+use crate::shapes::{next_number, root, source};
 use rx_event::{Event, Kind};
 use rx_note::Terminal;
 use std::alloc::{AllocError, Global};

@@ -5,8 +5,6 @@
 //! operator has anything left to do at its end.
 //!
 //! Proved: that no number wraps. That a history is lawful, and what it leaves open, the benchmark compares.
-#![tactic(auto)]
-
 mod hubs;
 mod merging;
 mod plain;

@@ -1,6 +1,6 @@
 //! Histories of FlatMap, Switch and TakeUntil.
 
-use crate::{next_number, root, source};
+use crate::shapes::{next_number, root, source};
 use rx_event::{Event, Kind, Place};
 use rx_note::Terminal;
 use std::alloc::{AllocError, Global};
