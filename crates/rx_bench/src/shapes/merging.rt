@@ -3,58 +3,57 @@
 use crate::shapes::{next_number, root, source};
 use rx_event::{Event, Kind, Place};
 use rx_note::Terminal;
-use std::alloc::{AllocError, Global};
+use std::alloc::AllocError;
 
-/// An item that is projected, and the opening of its inner.
-fn push_projected(events: &mut Vec<Event>) -> Result<(), AllocError> {
-    events.push(Event::Item(1, 1))?;
-    events.push(Event::Open {
+/// A merging root of this kind, its source, and so many items that are projected, each with the opening of its
+/// inner.
+fn project(events: &mut Vec<Event>, kind: Kind, count: u64) -> Result<(), AllocError> {
+    let inner = Event::Open {
         place: Place::Inner(0),
         kind: Kind::Leaf,
-    })?;
+    };
+    events.extend_from_slice(&[root(kind), source(0, Kind::Leaf)])?;
+    for _projected in 0..count {
+        events.extend_from_slice(&[Event::Item(1, 1), inner])?;
+    }
     Ok(())
 }
 
 /// A FlatMap with so many inners, which end after its source, and the FlatMap with the last of them.
-pub fn flat(alloc: Global, count: u64) -> Result<Vec<Event>, AllocError> {
-    let mut events = vec![in alloc; root(Kind::Flat), source(0, Kind::Leaf)]?;
-    let mut inners = Vec::new(alloc);
-    for _projected in 0..count {
-        push_projected(&mut events)?;
-        inners.push(next_number(&events).saturating_sub(1))?;
-    }
+pub fn flat(events: &mut Vec<Event>, count: u64) -> Result<(), AllocError> {
+    project(events, Kind::Flat, count)?;
+    let end = next_number(events);
     events.push(Event::End(1, Terminal::Completed))?;
-    for inner in inners.as_slice() {
-        events.push(Event::End(*inner, Terminal::Completed))?;
+    // The items have the even numbers from 2 on, and their inners the odd ones.
+    for number in 2..end {
+        if number % 2 == 1 {
+            events.push(Event::End(number, Terminal::Completed))?;
+        }
     }
     events.push(Event::End(0, Terminal::Completed))?;
-    Ok(events)
+    Ok(())
 }
 
 /// A Switch with so many inners, each in the place of the one before, and the end of its source.
-pub fn switch(alloc: Global, count: u64) -> Result<Vec<Event>, AllocError> {
-    let mut events = vec![in alloc; root(Kind::Switch), source(0, Kind::Leaf)]?;
-    for _projected in 0..count {
-        push_projected(&mut events)?;
-    }
+pub fn switch(events: &mut Vec<Event>, count: u64) -> Result<(), AllocError> {
+    project(events, Kind::Switch, count)?;
     events.push(Event::End(1, Terminal::Completed))?;
-    Ok(events)
+    Ok(())
 }
 
 /// So many TakeUntils, each of which its notifier fires before the next is opened.
-pub fn until(alloc: Global, count: u64) -> Result<Vec<Event>, AllocError> {
-    let mut events = Vec::new(alloc);
+pub fn until(events: &mut Vec<Event>, count: u64) -> Result<(), AllocError> {
     for _turn in 0..count {
-        let node = next_number(&events);
-        events.push(root(Kind::Until))?;
-        events.push(source(node, Kind::Leaf))?;
-        let notifier = next_number(&events);
-        events.push(Event::Open {
-            place: Place::Notifier(node),
-            kind: Kind::Leaf,
-        })?;
-        events.push(Event::Item(notifier, 1))?;
-        events.push(Event::End(node, Terminal::Completed))?;
+        let node = next_number(events);
+        events.extend_from_slice(&[root(Kind::Until), source(node, Kind::Leaf)])?;
+        let notifier = next_number(events);
+        let place = Place::Notifier(node);
+        let kind = Kind::Leaf;
+        events.extend_from_slice(&[
+            Event::Open { place, kind },
+            Event::Item(notifier, 1),
+            Event::End(node, Terminal::Completed),
+        ])?;
     }
-    Ok(events)
+    Ok(())
 }
