@@ -4,10 +4,10 @@ ghost use Rattle.std.specs.Prelude.{◌≡◌, IfOk};
 
 use crate::case::Case;
 use crate::done::{Done, Halt};
+use crate::shapes::history;
 use crate::words::Request;
 use rx_audit::{Verdict, audit};
 use rx_event::Event;
-use rx_shapes::history;
 use std::alloc::{AllocError, Global};
 
 /// The history that is audited where this is asked for; it has no events but for an audit.

@@ -3,7 +3,7 @@
 ghost use Rattle.std.specs.Prelude.{◌≤◌};
 ghost use Rattle.rx_bench.specs.Cases.{most_of};
 
-use rx_shapes::{SHAPES, Shape};
+use crate::shapes::{SHAPES, Shape};
 
 /// What can be measured. The operations of each are in the crate's head.
 #[derive(Clone, Copy)]

@@ -4,9 +4,9 @@ ghost use Rattle.std.specs.Prelude.{◌≡◌, IfOk};
 
 use crate::case::Case;
 use crate::done::{Done, Halt};
+use crate::shapes::history;
 use crate::words::Request;
 use rx_dump::push_dump;
-use rx_shapes::history;
 use serde_json::Value;
 use std::alloc::{AllocError, Global};
 

@@ -89,6 +89,7 @@ mod program;
 mod reading;
 mod samples;
 mod scenario;
+mod shapes;
 mod share;
 mod sorted;
 mod storm;

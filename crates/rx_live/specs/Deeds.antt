@@ -1,4 +1,4 @@
--- What a command does at a node that takes no memory, as a request of the book.
+-- What a command does at a node that takes no memory, as a request of the book. No public clause cites this module.
 use Rattle.rx_book.specs.State.{State}
 use Rattle.rx_book.specs.declared.key.Key.{Key}
 use Rattle.rx_book.specs.Requests.{Request, end_request, abort_request, decline_request, fail_request, dispose_request}

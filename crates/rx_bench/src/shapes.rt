@@ -5,8 +5,6 @@
 //! operator has anything left to do at its end.
 //!
 //! Proved: that no number wraps. That a history is lawful, and what it leaves open, the benchmark compares.
-#![tactic(auto)]
-
 mod hubs;
 mod merging;
 mod plain;
@@ -84,26 +82,27 @@ fn next_number(events: &Vec<Event>) -> u64 {
 }
 
 /// The shape's own events, in as many turns as there is room for in so many events.
-fn turns(alloc: Global, shape: Shape, size: u64) -> Result<Vec<Event>, AllocError> {
+fn turns(events: &mut Vec<Event>, shape: Shape, size: u64) -> Result<(), AllocError> {
     match shape {
-        Shape::Roots => plain::roots(alloc, size / 2),
-        Shape::Items => plain::items(alloc, size.saturating_sub(1)),
-        Shape::Cycle => plain::cycle(alloc, size / 3),
-        Shape::Chain => plain::chain(alloc, size / 2),
-        Shape::Resources => plain::resources(alloc, size / 3),
-        Shape::Flat => merging::flat(alloc, size.saturating_sub(4) / 3),
-        Shape::Switch => merging::switch(alloc, size.saturating_sub(3) / 2),
-        Shape::Until => merging::until(alloc, size / 5),
-        Shape::Subscribers => hubs::subscribers(alloc, size.saturating_sub(5) / 2),
-        Shape::HubEnd => hubs::hub_end(alloc, size.saturating_sub(5) / 2),
-        Shape::Hubs => hubs::hubs(alloc, size),
-        Shape::HubItems => hubs::hub_items(alloc, size.saturating_sub(13)),
+        Shape::Roots => plain::roots(events, size / 2),
+        Shape::Items => plain::items(events, size.saturating_sub(1)),
+        Shape::Cycle => plain::cycle(events, size / 3),
+        Shape::Chain => plain::chain(events, size / 2),
+        Shape::Resources => plain::resources(events, size / 3),
+        Shape::Flat => merging::flat(events, size.saturating_sub(4) / 3),
+        Shape::Switch => merging::switch(events, size.saturating_sub(3) / 2),
+        Shape::Until => merging::until(events, size / 5),
+        Shape::Subscribers => hubs::subscribers(events, size.saturating_sub(5) / 2),
+        Shape::HubEnd => hubs::hub_end(events, size.saturating_sub(5) / 2),
+        Shape::Hubs => hubs::hubs(events, size),
+        Shape::HubItems => hubs::hub_items(events, size.saturating_sub(13)),
     }
 }
 
 /// A history of this shape and of so many events, or of a few more below [`LEAST`].
 pub fn history(alloc: Global, shape: Shape, size: u64) -> Result<Vec<Event>, AllocError> {
-    let mut events = turns(alloc, shape, size)?;
+    let mut events = Vec::new(alloc);
+    turns(&mut events, shape, size)?;
     for _filled in next_number(&events)..size {
         events.push(root(Kind::Leaf))?;
     }
