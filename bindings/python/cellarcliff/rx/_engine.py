@@ -21,6 +21,7 @@ _first_of = itemgetter(0)
 #: When what a node held is done with: this package's own while the lock is held, before anybody is told, or behind what is
 #: projected; the user's in the order of the queue.
 NOW, SOON, BEHIND, DUE = range(4)
+_NOTHING = (NOW, int)
 _LEVELS, _MOST_HUBS = 8, 1024
 _CHECKPOINT = 1 << 16  # events behind which a checkpoint is made
 
@@ -253,8 +254,8 @@ class Engine:
     def _set_free(self, tags: Deque[int], me: int) -> None:
         due, kept = None, self._kept
         while tags:
+            when, call = kept.pop(tags[0], _NOTHING)
             tag = tags.popleft()
-            when, call = kept.pop(tag)
             if when == NOW:
                 call()
             elif when == SOON:
@@ -342,8 +343,12 @@ class Engine:
         book, root = self.book, at.root
         with self.lock:
             self._tag = tag = self._tag + 1
-            node = book.open_using(at.place, at.above, tag)
             self._kept[tag] = DUE, release
+            try:
+                node = book.open_using(at.place, at.above, tag)
+            except Exception:
+                del self._kept[tag]
+                raise
             if root is not None:
                 root.key, root.number = node, node.number
                 self._roots[root.number] = root
