@@ -153,6 +153,9 @@ class Observable:
             observable = it(observable)
         return observable
 
+    def __add__(self, other: Any) -> "Observable":
+        return Concat((self, other))
+
     def run(self) -> Any:
         """Subscribes, waits for the end, and answers the last item; raises the error that it ends with."""
         ended, last = threading.Event(), []  # type: Tuple[threading.Event, List[Any]]
