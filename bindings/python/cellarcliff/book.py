@@ -404,7 +404,10 @@ class Book(Calls):
         if words[1] or words[2]:
             self._hear(_DONE)
         status = self._next(self._at, leaf, value, self._told)
-        if status or words[1] or words[2]:
+        if words[1] == 1 and not words[2] and not status:  # as is usual
+            self.mail.append((words[_MAIL + 1], words[_MAIL + 3] & 255, self._signed[_MAIL + 2]))
+            words[1] = 0
+        elif status or words[1] or words[2]:
             self._hear(self._again(status, self._next, leaf, value, self._told) if status == _FULL else status)
 
     def _event(self, call: Any, *words: Any) -> None:

@@ -14,7 +14,7 @@ from operator import itemgetter
 from threading import get_ident
 from typing import Any, Callable, Deque, Dict, List, Optional, Tuple
 
-from ..book import AUTO, MANUAL, NEXT, ON_COMPLETED, PROJECT, Book, Calls, Refused
+from ..book import AUTO, MANUAL, NEXT, ON_COMPLETED, PROJECT, SOURCE, Book, Calls, Refused
 
 _ONLY = object()  # the argument of a call that takes none
 _first_of = itemgetter(0)
@@ -88,13 +88,14 @@ _hook: List[Callable[[BaseException], Any]] = [_print]
 class At:
     """A place in a book at which an observable opens something."""
 
-    __slots__ = ("engine", "place", "above", "root", "scheduler", "hub", "is_exchange")
+    __slots__ = ("engine", "place", "above", "root", "scheduler", "hub", "is_exchange", "tag")
 
     def __init__(self, engine: "Engine", place: int, above: Any, root: Optional["Root"], scheduler: Any, hub: Optional[int],
-                 is_exchange: bool = False):
+                 is_exchange: bool = False, tag: int = 0):
         self.engine, self.place, self.above, self.root, self.scheduler = engine, place, above, root, scheduler
         self.hub = hub  # the place in the order of hubs of the one below whose connection this is
         self.is_exchange = is_exchange  # whether what stands at this place gives way
+        self.tag = tag  # of what the node above holds, where that mirrors what stands here, and so closes with it
 
     def below(self, place: int, above: Any) -> "At":
         return At(self.engine, place, above, None, self.scheduler, self.hub)
@@ -204,6 +205,7 @@ class Engine:
         self._index = 0
         self._tag = 0
         self._kept: Dict[int, Tuple[int, Callable[..., Any]]] = {}  # by tag, what is done when it is handed back
+        self._also: Dict[int, Callable[[], Any]] = {}  # and what is done besides, while the lock is held
         self._first: Deque[Callable[[], Any]] = deque()
         self._projections: Deque[Tuple[Callable[[Any], Any], Any, int]] = deque()
         self.queue: Deque[Tuple[Callable[..., Any], Any, int]] = deque()
@@ -238,24 +240,13 @@ class Engine:
         if tags:
             self._set_free(tags, me)
 
-    def _told_one(self, value: Any) -> None:
-        """The same of one note, of an item that was emitted just now."""
-        to, kind, _ = self.book.mail.popleft()
-        if kind == NEXT:
-            root = self._roots.get(to)
-            if root is not None:
-                (self._projections if root.is_inner else self.queue).append((root.told_next, value, get_ident()))
-        elif kind == PROJECT:
-            self._projections.append((self._merging[to], value, get_ident()))
-        else:
-            self.book.mail.appendleft((to, kind, _))
-            self._fill()
-
     def _set_free(self, tags: Deque[int], me: int) -> None:
-        due, kept = None, self._kept
+        due, kept, also = None, self._kept, self._also
         while tags:
             when, call = kept.pop(tags[0], _NOTHING)
             tag = tags.popleft()
+            if tag in also:
+                also.pop(tag)()
             if when == NOW:
                 call()
             elif when == SOON:
@@ -299,9 +290,12 @@ class Engine:
                 root.key, root.number = node, node.number
                 self._roots[root.number] = root
             if call is not None:
-                self._tag = tag = self._tag + 1
-                book.hold_tag(node, tag)
-                self._kept[tag] = when, call
+                if when == NOW and at.tag in self._kept:
+                    self._also[at.tag] = call
+                else:
+                    self._tag = tag = self._tag + 1
+                    book.hold_tag(node, tag)
+                    self._kept[tag] = when, call
             if book.mail or book.tags:
                 self._fill()
         if self._first or self._projections or at.is_exchange:
@@ -338,8 +332,8 @@ class Engine:
         self.opened(at)
         return node
 
-    def using(self, at: At, release: Callable[[], Any]) -> Any:
-        """Opens a node that holds a resource of the user's."""
+    def using(self, at: At, release: Callable[[], Any]) -> At:
+        """Opens a node that holds a resource of the user's: the place below it."""
         book, root = self.book, at.root
         with self.lock:
             self._tag = tag = self._tag + 1
@@ -356,7 +350,7 @@ class Engine:
                 self._fill()
         if self._first or self._projections or at.is_exchange:
             self.opened(at)
-        return node
+        return At(self, SOURCE, node, None, at.scheduler, at.hub, False, tag)
 
     def keep(self, node: Any, release: Callable[[], Any]) -> None:
         """Lets a node hold a resource of the user's; where the node is closed it is released."""
@@ -377,7 +371,12 @@ class Engine:
             try:
                 book.next(leaf, index)
                 if len(book.mail) == 1 and not book.tags:  # as is usual
-                    self._told_one(value)
+                    to, kind, _ = book.mail[0]
+                    if kind == NEXT:
+                        root = self._roots.get(to)
+                        if root is not None and not root.is_inner:
+                            self.queue.append((root.told_next, value, get_ident()))
+                            del book.mail[0]
             except Refused as why:
                 if why.name != "Gone":
                     raise

@@ -607,18 +607,16 @@ class Using(Observable):
         except Exception as error:
             Throw(error, None)._open(at if node is None else at.below(SOURCE, node))
             return
-        if node is not None:
-            if resource is not None:
-                engine.keep(node, resource.dispose)
-        elif resource is None:
-            node = engine.open(at, PASS)
-        else:
+        if node is None and resource is not None:
             try:
-                node = engine.using(at, resource.dispose)
+                below = engine.using(at, resource.dispose)
             except Refused:
                 engine.put(resource.dispose)
                 raise
-        below = at.below(SOURCE, node)
+        else:
+            below = at.below(SOURCE, engine.open(at, PASS) if node is None else node)
+            if resource is not None:
+                engine.keep(below.above, resource.dispose)
         try:
             source = self._make_source(resource)
         except Exception as error:
@@ -634,8 +632,7 @@ class Finally(Observable):
         return (self._source,)
 
     def _open(self, at: At) -> None:
-        node = at.engine.using(at, self._action)
-        _open_below(self._source, at.below(SOURCE, node))
+        _open_below(self._source, at.engine.using(at, self._action))
 
 
 class Defer(Observable):
