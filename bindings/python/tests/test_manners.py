@@ -164,7 +164,7 @@ class Manners(unittest.TestCase):
         for value in range(3000):
             subject.on_next([value])
         engine = self.engine
-        sizes = [len(it) for it in (engine._roots, engine._merging, engine._values, engine._kept, engine._also)]
+        sizes = [len(it) for it in (engine._roots, engine._merging, engine._values, engine._kept, engine._also, engine._tag_of)]
         self.assertEqual(many, [3000])
         self.assertLess(max(sizes), 8)
         subscription.dispose()

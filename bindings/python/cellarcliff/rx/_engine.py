@@ -14,7 +14,7 @@ from operator import itemgetter
 from threading import get_ident
 from typing import Any, Callable, Deque, Dict, List, Optional, Tuple
 
-from ..book import AUTO, MANUAL, NEXT, ON_COMPLETED, PROJECT, SOURCE, Book, Calls, Refused
+from ..book import AUTO, FLAT, MANUAL, NEXT, ON_COMPLETED, PROJECT, SOURCE, Book, Calls, Refused
 
 _ONLY = object()  # the argument of a call that takes none
 _first_of = itemgetter(0)
@@ -95,7 +95,9 @@ class At:
         self.engine, self.place, self.above, self.root, self.scheduler = engine, place, above, root, scheduler
         self.hub = hub  # the place in the order of hubs of the one below whose connection this is
         self.is_exchange = is_exchange  # whether what stands at this place gives way
-        self.tag = tag  # of what the node above holds, where that mirrors what stands here, and so closes with it
+        # of what the node above holds, where what stands here closes with it: a mirroring node's source; or by itself or with it:
+        # an inner source of a FlatMap
+        self.tag = tag
 
     def below(self, place: int, above: Any) -> "At":
         return At(self.engine, place, above, None, self.scheduler, self.hub)
@@ -205,7 +207,8 @@ class Engine:
         self._index = 0
         self._tag = 0
         self._kept: Dict[int, Tuple[int, Callable[..., Any]]] = {}  # by tag, what is done when it is handed back
-        self._also: Dict[int, Callable[[], Any]] = {}  # and what is done besides, while the lock is held
+        self._also: Dict[int, Dict[int, Callable[[], Any]]] = {}  # and what is done besides, by node, while the lock is held
+        self._tag_of: Dict[int, int] = {}  # of inner sources, the tag with which they are there
         self._first: Deque[Callable[[], Any]] = deque()
         self._projections: Deque[Tuple[Callable[[Any], Any], Any, int]] = deque()
         self.queue: Deque[Tuple[Callable[..., Any], Any, int]] = deque()
@@ -246,7 +249,9 @@ class Engine:
             when, call = kept.pop(tags[0], _NOTHING)
             tag = tags.popleft()
             if tag in also:
-                also.pop(tag)()
+                for number, close in also.pop(tag).items():
+                    self._tag_of.pop(number, None)
+                    close()
             if when == NOW:
                 call()
             elif when == SOON:
@@ -291,7 +296,13 @@ class Engine:
                 self._roots[root.number] = root
             if call is not None:
                 if when == NOW and at.tag in self._kept:
-                    self._also[at.tag] = call
+                    number = node.number
+                    if at.place != SOURCE:
+                        self._tag_of[number] = at.tag
+                    if at.tag in self._also:
+                        self._also[at.tag][number] = call
+                    else:
+                        self._also[at.tag] = {number: call}
                 else:
                     self._tag = tag = self._tag + 1
                     book.hold_tag(node, tag)
@@ -319,14 +330,17 @@ class Engine:
             root.key, root.number = node, node.number
             self._roots[root.number] = root
 
-    def open_merging(self, at: At, kind: int, project: Callable[[Any], None]) -> Any:
-        """Opens a FlatMap or a Switch."""
+    def open_merging(self, at: At, kind: int, project: Callable[[Any], None], inner: Optional[At] = None) -> Any:
+        """Opens a FlatMap or a Switch; `inner` becomes the place of its inner observables."""
         with self.lock:
             node, _ = self.book.open(at.place, at.above, kind)
             self._bind(at, node)
             number = node.number
             self._merging[number] = project
             self.hold(node, NOW, lambda: self._merging.pop(number, None))
+            if inner is not None:
+                inner.above = node
+                inner.tag = self._tag if kind == FLAT else 0
             if self.book.mail or self.book.tags:
                 self._fill()
         self.opened(at)
@@ -392,6 +406,14 @@ class Engine:
             self._first_of_all()
         return True
 
+    def _ended(self, number: int) -> None:
+        """An inner source ended by itself."""
+        tag = self._tag_of.pop(number, None)
+        if tag is not None:
+            self._also[tag].pop(number)()
+            if not self._also[tag]:
+                del self._also[tag]
+
     def _with_error(self, call: Callable[..., Any], node: Any, error: Optional[Exception]) -> None:
         with self.lock:
             self._index = index = self._index + 1
@@ -400,6 +422,8 @@ class Engine:
                 self._values[code] = error
             try:
                 call(node, code)
+                if self._tag_of:
+                    self._ended(node.number)
             except Refused as why:
                 if why.name not in ("Gone", "NothingOwed"):
                     raise

@@ -669,8 +669,8 @@ class Merging(Observable):
                     engine.fail(inner.above, why)
             except Exception as error:
                 engine.fail(inner.above, error)
-        inner.above = engine.open_merging(at, SWITCH if is_switch else FLAT, project)
-        _open_below(self._source, at.below(SOURCE, inner.above))
+        node = engine.open_merging(at, SWITCH if is_switch else FLAT, project, inner)
+        _open_below(self._source, at.below(SOURCE, node))
 
 
 class Concat(Observable):
