@@ -16,4 +16,7 @@ def load(kind: Type[ctypes.CDLL] = ctypes.CDLL) -> Any:
     if named:
         return kind(named)
     beside = _HERE / "librx.so"
-    return kind(str(beside) if beside.is_file() else "librx.so")
+    try:
+        return kind(str(beside) if beside.is_file() else "librx.so")
+    except OSError as why:
+        raise OSError(f"{why}: install the library or the wheel, or name its file by RX_LIBRARY") from None

@@ -334,6 +334,7 @@ class Book(Calls):
             self.tags.append(words[_RESOURCE + 1])
         elif resources:
             self.tags.extend(words[_RESOURCE + 1:_RESOURCE + 2 * resources:2].tolist())
+        words[1] = words[2] = 0  # they are taken; where an interrupt comes before this, the next call takes them
         if mails == _ROOM or resources == _ROOM:
             self._drain()
         if status:
@@ -361,18 +362,20 @@ class Book(Calls):
     # opening
 
     def open(self, place: int, above: Any = None, kind: int = PASS, hub: int = 0) -> Tuple[Any, Optional[Any]]:
-        words = place, above or _NONE, kind, hub, self._made, self._told
+        words, told = (place, above or _NONE, kind, hub, self._made, self._told), self._words
+        if told[1] or told[2]:
+            self._hear(_DONE)
         status = self._open(self._at, *words)
-        told = self._words
         if status or told[1] or told[2]:
             self._hear(self._again(status, self._open, *words) if status else status)
         keys = self._keys
         return Node(keys[0], keys[1]), Node(keys[2], keys[3]) if kind == SUB and keys[4] & 255 else None
 
     def open_using(self, place: int, above: Any, tag: int) -> Any:
-        words = place, above or _NONE, tag, self._made, self._told
+        words, told = (place, above or _NONE, tag, self._made, self._told), self._words
+        if told[1] or told[2]:
+            self._hear(_DONE)
         status = self._using(self._at, *words)
-        told = self._words
         if status or told[1] or told[2]:
             self._hear(self._again(status, self._using, *words) if status else status)
         keys = self._keys
@@ -397,25 +400,38 @@ class Book(Calls):
     # events
 
     def next(self, leaf: Any, value: int) -> None:
-        status = self._next(self._at, leaf, value, self._told)
         words = self._words
-        if status or words[1] or words[2]:
+        if words[1] or words[2]:
+            self._hear(_DONE)
+        status = self._next(self._at, leaf, value, self._told)
+        if words[1] == 1 and not words[2] and not status:  # as is usual
+            self.mail.append((words[_MAIL + 1], words[_MAIL + 3] & 255, self._signed[_MAIL + 2]))
+            words[1] = 0
+        elif status or words[1] or words[2]:
             self._hear(self._again(status, self._next, leaf, value, self._told) if status == _FULL else status)
 
+    def _event(self, call: Any, *words: Any) -> None:
+        told = self._words
+        if told[1] or told[2]:
+            self._hear(_DONE)
+        status = call(self._at, *words, self._told)
+        if status or told[1] or told[2]:
+            self._hear(status)
+
     def end(self, leaf: Any, error: Optional[int] = None) -> None:
-        self._hear(self._end(self._at, leaf, error is not None, error or 0, self._told))
+        self._event(self._end, leaf, error is not None, error or 0)
 
     def abort(self, node: Any, error: int) -> None:
-        self._hear(self._library.abort(self._at, node, error, self._told))
+        self._event(self._library.abort, node, error)
 
     def fail(self, merging: Any, error: int) -> None:
-        self._hear(self._library.fail(self._at, merging, error, self._told))
+        self._event(self._library.fail, merging, error)
 
     def decline(self, merging: Any) -> None:
-        self._hear(self._library.decline(self._at, merging, self._told))
+        self._event(self._library.decline, merging)
 
     def dispose(self, root: Any) -> None:
-        self._hear(self._dispose(self._at, root, self._told))
+        self._event(self._dispose, root)
 
     # hubs and resources
 
@@ -432,20 +448,20 @@ class Book(Calls):
         return Node(slot, self._keys[1])
 
     def disconnect(self, hub: int) -> None:
-        self._hear(self._library.disconnect(self._at, hub, self._told))
+        self._event(self._library.disconnect, hub)
 
     def apply(self, res: Any, word: int) -> int:
         return self._word(self._library.apply(self._at, res, word, self._made))
 
     def remove(self, res: Any) -> None:
-        self._hear(self._library.remove(self._at, res, self._told))
+        self._event(self._library.remove, res)
 
     def lease(self, res: Any) -> Any:
         slot = self._word(self._library.lease(self._at, res, self._made))
         return Lease(slot, self._keys[1])
 
     def give_back(self, lease: Any) -> None:
-        self._hear(self._library.give_back(self._at, lease, self._told))
+        self._event(self._library.give_back, lease)
 
     # questions and upkeep
 
@@ -479,6 +495,7 @@ class Book(Calls):
 
     def close(self) -> None:
         self._library.close(self._at)
+        self._hear(_DONE)
         self._drain()
 
     def finish(self) -> None:

@@ -134,6 +134,17 @@ class Books(unittest.TestCase):
                 book.next(leaf, number)
                 self.assertEqual(book.mail.popleft(), (root.number, it.NEXT, number))
 
+    def test_what_an_interrupted_call_told_is_taken_by_the_next(self):
+        with it.Book() as book:
+            root, _ = book.using(it.ROOT, None, 5)
+            other, _ = book.using(it.ROOT, None, 6)
+            hear, book._hear = book._hear, lambda status: None  # the interrupt comes behind the call of the library
+            book.dispose(root)
+            book._hear = hear
+            self.assertEqual(list(book.tags), [])
+            book.dispose(other)
+            self.assertEqual(list(book.tags), [5, 6])
+
     def test_the_end_of_a_book(self):
         book = it.Book()
         book.using(it.ROOT, None, 5)

@@ -16,7 +16,7 @@ ITEMS = int(os.environ.get("CELLARCLIFF_ITEMS", "20000"))
 
 
 def sizes(engine):
-    return [len(it) for it in (engine._roots, engine._merging, engine._values, engine._kept,
+    return [len(it) for it in (engine._roots, engine._merging, engine._values, engine._kept, engine._also, engine._tag_of,
                                engine.queue)]
 
 

@@ -164,7 +164,7 @@ class Manners(unittest.TestCase):
         for value in range(3000):
             subject.on_next([value])
         engine = self.engine
-        sizes = [len(it) for it in (engine._roots, engine._merging, engine._values, engine._kept)]
+        sizes = [len(it) for it in (engine._roots, engine._merging, engine._values, engine._kept, engine._also, engine._tag_of)]
         self.assertEqual(many, [3000])
         self.assertLess(max(sizes), 8)
         subscription.dispose()
@@ -285,9 +285,13 @@ class Manners(unittest.TestCase):
         self.assertEqual(len(source.observers), 0)
 
     def test_what_is_not_here_says_what_to_do(self):
-        for get in lambda: ops.debounce, lambda: rx.zip:
+        for get in (lambda: ops.debounce, lambda: rx.zip, lambda: rx.subject.ReplaySubject,
+                    lambda: rx.scheduler.ThreadPoolScheduler):
             with self.assertRaisesRegex(NotImplementedError, "RxPY|create"):
                 get()
+        with self.assertRaises(NotImplementedError):
+            from cellarcliff.rx.operators import debounce  # noqa: F401
+        self.assertFalse(hasattr(rx, "no_such_name"))
         with self.assertRaisesRegex(TypeError, "observable is expected"):
             ops.take_until(5)(rx.never())
 

@@ -18,9 +18,9 @@ class Operators(unittest.TestCase):
                     self.assertEqual((counts.nodes, counts.held, counts.waiting), (0, 0, 0))
                     self.assertEqual(counts.accepted, counts.taken)
                     engine = kit.engine
-                    tables = (engine._roots, engine._merging, engine._values, engine._kept,
+                    tables = (engine._roots, engine._merging, engine._values, engine._kept, engine._also, engine._tag_of,
                               engine.queue)
-                    self.assertEqual([len(it) for it in tables], [0] * 5)
+                    self.assertEqual([len(it) for it in tables], [0] * 7)
 
     # sources
 

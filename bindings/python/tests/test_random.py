@@ -14,7 +14,7 @@ MANY = int(os.environ.get("CELLARCLIFF_PIPELINES", "400"))
 
 
 def is_empty(engine):
-    tables = (engine._roots, engine._merging, engine._values, engine._kept, engine.queue,
+    tables = (engine._roots, engine._merging, engine._values, engine._kept, engine._also, engine._tag_of, engine.queue,
               engine._projections, engine._first)
     return [len(it) for it in tables] == [0] * len(tables)
 

@@ -14,13 +14,14 @@ from operator import itemgetter
 from threading import get_ident
 from typing import Any, Callable, Deque, Dict, List, Optional, Tuple
 
-from ..book import AUTO, MANUAL, NEXT, ON_COMPLETED, PROJECT, Book, Calls, Refused
+from ..book import AUTO, FLAT, MANUAL, NEXT, ON_COMPLETED, PROJECT, SOURCE, Book, Calls, Refused
 
 _ONLY = object()  # the argument of a call that takes none
 _first_of = itemgetter(0)
 #: When what a node held is done with: this package's own while the lock is held, before anybody is told, or behind what is
 #: projected; the user's in the order of the queue.
 NOW, SOON, BEHIND, DUE = range(4)
+_NOTHING = (NOW, int)
 _LEVELS, _MOST_HUBS = 8, 1024
 _CHECKPOINT = 1 << 16  # events behind which a checkpoint is made
 
@@ -87,13 +88,16 @@ _hook: List[Callable[[BaseException], Any]] = [_print]
 class At:
     """A place in a book at which an observable opens something."""
 
-    __slots__ = ("engine", "place", "above", "root", "scheduler", "hub", "is_exchange")
+    __slots__ = ("engine", "place", "above", "root", "scheduler", "hub", "is_exchange", "tag")
 
     def __init__(self, engine: "Engine", place: int, above: Any, root: Optional["Root"], scheduler: Any, hub: Optional[int],
-                 is_exchange: bool = False):
+                 is_exchange: bool = False, tag: int = 0):
         self.engine, self.place, self.above, self.root, self.scheduler = engine, place, above, root, scheduler
         self.hub = hub  # the place in the order of hubs of the one below whose connection this is
         self.is_exchange = is_exchange  # whether what stands at this place gives way
+        # of what the node above holds, where what stands here closes with it: a mirroring node's source; or by itself or with it:
+        # an inner source of a FlatMap
+        self.tag = tag
 
     def below(self, place: int, above: Any) -> "At":
         return At(self.engine, place, above, None, self.scheduler, self.hub)
@@ -203,6 +207,8 @@ class Engine:
         self._index = 0
         self._tag = 0
         self._kept: Dict[int, Tuple[int, Callable[..., Any]]] = {}  # by tag, what is done when it is handed back
+        self._also: Dict[int, Dict[int, Callable[[], Any]]] = {}  # and what is done besides, by node, while the lock is held
+        self._tag_of: Dict[int, int] = {}  # of inner sources, the tag with which they are there
         self._first: Deque[Callable[[], Any]] = deque()
         self._projections: Deque[Tuple[Callable[[Any], Any], Any, int]] = deque()
         self.queue: Deque[Tuple[Callable[..., Any], Any, int]] = deque()
@@ -237,24 +243,15 @@ class Engine:
         if tags:
             self._set_free(tags, me)
 
-    def _told_one(self, value: Any) -> None:
-        """The same of one note, of an item that was emitted just now."""
-        to, kind, _ = self.book.mail.popleft()
-        if kind == NEXT:
-            root = self._roots.get(to)
-            if root is not None:
-                (self._projections if root.is_inner else self.queue).append((root.told_next, value, get_ident()))
-        elif kind == PROJECT:
-            self._projections.append((self._merging[to], value, get_ident()))
-        else:
-            self.book.mail.appendleft((to, kind, _))
-            self._fill()
-
     def _set_free(self, tags: Deque[int], me: int) -> None:
-        due, kept = None, self._kept
+        due, kept, also = None, self._kept, self._also
         while tags:
+            when, call = kept.pop(tags[0], _NOTHING)
             tag = tags.popleft()
-            when, call = kept.pop(tag)
+            if tag in also:
+                for number, close in also.pop(tag).items():
+                    self._tag_of.pop(number, None)
+                    close()
             if when == NOW:
                 call()
             elif when == SOON:
@@ -298,9 +295,18 @@ class Engine:
                 root.key, root.number = node, node.number
                 self._roots[root.number] = root
             if call is not None:
-                self._tag = tag = self._tag + 1
-                book.hold_tag(node, tag)
-                self._kept[tag] = when, call
+                if when == NOW and at.tag in self._kept:
+                    number = node.number
+                    if at.place != SOURCE:
+                        self._tag_of[number] = at.tag
+                    if at.tag in self._also:
+                        self._also[at.tag][number] = call
+                    else:
+                        self._also[at.tag] = {number: call}
+                else:
+                    self._tag = tag = self._tag + 1
+                    book.hold_tag(node, tag)
+                    self._kept[tag] = when, call
             if book.mail or book.tags:
                 self._fill()
         if self._first or self._projections or at.is_exchange:
@@ -324,26 +330,33 @@ class Engine:
             root.key, root.number = node, node.number
             self._roots[root.number] = root
 
-    def open_merging(self, at: At, kind: int, project: Callable[[Any], None]) -> Any:
-        """Opens a FlatMap or a Switch."""
+    def open_merging(self, at: At, kind: int, project: Callable[[Any], None], inner: Optional[At] = None) -> Any:
+        """Opens a FlatMap or a Switch; `inner` becomes the place of its inner observables."""
         with self.lock:
             node, _ = self.book.open(at.place, at.above, kind)
             self._bind(at, node)
             number = node.number
             self._merging[number] = project
             self.hold(node, NOW, lambda: self._merging.pop(number, None))
+            if inner is not None:
+                inner.above = node
+                inner.tag = self._tag if kind == FLAT else 0
             if self.book.mail or self.book.tags:
                 self._fill()
         self.opened(at)
         return node
 
-    def using(self, at: At, release: Callable[[], Any]) -> Any:
-        """Opens a node that holds a resource of the user's."""
+    def using(self, at: At, release: Callable[[], Any]) -> At:
+        """Opens a node that holds a resource of the user's: the place below it."""
         book, root = self.book, at.root
         with self.lock:
             self._tag = tag = self._tag + 1
-            node = book.open_using(at.place, at.above, tag)
             self._kept[tag] = DUE, release
+            try:
+                node = book.open_using(at.place, at.above, tag)
+            except Exception:
+                del self._kept[tag]
+                raise
             if root is not None:
                 root.key, root.number = node, node.number
                 self._roots[root.number] = root
@@ -351,7 +364,7 @@ class Engine:
                 self._fill()
         if self._first or self._projections or at.is_exchange:
             self.opened(at)
-        return node
+        return At(self, SOURCE, node, None, at.scheduler, at.hub, False, tag)
 
     def keep(self, node: Any, release: Callable[[], Any]) -> None:
         """Lets a node hold a resource of the user's; where the node is closed it is released."""
@@ -372,7 +385,12 @@ class Engine:
             try:
                 book.next(leaf, index)
                 if len(book.mail) == 1 and not book.tags:  # as is usual
-                    self._told_one(value)
+                    to, kind, _ = book.mail[0]
+                    if kind == NEXT:
+                        root = self._roots.get(to)
+                        if root is not None and not root.is_inner:
+                            self.queue.append((root.told_next, value, get_ident()))
+                            del book.mail[0]
             except Refused as why:
                 if why.name != "Gone":
                     raise
@@ -388,6 +406,14 @@ class Engine:
             self._first_of_all()
         return True
 
+    def _ended(self, number: int) -> None:
+        """An inner source ended by itself."""
+        tag = self._tag_of.pop(number, None)
+        if tag is not None:
+            self._also[tag].pop(number)()
+            if not self._also[tag]:
+                del self._also[tag]
+
     def _with_error(self, call: Callable[..., Any], node: Any, error: Optional[Exception]) -> None:
         with self.lock:
             self._index = index = self._index + 1
@@ -396,6 +422,8 @@ class Engine:
                 self._values[code] = error
             try:
                 call(node, code)
+                if self._tag_of:
+                    self._ended(node.number)
             except Refused as why:
                 if why.name not in ("Gone", "NothingOwed"):
                     raise

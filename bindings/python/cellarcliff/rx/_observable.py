@@ -153,6 +153,9 @@ class Observable:
             observable = it(observable)
         return observable
 
+    def __add__(self, other: Any) -> "Observable":
+        return Concat((self, other))
+
     def run(self) -> Any:
         """Subscribes, waits for the end, and answers the last item; raises the error that it ends with."""
         ended, last = threading.Event(), []  # type: Tuple[threading.Event, List[Any]]
@@ -604,18 +607,16 @@ class Using(Observable):
         except Exception as error:
             Throw(error, None)._open(at if node is None else at.below(SOURCE, node))
             return
-        if node is not None:
-            if resource is not None:
-                engine.keep(node, resource.dispose)
-        elif resource is None:
-            node = engine.open(at, PASS)
-        else:
+        if node is None and resource is not None:
             try:
-                node = engine.using(at, resource.dispose)
+                below = engine.using(at, resource.dispose)
             except Refused:
                 engine.put(resource.dispose)
                 raise
-        below = at.below(SOURCE, node)
+        else:
+            below = at.below(SOURCE, engine.open(at, PASS) if node is None else node)
+            if resource is not None:
+                engine.keep(below.above, resource.dispose)
         try:
             source = self._make_source(resource)
         except Exception as error:
@@ -631,8 +632,7 @@ class Finally(Observable):
         return (self._source,)
 
     def _open(self, at: At) -> None:
-        node = at.engine.using(at, self._action)
-        _open_below(self._source, at.below(SOURCE, node))
+        _open_below(self._source, at.engine.using(at, self._action))
 
 
 class Defer(Observable):
@@ -669,8 +669,8 @@ class Merging(Observable):
                     engine.fail(inner.above, why)
             except Exception as error:
                 engine.fail(inner.above, error)
-        inner.above = engine.open_merging(at, SWITCH if is_switch else FLAT, project)
-        _open_below(self._source, at.below(SOURCE, inner.above))
+        node = engine.open_merging(at, SWITCH if is_switch else FLAT, project, inner)
+        _open_below(self._source, at.below(SOURCE, node))
 
 
 class Concat(Observable):

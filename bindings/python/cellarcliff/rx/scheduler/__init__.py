@@ -13,6 +13,13 @@ from typing import Any, Callable, Optional, Union
 from .._engine import here
 from ..disposable import Disposable, MultipleAssignmentDisposable, SerialDisposable, SingleAssignmentDisposable
 
+
+def __getattr__(name: str) -> Any:
+    if name.endswith("Scheduler") or name in ("eventloop", "mainloop"):
+        raise NotImplementedError(f"cellarcliff.rx.scheduler has no {name}: give one of RxPY's own, which serves here too")
+    raise AttributeError(f"module {__name__!r} has no attribute {name!r}")
+
+
 RelativeTime = Union[float, timedelta]
 AbsoluteTime = Union[float, datetime]
 Action = Callable[[Any, Any], Any]

@@ -13,6 +13,12 @@ from ..internal import DisposedException
 _NEXT, _ERROR, _COMPLETED = range(3)
 
 
+def __getattr__(name: str) -> Any:
+    if name in ("BehaviorSubject", "ReplaySubject", "AsyncSubject"):
+        raise NotImplementedError(f"cellarcliff.rx.subject has no {name}: RxPY's own may stand wherever an observable of this package may")
+    raise AttributeError(f"module {__name__!r} has no attribute {name!r}")
+
+
 def _tell(up: Any, kind: int, value: Any) -> None:
     if kind == _NEXT:
         up.on_next(value)
