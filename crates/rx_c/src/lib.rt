@@ -46,7 +46,7 @@
 //!   back before it answers.
 //! - That a call gives back what the handle no longer keeps, and that 4 comes for want of memory alone, is
 //!   tested and not proved.
-//! - What a C caller must see to is in docs/C.md: no clause can say it.
+//! - What a C caller must ensure is in docs/reference/c-library.md: no clause can say it.
 #![tactic(auto)]
 
 mod audit;

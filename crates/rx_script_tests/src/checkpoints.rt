@@ -1,4 +1,4 @@
-//! Scenarios that make checkpoints. Their reports were written from docs/FORMATS.md.
+//! Scenarios that make checkpoints. Their reports were written from docs/reference/report.md.
 
 use super::sights::stock_of;
 use rx_resource::{Sample, Tracker};

@@ -221,24 +221,23 @@ Options:
   -h, --help     Print help
   -V, --version  Print version
 
-Standard input is read to its end, unless it is longer than 16777216 bytes; a storm reads nothing. No file is
-opened: hand it in, as in
+Input is standard input, at most 16777216 bytes; a storm reads nothing. No file is opened: hand it in, as in
   rxbook < first-run.json
   rxbook run --dump < first-run.json
   rxbook audit < dispose-twice.dump
 
 The exit status is
-  0  where it is done: the verdict is lawful, or a storm agrees with its book
-  1  where the input or the output failed, or no thread was to be had
-  2  where the words are no order
-  3  where the input is no scenario, or no dump
-  4  in want of memory
-  5  where the verdict is another, or a storm does not agree with its book
+  0  success: for an audit, the history is lawful and settled
+  1  reading or writing failed, or a thread could not be started
+  2  bad command line
+  3  invalid input
+  4  out of memory
+  5  the history is unlawful or unsettled, or the threads of a storm disagree with the book
 
-What is wrong with an input that is answered by 3 or 5, and where, another program says in a sentence:
-  ./rxbook explain < FILE
+Another program says what is wrong with an input that ends with 3 or 5:
+  rxexplain < FILE
 
-docs/FORMATS.md tells of scenario, report, dump, verdict and statuses.
+docs/reference has scenarios, reports, histories, verdicts and statuses in full.
 ";
 
 const RUN_HELP: &str = "\
@@ -253,9 +252,8 @@ Options:
 A scenario is one JSON object, with its steps, of at most 16777216 bytes; as in
   rxbook run < first-run.json
 
-The exit status is 0 where it is done, 1 where the input or the output failed, 3 where the input is no
-scenario, 4 in want of memory. What is wrong with a scenario, ./rxbook explain says. docs/FORMATS.md tells
-of scenario, report and dump.
+The exit status is 0 on success, 1 if reading or writing failed, 3 if the input is not a scenario
+(rxexplain says why), 4 if out of memory. docs/reference/scenario.md and report.md have it in full.
 ";
 
 const AUDIT_HELP: &str = "\
@@ -269,9 +267,9 @@ Options:
 A dump is one JSON array of events, oldest first, of at most 16777216 bytes; as in
   rxbook audit < dispose-twice.dump
 
-The exit status is 0 where the verdict is lawful and 5 where it is another, 1 where the input or the
-output failed, 3 where the input is no dump, 4 in want of memory. What is wrong with a dump, ./rxbook explain
-says. docs/FORMATS.md tells of dump and verdict.
+The exit status is 0 if the history is lawful and settled, otherwise 5; 1 if reading or writing failed,
+3 if the input is not a dump (rxexplain says why), 4 if out of memory. docs/reference/history.md and
+verdict.md have it in full.
 ";
 
 const STORM_HELP: &str = "\
@@ -288,8 +286,8 @@ Options:
 Nothing is read; as in
   rxbook storm --items 1000
 
-The exit status is 0 where what the threads counted is what the book says and 5 where it is not, 1 where
-the output failed or no thread was to be had, 4 in want of memory. docs/FORMATS.md tells of the figures.
+The exit status is 0 if the threads counted what the book says, otherwise 5; 1 if writing failed or a
+thread could not be started, 4 if out of memory. docs/reference/command-line.md explains the figures.
 ";
 
 #[test]
