@@ -4,3 +4,4 @@ mod HeldToTheEnd
 pub mod NoOutput
 mod AnswersHandedOut
 pub mod Values
+pub mod BookValues

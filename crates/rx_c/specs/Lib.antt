@@ -6,3 +6,4 @@ pub mod Handing
 pub mod Ownership
 pub mod Ran
 pub mod Stages
+pub mod Dumped

@@ -50,6 +50,7 @@
 #![tactic(auto)]
 
 mod audit;
+mod book;
 mod handing;
 mod handle;
 mod kept;
@@ -63,6 +64,7 @@ mod stock;
 mod tests;
 
 pub use audit::rx_audit;
+pub use book::handle::BookHandle;
 pub use handle::Handle;
 pub use laws::answers_are_handed_out_once;
 pub use live::{rx_live_drop, rx_live_end, rx_live_new, rx_live_read, rx_live_send};

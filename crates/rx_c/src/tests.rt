@@ -1,6 +1,7 @@
 //! What no clause says: that each call can succeed, with the texts of a worked example, and that a fault
 //! of the stock is told.
 
+mod book;
 mod live;
 
 use crate::{rx_audit, rx_run, rx_run_dump};

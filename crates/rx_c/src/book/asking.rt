@@ -1,0 +1,88 @@
+//! Questions.
+
+ghost use Rattle.std.specs.Prelude.{◌≡◌};
+ghost use Rattle.rx_typed.specs.Calls.{IsCalled, IsAsked, IsAskedHeld, IsOwed, IsCounted, no_counts, book_of};
+
+use super::handle::BookHandle;
+use rx_typed::{NOTHING_KEPT, RxCounts, RxNode, RxRes};
+use std::alloc::Global;
+
+/// Whether the key is an open node's: 1 where it is, else 0.
+#[unsafe(no_mangle)]
+pub extern "C" fn rx_book_is_open(
+    alloc: Global,
+    handle: &mut BookHandle,
+    node: RxNode,
+    is_open: &mut u8,
+) -> u8
+    ensures { IsCalled (IsAsked node is_open.new) (is_open.new ≡ 0) (book_of handle.old.kept) (book_of handle.new.kept) result }
+{
+    let Some(mut kept) = handle.take(alloc) else {
+        *is_open = 0;
+        return NOTHING_KEPT;
+    };
+    let status = kept.ask(node, is_open);
+    handle.put(kept, alloc);
+    status
+}
+
+/// Whether the key is a held resource's: 1 where it is, else 0.
+#[unsafe(no_mangle)]
+pub extern "C" fn rx_book_is_held(
+    alloc: Global,
+    handle: &mut BookHandle,
+    res: RxRes,
+    is_held: &mut u8,
+) -> u8
+    ensures { IsCalled (IsAskedHeld res is_held.new) (is_held.new ≡ 0) (book_of handle.old.kept) (book_of handle.new.kept) result }
+{
+    let Some(mut kept) = handle.take(alloc) else {
+        *is_held = 0;
+        return NOTHING_KEPT;
+    };
+    let status = kept.ask_held(res, is_held);
+    handle.put(kept, alloc);
+    status
+}
+
+/// How many items that were projected to an open FlatMap or Switch are owed an inner. The status is 2 where the
+/// key is of no such node.
+#[unsafe(no_mangle)]
+pub extern "C" fn rx_book_owed(
+    alloc: Global,
+    handle: &mut BookHandle,
+    merging: RxNode,
+    count: &mut u64,
+) -> u8
+    ensures { IsCalled (IsOwed merging count.new) (count.new ≡ 0) (book_of handle.old.kept) (book_of handle.new.kept) result }
+{
+    let Some(mut kept) = handle.take(alloc) else {
+        *count = 0;
+        return NOTHING_KEPT;
+    };
+    let status = kept.owed(merging, count);
+    handle.put(kept, alloc);
+    status
+}
+
+/// What there is.
+#[unsafe(no_mangle)]
+pub extern "C" fn rx_book_counts(alloc: Global, handle: &mut BookHandle, counts: &mut RxCounts) -> u8
+    ensures { IsCalled (IsCounted counts.new) (counts.new ≡ no_counts) (book_of handle.old.kept) (book_of handle.new.kept) result }
+{
+    let Some(mut kept) = handle.take(alloc) else {
+        *counts = RxCounts {
+            nodes: 0,
+            held: 0,
+            waiting: 0,
+            leases: 0,
+            accepted: 0,
+            taken: 0,
+            events: 0,
+        };
+        return NOTHING_KEPT;
+    };
+    let status = kept.count(counts);
+    handle.put(kept, alloc);
+    status
+}

@@ -1,0 +1,155 @@
+//! Items, ends and unsubscriptions.
+
+ghost use Rattle.std.specs.Prelude.{◌≡◌};
+ghost use Rattle.rx_typed.specs.Calls.{IsCalled, IsDecoded, IsNext, IsNextAll, IsEnd, IsAbort, IsFail, IsDecline, IsDispose, book_of};
+ghost use Rattle.rx_typed.specs.Codes.{terminal_of};
+
+use super::handle::BookHandle;
+use rx_typed::{NO_SUCH_CODE, NOTHING_KEPT, RxNode, terminal_of};
+use std::alloc::Global;
+
+/// A leaf emits an item.
+#[unsafe(no_mangle)]
+pub extern "C" fn rx_book_next(
+    alloc: Global,
+    handle: &mut BookHandle,
+    leaf: RxNode,
+    value: i64,
+    place: &mut u64,
+) -> u8
+    ensures { IsCalled (IsNext leaf value place.new) (place.new ≡ 0) (book_of handle.old.kept) (book_of handle.new.kept) result }
+{
+    let Some(mut kept) = handle.take(alloc) else {
+        *place = 0;
+        return NOTHING_KEPT;
+    };
+    let status = kept.next(leaf, value, place);
+    handle.put(kept, alloc);
+    status
+}
+
+/// A leaf emits several items, one after another, up to the first that is refused; `count` gets how many were
+/// emitted, and the status is that refusal's.
+#[unsafe(no_mangle)]
+pub extern "C" fn rx_book_next_all(
+    alloc: Global,
+    handle: &mut BookHandle,
+    leaf: RxNode,
+    values: &[i64],
+    count: &mut usize,
+) -> u8
+    ensures { IsCalled (IsNextAll leaf values.now count.new) (count.new ≡ 0) (book_of handle.old.kept) (book_of handle.new.kept) result }
+{
+    let Some(mut kept) = handle.take(alloc) else {
+        *count = 0;
+        return NOTHING_KEPT;
+    };
+    let status = kept.next_all(leaf, values, count);
+    handle.put(kept, alloc);
+    status
+}
+
+/// A node that is no leaf ends with an error.
+#[unsafe(no_mangle)]
+pub extern "C" fn rx_book_abort(
+    alloc: Global,
+    handle: &mut BookHandle,
+    node: RxNode,
+    error: u32,
+    place: &mut u64,
+) -> u8
+    ensures { IsCalled (IsAbort node error place.new) (place.new ≡ 0) (book_of handle.old.kept) (book_of handle.new.kept) result }
+{
+    let Some(mut kept) = handle.take(alloc) else {
+        *place = 0;
+        return NOTHING_KEPT;
+    };
+    let status = kept.abort(node, error, place);
+    handle.put(kept, alloc);
+    status
+}
+
+/// A FlatMap or a Switch ends with an error, in the place of an inner that it is owed.
+#[unsafe(no_mangle)]
+pub extern "C" fn rx_book_fail(
+    alloc: Global,
+    handle: &mut BookHandle,
+    merging: RxNode,
+    error: u32,
+    place: &mut u64,
+) -> u8
+    ensures { IsCalled (IsFail merging error place.new) (place.new ≡ 0) (book_of handle.old.kept) (book_of handle.new.kept) result }
+{
+    let Some(mut kept) = handle.take(alloc) else {
+        *place = 0;
+        return NOTHING_KEPT;
+    };
+    let status = kept.fail(merging, error, place);
+    handle.put(kept, alloc);
+    status
+}
+
+/// An item that was projected to a FlatMap or a Switch gets no inner.
+#[unsafe(no_mangle)]
+pub extern "C" fn rx_book_decline(
+    alloc: Global,
+    handle: &mut BookHandle,
+    merging: RxNode,
+    place: &mut u64,
+) -> u8
+    ensures { IsCalled (IsDecline merging place.new) (place.new ≡ 0) (book_of handle.old.kept) (book_of handle.new.kept) result }
+{
+    let Some(mut kept) = handle.take(alloc) else {
+        *place = 0;
+        return NOTHING_KEPT;
+    };
+    let status = kept.decline(merging, place);
+    handle.put(kept, alloc);
+    status
+}
+
+/// A root is unsubscribed.
+#[unsafe(no_mangle)]
+pub extern "C" fn rx_book_dispose(
+    alloc: Global,
+    handle: &mut BookHandle,
+    root: RxNode,
+    place: &mut u64,
+) -> u8
+    ensures { IsCalled (IsDispose root place.new) (place.new ≡ 0) (book_of handle.old.kept) (book_of handle.new.kept) result }
+{
+    let Some(mut kept) = handle.take(alloc) else {
+        *place = 0;
+        return NOTHING_KEPT;
+    };
+    let status = kept.dispose(root, place);
+    handle.put(kept, alloc);
+    status
+}
+
+/// A leaf ends: completed where `how` is 0, by the error of that code where it is 1.
+#[unsafe(no_mangle)]
+pub extern "C" fn rx_book_end(
+    alloc: Global,
+    handle: &mut BookHandle,
+    leaf: RxNode,
+    how: u8,
+    error: u32,
+    place: &mut u64,
+) -> u8
+    ensures { IsDecoded (terminal_of how error)
+        (λ terminal. IsCalled (IsEnd leaf terminal place.new) (place.new ≡ 0) (book_of handle.old.kept) (book_of handle.new.kept))
+        ((book_of handle.new.kept ≡ book_of handle.old.kept) × (place.new ≡ 0)) result }
+{
+    let Some(terminal) = terminal_of(how, error) else {
+        *place = 0;
+        return NO_SUCH_CODE;
+    };
+    let Some(mut kept) = handle.take(alloc) else {
+        *place = 0;
+        return NOTHING_KEPT;
+    };
+    let status = kept.end(leaf, terminal, place);
+    handle.put(kept, alloc);
+    status
+}

@@ -1,0 +1,67 @@
+//! Hubs.
+
+ghost use Rattle.std.specs.Prelude.{◌≡◌};
+ghost use Rattle.rx_typed.specs.Calls.{IsCalled, IsDecoded, IsHub, IsConnect, IsDisconnect, book_of};
+ghost use Rattle.rx_typed.specs.Codes.{mode_of, no_node};
+
+use super::handle::BookHandle;
+use rx_typed::{NO_SUCH_CODE, NOTHING_KEPT, RxNode, mode_of, no_node};
+use std::alloc::Global;
+
+/// Connects a hub by hand.
+#[unsafe(no_mangle)]
+pub extern "C" fn rx_book_connect(
+    alloc: Global,
+    handle: &mut BookHandle,
+    hub: u64,
+    connection: &mut RxNode,
+) -> u8
+    ensures { IsCalled (IsConnect hub connection.new) (connection.new ≡ no_node) (book_of handle.old.kept) (book_of handle.new.kept) result }
+{
+    let Some(mut kept) = handle.take(alloc) else {
+        *connection = no_node();
+        return NOTHING_KEPT;
+    };
+    let status = kept.connect(hub, connection);
+    handle.put(kept, alloc);
+    status
+}
+
+/// Disconnects a hub by hand.
+#[unsafe(no_mangle)]
+pub extern "C" fn rx_book_disconnect(
+    alloc: Global,
+    handle: &mut BookHandle,
+    hub: u64,
+    place: &mut u64,
+) -> u8
+    ensures { IsCalled (IsDisconnect hub place.new) (place.new ≡ 0) (book_of handle.old.kept) (book_of handle.new.kept) result }
+{
+    let Some(mut kept) = handle.take(alloc) else {
+        *place = 0;
+        return NOTHING_KEPT;
+    };
+    let status = kept.disconnect(hub, place);
+    handle.put(kept, alloc);
+    status
+}
+
+/// Makes a hub: its subscribers connect it where `mode` is 0, a caller does where it is 1. Its number is told.
+#[unsafe(no_mangle)]
+pub extern "C" fn rx_book_hub(alloc: Global, handle: &mut BookHandle, mode: u8, hub: &mut u64) -> u8
+    ensures { IsDecoded (mode_of mode)
+        (λ m. IsCalled (IsHub m hub.new) (hub.new ≡ 0) (book_of handle.old.kept) (book_of handle.new.kept))
+        ((book_of handle.new.kept ≡ book_of handle.old.kept) × (hub.new ≡ 0)) result }
+{
+    let Some(mode) = mode_of(mode) else {
+        *hub = 0;
+        return NO_SUCH_CODE;
+    };
+    let Some(mut kept) = handle.take(alloc) else {
+        *hub = 0;
+        return NOTHING_KEPT;
+    };
+    let status = kept.hub(mode, hub);
+    handle.put(kept, alloc);
+    status
+}

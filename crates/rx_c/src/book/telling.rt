@@ -1,0 +1,260 @@
+//! Events that answer at once what they told.
+
+ghost use Rattle.std.specs.Prelude.{◌≡◌};
+ghost use Rattle.rx_typed.specs.Told.{IsThenTold, no_told};
+ghost use Rattle.rx_typed.specs.Calls.{IsCalled, IsNext, IsEnd, IsDispose, IsAbort, IsFail, IsDecline, IsDisconnect, IsRemove, IsGiveBack};
+ghost use Rattle.rx_typed.specs.Calls.{IsOpen, IsUsing, IsDecoded, book_of};
+ghost use Rattle.rx_typed.specs.Codes.{asked_of, place_at, terminal_of, no_opened, no_used};
+
+use super::handle::BookHandle;
+use rx_book::Resource;
+use rx_typed::{
+    NO_SUCH_CODE, NOTHING_KEPT, RxLease, RxNode, RxOpened, RxRes, RxTold, RxUsing, Token, asked,
+    no_opened, no_used, place_at, terminal_of,
+};
+use std::alloc::Global;
+
+/// A leaf emits an item, and what waits is told.
+#[unsafe(no_mangle)]
+pub extern "C" fn rx_book_next_told(
+    alloc: Global,
+    handle: &mut BookHandle,
+    leaf: RxNode,
+    value: i64,
+    told: &mut RxTold,
+) -> u8
+    ensures { IsCalled (IsThenTold ⟦<Token as Resource>⟧ (IsNext leaf value told.new.place) told.old told.new) (told.new ≡ no_told told.old) (book_of handle.old.kept) (book_of handle.new.kept) result }
+{
+    let Some(mut kept) = handle.take(alloc) else {
+        told.clear();
+        return NOTHING_KEPT;
+    };
+    let status = kept.next_told(leaf, value, told);
+    handle.put(kept, alloc);
+    status
+}
+
+/// A leaf ends, and what waits is told.
+#[unsafe(no_mangle)]
+pub extern "C" fn rx_book_end_told(
+    alloc: Global,
+    handle: &mut BookHandle,
+    leaf: RxNode,
+    how: u8,
+    error: u32,
+    told: &mut RxTold,
+) -> u8
+    ensures { IsDecoded (terminal_of how error)
+        (λ terminal. IsCalled (IsThenTold ⟦<Token as Resource>⟧ (IsEnd leaf terminal told.new.place) told.old told.new) (told.new ≡ no_told told.old) (book_of handle.old.kept) (book_of handle.new.kept))
+        ((book_of handle.new.kept ≡ book_of handle.old.kept) × (told.new ≡ no_told told.old)) result }
+{
+    let Some(terminal) = terminal_of(how, error) else {
+        told.clear();
+        return NO_SUCH_CODE;
+    };
+    let Some(mut kept) = handle.take(alloc) else {
+        told.clear();
+        return NOTHING_KEPT;
+    };
+    let status = kept.end_told(leaf, terminal, told);
+    handle.put(kept, alloc);
+    status
+}
+
+/// A root is unsubscribed, and what waits is told.
+#[unsafe(no_mangle)]
+pub extern "C" fn rx_book_dispose_told(
+    alloc: Global,
+    handle: &mut BookHandle,
+    root: RxNode,
+    told: &mut RxTold,
+) -> u8
+    ensures { IsCalled (IsThenTold ⟦<Token as Resource>⟧ (IsDispose root told.new.place) told.old told.new) (told.new ≡ no_told told.old) (book_of handle.old.kept) (book_of handle.new.kept) result }
+{
+    let Some(mut kept) = handle.take(alloc) else {
+        told.clear();
+        return NOTHING_KEPT;
+    };
+    let status = kept.dispose_told(root, told);
+    handle.put(kept, alloc);
+    status
+}
+
+/// A node that is no leaf ends with an error, and what waits is told.
+#[unsafe(no_mangle)]
+pub extern "C" fn rx_book_abort_told(
+    alloc: Global,
+    handle: &mut BookHandle,
+    node: RxNode,
+    error: u32,
+    told: &mut RxTold,
+) -> u8
+    ensures { IsCalled (IsThenTold ⟦<Token as Resource>⟧ (IsAbort node error told.new.place) told.old told.new) (told.new ≡ no_told told.old) (book_of handle.old.kept) (book_of handle.new.kept) result }
+{
+    let Some(mut kept) = handle.take(alloc) else {
+        told.clear();
+        return NOTHING_KEPT;
+    };
+    let status = kept.abort_told(node, error, told);
+    handle.put(kept, alloc);
+    status
+}
+
+/// A FlatMap or a Switch ends with an error, and what waits is told.
+#[unsafe(no_mangle)]
+pub extern "C" fn rx_book_fail_told(
+    alloc: Global,
+    handle: &mut BookHandle,
+    merging: RxNode,
+    error: u32,
+    told: &mut RxTold,
+) -> u8
+    ensures { IsCalled (IsThenTold ⟦<Token as Resource>⟧ (IsFail merging error told.new.place) told.old told.new) (told.new ≡ no_told told.old) (book_of handle.old.kept) (book_of handle.new.kept) result }
+{
+    let Some(mut kept) = handle.take(alloc) else {
+        told.clear();
+        return NOTHING_KEPT;
+    };
+    let status = kept.fail_told(merging, error, told);
+    handle.put(kept, alloc);
+    status
+}
+
+/// An item that was projected is declined, and what waits is told.
+#[unsafe(no_mangle)]
+pub extern "C" fn rx_book_decline_told(
+    alloc: Global,
+    handle: &mut BookHandle,
+    merging: RxNode,
+    told: &mut RxTold,
+) -> u8
+    ensures { IsCalled (IsThenTold ⟦<Token as Resource>⟧ (IsDecline merging told.new.place) told.old told.new) (told.new ≡ no_told told.old) (book_of handle.old.kept) (book_of handle.new.kept) result }
+{
+    let Some(mut kept) = handle.take(alloc) else {
+        told.clear();
+        return NOTHING_KEPT;
+    };
+    let status = kept.decline_told(merging, told);
+    handle.put(kept, alloc);
+    status
+}
+
+/// A hub is disconnected by hand, and what waits is told.
+#[unsafe(no_mangle)]
+pub extern "C" fn rx_book_disconnect_told(
+    alloc: Global,
+    handle: &mut BookHandle,
+    hub: u64,
+    told: &mut RxTold,
+) -> u8
+    ensures { IsCalled (IsThenTold ⟦<Token as Resource>⟧ (IsDisconnect hub told.new.place) told.old told.new) (told.new ≡ no_told told.old) (book_of handle.old.kept) (book_of handle.new.kept) result }
+{
+    let Some(mut kept) = handle.take(alloc) else {
+        told.clear();
+        return NOTHING_KEPT;
+    };
+    let status = kept.disconnect_told(hub, told);
+    handle.put(kept, alloc);
+    status
+}
+
+/// A resource is taken away from its node, and what waits is told.
+#[unsafe(no_mangle)]
+pub extern "C" fn rx_book_remove_told(
+    alloc: Global,
+    handle: &mut BookHandle,
+    res: RxRes,
+    told: &mut RxTold,
+) -> u8
+    ensures { IsCalled (IsThenTold ⟦<Token as Resource>⟧ (IsRemove res told.new.place) told.old told.new) (told.new ≡ no_told told.old) (book_of handle.old.kept) (book_of handle.new.kept) result }
+{
+    let Some(mut kept) = handle.take(alloc) else {
+        told.clear();
+        return NOTHING_KEPT;
+    };
+    let status = kept.remove_told(res, told);
+    handle.put(kept, alloc);
+    status
+}
+
+/// A lease is given back, and what waits is told.
+#[unsafe(no_mangle)]
+pub extern "C" fn rx_book_give_back_told(
+    alloc: Global,
+    handle: &mut BookHandle,
+    lease: RxLease,
+    told: &mut RxTold,
+) -> u8
+    ensures { IsCalled (IsThenTold ⟦<Token as Resource>⟧ (IsGiveBack lease told.new.place) told.old told.new) (told.new ≡ no_told told.old) (book_of handle.old.kept) (book_of handle.new.kept) result }
+{
+    let Some(mut kept) = handle.take(alloc) else {
+        told.clear();
+        return NOTHING_KEPT;
+    };
+    let status = kept.give_back_told(lease, told);
+    handle.put(kept, alloc);
+    status
+}
+
+/// Opens a node, and what waits is told.
+#[unsafe(no_mangle)]
+pub extern "C" fn rx_book_open_told(
+    alloc: Global,
+    handle: &mut BookHandle,
+    place: u8,
+    above: RxNode,
+    kind: u8,
+    hub: u64,
+    opened: &mut RxOpened,
+    told: &mut RxTold,
+) -> u8
+    ensures { IsDecoded (asked_of place above kind hub)
+        (λ asked. IsCalled (IsThenTold ⟦<Token as Resource>⟧ (IsOpen asked.0 asked.1 opened.new) told.old told.new)
+        ((opened.new ≡ no_opened) × (told.new ≡ no_told told.old)) (book_of handle.old.kept) (book_of handle.new.kept))
+        ((book_of handle.new.kept ≡ book_of handle.old.kept) × (opened.new ≡ no_opened) × (told.new ≡ no_told told.old)) result }
+{
+    let Some((at, kind)) = asked(place, above, kind, hub) else {
+        *opened = no_opened();
+        told.clear();
+        return NO_SUCH_CODE;
+    };
+    let Some(mut kept) = handle.take(alloc) else {
+        *opened = no_opened();
+        told.clear();
+        return NOTHING_KEPT;
+    };
+    let status = kept.open_told(at, kind, opened, told);
+    handle.put(kept, alloc);
+    status
+}
+
+/// Opens a mirroring node that holds the resource of this tag, and what waits is told.
+#[unsafe(no_mangle)]
+pub extern "C" fn rx_book_using_told(
+    alloc: Global,
+    handle: &mut BookHandle,
+    place: u8,
+    above: RxNode,
+    tag: u64,
+    used: &mut RxUsing,
+    told: &mut RxTold,
+) -> u8
+    ensures { IsDecoded (place_at place above)
+        (λ at. IsCalled (IsThenTold ⟦<Token as Resource>⟧ (IsUsing ⟦<Token as Resource>⟧ at tag used.new) told.old told.new)
+        ((used.new ≡ no_used) × (told.new ≡ no_told told.old)) (book_of handle.old.kept) (book_of handle.new.kept))
+        ((book_of handle.new.kept ≡ book_of handle.old.kept) × (used.new ≡ no_used) × (told.new ≡ no_told told.old)) result }
+{
+    let Some(at) = place_at(place, above) else {
+        *used = no_used();
+        told.clear();
+        return NO_SUCH_CODE;
+    };
+    let Some(mut kept) = handle.take(alloc) else {
+        *used = no_used();
+        told.clear();
+        return NOTHING_KEPT;
+    };
+    let status = kept.using_told(at, tag, used, told);
+    handle.put(kept, alloc);
+    status
+}
