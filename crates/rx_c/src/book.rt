@@ -21,9 +21,7 @@ pub use events::{
 };
 pub use holding::{rx_book_apply, rx_book_give_back, rx_book_hold, rx_book_lease, rx_book_remove};
 pub use hubs::{rx_book_connect, rx_book_disconnect, rx_book_hub};
-pub use making::{
-    rx_book_checkpoint, rx_book_close, rx_book_drop, rx_book_finish, rx_book_new,
-};
+pub use making::{rx_book_checkpoint, rx_book_close, rx_book_drop, rx_book_finish, rx_book_new};
 pub use opening::{rx_book_open, rx_book_using};
 pub use telling::{
     rx_book_abort_told, rx_book_decline_told, rx_book_disconnect_told, rx_book_dispose_told,

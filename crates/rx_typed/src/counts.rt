@@ -63,4 +63,3 @@ impl Typed {
         DONE
     }
 }
-

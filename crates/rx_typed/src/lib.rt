@@ -41,9 +41,9 @@ pub use draining::drain;
 pub use dumping::no_event;
 pub use laws::{notes_are_told_once, resources_are_handed_back_once};
 pub use shapes::{
-    RxCounts, RxDrained, RxEvent, RxLease, RxMail, RxNode, RxOpened, RxRes, RxTaken, RxTold, RxUsing,
+    RxCounts, RxDrained, RxEvent, RxLease, RxMail, RxNode, RxOpened, RxRes, RxTaken, RxTold,
+    RxUsing, no_lease, no_mail, no_node, no_opened, no_res, no_taken, no_used,
 };
-pub use shapes::{no_lease, no_mail, no_node, no_opened, no_res, no_taken, no_used};
 pub use status::{
     CUT, DONE, HELD, NO_MEMORY, NO_SUCH_CODE, NOTHING_KEPT, NOTHING_WAITS, SMALL, UNTAKEN,
 };

@@ -114,13 +114,7 @@ impl Typed {
     }
 
     /// A node is opened.
-    pub fn open_told(
-        &mut self,
-        at: At,
-        kind: Kind,
-        opened: &mut RxOpened,
-        told: &mut RxTold,
-    ) -> u8
+    pub fn open_told(&mut self, at: At, kind: Kind, opened: &mut RxOpened, told: &mut RxTold) -> u8
         ensures told { IsThenTold ⟦<Token as Resource>⟧ (IsOpen at kind opened.new) told.old told.new self.old.book self.new.book result }
         ensures place { told.new.place ≡ opened.new.node.number }
     {

@@ -7,8 +7,9 @@ ghost use Rattle.rx_typed.specs.Calls.{IsNext, IsEnd, IsDispose, IsAbort, IsFail
 ghost use Rattle.rx_typed.specs.Calls.{IsOpen, IsUsing, IsHold, IsHub, IsConnect, IsDisconnect, IsApply, IsRemove, IsLease, IsGiveBack};
 
 use crate::shapes::{
-    RxLease, RxMail, RxNode, RxOpened, RxRes, RxTaken, RxUsing, key_of, lease_key_of, lease_of, mail_of,
-    no_lease, no_mail, no_node, no_opened, no_res, no_taken, no_used, node_of, opened_of, res_key_of, res_of,
+    RxLease, RxMail, RxNode, RxOpened, RxRes, RxTaken, RxUsing, key_of, lease_key_of, lease_of,
+    mail_of, no_lease, no_mail, no_node, no_opened, no_res, no_taken, no_used, node_of, opened_of,
+    res_key_of, res_of,
 };
 use crate::status::{DONE, NOTHING_WAITS, status_of};
 use crate::token::Token;

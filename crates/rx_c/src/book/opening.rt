@@ -7,7 +7,8 @@ ghost use Rattle.rx_typed.specs.Codes.{asked_of, place_at, no_opened, no_used};
 use super::handle::BookHandle;
 use rx_book::Resource;
 use rx_typed::{
-    NO_SUCH_CODE, NOTHING_KEPT, RxNode, RxOpened, RxUsing, Token, asked, no_opened, no_used, place_at,
+    NO_SUCH_CODE, NOTHING_KEPT, RxNode, RxOpened, RxUsing, Token, asked, no_opened, no_used,
+    place_at,
 };
 use std::alloc::Global;
 

@@ -89,7 +89,14 @@ impl Bench {
         self.nodes.reserve(1)?;
         let status = match call {
             Call::Using => {
-                rx_book_using(self.alloc, &mut self.handle, place, above, number, &mut used)
+                rx_book_using(
+                    self.alloc,
+                    &mut self.handle,
+                    place,
+                    above,
+                    number,
+                    &mut used,
+                )
             }
             _ => {
                 let kind = u8::try_from(number).unwrap_or(255);
