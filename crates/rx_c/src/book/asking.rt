@@ -15,7 +15,8 @@ pub extern "C" fn rx_book_is_open(
     node: RxNode,
     is_open: &mut u8,
 ) -> u8
-    ensures { IsCalled (IsAsked node is_open.new) (is_open.new ≡ 0) (book_of handle.old.kept) (book_of handle.new.kept) result }
+    ensures { IsCalled (IsAsked node is_open.new) (is_open.new ≡ 0)
+        (book_of handle.old.kept) (book_of handle.new.kept) result }
 {
     let Some(mut kept) = handle.take(alloc) else {
         *is_open = 0;
@@ -34,7 +35,8 @@ pub extern "C" fn rx_book_is_held(
     res: RxRes,
     is_held: &mut u8,
 ) -> u8
-    ensures { IsCalled (IsAskedHeld res is_held.new) (is_held.new ≡ 0) (book_of handle.old.kept) (book_of handle.new.kept) result }
+    ensures { IsCalled (IsAskedHeld res is_held.new) (is_held.new ≡ 0)
+        (book_of handle.old.kept) (book_of handle.new.kept) result }
 {
     let Some(mut kept) = handle.take(alloc) else {
         *is_held = 0;
@@ -54,7 +56,8 @@ pub extern "C" fn rx_book_owed(
     merging: RxNode,
     count: &mut u64,
 ) -> u8
-    ensures { IsCalled (IsOwed merging count.new) (count.new ≡ 0) (book_of handle.old.kept) (book_of handle.new.kept) result }
+    ensures { IsCalled (IsOwed merging count.new) (count.new ≡ 0)
+        (book_of handle.old.kept) (book_of handle.new.kept) result }
 {
     let Some(mut kept) = handle.take(alloc) else {
         *count = 0;
@@ -67,12 +70,9 @@ pub extern "C" fn rx_book_owed(
 
 /// What there is.
 #[unsafe(no_mangle)]
-pub extern "C" fn rx_book_counts(
-    alloc: Global,
-    handle: &mut BookHandle,
-    counts: &mut RxCounts,
-) -> u8
-    ensures { IsCalled (IsCounted counts.new) (counts.new ≡ no_counts) (book_of handle.old.kept) (book_of handle.new.kept) result }
+pub extern "C" fn rx_book_counts(alloc: Global, handle: &mut BookHandle, counts: &mut RxCounts) -> u8
+    ensures { IsCalled (IsCounted counts.new) (counts.new ≡ no_counts)
+        (book_of handle.old.kept) (book_of handle.new.kept) result }
 {
     let Some(mut kept) = handle.take(alloc) else {
         *counts = RxCounts {

@@ -13,7 +13,8 @@ use std::alloc::Global;
 /// The next note.
 #[unsafe(no_mangle)]
 pub extern "C" fn rx_book_take_mail(alloc: Global, handle: &mut BookHandle, mail: &mut RxMail) -> u8
-    ensures { IsCalled (IsMailTaken mail.new) (mail.new ≡ no_mail) (book_of handle.old.kept) (book_of handle.new.kept) result }
+    ensures { IsCalled (IsMailTaken mail.new) (mail.new ≡ no_mail)
+        (book_of handle.old.kept) (book_of handle.new.kept) result }
 {
     let Some(mut kept) = handle.take(alloc) else {
         *mail = no_mail();
@@ -27,7 +28,8 @@ pub extern "C" fn rx_book_take_mail(alloc: Global, handle: &mut BookHandle, mail
 /// A resource that waits, which the caller is to release now.
 #[unsafe(no_mangle)]
 pub extern "C" fn rx_book_take(alloc: Global, handle: &mut BookHandle, taken: &mut RxTaken) -> u8
-    ensures { IsCalled (IsTaken ⟦<Token as Resource>⟧ taken.new) (taken.new ≡ no_taken) (book_of handle.old.kept) (book_of handle.new.kept) result }
+    ensures { IsCalled (IsTaken ⟦<Token as Resource>⟧ taken.new) (taken.new ≡ no_taken)
+        (book_of handle.old.kept) (book_of handle.new.kept) result }
 {
     let Some(mut kept) = handle.take(alloc) else {
         *taken = no_taken();
@@ -48,8 +50,10 @@ pub extern "C" fn rx_book_drain(
     resources: &mut [RxTaken],
     drained: &mut RxDrained,
 ) -> u8
-    ensures { IsCalled (λ s t status. IsDrainedCall ⟦<Token as Resource>⟧ mails.old mails.new resources.old resources.new drained.new s t × (status ≡ 0))
-        ((drained.new ≡ no_drained) × (mails.new ≡ mails.old) × (resources.new ≡ resources.old)) (book_of handle.old.kept) (book_of handle.new.kept) result }
+    ensures { IsCalled (λ s t status. IsDrainedCall ⟦<Token as Resource>⟧
+        mails.old mails.new resources.old resources.new drained.new s t × (status ≡ 0))
+        ((drained.new ≡ no_drained) × (mails.new ≡ mails.old) × (resources.new ≡ resources.old))
+            (book_of handle.old.kept) (book_of handle.new.kept) result }
 {
     let Some(mut kept) = handle.take(alloc) else {
         *drained = RxDrained {

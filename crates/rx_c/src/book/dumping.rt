@@ -19,7 +19,8 @@ pub extern "C" fn rx_book_event(
     place: u64,
     event: &mut RxEvent,
 ) -> u8
-    ensures { IsCalled (IsEventTold place event.new) (event.new ≡ no_event) (book_of handle.old.kept) (book_of handle.new.kept) result }
+    ensures { IsCalled (IsEventTold place event.new) (event.new ≡ no_event)
+        (book_of handle.old.kept) (book_of handle.new.kept) result }
 {
     let Some(mut kept) = handle.take(alloc) else {
         *event = no_event();

@@ -1,7 +1,8 @@
 //! Items, ends and unsubscriptions.
 
 ghost use Rattle.std.specs.Prelude.{◌≡◌};
-ghost use Rattle.rx_typed.specs.Calls.{IsCalled, IsDecoded, IsNext, IsNextAll, IsEnd, IsAbort, IsFail, IsDecline, IsDispose, book_of};
+ghost use Rattle.rx_typed.specs.Calls.{IsCalled, IsDecoded, IsNext, IsNextAll, IsEnd};
+ghost use Rattle.rx_typed.specs.Calls.{IsAbort, IsFail, IsDecline, IsDispose, book_of};
 ghost use Rattle.rx_typed.specs.Codes.{terminal_of};
 
 use super::handle::BookHandle;
@@ -17,7 +18,8 @@ pub extern "C" fn rx_book_next(
     value: i64,
     place: &mut u64,
 ) -> u8
-    ensures { IsCalled (IsNext leaf value place.new) (place.new ≡ 0) (book_of handle.old.kept) (book_of handle.new.kept) result }
+    ensures { IsCalled (IsNext leaf value place.new) (place.new ≡ 0)
+        (book_of handle.old.kept) (book_of handle.new.kept) result }
 {
     let Some(mut kept) = handle.take(alloc) else {
         *place = 0;
@@ -38,7 +40,8 @@ pub extern "C" fn rx_book_next_all(
     values: &[i64],
     count: &mut usize,
 ) -> u8
-    ensures { IsCalled (IsNextAll leaf values.now count.new) (count.new ≡ 0) (book_of handle.old.kept) (book_of handle.new.kept) result }
+    ensures { IsCalled (IsNextAll leaf values.now count.new) (count.new ≡ 0)
+        (book_of handle.old.kept) (book_of handle.new.kept) result }
 {
     let Some(mut kept) = handle.take(alloc) else {
         *count = 0;
@@ -58,7 +61,8 @@ pub extern "C" fn rx_book_abort(
     error: u32,
     place: &mut u64,
 ) -> u8
-    ensures { IsCalled (IsAbort node error place.new) (place.new ≡ 0) (book_of handle.old.kept) (book_of handle.new.kept) result }
+    ensures { IsCalled (IsAbort node error place.new) (place.new ≡ 0)
+        (book_of handle.old.kept) (book_of handle.new.kept) result }
 {
     let Some(mut kept) = handle.take(alloc) else {
         *place = 0;
@@ -78,7 +82,8 @@ pub extern "C" fn rx_book_fail(
     error: u32,
     place: &mut u64,
 ) -> u8
-    ensures { IsCalled (IsFail merging error place.new) (place.new ≡ 0) (book_of handle.old.kept) (book_of handle.new.kept) result }
+    ensures { IsCalled (IsFail merging error place.new) (place.new ≡ 0)
+        (book_of handle.old.kept) (book_of handle.new.kept) result }
 {
     let Some(mut kept) = handle.take(alloc) else {
         *place = 0;
@@ -97,7 +102,8 @@ pub extern "C" fn rx_book_decline(
     merging: RxNode,
     place: &mut u64,
 ) -> u8
-    ensures { IsCalled (IsDecline merging place.new) (place.new ≡ 0) (book_of handle.old.kept) (book_of handle.new.kept) result }
+    ensures { IsCalled (IsDecline merging place.new) (place.new ≡ 0)
+        (book_of handle.old.kept) (book_of handle.new.kept) result }
 {
     let Some(mut kept) = handle.take(alloc) else {
         *place = 0;
@@ -116,7 +122,8 @@ pub extern "C" fn rx_book_dispose(
     root: RxNode,
     place: &mut u64,
 ) -> u8
-    ensures { IsCalled (IsDispose root place.new) (place.new ≡ 0) (book_of handle.old.kept) (book_of handle.new.kept) result }
+    ensures { IsCalled (IsDispose root place.new) (place.new ≡ 0)
+        (book_of handle.old.kept) (book_of handle.new.kept) result }
 {
     let Some(mut kept) = handle.take(alloc) else {
         *place = 0;
@@ -138,7 +145,8 @@ pub extern "C" fn rx_book_end(
     place: &mut u64,
 ) -> u8
     ensures { IsDecoded (terminal_of how error)
-        (λ terminal. IsCalled (IsEnd leaf terminal place.new) (place.new ≡ 0) (book_of handle.old.kept) (book_of handle.new.kept))
+        (λ terminal. IsCalled (IsEnd leaf terminal place.new) (place.new ≡ 0) (book_of handle.old.kept)
+            (book_of handle.new.kept))
         ((book_of handle.new.kept ≡ book_of handle.old.kept) × (place.new ≡ 0)) result }
 {
     let Some(terminal) = terminal_of(how, error) else {

@@ -18,7 +18,8 @@ pub extern "C" fn rx_book_hold(
     tag: u64,
     held: &mut RxRes,
 ) -> u8
-    ensures { IsCalled (IsHold ⟦<Token as Resource>⟧ node tag held.new) (held.new ≡ no_res) (book_of handle.old.kept) (book_of handle.new.kept) result }
+    ensures { IsCalled (IsHold ⟦<Token as Resource>⟧ node tag held.new) (held.new ≡ no_res)
+        (book_of handle.old.kept) (book_of handle.new.kept) result }
 {
     let Some(mut kept) = handle.take(alloc) else {
         *held = no_res();
@@ -38,7 +39,8 @@ pub extern "C" fn rx_book_apply(
     word: u64,
     answer: &mut u64,
 ) -> u8
-    ensures { IsCalled (IsApply res answer.new) (answer.new ≡ 0) (book_of handle.old.kept) (book_of handle.new.kept) result }
+    ensures { IsCalled (IsApply res answer.new) (answer.new ≡ 0)
+        (book_of handle.old.kept) (book_of handle.new.kept) result }
 {
     let Some(mut kept) = handle.take(alloc) else {
         *answer = 0;
@@ -57,7 +59,8 @@ pub extern "C" fn rx_book_remove(
     res: RxRes,
     place: &mut u64,
 ) -> u8
-    ensures { IsCalled (IsRemove res place.new) (place.new ≡ 0) (book_of handle.old.kept) (book_of handle.new.kept) result }
+    ensures { IsCalled (IsRemove res place.new) (place.new ≡ 0)
+        (book_of handle.old.kept) (book_of handle.new.kept) result }
 {
     let Some(mut kept) = handle.take(alloc) else {
         *place = 0;
@@ -76,7 +79,8 @@ pub extern "C" fn rx_book_lease(
     res: RxRes,
     lease: &mut RxLease,
 ) -> u8
-    ensures { IsCalled (IsLease res lease.new) (lease.new ≡ no_lease) (book_of handle.old.kept) (book_of handle.new.kept) result }
+    ensures { IsCalled (IsLease res lease.new) (lease.new ≡ no_lease)
+        (book_of handle.old.kept) (book_of handle.new.kept) result }
 {
     let Some(mut kept) = handle.take(alloc) else {
         *lease = no_lease();
@@ -95,7 +99,8 @@ pub extern "C" fn rx_book_give_back(
     lease: RxLease,
     place: &mut u64,
 ) -> u8
-    ensures { IsCalled (IsGiveBack lease place.new) (place.new ≡ 0) (book_of handle.old.kept) (book_of handle.new.kept) result }
+    ensures { IsCalled (IsGiveBack lease place.new) (place.new ≡ 0)
+        (book_of handle.old.kept) (book_of handle.new.kept) result }
 {
     let Some(mut kept) = handle.take(alloc) else {
         *place = 0;

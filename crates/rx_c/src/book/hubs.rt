@@ -16,7 +16,8 @@ pub extern "C" fn rx_book_connect(
     hub: u64,
     connection: &mut RxNode,
 ) -> u8
-    ensures { IsCalled (IsConnect hub connection.new) (connection.new ≡ no_node) (book_of handle.old.kept) (book_of handle.new.kept) result }
+    ensures { IsCalled (IsConnect hub connection.new) (connection.new ≡ no_node)
+        (book_of handle.old.kept) (book_of handle.new.kept) result }
 {
     let Some(mut kept) = handle.take(alloc) else {
         *connection = no_node();
@@ -35,7 +36,8 @@ pub extern "C" fn rx_book_disconnect(
     hub: u64,
     place: &mut u64,
 ) -> u8
-    ensures { IsCalled (IsDisconnect hub place.new) (place.new ≡ 0) (book_of handle.old.kept) (book_of handle.new.kept) result }
+    ensures { IsCalled (IsDisconnect hub place.new) (place.new ≡ 0)
+        (book_of handle.old.kept) (book_of handle.new.kept) result }
 {
     let Some(mut kept) = handle.take(alloc) else {
         *place = 0;

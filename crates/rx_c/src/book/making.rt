@@ -28,7 +28,8 @@ pub extern "C" fn rx_book_new(alloc: Global, handle: &mut BookHandle, max_events
 /// Puts what the history leaves in the place of its events.
 #[unsafe(no_mangle)]
 pub extern "C" fn rx_book_checkpoint(alloc: Global, handle: &mut BookHandle, place: &mut u64) -> u8
-    ensures { IsCalled (IsCheckpoint place.new) (place.new ≡ 0) (book_of handle.old.kept) (book_of handle.new.kept) result }
+    ensures { IsCalled (IsCheckpoint place.new) (place.new ≡ 0)
+        (book_of handle.old.kept) (book_of handle.new.kept) result }
 {
     let Some(mut kept) = handle.take(alloc) else {
         *place = 0;

@@ -2,7 +2,8 @@
 
 ghost use Rattle.std.specs.Prelude.{◌≡◌};
 ghost use Rattle.rx_typed.specs.Told.{IsThenTold, no_told};
-ghost use Rattle.rx_typed.specs.Calls.{IsCalled, IsNext, IsEnd, IsDispose, IsAbort, IsFail, IsDecline, IsDisconnect, IsRemove, IsGiveBack};
+ghost use Rattle.rx_typed.specs.Calls.{IsCalled, IsNext, IsEnd, IsDispose, IsAbort};
+ghost use Rattle.rx_typed.specs.Calls.{IsFail, IsDecline, IsDisconnect, IsRemove, IsGiveBack};
 ghost use Rattle.rx_typed.specs.Calls.{IsOpen, IsUsing, IsDecoded, book_of};
 ghost use Rattle.rx_typed.specs.Codes.{asked_of, place_at, terminal_of, no_opened, no_used};
 
@@ -23,7 +24,8 @@ pub extern "C" fn rx_book_next_told(
     value: i64,
     told: &mut RxTold,
 ) -> u8
-    ensures { IsCalled (IsThenTold ⟦<Token as Resource>⟧ (IsNext leaf value told.new.place) told.old told.new) (told.new ≡ no_told told.old) (book_of handle.old.kept) (book_of handle.new.kept) result }
+    ensures { IsCalled (IsThenTold ⟦<Token as Resource>⟧ (IsNext leaf value told.new.place) told.old told.new)
+        (told.new ≡ no_told told.old) (book_of handle.old.kept) (book_of handle.new.kept) result }
 {
     let Some(mut kept) = handle.take(alloc) else {
         told.clear();
@@ -45,7 +47,8 @@ pub extern "C" fn rx_book_end_told(
     told: &mut RxTold,
 ) -> u8
     ensures { IsDecoded (terminal_of how error)
-        (λ terminal. IsCalled (IsThenTold ⟦<Token as Resource>⟧ (IsEnd leaf terminal told.new.place) told.old told.new) (told.new ≡ no_told told.old) (book_of handle.old.kept) (book_of handle.new.kept))
+        (λ terminal. IsCalled (IsThenTold ⟦<Token as Resource>⟧ (IsEnd leaf terminal told.new.place)
+            told.old told.new) (told.new ≡ no_told told.old) (book_of handle.old.kept) (book_of handle.new.kept))
         ((book_of handle.new.kept ≡ book_of handle.old.kept) × (told.new ≡ no_told told.old)) result }
 {
     let Some(terminal) = terminal_of(how, error) else {
@@ -69,7 +72,8 @@ pub extern "C" fn rx_book_dispose_told(
     root: RxNode,
     told: &mut RxTold,
 ) -> u8
-    ensures { IsCalled (IsThenTold ⟦<Token as Resource>⟧ (IsDispose root told.new.place) told.old told.new) (told.new ≡ no_told told.old) (book_of handle.old.kept) (book_of handle.new.kept) result }
+    ensures { IsCalled (IsThenTold ⟦<Token as Resource>⟧ (IsDispose root told.new.place) told.old told.new)
+        (told.new ≡ no_told told.old) (book_of handle.old.kept) (book_of handle.new.kept) result }
 {
     let Some(mut kept) = handle.take(alloc) else {
         told.clear();
@@ -89,7 +93,8 @@ pub extern "C" fn rx_book_abort_told(
     error: u32,
     told: &mut RxTold,
 ) -> u8
-    ensures { IsCalled (IsThenTold ⟦<Token as Resource>⟧ (IsAbort node error told.new.place) told.old told.new) (told.new ≡ no_told told.old) (book_of handle.old.kept) (book_of handle.new.kept) result }
+    ensures { IsCalled (IsThenTold ⟦<Token as Resource>⟧ (IsAbort node error told.new.place)
+        told.old told.new) (told.new ≡ no_told told.old) (book_of handle.old.kept) (book_of handle.new.kept) result }
 {
     let Some(mut kept) = handle.take(alloc) else {
         told.clear();
@@ -109,7 +114,8 @@ pub extern "C" fn rx_book_fail_told(
     error: u32,
     told: &mut RxTold,
 ) -> u8
-    ensures { IsCalled (IsThenTold ⟦<Token as Resource>⟧ (IsFail merging error told.new.place) told.old told.new) (told.new ≡ no_told told.old) (book_of handle.old.kept) (book_of handle.new.kept) result }
+    ensures { IsCalled (IsThenTold ⟦<Token as Resource>⟧ (IsFail merging error told.new.place)
+        told.old told.new) (told.new ≡ no_told told.old) (book_of handle.old.kept) (book_of handle.new.kept) result }
 {
     let Some(mut kept) = handle.take(alloc) else {
         told.clear();
@@ -128,7 +134,8 @@ pub extern "C" fn rx_book_decline_told(
     merging: RxNode,
     told: &mut RxTold,
 ) -> u8
-    ensures { IsCalled (IsThenTold ⟦<Token as Resource>⟧ (IsDecline merging told.new.place) told.old told.new) (told.new ≡ no_told told.old) (book_of handle.old.kept) (book_of handle.new.kept) result }
+    ensures { IsCalled (IsThenTold ⟦<Token as Resource>⟧ (IsDecline merging told.new.place) told.old told.new)
+        (told.new ≡ no_told told.old) (book_of handle.old.kept) (book_of handle.new.kept) result }
 {
     let Some(mut kept) = handle.take(alloc) else {
         told.clear();
@@ -147,7 +154,8 @@ pub extern "C" fn rx_book_disconnect_told(
     hub: u64,
     told: &mut RxTold,
 ) -> u8
-    ensures { IsCalled (IsThenTold ⟦<Token as Resource>⟧ (IsDisconnect hub told.new.place) told.old told.new) (told.new ≡ no_told told.old) (book_of handle.old.kept) (book_of handle.new.kept) result }
+    ensures { IsCalled (IsThenTold ⟦<Token as Resource>⟧ (IsDisconnect hub told.new.place) told.old told.new)
+        (told.new ≡ no_told told.old) (book_of handle.old.kept) (book_of handle.new.kept) result }
 {
     let Some(mut kept) = handle.take(alloc) else {
         told.clear();
@@ -166,7 +174,8 @@ pub extern "C" fn rx_book_remove_told(
     res: RxRes,
     told: &mut RxTold,
 ) -> u8
-    ensures { IsCalled (IsThenTold ⟦<Token as Resource>⟧ (IsRemove res told.new.place) told.old told.new) (told.new ≡ no_told told.old) (book_of handle.old.kept) (book_of handle.new.kept) result }
+    ensures { IsCalled (IsThenTold ⟦<Token as Resource>⟧ (IsRemove res told.new.place) told.old told.new)
+        (told.new ≡ no_told told.old) (book_of handle.old.kept) (book_of handle.new.kept) result }
 {
     let Some(mut kept) = handle.take(alloc) else {
         told.clear();
@@ -185,7 +194,8 @@ pub extern "C" fn rx_book_give_back_told(
     lease: RxLease,
     told: &mut RxTold,
 ) -> u8
-    ensures { IsCalled (IsThenTold ⟦<Token as Resource>⟧ (IsGiveBack lease told.new.place) told.old told.new) (told.new ≡ no_told told.old) (book_of handle.old.kept) (book_of handle.new.kept) result }
+    ensures { IsCalled (IsThenTold ⟦<Token as Resource>⟧ (IsGiveBack lease told.new.place) told.old told.new)
+        (told.new ≡ no_told told.old) (book_of handle.old.kept) (book_of handle.new.kept) result }
 {
     let Some(mut kept) = handle.take(alloc) else {
         told.clear();
@@ -211,7 +221,8 @@ pub extern "C" fn rx_book_open_told(
     ensures { IsDecoded (asked_of place above kind hub)
         (λ asked. IsCalled (IsThenTold ⟦<Token as Resource>⟧ (IsOpen asked.0 asked.1 opened.new) told.old told.new)
         ((opened.new ≡ no_opened) × (told.new ≡ no_told told.old)) (book_of handle.old.kept) (book_of handle.new.kept))
-        ((book_of handle.new.kept ≡ book_of handle.old.kept) × (opened.new ≡ no_opened) × (told.new ≡ no_told told.old)) result }
+        ((book_of handle.new.kept ≡ book_of handle.old.kept) × (opened.new ≡ no_opened) ×
+            (told.new ≡ no_told told.old)) result }
 {
     let Some((at, kind)) = asked(place, above, kind, hub) else {
         *opened = no_opened();
@@ -240,9 +251,11 @@ pub extern "C" fn rx_book_using_told(
     told: &mut RxTold,
 ) -> u8
     ensures { IsDecoded (place_at place above)
-        (λ at. IsCalled (IsThenTold ⟦<Token as Resource>⟧ (IsUsing ⟦<Token as Resource>⟧ at tag used.new) told.old told.new)
+        (λ at. IsCalled (IsThenTold ⟦<Token as Resource>⟧
+            (IsUsing ⟦<Token as Resource>⟧ at tag used.new) told.old told.new)
         ((used.new ≡ no_used) × (told.new ≡ no_told told.old)) (book_of handle.old.kept) (book_of handle.new.kept))
-        ((book_of handle.new.kept ≡ book_of handle.old.kept) × (used.new ≡ no_used) × (told.new ≡ no_told told.old)) result }
+        ((book_of handle.new.kept ≡ book_of handle.old.kept) × (used.new ≡ no_used) ×
+            (told.new ≡ no_told told.old)) result }
 {
     let Some(at) = place_at(place, above) else {
         *used = no_used();
