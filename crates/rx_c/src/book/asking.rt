@@ -70,7 +70,11 @@ pub extern "C" fn rx_book_owed(
 
 /// What there is.
 #[unsafe(no_mangle)]
-pub extern "C" fn rx_book_counts(alloc: Global, handle: &mut BookHandle, counts: &mut RxCounts) -> u8
+pub extern "C" fn rx_book_counts(
+    alloc: Global,
+    handle: &mut BookHandle,
+    counts: &mut RxCounts,
+) -> u8
     ensures { IsCalled (IsCounted counts.new) (counts.new ≡ no_counts)
         (book_of handle.old.kept) (book_of handle.new.kept) result }
 {

@@ -53,7 +53,7 @@ pub extern "C" fn rx_book_drain(
     ensures { IsCalled (λ s t status. IsDrainedCall ⟦<Token as Resource>⟧
         mails.old mails.new resources.old resources.new drained.new s t × (status ≡ 0))
         ((drained.new ≡ no_drained) × (mails.new ≡ mails.old) × (resources.new ≡ resources.old))
-            (book_of handle.old.kept) (book_of handle.new.kept) result }
+        (book_of handle.old.kept) (book_of handle.new.kept) result }
 {
     let Some(mut kept) = handle.take(alloc) else {
         *drained = RxDrained {

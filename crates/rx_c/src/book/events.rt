@@ -146,7 +146,7 @@ pub extern "C" fn rx_book_end(
 ) -> u8
     ensures { IsDecoded (terminal_of how error)
         (λ terminal. IsCalled (IsEnd leaf terminal place.new) (place.new ≡ 0) (book_of handle.old.kept)
-            (book_of handle.new.kept))
+        (book_of handle.new.kept))
         ((book_of handle.new.kept ≡ book_of handle.old.kept) × (place.new ≡ 0)) result }
 {
     let Some(terminal) = terminal_of(how, error) else {

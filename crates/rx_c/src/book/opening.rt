@@ -26,7 +26,7 @@ pub extern "C" fn rx_book_open(
 ) -> u8
     ensures { IsDecoded (asked_of place above kind hub)
         (λ asked. IsCalled (IsOpen asked.0 asked.1 opened.new) (opened.new ≡ no_opened)
-            (book_of handle.old.kept) (book_of handle.new.kept))
+        (book_of handle.old.kept) (book_of handle.new.kept))
         ((book_of handle.new.kept ≡ book_of handle.old.kept) × (opened.new ≡ no_opened)) result }
 {
     let Some((at, kind)) = asked(place, above, kind, hub) else {
@@ -54,7 +54,7 @@ pub extern "C" fn rx_book_using(
 ) -> u8
     ensures { IsDecoded (place_at place above)
         (λ at. IsCalled (IsUsing ⟦<Token as Resource>⟧ at tag used.new) (used.new ≡ no_used)
-            (book_of handle.old.kept) (book_of handle.new.kept))
+        (book_of handle.old.kept) (book_of handle.new.kept))
         ((book_of handle.new.kept ≡ book_of handle.old.kept) × (used.new ≡ no_used)) result }
 {
     let Some(at) = place_at(place, above) else {

@@ -48,7 +48,7 @@ pub extern "C" fn rx_book_end_told(
 ) -> u8
     ensures { IsDecoded (terminal_of how error)
         (λ terminal. IsCalled (IsThenTold ⟦<Token as Resource>⟧ (IsEnd leaf terminal told.new.place)
-            told.old told.new) (told.new ≡ no_told told.old) (book_of handle.old.kept) (book_of handle.new.kept))
+        told.old told.new) (told.new ≡ no_told told.old) (book_of handle.old.kept) (book_of handle.new.kept))
         ((book_of handle.new.kept ≡ book_of handle.old.kept) × (told.new ≡ no_told told.old)) result }
 {
     let Some(terminal) = terminal_of(how, error) else {
@@ -222,7 +222,7 @@ pub extern "C" fn rx_book_open_told(
         (λ asked. IsCalled (IsThenTold ⟦<Token as Resource>⟧ (IsOpen asked.0 asked.1 opened.new) told.old told.new)
         ((opened.new ≡ no_opened) × (told.new ≡ no_told told.old)) (book_of handle.old.kept) (book_of handle.new.kept))
         ((book_of handle.new.kept ≡ book_of handle.old.kept) × (opened.new ≡ no_opened) ×
-            (told.new ≡ no_told told.old)) result }
+        (told.new ≡ no_told told.old)) result }
 {
     let Some((at, kind)) = asked(place, above, kind, hub) else {
         *opened = no_opened();
@@ -252,10 +252,10 @@ pub extern "C" fn rx_book_using_told(
 ) -> u8
     ensures { IsDecoded (place_at place above)
         (λ at. IsCalled (IsThenTold ⟦<Token as Resource>⟧
-            (IsUsing ⟦<Token as Resource>⟧ at tag used.new) told.old told.new)
+        (IsUsing ⟦<Token as Resource>⟧ at tag used.new) told.old told.new)
         ((used.new ≡ no_used) × (told.new ≡ no_told told.old)) (book_of handle.old.kept) (book_of handle.new.kept))
         ((book_of handle.new.kept ≡ book_of handle.old.kept) × (used.new ≡ no_used) ×
-            (told.new ≡ no_told told.old)) result }
+        (told.new ≡ no_told told.old)) result }
 {
     let Some(at) = place_at(place, above) else {
         *used = no_used();
