@@ -8,7 +8,6 @@ use crate::book::{
     rx_book_hold, rx_book_hub, rx_book_lease, rx_book_new, rx_book_next, rx_book_next_all,
     rx_book_open, rx_book_remove, rx_book_take, rx_book_take_mail, rx_book_using,
 };
-use rx_scarce::{MOST_BLOCKS, Scarce};
 use rx_typed::{
     RxDrained, RxLease, RxNode, RxRes, no_event, no_lease, no_mail, no_node, no_opened, no_res,
     no_taken, no_used,
@@ -356,47 +355,4 @@ fn each_call_has_a_status_for_each_refusal(rt: HostRuntime) -> Result<(), Fail> 
     done?;
     assert_eq!(rt; text.as_str(), ANSWERED);
     Ok(())
-}
-
-// The calls that may take memory.
-const TAKERS: [Step; 9] = [
-    (Call::Make, 0, 0, 1000),
-    (Call::Using, 0, 0, 7),
-    (Call::Hold, 0, 1, 8),
-    (Call::Lease, 0, 0, 0),
-    (Call::Open, 1, 1, 2),
-    (Call::Open, 1, 2, 0),
-    (Call::NextAll, 0, 3, 0),
-    (Call::Hub, 0, 0, 0),
-    (Call::Finish, 0, 0, 0),
-];
-
-// Makes the call again and again, each time with one more block of memory, until it is answered otherwise than for
-// want of it; answers that.
-fn at_last(bench: &mut Bench, step: Step) -> Option<u8> {
-    let mut scarce = Scarce::new(bench.alloc).ok()?;
-    for _ in 0..MOST_BLOCKS {
-        if let Ok(status) = bench.step(step) {
-            if status != 4 {
-                return Some(status);
-            }
-        }
-        if !scarce.give_back_one() {
-            return None;
-        }
-    }
-    None
-}
-
-#[test]
-fn a_call_that_is_refused_memory_goes_through_later(rt: HostRuntime) {
-    let mut bench = Bench::new(rt.alloc());
-    let mut done = 0;
-    for step in TAKERS {
-        if at_last(&mut bench, step) == Some(0) {
-            done += 1;
-        }
-    }
-    bench.close();
-    assert_eq!(rt; done, 8);
 }
