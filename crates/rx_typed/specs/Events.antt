@@ -1,5 +1,5 @@
 -- An event as the caller has it: what it is, and its parts by number.
-use Rattle.std.specs.Prelude.{◌≡◌, ℕ, pos, Option, Some, None}
+use Rattle.std.specs.Prelude.{◌≡◌, ℕ, pos, Some, None}
 use Rattle.rx_note.specs.declared.note.Terminal.{Terminal}
 use Rattle.rx_note.specs.declared.note.Terminal.TheVariants.{Completed, Error}
 use Rattle.rx_event.specs.declared.event.Place.{Place}

@@ -1,6 +1,5 @@
 //! All that is told and all that is to be released, in one call.
 
-ghost use Rattle.std.specs.Prelude.{◌≡◌};
 ghost use Rattle.rx_typed.specs.Drained.{IsDrained, AreMailsTaken, AreTaken, IsDrainedCall, HasNoMail, HasNone};
 
 use crate::shapes::{RxDrained, RxMail, RxTaken, mail_of};
