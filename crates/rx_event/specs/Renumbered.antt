@@ -51,24 +51,28 @@ event_by r (End n t) = End (r n) t
 event_by r (Close n) = Close (r n)
 event_by r (Take q) = Take (r q)
 
--- What is open in h is open in c, by the number that r gives, made by the same event, and remembers the same; and s leads back
-pub record IsRead (base : Kept) (r s : ℕ → ℕ) (h c : List Event) : Type 0 where
+-- What is open in h, over the base b, is open in c, over d, by the number that r gives, made by the same event, and remembers the same; and s leads back
+pub record IsRead (b d : Kept) (r s : ℕ → ℕ) (h c : List Event) : Type 0 where
   pub alive : (n : ℕ) → IsTrue (is_open h n) → IsTrue (is_open c (r n))
   pub undone : (n : ℕ) → IsTrue (is_open h n) → s (r n) ≡ n
   pub order : (m n : ℕ) → IsTrue (is_open h m) → IsTrue (is_open h n) → m < n → r m < r n
   pub made : (n : ℕ) (e : Event) → IsTrue (is_open h n) → slice_get h n ≡ Some e → slice_get c (r n) ≡ Some (event_by r e)
-  pub marks : (n : ℕ) → IsTrue (is_open h n) → marks_of base c (r n) ≡ marks_of base h n
+  pub marks : (n : ℕ) → IsTrue (is_open h n) → marks_of d c (r n) ≡ marks_of b h n
   pub hub : (g : ℕ) (mode : Mode) → slice_get h g ≡ Some (Hub mode) → slice_get c (r g) ≡ Some (Hub mode)
   pub hub_undone : (g : ℕ) (mode : Mode) → slice_get h g ≡ Some (Hub mode) → s (r g) ≡ g
   -- what ended the source of a subscriber
   pub ended : (n : ℕ) (t : Terminal) → IsTrue (is_open h n) → SourceEnded h n t → SourceEnded c (r n) t
 
 -- and the other way round
-pub record AreRenumbered (base : Kept) (r s : ℕ → ℕ) (h c : List Event) : Type 0 where
-  pub law : IsLawful base h
-  pub other_law : IsLawful base c
-  pub there : IsRead base r s h c
-  pub back : IsRead base s r c h
+pub record AreRead (b d : Kept) (r s : ℕ → ℕ) (h c : List Event) : Type 0 where
+  pub law : IsLawful b h
+  pub other_law : IsLawful d c
+  pub there : IsRead b d r s h c
+  pub back : IsRead d b s r c h
+
+-- over one base
+abbrev pub AreRenumbered : Kept → (ℕ → ℕ) → (ℕ → ℕ) → List Event → List Event → Type 0
+AreRenumbered base r s h c = AreRead base base r s h c
 
 -- what may be named later: a node, a hub, a resource, a lease
 abbrev pub is_named : Event → Bool

@@ -19,8 +19,9 @@ use Rattle.rx_event.specs.Renumbered.{event_by, is_named, AreSameBy}
 use Rattle.rx_event.specs.Claims.Seen.{CallersSeeTheSame}
 use Rattle.rx_event.proofs.Laws.Resources.{is_held_within, held_resource}
 use Rattle.rx_event.proofs.Laws.Totals.{accepted_count-parts}
-use Rattle.rx_event.proofs.Laws.ReadShown.{made_at, node_named, resource_named, resource_made}
-use Rattle.rx_event.proofs.Laws.ReadAllowed.{same_list}
+use Rattle.rx_event.proofs.Laws.ReadShown.{made_at, resource_named, resource_made}
+use Rattle.rx_event.proofs.Laws.TreeRead.{node_named}
+use Rattle.rx_event.proofs.Laws.RisingLists.{same_list}
 use Rattle.rx_event.proofs.Laws.ReadSeen.{callers_see}
 use Rattle.rx_book.specs.State.{accepted_tag}
 use Rattle.rx_agenda.specs.declared.answer.Answer.{Answer}

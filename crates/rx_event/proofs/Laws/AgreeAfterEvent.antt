@@ -1,60 +1,33 @@
 -- Two stored histories that agree, followed by one event that may follow, agree again.
-use Rattle.std.proofs.Common.{◌≡◌, ℕ, ◌+◌, ◌<◌, ◌≤◌, Bool, true, false, List, [], ◌∷◌, ◌++◌, length, cond, Option, Some, None, refl, sym, ap, ◌∙◌, arith}
-use Rattle.std.proofs.Common.{inl, inr, ◌⊎◌, slice_get, nat_lt, count_by, length-append, subst, ℤ}
+use Rattle.std.proofs.Common.{◌≡◌, ℕ, ◌+◌, ◌<◌, Bool, true, false, List, [], ◌∷◌, ◌++◌, length, cond, Option, Some, None, refl, sym, ap, ◌∙◌, arith}
+use Rattle.std.proofs.Common.{inl, inr, ◌⊎◌, slice_get, nat_lt, length-append, subst, ℤ}
 use Rattle.std.proofs.Math.Bool.{not, ◌&&◌, ◌||◌}
-use Rattle.std.specs.List.{list_any}
 use Rattle.std.specs.Option.{option_and_then, option_map_or}
-use Rattle.std.proofs.lemmas.Bool.{cases_order, both_ways, false≢true, and_parts, eqb-true}
-use Rattle.std.proofs.lemmas.Option.{slice_get_within}
-use Rattle.rx_note.specs.declared.note.Terminal.TheVariants.{Completed, Error}
-use Rattle.rx_event.specs.declared.event.Place.TheVariants.{Root, Source, Inner, Notifier}
+use Rattle.std.proofs.lemmas.Bool.{cases_order, both_ways, false≢true, and_parts}
 use Rattle.rx_event.specs.declared.event.Event.{Event}
 use Rattle.rx_event.specs.declared.event.Event.TheVariants.{Open, End, Item}
-use Rattle.rx_event.specs.Events.{parent_named, node_of_accept, is_source_of, is_notifier_of, is_remove_of, is_return_of, is_take_of, is_use_of}
+use Rattle.rx_event.specs.Events.{node_of_accept, is_remove_of, is_return_of, is_take_of, is_use_of}
 use Rattle.rx_event.specs.Tree.{is_open}
 use Rattle.rx_event.specs.Resources.{is_owned, is_out, leases_of, is_held, is_waiting, uses, accepted_by}
-use Rattle.rx_event.specs.Moments.{is_projection_to, stops_of, owed}
-use Rattle.rx_event.specs.Marks.{completes_source, source_completed}
-use Rattle.rx_event.specs.Kept.{Kept, resource_kept, node_kept}
-use Rattle.rx_event.specs.Opened.{source_opened, notifier_opened}
+use Rattle.rx_event.specs.Kept.{Kept, resource_kept}
 use Rattle.rx_event.specs.Bases.{is_untaken, Alike, Agree}
 use Rattle.rx_event.proofs.Laws.Places.{slice_get-append, slice_get_last}
-use Rattle.rx_event.proofs.Laws.Searches.{list_any_found}
-use Rattle.rx_event.proofs.Laws.Openness.{is_open_past}
-use Rattle.rx_event.proofs.Laws.Projections.{owed_new, owed-push}
 use Rattle.rx_event.proofs.Laws.Resources.{node_of, held_is, owned_held, is_owned_past, is_owned_new, held_old, is_held_past, is_waiting_past}
 use Rattle.rx_event.proofs.Laws.Resources.{is_waiting_new, is_waiting-unheld}
 use Rattle.rx_event.proofs.Laws.Leases.{is_out-push, is_out_last, is_out_past, is_leased-counted, leases_of_same}
 use Rattle.rx_event.proofs.Laws.Totals.{item_count-push, accepted_count-push, taken_count-push, uses-push, uses_past}
-use Rattle.rx_event.proofs.Laws.MarksNew.{never}
-use Rattle.rx_event.proofs.Laws.OneEnd.{open_old}
-use Rattle.rx_event.proofs.Laws.SameTree.{at_alike, alike_push, alike_back}
-use Rattle.rx_event.proofs.Laws.Gives.{gives-push, stops_of_alike}
+use Rattle.rx_event.specs.Renumbered.{AreRead}
+use Rattle.rx_event.proofs.Laws.SameTree.{alike_trees, alike_back}
+use Rattle.rx_event.proofs.Laws.TreeRead.{event_by_itself}
+use Rattle.rx_event.proofs.Laws.TreeAfterEvent.{GoesOn, id_goes_on}
+use Rattle.rx_event.proofs.Laws.ReadDue.{trees_of, read_back}
+use Rattle.rx_event.proofs.Laws.ReadAfter.{read_after}
+use Rattle.rx_event.proofs.Laws.AgreeMarks.{reads_of, gives_read}
 use Rattle.rx_event.proofs.Laws.Sound.{sound_of, owned-push, node_open}
 use Rattle.rx_event.specs.Lawful.{MayFollow, IsLawful}
 use Rattle.rx_event.proofs.Laws.Lawful.{IsLawful-push, shown_within, may_end}
-use Rattle.rx_event.proofs.Laws.Steps.{named_below, may_emit}
-use Rattle.rx_event.proofs.Laws.MarksAfter.{source_opened-push, notifier_opened-push, source_completed-push}
+use Rattle.rx_event.proofs.Laws.Steps.{may_name, may_emit}
 use Rattle.rx_note.specs.declared.note.Terminal.{Terminal}
-
--- beyond the end nothing is marked ------------------------------------------------------------------
-
-source_names : (n : ℕ) (x : Event) → is_source_of n x ≡ true → parent_named x ≡ Some n
-source_names n (Open (Source q) kind) source = ap Some (eqb-true q n source)
-source_names n (Open Root kind) source = absurd (false≢true source)
-source_names n (Open (Inner q) kind) source = absurd (false≢true source)
-source_names n (Open (Notifier q) kind) source = absurd (false≢true source)
-source_names n _ source = absurd (false≢true source)
-
-notifier_names : (n : ℕ) (x : Event) → is_notifier_of n x ≡ true → parent_named x ≡ Some n
-notifier_names n (Open (Notifier q) kind) notifier = ap Some (eqb-true q n notifier)
-notifier_names n (Open Root kind) notifier = absurd (false≢true notifier)
-notifier_names n (Open (Inner q) kind) notifier = absurd (false≢true notifier)
-notifier_names n (Open (Source q) kind) notifier = absurd (false≢true notifier)
-notifier_names n _ notifier = absurd (false≢true notifier)
-
-unkept : (b : Kept) (h : List Event) → IsLawful b h → (n : ℕ) → length h ≤ n → node_kept b n ≡ None
-unkept b h law n past = law.started.unkept n (let w = shown_within b h law in omega arith)
 
 pub ends : (b : Kept) (h : List Event) (e : Event) → MayFollow b h e → (n : ℕ) (t : Terminal) → e ≡ End n t → is_open h n ≡ true
 ends b h e next n t same = may_end b (subst (λ x. MayFollow b h x) same next)
@@ -62,107 +35,24 @@ ends b h e next n t same = may_end b (subst (λ x. MayFollow b h x) same next)
 pub emits : (b : Kept) (h : List Event) (e : Event) → MayFollow b h e → (l : ℕ) (v : ℤ) → e ≡ Item l v → is_open h l ≡ true
 emits b h e next l v same = may_emit b (subst (λ x. MayFollow b h x) same next)
 
-unnamed : (b : Kept) (h : List Event) → IsLawful b h → (t : ℕ → Event → Bool) → ((n : ℕ) (x : Event) → t n x ≡ true → parent_named x ≡ Some n) → (n : ℕ) →
-    length h ≤ n → list_any (t n) h ≡ false
-unnamed b h law t says n past = never (list_any (t n) h) (λ some.
-    let found = list_any_found (t n) h some in
-    let l = named_below b h law found.0 n found.1 found.2 (says n found.1 found.3) in
-    let m = slice_get_within h found.0 found.1 found.2 in
-    absurd (omega arith))
-
-pub source_past : (b : Kept) (h : List Event) → IsLawful b h → (n : ℕ) → length h ≤ n → source_opened b h n ≡ false
-source_past b h law n past = (λ i. option_map_or (λ k. k.source_opened) (unkept b h law n past i) false || unnamed b h law is_source_of source_names n past i)
-
-pub notifier_past : (b : Kept) (h : List Event) → IsLawful b h → (n : ℕ) → length h ≤ n → notifier_opened b h n ≡ false
-notifier_past b h law n past =
-    (λ i. option_map_or (λ k. k.notifier_opened) (unkept b h law n past i) false || unnamed b h law is_notifier_of notifier_names n past i)
-
-pub completed_past : (b : Kept) (h : List Event) → IsLawful b h → (n : ℕ) → length h ≤ n → source_completed b h n ≡ false
-unfolding source_completed
-completed_past b h law n past = (λ i. option_map_or (λ k. k.source_completed) (unkept b h law n past i) false || none i) where
-  source_at : (c : ℕ) (o : Option Event) → slice_get h c ≡ o → option_map_or (is_source_of n) o false ≡ true → ⊥
-  source_at c None at_c fails = absurd (false≢true fails)
-  source_at c (Some x) at_c passes =
-      let l = named_below b h law c n x at_c (source_names n x passes) in
-      let m = slice_get_within h c x at_c in
-      absurd (omega arith)
-
-  by_event : (x : Event) → completes_source h n x ≡ true → ⊥
-  by_event (End c Completed) passes = source_at c (slice_get h c) refl passes
-  by_event (End c (Error code)) passes = false≢true passes
-  by_event (Open place kind) passes = false≢true passes
-  by_event _ passes = false≢true passes
-
-  none : list_any (completes_source h n) h ≡ false
-  none = never (list_any (completes_source h n) h) (λ some. let found = list_any_found (completes_source h n) h some in by_event found.1 found.3)
-
 -- followed by one event -------------------------------------------------------------------------------
-
-completes_alike : (h k : List Event) → Alike h k → (n : ℕ) (e : Event) → ((c : ℕ) (t : Terminal) → e ≡ End c t → is_open h c ≡ true) →
-    completes_source h n e ≡ completes_source k n e
-completes_alike h k a n (End c Completed) ends = at_alike h k a (is_source_of n) c (ends c Completed refl)
-completes_alike h k a n (End c (Error code)) ends = refl
-completes_alike h k a n (Open place kind) ends = refl
-completes_alike h k a n _ ends = refl
 
 module _ (b : Kept) (h : List Event) (c : Kept) (k : List Event) (e : Event) (law : IsLawful b h) (law_k : IsLawful c k) (next : MayFollow b h e)
     (next_k : MayFollow c k e) (a : Agree b h c k) where
-  abbrev h2 : List Event
-  h2 = h ++ e ∷ []
-
-  abbrev k2 : List Event
-  k2 = k ++ e ∷ []
+  -- they stay the same, number for number
+  reads : AreRead b c (λ n. n) (λ n. n) (h ++ e ∷ []) (k ++ e ∷ [])
+  reads = subst (λ (x : Event). AreRead b c (λ n. n) (λ n. n) (h ++ e ∷ []) (k ++ x ∷ [])) (event_by_itself e)
+      (read_after (reads_of a law law_k) next (subst (λ (x : Event). MayFollow c k x) (sym (event_by_itself e)) next_k)
+      (id_goes_on h k e a.alike.same_length (λ m named. may_name b next named) (λ m named. may_name c next_k named))
+      (subst (λ (x : Event). GoesOn (λ n. n) (λ n. n) (λ n. n) (λ n. n) k h x) (sym (event_by_itself e))
+      (id_goes_on k h e (sym a.alike.same_length) (λ m named. may_name c next_k named) (λ m named. may_name b next named))))
 
   pushed : Alike (h ++ e ∷ []) (k ++ e ∷ [])
-  pushed = alike_push h k a.alike e
+  pushed = alike_trees (h ++ e ∷ []) (k ++ e ∷ []) (trees_of reads)
+      (length-append h (e ∷ []) ∙ ap (λ n. n + 1) a.alike.same_length ∙ sym (length-append k (e ∷ [])))
 
   long_k : (n : ℕ) → n ≡ length h → n ≡ length k
   long_k n last = last ∙ a.alike.same_length
-
-  beyond : (n : ℕ) → length h < n → is_open (h ++ e ∷ []) n ≡ true → ⊥
-  beyond n past o = both_ways _ (is_open_past (h ++ e ∷ []) n (omega (arith, length-append h (e ∷ [])))) o
-
-  sources_on : (n : ℕ) → is_open (h ++ e ∷ []) n ≡ true → source_opened b (h ++ e ∷ []) n ≡ source_opened c (k ++ e ∷ []) n
-  sources_on n o = source_opened-push b h e n ∙ ap (λ x. x || is_source_of n e) (before (cases_order n (length h))) ∙ sym (source_opened-push c k e n) where
-    before : (n ≡ length h) ⊎ ((n < length h) ⊎ (length h < n)) → source_opened b h n ≡ source_opened c k n
-    before (inl last) = source_past b h law n (omega arith) ∙ sym (source_past c k law_k n (let q = long_k n last in omega arith))
-    before (inr (inl l)) = a.sources n (open_old h e n l o)
-    before (inr (inr l)) = absurd (beyond n l o)
-
-  notifiers_on : (n : ℕ) → is_open (h ++ e ∷ []) n ≡ true → notifier_opened b (h ++ e ∷ []) n ≡ notifier_opened c (k ++ e ∷ []) n
-  notifiers_on n o = notifier_opened-push b h e n ∙ ap (λ x. x || is_notifier_of n e) (before (cases_order n (length h))) ∙ sym (notifier_opened-push c k e n)
-    where
-      before : (n ≡ length h) ⊎ ((n < length h) ⊎ (length h < n)) → notifier_opened b h n ≡ notifier_opened c k n
-      before (inl last) = notifier_past b h law n (omega arith) ∙ sym (notifier_past c k law_k n (let q = long_k n last in omega arith))
-      before (inr (inl l)) = a.notifiers n (open_old h e n l o)
-      before (inr (inr l)) = absurd (beyond n l o)
-
-  completions_on : (n : ℕ) → is_open (h ++ e ∷ []) n ≡ true → source_completed b (h ++ e ∷ []) n ≡ source_completed c (k ++ e ∷ []) n
-  completions_on n o =
-      source_completed-push b h e law next n ∙
-      (λ i. before (cases_order n (length h)) i || completes_alike h k a.alike n e (ends b h e next) i) ∙
-      sym (source_completed-push c k e law_k next_k n)
-    where
-      before : (n ≡ length h) ⊎ ((n < length h) ⊎ (length h < n)) → source_completed b h n ≡ source_completed c k n
-      before (inl last) = completed_past b h law n (omega arith) ∙ sym (completed_past c k law_k n (let q = long_k n last in omega arith))
-      before (inr (inl l)) = a.completions n (open_old h e n l o)
-      before (inr (inr l)) = absurd (beyond n l o)
-
-  debts_on : (n : ℕ) → is_open (h ++ e ∷ []) n ≡ true → owed b (h ++ e ∷ []) n ≡ owed c (k ++ e ∷ []) n
-  debts_on n o = by_place (cases_order n (length h)) where
-    older : is_open h n ≡ true → owed b (h ++ e ∷ []) n ≡ owed c (k ++ e ∷ []) n
-    older old =
-        let one = owed-push b h e law next n in
-        let two = owed-push c k e law_k next_k n in
-        let same = a.debts n old in
-        let stops : count_by (is_projection_to n) (stops_of h e) ≡ count_by (is_projection_to n) (stops_of k e) =
-        ap (count_by (is_projection_to n)) (stops_of_alike b h k e law (emits b h e next) a.alike) in
-        omega arith
-
-    by_place : (n ≡ length h) ⊎ ((n < length h) ⊎ (length h < n)) → owed b (h ++ e ∷ []) n ≡ owed c (k ++ e ∷ []) n
-    by_place (inl last) = ap (owed b (h ++ e ∷ [])) last ∙ owed_new b h law e ∙ sym (ap (owed c (k ++ e ∷ [])) (long_k n last) ∙ owed_new c k law_k e)
-    by_place (inr (inl l)) = older (open_old h e n l o)
-    by_place (inr (inr l)) = absurd (beyond n l o)
 
   -- an owned resource reads the same in both
   owned_made : (r : ℕ) → is_owned h r ≡ true → slice_get h r ≡ slice_get k r
@@ -284,10 +174,10 @@ module _ (b : Kept) (h : List Event) (c : Kept) (k : List Event) (e : Event) (la
   agree-push =
       record {
         alike = pushed;
-        sources = sources_on;
-        notifiers = notifiers_on;
-        completions = completions_on;
-        debts = debts_on;
+        sources = λ n o. sym (λ i. (reads.there.marks n o i).source_opened);
+        notifiers = λ n o. sym (λ i. (reads.there.marks n o i).notifier_opened);
+        completions = λ n o. sym (λ i. (reads.there.marks n o i).source_completed);
+        debts = λ n o. sym (λ i. (reads.there.marks n o i).owed);
         owned = owned_on;
         held = held_on;
         waiting = waiting_on;
@@ -298,6 +188,6 @@ module _ (b : Kept) (h : List Event) (c : Kept) (k : List Event) (e : Event) (la
         item_total = let one = (item_count-push b) h e in let two = (item_count-push c) k e in let same = a.item_total in omega arith;
         accepted_total = let one = (accepted_count-push b) h e in let two = (accepted_count-push c) k e in let same = a.accepted_total in omega arith;
         taken_total = let one = (taken_count-push b) h e in let two = (taken_count-push c) k e in let same = a.taken_total in omega arith;
-        gives = gives-push b h c k e law (ends b h e next) (emits b h e next) a.alike a.gives;
-        gives_back = gives-push c k b h e law_k (ends c k e next_k) (emits c k e next_k) (alike_back h k a.alike) a.gives_back;
+        gives = gives_read pushed reads;
+        gives_back = gives_read (alike_back (h ++ e ∷ []) (k ++ e ∷ []) pushed) (read_back reads);
       }

@@ -41,7 +41,8 @@ use Rattle.rx_event.proofs.Laws.Resources.{node_of, held_is, owned_held, is_held
 use Rattle.rx_event.proofs.Laws.Leases.{is_out_within, out_lease, leases_of_same}
 use Rattle.rx_event.proofs.Laws.Sums.{sum_by_no_rise, count_by-places}
 use Rattle.rx_event.proofs.Laws.MarksNew.{never}
-use Rattle.rx_event.proofs.Laws.SameTree.{at_hub_alike, at_alike, alike_back, named_parent}
+use Rattle.rx_event.proofs.Laws.SameTree.{at_hub_alike, at_alike, alike_back}
+use Rattle.rx_event.proofs.Laws.TreeRead.{named_parent}
 use Rattle.rx_event.proofs.Laws.Bases.{found, node_of_base, hub_of_base, shown_get, length_base, base_length, is_inert, KeptAt, kept_at, kept_open, base_alike}
 use Rattle.rx_event.proofs.Laws.Sound.{count_none}
 use Rattle.rx_event.proofs.Laws.MakingRemovesNothing.{made_unremoved, made_unreturned, made_untaken, made_unfired}

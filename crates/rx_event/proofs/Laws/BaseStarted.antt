@@ -36,7 +36,7 @@ use Rattle.rx_event.proofs.Laws.Totals.{accepted_count-parts}
 use Rattle.rx_event.proofs.Laws.SoundForm.{Sound}
 use Rattle.rx_event.proofs.Laws.Sound.{sound_of, count_none, hub_before, hubbed_before}
 use Rattle.rx_event.proofs.Laws.MarksNew.{never}
-use Rattle.rx_event.proofs.Laws.SameTree.{named_parent}
+use Rattle.rx_event.proofs.Laws.TreeRead.{named_parent}
 use Rattle.rx_event.proofs.Laws.Bases.{is_inert, KeptAt, kept_at, node_of_base, length_base}
 use Rattle.rx_event.proofs.Laws.SameForcedAndAllowed.{settled_too}
 use Rattle.rx_event.proofs.Laws.BaseAgrees.{resource_of_base, s_making, s_unused, s_owned, s_unowned, s_no_resource, s_resource_at, s_lease, s_no_lease}

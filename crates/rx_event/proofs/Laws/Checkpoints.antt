@@ -21,9 +21,8 @@ use Rattle.rx_event.specs.Totals.{debt_of, debt}
 use Rattle.rx_event.specs.Claims.Checkpoints.{EachRule, AgreeingGoOn, CheckpointsAgree}
 use Rattle.rx_event.proofs.Laws.Lawful.{IsLawful-push, IsLawful_empty, may_end}
 use Rattle.rx_event.proofs.Laws.Sums.{sum_by-same}
-use Rattle.rx_event.proofs.Laws.SameTree.{at_alike, open_nodes_alike}
+use Rattle.rx_event.proofs.Laws.SameTree.{at_alike, open_nodes_alike, stops_of_alike}
 use Rattle.rx_event.proofs.Laws.Sound.{sound_of}
-use Rattle.rx_event.proofs.Laws.Gives.{stops_of_alike}
 use Rattle.rx_event.proofs.Laws.SameForcedAndAllowed.{agree_back, completes_too, leaves_too, connects_too, forced_too}
 use Rattle.rx_event.proofs.Laws.SameForcedAndAllowed.{allowed_too, follows_too, hubs_alike, hub_is}
 use Rattle.rx_event.proofs.Laws.AgreeAfterEvent.{emits, agree-push}

@@ -174,16 +174,7 @@ waited_or_now base h e law next g d = by_test (is_subscriber_of g e) refl where
   by_event (End n t) may out w = waited_end base h n t g w
   by_event (Close n) may out w = closed n may w
   by_event (Open place kind) may out w = waited_before base h (Open place kind) g refl out (auto_before base h (Open place kind) g law out w) w
-  by_event (Hub mode) may out w = waited_before base h (Hub mode) g refl out (auto_before base h (Hub mode) g law out w) w
-  by_event (Connect k) may out w = waited_before base h (Connect k) g refl out (auto_before base h (Connect k) g law out w) w
-  by_event (Accept n tag) may out w = waited_before base h (Accept n tag) g refl out (auto_before base h (Accept n tag) g law out w) w
-  by_event (Use r) may out w = waited_before base h (Use r) g refl out (auto_before base h (Use r) g law out w) w
-  by_event (Remove r) may out w = waited_before base h (Remove r) g refl out (auto_before base h (Remove r) g law out w) w
-  by_event (Lease r) may out w = waited_before base h (Lease r) g refl out (auto_before base h (Lease r) g law out w) w
-  by_event (Return l) may out w = waited_before base h (Return l) g refl out (auto_before base h (Return l) g law out w) w
-  by_event (Item l v) may out w = waited_before base h (Item l v) g refl out (auto_before base h (Item l v) g law out w) w
-  by_event (Decline f) may out w = waited_before base h (Decline f) g refl out (auto_before base h (Decline f) g law out w) w
-  by_event (Take r) may out w = waited_before base h (Take r) g refl out (auto_before base h (Take r) g law out w) w
+  by_event e may out w = waited_before base h e g refl out (auto_before base h e g law out w) w
 
   by_test : (b : Bool) → is_subscriber_of g e ≡ b → IsConnectDue h g ⊎ (hub_subscribed e ≡ Some g)
   by_test true is = inr (subscribes_now g e is)

@@ -22,7 +22,7 @@ use Rattle.rx_event.specs.declared.event.Event.{Event}
 use Rattle.rx_event.specs.declared.event.Event.TheVariants.{Open, Item, Decline, End, Close}
 use Rattle.rx_event.specs.Events.{is_mirroring, is_merging, is_until, is_source_of, is_inner_of, is_subscriber_of, pays}
 use Rattle.rx_event.specs.Tree.{at, parent, is_open, shuts}
-use Rattle.rx_event.specs.Moments.{owed, is_fired, is_firing_of, stops_of}
+use Rattle.rx_event.specs.Moments.{is_fired, is_firing_of, stops_of}
 use Rattle.rx_event.specs.Forced.{mirrored, fired, failed, completed, cut, due, ChildEnded, SourceEnded, IsDue, IsForced, IsSettled}
 use Rattle.rx_event.specs.Marks.{due_at, marks_of, is_child_of}
 use Rattle.rx_event.specs.Bases.{Completes}

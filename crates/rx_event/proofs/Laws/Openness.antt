@@ -27,8 +27,6 @@ list_any-same p q same (x ∷ xs) = rw (same x, list_any-same p q same xs) refl
 
 -- whether an event shuts an older node depends on the older events alone
 shuts-append : (h t : List Event) (n : ℕ) → n < length h → (e : Event) → shuts (h ++ t) n e ≡ shuts h n e
-shuts-append h t n l (End m u) = refl
-shuts-append h t n l (Close m) = refl
 shuts-append h t n l (Open (Inner f) kind) = inner_case (cases_Bool (nat_lt f n)) where
   inner_case : (nat_lt f n ≡ true) ⊎ (nat_lt f n ≡ false) → is_switched_inner (h ++ t) f n ≡ is_switched_inner h f n
   inner_case (inl b) = let s : f < n = ltb-true f n b in rw (at-append is_switch h t f (omega arith), at-append (is_inner_of f) h t n l) refl
@@ -36,16 +34,7 @@ shuts-append h t n l (Open (Inner f) kind) = inner_case (cases_Bool (nat_lt f n)
 shuts-append h t n l (Open Root kind) = refl
 shuts-append h t n l (Open (Source f) kind) = refl
 shuts-append h t n l (Open (Notifier f) kind) = refl
-shuts-append h t n l (Hub mode) = refl
-shuts-append h t n l (Connect g) = refl
-shuts-append h t n l (Accept m tag) = refl
-shuts-append h t n l (Use r) = refl
-shuts-append h t n l (Remove r) = refl
-shuts-append h t n l (Lease r) = refl
-shuts-append h t n l (Return m) = refl
-shuts-append h t n l (Item m v) = refl
-shuts-append h t n l (Decline f) = refl
-shuts-append h t n l (Take r) = refl
+shuts-append h t n l _ = refl
 
 -- an older node is shut if it was, or if the new event shuts it
 pub is_shut-push : (h : List Event) (e : Event) (n : ℕ) → n < length h → is_shut (h ++ e ∷ []) n ≡ (is_shut h n || shuts h n e)
@@ -125,16 +114,7 @@ not_shut h n (Open (Inner f) kind) s = cc
 not_shut h n (Open Root kind) s = refl
 not_shut h n (Open (Source f) kind) s = refl
 not_shut h n (Open (Notifier f) kind) s = refl
-not_shut h n (Hub mode) s = refl
-not_shut h n (Connect g) s = refl
-not_shut h n (Accept m tag) s = refl
-not_shut h n (Use r) s = refl
-not_shut h n (Remove r) s = refl
-not_shut h n (Lease r) s = refl
-not_shut h n (Return m) s = refl
-not_shut h n (Item m v) s = refl
-not_shut h n (Decline f) s = refl
-not_shut h n (Take r) s = refl
+not_shut h n _ s = refl
 
 list_all_yes : {X : Type 0} (p : X → Bool) → ((x : X) → p x ≡ true) → (xs : List X) → list_all p xs ≡ true
 list_all_yes p holds [] = refl

@@ -33,7 +33,7 @@ use Rattle.rx_event.proofs.Laws.Waits.{at_before, source_ended-push}
 use Rattle.rx_event.proofs.Laws.MarksAfter.{marks_kept}
 use Rattle.rx_event.proofs.Laws.OneEnd.{ends_as, source_ended_before}
 use Rattle.rx_event.proofs.Laws.ReadShown.{made_at, resource_named, resource_made, lease_made}
-use Rattle.rx_event.proofs.Laws.ReadAllowed.{same_list}
+use Rattle.rx_event.proofs.Laws.RisingLists.{same_list}
 
 -- from h on resources were taken, and nothing else happened
 pub data TakesOn (base : Kept) (h : List Event) : List Event → Type 0 where
@@ -92,9 +92,9 @@ named_take h q n e named at_n = by_place (cases_push h (Take q) e n at_n) where
 kept_take : (h : List Event) (q n : ℕ) (e : Event) → slice_get h n ≡ Some e → slice_get (h ++ Take q ∷ []) n ≡ Some e
 kept_take h q n e at_n = slice_get-append h (Take q ∷ []) n (slice_get_within h n e at_n) ∙ at_n
 
-module _ (base : Kept) (r s : ℕ → ℕ) (h c : List Event) (there : IsRead base r s h c) (q : ℕ) where
+module _ (base : Kept) (r s : ℕ → ℕ) (h c : List Event) (there : IsRead base base r s h c) (q : ℕ) where
   -- taken in the one
-  read_left : IsLawful base h → MayFollow base h (Take q) → IsRead base r s (h ++ Take q ∷ []) c
+  read_left : IsLawful base h → MayFollow base h (Take q) → IsRead base base r s (h ++ Take q ∷ []) c
   read_left law next = record {
     alive = λ n o. there.alive n (was n o);
     undone = λ n o. there.undone n (was n o);
@@ -113,7 +113,7 @@ module _ (base : Kept) (r s : ℕ → ℕ) (h c : List Event) (there : IsRead ba
     by_case n t o (inr ends) = absurd (none-some t ends)
 
   -- and in the other
-  read_right : IsLawful base c → MayFollow base c (Take q) → IsRead base r s h (c ++ Take q ∷ [])
+  read_right : IsLawful base c → MayFollow base c (Take q) → IsRead base base r s h (c ++ Take q ∷ [])
   read_right law next = record {
     alive = λ n o. is_open_unchanged c (Take q) refl refl (r n) ∙ there.alive n o;
     undone = there.undone;

@@ -10,34 +10,28 @@ use Rattle.rx_event.specs.Kept.{Kept}
 use Rattle.rx_event.specs.declared.event.Mode.{Mode}
 use Rattle.rx_event.specs.declared.event.Event.{Event}
 use Rattle.rx_event.specs.declared.event.Event.TheVariants.{Hub, Accept}
-use Rattle.rx_event.specs.Events.{makes_node, makes_hub, makes_resource, has_source, is_leaf, is_until, is_root, is_auto_hub, is_manual_hub}
-use Rattle.rx_event.specs.Tree.{at, hubs, places, parent, is_open, open_nodes, is_open_child_of, has_open_child}
+use Rattle.rx_event.specs.Events.{makes_node, makes_hub, makes_resource, has_source, is_leaf, is_merging, is_until, is_root, is_auto_hub, is_manual_hub}
+use Rattle.rx_event.specs.Tree.{at, places, parent, is_open, open_nodes, is_open_child_of, has_open_child}
 use Rattle.rx_event.specs.Resources.{is_waiting}
 use Rattle.rx_event.specs.Marks.{is_child_of}
 use Rattle.rx_event.specs.Allowed.{may_abort, IsInOrderAt}
-use Rattle.rx_event.specs.Renumbered.{event_by, is_named, AreSameBy}
+use Rattle.rx_event.specs.Renumbered.{is_named, AreSameBy}
 use Rattle.rx_event.specs.Claims.Seen.{CallersSeeTheSame}
 use Rattle.rx_event.proofs.Laws.Openness.{is_open_within}
 use Rattle.rx_event.proofs.Laws.Searches.{list_any_found, list_any_holds}
 use Rattle.rx_event.proofs.Laws.MarksFound.{is_child_parent, parent_is_child}
 use Rattle.rx_event.proofs.Laws.InOrder.{place_get}
-use Rattle.rx_event.proofs.Laws.ReadDue.{parent_read, renumbered_back}
-use Rattle.rx_event.proofs.Laws.ReadOpened.{at_read, hub_made, merging_read}
-use Rattle.rx_event.proofs.Laws.ReadStops.{subscribers_read, visits_read}
-use Rattle.rx_event.proofs.Laws.ReadShown.{made_at, node_named, resource_made, root_by}
-use Rattle.rx_event.proofs.Laws.ReadAllowed.{leaf_by, sourced_by, abort_by, until_by, open_nodes_read, hubs_read}
-use Rattle.rx_event.proofs.Laws.ReadAllowed.{hub_read, owed_read, sourced_read, notified_read, in_order_read}
-use Rattle.rx_event.proofs.Laws.ReadSteps.{connections_read}
+use Rattle.rx_event.proofs.Laws.ReadDue.{trees_of, renumbered_back}
+use Rattle.rx_event.proofs.Laws.TreeRead.{opens_by, AreTreesRead, same_at, merging_by, hub_made, parent_there, visits_by, subscribers_by, connections_by, node_named}
+use Rattle.rx_event.proofs.Laws.ReadShown.{made_at, resource_made, root_by}
+use Rattle.rx_event.proofs.Laws.ReadAllowed.{leaf_by, sourced_by, abort_by, until_by, hubs_read, same_may, hub_there, in_order_by}
 
 pub same_back : (base : Kept) → {r s : ℕ → ℕ} {h c : List Event} → AreSameBy base r s h c → AreSameBy base s r c h
 same_back base a = record { numbers = renumbered_back base a.numbers; shown = a.shown_back; shown_back = a.shown }
 
 module _ (base : Kept) (r s : ℕ → ℕ) (h c : List Event) (a : AreSameBy base r s h c) where
-  -- a test of an open node that sees no number
-  test_same : (q : Event → Bool) → ((k : ℕ → ℕ) (e : Event) → q e ≡ true → q (event_by k e) ≡ true) → (n : ℕ) → is_open h n ≡ true → at q c (r n) ≡ at q h n
-  test_same q by n o = same_test (at q c (r n)) (at q h n)
-      (λ holds. ap (at q h) (sym (a.numbers.there.undone n o)) ∙ at_read base a.numbers.back q q (by s) (r n) (a.numbers.there.alive n o) holds)
-      (at_read base a.numbers.there q q (by r) n o)
+  trees : AreTreesRead r s h c
+  trees = trees_of a.numbers
 
   open_same : (n : ℕ) → at makes_node h n ≡ true → is_open c (r n) ≡ is_open h n
   open_same n node = same_test (is_open c (r n)) (is_open h n)
@@ -49,7 +43,7 @@ module _ (base : Kept) (r s : ℕ → ℕ) (h c : List Event) (a : AreSameBy bas
       let parts = and_parts (is_open h w.1) (is_child_of h n w.1) w.3 in
       let alive : is_open c (r w.1) ≡ true = a.numbers.there.alive w.1 parts.0 in
       let below : parent c (r w.1) ≡ Some (r n) =
-      parent_read base r s h c a.numbers.law a.numbers.other_law a.numbers.there a.numbers.back w.1 n parts.0 (is_child_parent h n w.1 parts.1) in
+      parent_there r s h c trees w.1 n parts.0 (is_child_parent h n w.1 parts.1) in
       list_any_holds (is_open_child_of c (r n)) (places c) (r w.1) (r w.1) (place_get c (r w.1) (is_open_within c (r w.1) alive))
       (and_from _ _ alive (parent_is_child c (r n) (r w.1) below))
 
@@ -80,41 +74,42 @@ ordered_back : {base : Kept} {r s : ℕ → ℕ} {h c : List Event} → AreSameB
 ordered_back {base} {r} {s} {h} {c} a g p hub o ordered =
     subst (λ (i : ℕ). IsInOrderAt h i p) (undone_hub base r s h c a g hub)
     (subst (λ (n : ℕ). IsInOrderAt h (s (r g)) n) (a.numbers.there.undone p o)
-    (in_order_read base s r c h (same_back base a) (r g) (r p) (hub_read base r s h c a g hub) (a.numbers.there.alive p o) ordered))
+    (in_order_by base base s r c h (same_may base (same_back base a)) (r g) (r p) (hub_there base base r s h c (same_may base a) g hub)
+    (a.numbers.there.alive p o) ordered))
 
 -- all together
 pub callers_see : (base : Kept) → (r s : ℕ → ℕ) (h c : List Event) → AreSameBy base r s h c → CallersSeeTheSame base r s h c
 callers_see base r s h c a = record {
   same_open = open_same base r s h c a;
-  leaves = test_same base r s h c a is_leaf leaf_by;
-  sourced = test_same base r s h c a has_source sourced_by;
-  merging = merging_read base a.numbers;
-  untils = test_same base r s h c a is_until until_by;
-  aborted = test_same base r s h c a may_abort abort_by;
-  roots = test_same base r s h c a is_root root_by;
-  same_owed = owed_read base r s h c a;
-  source_taken = sourced_read base r s h c a;
-  notifier_taken = notified_read base r s h c a;
+  leaves = same_at r s h c (trees_of a.numbers) is_leaf (leaf_by r);
+  sourced = same_at r s h c (trees_of a.numbers) has_source (sourced_by r);
+  merging = same_at r s h c (trees_of a.numbers) is_merging (merging_by r);
+  untils = same_at r s h c (trees_of a.numbers) is_until (until_by r);
+  aborted = same_at r s h c (trees_of a.numbers) may_abort (abort_by r);
+  roots = same_at r s h c (trees_of a.numbers) is_root (root_by r);
+  same_owed = (same_may base a).owes;
+  source_taken = (same_may base a).sourced;
+  notifier_taken = (same_may base a).notified;
   children = children_same base r s h c a;
-  same_visits = visits_read base r s h c a.numbers;
-  hub_there = hub_read base r s h c a;
+  same_visits = visits_by r s h c (trees_of a.numbers);
+  hub_there = hub_there base base r s h c (same_may base a);
   autos = hub_test base r s h c a is_auto_hub;
   manuals = hub_test base r s h c a is_manual_hub;
-  connections = λ g hub. connections_read base r s h c a g (undone_hub base r s h c a g hub);
-  subscribers = λ g hub. subscribers_read base r s h c a.numbers g (undone_hub base r s h c a g hub);
-  ordered = in_order_read base r s h c a;
+  connections = λ g hub. connections_by r s h c (trees_of a.numbers) g (undone_hub base r s h c a g hub);
+  subscribers = λ g hub. subscribers_by r s h c (trees_of a.numbers) g (undone_hub base r s h c a g hub);
+  ordered = in_order_by base base r s h c (same_may base a);
   ordered_back = ordered_back a;
   owned = a.shown.owned;
   leases = a.shown.leases;
   out = a.shown.out;
   held = a.shown.held;
   waiting = waiting_same base r s h c a;
-  nodes = open_nodes_read base r s h c a;
+  nodes = opens_by r s h c (trees_of a.numbers);
   all_hubs = hubs_read base r s h c a;
   open_total =
       sym (length-filter (is_open c) (places c)) ∙
-      ap length (open_nodes_read base r s h c a) ∙
+      ap length (opens_by r s h c (trees_of a.numbers)) ∙
       length-map (open_nodes h) r ∙
       length-filter (is_open h) (places h);
-  hub_total = ap length (hubs_read base r s h c a) ∙ length-map (hubs h) r;
+  hub_total = (same_may base a).hub_total;
 }

@@ -33,9 +33,9 @@ use Rattle.rx_event.proofs.Laws.Leases.{owned_resource, out_lease, is_out-push, 
 use Rattle.rx_event.proofs.Laws.Leases.{leases_of_new}
 use Rattle.rx_event.proofs.Laws.Totals.{uses-push, uses_past}
 use Rattle.rx_event.proofs.Laws.Projections.{stops_open}
-use Rattle.rx_event.proofs.Laws.ReadMade.{event_by_below, names_below, makes_by}
-use Rattle.rx_event.proofs.Laws.ReadOpened.{at_read}
-use Rattle.rx_event.proofs.Laws.ReadStops.{stop_by, stops_read}
+use Rattle.rx_event.proofs.Laws.ReadMade.{event_by_below, names_below}
+use Rattle.rx_event.proofs.Laws.ReadDue.{trees_of}
+use Rattle.rx_event.proofs.Laws.TreeRead.{same_at, stop_by, stops_by, makes_by, node_named}
 use Rattle.rx_event.proofs.Laws.MakingRemovesNothing.{made_untold}
 
 -- no number past the end was told anything ------------------------------------------------------------------------------------
@@ -52,24 +52,14 @@ notes_new base h e law next =
     notes_to-push h e (length h) ∙
     (λ i. notes_past base h law (length h) (omega arith) i ++ (mail_silent base) h e law next (length h) (is_open_past h (length h) (omega arith)) i)
 
-pub root_by : (r : ℕ → ℕ) (e : Event) → is_root e ≡ true → is_root (event_by r e) ≡ true
-root_by r (Open Root kind) holds = refl
-root_by r (Open (Source p) kind) holds = absurd (false≢true holds)
-root_by r (Open (Inner p) kind) holds = absurd (false≢true holds)
-root_by r (Open (Notifier p) kind) holds = absurd (false≢true holds)
-root_by r _ holds = absurd (false≢true holds)
-
-root_read : (base : Kept) → {r s : ℕ → ℕ} {h c : List Event} → AreRenumbered base r s h c → (m : ℕ) → is_open h m ≡ true → at is_root c (r m) ≡ at is_root h m
-root_read base {r = r} {s = s} {h = h} {c = c} a m o = same_test (at is_root c (r m)) (at is_root h m)
-    (λ holds. ap (at is_root h) (sym (a.there.undone m o)) ∙ at_read base a.back is_root is_root (root_by s) (r m) (a.there.alive m o) holds)
-    (at_read base a.there is_root is_root (root_by r) m o)
+pub root_by : (r : ℕ → ℕ) (e : Event) → is_root (event_by r e) ≡ is_root e
+root_by r (Open Root kind) = refl
+root_by r (Open (Source p) kind) = refl
+root_by r (Open (Inner p) kind) = refl
+root_by r (Open (Notifier p) kind) = refl
+root_by r _ = refl
 
 -- a node is named, and so is a resource
-pub node_named : (e : Event) → makes_node e ≡ true → is_named e ≡ true
-node_named (Open place kind) made = refl
-node_named (Connect g) made = refl
-node_named _ made = absurd (false≢true made)
-
 pub resource_named : (e : Event) → makes_resource e ≡ true → is_named e ≡ true
 resource_named (Accept n tag) made = refl
 resource_named _ made = absurd (false≢true made)
@@ -161,10 +151,10 @@ module _ (base : Kept) (r s : ℕ → ℕ) (h c : List Event) (a : AreRenumbered
 
   mail_same : (e : Event) → MayFollow base h e → (n : ℕ) → at is_named h n ≡ true → notes_in (r n) (mail_of c (event_by r e)) ≡ notes_in n (mail_of h e)
   mail_same (Item l v) next n named =
-      ap (λ (ss : List Stop). notes_in (r n) (filter_map (told (length c) v) ss)) (stops_read base r s h c a l (may_emit base next)) ∙
+      ap (λ (ss : List Stop). notes_in (r n) (filter_map (told (length c) v) ss)) (stops_by r s h c (trees_of a) l (may_emit base next)) ∙
       items_told (length h) (length c) v n named (stops h l) (stops_open base h l a.law (may_emit base next))
   mail_same (End m t) next n named =
-      ap (λ b. notes_in (r n) (cond b ((record { place = length c; to = r m; note = EndNote t }) ∷ []) [])) (root_read base a m (may_end base next)) ∙
+      ap (λ b. notes_in (r n) (cond b ((record { place = length c; to = r m; note = EndNote t }) ∷ []) [])) (same_at r s h c (trees_of a) is_root (root_by r) m (may_end base next)) ∙
       by_root (at is_root h m)
     where
       by_root : (b : Bool) → notes_in (r n) (cond b ((record { place = length c; to = r m; note = EndNote t }) ∷ []) []) ≡
@@ -304,34 +294,14 @@ module _ (base : Kept) (r s q t : ℕ → ℕ) (h c : List Event) (e : Event) (a
     by_event : (x : Event) → MayFollow base h x → is_remove_of (r p) (event_by r x) ≡ is_remove_of p x
     by_event (Remove k) next = apart_named base r s h c a sh k p (resource_at k (owned_resource h k (may_remove base next))) (resource_at p made)
     by_event (Open place kind) next = refl
-    by_event (Hub mode) next = refl
-    by_event (Connect g) next = refl
-    by_event (Accept n tag) next = refl
-    by_event (Use k) next = refl
-    by_event (Lease k) next = refl
-    by_event (Return l) next = refl
-    by_event (Item l v) next = refl
-    by_event (Decline f) next = refl
-    by_event (End n u) next = refl
-    by_event (Close n) next = refl
-    by_event (Take k) next = refl
+    by_event _ next = refl
 
   takes_same : (p : ℕ) → at makes_resource h p ≡ true → is_take_of (r p) (event_by r e) ≡ is_take_of p e
   takes_same p made = by_event e next where
     by_event : (x : Event) → MayFollow base h x → is_take_of (r p) (event_by r x) ≡ is_take_of p x
     by_event (Take k) next = apart_named base r s h c a sh k p (resource_at k (waiting_parts h k (may_take base next)).0) (resource_at p made)
     by_event (Open place kind) next = refl
-    by_event (Hub mode) next = refl
-    by_event (Connect g) next = refl
-    by_event (Accept n tag) next = refl
-    by_event (Use k) next = refl
-    by_event (Remove k) next = refl
-    by_event (Lease k) next = refl
-    by_event (Return l) next = refl
-    by_event (Item l v) next = refl
-    by_event (Decline f) next = refl
-    by_event (End n u) next = refl
-    by_event (Close n) next = refl
+    by_event _ next = refl
 
   leases_same : (p : ℕ) → at makes_resource h p ≡ true → is_lease_of (r p) (event_by r e) ≡ is_lease_of p e
   leases_same p made = by_event e next where
@@ -355,17 +325,7 @@ module _ (base : Kept) (r s q t : ℕ → ℕ) (h c : List Event) (e : Event) (a
     by_event : (x : Event) → MayFollow base h x → is_use_of (r p) (event_by r x) ≡ is_use_of p x
     by_event (Use k) next = apart_named base r s h c a sh k p (resource_at k (held_resource h k (may_use base next))) (resource_at p made)
     by_event (Open place kind) next = refl
-    by_event (Hub mode) next = refl
-    by_event (Connect g) next = refl
-    by_event (Accept n tag) next = refl
-    by_event (Remove k) next = refl
-    by_event (Lease k) next = refl
-    by_event (Return l) next = refl
-    by_event (Item l v) next = refl
-    by_event (Decline f) next = refl
-    by_event (End n u) next = refl
-    by_event (Close n) next = refl
-    by_event (Take k) next = refl
+    by_event _ next = refl
 
   -- a resource is no node
   not_open : (k : List Event) (p m tag : ℕ) → slice_get k p ≡ Some (Accept m tag) → is_open k p ≡ false

@@ -1,29 +1,26 @@
 -- One call on two histories that are the same but for their numbers leaves them so, whatever the order of what is forced in each.
-use Rattle.std.proofs.Common.{◌≡◌, ℕ, ◌+◌, ◌≤◌, true, false, List, [], ◌∷◌, ◌++◌, length, Option, Some, map, slice_get}
-use Rattle.std.proofs.Common.{refl, sym, ap, subst, ◌∙◌, arith, append_assoc, append-nil, length-append}
-use Rattle.std.proofs.Math.Bool.{◌&&◌}
+use Rattle.std.proofs.Common.{◌≡◌, ℕ, ◌+◌, ◌≤◌, true, false, List, [], ◌∷◌, ◌++◌, length, Option, map, slice_get}
+use Rattle.std.proofs.Common.{sym, ap, subst, ◌∙◌, arith, append_assoc, append-nil, length-append}
 use Rattle.std.specs.Option.{option_map_or}
-use Rattle.std.proofs.lemmas.Bool.{and_parts, and_from, eq-eqb}
 use Rattle.rx_note.specs.declared.note.Terminal.TheVariants.{Error}
 use Rattle.rx_event.specs.Kept.{Kept, shown}
 use Rattle.rx_event.specs.declared.event.Place.{Place}
 use Rattle.rx_event.specs.declared.event.Kind.TheVariants.{Pass}
 use Rattle.rx_event.specs.declared.event.Event.{Event}
 use Rattle.rx_event.specs.declared.event.Event.TheVariants.{Open, Hub, Connect, Accept, Use, Remove, Lease, Return, Item, Decline, End, Close, Take}
-use Rattle.rx_event.specs.Events.{makes_hub, is_connect_of}
-use Rattle.rx_event.specs.Tree.{at, is_open, open_connections}
+use Rattle.rx_event.specs.Events.{makes_hub}
+use Rattle.rx_event.specs.Tree.{at, open_connections}
 use Rattle.rx_event.specs.Lawful.{MayFollow, IsLawful, IsForcedOn, IsStep}
 use Rattle.rx_event.specs.Calls.{Opening, OpeningUsing, Holding, Applying, Removing, Leasing, GivingBack, Emitting, Ending, Aborting, Declining, Failing}
 use Rattle.rx_event.specs.Calls.{Disposing, Publishing, Connecting, Disconnecting, Taking, Call, IsStepOf}
 use Rattle.rx_event.specs.Renumbered.{place_by, event_by, call_by, is_named, IsKnown, AreSameBy, AreSameSince}
 use Rattle.rx_event.proofs.Laws.Places.{slice_get_last}
-use Rattle.rx_event.proofs.Laws.Openness.{is_open_within}
 use Rattle.rx_event.proofs.Laws.Lawful.{shown_within}
-use Rattle.rx_event.proofs.Laws.Hubs.{at_connect, one_open_connection}
+use Rattle.rx_event.proofs.Laws.Hubs.{one_open_connection}
 use Rattle.rx_event.proofs.Laws.Starts.{lawful_front, lawful_last, lawful_begun}
-use Rattle.rx_event.proofs.Laws.ReadOpened.{hub_made}
+use Rattle.rx_event.proofs.Laws.TreeRead.{hub_made, connections_by}
+use Rattle.rx_event.proofs.Laws.ReadDue.{trees_of}
 use Rattle.rx_event.proofs.Laws.ReadWhole.{GoesAlike, goes_nowhere, goes_one_on, courses_since, courses_same}
-use Rattle.rx_event.proofs.Laws.ReadAllowed.{same_list}
 
 -- a call of one event
 single : (base : Kept) → {r s : ℕ → ℕ} {h c : List Event} → AreSameBy base r s h c → (e : Event) (k j : List Event) → IsStep base h (e ∷ []) k →
@@ -91,38 +88,12 @@ using base {r = r} {s = s} {h = h} {c = c} a place tag k j one other =
         opened.since.newest 0 (ap (λ (n : ℕ). option_map_or is_named (slice_get (h ++ Open place Pass ∷ []) n) false) same_place ∙
         ap (λ (x : Option Event). option_map_or is_named x false) (slice_get_last h (Open place Pass))) ∙ same_there
 
--- the connections of a hub
-pub connections_read : (base : Kept) → (r s : ℕ → ℕ) (h c : List Event) (a : AreSameBy base r s h c) (g : ℕ) → s (r g) ≡ g →
-    open_connections c (r g) ≡ map r (open_connections h g)
-connections_read base r s h c a g undone =
-    same_list r s (λ n. at (is_connect_of g) h n && is_open h n) (λ n. at (is_connect_of (r g)) c n && is_open c n) (length h) (length c)
-    (record {
-      within = λ n holds. is_open_within h n (and_parts (at (is_connect_of g) h n) (is_open h n) holds).1;
-      within_there = λ n holds. is_open_within c n (and_parts (at (is_connect_of (r g)) c n) (is_open c n) holds).1;
-      there = there;
-      back = back;
-      grows = λ m n holds also l. a.numbers.there.order m n (and_parts (at (is_connect_of g) h m) (is_open h m) holds).1
-          (and_parts (at (is_connect_of g) h n) (is_open h n) also).1 l;
-    })
-  where
-    there : (n : ℕ) → (at (is_connect_of g) h n && is_open h n) ≡ true → (at (is_connect_of (r g)) c (r n) && is_open c (r n)) ≡ true
-    there n holds =
-        let parts = and_parts (at (is_connect_of g) h n) (is_open h n) holds in
-        let made = a.numbers.there.made n (Connect g) parts.1 (at_connect h g n parts.0) in
-        and_from _ _ (rw made (eq-eqb (r g) (r g) refl)) (a.numbers.there.alive n parts.1)
-
-    back : (n : ℕ) → (at (is_connect_of (r g)) c n && is_open c n) ≡ true → ((at (is_connect_of g) h (s n) && is_open h (s n)) ≡ true) × (r (s n) ≡ n)
-    back n holds =
-        let parts = and_parts (at (is_connect_of (r g)) c n) (is_open c n) holds in
-        let made : slice_get h (s n) ≡ Some (Connect (s (r g))) = a.numbers.back.made n (Connect (r g)) parts.1 (at_connect c (r g) n parts.0) in
-        (and_from _ _ (rw made (eq-eqb (s (r g)) g undone)) (a.numbers.back.alive n parts.1), a.numbers.back.undone n parts.1)
-
 disconnecting : (base : Kept) → {r s : ℕ → ℕ} {h c : List Event} → AreSameBy base r s h c → (g : ℕ) → at makes_hub h g ≡ true → (k j : List Event) →
     IsStep base h (map (λ n. Close n) (open_connections h g)) k →
     IsStep base c (map (λ n. Close n) (open_connections c (r g))) j → AreSameSince base r h c k j
 disconnecting base {r = r} {s = s} {h = h} {c = c} a g hub k j one other =
     by_list (open_connections h g) (one_open_connection base h a.numbers.law g) one
-    (subst (λ (ms : List ℕ). IsStep base c (map (λ n. Close n) ms) j) (connections_read base r s h c a g undone) other)
+    (subst (λ (ms : List ℕ). IsStep base c (map (λ n. Close n) ms) j) (connections_by r s h c (trees_of a.numbers) g undone) other)
   where
     undone : s (r g) ≡ g
     undone = let w = hub_made h g hub in a.numbers.there.hub_undone g w.0 w.1

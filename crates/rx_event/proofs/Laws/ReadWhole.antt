@@ -10,36 +10,33 @@ use Rattle.rx_event.specs.declared.event.Event.{Event}
 use Rattle.rx_event.specs.declared.event.Event.TheVariants.{Open, Hub, Connect, Accept, Use, Remove, Lease, Return, Item, Decline, End, Close, Take}
 use Rattle.rx_event.specs.Events.{makes_node, makes_resource, makes_lease}
 use Rattle.rx_event.specs.Tree.{at, is_open}
-use Rattle.rx_event.specs.Forced.{cut, due, SourceEnded, IsForced, IsSettled}
+use Rattle.rx_event.specs.Forced.{cut, due, SourceEnded, IsSettled}
 use Rattle.rx_event.specs.Lawful.{forced, stays, more, MayFollow, IsLawful, IsForcedOn, Started}
-use Rattle.rx_event.specs.Renumbered.{event_by, is_named, IsRead, AreRenumbered, IsShown, AreSameBy, AreSame, AreSameSince, place_by, kind_by}
+use Rattle.rx_event.specs.Renumbered.{event_by, is_named, IsRead, AreRenumbered, IsShown, AreSameBy, AreSame, AreSameSince}
 use Rattle.rx_event.specs.Claims.Determined.{is_closing, AreAlike}
 use Rattle.rx_event.proofs.Laws.Places.{slice_get_last, at-append, at_within}
 use Rattle.rx_event.proofs.Laws.Lawful.{may_end, IsLawful_empty}
-use Rattle.rx_event.proofs.Laws.Steps.{may_close, may_emit, may_decline, may_use, may_remove, may_take, may_lease, may_return}
+use Rattle.rx_event.proofs.Laws.Steps.{may_name, may_accept, may_close, may_emit, may_decline, may_use, may_remove, may_take, may_lease, may_return}
+use Rattle.rx_event.proofs.Laws.Hubs.{may_connect_hub}
 use Rattle.rx_event.proofs.Laws.Stands.{open_node}
 use Rattle.rx_event.proofs.Laws.Resources.{held_resource, waiting_parts}
 use Rattle.rx_event.proofs.Laws.Leases.{owned_resource, out_lease}
 use Rattle.rx_event.proofs.Laws.Waits.{settled_connected}
 use Rattle.rx_event.proofs.Laws.Alike.{courses_alike}
-use Rattle.rx_event.proofs.Laws.ReadDue.{renumbered_back, forced_read, settled_read}
-use Rattle.rx_event.proofs.Laws.ReadOn.{renumbered_end, renumbered_close}
-use Rattle.rx_event.proofs.Laws.ReadMade.{with_number, number_new, number_old}
-use Rattle.rx_event.proofs.Laws.ReadOpened.{event_undone, renumbered_open, renumbered_hub, renumbered_connect, renumbered_accept, renumbered_lease}
-use Rattle.rx_event.proofs.Laws.ReadCalm.{renumbered_use, renumbered_remove, renumbered_return, renumbered_take, renumbered_item, renumbered_decline}
-use Rattle.rx_event.proofs.Laws.ReadShown.{is_shown_on, made_at, node_named, resource_named, lease_named}
-use Rattle.rx_event.specs.declared.event.Place.{Place}
-use Rattle.rx_event.specs.declared.event.Kind.{Kind}
-use Rattle.rx_event.specs.declared.event.Place.TheVariants.{Root, Source, Inner, Notifier}
-use Rattle.rx_event.specs.declared.event.Kind.TheVariants.{Leaf, Pass, Flat, Switch, Until, Sub}
+use Rattle.rx_event.proofs.Laws.ReadDue.{trees_of, renumbered_back, forced_read, settled_read}
+use Rattle.rx_event.proofs.Laws.ReadAfter.{renumbered_on}
+use Rattle.rx_event.proofs.Laws.ReadMade.{with_number, number_new, number_old, open_undone, may_hub}
+use Rattle.rx_event.proofs.Laws.TreeRead.{hub_made, node_named, event_by_itself}
+use Rattle.rx_event.proofs.Laws.ReadShown.{is_shown_on, made_at, resource_named, lease_named}
 
 -- one event -----------------------------------------------------------------------------------------------------------------------
 
 undone : (base : Kept) → {r s : ℕ → ℕ} {h c : List Event} → AreSameBy base r s h c → (e : Event) → MayFollow base h e → event_by s (event_by r e) ≡ e
-undone base a (Open place kind) next = event_undone base a.numbers.there (Open place kind) refl refl next
+undone base a (Open place kind) next =
+    open_undone (trees_of a.numbers).there place kind (λ p named. may_name base next named) (may_hub base next)
 undone base a (Hub mode) next = refl
-undone base a (Connect g) next = event_undone base a.numbers.there (Connect g) refl refl next
-undone base a (Accept n tag) next = event_undone base a.numbers.there (Accept n tag) refl refl next
+undone base {h = h} a (Connect g) next = let hub = hub_made h g (may_connect_hub base next) in ap Connect (a.numbers.there.hub_undone g hub.0 hub.1)
+undone base a (Accept n tag) next = ap (λ m. Accept m tag) (a.numbers.there.undone n (may_accept base next))
 undone base {h = h} a (Use q) next = ap Use (a.shown.apart q (made_at makes_resource is_named resource_named h q (held_resource h q (may_use base next))))
 undone base {h = h} a (Remove q) next = ap Remove (a.shown.apart q (made_at makes_resource is_named resource_named h q
     (owned_resource h q (may_remove base next))))
@@ -54,7 +51,7 @@ undone base a (Close n) next = ap Close (a.numbers.there.undone n (may_close bas
 
 module _ (base : Kept) (r s q t : ℕ → ℕ) (h c : List Event) (e : Event) (a : AreSameBy base r s h c) (next : MayFollow base h e)
     (other : MayFollow base c (event_by r e))
-    (after : AreRenumbered base q t (h ++ e ∷ []) (c ++ event_by r e ∷ [])) (older : (k : ℕ) → k < length h → q k ≡ r k)
+    (older : (k : ℕ) → k < length h → q k ≡ r k)
     (older_back : (k : ℕ) → k < length c → t k ≡ s k)
     (newest : is_named e ≡ true → (q (length h) ≡ length c) × (t (length c) ≡ length h))
     (newest_back : is_named (event_by r e) ≡ true → (t (length c) ≡ length h) × (q (length h) ≡ length c)) where
@@ -70,6 +67,9 @@ module _ (base : Kept) (r s q t : ℕ → ℕ) (h c : List Event) (e : Event) (a
     is : event_by s (event_by r e) ≡ e
     is = undone base a e next
 
+    after : AreRenumbered base q t (h ++ e ∷ []) (c ++ event_by r e ∷ [])
+    after = renumbered_on a.numbers next other is older older_back newest newest_back
+
 -- what is named in the longer history, no nearer than its beginning, is the last event
 named_last : (h : List Event) (e : Event) (i : ℕ) → at is_named (h ++ e ∷ []) (length h + i) ≡ true → (i ≡ 0) × (is_named e ≡ true)
 named_last h e i named =
@@ -80,12 +80,11 @@ named_last h e i named =
 
 -- what makes something
 same_made : (base : Kept) → {r s : ℕ → ℕ} {h c : List Event} → AreSameBy base r s h c → (e : Event) → MayFollow base h e → MayFollow base c (event_by r e) →
-    AreRenumbered base (with_number (length h) (length c) r) (with_number (length c) (length h) s) (h ++ e ∷ []) (c ++ event_by r e ∷ []) →
     AreSameSince base r h c (h ++ e ∷ []) (c ++ event_by r e ∷ [])
-same_made base {r = r} {s = s} {h = h} {c = c} a e next other after = record {
+same_made base {r = r} {s = s} {h = h} {c = c} a e next other = record {
   reads = with_number (length h) (length c) r;
   reads_back = with_number (length c) (length h) s;
-  same = same_on base r s (with_number (length h) (length c) r) (with_number (length c) (length h) s) h c e a next other after
+  same = same_on base r s (with_number (length h) (length c) r) (with_number (length c) (length h) s) h c e a next other
       (number_old (length h) (length c) r) (number_old (length c) (length h) s)
       (λ named. (number_new (length h) (length c) r, number_new (length c) (length h) s))
       (λ named. (number_new (length c) (length h) s, number_new (length h) (length c) r));
@@ -100,13 +99,12 @@ same_made base {r = r} {s = s} {h = h} {c = c} a e next other after = record {
 -- what makes nothing
 same_kept : (base : Kept) → {r s : ℕ → ℕ} {h c : List Event} → AreSameBy base r s h c → (e : Event) → is_named e ≡ false → is_named (event_by r e) ≡ false →
     MayFollow base h e →
-    MayFollow base c (event_by r e) → AreRenumbered base r s (h ++ e ∷ []) (c ++ event_by r e ∷ []) →
-    AreSameSince base r h c (h ++ e ∷ []) (c ++ event_by r e ∷ [])
-same_kept base {r = r} {s = s} {h = h} {c = c} a e nameless also next other after = record {
+    MayFollow base c (event_by r e) → AreSameSince base r h c (h ++ e ∷ []) (c ++ event_by r e ∷ [])
+same_kept base {r = r} {s = s} {h = h} {c = c} a e nameless also next other = record {
   reads = r;
   reads_back = s;
   same =
-      same_on base r s r s h c e a next other after (λ k l. refl) (λ k l. refl) (λ named. absurd (false≢true (sym nameless ∙ named)))
+      same_on base r s r s h c e a next other (λ k l. refl) (λ k l. refl) (λ named. absurd (false≢true (sym nameless ∙ named)))
       (λ named. absurd (false≢true (sym also ∙ named)));
   older = λ n l. refl;
   newest = λ i named. absurd (false≢true (sym nameless ∙ (named_last h e i named).1));
@@ -116,26 +114,14 @@ same_kept base {r = r} {s = s} {h = h} {c = c} a e nameless also next other afte
 pub same_event_on : (base : Kept) → {r s : ℕ → ℕ} {h c : List Event} → AreSameBy base r s h c → (e : Event) → MayFollow base h e →
     MayFollow base c (event_by r e) →
     AreSameSince base r h c (h ++ e ∷ []) (c ++ event_by r e ∷ [])
-same_event_on base a (Open place kind) next other = same_made base a (Open place kind) next other (renumbered_open base a.numbers place kind next other)
-same_event_on base a (Hub mode) next other = same_made base a (Hub mode) next other (renumbered_hub base a.numbers mode next other)
-same_event_on base a (Connect g) next other = same_made base a (Connect g) next other (renumbered_connect base a.numbers g next other)
-same_event_on base a (Accept n tag) next other = same_made base a (Accept n tag) next other (renumbered_accept base a.numbers n tag next other)
-same_event_on base {h = h} a (Lease q) next other =
-    same_made base a (Lease q) next other (renumbered_lease base a.numbers q next other (a.shown.apart q
-    (made_at makes_resource is_named resource_named h q (owned_resource h q (may_lease base next)))))
-same_event_on base {r = r} a (Return l) next other = same_kept base a (Return l) refl refl next other (renumbered_return base a.numbers l (r l) next other)
-same_event_on base {r = r} a (Use q) next other = same_kept base a (Use q) refl refl next other (renumbered_use base a.numbers q (r q) next other)
-same_event_on base {r = r} a (Remove q) next other = same_kept base a (Remove q) refl refl next other (renumbered_remove base a.numbers q (r q) next other)
-same_event_on base {r = r} a (Take q) next other = same_kept base a (Take q) refl refl next other (renumbered_take base a.numbers q (r q) next other)
-same_event_on base a (Item l v) next other = same_kept base a (Item l v) refl refl next other (renumbered_item base a.numbers l v next other)
-same_event_on base a (Decline f) next other = same_kept base a (Decline f) refl refl next other (renumbered_decline base a.numbers f next other)
-same_event_on base a (End n t) next other = same_kept base a (End n t) refl refl next other (renumbered_end base a.numbers n t next other)
-same_event_on base a (Close n) next other = same_kept base a (Close n) refl refl next other (renumbered_close base a.numbers n next other)
+same_event_on base {r = r} {s = s} {h = h} {c = c} a e next other = by_name (is_named e) refl where
+  named_by : (x : Event) → is_named (event_by r x) ≡ is_named x
+  named_by (Open place kind) = refl
+  named_by _ = refl
 
--- a forced one may come next in both
-same_forced_on : (base : Kept) → {r s : ℕ → ℕ} {h c : List Event} → AreSameBy base r s h c → (e : Event) → IsForced base h e →
-    AreSameSince base r h c (h ++ e ∷ []) (c ++ event_by r e ∷ [])
-same_forced_on base a e f = same_event_on base a e (forced f) (forced (forced_read base a.numbers f))
+  by_name : (b : Bool) → is_named e ≡ b → AreSameSince base r h c (h ++ e ∷ []) (c ++ event_by r e ∷ [])
+  by_name true is = same_made base a e next other
+  by_name false nameless = same_kept base a e nameless (named_by e ∙ nameless) next other
 
 -- courses ---------------------------------------------------------------------------------------------------------------------------
 
@@ -205,8 +191,8 @@ course_read base (more {k = k} {e = e} on f) r h c d g = by_rest (course_read ba
   by_rest : CourseRead base r h c k d → CourseRead base r h c (k ++ e ∷ []) d
   by_rest w = record {
     last = w.last ++ event_by w.goes.since.reads e ∷ [];
-    course = more w.course (forced_read base w.goes.since.same.numbers f);
-    goes = goes_one_on base w.goes e (forced f) (forced (forced_read base w.goes.since.same.numbers f));
+    course = more w.course (forced_read w.goes.since.same.numbers f);
+    goes = goes_one_on base w.goes e (forced f) (forced (forced_read w.goes.since.same.numbers f));
   }
 
 -- in a settled history no source of an open subscriber has ended
@@ -227,7 +213,7 @@ named_closing (Close n) named = absurd (false≢true named)
 named_closing _ named = refl
 
 -- what differs in the places of ends and closings alone may stand in the other's place
-alike_read : (base : Kept) → {r s : ℕ → ℕ} {h k j : List Event} → IsRead base r s h k → IsSettled base h → AreAlike base k j → IsRead base r s h j
+alike_read : (base : Kept) → {r s : ℕ → ℕ} {h k j : List Event} → IsRead base base r s h k → IsSettled base h → AreAlike base k j → IsRead base base r s h j
 alike_read base {r = r} {h = h} there settled alike = record {
   alive = λ n o. sym (alike.same_open (r n)) ∙ there.alive n o;
   undone = there.undone;
@@ -239,7 +225,7 @@ alike_read base {r = r} {h = h} there settled alike = record {
   ended = λ n t o x. absurd (no_source_ended base h settled n t o x);
 }
 
-read_alike : (base : Kept) → {r s : ℕ → ℕ} {h k j : List Event} → IsRead base s r k h → IsSettled base j → AreAlike base j k → IsRead base s r j h
+read_alike : (base : Kept) → {r s : ℕ → ℕ} {h k j : List Event} → IsRead base base s r k h → IsSettled base j → AreAlike base j k → IsRead base base s r j h
 read_alike base {r = r} {s = s} {h = h} {k = k} {j = j} back settled alike = record {
   alive = λ n o. back.alive n (open_there n o);
   undone = λ n o. back.undone n (open_there n o);
@@ -331,7 +317,7 @@ courses_since {base} {r} {h} {c} {d} k j start on_k settled_k on_j settled_j law
   since = w.goes.since
 
   settled_last : IsSettled base w.last
-  settled_last = settled_read base since.same.numbers settled_k
+  settled_last = settled_read since.same.numbers settled_k
 
   one : AreAlike base w.last j
   one = courses_alike start.since.same.numbers.other_law w.course settled_last on_j settled_j
@@ -345,37 +331,7 @@ courses_same {base} {k = k} {j = j} a on_k settled_k on_j settled_j law = course
 
 -- the beginning ------------------------------------------------------------------------------------------------------------------------
 
-place_by_itself : (p : Place) → place_by (λ n. n) p ≡ p
-place_by_itself Root = refl
-place_by_itself (Source p) = refl
-place_by_itself (Inner p) = refl
-place_by_itself (Notifier p) = refl
-
-kind_by_itself : (k : Kind) → kind_by (λ n. n) k ≡ k
-kind_by_itself Leaf = refl
-kind_by_itself Pass = refl
-kind_by_itself Flat = refl
-kind_by_itself Switch = refl
-kind_by_itself Until = refl
-kind_by_itself (Sub g) = refl
-
--- with the same numbers
-event_by_itself : (e : Event) → event_by (λ n. n) e ≡ e
-event_by_itself (Open place kind) = λ i. Open (place_by_itself place i) (kind_by_itself kind i)
-event_by_itself (Hub mode) = refl
-event_by_itself (Connect g) = refl
-event_by_itself (Accept n tag) = refl
-event_by_itself (Use q) = refl
-event_by_itself (Remove q) = refl
-event_by_itself (Lease q) = refl
-event_by_itself (Return l) = refl
-event_by_itself (Item l v) = refl
-event_by_itself (Decline f) = refl
-event_by_itself (End n t) = refl
-event_by_itself (Close n) = refl
-event_by_itself (Take q) = refl
-
-start_read : (base : Kept) → IsRead base (λ n. n) (λ n. n) (shown base) (shown base)
+start_read : (base : Kept) → IsRead base base (λ n. n) (λ n. n) (shown base) (shown base)
 start_read base = record {
   alive = λ n o. o;
   undone = λ n o. refl;

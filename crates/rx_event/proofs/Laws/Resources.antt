@@ -155,7 +155,7 @@ is_owned-remove base h q law r l = rw (is_owned-push base h (Remove q) law r l) 
   cut_none (Some n) = is_cut_none h (Remove q) n refl
 
 -- what is owned is owned by an open node
-pub owned_open : (h : List Event) (r n : ℕ) → node_of h r ≡ Some n → is_owned h r ≡ true → is_open h n ≡ true
+owned_open : (h : List Event) (r n : ℕ) → node_of h r ≡ Some n → is_owned h r ≡ true → is_open h n ≡ true
 unfolding is_owned
 owned_open h r n at_r owned = sym (ap (λ o. option_map_or (is_open h) o false) at_r) ∙ (and_parts _ _ owned).0
 

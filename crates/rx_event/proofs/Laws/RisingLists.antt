@@ -1,5 +1,5 @@
 -- Lists of rising numbers: two with the same members are the same.
-use Rattle.std.proofs.Common.{◌≡◌, ℕ, zero, suc, ◌+◌, ◌<◌, ◌≤◌, Bool, true, false, List, [], ◌∷◌, cond, refl, sym, ap, ◌∙◌, inl, inr, ◌⊎◌, arith, filter, map}
+use Rattle.std.proofs.Common.{◌≡◌, ℕ, zero, suc, ◌+◌, ◌<◌, ◌≤◌, Bool, true, false, List, [], ◌∷◌, cond, refl, sym, ap, ◌∙◌, inl, inr, ◌⊎◌, arith, filter, map, subst}
 use Rattle.std.specs.List.{AllByRecursion, range_with_len}
 use Rattle.std.proofs.lemmas.Bool.{cases_order}
 
@@ -113,3 +113,35 @@ map_rises r (x ∷ xs) grows a = (all_in (λ y. r x < y) (map r xs) less, map_ri
       let l : r x < r w.0 = grows x w.0 (inl refl) (inr w.1) (in_all x w.0 xs a.0 w.1) in
       let same = w.2 in
       omega arith
+
+-- r leads from the numbers below m that pass p to those below n that pass q, in their order, and s leads back
+pub record LeadsInOrder (r s : ℕ → ℕ) (p q : ℕ → Bool) (m n : ℕ) : Type 0 where
+  pub within : (k : ℕ) → p k ≡ true → k < m
+  pub within_there : (k : ℕ) → q k ≡ true → k < n
+  pub there : (k : ℕ) → p k ≡ true → q (r k) ≡ true
+  pub back : (k : ℕ) → q k ≡ true → (p (s k) ≡ true) × (r (s k) ≡ k)
+  pub grows : (j k : ℕ) → p j ≡ true → p k ≡ true → j < k → r j < r k
+
+pub same_list : (r s : ℕ → ℕ) (p q : ℕ → Bool) (m n : ℕ) → LeadsInOrder r s p q m n →
+    filter q (range_with_len 0 n) ≡ map r (filter p (range_with_len 0 m))
+same_list r s p q m n leads = rising_same (filter q (range_with_len 0 n)) (map r (filter p (range_with_len 0 m)))
+    (filter_rises q (range_with_len 0 n) (range_rises 0 n))
+    (map_rises r (filter p (range_with_len 0 m)) (λ j k i l. leads.grows j k (filter_in p (range_with_len 0 m) j i).1 (filter_in p (range_with_len 0 m) k l).1)
+    (filter_rises p (range_with_len 0 m) (range_rises 0 m)))
+    onwards backwards
+  where
+    onwards : (k : ℕ) → In k (filter q (range_with_len 0 n)) → In k (map r (filter p (range_with_len 0 m)))
+    onwards k i =
+        let w = filter_in q (range_with_len 0 n) k i in
+        let b = leads.back k w.1 in
+        let l : s k < m = leads.within (s k) b.0 in
+        subst (λ (j : ℕ). In j (map r (filter p (range_with_len 0 m)))) b.1
+        (in_map r (filter p (range_with_len 0 m)) (s k) (in_filter p (range_with_len 0 m) (s k) (in_range 0 m (s k) (omega arith) (omega arith)) b.0))
+
+    backwards : (k : ℕ) → In k (map r (filter p (range_with_len 0 m))) → In k (filter q (range_with_len 0 n))
+    backwards k i =
+        let w = map_in r (filter p (range_with_len 0 m)) k i in
+        let holds : q (r w.0) ≡ true = leads.there w.0 (filter_in p (range_with_len 0 m) w.0 w.1).1 in
+        let l : r w.0 < n = leads.within_there (r w.0) holds in
+        subst (λ (j : ℕ). In j (filter q (range_with_len 0 n))) w.2
+        (in_filter q (range_with_len 0 n) (r w.0) (in_range 0 n (r w.0) (omega arith) (omega arith)) holds)

@@ -1,29 +1,27 @@
 -- Stored histories that agree: the same is forced and allowed in both, and followed by one event they agree again.
-use Rattle.std.proofs.Common.{◌≡◌, ℕ, ◌+◌, ◌<◌, ◌≤◌, Bool, true, false, List, [], ◌∷◌, ◌++◌, length}
-use Rattle.std.proofs.Common.{Some, refl, sym, ap, ◌∙◌, arith, inl, inr, ◌⊎◌, ◌==◌, filter}
+use Rattle.std.proofs.Common.{◌≡◌, ℕ, Bool, true, false, List, length}
+use Rattle.std.proofs.Common.{Some, refl, sym, ap, subst, ◌∙◌, inl, inr, ◌⊎◌, filter}
 use Rattle.std.proofs.Math.Bool.{◌||◌}
-use Rattle.std.specs.List.{list_any, AllByRecursion, range_with_len}
-use Rattle.std.proofs.lemmas.Bool.{cases_Bool, both_ways, false≢true, eqb-true}
-use Rattle.rx_event.specs.declared.event.Place.{Place}
-use Rattle.rx_event.specs.declared.event.Place.TheVariants.{Root, Source, Inner, Notifier}
-use Rattle.rx_event.specs.declared.event.Kind.{Kind}
-use Rattle.rx_event.specs.declared.event.Kind.TheVariants.{Leaf, Pass, Flat, Switch, Until, Sub}
+use Rattle.std.specs.List.{range_with_len}
+use Rattle.std.proofs.lemmas.Bool.{cases_Bool, both_ways, false≢true}
 use Rattle.rx_event.specs.declared.event.Mode.{Mode}
 use Rattle.rx_event.specs.declared.event.Event.{Event}
 use Rattle.rx_event.specs.declared.event.Event.TheVariants.{Open, Hub}
-use Rattle.rx_event.specs.Events.{makes_hub, is_merging, is_leaf, is_root, is_until, has_source, is_auto_hub, is_manual_hub, is_subscriber_of}
-use Rattle.rx_event.specs.Tree.{at, hubs, parent, ancestors, is_open, is_within, open_nodes}
+use Rattle.rx_event.specs.Events.{makes_hub, is_merging, is_auto_hub, is_subscriber_of}
+use Rattle.rx_event.specs.Tree.{at, hubs, parent, is_open, is_within}
 use Rattle.rx_event.specs.Forced.{IsConnectDue, IsConnected, mirrored, fired, failed, completed, cut, left, connecting, due, IsDue, IsForced, IsSettled}
-use Rattle.rx_event.specs.Allowed.{most_nodes, IsHubbed, IsInOrderAt, may_abort, opened, published, connected, accepted, used, removed, leased, returned}
-use Rattle.rx_event.specs.Allowed.{emitted, declined, leaf_ended, aborted, projection_failed, root_closed, disconnected, taken, IsFree, IsAllowed}
+use Rattle.rx_event.specs.Allowed.{IsInOrderAt}
+use Rattle.rx_event.specs.Allowed.{IsAllowed}
 use Rattle.rx_event.specs.Kept.{Kept}
-use Rattle.rx_event.specs.Moments.{owed}
 use Rattle.rx_event.specs.Bases.{is_untaken, Alike, Completes, Leaves, Gives, Agree}
 use Rattle.rx_event.specs.Lawful.{forced, allowed, opened_with, MayFollow, IsLawful}
-use Rattle.rx_event.proofs.Laws.Openness.{ancestors_open}
-use Rattle.rx_event.proofs.Laws.SameTree.{alike_back, at_alike, at_hub_alike, parent_alike, within_alike, open_nodes_alike}
-use Rattle.rx_event.proofs.Laws.SameTree.{subscribers_alike, connections_alike, visits_alike, alike_push}
-use Rattle.rx_event.proofs.Laws.Gives.{gives-push}
+use Rattle.rx_event.proofs.Laws.SameTree.{alike_back, at_alike, at_hub_alike, parent_alike, within_alike}
+use Rattle.rx_event.proofs.Laws.SameTree.{subscribers_alike, connections_alike}
+use Rattle.rx_event.proofs.Laws.SameTree.{trees_alike}
+use Rattle.rx_event.proofs.Laws.TreeRead.{event_by_itself}
+use Rattle.rx_event.proofs.Laws.LetGo.{connected_hub}
+use Rattle.rx_event.proofs.Laws.ClosedInEveryCourse.{open_above}
+use Rattle.rx_event.proofs.Laws.ReadAllowed.{MayAlike, allowed_by}
 use Rattle.rx_event.proofs.Laws.Steps.{named_below}
 
 pub agree_back : (b : Kept) (h : List Event) (c : Kept) (k : List Event) → Agree b h c k → Agree c k b h
@@ -57,11 +55,6 @@ subscriber_is : (e : Event) → is_auto_hub e ≡ true → (mode : Mode) × (e �
 subscriber_is (Hub mode) auto = (mode, refl)
 subscriber_is (Open place kind) auto = absurd (false≢true auto)
 subscriber_is _ auto = absurd (false≢true auto)
-
-manual_is : (e : Event) → is_manual_hub e ≡ true → (mode : Mode) × (e ≡ Hub mode)
-manual_is (Hub mode) is = (mode, refl)
-manual_is (Open place kind) is = absurd (false≢true is)
-manual_is _ is = absurd (false≢true is)
 
 pub hub_is : (e : Event) → makes_hub e ≡ true → (mode : Mode) × (e ≡ Hub mode)
 hub_is (Hub mode) is = (mode, refl)
@@ -147,86 +140,32 @@ hubs_alike h k a = (λ i. filter (λ n. same n i) (range_with_len 0 (a.same_leng
   same : (n : ℕ) → at makes_hub h n ≡ at makes_hub k n
   same n = same_test (at makes_hub h n) (at makes_hub k n) (at_hub_alike h k a makes_hub hub_is n) (at_hub_alike k h (alike_back h k a) makes_hub hub_is n)
 
--- an ancestor of an open node is open
-above_open : (h : List Event) (m n : ℕ) → is_open h n ≡ true → is_within h m n ≡ true → is_open h m ≡ true
-above_open h m n o within = in_list (ancestors h n) (ancestors_open h n o) within where
-  in_list : (ns : List ℕ) → AllByRecursion (λ x. is_open h x ≡ true) ns → list_any (λ x. m == x) ns ≡ true → is_open h m ≡ true
-  in_list [] each none = absurd (false≢true none)
-  in_list (x ∷ ns) each some = by_test (cases_Bool (m == x)) (in_list ns each.1) where
-    by_test : ((m == x) ≡ true) ⊎ ((m == x) ≡ false) → (list_any (λ y. m == y) ns ≡ true → is_open h m ≡ true) → is_open h m ≡ true
-    by_test (inl same) further = ap (is_open h) (eqb-true m x same) ∙ each.0
-    by_test (inr other) further = further (sym (ap (λ z. z || list_any (λ y. m == y) ns) other) ∙ some)
-
 pub in_order_too : (h k : List Event) → Alike h k → (g p : ℕ) → is_open h p ≡ true → IsInOrderAt h g p → IsInOrderAt k g p
 in_order_too h k a g p o ordered m j within connects =
     let within_h : is_within h m p ≡ true = within_alike h k a m p o ∙ within in
-    ordered m j within_h (a.same_made m (above_open h m p o within_h) ∙ connects)
+    ordered m j within_h (a.same_made m (open_above h m p o within_h) ∙ connects)
+
+agree_may : {b : Kept} {h : List Event} {c : Kept} {k : List Event} → Agree b h c k → IsLawful b h → IsLawful c k → MayAlike b c (λ n. n) (λ n. n) h k
+agree_may {b} {h} {c} {k} a law law_k = record {
+  trees = trees_alike h k a.alike (named_below b h law);
+  owes = λ n o. sym (a.debts n o);
+  sourced = λ n o. sym (a.sources n o);
+  notified = λ n o. sym (a.notifiers n o);
+  hub_order = λ g j hub also l. l;
+  hub_total = sym (ap length (hubs_alike h k a.alike));
+  connects = λ n g at_n. connected_hub c k law_k g n at_n;
+  owned = λ r owned. sym (a.owned r) ∙ owned;
+  held = λ r held. sym (a.held r) ∙ held;
+  out = λ l out. sym (a.out l) ∙ out;
+  waiting = λ r waits. sym (a.waiting r) ∙ waits;
+}
 
 module _ (b : Kept) (h : List Event) (c : Kept) (k : List Event) (a : Agree b h c k) (law : IsLawful b h) (law_k : IsLawful c k) where
-  there : (n : ℕ) → is_open h n ≡ true → is_open k n ≡ true
-  there n o = sym (a.alike.same_open n) ∙ o
-
-  test_there : (t : Event → Bool) (n : ℕ) → is_open h n ≡ true → at t h n ≡ true → at t k n ≡ true
-  test_there t n o passes = sym (at_alike h k a.alike t n o) ∙ passes
-
-  owes_there : (f : ℕ) → is_open h f ≡ true → 0 < owed b h f → 0 < owed c k f
-  owes_there f o some = let e = a.debts f o in omega arith
-
-  free_too : (place : Place) → IsFree b h place → IsFree c k place
-  free_too Root free = tt
-  free_too (Source p) free = (there p free.0, test_there has_source p free.0 free.1, sym (a.sources p free.0) ∙ free.2)
-  free_too (Inner p) free = (there p free.0, test_there is_merging p free.0 free.1, owes_there p free.0 free.2)
-  free_too (Notifier p) free = (there p free.0, test_there is_until p free.0 free.1, sym (a.notifiers p free.0) ∙ free.2)
-
-  hubbed_too : (place : Place) (kind : Kind) → IsFree b h place → IsHubbed h place kind → IsHubbed k place kind
-  hubbed_too place (Sub g) free hubbed = (at_hub_alike h k a.alike makes_hub hub_is g hubbed.0, in_order place free hubbed.1) where
-    in_order : (place : Place) → IsFree b h place → Rattle.rx_event.specs.Allowed.IsInOrder h g place → Rattle.rx_event.specs.Allowed.IsInOrder k g place
-    in_order Root free ordered = tt
-    in_order (Source p) free ordered = in_order_too h k a.alike g p free.0 ordered
-    in_order (Inner p) free ordered = in_order_too h k a.alike g p free.0 ordered
-    in_order (Notifier p) free ordered = in_order_too h k a.alike g p free.0 ordered
-  hubbed_too place Leaf free hubbed = tt
-  hubbed_too place Pass free hubbed = tt
-  hubbed_too place Flat free hubbed = tt
-  hubbed_too place Switch free hubbed = tt
-  hubbed_too place Until free hubbed = tt
-
-  few : (n m : ℕ) → length (open_nodes h) + n ≤ m → length (open_nodes k) + n ≤ m
-  few n m less = let e = ap length (open_nodes_alike h k a.alike) in omega arith
-
-  -- the opening makes a hub wait in both
-  waits_back : (place : Place) (kind : Kind) → IsFree b h place → IsHubbed h place kind → (g : ℕ) → IsConnectDue (k ++ Open place kind ∷ []) g →
-      IsConnectDue (h ++ Open place kind ∷ []) g
-  waits_back place kind free hubbed g d =
-      connects_too (k ++ Open place kind ∷ []) (h ++ Open place kind ∷ [])
-      (alike_back (h ++ Open place kind ∷ []) (k ++ Open place kind ∷ []) (alike_push h k a.alike (Open place kind)))
-      (gives-push b h c k (Open place kind) law (λ n t same. absurd (cc)) (λ l v same. absurd (cc)) a.alike a.gives) g d
-
   pub allowed_too : {e : Event} → IsAllowed b h e → IsAllowed c k e
-  allowed_too (opened {place = place} {kind = kind} free hubbed room more) =
-      opened (free_too place free) (hubbed_too place kind free hubbed) (few 1 most_nodes room)
-      (λ g d. few 2 most_nodes (more g (waits_back place kind free hubbed g d)))
-  allowed_too (published less) = published (let e = ap length (hubs_alike h k a.alike) in omega arith)
-  allowed_too (connected {g = g} manual none less) =
-      connected (at_hub_alike h k a.alike is_manual_hub manual_is g manual) (sym (connections_alike h k a.alike g) ∙ none)
-      (let e = ap length (open_nodes_alike h k a.alike) in omega arith)
-  allowed_too (accepted o) = accepted (there _ o)
-  allowed_too (used held) = used (sym (a.held _) ∙ held)
-  allowed_too (removed owned) = removed (sym (a.owned _) ∙ owned)
-  allowed_too (leased owned) = leased (sym (a.owned _) ∙ owned)
-  allowed_too (returned out) = returned (sym (a.out _) ∙ out)
-  allowed_too (emitted {l = l} o leaf less) =
-      emitted (there _ o) (test_there is_leaf _ o leaf) (let e = visits_alike h k a.alike (named_below b h law) l o in omega arith)
-  allowed_too (declined o m some) = declined (there _ o) (test_there is_merging _ o m) (owes_there _ o some)
-  allowed_too (leaf_ended o leaf) = leaf_ended (there _ o) (test_there is_leaf _ o leaf)
-  allowed_too (aborted {n = n} o may none) = aborted (there _ o) (test_there may_abort _ o may) (childless_too h k a.alike n none)
-  allowed_too (projection_failed o m some) = projection_failed (there _ o) (test_there is_merging _ o m) (owes_there _ o some)
-  allowed_too (root_closed o root) = root_closed (there _ o) (test_there is_root _ o root)
-  allowed_too (disconnected {g = g} o connects manual) =
-      disconnected (there _ o) (sym (a.alike.same_made _ o) ∙ connects) (at_hub_alike h k a.alike is_manual_hub manual_is g manual)
-  allowed_too (taken waits) = taken (sym (a.waiting _) ∙ waits)
+  allowed_too {e} may = subst (λ (x : Event). IsAllowed c k x) (event_by_itself e)
+      (allowed_by (agree_may a law law_k) law law_k (λ n t o x. (a.gives.cuts n t (o, x)).1) may)
 
   pub follows_too : {e : Event} → MayFollow b h e → MayFollow c k e
   follows_too (forced f) = forced (forced_too b h c k a f)
   follows_too (allowed s x) = allowed (settled_too b h c k a s) (allowed_too x)
-  follows_too (opened_with {n = n} at_n long o) = opened_with (sym (a.alike.same_made n o) ∙ at_n) (sym a.alike.same_length ∙ long) (there n o)
+  follows_too (opened_with {n = n} at_n long o) = opened_with (sym (a.alike.same_made n o) ∙ at_n) (sym a.alike.same_length ∙ long) (sym (a.alike.same_open n) ∙ o)

@@ -29,11 +29,11 @@ use Rattle.rx_event.proofs.Laws.Dues.{IsDueOn, Fails, any_on, parent_on, owed_on
 use Rattle.rx_event.proofs.Laws.ClosedInEveryCourse.{same_open, spared, completed_in_k, source_fails}
 
 -- what has a child is a mirroring node, or a FlatMap or Switch
-data IsParent (h : List Event) (n : ℕ) : Type 0 where
+pub data IsParent (h : List Event) (n : ℕ) : Type 0 where
   mirrors : at is_mirroring h n ≡ true → IsParent h n
   merges : at is_merging h n ≡ true → IsParent h n
 
-parent_sort : (base : Kept) → (h : List Event) → IsLawful base h → (d n : ℕ) → parent h d ≡ Some n → IsParent h n
+pub parent_sort : (base : Kept) → (h : List Event) → IsLawful base h → (d n : ℕ) → parent h d ≡ Some n → IsParent h n
 parent_sort base h law d n below = by_event made.0 made.1 (parent_name h d n made.0 below made.1) where
   made : (e : Event) × (slice_get h d ≡ Some e)
   made = event_at h d (parent_within h d n below)

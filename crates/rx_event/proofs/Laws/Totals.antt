@@ -13,7 +13,7 @@ use Rattle.rx_event.specs.declared.event.Place.TheVariants.{Root, Source, Inner,
 use Rattle.rx_event.specs.declared.event.Kind.{Kind}
 use Rattle.rx_event.specs.declared.event.Event.{Event}
 use Rattle.rx_event.specs.declared.event.Event.TheVariants.{Open, Hub, Connect, Accept, Use, Remove, Lease, Return, Item, Decline, End, Close, Take}
-use Rattle.rx_event.specs.Events.{makes_node, makes_resource, node_of_accept, is_use_of, is_take_of, is_item, is_take}
+use Rattle.rx_event.specs.Events.{makes_node, makes_resource, node_of_accept, parent_named, is_use_of, is_take_of, is_item, is_take}
 use Rattle.rx_event.specs.Tree.{places, is_open, is_within}
 use Rattle.rx_event.specs.Resources.{is_owned, is_leased, is_held, is_waiting, uses}
 use Rattle.rx_event.specs.Totals.{item_count, accepted_count, taken_count, owned_count, held_count, waiting_count, open_count}
@@ -22,7 +22,7 @@ use Rattle.rx_event.specs.Claims.Nodes.{IsOpenInner}
 use Rattle.rx_event.proofs.Laws.Parents.{ancestors_step}
 use Rattle.rx_event.proofs.Laws.Openness.{is_cut, is_cut_none, is_cut_inner, is_open_cut, is_open_last}
 use Rattle.rx_event.proofs.Laws.Openness.{is_open_made, is_open_within, is_open_last_none, shuts_none}
-use Rattle.rx_event.proofs.Laws.Steps.{by_events, may_open, may_accept, may_use, may_remove, may_take}
+use Rattle.rx_event.proofs.Laws.Steps.{by_events, may_name, may_accept, may_use, may_remove, may_take}
 use Rattle.rx_event.proofs.Laws.Sums.{sum_by-places-push, sums_balance, sum_by-same, sum_by_no_rise, sum_by_falls, sum_by_none, sum_by_one, count_by_one}
 use Rattle.rx_event.proofs.Laws.Switches.{is_cut-inner_switch}
 use Rattle.rx_event.proofs.Laws.Resources.{loses, node_of, is_owned-push, is_owned_last, is_owned-remove, held_is, owned_held, is_held_last}
@@ -327,26 +327,29 @@ open_count-push h e =
     shape true false = refl
     shape false c = refl
 
--- what is made is open
+-- what is made is open, where it names an open node
+pub is_open_named : (h : List Event) (e : Event) → ((p : ℕ) → parent_named e ≡ Some p → is_open h p ≡ true) → is_open (h ++ e ∷ []) (length h) ≡ makes_node e
+is_open_named h (Open Root kind) names = is_open_last h (Open Root kind) refl
+is_open_named h (Open (Source p) kind) names =
+    is_open_made h (Open (Source p) kind) p refl refl (names p refl) (is_cut_none h (Open (Source p) kind) p refl)
+is_open_named h (Open (Inner p) kind) names = is_open_made h (Open (Inner p) kind) p refl refl (names p refl) (is_cut_inner h p kind p (omega arith))
+is_open_named h (Open (Notifier p) kind) names =
+    is_open_made h (Open (Notifier p) kind) p refl refl (names p refl) (is_cut_none h (Open (Notifier p) kind) p refl)
+is_open_named h (Connect g) names = is_open_last h (Connect g) refl
+is_open_named h (Hub mode) names = is_open_last h (Hub mode) refl
+is_open_named h (Accept n tag) names = is_open_last h (Accept n tag) refl
+is_open_named h (Use r) names = is_open_last h (Use r) refl
+is_open_named h (Remove r) names = is_open_last h (Remove r) refl
+is_open_named h (Lease r) names = is_open_last h (Lease r) refl
+is_open_named h (Return l) names = is_open_last h (Return l) refl
+is_open_named h (Item l v) names = is_open_last h (Item l v) refl
+is_open_named h (Decline f) names = is_open_last h (Decline f) refl
+is_open_named h (Take r) names = is_open_last h (Take r) refl
+is_open_named h (End n t) names = is_open_last_none h (End n t) refl
+is_open_named h (Close n) names = is_open_last_none h (Close n) refl
+
 pub is_open_new : (base : Kept) → (h : List Event) (e : Event) → MayFollow base h e → is_open (h ++ e ∷ []) (length h) ≡ makes_node e
-is_open_new base h (Open Root kind) next = is_open_last h (Open Root kind) refl
-is_open_new base h (Open (Source p) kind) next =
-    is_open_made h (Open (Source p) kind) p refl refl (may_open base next).0 (is_cut_none h (Open (Source p) kind) p refl)
-is_open_new base h (Open (Inner p) kind) next = is_open_made h (Open (Inner p) kind) p refl refl (may_open base next).0 (is_cut_inner h p kind p (omega arith))
-is_open_new base h (Open (Notifier p) kind) next =
-    is_open_made h (Open (Notifier p) kind) p refl refl (may_open base next).0 (is_cut_none h (Open (Notifier p) kind) p refl)
-is_open_new base h (Connect g) next = is_open_last h (Connect g) refl
-is_open_new base h (Hub mode) next = is_open_last h (Hub mode) refl
-is_open_new base h (Accept n tag) next = is_open_last h (Accept n tag) refl
-is_open_new base h (Use r) next = is_open_last h (Use r) refl
-is_open_new base h (Remove r) next = is_open_last h (Remove r) refl
-is_open_new base h (Lease r) next = is_open_last h (Lease r) refl
-is_open_new base h (Return l) next = is_open_last h (Return l) refl
-is_open_new base h (Item l v) next = is_open_last h (Item l v) refl
-is_open_new base h (Decline f) next = is_open_last h (Decline f) refl
-is_open_new base h (Take r) next = is_open_last h (Take r) refl
-is_open_new base h (End n t) next = is_open_last_none h (End n t) refl
-is_open_new base h (Close n) next = is_open_last_none h (Close n) refl
+is_open_new base h e next = is_open_named h e (λ p named. may_name base next named)
 
 -- an event that cuts no node
 pub open_count_uncut : (base : Kept) → (h : List Event) (e : Event) → MayFollow base h e → ((n : ℕ) → is_cut h e n ≡ false) →

@@ -262,18 +262,9 @@ waits_after base h (Open place Pass) law none a = none_waits (kept_unsubscribed 
 waits_after base h (Open place Flat) law none a = none_waits (kept_unsubscribed base h (Open place Flat) law none refl refl)
 waits_after base h (Open place Switch) law none a = none_waits (kept_unsubscribed base h (Open place Switch) law none refl refl)
 waits_after base h (Open place Until) law none a = none_waits (kept_unsubscribed base h (Open place Until) law none refl refl)
-waits_after base h (Hub mode) law none a = none_waits (kept_unsubscribed base h (Hub mode) law none refl refl)
-waits_after base h (Connect g) law none a = none_waits (kept_unsubscribed base h (Connect g) law none refl refl)
-waits_after base h (Accept n tag) law none a = none_waits (kept_unsubscribed base h (Accept n tag) law none refl refl)
-waits_after base h (Use r) law none a = none_waits (kept_unsubscribed base h (Use r) law none refl refl)
-waits_after base h (Remove r) law none a = none_waits (kept_unsubscribed base h (Remove r) law none refl refl)
-waits_after base h (Lease r) law none a = none_waits (kept_unsubscribed base h (Lease r) law none refl refl)
-waits_after base h (Return l) law none a = none_waits (kept_unsubscribed base h (Return l) law none refl refl)
-waits_after base h (Item l v) law none a = none_waits (kept_unsubscribed base h (Item l v) law none refl refl)
-waits_after base h (Decline f) law none a = none_waits (kept_unsubscribed base h (Decline f) law none refl refl)
-waits_after base h (Take r) law none a = none_waits (kept_unsubscribed base h (Take r) law none refl refl)
 waits_after base h (End n t) law none a = none_waits (kept_end base h n t none)
 waits_after base h (Close n) law none a = none_waits (kept_close_allowed base h n none a)
+waits_after base h e law none a = none_waits (kept_unsubscribed base h e law none refl refl)
 
 -- a settled history has no hub that waits
 pub settled_connected : (base : Kept) → (h : List Event) → IsSettled base h → IsConnected h

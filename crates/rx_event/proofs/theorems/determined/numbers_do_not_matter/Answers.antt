@@ -7,9 +7,9 @@ use Rattle.rx_event.proofs.theorems.determined.numbers_do_not_matter.Goals as go
 pub returns : goal.returns
 returns c = λ base. record {
   start = same_start base;
-  forced = λ a f. forced_read base a.numbers f;
-  settled = λ a settled. settled_read base a.numbers settled;
-  allowed = λ a settled also allow. allowed_read base _ _ _ _ a settled also allow;
+  forced = λ a f. forced_read a.numbers f;
+  settled = λ a settled. settled_read a.numbers settled;
+  allowed = λ a settled also allow. allowed_read base _ _ _ _ a allow;
   event = λ a next other. same_event_on base a _ next other;
   courses = courses_same;
   steps = steps_same;
