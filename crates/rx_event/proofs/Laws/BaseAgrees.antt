@@ -100,7 +100,6 @@ leaf_of _ = None
 
 no_stops : (before : List Event) (x : Event) → leaf_of x ≡ None → stops_of before x ≡ []
 no_stops before (Item l v) none = absurd (none-some l (sym none))
-no_stops before (Open place kind) none = refl
 no_stops before _ none = refl
 
 itemless_sum : (f : List Stop → ℕ) → f [] ≡ 0 → (before xs : List Event) → ((i : ℕ) (x : Event) → slice_get xs i ≡ Some x → leaf_of x ≡ None) →
@@ -123,13 +122,11 @@ inert_making m (Hub mode) i = refl
 inert_making m (Accept n tag) i = refl
 inert_making m (Lease r) i = refl
 inert_making m (Close c) i = refl
-inert_making m (Open place kind) i = absurd (false≢true i)
 inert_making m _ i = absurd (false≢true i)
 
 node_making : (x : Event) → makes_node x ≡ true → is_making x ≡ true
 node_making (Open place kind) i = refl
 node_making (Connect g) i = refl
-node_making (Hub mode) i = absurd (false≢true i)
 node_making _ i = absurd (false≢true i)
 
 module _ (b : Kept) (h : List Event) where
@@ -190,8 +187,6 @@ module _ (b : Kept) (h : List Event) where
     clash (Some x) is node = both_made x is node
 
     not_hub : (x : Event) → makes_resource x ≡ true → makes_hub x ≡ false
-    not_hub (Accept n tag) is = refl
-    not_hub (Open place kind) is = refl
     not_hub (Hub mode) is = absurd (false≢true is)
     not_hub _ is = refl
 
@@ -297,7 +292,6 @@ module _ (b : Kept) (h : List Event) where
   lease_is : (o : Option Event) (l : ℕ) → option_map_or makes_lease o false ≡ true → o ≡ Some (Lease (lease_resource (option_map_or (λ e. e) o (Close l))))
   lease_is None l is = absurd (false≢true is)
   lease_is (Some (Lease r)) l is = refl
-  lease_is (Some (Open place kind)) l is = absurd (false≢true is)
   lease_is (Some _) l is = absurd (false≢true is)
 
   -- a place that is neither a node nor a hub nor a resource
@@ -396,14 +390,12 @@ module _ (b : Kept) (h : List Event) where
   s_items = s_count is_item fails where
     fails : (x : Event) → is_making x ≡ true → is_item x ≡ false
     fails (Item l v) making = absurd (false≢true making)
-    fails (Open place kind) making = refl
     fails _ making = refl
 
   s_takes : count_by is_take (shown (base_of b h)) ≡ 0
   s_takes = s_count is_take fails where
     fails : (x : Event) → is_making x ≡ true → is_take x ≡ false
     fails (Take q) making = absurd (false≢true making)
-    fails (Open place kind) making = refl
     fails _ making = refl
 
   s_taken : (r : ℕ) → is_taken (shown (base_of b h)) r ≡ false
@@ -430,7 +422,6 @@ module _ (b : Kept) (h : List Event) where
         option_map_or (is_open (shown (base_of b h))) (option_and_then node_of_accept o) false
     node_open_there None = refl
     node_open_there (Some (Accept n tag)) = base_is_alike.same_open n
-    node_open_there (Some (Open place kind)) = refl
     node_open_there (Some _) = refl
 
     pub s_is_owned : (r : ℕ) → is_owned h r ≡ is_owned (shown (base_of b h)) r
@@ -528,12 +519,10 @@ module _ (b : Kept) (h : List Event) where
 
     inert_source : (n m : ℕ) (x : Event) → is_inert m x ≡ true → is_source_of n x ≡ false
     inert_source n m (Open place kind) i = absurd (false≢true i)
-    inert_source n m (Hub mode) i = refl
     inert_source n m _ i = refl
 
     inert_notifier : (n m : ℕ) (x : Event) → is_inert m x ≡ true → is_notifier_of n x ≡ false
     inert_notifier n m (Open place kind) i = absurd (false≢true i)
-    inert_notifier n m (Hub mode) i = refl
     inert_notifier n m _ i = refl
 
     s_sources : (n : ℕ) → is_open h n ≡ true → source_opened b h n ≡ source_opened (base_of b h) (shown (base_of b h)) n
@@ -601,9 +590,6 @@ module _ (b : Kept) (h : List Event) where
         names : (f : ℕ) (o : Option Event) → option_map_or (is_inner_of f) o false ≡ true → (e : Event) × (o ≡ Some e) × (parent_named e ≡ Some f)
         names f None inner = absurd (false≢true inner)
         names f (Some (Open (Inner g) kind)) inner = (Open (Inner g) kind, refl, ap Some (eqb-true g f inner))
-        names f (Some (Open Root kind)) inner = absurd (false≢true inner)
-        names f (Some (Open (Source g) kind)) inner = absurd (false≢true inner)
-        names f (Some (Open (Notifier g) kind)) inner = absurd (false≢true inner)
         names f (Some _) inner = absurd (false≢true inner)
 
         inner_open : (f x : ℕ) → is_open h x ≡ true → at (is_inner_of f) h x ≡ true → is_open h f ≡ true
@@ -644,16 +630,13 @@ module _ (b : Kept) (h : List Event) where
         inert_stands n (Accept m tag) i = tt
         inert_stands n (Lease r) i = tt
         inert_stands n (Close c) i = tt
-        inert_stands n (Open place kind) i = absurd (false≢true i)
         inert_stands n _ i = absurd (false≢true i)
 
         open_stands : (n : ℕ) (x : Event) → is_open h n ≡ true → slice_get h n ≡ Some x → StandsWell h x → StandsWell (shown (base_of b h)) x
         open_stands n (Open (Source p) kind) o at_n well = at_there has_source p (above n p (Open (Source p) kind) o at_n refl) well
         open_stands n (Open (Inner p) kind) o at_n well = at_there is_merging p (above n p (Open (Inner p) kind) o at_n refl) well
         open_stands n (Open (Notifier p) kind) o at_n well = at_there is_until p (above n p (Open (Notifier p) kind) o at_n refl) well
-        open_stands n (Open Root kind) o at_n well = tt
         open_stands n (Connect g) o at_n well = hub_there g well
-        open_stands n (Hub mode) o at_n well = tt
         open_stands n _ o at_n well = tt
 
         stands_there : (n : ℕ) (x : Event) → slice_get (shown (base_of b h)) n ≡ Some x → KeptAt h n x → StandsWell (shown (base_of b h)) x
@@ -671,11 +654,6 @@ module _ (b : Kept) (h : List Event) where
           in_order (Inner p) at_n order = ordered p (above n p (Open (Inner p) (Sub g)) o at_n refl) order
           in_order (Notifier p) at_n order = ordered p (above n p (Open (Notifier p) (Sub g)) o at_n refl) order
         open_subscribes n (Open place Leaf) o at_n well = tt
-        open_subscribes n (Open place Pass) o at_n well = tt
-        open_subscribes n (Open place Flat) o at_n well = tt
-        open_subscribes n (Open place Switch) o at_n well = tt
-        open_subscribes n (Open place Until) o at_n well = tt
-        open_subscribes n (Hub mode) o at_n well = tt
         open_subscribes n _ o at_n well = tt
 
         inert_subscribes : (n : ℕ) (x : Event) → is_inert n x ≡ true → SubscribesWell (shown (base_of b h)) x
@@ -683,7 +661,6 @@ module _ (b : Kept) (h : List Event) where
         inert_subscribes n (Accept m tag) i = tt
         inert_subscribes n (Lease r) i = tt
         inert_subscribes n (Close c) i = tt
-        inert_subscribes n (Open place kind) i = absurd (false≢true i)
         inert_subscribes n _ i = absurd (false≢true i)
 
         subscribes_there : (n : ℕ) (x : Event) → KeptAt h n x → SubscribesWell (shown (base_of b h)) x

@@ -83,7 +83,6 @@ module _ (b : Kept) (h : List Event) (law : IsLawful b h) (settled : IsSettled b
 
   inert_names : (n : ℕ) (x : Event) → is_inert n x ≡ true → parent_named x ≡ None
   inert_names n (Open place kind) i = absurd (false≢true i)
-  inert_names n (Hub mode) i = refl
   inert_names n _ i = refl
 
   inert_not_node : (n : ℕ) (x : Event) → is_inert n x ≡ true → makes_node x ≡ true → ⊥
@@ -136,10 +135,7 @@ module _ (b : Kept) (h : List Event) (law : IsLawful b h) (settled : IsSettled b
     in_order (Inner p) at_n order = order_front s n g p (old n _ at_n) (sound_s.below n p _ at_n refl) order
     in_order (Notifier p) at_n order = order_front s n g p (old n _ at_n) (sound_s.below n p _ at_n refl) order
   hubbed n place Leaf at_n = tt
-  hubbed n place Pass at_n = tt
-  hubbed n place Flat at_n = tt
-  hubbed n place Switch at_n = tt
-  hubbed n place Until at_n = tt
+  hubbed n place _ at_n = tt
 
   connects : (c g : ℕ) → slice_get s c ≡ Some (Connect g) → at makes_hub (take c s) g ≡ true
   connects c g at_c =

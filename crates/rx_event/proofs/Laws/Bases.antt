@@ -248,10 +248,6 @@ not_shut_later b {h} law n m {x} o later at_m shut = by_event x (kept_at b h m x
   by_event (Close c) (inr i) shut = let e = eqb-true c m i in let f = eqb-true c n shut in absurd (omega arith)
   by_event (Open (Inner f) kind) (inl there) shut = exchanged f kind there.0 there.1 shut
   by_event (Open (Inner f) kind) (inr i) shut = false≢true i
-  by_event (Open Root kind) k shut = false≢true shut
-  by_event (Open (Source f) kind) k shut = false≢true shut
-  by_event (Open (Notifier f) kind) k shut = false≢true shut
-  by_event (Hub mode) k shut = false≢true shut
   by_event _ k shut = false≢true shut
 
 not_shut_here : (b : Kept) (h : List Event) → ((f x y : ℕ) → TwoOpenInners h f x y → x ≡ y) → (n : ℕ) → is_open h n ≡ true →
@@ -334,7 +330,6 @@ base_alike b h law =
 
       hub_event : (e : Event) → makes_hub e ≡ true → e ≡ Hub (mode_of e)
       hub_event (Hub m) is = refl
-      hub_event (Open place kind) is = absurd (false≢true is)
       hub_event _ is = absurd (false≢true is)
 
       in_event : (o : Option Event) → option_map_or makes_hub o false ≡ true → o ≡ Some (Hub (mode_of (option_map_or (λ x. x) o (Close n))))

@@ -159,7 +159,6 @@ source_ended_or_now base h e law next s t x = by_place (cases_push h e (End x.co
 
 subscribes_now : (g : ℕ) (e : Event) → is_subscriber_of g e ≡ true → hub_subscribed e ≡ Some g
 subscribes_now g (Open place (Sub k)) is = ap (λ (q : ℕ). Some q) (eqb-true k g is)
-subscribes_now g (Open place _) is = absurd (false≢true is)
 subscribes_now g _ is = absurd (false≢true is)
 
 -- What waits is the hub of the new subscriber, or waited before

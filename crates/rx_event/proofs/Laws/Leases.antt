@@ -67,7 +67,6 @@ is_out_past h l past = rw (slice_get_past h l past) refl
 
 returns_older : (base : Kept) → (h : List Event) (e : Event) → MayFollow base h e → (l : ℕ) → length h ≤ l → is_return_of l e ≡ false
 returns_older base h (Return m) next l past = let b = is_out_within h m (may_return base next) in ne_eqb m l (omega arith)
-returns_older base h (Open place kind) next l past = refl
 returns_older base h _ next l past = refl
 
 -- only older leases are returned
@@ -108,7 +107,6 @@ lease_older base h law l r at_l =
 -- a lease of r is the event that leases r
 lease_is : (r : ℕ) (e : Event) → is_lease_of r e ≡ true → e ≡ Lease r
 lease_is r (Lease q) same = ap Lease (eqb-true q r same)
-lease_is r (Open place kind) same = absurd (false≢true same)
 lease_is r _ same = absurd (false≢true same)
 
 pub lease_at : (h : List Event) (r l : ℕ) → at (is_lease_of r) h l ≡ true → slice_get h l ≡ Some (Lease r)
@@ -139,7 +137,6 @@ lease_made r (Lease q) = and_true (q == r) where
   and_true : (b : Bool) → (b && true) ≡ b
   and_true true = refl
   and_true false = refl
-lease_made r (Open place kind) = refl
 lease_made r _ = refl
 
 leases_of-push : (base : Kept) → (h : List Event) (e : Event) → IsLawful base h → (r : ℕ) →
@@ -297,12 +294,10 @@ lease_count-push base h e law next =
   where
     was_out : (e : Event) → MayFollow base h e → (l : ℕ) → is_return_of l e ≡ true → is_out h l ≡ true
     was_out (Return m) next l same = ap (is_out h) (sym (eqb-true m l same)) ∙ may_return base next
-    was_out (Open place kind) next l same = absurd (false≢true same)
     was_out _ next l same = absurd (false≢true same)
 
     returns_once : (e : Event) → MayFollow base h e → count_by (λ l. is_return_of l e) (places h) ≡ cond (is_return e) 1 0
     returns_once (Return m) next = count_by_one m (length h) (is_out_within h m (may_return base next))
-    returns_once (Open place kind) next = sum_by_none (λ l. 0) (length h) (λ l less. refl)
     returns_once _ next = sum_by_none (λ l. 0) (length h) (λ l less. refl)
 
     shape : (o k : Bool) → (k ≡ true → o ≡ true) → cond {A = ℕ} (o && not k) 1 0 + cond {A = ℕ} k 1 0 ≡ cond {A = ℕ} o 1 0 + 0

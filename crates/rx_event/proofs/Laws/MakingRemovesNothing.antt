@@ -19,17 +19,14 @@ made_none (x ∷ xs) making t fails = (λ i. fails x (making 0 x refl) i || made
 
 removes_none : (r : ℕ) (x : Event) → is_making x ≡ true → is_remove_of r x ≡ false
 removes_none r (Remove q) making = absurd (false≢true making)
-removes_none r (Open place kind) making = refl
 removes_none r _ making = refl
 
 takes_none : (r : ℕ) (x : Event) → is_making x ≡ true → is_take_of r x ≡ false
 takes_none r (Take q) making = absurd (false≢true making)
-takes_none r (Open place kind) making = refl
 takes_none r _ making = refl
 
 returns_none : (l : ℕ) (x : Event) → is_making x ≡ true → is_return_of l x ≡ false
 returns_none l (Return m) making = absurd (false≢true making)
-returns_none l (Open place kind) making = refl
 returns_none l _ making = refl
 
 pub made_unreturned : (xs : List Event) → AllMaking xs → (l : ℕ) → list_any (is_return_of l) xs ≡ false
@@ -43,7 +40,6 @@ made_untaken xs making r = made_none xs making (is_take_of r) (takes_none r)
 
 no_stops : (before : List Event) (x : Event) → is_making x ≡ true → stops_of before x ≡ []
 no_stops before (Item l v) making = absurd (false≢true making)
-no_stops before (Open place kind) making = refl
 no_stops before _ making = refl
 
 unfired_after : (f : List Stop → Bool) → f [] ≡ false → (before xs : List Event) → AllMaking xs →
@@ -59,7 +55,6 @@ made_unfired xs making u = unfired_after (list_any (is_firing_of u)) refl [] xs 
 tells_nothing : (before : List Event) (x : Event) → is_making x ≡ true → mail_of before x ≡ []
 tells_nothing before (Item l v) making = absurd (false≢true making)
 tells_nothing before (End n t) making = absurd (false≢true making)
-tells_nothing before (Open place kind) making = refl
 tells_nothing before _ making = refl
 
 untold_after : (before xs : List Event) → AllMaking xs → flat_map (λ (m : Moment). mail_of m.before m.event) (moments_after before xs) ≡ []

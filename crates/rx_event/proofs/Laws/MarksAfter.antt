@@ -52,7 +52,6 @@ ends_by_kept h t n l _ old = refl
 completes_kept : (h t : List Event) (n : ℕ) (x : Event) → ((c : ℕ) (u : Terminal) → x ≡ End c u → c < length h) →
     completes_source (h ++ t) n x ≡ completes_source h n x
 completes_kept h t n (End c Completed) old = at-append (is_source_of n) h t c (old c Completed refl)
-completes_kept h t n (End c (Error code)) old = refl
 completes_kept h t n _ old = refl
 
 pub child_terminal-push : (base : Kept) → (h : List Event) (e : Event) → IsLawful base h → MayFollow base h e → (n : ℕ) → n < length h →
@@ -244,8 +243,6 @@ spares_marks h (Return m) n still =
 spares_marks h (Take r) n still =
     record { shuts = refl; source = refl; notifier = refl; climbs = refl; completes = refl; ends = refl; declines = refl; adds = refl }
 spares_marks h (Open (Source p) kind) n still = absurd (false≢true still)
-spares_marks h (Open (Inner p) kind) n still = absurd (false≢true still)
-spares_marks h (Open (Notifier p) kind) n still = absurd (false≢true still)
 spares_marks h _ n still = absurd (false≢true still)
 
 pub marks_kept : (base : Kept) → (h : List Event) (e : Event) → IsLawful base h → MayFollow base h e → is_still e ≡ true → (n : ℕ) → n < length h →

@@ -70,8 +70,6 @@ terminal_due_due base h n (Connect g) t o at_n found = mirrored o (rw at_n refl)
 terminal_due_due base h n (Open place Until) t o at_n found = until_due base h n t o (rw at_n refl) (rw at_n refl) found
 terminal_due_due base h n (Open place Flat) t o at_n found = merging_due base h n t o (rw at_n refl) found
 terminal_due_due base h n (Open place Switch) t o at_n found = merging_due base h n t o (rw at_n refl) found
-terminal_due_due base h n (Open place Leaf) t o at_n found = absurd (none-some t found)
-terminal_due_due base h n (Open place (Sub g)) t o at_n found = absurd (none-some t found)
 terminal_due_due base h n _ t o at_n found = absurd (none-some t found)
 
 -- so is the event
@@ -100,28 +98,15 @@ mirroring_none : (made : Event) (m : Marks) → is_mirroring made ≡ true → t
 mirroring_none (Open place Pass) m mirrors none = (none, refl)
 mirroring_none (Connect g) m mirrors none = (none, refl)
 mirroring_none (Open place Until) m mirrors none = ((or_none m.child_terminal (completed_if m.fired) none).0, refl)
-mirroring_none (Open place Flat) m mirrors none = absurd (false≢true mirrors)
-mirroring_none (Open place Switch) m mirrors none = absurd (false≢true mirrors)
-mirroring_none (Open place Leaf) m mirrors none = absurd (false≢true mirrors)
-mirroring_none (Open place (Sub g)) m mirrors none = absurd (false≢true mirrors)
 mirroring_none _ m mirrors none = absurd (false≢true mirrors)
 
 until_none : (made : Event) (m : Marks) → is_until made ≡ true → terminal_due made m ≡ None → m.fired ≡ false
 until_none (Open place Until) m until none = completed_if_none m.fired (or_none m.child_terminal (completed_if m.fired) none).1
-until_none (Open place Pass) m until none = absurd (false≢true until)
-until_none (Open place Flat) m until none = absurd (false≢true until)
-until_none (Open place Switch) m until none = absurd (false≢true until)
-until_none (Open place Leaf) m until none = absurd (false≢true until)
-until_none (Open place (Sub g)) m until none = absurd (false≢true until)
 until_none _ m until none = absurd (false≢true until)
 
 merging_none : (made : Event) (m : Marks) → is_merging made ≡ true → terminal_due made m ≡ None → (m.child_terminal ≡ None) × (is_over m ≡ false)
 merging_none (Open place Flat) m merges none = let p = or_none m.child_terminal (completed_if (is_over m)) none in (p.0, completed_if_none (is_over m) p.1)
 merging_none (Open place Switch) m merges none = let p = or_none m.child_terminal (completed_if (is_over m)) none in (p.0, completed_if_none (is_over m) p.1)
-merging_none (Open place Pass) m merges none = absurd (false≢true merges)
-merging_none (Open place Until) m merges none = absurd (false≢true merges)
-merging_none (Open place Leaf) m merges none = absurd (false≢true merges)
-merging_none (Open place (Sub g)) m merges none = absurd (false≢true merges)
 merging_none _ m merges none = absurd (false≢true merges)
 
 pub made_passes : (q : Event → Bool) (h : List Event) (n : ℕ) (made : Event) → slice_get h n ≡ Some made → at q h n ≡ true → q made ≡ true

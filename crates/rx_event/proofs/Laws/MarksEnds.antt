@@ -108,9 +108,6 @@ marks-end_other {base} h c t law next n o other =
     source_named : (x : Option Event) → slice_get h c ≡ x → option_map_or (is_source_of n) x false ≡ true → parent h c ≡ Some n
     source_named None at_c source = absurd (false≢true source)
     source_named (Some (Open (Source q) kind)) at_c source = parent-named base h law c n (Open (Source q) kind) at_c (ap Some (eqb-true q n source))
-    source_named (Some (Open Root kind)) at_c source = absurd (false≢true source)
-    source_named (Some (Open (Inner q) kind)) at_c source = absurd (false≢true source)
-    source_named (Some (Open (Notifier q) kind)) at_c source = absurd (false≢true source)
     source_named (Some _) at_c source = absurd (false≢true source)
 
     by_test : (at (is_source_of n) h c ≡ true) ⊎ (at (is_source_of n) h c ≡ false) → at (is_source_of n) h c ≡ false

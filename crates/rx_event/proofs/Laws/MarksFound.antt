@@ -59,7 +59,6 @@ child_terminal_none h n t none passes c =
 
 completes_end : (h : List Event) (p : ℕ) (e : Event) → completes_source h p e ≡ true → (s : ℕ) × (e ≡ End s Completed) × (at (is_source_of p) h s ≡ true)
 completes_end h p (End s Completed) found = (s, refl, found)
-completes_end h p (End s (Error c)) found = absurd (false≢true found)
 completes_end h p _ found = absurd (false≢true found)
 
 or_yes : (x y : Bool) → y ≡ true → (x || y) ≡ true

@@ -42,9 +42,6 @@ inner_cut_none base h f kind law n whole other =
     inner_parent : (k : ℕ) (x : Option Event) → slice_get h k ≡ x → option_map_or (is_inner_of f) x false ≡ true → parent h k ≡ Some f
     inner_parent k None at_k inner = absurd (false≢true inner)
     inner_parent k (Some (Open (Inner q) kind)) at_k inner = parent-named base h law k f (Open (Inner q) kind) at_k (ap Some (eqb-true q f inner))
-    inner_parent k (Some (Open Root kind)) at_k inner = absurd (false≢true inner)
-    inner_parent k (Some (Open (Source q) kind)) at_k inner = absurd (false≢true inner)
-    inner_parent k (Some (Open (Notifier q) kind)) at_k inner = absurd (false≢true inner)
     inner_parent k (Some _) at_k inner = absurd (false≢true inner)
 
     cut_parts : (k : ℕ) → parent h k ≡ Some n → is_cut h (Open (Inner f) kind) k ≡ (shuts h k (Open (Inner f) kind) || is_cut h (Open (Inner f) kind) n)

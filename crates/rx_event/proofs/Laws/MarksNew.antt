@@ -40,16 +40,10 @@ names_new {base} h e law next i x at_i named =
 
 source_names : (n : ℕ) (x : Event) → is_source_of n x ≡ true → parent_named x ≡ Some n
 source_names n (Open (Source q) kind) source = ap Some (eqb-true q n source)
-source_names n (Open Root kind) source = absurd (false≢true source)
-source_names n (Open (Inner q) kind) source = absurd (false≢true source)
-source_names n (Open (Notifier q) kind) source = absurd (false≢true source)
 source_names n _ source = absurd (false≢true source)
 
 notifier_names : (n : ℕ) (x : Event) → is_notifier_of n x ≡ true → parent_named x ≡ Some n
 notifier_names n (Open (Notifier q) kind) notifier = ap Some (eqb-true q n notifier)
-notifier_names n (Open Root kind) notifier = absurd (false≢true notifier)
-notifier_names n (Open (Inner q) kind) notifier = absurd (false≢true notifier)
-notifier_names n (Open (Source q) kind) notifier = absurd (false≢true notifier)
 notifier_names n _ notifier = absurd (false≢true notifier)
 
 pub never : (b : Bool) → (b ≡ true → ⊥) → b ≡ false

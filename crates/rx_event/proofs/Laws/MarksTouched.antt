@@ -195,12 +195,6 @@ marks-inner_at_next {f = f} {old = old} {kind = kind} law next i = marks-inner_n
 -- a new node has nothing to do
 pub blank_quiet : (made : Event) (n : ℕ) → due_at made blank_marks n ≡ None
 blank_quiet (Open place Pass) n = refl
-blank_quiet (Open place Flat) n = refl
-blank_quiet (Open place Switch) n = refl
-blank_quiet (Open place Until) n = refl
-blank_quiet (Open place Leaf) n = refl
-blank_quiet (Open place (Sub g)) n = refl
-blank_quiet (Connect g) n = refl
 blank_quiet _ n = refl
 
 pub quiet_new : (base : Kept) → (h : List Event) (e : Event) → IsLawful base h → MayFollow base h e →

@@ -121,9 +121,6 @@ pays_none h (Open (Inner f) kind) n silent opens = by_test (f == n) refl where
   by_test : (b : Bool) → (f == n) ≡ b → b ≡ false
   by_test false other = refl
   by_test true same = absurd (opens same)
-pays_none h (Open Root kind) n silent opens = refl
-pays_none h (Open (Source f) kind) n silent opens = refl
-pays_none h (Open (Notifier f) kind) n silent opens = refl
 pays_none h _ n silent opens = refl
 
 -- what takes a child of n away, but not n
@@ -164,8 +161,6 @@ source_parent base h law n s source = by_event (slice_get h s) refl source where
 
 not_completing : (h : List Event) (n : ℕ) (e : Event) → completes e ≡ false → completes_source h n e ≡ false
 not_completing h n (End c Completed) silent = absurd (false≢true (sym silent))
-not_completing h n (End c (Error code)) silent = refl
-not_completing h n (Open place kind) silent = refl
 not_completing h n _ silent = refl
 
 -- a completion that is due without such an event was due before

@@ -31,9 +31,6 @@ shuts-append h t n l (Open (Inner f) kind) = inner_case (cases_Bool (nat_lt f n)
   inner_case : (nat_lt f n ≡ true) ⊎ (nat_lt f n ≡ false) → is_switched_inner (h ++ t) f n ≡ is_switched_inner h f n
   inner_case (inl b) = let s : f < n = ltb-true f n b in rw (at-append is_switch h t f (omega arith), at-append (is_inner_of f) h t n l) refl
   inner_case (inr b) = rw b refl
-shuts-append h t n l (Open Root kind) = refl
-shuts-append h t n l (Open (Source f) kind) = refl
-shuts-append h t n l (Open (Notifier f) kind) = refl
 shuts-append h t n l _ = refl
 
 -- an older node is shut if it was, or if the new event shuts it
@@ -111,9 +108,6 @@ not_shut : (h : List Event) (n : ℕ) (e : Event) → shuts_none e ≡ true → 
 not_shut h n (End m u) s = cc
 not_shut h n (Close m) s = cc
 not_shut h n (Open (Inner f) kind) s = cc
-not_shut h n (Open Root kind) s = refl
-not_shut h n (Open (Source f) kind) s = refl
-not_shut h n (Open (Notifier f) kind) s = refl
 not_shut h n _ s = refl
 
 list_all_yes : {X : Type 0} (p : X → Bool) → ((x : X) → p x ≡ true) → (xs : List X) → list_all p xs ≡ true

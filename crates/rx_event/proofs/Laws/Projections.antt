@@ -41,10 +41,7 @@ stop_not_to h f plain n = by_event (slice_get h n) where
 
   by_event : (o : Option Event) → option_map_or (is_projection_to f) (option_and_then (stop_made h n) o) false ≡ false
   by_event None = refl
-  by_event (Some (Open Root kind)) = refl
   by_event (Some (Open (Source g) kind)) = if_merging g (at is_merging h g) refl
-  by_event (Some (Open (Inner g) kind)) = refl
-  by_event (Some (Open (Notifier u) kind)) = refl
   by_event (Some _) = refl
 
 count_by-filter_map_none : {X Y : Type 0} (p : Y → Bool) (s : X → Option Y) → ((x : X) → option_map_or p (s x) false ≡ false) → (xs : List X) →
@@ -87,9 +84,6 @@ owed_new base h law e =
 pays_owed : (base : Kept) → (h : List Event) (e : Event) → MayFollow base h e → (f : ℕ) → pays f e ≡ true → 0 < owed base h f
 pays_owed base h (Open (Inner g) kind) next f same = rw (← eqb-true g f same) (may_open base next).2
 pays_owed base h (Decline g) next f same = rw (← eqb-true g f same) (may_decline base next).2
-pays_owed base h (Open Root kind) next f same = absurd (false≢true same)
-pays_owed base h (Open (Source g) kind) next f same = absurd (false≢true same)
-pays_owed base h (Open (Notifier g) kind) next f same = absurd (false≢true same)
 pays_owed base h _ next f same = absurd (false≢true same)
 
 projected-push : (base : Kept) → (h : List Event) (e : Event) (f : ℕ) →
@@ -202,7 +196,6 @@ stop_open base h law n o = by_event (slice_get h n) refl where
   by_event None at_n = tt
   by_event (Some (Open Root kind)) at_n = (o, rw at_n refl)
   by_event (Some (Open (Source f) kind)) at_n = if_merging f kind at_n (at is_merging h f) refl
-  by_event (Some (Open (Inner f) kind)) at_n = tt
   by_event (Some (Open (Notifier u) kind)) at_n = (parent_open h n u o (parent-named base h law n u (Open (Notifier u) kind) at_n refl), until u kind at_n)
   by_event (Some _) at_n = tt
 

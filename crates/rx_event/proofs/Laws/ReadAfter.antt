@@ -42,9 +42,6 @@ use Rattle.rx_event.proofs.Laws.ReadDue.{trees_of, read_back}
 
 source_by : (r : ℕ → ℕ) (f k : ℕ) → r f ≡ k → (e : Event) → is_source_of f e ≡ true → is_source_of k (event_by r e) ≡ true
 source_by r f k leads (Open (Source g) kind) holds = eq-eqb (r g) k (ap r (eqb-true g f holds) ∙ leads)
-source_by r f k leads (Open Root kind) holds = absurd (false≢true holds)
-source_by r f k leads (Open (Inner g) kind) holds = absurd (false≢true holds)
-source_by r f k leads (Open (Notifier g) kind) holds = absurd (false≢true holds)
 source_by r f k leads _ holds = absurd (false≢true holds)
 
 module _ (b d : Kept) (r s : ℕ → ℕ) (h c : List Event) (a : AreRead b d r s h c) (m : ℕ) (o : is_open h m ≡ true) where
@@ -53,30 +50,20 @@ module _ (b d : Kept) (r s : ℕ → ℕ) (h c : List Event) (a : AreRead b d r 
 
   source_same : (e : Event) → MayFollow b h e → is_source_of (r m) (event_by r e) ≡ is_source_of m e
   source_same (Open (Source p) kind) next = is_number p (may_name b next refl)
-  source_same (Open Root kind) next = refl
-  source_same (Open (Inner p) kind) next = refl
-  source_same (Open (Notifier p) kind) next = refl
   source_same _ next = refl
 
   notifier_same : (e : Event) → MayFollow b h e → is_notifier_of (r m) (event_by r e) ≡ is_notifier_of m e
   notifier_same (Open (Notifier p) kind) next = is_number p (may_name b next refl)
-  notifier_same (Open Root kind) next = refl
-  notifier_same (Open (Source p) kind) next = refl
-  notifier_same (Open (Inner p) kind) next = refl
   notifier_same _ next = refl
 
   pays_same : (e : Event) → MayFollow b h e → pays (r m) (event_by r e) ≡ pays m e
   pays_same (Open (Inner p) kind) next = is_number p (may_name b next refl)
   pays_same (Decline f) next = is_number f (may_decline b next).0
-  pays_same (Open Root kind) next = refl
-  pays_same (Open (Source p) kind) next = refl
-  pays_same (Open (Notifier p) kind) next = refl
   pays_same _ next = refl
 
   ends_same : (e : Event) → MayFollow b h e → ends_by c (r m) (event_by r e) ≡ ends_by h m e
   ends_same (End n t) next = λ i. cond (child_by r s h c (trees_of a) m n o (may_end b next) i && passes_on
       (same_at r s h c (trees_of a) is_merging (merging_by r) m o i) t) (Some t) None
-  ends_same (Open place kind) next = refl
   ends_same _ next = refl
 
   completes_same : (e : Event) → MayFollow b h e → completes_source c (r m) (event_by r e) ≡ completes_source h m e
@@ -85,8 +72,6 @@ module _ (b d : Kept) (r s : ℕ → ℕ) (h c : List Event) (a : AreRead b d r 
       test_there s r c h (trees_back (trees_of a)) (is_source_of (r m)) (is_source_of m) (source_by s (r m) m (a.there.undone m o)) (r n)
       (a.there.alive n (may_end b next)) there)
       (test_there r s h c (trees_of a) (is_source_of m) (is_source_of (r m)) (source_by r m (r m) refl) n (may_end b next))
-  completes_same (End n (Error code)) next = refl
-  completes_same (Open place kind) next = refl
   completes_same _ next = refl
 
   firing_same : (ss : List Stop) → AllByRecursion (StopsAtOpen h) ss → list_any (is_firing_of (r m)) (map (stop_by r) ss) ≡ list_any (is_firing_of m) ss

@@ -43,38 +43,18 @@ use Rattle.rx_event.proofs.Laws.ReadShown.{made_at, resource_made, root_by}
 
 pub leaf_by : (r : ℕ → ℕ) (e : Event) → is_leaf (event_by r e) ≡ is_leaf e
 leaf_by r (Open place Leaf) = refl
-leaf_by r (Open place Pass) = refl
-leaf_by r (Open place Flat) = refl
-leaf_by r (Open place Switch) = refl
-leaf_by r (Open place Until) = refl
-leaf_by r (Open place (Sub g)) = refl
 leaf_by r _ = refl
 
 pub sourced_by : (r : ℕ → ℕ) (e : Event) → has_source (event_by r e) ≡ has_source e
 sourced_by r (Open place Leaf) = refl
-sourced_by r (Open place Pass) = refl
-sourced_by r (Open place Flat) = refl
-sourced_by r (Open place Switch) = refl
-sourced_by r (Open place Until) = refl
-sourced_by r (Open place (Sub g)) = refl
 sourced_by r _ = refl
 
 pub abort_by : (r : ℕ → ℕ) (e : Event) → may_abort (event_by r e) ≡ may_abort e
 abort_by r (Open place Leaf) = refl
-abort_by r (Open place Pass) = refl
-abort_by r (Open place Flat) = refl
-abort_by r (Open place Switch) = refl
-abort_by r (Open place Until) = refl
-abort_by r (Open place (Sub g)) = refl
 abort_by r _ = refl
 
 pub until_by : (r : ℕ → ℕ) (e : Event) → is_until (event_by r e) ≡ is_until e
 until_by r (Open place Leaf) = refl
-until_by r (Open place Pass) = refl
-until_by r (Open place Flat) = refl
-until_by r (Open place Switch) = refl
-until_by r (Open place Until) = refl
-until_by r (Open place (Sub g)) = refl
 until_by r _ = refl
 
 -- what callers may do rests on this ----------------------------------------------------------------------------------------------------
@@ -145,11 +125,7 @@ module _ (b d : Kept) (r s : ℕ → ℕ) (h c : List Event) (m : MayAlike b d r
     by_place (Source p) free ordered = in_order_by g p hubbed.0 free.0 ordered
     by_place (Inner p) free ordered = in_order_by g p hubbed.0 free.0 ordered
     by_place (Notifier p) free ordered = in_order_by g p hubbed.0 free.0 ordered
-  hubbed_by place Leaf free hubbed = tt
-  hubbed_by place Pass free hubbed = tt
-  hubbed_by place Flat free hubbed = tt
-  hubbed_by place Switch free hubbed = tt
-  hubbed_by place Until free hubbed = tt
+  hubbed_by place _ free hubbed = tt
 
   childless_by : (n : ℕ) → is_open h n ≡ true → ((k : ℕ) → parent h k ≡ Some n → is_open h k ≡ false) → (k : ℕ) → parent c k ≡ Some (r n) → is_open c k ≡ false
   childless_by n o none k below = false_from_ne_true (is_open c k) (λ up.
@@ -171,11 +147,7 @@ hub_of_kind : (h : List Event) (place : Place) (kind : Kind) → IsHubbed h plac
 hub_of_kind h place (Sub k) hubbed g is = ap (at makes_hub h) (sym (number is)) ∙ hubbed.0 where
   number : Sub k ≡ Sub g → k ≡ g
   number is = cc
-hub_of_kind h place Leaf hubbed g is = absurd (cc)
-hub_of_kind h place Pass hubbed g is = absurd (cc)
-hub_of_kind h place Flat hubbed g is = absurd (cc)
-hub_of_kind h place Switch hubbed g is = absurd (cc)
-hub_of_kind h place Until hubbed g is = absurd (cc)
+hub_of_kind h place _ hubbed g is = absurd (cc)
 
 waits_by : {b d : Kept} {r s : ℕ → ℕ} {h c : List Event} → MayAlike b d r s h c → IsLawful b h → IsLawful d c →
     ((n : ℕ) (t : Terminal) → is_open h n ≡ true → SourceEnded h n t → SourceEnded c (r n) t) → (place : Place) (kind : Kind) → IsFree b h place →

@@ -31,11 +31,6 @@ use Rattle.rx_event.proofs.Laws.OneEnd.{due_by_marks_alone}
 -- what is due by the same marks is the same
 terminal_due_by : (r : ℕ → ℕ) (e : Event) (m : Marks) → terminal_due (event_by r e) m ≡ terminal_due e m
 terminal_due_by r (Open place Leaf) m = refl
-terminal_due_by r (Open place Pass) m = refl
-terminal_due_by r (Open place Flat) m = refl
-terminal_due_by r (Open place Switch) m = refl
-terminal_due_by r (Open place Until) m = refl
-terminal_due_by r (Open place (Sub g)) m = refl
 terminal_due_by r _ m = refl
 
 -- no node of another sort is a subscriber

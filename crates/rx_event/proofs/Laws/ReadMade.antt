@@ -46,12 +46,8 @@ near_open r q h place kind same names hubs = λ i. Open (place_same place names 
   place_same (Notifier p) names = ap Notifier (same p (is_open_within h p (names p refl)))
 
   kind_same : (k : Kind) → ((g : ℕ) → k ≡ Sub g → at makes_hub h g ≡ true) → kind_by q k ≡ kind_by r k
-  kind_same Leaf hubs = refl
-  kind_same Pass hubs = refl
-  kind_same Flat hubs = refl
-  kind_same Switch hubs = refl
-  kind_same Until hubs = refl
   kind_same (Sub g) hubs = ap Sub (same g (at_within makes_hub h g (hubs g refl)))
+  kind_same _ hubs = refl
 
 -- and reads back as itself
 pub open_undone : {r s : ℕ → ℕ} {h c : List Event} → IsTreeRead r s h c → (place : Place) (kind : Kind) → NamesOpen h (Open place kind) →
@@ -64,12 +60,8 @@ open_undone {r} {s} {h} there place kind names hubs = λ i. Open (place_undone p
   place_undone (Notifier p) names = ap Notifier (there.undone p (names p refl))
 
   kind_undone : (k : Kind) → ((g : ℕ) → k ≡ Sub g → at makes_hub h g ≡ true) → kind_by s (kind_by r k) ≡ k
-  kind_undone Leaf hubs = refl
-  kind_undone Pass hubs = refl
-  kind_undone Flat hubs = refl
-  kind_undone Switch hubs = refl
-  kind_undone Until hubs = refl
   kind_undone (Sub g) hubs = let hub = hub_made h g (hubs g refl) in ap Sub (there.hub_undone g hub.0 hub.1)
+  kind_undone _ hubs = refl
 
 pub may_hub : (base : Kept) → {h : List Event} {place : Place} {kind : Kind} → MayFollow base h (Open place kind) → (g : ℕ) → kind ≡ Sub g →
     at makes_hub h g ≡ true
@@ -116,12 +108,8 @@ names_below {base} r q {h} n e law same at_n node = by_case (found_at base h law
       same g (let w = at_within makes_hub (take n (shown base)) g hub in let t = length-take-le n (shown base) (omega arith) in let x = l in omega arith)
 
   kind_below : (p : Place) (k : Kind) → slice_get (shown base) n ≡ Some (Open p k) → kind_by q k ≡ kind_by r k
-  kind_below p Leaf found = refl
-  kind_below p Pass found = refl
-  kind_below p Flat found = refl
-  kind_below p Switch found = refl
-  kind_below p Until found = refl
   kind_below p (Sub g) found = ap Sub (hub_near g (slice_get_within (shown base) n _ found) (law.started.hubbed n p (Sub g) found).0)
+  kind_below p _ found = refl
 
   by_base : (x : Event) → slice_get (shown base) n ≡ Some x → makes_node x ≡ true → event_by q x ≡ event_by r x
   by_base (Open p kind) found made = λ i. Open (place_below r q h n law.started same l found i) (kind_below p kind found i)

@@ -54,9 +54,6 @@ notes_new base h e law next =
 
 pub root_by : (r : ℕ → ℕ) (e : Event) → is_root (event_by r e) ≡ is_root e
 root_by r (Open Root kind) = refl
-root_by r (Open (Source p) kind) = refl
-root_by r (Open (Inner p) kind) = refl
-root_by r (Open (Notifier p) kind) = refl
 root_by r _ = refl
 
 -- a node is named, and so is a resource
@@ -66,7 +63,6 @@ resource_named _ made = absurd (false≢true made)
 
 pub lease_named : (e : Event) → makes_lease e ≡ true → is_named e ≡ true
 lease_named (Lease q) made = refl
-lease_named (Open place kind) made = absurd (false≢true made)
 lease_named _ made = absurd (false≢true made)
 
 pub made_at : (q p : Event → Bool) → ((e : Event) → q e ≡ true → p e ≡ true) → (h : List Event) (n : ℕ) → at q h n ≡ true → at p h n ≡ true
@@ -164,16 +160,7 @@ module _ (base : Kept) (r s : ℕ → ℕ) (h c : List Event) (a : AreRenumbered
           noted_to (r n) (r m) (length c) (EndNote t) [] ∙ ap (λ b. noted b (EndNote t) []) (apart_named m n (open_named m (may_end base next)) named) ∙
           sym (noted_to n m (length h) (EndNote t) [])
   mail_same (Open place kind) next n named = refl
-  mail_same (Hub mode) next n named = refl
-  mail_same (Connect g) next n named = refl
-  mail_same (Accept m tag) next n named = refl
-  mail_same (Use q) next n named = refl
-  mail_same (Remove q) next n named = refl
-  mail_same (Lease q) next n named = refl
-  mail_same (Return l) next n named = refl
-  mail_same (Decline f) next n named = refl
-  mail_same (Close m) next n named = refl
-  mail_same (Take q) next n named = refl
+  mail_same _ next n named = refl
 
 makes_resource_by : (r : ℕ → ℕ) (e : Event) → makes_resource (event_by r e) ≡ makes_resource e
 makes_resource_by r (Accept n tag) = refl
@@ -181,18 +168,15 @@ makes_resource_by r _ = refl
 
 makes_lease_by : (r : ℕ → ℕ) (e : Event) → makes_lease (event_by r e) ≡ makes_lease e
 makes_lease_by r (Lease q) = refl
-makes_lease_by r (Open place kind) = refl
 makes_lease_by r _ = refl
 
 return_by : (r : ℕ → ℕ) (e : Event) → is_return (event_by r e) ≡ is_return e
 return_by r (Return l) = refl
-return_by r (Open place kind) = refl
 return_by r _ = refl
 
 -- what is returned by a return
 returned_by : (e : Event) → is_return e ≡ true → (l : ℕ) × (e ≡ Return l)
 returned_by (Return l) is = (l, refl)
-returned_by (Open place kind) is = absurd (false≢true is)
 returned_by _ is = absurd (false≢true is)
 
 pub lease_made : (h : List Event) (l : ℕ) → at makes_lease h l ≡ true → (q : ℕ) × (slice_get h l ≡ Some (Lease q))

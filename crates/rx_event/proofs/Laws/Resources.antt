@@ -567,13 +567,7 @@ moves_parts (Connect g) m = record { shuts = refl; accepts = refl; named = refl;
 moves_parts (Use q) m = record { shuts = refl; accepts = refl; named = refl; removes = λ r. refl; leases = λ r. refl; returns = refl; takes = λ r. refl }
 moves_parts (Item l v) m = record { shuts = refl; accepts = refl; named = refl; removes = λ r. refl; leases = λ r. refl; returns = refl; takes = λ r. refl }
 moves_parts (Decline f) m = record { shuts = refl; accepts = refl; named = refl; removes = λ r. refl; leases = λ r. refl; returns = refl; takes = λ r. refl }
-moves_parts (Accept n tag) m = absurd (false≢true m)
-moves_parts (Remove q) m = absurd (false≢true m)
-moves_parts (Lease q) m = absurd (false≢true m)
-moves_parts (Return l) m = absurd (false≢true m)
-moves_parts (Take q) m = absurd (false≢true m)
-moves_parts (End n t) m = absurd (false≢true m)
-moves_parts (Close n) m = absurd (false≢true m)
+moves_parts _ m = absurd (false≢true m)
 
 -- a new resource is held
 pub is_held_new : (base : Kept) → (h : List Event) (e : Event) → IsLawful base h → MayFollow base h e → is_held (h ++ e ∷ []) (length h) ≡ makes_resource e

@@ -53,12 +53,10 @@ agree_back b h c k a =
 
 subscriber_is : (e : Event) → is_auto_hub e ≡ true → (mode : Mode) × (e ≡ Hub mode)
 subscriber_is (Hub mode) auto = (mode, refl)
-subscriber_is (Open place kind) auto = absurd (false≢true auto)
 subscriber_is _ auto = absurd (false≢true auto)
 
 pub hub_is : (e : Event) → makes_hub e ≡ true → (mode : Mode) × (e ≡ Hub mode)
 hub_is (Hub mode) is = (mode, refl)
-hub_is (Open place kind) is = absurd (false≢true is)
 hub_is _ is = absurd (false≢true is)
 
 -- a hub waits for its connection in both

@@ -61,7 +61,6 @@ parent_sort base h law d n below = by_event made.0 made.1 (parent_name h d n mad
   by_event (Open (Inner p) kind) at_d name = merges (sym (ap (at is_merging h) (named p name)) ∙ inner_stands base h law d p kind at_d)
   by_event (Open (Notifier p) kind) at_d name =
       by_notifier (slice_get h n) refl (sym (ap (at is_until h) (named p name)) ∙ notifier_stands base h law d p kind at_d)
-  by_event (Open Root kind) at_d name = absurd (cc)
   by_event _ at_d name = absurd (cc)
 
 -- in a settled history no child of an open node ended so that the node ends by it

@@ -149,5 +149,4 @@ stops_alike p q a below n o = sym (stops_by (λ n. n) (λ n. n) p q (trees_alike
 pub stops_of_alike : (b : Kept) (h k : List Event) (e : Event) → IsLawful b h → ((l : ℕ) (v : ℤ) → e ≡ Item l v → is_open h l ≡ true) → Alike h k →
     stops_of h e ≡ stops_of k e
 stops_of_alike b h k (Item l v) law emits a = stops_alike h k a (named_below b h law) l (emits l v refl)
-stops_of_alike b h k (Open place kind) law emits a = refl
 stops_of_alike b h k _ law emits a = refl

@@ -80,12 +80,8 @@ place_itself (Inner n) = number_itself n
 place_itself (Notifier n) = number_itself n
 
 kind_itself : (k : Kind) → same_kind k k ≡ true
-kind_itself Leaf = refl
-kind_itself Pass = refl
-kind_itself Flat = refl
-kind_itself Switch = refl
-kind_itself Until = refl
 kind_itself (Sub g) = number_itself g
+kind_itself _ = refl
 
 mode_itself : (m : Mode) → same_mode m m ≡ true
 mode_itself Auto = refl

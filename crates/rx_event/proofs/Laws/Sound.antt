@@ -116,9 +116,7 @@ stands_of : (b : Kept) (h : List Event) → IsLawful b h → (n : ℕ) (e : Even
 stands_of b h law n (Open (Source p) kind) at_n = source_stands b h law n p kind at_n
 stands_of b h law n (Open (Inner p) kind) at_n = inner_stands b h law n p kind at_n
 stands_of b h law n (Open (Notifier p) kind) at_n = notifier_stands b h law n p kind at_n
-stands_of b h law n (Open Root kind) at_n = tt
 stands_of b h law n (Connect g) at_n = connected_hub b h law g n at_n
-stands_of b h law n (Hub mode) at_n = tt
 stands_of b h law n _ at_n = tt
 
 subscribes_of : (b : Kept) (h : List Event) → IsLawful b h → (n : ℕ) (e : Event) → slice_get h n ≡ Some e → SubscribesWell h e
@@ -132,11 +130,6 @@ subscribes_of b h law n (Open place (Sub g)) at_n =
     in_order (Inner p) found order = order_older h n g p (let l = slice_get_within h n _ found in omega arith) (named_below b h law n p _ found refl) order
     in_order (Notifier p) found order = order_older h n g p (let l = slice_get_within h n _ found in omega arith) (named_below b h law n p _ found refl) order
 subscribes_of b h law n (Open place Leaf) at_n = tt
-subscribes_of b h law n (Open place Pass) at_n = tt
-subscribes_of b h law n (Open place Flat) at_n = tt
-subscribes_of b h law n (Open place Switch) at_n = tt
-subscribes_of b h law n (Open place Until) at_n = tt
-subscribes_of b h law n (Hub mode) at_n = tt
 subscribes_of b h law n _ at_n = tt
 
 pub sound_of : (b : Kept) (h : List Event) → IsLawful b h → Sound b h

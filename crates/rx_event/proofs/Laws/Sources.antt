@@ -44,9 +44,6 @@ no_later {base} h law f a b l one other = by_event (slice_get h b) refl other wh
         let none : source_opened base (take b h) f ≡ false = ap (source_opened base (take b h)) (sym (eqb-true q f source)) ∙ free in
         both_ways (list_any (is_source_of f) (take b h)) (or_parts _ (list_any (is_source_of f) (take b h)) none).1
         (at_any (is_source_of f) (take b h) a before)
-  by_event (Some (Open Root kind)) at_b source = false≢true source
-  by_event (Some (Open (Inner q) kind)) at_b source = false≢true source
-  by_event (Some (Open (Notifier q) kind)) at_b source = false≢true source
   by_event (Some _) at_b source = false≢true source
 
 pub one_source : (base : Kept) → (h : List Event) → IsLawful base h → (f a b : ℕ) → at (is_source_of f) h a ≡ true → at (is_source_of f) h b ≡ true → a ≡ b

@@ -25,9 +25,6 @@ inner_named : (f : ℕ) (o : Option Event) → option_map_or (is_inner_of f) o f
     ((e : Event) → o ≡ Some e → parent_named e ≡ Some f → P) → P
 inner_named f None inner P then = absurd (false≢true inner)
 inner_named f (Some (Open (Inner g) kind)) inner P then = then (Open (Inner g) kind) refl (ap Some (eqb-true g f inner))
-inner_named f (Some (Open Root kind)) inner P then = absurd (false≢true inner)
-inner_named f (Some (Open (Source g) kind)) inner P then = absurd (false≢true inner)
-inner_named f (Some (Open (Notifier g) kind)) inner P then = absurd (false≢true inner)
 inner_named f (Some _) inner P then = absurd (false≢true inner)
 
 -- an inner has a larger number than its FlatMap or Switch
@@ -45,8 +42,6 @@ older_cut : {base : Kept} → (h : List Event) (e : Event) → IsLawful base h �
 older_cut {base} h (Open (Inner g) kind) law f a switch inner new =
     self_cut h (Open (Inner g) kind) a (ap (λ q. is_switched_inner h q a) (eqb-true g f new) ∙ switched base h law f a switch inner)
 older_cut h (Open Root kind) law f a switch inner new = absurd (false≢true new)
-older_cut h (Open (Source g) kind) law f a switch inner new = absurd (false≢true new)
-older_cut h (Open (Notifier g) kind) law f a switch inner new = absurd (false≢true new)
 older_cut h _ law f a switch inner new = absurd (false≢true new)
 
 -- two open inners in the other order

@@ -186,7 +186,6 @@ unowned_none h e keeps = sum_by_none (λ r. cond (is_owned h r && loses h e r) 1
 
 no_accept : (h : List Event) (e : Event) → makes_resource e ≡ false → option_map_or (is_open h) (node_of_accept e) false ≡ false
 no_accept h (Accept n tag) none = absurd (false≢true (sym none))
-no_accept h (Open place kind) none = refl
 no_accept h _ none = refl
 
 -- no event but an acceptance raises what is held, or what is owned

@@ -57,9 +57,6 @@ pub record AreTreesRead (r s : ℕ → ℕ) (p q : List Event) : Type 0 where
 -- the parent that an event names, with other numbers
 pub parent_named_by : (r : ℕ → ℕ) (e : Event) → parent_named (event_by r e) ≡ option_map r (parent_named e)
 parent_named_by r (Open Root kind) = refl
-parent_named_by r (Open (Source p) kind) = refl
-parent_named_by r (Open (Inner p) kind) = refl
-parent_named_by r (Open (Notifier p) kind) = refl
 parent_named_by r _ = refl
 
 pub named_parent : (p : List Event) (n m : ℕ) (e : Event) → slice_get p n ≡ Some e → parent_named e ≡ Some m → m < n → parent p n ≡ Some m
@@ -104,7 +101,6 @@ hub_made h g = by_event (slice_get h g) where
 
 pub makes_by : (r : ℕ → ℕ) (e : Event) → makes_node (event_by r e) ≡ makes_node e
 makes_by r (Open place kind) = refl
-makes_by r (Connect g) = refl
 makes_by r _ = refl
 
 pub node_named : (e : Event) → makes_node e ≡ true → is_named e ≡ true
@@ -114,41 +110,22 @@ node_named _ made = absurd (false≢true made)
 
 pub merging_by : (r : ℕ → ℕ) (e : Event) → is_merging (event_by r e) ≡ is_merging e
 merging_by r (Open place Leaf) = refl
-merging_by r (Open place Pass) = refl
-merging_by r (Open place Flat) = refl
-merging_by r (Open place Switch) = refl
-merging_by r (Open place Until) = refl
-merging_by r (Open place (Sub g)) = refl
 merging_by r _ = refl
 
 pub switch_by : (r : ℕ → ℕ) (e : Event) → is_switch (event_by r e) ≡ is_switch e
 switch_by r (Open place Leaf) = refl
-switch_by r (Open place Pass) = refl
-switch_by r (Open place Flat) = refl
-switch_by r (Open place Switch) = refl
-switch_by r (Open place Until) = refl
-switch_by r (Open place (Sub g)) = refl
 switch_by r _ = refl
 
 pub inner_by : (r : ℕ → ℕ) (f : ℕ) (e : Event) → is_inner_of f e ≡ true → is_inner_of (r f) (event_by r e) ≡ true
 inner_by r f (Open (Inner g) kind) holds = eq-eqb (r g) (r f) (ap r (eqb-true g f holds))
-inner_by r f (Open Root kind) holds = absurd (false≢true holds)
-inner_by r f (Open (Source g) kind) holds = absurd (false≢true holds)
-inner_by r f (Open (Notifier g) kind) holds = absurd (false≢true holds)
 inner_by r f _ holds = absurd (false≢true holds)
 
 pub subscriber_by : (r : ℕ → ℕ) (g k : ℕ) → r g ≡ k → (e : Event) → is_subscriber_of g e ≡ true → is_subscriber_of k (event_by r e) ≡ true
 subscriber_by r g k leads (Open place (Sub j)) holds = eq-eqb (r j) k (ap r (eqb-true j g holds) ∙ leads)
-subscriber_by r g k leads (Open place Leaf) holds = absurd (false≢true holds)
-subscriber_by r g k leads (Open place Pass) holds = absurd (false≢true holds)
-subscriber_by r g k leads (Open place Flat) holds = absurd (false≢true holds)
-subscriber_by r g k leads (Open place Switch) holds = absurd (false≢true holds)
-subscriber_by r g k leads (Open place Until) holds = absurd (false≢true holds)
 subscriber_by r g k leads _ holds = absurd (false≢true holds)
 
 connect_by : (r : ℕ → ℕ) (g k : ℕ) → r g ≡ k → (e : Event) → is_connect_of g e ≡ true → is_connect_of k (event_by r e) ≡ true
 connect_by r g k leads (Connect j) holds = eq-eqb (r j) k (ap r (eqb-true j g holds) ∙ leads)
-connect_by r g k leads (Open place kind) holds = absurd (false≢true holds)
 connect_by r g k leads _ holds = absurd (false≢true holds)
 
 abbrev pub stop_by : (ℕ → ℕ) → Stop → Stop
@@ -161,17 +138,11 @@ Open_all h ns = AllByRecursion (λ m. is_open h m ≡ true) ns
 
 place_by_itself : (p : Place) → place_by (λ n. n) p ≡ p
 place_by_itself Root = refl
-place_by_itself (Source p) = refl
-place_by_itself (Inner p) = refl
-place_by_itself (Notifier p) = refl
+place_by_itself _ = refl
 
 kind_by_itself : (k : Kind) → kind_by (λ n. n) k ≡ k
 kind_by_itself Leaf = refl
-kind_by_itself Pass = refl
-kind_by_itself Flat = refl
-kind_by_itself Switch = refl
-kind_by_itself Until = refl
-kind_by_itself (Sub g) = refl
+kind_by_itself _ = refl
 
 -- with the same numbers
 pub event_by_itself : (e : Event) → event_by (λ n. n) e ≡ e
@@ -308,9 +279,6 @@ module _ (r s : ℕ → ℕ) (p q : List Event) (a : AreTreesRead r s p q) where
         parent_open p n f o (named_parent p n f (Open (Source f) kind) at_n refl (a.below n f (Open (Source f) kind) o at_n refl)) in
         ap (λ b. cond {A = Option Stop} b (Some (Projection (r f))) None) (same_at r s p q a is_merging (merging_by r) f up) ∙
         if_merging (at is_merging p f) f
-    by_event (Some (Open Root kind)) at_n = refl
-    by_event (Some (Open (Inner f) kind)) at_n = refl
-    by_event (Some (Open (Notifier u) kind)) at_n = refl
     by_event (Some _) at_n = refl
 
   onward_read : (n : ℕ) → is_open p n ≡ true → onward q (r n) ≡ map r (onward p n)
@@ -342,7 +310,6 @@ module _ (r s : ℕ → ℕ) (p q : List Event) (a : AreTreesRead r s p q) where
         option_map_or (onward_from q (r n)) (option_map (event_by r) x) [] ≡ map r (option_map_or (onward_from p n) x [])
     by_event None at_n = refl
     by_event (Some (Connect g)) at_n = subscribers_by g (hub_back g at_n)
-    by_event (Some (Open place kind)) at_n = parents
     by_event (Some _) at_n = parents
 
     whole : option_map_or (onward_from q (r n)) (slice_get q (r n)) [] ≡ map r (option_map_or (onward_from p n) (slice_get p n) [])

@@ -171,7 +171,6 @@ kept_due base h e none (left {c = c} o at_c a n) = kept_close base h c none (lef
 -- no hub is both
 pub is_both : (o : Option Event) → option_map_or is_manual_hub o false ≡ true → option_map_or is_auto_hub o false ≡ true → ⊥
 is_both None m a = false≢true m
-is_both (Some (Hub Auto)) m a = false≢true m
 is_both (Some (Hub Manual)) m a = false≢true a
 is_both (Some _) m a = false≢true m
 
@@ -209,8 +208,6 @@ spares base h (Open (Inner f) kind) c g none connects shut =
     let inner : at (is_inner_of f) h c ≡ true = (and_parts _ _ shut).1 in
     false≢true (sym (ap (λ (o : Option Event). option_map_or (is_inner_of f) o false) connects) ∙ inner)
 spares base h (Open Root kind) c g none connects shut = false≢true shut
-spares base h (Open (Source f) kind) c g none connects shut = false≢true shut
-spares base h (Open (Notifier f) kind) c g none connects shut = false≢true shut
 spares base h (End n t) c g none connects shut = false≢true none
 spares base h (Close n) c g none connects shut = false≢true none
 spares base h _ c g none connects shut = false≢true shut
@@ -238,11 +235,6 @@ kept_unsubscribed base h e law none keeps out g d =
   where
     no_subscriber : (x : Event) → hub_subscribed x ≡ None → is_subscriber_of g x ≡ false
     no_subscriber (Open place (Sub k)) is = absurd (none-some k (sym is))
-    no_subscriber (Open place Leaf) is = refl
-    no_subscriber (Open place Pass) is = refl
-    no_subscriber (Open place Flat) is = refl
-    no_subscriber (Open place Switch) is = refl
-    no_subscriber (Open place Until) is = refl
     no_subscriber _ is = refl
 
 -- a subscriber makes its own hub wait at most
