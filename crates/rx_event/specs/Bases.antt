@@ -21,6 +21,7 @@ use Rattle.rx_event.specs.Opened.{source_opened, notifier_opened}
 use Rattle.rx_event.specs.Marks.{source_completed}
 use Rattle.rx_event.specs.Totals.{item_count, accepted_count, taken_count}
 use Rattle.rx_event.specs.Forced.{ChildEnded, SourceEnded}
+use Rattle.rx_event.specs.Renumbered.{IsRead}
 
 -- the base of a history ------------------------------------------------------------------------------
 
@@ -91,16 +92,6 @@ base_of b h =
       leases = map (keep_lease h) (filter (is_out h) (places h));
     }
 
--- agreement in what is open ---------------------------------------------------------------------------
-
--- two lists of events have the same length, hubs and open nodes, each made by the same event
-pub record Alike (p q : List Event) : Type 0 where
-  pub same_length : length p ≡ length q
-  pub same_open : (n : ℕ) → is_open p n ≡ is_open q n
-  pub same_made : (n : ℕ) → IsTrue (is_open p n) → slice_get p n ≡ slice_get q n
-  pub same_hub : (n : ℕ) (mode : Mode) → slice_get p n ≡ Some (Hub mode) → slice_get q n ≡ Some (Hub mode)
-  pub same_hub_back : (n : ℕ) (mode : Mode) → slice_get q n ≡ Some (Hub mode) → slice_get p n ≡ Some (Hub mode)
-
 -- the rules, each by its own line ---------------------------------------------------------------------
 
 abbrev pub Mirrors : List Event → ℕ → Terminal → Type 0
@@ -133,20 +124,12 @@ pub record Leaves (h : List Event) (c : ℕ) : Type 0 where
 
 -- agreement ---------------------------------------------------------------------------------------------
 
--- what the rules give in h they give in k
-pub record Gives (h k : List Event) : Type 0 where
-  pub mirrors : (p : ℕ) (t : Terminal) → Mirrors h p t → Mirrors k p t
-  pub fires : (u : ℕ) → Fires h u → Fires k u
-  pub fails : (f c : ℕ) → Fails h f c → Fails k f c
-  pub cuts : (s : ℕ) (t : Terminal) → Cuts h s t → Cuts k s t
-
--- two stored histories agree. What the three other rules give follows from the rest (`completes_too`, `leaves_too`, `connects_too`)
+-- Two stored histories agree: each reads as the other, by the same numbers, and the same is held, waits, is out and was counted.
+-- What each rule gives follows (`rules` in Claims/Checkpoints)
 pub record Agree (b : Kept) (h : List Event) (c : Kept) (k : List Event) : Type 0 where
-  pub alike : Alike h k
-  pub sources : (n : ℕ) → IsTrue (is_open h n) → source_opened b h n ≡ source_opened c k n
-  pub notifiers : (n : ℕ) → IsTrue (is_open h n) → notifier_opened b h n ≡ notifier_opened c k n
-  pub completions : (n : ℕ) → IsTrue (is_open h n) → source_completed b h n ≡ source_completed c k n
-  pub debts : (n : ℕ) → IsTrue (is_open h n) → owed b h n ≡ owed c k n
+  pub same_length : length h ≡ length k
+  pub there : IsRead b c (λ n. n) (λ n. n) h k
+  pub back : IsRead c b (λ n. n) (λ n. n) k h
   pub owned : (r : ℕ) → is_owned h r ≡ is_owned k r
   pub held : (r : ℕ) → is_held h r ≡ is_held k r
   pub waiting : (r : ℕ) → is_waiting h r ≡ is_waiting k r
@@ -157,5 +140,3 @@ pub record Agree (b : Kept) (h : List Event) (c : Kept) (k : List Event) : Type 
   pub item_total : item_count b h ≡ item_count c k
   pub accepted_total : accepted_count b h ≡ accepted_count c k
   pub taken_total : taken_count b h ≡ taken_count c k
-  pub gives : Gives h k
-  pub gives_back : Gives k h

@@ -18,6 +18,7 @@ use Rattle.rx_event.specs.Forced.{IsSettled, none_waits}
 use Rattle.rx_event.proofs.Laws.Bases.{length_base}
 use Rattle.rx_event.proofs.Laws.MakingRemovesNothing.{made_untaken}
 use Rattle.rx_event.proofs.Laws.Resources.{held_resource, held_not_taken, waiting_parts}
+use Rattle.rx_event.proofs.Laws.SameTree.{Alike, alike_of}
 use Rattle.rx_event.proofs.Laws.Sound.{sound_of}
 use Rattle.rx_event.proofs.Laws.Waits.{settled_connected}
 use Rattle.rx_event.proofs.Laws.BaseAgrees.{s_leases_of, s_resource_at}
@@ -96,6 +97,9 @@ module _ (b : Base) (h : List Event) (law : IsLawful b h) (settled : IsSettled b
   agree : Agree b h c k
   agree = kept_agrees b h law settled
 
+  alike : Alike h k
+  alike = alike_of agree
+
   started : Started c
   started = base_started b h law settled
 
@@ -106,18 +110,18 @@ module _ (b : Base) (h : List Event) (law : IsLawful b h) (settled : IsSettled b
   endless i n t at_i = false≢true (started.making i (End n t) at_i)
 
   hubs_still : (hubs : List Hub) → AreHubsOf h hubs → AreHubsOf k (map without_end hubs)
-  hubs_still hubs are = forgotten_hubs h k hubs agree.alike started.alive endless are
+  hubs_still hubs are = forgotten_hubs h k hubs alike started.alive endless are
 
   same_open_count : open_count h ≡ open_count k
-  same_open_count = λ i. count_by (λ n. agree.alike.same_open n i) (range_with_len 0 (agree.alike.same_length i))
+  same_open_count = λ i. count_by (λ n. alike.same_open n i) (range_with_len 0 (agree.same_length i))
 
   same_debts : debt b h ≡ debt c k
   same_debts = same_debt b h c k agree
 
   record_still : (n : ℕ) (node : Node) → IsRecordOf b h n node → IsRecordOf c k n node
   record_still n node is = record {
-    made = sym (agree.alike.same_made n is.alive) ∙ is.made;
-    alive = sym (agree.alike.same_open n) ∙ is.alive;
+    made = sym (alike.same_made n is.alive) ∙ is.made;
+    alive = sym (alike.same_open n) ∙ is.alive;
     marks = is.marks ∙ base_marks b h law settled n is.alive;
   }
 
@@ -139,10 +143,10 @@ module _ (b : Base) (h : List Event) (law : IsLawful b h) (settled : IsSettled b
           made = resource_at r ∙ u;
           accepted = sym (agree.accepts r u) ∙ is.accepted;
           older = is.older;
-          owned = sym (agree.owned r) ∙ is.owned ∙ ap (λ o. o && not s.removed) (agree.alike.same_open s.node.number);
+          owned = sym (agree.owned r) ∙ is.owned ∙ ap (λ o. o && not s.removed) (alike.same_open s.node.number);
           lent = is.lent ∙ s_leases_of b h r;
           untaken = made_untaken k started.making r;
-          home = λ alive. is.home (agree.alike.same_open s.node.number ∙ alive);
+          home = λ alive. is.home (alike.same_open s.node.number ∙ alive);
           live = is.live;
           few = let few = is.few in let same = agree.used r u in let long = length_base b h in omega arith;
           uses = is.uses ∙ agree.used r u;
@@ -152,7 +156,7 @@ module _ (b : Base) (h : List Event) (law : IsLawful b h) (settled : IsSettled b
     tied_still tied = record {
       records = record {
         each = λ key node found. record_still key.number node (tied.records.each key node found);
-        every = λ n alive. tied.records.every n (agree.alike.same_open n ∙ alive);
+        every = λ n alive. tied.records.every n (alike.same_open n ∙ alive);
         quiet = tied.records.quiet;
       };
       stored = record {

@@ -69,14 +69,14 @@ renewed_sound s book nodes sound kept made paired same = record {
   resource_pairs = sound.resource_pairs;
   lease_pairs = sound.lease_pairs;
   nodes = λ n past. by_old n past (same.names n);
-  hubs = λ n past. sound.hubs n (omega (arith, made.agree.alike.same_length));
+  hubs = λ n past. sound.hubs n (omega (arith, made.agree.same_length));
   resources = λ r. sound.resources r ∙ kept_is s.book.base s.book.history sound.kept.lawful r ∙ (λ i. made.agree.held r i || made.agree.waiting r i)
       ∙ sym (kept_is book.base book.history kept.lawful r);
   leases = λ l. sound.leases l ∙ made.agree.out l;
   unnamed = sound.unnamed;
 } where
   by_old : (n : ℕ) → length book.history ≤ n → (name_of nodes n ≡ name_of s.nodes n) ⊎ (name_of nodes n ≡ None) → name_of nodes n ≡ None
-  by_old n past (inl was) = was ∙ sound.nodes n (omega (arith, made.agree.alike.same_length))
+  by_old n past (inl was) = was ∙ sound.nodes n (omega (arith, made.agree.same_length))
   by_old n past (inr none) = none
 
 -- what is still to be told ----------------------------------------------------------------------------
@@ -185,7 +185,7 @@ at_base b h = refl
 pub young : (old new : Session) → Renews old new → may_renew new ≡ true → ⊥
 young old new renews aged =
     let same : length new.book.history ≡ new.book.base.at_length =
-    sym renews.book.agree.alike.same_length ∙ sym (at_base old.book.base old.book.history) ∙ ap (λ (b : Kept). b.at_length) (sym renews.book.base) in
+    sym renews.book.agree.same_length ∙ sym (at_base old.book.base old.book.history) ∙ ap (λ (b : Kept). b.at_length) (sym renews.book.base) in
     let none : nat_lt new.book.base.at_length (length new.book.history) ≡ false =
     le-ltb new.book.base.at_length (length new.book.history) (omega (arith, same)) in
     let both : may_renew new ≡ false =

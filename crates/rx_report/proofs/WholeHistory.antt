@@ -10,6 +10,7 @@ use Rattle.rx_event.specs.Events.{makes_resource, is_take_of}
 use Rattle.rx_event.specs.Tree.{places, is_open}
 use Rattle.rx_event.specs.Resources.{is_held, is_taken}
 use Rattle.rx_event.specs.Totals.{open_count, held_count, waiting_count}
+use Rattle.rx_event.proofs.Laws.SameTree.{alike_of}
 use Rattle.rx_book.specs.declared.key.Key.{Key}
 use Rattle.rx_book.specs.declared.key.ResKey.{ResKey}
 use Rattle.rx_book.specs.State.{State, has_key, has_res_key, accepted_tag, IsPromised}
@@ -24,17 +25,17 @@ same_count p q h k long same = (λ i. count_by (λ n. same n i) (range_with_len 
 
 module _ (h : List Event) (t : Tallies) (s : State) (w : IsWhole h t s) where
   pub open_total : open_count s.history ≡ open_count h
-  open_total = sym (same_count _ _ h s.history w.agree.alike.same_length w.agree.alike.same_open)
+  open_total = sym (same_count _ _ h s.history w.agree.same_length (alike_of w.agree).same_open)
 
   pub held_total : held_count s.history ≡ held_count h
-  held_total = sym (same_count _ _ h s.history w.agree.alike.same_length w.agree.held)
+  held_total = sym (same_count _ _ h s.history w.agree.same_length w.agree.held)
 
   pub waiting_total : waiting_count s.history ≡ waiting_count h
-  waiting_total = sym (same_count _ _ h s.history w.agree.alike.same_length w.agree.waiting)
+  waiting_total = sym (same_count _ _ h s.history w.agree.same_length w.agree.waiting)
 
   -- what a key that the book gave is good for
   pub open_here : (k : Key) → IsPromised s → IsNodeKey s k → has_key s.keys k ≡ is_open h k.number
-  open_here k kept known = has_key-is_open s k kept known ∙ sym (w.agree.alike.same_open k.number)
+  open_here k kept known = has_key-is_open s k kept known ∙ sym ((alike_of w.agree).same_open k.number)
 
   pub held_here : (k : ResKey) → IsPromised s → IsHeldKey s k → has_res_key s.res_keys k ≡ is_held h k.number
   held_here k kept known = has_res_key-is_held s k kept known ∙ sym (w.agree.held k.number)

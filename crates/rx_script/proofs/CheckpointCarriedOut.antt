@@ -7,6 +7,7 @@ use Rattle.rx_event.specs.Kept.{nothing_kept, shown}
 use Rattle.rx_event.specs.Notes.{notes}
 use Rattle.rx_event.specs.Tree.{is_open}
 use Rattle.rx_event.specs.Resources.{is_held, is_out}
+use Rattle.rx_event.proofs.Laws.SameTree.{alike_of}
 use Rattle.rx_event.proofs.Laws.SameForcedAndAllowed.{agree_back, settled_too}
 use Rattle.rx_event.proofs.Laws.Bases.{base_length}
 use Rattle.rx_event.proofs.Laws.Checkpoints.{checkpoints_agree}
@@ -54,13 +55,13 @@ module _ (s mid new : State) (same : mid.history ≡ s.history) (same_keys : mid
     (same_leases : mid.lease_keys ≡ s.lease_keys)
     (made : Checkpoints mid new) where
   long : length s.history ≡ length new.history
-  long = ap length (sym same) ∙ made.agree.alike.same_length
+  long = ap length (sym same) ∙ made.agree.same_length
 
   node_key_stays : (k : Key) → IsNodeKey s k → IsNodeKey new k
   node_key_stays k known = record {
     within = let less = known.within in let l = long in omega arith;
     found = λ alive. subst (λ keys. Contains keys k) (sym (made.keys ∙ same_keys))
-        (known.found (ap (λ l. is_open l k.number) (sym same) ∙ made.agree.alike.same_open k.number ∙ alive));
+        (known.found (ap (λ l. is_open l k.number) (sym same) ∙ (alike_of made.agree).same_open k.number ∙ alive));
   }
 
   held_key_stays : (k : ResKey) → IsHeldKey s k → IsHeldKey new k
@@ -86,7 +87,7 @@ module _ {R : Type 0} (e : Engine R) (t : Tallies) (given : ℕ) (book : State) 
 
   module _ (h : List Event) (w : IsHistoryOf h e.tallies e.book) where
     here : book.base.at_length ≡ length h
-    here = ap (λ b. b.at_length) made.base ∙ base_length e.book.base e.book.history ∙ sym (history_agrees w sound.kept).alike.same_length
+    here = ap (λ b. b.at_length) made.base ∙ base_length e.book.base e.book.history ∙ sym (history_agrees w sound.kept).same_length
 
     checked_history : IsHistoryOf h t book
     checked_history = record {
@@ -95,7 +96,8 @@ module _ {R : Type 0} (e : Engine R) (t : Tallies) (given : ℕ) (book : State) 
       whole = sym (append-nil h);
       lawful = history_lawful w sound.kept;
       settled = settled_too e.book.base e.book.history nothing_kept h
-          (agree_back nothing_kept h e.book.base e.book.history (history_agrees w sound.kept)) sound.kept.settled;
+          (agree_back nothing_kept h e.book.base e.book.history (history_agrees w sound.kept)) sound.kept.lawful
+          (history_lawful w sound.kept) sound.kept.settled;
       base = made.base ∙ sym (checkpoints_agree.one_base nothing_kept h e.book.base e.book.history (history_agrees w sound.kept));
       history = made.history ∙ sym (append-nil (shown book.base));
       tallies = gathered w sound.kept t gathers;

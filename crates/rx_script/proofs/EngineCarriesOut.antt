@@ -165,7 +165,7 @@ module _ {R : Type 0} {e new : Engine R} {step : Command} {asked : Request} (sou
     plain is = none-some asked.call (ap (call_of (stored_stage e)) (sym is) ∙ agrees.called)
 
     long : length h ≡ length e.book.history
-    long = (history_agrees w sound.kept).alike.same_length
+    long = (history_agrees w sound.kept).same_length
 
     ends : after (stage_of e h) step then ≡ stage_of new then
     ends =

@@ -21,7 +21,7 @@ use Rattle.rx_event.specs.declared.refusal.Refusal.TheVariants.{NoLease, NotHeld
 use Rattle.rx_event.specs.Events.{makes_hub, has_source, is_leaf, is_merging, is_until, is_root, is_auto_hub, is_manual_hub}
 use Rattle.rx_event.specs.Tree.{at, ancestors, parent, is_open, is_open_child_of, has_open_child}
 use Rattle.rx_event.specs.Climb.{most_visits}
-use Rattle.rx_event.specs.Moments.{is_projection}
+use Rattle.rx_event.specs.Moments.{is_projection, owed}
 use Rattle.rx_event.specs.Allowed.{most_nodes, most_hubs, may_abort}
 use Rattle.rx_event.specs.Totals.{debt, open_count}
 use Rattle.rx_event.specs.Lawful.{IsLawful}
@@ -29,7 +29,8 @@ use Rattle.rx_event.specs.Refusals.{first_cause}
 use Rattle.rx_event.specs.Calls.{Opening, OpeningUsing, Holding, Applying, Removing, Leasing, GivingBack, Emitting, Ending, Aborting, Declining, Failing}
 use Rattle.rx_event.specs.Calls.{Disposing, Publishing, Connecting, Disconnecting, Taking, Call}
 use Rattle.rx_event.proofs.Laws.Openness.{ancestors_open}
-use Rattle.rx_event.proofs.Laws.SameTree.{alike_back, at_alike, at_hub_alike, parent_alike, ancestors_alike, connections_alike, visits_alike, stops_alike}
+use Rattle.rx_event.proofs.Laws.SameTree.{Alike, alike_of, alike_back, at_alike, at_hub_alike, parent_alike, ancestors_alike}
+use Rattle.rx_event.proofs.Laws.SameTree.{connections_alike, visits_alike, stops_alike}
 use Rattle.rx_event.proofs.Laws.SameForcedAndAllowed.{hubs_alike, hub_is}
 use Rattle.rx_event.proofs.Laws.Steps.{named_below}
 use Rattle.rx_event.proofs.Laws.Checkpoints.{same_debt}
@@ -75,11 +76,17 @@ open_where false is = absurd (false≢true (sym is))
 module _ (b : Kept) (h : List Event) (c : Kept) (k : List Event) (a : Agree b h c k) (law : IsLawful b h) where
   -- what the rows rest on ------------------------------------------------------------------------
 
+  alike : Alike h k
+  alike = alike_of a
+
+  owes_same : (n : ℕ) → is_open h n ≡ true → owed b h n ≡ owed c k n
+  owes_same n o = sym (λ i. (a.there.marks n o i).owed)
+
   on_open : (t : Event → Bool) (n : ℕ) → is_open h n ≡ true → at t h n ≡ at t k n
-  on_open t n o = at_alike h k a.alike t n o
+  on_open t n o = at_alike h k alike t n o
 
   on_hubs : (t : Event → Bool) → ((e : Event) → t e ≡ true → (mode : Mode) × (e ≡ Hub mode)) → (g : ℕ) → at t h g ≡ at t k g
-  on_hubs t is g = same_test (at t h g) (at t k g) (at_hub_alike h k a.alike t is g) (at_hub_alike k h (alike_back h k a.alike) t is g)
+  on_hubs t is g = same_test (at t h g) (at t k g) (at_hub_alike h k alike t is g) (at_hub_alike k h (alike_back h k alike) t is g)
 
   abbrev OpenPlace : Place → Type 0
   OpenPlace Root = Unit {0}
@@ -89,9 +96,9 @@ module _ (b : Kept) (h : List Event) (c : Kept) (k : List Event) (a : Agree b h 
 
   gone_same : (place : Place) → is_gone h place ≡ is_gone k place
   gone_same Root = refl
-  gone_same (Source p) = ap not (a.alike.same_open p)
-  gone_same (Inner p) = ap not (a.alike.same_open p)
-  gone_same (Notifier p) = ap not (a.alike.same_open p)
+  gone_same (Source p) = ap not (alike.same_open p)
+  gone_same (Inner p) = ap not (alike.same_open p)
+  gone_same (Notifier p) = ap not (alike.same_open p)
 
   open_place : (place : Place) → is_gone h place ≡ false → OpenPlace place
   open_place Root is = tt
@@ -107,18 +114,18 @@ module _ (b : Kept) (h : List Event) (c : Kept) (k : List Event) (a : Agree b h 
 
   taken_same : (place : Place) → OpenPlace place → is_taken_place b h place ≡ is_taken_place c k place
   taken_same Root o = refl
-  taken_same (Source p) o = a.sources p o
+  taken_same (Source p) o = sym (λ i. (a.there.marks p o i).source_opened)
   taken_same (Inner p) o = refl
-  taken_same (Notifier p) o = a.notifiers p o
+  taken_same (Notifier p) o = sym (λ i. (a.there.marks p o i).notifier_opened)
 
   unowed_same : (place : Place) → OpenPlace place → is_unowed_place b h place ≡ is_unowed_place c k place
   unowed_same Root o = refl
   unowed_same (Source p) o = refl
-  unowed_same (Inner p) o = ap (λ n. n == 0) (a.debts p o)
+  unowed_same (Inner p) o = ap (λ n. n == 0) (owes_same p o)
   unowed_same (Notifier p) o = refl
 
   connection_same : (g : ℕ) → has_connection h g ≡ has_connection k g
-  connection_same g = ap (λ (ns : List ℕ). nat_lt 0 (length ns)) (connections_alike h k a.alike g)
+  connection_same g = ap (λ (ns : List ℕ). nat_lt 0 (length ns)) (connections_alike h k alike g)
 
   without_same : (kind : Kind) → is_without_hub h kind ≡ is_without_hub k kind
   without_same (Sub g) = ap not (on_hubs makes_hub hub_is g)
@@ -137,7 +144,7 @@ module _ (b : Kept) (h : List Event) (c : Kept) (k : List Event) (a : Agree b h 
   forces_same Until = refl
 
   open_total : open_count h ≡ open_count k
-  open_total = λ i. count_by (λ n. a.alike.same_open n i) (range_with_len 0 (a.alike.same_length i))
+  open_total = λ i. count_by (λ n. alike.same_open n i) (range_with_len 0 (a.same_length i))
 
   crowded_same : (n m : ℕ) → n ≡ m → is_crowded h n ≡ is_crowded k m
   crowded_same n m same = λ i. nat_lt most_nodes (open_total i + same i)
@@ -147,7 +154,7 @@ module _ (b : Kept) (h : List Event) (c : Kept) (k : List Event) (a : Agree b h 
       same_any (at (connects_up_to g) h) (at (connects_up_to g) k) (ancestors h p)
       (each_same (λ n. is_open h n ≡ true) (at (connects_up_to g) h) (at (connects_up_to g) k) (on_open (connects_up_to g))
       (ancestors h p) (ancestors_open h p o))
-      ∙ ap (list_any (at (connects_up_to g) k)) (ancestors_alike h k a.alike p o)
+      ∙ ap (list_any (at (connects_up_to g) k)) (ancestors_alike h k alike p o)
 
   order_same : (place : Place) (kind : Kind) → OpenPlace place → is_out_of_order h place kind ≡ is_out_of_order k place kind
   order_same place Leaf o = refl
@@ -163,13 +170,13 @@ module _ (b : Kept) (h : List Event) (c : Kept) (k : List Event) (a : Agree b h 
   child_same : (p n : ℕ) → is_open_child_of h p n ≡ is_open_child_of k p n
   child_same p n = by_open (is_open h n) refl where
     by_open : (o : Bool) → is_open h n ≡ o → is_open_child_of h p n ≡ is_open_child_of k p n
-    by_open true o = λ i. a.alike.same_open n i && option_map_or (λ q. q == p) (parent_alike h k a.alike n o i) false
+    by_open true o = λ i. alike.same_open n i && option_map_or (λ q. q == p) (parent_alike h k alike n o i) false
     by_open false o =
         ap (λ z. z && option_map_or (λ q. q == p) (parent h n) false) o
-        ∙ sym (ap (λ z. z && option_map_or (λ q. q == p) (parent k n) false) (sym (a.alike.same_open n) ∙ o))
+        ∙ sym (ap (λ z. z && option_map_or (λ q. q == p) (parent k n) false) (sym (alike.same_open n) ∙ o))
 
   children_same : (p : ℕ) → has_open_child h p ≡ has_open_child k p
-  children_same p = λ i. list_any (λ n. child_same p n i) (range_with_len 0 (a.alike.same_length i))
+  children_same p = λ i. list_any (λ n. child_same p n i) (range_with_len 0 (a.same_length i))
 
   debt_same : debt b h ≡ debt c k
   debt_same = same_debt b h c k a
@@ -178,7 +185,7 @@ module _ (b : Kept) (h : List Event) (c : Kept) (k : List Event) (a : Agree b h 
 
   module _ (n m : ℕ) (same_end : b.at_length + n ≡ c.at_length + m) where
     over_same : (x y : ℕ) → x ≡ y → is_over b h n x ≡ is_over c k m y
-    over_same x y same = λ i. nat_lt (same_end i) (a.alike.same_length i + debt_same i + same i)
+    over_same x y same = λ i. nat_lt (same_end i) (a.same_length i + debt_same i + same i)
 
     opened_same : (kind : Kind) → nodes_opened h kind ≡ nodes_opened k kind
     opened_same kind = λ i. 1 + cond (forces_same kind i) 1 0
@@ -225,7 +232,7 @@ module _ (b : Kept) (h : List Event) (c : Kept) (k : List Event) (a : Agree b h 
     at_node node p q no_hub also gone gone_too rest = by_open (cases_Bool (is_open h node)) where
       by_open : (is_open h node ≡ true) ⊎ (is_open h node ≡ false) → first_cause p ≡ first_cause q
       by_open (inl o) = same_first p q (rest o)
-      by_open (inr closed) = gone_first p q (no_hub ∙ sym also) (gone ∙ ap not closed) (gone_too ∙ ap not (sym (a.alike.same_open node) ∙ closed))
+      by_open (inr closed) = gone_first p q (no_hub ∙ sym also) (gone ∙ ap not closed) (gone_too ∙ ap not (sym (alike.same_open node) ∙ closed))
 
     module _ (fresh : Bool) where
       abbrev Here : Call → Refusal → Bool
@@ -240,7 +247,7 @@ module _ (b : Kept) (h : List Event) (c : Kept) (k : List Event) (a : Agree b h 
       same_row (OpeningUsing place tag) = using_same fresh place tag
       same_row (Holding node tag) = at_node node (Here (Holding node tag)) (There (Holding node tag)) refl refl refl refl by_cause where
         by_cause : is_open h node ≡ true → (why : Refusal) → Here (Holding node tag) why ≡ There (Holding node tag) why
-        by_cause o Gone = ap not (a.alike.same_open node)
+        by_cause o Gone = ap not (alike.same_open node)
         by_cause o Full = over_same 3 3 refl
         by_cause o _ = refl
       same_row (Applying r) = same_first (Here (Applying r)) (There (Applying r)) by_cause where
@@ -265,43 +272,43 @@ module _ (b : Kept) (h : List Event) (c : Kept) (k : List Event) (a : Agree b h 
         by_cause _ = refl
       same_row (Emitting leaf v) = at_node leaf (Here (Emitting leaf v)) (There (Emitting leaf v)) refl refl refl refl by_cause where
         by_cause : is_open h leaf ≡ true → (why : Refusal) → Here (Emitting leaf v) why ≡ There (Emitting leaf v) why
-        by_cause o Gone = ap not (a.alike.same_open leaf)
+        by_cause o Gone = ap not (alike.same_open leaf)
         by_cause o WrongKind = ap not (on_open is_leaf leaf o)
-        by_cause o TooMany = ap (λ (x : ℕ). nat_lt most_visits x) (visits_alike h k a.alike (named_below b h law) leaf o)
+        by_cause o TooMany = ap (λ (x : ℕ). nat_lt most_visits x) (visits_alike h k alike (named_below b h law) leaf o)
         by_cause o Full = over_same (added_by h (Emitting leaf v)) (added_by k (Emitting leaf v))
-            (λ i. 1 + count_by is_projection (stops_alike h k a.alike (named_below b h law) leaf o i))
+            (λ i. 1 + count_by is_projection (stops_alike h k alike (named_below b h law) leaf o i))
         by_cause o _ = refl
       same_row (Ending leaf t) = at_node leaf (Here (Ending leaf t)) (There (Ending leaf t)) refl refl refl refl by_cause where
         by_cause : is_open h leaf ≡ true → (why : Refusal) → Here (Ending leaf t) why ≡ There (Ending leaf t) why
-        by_cause o Gone = ap not (a.alike.same_open leaf)
+        by_cause o Gone = ap not (alike.same_open leaf)
         by_cause o WrongKind = ap not (on_open is_leaf leaf o)
         by_cause o _ = refl
       same_row (Aborting node code) = at_node node (Here (Aborting node code)) (There (Aborting node code)) refl refl refl refl by_cause where
         by_cause : is_open h node ≡ true → (why : Refusal) → Here (Aborting node code) why ≡ There (Aborting node code) why
-        by_cause o Gone = ap not (a.alike.same_open node)
+        by_cause o Gone = ap not (alike.same_open node)
         by_cause o WrongKind = ap not (on_open may_abort node o)
         by_cause o HasChild = children_same node
         by_cause o _ = refl
       same_row (Declining f) = at_node f (Here (Declining f)) (There (Declining f)) refl refl refl refl by_cause where
         by_cause : is_open h f ≡ true → (why : Refusal) → Here (Declining f) why ≡ There (Declining f) why
-        by_cause o Gone = ap not (a.alike.same_open f)
+        by_cause o Gone = ap not (alike.same_open f)
         by_cause o WrongKind = ap not (on_open is_merging f o)
-        by_cause o NothingOwed = ap (λ (x : ℕ). x == 0) (a.debts f o)
+        by_cause o NothingOwed = ap (λ (x : ℕ). x == 0) (owes_same f o)
         by_cause o _ = refl
       same_row (Failing f code) = at_node f (Here (Failing f code)) (There (Failing f code)) refl refl refl refl by_cause where
         by_cause : is_open h f ≡ true → (why : Refusal) → Here (Failing f code) why ≡ There (Failing f code) why
-        by_cause o Gone = ap not (a.alike.same_open f)
+        by_cause o Gone = ap not (alike.same_open f)
         by_cause o WrongKind = ap not (on_open is_merging f o)
-        by_cause o NothingOwed = ap (λ (x : ℕ). x == 0) (a.debts f o)
+        by_cause o NothingOwed = ap (λ (x : ℕ). x == 0) (owes_same f o)
         by_cause o _ = refl
       same_row (Disposing root) = at_node root (Here (Disposing root)) (There (Disposing root)) refl refl refl refl by_cause where
         by_cause : is_open h root ≡ true → (why : Refusal) → Here (Disposing root) why ≡ There (Disposing root) why
-        by_cause o Gone = ap not (a.alike.same_open root)
+        by_cause o Gone = ap not (alike.same_open root)
         by_cause o NotRoot = ap not (on_open is_root root o)
         by_cause o _ = refl
       same_row (Publishing mode) = same_first (Here (Publishing mode)) (There (Publishing mode)) by_cause where
         by_cause : (why : Refusal) → Here (Publishing mode) why ≡ There (Publishing mode) why
-        by_cause TooMany = ap (λ (ns : List ℕ). nat_lt most_hubs (length ns + 1)) (hubs_alike h k a.alike)
+        by_cause TooMany = ap (λ (ns : List ℕ). nat_lt most_hubs (length ns + 1)) (hubs_alike h k alike)
         by_cause Full = over_same 1 1 refl
         by_cause _ = refl
       same_row (Connecting g) = same_first (Here (Connecting g)) (There (Connecting g)) by_cause where

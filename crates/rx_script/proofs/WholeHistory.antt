@@ -5,7 +5,8 @@ use Rattle.rx_event.specs.declared.event.Event.{Event}
 use Rattle.rx_event.specs.declared.event.Event.TheVariants.{Open, Accept, Close}
 use Rattle.rx_event.specs.declared.event.Kind.TheVariants.{Pass}
 use Rattle.rx_event.specs.Kept.{Kept, nothing_kept, shown}
-use Rattle.rx_event.specs.Bases.{base_of, Alike, Agree}
+use Rattle.rx_event.specs.Bases.{base_of, Agree}
+use Rattle.rx_event.specs.Renumbered.{AreRead}
 use Rattle.rx_event.specs.Resources.{waiting_resources}
 use Rattle.rx_event.specs.Notes.{notes, mail_of}
 use Rattle.rx_event.specs.Forced.{IsForced, IsSettled}
@@ -15,8 +16,10 @@ use Rattle.rx_event.proofs.Laws.Lawful.{IsLawful-push}
 use Rattle.rx_event.proofs.Laws.Starts.{lawful_front, lawful_last, lawful_begun}
 use Rattle.rx_event.proofs.Laws.Steps.{by_pushes}
 use Rattle.rx_event.proofs.Laws.Counts.{notes-push}
-use Rattle.rx_event.proofs.Laws.SameTree.{connections_alike}
-use Rattle.rx_event.proofs.Laws.SameForcedAndAllowed.{agree_back, forced_too, settled_too}
+use Rattle.rx_event.proofs.Laws.SameTree.{Alike, alike_of, connections_alike}
+use Rattle.rx_event.proofs.Laws.SameForcedAndAllowed.{reads_of}
+use Rattle.rx_event.proofs.Laws.TreeRead.{event_by_itself}
+use Rattle.rx_event.proofs.Laws.ReadDue.{read_back, forced_read, settled_read}
 use Rattle.rx_event.proofs.Laws.Begin.{shown_nothing}
 use Rattle.rx_event.proofs.Laws.Bases.{base_length, length_base}
 use Rattle.rx_event.proofs.Laws.Checkpoints.{checkpoints_agree}
@@ -49,6 +52,14 @@ module _ (front : List Event) (law : IsLawful nothing_kept front) (settled : IsS
   whole_agree es stored_law = subst (λ (x : Kept). Agree nothing_kept (front ++ es) x (shown x ++ es)) (sym is)
       (checkpoints_agree.after nothing_kept front es law settled (whole_lawful es stored_law))
 
+  -- the stored one reads as the whole one
+  whole_reads : (es : List Event) → IsLawful b (shown b ++ es) → AreRead b nothing_kept (λ n. n) (λ n. n) (shown b ++ es) (front ++ es)
+  whole_reads es stored_law = read_back (reads_of (whole_agree es stored_law) (whole_lawful es stored_law) stored_law)
+
+  whole_forced : (es : List Event) → IsLawful b (shown b ++ es) → {e : Event} → IsForced b (shown b ++ es) e → IsForced nothing_kept (front ++ es) e
+  whole_forced es stored_law {e} f =
+      subst (λ (x : Event). IsForced nothing_kept (front ++ es) x) (event_by_itself e) (forced_read (whole_reads es stored_law) f)
+
   stored_long : (es : List Event) → length (shown b) ≤ length (shown b ++ es)
   stored_long es = let l = length-append (shown b) es in omega arith
 
@@ -76,10 +87,7 @@ module _ (front : List Event) (law : IsLawful nothing_kept front) (settled : IsS
           ∙ ap (λ (l : List Event). shown b ++ l) (append_assoc es w.events (e ∷ []));
       on = subst (λ (l : List Event). IsForcedOn nothing_kept (front ++ es) l)
           (append_assoc front (es ++ w.events) (e ∷ []) ∙ ap (λ (l : List Event). front ++ l) (append_assoc es w.events (e ∷ [])))
-          (more w.on (forced_too b (shown b ++ (es ++ w.events)) nothing_kept (front ++ (es ++ w.events))
-          (agree_back nothing_kept (front ++ (es ++ w.events)) b (shown b ++ (es ++ w.events))
-          (whole_agree (es ++ w.events) (subst (IsLawful b) w.same w.lawful)))
-          (subst (λ (l : List Event). IsForced b l e) w.same g)));
+          (more w.on (whole_forced (es ++ w.events) (subst (IsLawful b) w.same w.lawful) (subst (λ (l : List Event). IsForced b l e) w.same g)));
       lawful = IsLawful-push b m e w.lawful (forced g);
     }
 
@@ -97,10 +105,7 @@ module _ (front : List Event) (law : IsLawful nothing_kept front) (settled : IsS
       forced = subst (λ (l : List Event). IsForcedOn nothing_kept l (front ++ (es ++ (outside ++ w.events)))) begins
           (subst (λ (l : List Event). IsForcedOn nothing_kept (front ++ (es ++ outside)) (front ++ l)) (append_assoc es outside w.events) w.on);
       lawful = whole_lawful (es ++ (outside ++ w.events)) law_k;
-      settled = settled_too b (shown b ++ (es ++ (outside ++ w.events))) nothing_kept (front ++ (es ++ (outside ++ w.events)))
-          (agree_back nothing_kept (front ++ (es ++ (outside ++ w.events))) b (shown b ++ (es ++ (outside ++ w.events)))
-          (whole_agree (es ++ (outside ++ w.events)) law_k))
-          (subst (IsSettled b) ends step.settled);
+      settled = settled_read (whole_reads (es ++ (outside ++ w.events)) law_k) (subst (IsSettled b) ends step.settled);
     };
   } where
     outside : List Event
@@ -124,7 +129,7 @@ module _ (front : List Event) (law : IsLawful nothing_kept front) (settled : IsS
     begins : front ++ (es ++ outside) ≡ (front ++ es) ++ outside_of (front ++ es) call
     begins =
         sym (append_assoc front es outside)
-        ∙ ap (λ (l : List Event). (front ++ es) ++ l) (sym (outside_alike (front ++ es) (shown b ++ es) (whole_agree es law_es).alike call))
+        ∙ ap (λ (l : List Event). (front ++ es) ++ l) (sym (outside_alike (front ++ es) (shown b ++ es) (alike_of (whole_agree es law_es)) call))
 
   -- takings --------------------------------------------------------------------------------------
 
@@ -163,7 +168,7 @@ module _ (front : List Event) (law : IsLawful nothing_kept front) (settled : IsS
     same = w.same;
     drains = record {
       takes = w.takes;
-      none_waits = (λ i. filter (λ n. a.waiting n i) (range_with_len 0 (a.alike.same_length i))) ∙ ap waiting_resources (sym w.same) ∙ drained.none_waits;
+      none_waits = (λ i. filter (λ n. a.waiting n i) (range_with_len 0 (a.same_length i))) ∙ ap waiting_resources (sym w.same) ∙ drained.none_waits;
     };
   } where
     w : TakesOver es k

@@ -85,8 +85,8 @@ module _ {R : Type 0} (form : Form) (script : Script) (stock : List Ware) (limit
   a = out.agree
 
   left : released ≡ held_count out.last.history + waiting_count out.last.history
-  left = rest ∙ sym (λ i. count_by (λ n. a.held n i) (range_with_len 0 (a.alike.same_length i))
-      + count_by (λ n. a.waiting n i) (range_with_len 0 (a.alike.same_length i)))
+  left = rest ∙ sym (λ i. count_by (λ n. a.held n i) (range_with_len 0 (a.same_length i))
+      + count_by (λ n. a.waiting n i) (range_with_len 0 (a.same_length i)))
 
   lines_whole : whole ≡ output form course faults
   lines_whole =

@@ -5,24 +5,23 @@ use Rattle.std.proofs.Math.Bool.{not, ◌&&◌, ◌||◌}
 use Rattle.std.specs.Option.{option_and_then, option_map_or}
 use Rattle.std.proofs.lemmas.Bool.{cases_order, both_ways, false≢true, and_parts}
 use Rattle.rx_event.specs.declared.event.Event.{Event}
-use Rattle.rx_event.specs.declared.event.Event.TheVariants.{Open, End, Item}
+use Rattle.rx_event.specs.declared.event.Event.TheVariants.{End, Item}
 use Rattle.rx_event.specs.Events.{node_of_accept, is_remove_of, is_return_of, is_take_of, is_use_of}
 use Rattle.rx_event.specs.Tree.{is_open}
 use Rattle.rx_event.specs.Resources.{is_owned, is_out, leases_of, is_held, is_waiting, uses, accepted_by}
 use Rattle.rx_event.specs.Kept.{Kept, resource_kept}
-use Rattle.rx_event.specs.Bases.{is_untaken, Alike, Agree}
+use Rattle.rx_event.specs.Bases.{is_untaken, Agree}
 use Rattle.rx_event.proofs.Laws.Places.{slice_get-append, slice_get_last}
 use Rattle.rx_event.proofs.Laws.Resources.{node_of, held_is, owned_held, is_owned_past, is_owned_new, held_old, is_held_past, is_waiting_past}
 use Rattle.rx_event.proofs.Laws.Resources.{is_waiting_new, is_waiting-unheld}
 use Rattle.rx_event.proofs.Laws.Leases.{is_out-push, is_out_last, is_out_past, is_leased-counted, leases_of_same}
 use Rattle.rx_event.proofs.Laws.Totals.{item_count-push, accepted_count-push, taken_count-push, uses-push, uses_past}
 use Rattle.rx_event.specs.Renumbered.{AreRead}
-use Rattle.rx_event.proofs.Laws.SameTree.{alike_trees, alike_back}
+use Rattle.rx_event.proofs.Laws.SameTree.{Alike, alike_read}
 use Rattle.rx_event.proofs.Laws.TreeRead.{event_by_itself}
 use Rattle.rx_event.proofs.Laws.TreeAfterEvent.{GoesOn, id_goes_on}
-use Rattle.rx_event.proofs.Laws.ReadDue.{trees_of, read_back}
 use Rattle.rx_event.proofs.Laws.ReadAfter.{read_after}
-use Rattle.rx_event.proofs.Laws.AgreeMarks.{reads_of, gives_read}
+use Rattle.rx_event.proofs.Laws.SameForcedAndAllowed.{reads_of}
 use Rattle.rx_event.proofs.Laws.Sound.{sound_of, owned-push, node_open}
 use Rattle.rx_event.specs.Lawful.{MayFollow, IsLawful}
 use Rattle.rx_event.proofs.Laws.Lawful.{IsLawful-push, shown_within, may_end}
@@ -43,16 +42,15 @@ module _ (b : Kept) (h : List Event) (c : Kept) (k : List Event) (e : Event) (la
   reads : AreRead b c (λ n. n) (λ n. n) (h ++ e ∷ []) (k ++ e ∷ [])
   reads = subst (λ (x : Event). AreRead b c (λ n. n) (λ n. n) (h ++ e ∷ []) (k ++ x ∷ [])) (event_by_itself e)
       (read_after (reads_of a law law_k) next (subst (λ (x : Event). MayFollow c k x) (sym (event_by_itself e)) next_k)
-      (id_goes_on h k e a.alike.same_length (λ m named. may_name b next named) (λ m named. may_name c next_k named))
+      (id_goes_on h k e a.same_length (λ m named. may_name b next named) (λ m named. may_name c next_k named))
       (subst (λ (x : Event). GoesOn (λ n. n) (λ n. n) (λ n. n) (λ n. n) k h x) (sym (event_by_itself e))
-      (id_goes_on k h e (sym a.alike.same_length) (λ m named. may_name c next_k named) (λ m named. may_name b next named))))
+      (id_goes_on k h e (sym a.same_length) (λ m named. may_name c next_k named) (λ m named. may_name b next named))))
 
   pushed : Alike (h ++ e ∷ []) (k ++ e ∷ [])
-  pushed = alike_trees (h ++ e ∷ []) (k ++ e ∷ []) (trees_of reads)
-      (length-append h (e ∷ []) ∙ ap (λ n. n + 1) a.alike.same_length ∙ sym (length-append k (e ∷ [])))
+  pushed = alike_read (length-append h (e ∷ []) ∙ ap (λ n. n + 1) a.same_length ∙ sym (length-append k (e ∷ []))) reads.there reads.back
 
   long_k : (n : ℕ) → n ≡ length h → n ≡ length k
-  long_k n last = last ∙ a.alike.same_length
+  long_k n last = last ∙ a.same_length
 
   -- an owned resource reads the same in both
   owned_made : (r : ℕ) → is_owned h r ≡ true → slice_get h r ≡ slice_get k r
@@ -60,7 +58,7 @@ module _ (b : Kept) (h : List Event) (c : Kept) (k : List Event) (e : Event) (la
       (sound_of c k law_k).accepted r (sym (a.owned r) ∙ owned)
 
   in_k : (r : ℕ) → r < length h → r < length k
-  in_k r l = let q = a.alike.same_length in omega arith
+  in_k r l = let q = a.same_length in omega arith
 
   node_on : (n : Option ℕ) → option_map_or (is_open (h ++ e ∷ [])) n false ≡ option_map_or (is_open (k ++ e ∷ [])) n false
   node_on None = refl
@@ -80,7 +78,7 @@ module _ (b : Kept) (h : List Event) (c : Kept) (k : List Event) (e : Event) (la
     by_place (inr (inl l)) = owned-push b h e law r l ∙ by_owned (is_owned h r) refl ∙ ap (λ x. x &&
         (node_open (k ++ e ∷ []) k r && not (is_remove_of r e))) (a.owned r) ∙ sym (owned-push c k e law_k r (in_k r l))
     by_place (inr (inr l)) = is_owned_past (h ++ e ∷ []) r (omega (arith, length-append h (e ∷ []))) ∙ sym
-        (is_owned_past (k ++ e ∷ []) r (let q = a.alike.same_length in omega (arith, length-append k (e ∷ []))))
+        (is_owned_past (k ++ e ∷ []) r (let q = a.same_length in omega (arith, length-append k (e ∷ []))))
 
   out_on : (l : ℕ) → is_out (h ++ e ∷ []) l ≡ is_out (k ++ e ∷ []) l
   out_on l = by_place (cases_order l (length h)) where
@@ -88,7 +86,7 @@ module _ (b : Kept) (h : List Event) (c : Kept) (k : List Event) (e : Event) (la
     by_place (inl last) = ap (is_out (h ++ e ∷ [])) last ∙ is_out_last b h e law ∙ sym (ap (is_out (k ++ e ∷ [])) (long_k l last) ∙ is_out_last c k e law_k)
     by_place (inr (inl less)) = is_out-push h e l less ∙ ap (λ x. x && not (is_return_of l e)) (a.out l) ∙ sym (is_out-push k e l (in_k l less))
     by_place (inr (inr past)) = is_out_past (h ++ e ∷ []) l (omega (arith, length-append h (e ∷ []))) ∙ sym
-        (is_out_past (k ++ e ∷ []) l (let q = a.alike.same_length in omega (arith, length-append k (e ∷ []))))
+        (is_out_past (k ++ e ∷ []) l (let q = a.same_length in omega (arith, length-append k (e ∷ []))))
 
   leased_on : (l : ℕ) → is_out (h ++ e ∷ []) l ≡ true → slice_get (h ++ e ∷ []) l ≡ slice_get (k ++ e ∷ []) l
   leased_on l out = by_place (cases_order l (length h)) where
@@ -120,7 +118,7 @@ module _ (b : Kept) (h : List Event) (c : Kept) (k : List Event) (e : Event) (la
         sym (is_waiting-unheld c k e law_k next_k r (in_k r l))
     by_place (inr (inr l)) =
         is_waiting_past (h ++ e ∷ []) r (omega (arith, length-append h (e ∷ []))) ∙
-        sym (is_waiting_past (k ++ e ∷ []) r (let q = a.alike.same_length in omega (arith, length-append k (e ∷ []))))
+        sym (is_waiting_past (k ++ e ∷ []) r (let q = a.same_length in omega (arith, length-append k (e ∷ []))))
 
   untaken_old : (r : ℕ) → r < length h → is_untaken (h ++ e ∷ []) r ≡ true → is_untaken h r ≡ true
   untaken_old r l untaken =
@@ -173,11 +171,9 @@ module _ (b : Kept) (h : List Event) (c : Kept) (k : List Event) (e : Event) (la
   pub agree-push : Agree b (h ++ e ∷ []) c (k ++ e ∷ [])
   agree-push =
       record {
-        alike = pushed;
-        sources = λ n o. sym (λ i. (reads.there.marks n o i).source_opened);
-        notifiers = λ n o. sym (λ i. (reads.there.marks n o i).notifier_opened);
-        completions = λ n o. sym (λ i. (reads.there.marks n o i).source_completed);
-        debts = λ n o. sym (λ i. (reads.there.marks n o i).owed);
+        same_length = pushed.same_length;
+        there = reads.there;
+        back = reads.back;
         owned = owned_on;
         held = held_on;
         waiting = waiting_on;
@@ -188,6 +184,4 @@ module _ (b : Kept) (h : List Event) (c : Kept) (k : List Event) (e : Event) (la
         item_total = let one = (item_count-push b) h e in let two = (item_count-push c) k e in let same = a.item_total in omega arith;
         accepted_total = let one = (accepted_count-push b) h e in let two = (accepted_count-push c) k e in let same = a.accepted_total in omega arith;
         taken_total = let one = (taken_count-push b) h e in let two = (taken_count-push c) k e in let same = a.taken_total in omega arith;
-        gives = gives_read pushed reads;
-        gives_back = gives_read (alike_back (h ++ e ∷ []) (k ++ e ∷ []) pushed) (read_back reads);
       }

@@ -1,11 +1,9 @@
--- Two lawful histories that agree are the same, number for number, in what they remember; and what is the same gives the same.
+-- How the children of a node ended, and what each rule gives in two histories that are the same, number for number.
 use Rattle.std.proofs.Common.{◌≡◌, ℕ, Bool, true, false, List, [], ◌∷◌, ◌++◌, Option, Some, None, refl, sym, ap, ◌∙◌, inl, inr, ◌⊎◌, ◌==◌, slice_get}
 use Rattle.std.proofs.Math.Bool.{not, ◌||◌}
 use Rattle.std.specs.List.{AllByRecursion, list_any}
 use Rattle.std.specs.Option.{option_map_or}
-use Rattle.std.specs.Cmp.{both_ways as same_test}
 use Rattle.std.proofs.lemmas.Bool.{false≢true, eqb-true}
-use Rattle.std.proofs.lemmas.Option.{none-some}
 use Rattle.rx_note.specs.declared.note.Terminal.{Terminal}
 use Rattle.rx_note.specs.declared.note.Terminal.TheVariants.{Completed, Error}
 use Rattle.rx_event.specs.Kept.{Kept, shown}
@@ -19,20 +17,18 @@ use Rattle.rx_event.specs.Moments.{is_fired, is_firing_of, stops_of}
 use Rattle.rx_event.specs.Forced.{ChildEnded, mirrored, failed, IsDue}
 use Rattle.rx_event.specs.Marks.{child_terminal, passes_on}
 use Rattle.rx_event.specs.Lawful.{MayFollow, IsLawful}
-use Rattle.rx_event.specs.Bases.{Alike, Gives, Agree}
-use Rattle.rx_event.specs.Renumbered.{IsRead, AreRead}
+use Rattle.rx_event.specs.Bases.{Mirrors, Fires, Fails, Completes, Cuts, Leaves}
+use Rattle.rx_event.specs.Renumbered.{AreRead}
 use Rattle.rx_event.specs.Claims.Climbs.{StopsAtOpen}
 use Rattle.rx_event.proofs.Laws.Places.{at-append, at_within}
-use Rattle.rx_event.proofs.Laws.Steps.{by_events, may_emit, named_below}
+use Rattle.rx_event.proofs.Laws.Steps.{by_events, may_emit}
 use Rattle.rx_event.proofs.Laws.Projections.{stops_open}
 use Rattle.rx_event.proofs.Laws.MarksFound.{child_terminal_some, child_terminal_none}
-use Rattle.rx_event.proofs.Laws.MarksAfter.{is_fired-push, same_marks}
+use Rattle.rx_event.proofs.Laws.MarksAfter.{is_fired-push}
 use Rattle.rx_event.proofs.Laws.MakingRemovesNothing.{made_unfired}
 use Rattle.rx_event.proofs.Laws.OneEnd.{one_end}
-use Rattle.rx_event.proofs.Laws.SameMarks.{IsParent, mirrors, merges, parent_sort}
-use Rattle.rx_event.proofs.Laws.TreeRead.{AreTreesRead, children_by}
-use Rattle.rx_event.proofs.Laws.SameTree.{at_alike, trees_alike}
-use Rattle.rx_event.proofs.Laws.SameForcedAndAllowed.{agree_back}
+use Rattle.rx_event.proofs.Laws.SameMarks.{IsParent, mirrors, merges}
+use Rattle.rx_event.proofs.Laws.SameTree.{Alike, at_alike, auto_alike, childless_alike, subscribers_alike}
 
 -- what items fire is a TakeUntil --------------------------------------------------------------------
 
@@ -58,7 +54,7 @@ either : (a b : Bool) → (a || b) ≡ true → (a ≡ true) ⊎ (b ≡ true)
 either true b is = inl refl
 either false b is = inr is
 
-fired_until : (base : Kept) (h : List Event) → IsLawful base h → (u : ℕ) → is_fired h u ≡ true → at is_until h u ≡ true
+pub fired_until : (base : Kept) (h : List Event) → IsLawful base h → (u : ℕ) → is_fired h u ≡ true → at is_until h u ≡ true
 fired_until base = by_events base (λ h. (u : ℕ) → is_fired h u ≡ true → at is_until h u ≡ true) begun further where
   begun : Rattle.rx_event.specs.Lawful.Started base → (u : ℕ) → is_fired (shown base) u ≡ true → at is_until (shown base) u ≡ true
   begun started u is = absurd (false≢true (sym (made_unfired (shown base) started.making u) ∙ is))
@@ -82,7 +78,7 @@ mirroring_passes h n Completed mirroring = ap not (by_event (slice_get h n) mirr
   by_event (Some (Connect g)) is = refl
   by_event (Some _) fails = absurd (false≢true fails)
 
-due_by_child : {b : Kept} {h : List Event} {n : ℕ} (t : Terminal) → is_open h n ≡ true → IsParent h n → ChildEnded h n t →
+pub due_by_child : {b : Kept} {h : List Event} {n : ℕ} (t : Terminal) → is_open h n ≡ true → IsParent h n → ChildEnded h n t →
     passes_on (at is_merging h n) t ≡ true → IsDue b h (End n t)
 due_by_child t o (mirrors m) child passes = mirrored o m child
 due_by_child (Error code) o (merges m) child passes = failed o m child
@@ -98,74 +94,47 @@ terminal_is {b} h n t law o sort child passes = by_terminal (child_terminal h n)
       let w = child_terminal_some h n u found in
       found ∙ ap (λ v. Some v) (one_end h law n n u t (due_by_child {b = b} u o sort w.0 w.1) (due_by_child {b = b} t o sort child passes))
 
--- what agrees is the same ------------------------------------------------------------------------------
+-- what each rule gives in two histories that are the same --------------------------------------------
 
-module _ (b : Kept) (h : List Event) (c : Kept) (k : List Event) (a : Agree b h c k) (law : IsLawful b h) (law_k : IsLawful c k) where
-  terminal_there : (n : ℕ) (t : Terminal) → is_open h n ≡ true → child_terminal h n ≡ Some t → child_terminal k n ≡ Some t
-  terminal_there n t o found =
-      let w = child_terminal_some h n t found in by_sort t w.0 w.1 (parent_sort b h law w.0.child n w.0.below)
-    where
-      also : is_open k n ≡ true
-      also = sym (a.alike.same_open n) ∙ o
+module _ (b c : Kept) (h k : List Event) (alike : Alike h k) (a : AreRead b c (λ n. n) (λ n. n) h k) where
+  child : (n : ℕ) (t : Terminal) → is_open h n ≡ true → child_terminal h n ≡ Some t → ChildEnded k n t
+  child n t o found = (child_terminal_some k n t ((λ i. (a.there.marks n o i).child_terminal) ∙ found)).0
 
-      by_sort : (t : Terminal) → ChildEnded h n t → passes_on (at is_merging h n) t ≡ true → IsParent h n → child_terminal k n ≡ Some t
-      by_sort t child passes (mirrors m) =
-          let g = a.gives.mirrors n t (o, m, child) in terminal_is k n t law_k also (mirrors g.1) g.2 (mirroring_passes k n t g.1)
-      by_sort (Error code) child passes (merges m) =
-          let g = a.gives.fails n code (o, m, child) in terminal_is k n (Error code) law_k also (merges g.1) g.2 refl
-      by_sort Completed child passes (merges m) = absurd (false≢true (sym (ap (λ x. passes_on x Completed) m) ∙ passes))
-
-  fired_there : (n : ℕ) → is_open h n ≡ true → is_fired h n ≡ true → is_fired k n ≡ true
-  fired_there n o is = (a.gives.fires n (o, fired_until b h law n is, is)).2
-
-read_of : {b : Kept} {h : List Event} {c : Kept} {k : List Event} → Agree b h c k → IsLawful b h → IsLawful c k → IsRead b c (λ n. n) (λ n. n) h k
-read_of {b} {h} {c} {k} a law law_k = record {
-  alive = trees.there.alive;
-  undone = trees.there.undone;
-  order = trees.there.order;
-  made = trees.there.made;
-  marks = marks;
-  hub = trees.there.hub;
-  hub_undone = trees.there.hub_undone;
-  ended = λ n t o x. (a.gives.cuts n t (o, x)).1;
-} where
-  trees : AreTreesRead (λ n. n) (λ n. n) h k
-  trees = trees_alike h k a.alike (named_below b h law)
-
-  same_terminal : (n : ℕ) → is_open h n ≡ true → (x y : Option Terminal) → child_terminal h n ≡ x → child_terminal k n ≡ y → y ≡ x
-  same_terminal n o (Some t) y found found_k = sym found_k ∙ terminal_there b h c k a law law_k n t o found
-  same_terminal n o None None found found_k = refl
-  same_terminal n o None (Some t) found found_k =
-      absurd (none-some t (sym found ∙ terminal_there c k b h (agree_back b h c k a) law_k law n t (trees.there.alive n o) found_k))
-
-  marks : (n : ℕ) → is_open h n ≡ true → Rattle.rx_event.specs.Marks.marks_of c k n ≡ Rattle.rx_event.specs.Marks.marks_of b h n
-  marks n o =
-      same_marks b (sym (a.sources n o)) (sym (a.notifiers n o))
-      (same_test (is_fired k n) (is_fired h n) (fired_there c k b h (agree_back b h c k a) law_k law n (trees.there.alive n o))
-      (fired_there b h c k a law law_k n o))
-      (sym (a.completions n o)) (same_terminal n o (child_terminal h n) (child_terminal k n) refl refl) (sym (a.debts n o))
-      (children_by (λ n. n) (λ n. n) h k trees n o)
-
-pub reads_of : {b : Kept} {h : List Event} {c : Kept} {k : List Event} → Agree b h c k → IsLawful b h → IsLawful c k → AreRead b c (λ n. n) (λ n. n) h k
-reads_of {b} {h} {c} {k} a law law_k =
-    record { law = law; other_law = law_k; there = read_of a law law_k; back = read_of (agree_back b h c k a) law_k law }
-
--- and what is the same gives the same ----------------------------------------------------------------------
-
-pub gives_read : {b c : Kept} {h k : List Event} → Alike h k → AreRead b c (λ n. n) (λ n. n) h k → Gives h k
-gives_read {h = h} {k = k} alike a = record {
-  mirrors = λ p t m. (
+  pub mirrors_too : (p : ℕ) (t : Terminal) → Mirrors h p t → Mirrors k p t
+  mirrors_too p t m = (
     a.there.alive p m.0,
     sym (at_alike h k alike is_mirroring p m.0) ∙ m.1,
     child p t m.0 (terminal_is h p t a.law m.0 (mirrors m.1) m.2 (mirroring_passes h p t m.1)),
-  );
-  fires = λ u m. (a.there.alive u m.0, sym (at_alike h k alike is_until u m.0) ∙ m.1, (λ i. (a.there.marks u m.0 i).fired) ∙ m.2);
-  fails = λ f code m. (
+  )
+
+  pub fires_too : (u : ℕ) → Fires h u → Fires k u
+  fires_too u m = (a.there.alive u m.0, sym (at_alike h k alike is_until u m.0) ∙ m.1, (λ i. (a.there.marks u m.0 i).fired) ∙ m.2)
+
+  pub fails_too : (f code : ℕ) → Fails h f code → Fails k f code
+  fails_too f code m = (
     a.there.alive f m.0,
     sym (at_alike h k alike is_merging f m.0) ∙ m.1,
     child f (Error code) m.0 (terminal_is h f (Error code) a.law m.0 (merges m.1) m.2 refl),
-  );
-  cuts = λ s t m. (a.there.alive s m.0, a.there.ended s t m.0 m.1);
-} where
-  child : (n : ℕ) (t : Terminal) → is_open h n ≡ true → child_terminal h n ≡ Some t → ChildEnded k n t
-  child n t o found = (child_terminal_some k n t ((λ i. (a.there.marks n o i).child_terminal) ∙ found)).0
+  )
+
+  pub cuts_too : (s : ℕ) (t : Terminal) → Cuts h s t → Cuts k s t
+  cuts_too s t m = (a.there.alive s m.0, a.there.ended s t m.0 m.1)
+
+  pub completes_too : ((f code : ℕ) → Fails k f code → Fails h f code) → (f : ℕ) → Completes b h f → Completes c k f
+  completes_too back f d = record {
+    alive = a.there.alive f d.alive;
+    merging = sym (at_alike h k alike is_merging f d.alive) ∙ d.merging;
+    fails_not = λ e fails. d.fails_not e (back f e fails);
+    source = (λ i. (a.there.marks f d.alive i).source_completed) ∙ d.source;
+    childless = childless_alike h k alike f d.childless;
+    paid = (λ i. (a.there.marks f d.alive i).owed) ∙ d.paid;
+  }
+
+  pub leaves_too : (n : ℕ) → Leaves h n → Leaves k n
+  leaves_too n d = record {
+    hub = d.hub;
+    alive = a.there.alive n d.alive;
+    connects = sym (alike.same_made n d.alive) ∙ d.connects;
+    auto = auto_alike h k alike d.hub d.auto;
+    unsubscribed = sym (subscribers_alike h k alike d.hub) ∙ d.unsubscribed;
+  }

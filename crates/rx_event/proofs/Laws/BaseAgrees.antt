@@ -10,7 +10,7 @@ use Rattle.std.proofs.lemmas.List.Sums.{sum_by-cons}
 use Rattle.rx_note.specs.declared.note.Terminal.{Terminal}
 use Rattle.rx_note.specs.declared.note.Terminal.TheVariants.{Completed, Error}
 use Rattle.rx_event.specs.declared.event.Place.{Place}
-use Rattle.rx_event.specs.declared.event.Kind.TheVariants.{Leaf, Pass, Flat, Switch, Until, Sub}
+use Rattle.rx_event.specs.declared.event.Kind.TheVariants.{Leaf, Sub}
 use Rattle.rx_event.specs.Allowed.{IsInOrderAt, IsInOrder}
 use Rattle.rx_event.proofs.Laws.SameForcedAndAllowed.{hub_is, in_order_too}
 use Rattle.rx_event.specs.declared.event.Place.TheVariants.{Root, Source, Inner, Notifier}
@@ -24,14 +24,15 @@ use Rattle.rx_event.specs.Resources.{is_owned, is_out, leases_of, is_held, is_ta
 use Rattle.rx_event.specs.Climb.{Stop}
 use Rattle.rx_event.specs.Moments.{Moment, moments, moments_after, is_projection_to, stops_of, projections, is_fired, projected_by, owed}
 use Rattle.rx_event.specs.Totals.{item_count, accepted_count, taken_count}
-use Rattle.rx_event.specs.Marks.{completes_source, source_completed}
-use Rattle.rx_event.specs.Forced.{IsConnected, mirrored, fired, failed, cut, connecting, due, IsSettled}
+use Rattle.rx_event.specs.Marks.{completes_source, source_completed, child_terminal, marks_of}
+use Rattle.rx_event.specs.Forced.{mirrored, fired, failed, completed, cut, left, connecting, due, IsConnected, IsDue, IsForced, IsSettled}
+use Rattle.rx_event.specs.Lawful.{IsLawful}
 use Rattle.rx_event.specs.declared.base.BaseResource.{BaseResource}
 use Rattle.rx_event.specs.declared.base.BaseLease.{BaseLease}
 use Rattle.rx_event.specs.declared.base.BaseState.TheVariants.{Owned, Leased, Waiting}
 use Rattle.rx_event.specs.Kept.{Kept, node_kept, hub_kept, resource_kept, lease_kept, node_shown, resource_shown, lease_shown, shown}
 use Rattle.rx_event.specs.Opened.{source_opened, notifier_opened}
-use Rattle.rx_event.specs.Bases.{keep_node, keep_hub, keep_resource, keep_lease, lease_resource, accept_node, accept_tag, is_untaken, base_of, Alike, Agree}
+use Rattle.rx_event.specs.Bases.{keep_node, keep_hub, keep_resource, keep_lease, lease_resource, accept_node, accept_tag, is_untaken, base_of, Agree}
 use Rattle.rx_event.proofs.Laws.SoundForm.{StandsWell, SubscribesWell, TwoOpenInners, Sound}
 use Rattle.rx_event.proofs.Laws.Searches.{list_any_found, list_any_holds}
 use Rattle.rx_event.proofs.Laws.Places.{at_within}
@@ -41,10 +42,16 @@ use Rattle.rx_event.proofs.Laws.Resources.{node_of, held_is, owned_held, is_held
 use Rattle.rx_event.proofs.Laws.Leases.{is_out_within, out_lease, leases_of_same}
 use Rattle.rx_event.proofs.Laws.Sums.{sum_by_no_rise, count_by-places}
 use Rattle.rx_event.proofs.Laws.MarksNew.{never}
-use Rattle.rx_event.proofs.Laws.SameTree.{at_hub_alike, at_alike, alike_back}
-use Rattle.rx_event.proofs.Laws.TreeRead.{named_parent}
+use Rattle.rx_event.proofs.Laws.SameTree.{Alike, at_hub_alike, at_alike, auto_alike, childless_alike, subscribers_alike, trees_alike, alike_back, read_alike}
+use Rattle.rx_event.proofs.Laws.TreeRead.{named_parent, children_by, trees_back}
+use Rattle.rx_event.proofs.Laws.Steps.{named_below}
+use Rattle.rx_event.proofs.Laws.MarksFound.{child_terminal_some}
+use Rattle.rx_event.proofs.Laws.MarksAfter.{same_marks}
+use Rattle.rx_event.proofs.Laws.SameMarks.{parent_sort}
+use Rattle.rx_event.proofs.Laws.ReadDue.{connect_due_by}
+use Rattle.rx_event.proofs.Laws.AgreeMarks.{fired_until, due_by_child}
 use Rattle.rx_event.proofs.Laws.Bases.{found, node_of_base, hub_of_base, shown_get, length_base, base_length, is_inert, KeptAt, kept_at, kept_open, base_alike}
-use Rattle.rx_event.proofs.Laws.Sound.{count_none}
+use Rattle.rx_event.proofs.Laws.Sound.{count_none, sound_of}
 use Rattle.rx_event.proofs.Laws.MakingRemovesNothing.{made_unremoved, made_unreturned, made_untaken, made_unfired}
 
 pub resource_of_base : (b : Kept) (h : List Event) (r : ℕ) → resource_kept (base_of b h) r ≡ cond (is_untaken h r) (Some (keep_resource b h r)) None
@@ -547,7 +554,7 @@ module _ (b : Kept) (h : List Event) where
         or_nothing true = refl
         or_nothing false = refl
 
-    s_debts : (n : ℕ) → is_open h n ≡ true → owed b h n ≡ owed (base_of b h) (shown (base_of b h)) n
+    pub s_debts : (n : ℕ) → is_open h n ≡ true → owed b h n ≡ owed (base_of b h) (shown (base_of b h)) n
     s_debts n o =
         let paid = count_by (pays n) (shown (base_of b h)) in
         let shows = projections (shown (base_of b h)) n in
@@ -670,8 +677,6 @@ module _ (b : Kept) (h : List Event) where
         accepted_there : (r : ℕ) → is_owned h r ≡ true → accepted_by (base_of b h) (shown (base_of b h)) r ≡ slice_get (shown (base_of b h)) r
         accepted_there r owned = sym (s_accepts r (λ i. owned_held h r owned i || is_waiting h r)) ∙ sound.accepted r owned ∙ sym (s_owned sound r owned)
 
-    -- and agrees ---------------------------------------------------------------------------------------
-
     s_accepted_less : count_by makes_resource (shown (base_of b h)) ≤ count_by makes_resource h
     s_accepted_less =
         let one = count_by-places makes_resource (shown (base_of b h)) in
@@ -692,37 +697,87 @@ module _ (b : Kept) (h : List Event) where
           by_test (inl untaken) = untaken_made n untaken
           by_test (inr none) = absurd (both_ways _ (s_no_resource n none) there)
 
-    settled_connected : IsSettled b h → IsConnected h
-    settled_connected settled g d = settled.none (Connect g) (connecting d)
+-- and agrees ---------------------------------------------------------------------------------------------
 
-    pub base_agrees : IsSettled b h → Agree b h (base_of b h) (shown (base_of b h))
-    base_agrees settled =
-        record {
-          alike = base_is_alike;
-          sources = s_sources;
-          notifiers = s_notifiers;
-          completions = s_completions;
-          debts = s_debts;
-          owned = s_is_owned;
-          held = s_is_held;
-          waiting = s_is_waiting;
-          accepts = s_accepts;
-          used = s_uses;
-          out = s_is_out;
-          leased = λ l out. sym (s_lease l out);
-          item_total = let none = s_items in let sum = base_items b h in omega arith;
-          accepted_total = let less = s_accepted_less in let sum = base_accepted b h in omega arith;
-          taken_total = let none = s_takes in let sum = base_taken b h in omega arith;
-          gives = record {
-            mirrors = λ p t m. absurd (settled.none (End p t) (due (settled_connected settled) (mirrored m.0 m.1 m.2)));
-            fires = λ u m. absurd (settled.none (End u Completed) (due (settled_connected settled) (fired m.0 m.1 m.2)));
-            fails = λ f c m. absurd (settled.none (End f (Error c)) (due (settled_connected settled) (failed m.0 m.1 m.2)));
-            cuts = λ s t m. absurd (settled.none (End s t) (due (settled_connected settled) (cut m.0 m.1)));
-          };
-          gives_back = record {
-            mirrors = λ p t m. absurd (s_no_end m.2.ended.place m.2.child t m.2.ended.found);
-            fires = λ u m. absurd (both_ways _ (s_fired u) m.2);
-            fails = λ f c m. absurd (s_no_end m.2.ended.place m.2.child (Error c) m.2.ended.found);
-            cuts = λ s t m. absurd (s_no_end m.1.place m.1.connection t m.1.ended);
-          };
-        }
+module _ (b : Kept) (h : List Event) (law : IsLawful b h) (settled : IsSettled b h) where
+  abbrev c : Kept
+  c = base_of b h
+
+  abbrev s : List Event
+  s = shown (base_of b h)
+
+  sound : Sound b h
+  sound = sound_of b h law
+
+  alike : Alike h s
+  alike = base_is_alike b h sound
+
+  whole : IsConnected h
+  whole g d = settled.none (Connect g) (connecting d)
+
+  -- nothing ended or fired below an open node
+  unended : (n : ℕ) → is_open h n ≡ true → child_terminal h n ≡ None
+  unended n o = by_terminal (child_terminal h n) refl where
+    by_terminal : (x : Option Terminal) → child_terminal h n ≡ x → child_terminal h n ≡ None
+    by_terminal None none = none
+    by_terminal (Some t) some = let w = child_terminal_some h n t some in
+        absurd (settled.none (End n t) (due whole (due_by_child {b = b} t o (parent_sort b h law w.0.child n w.0.below) w.0 w.1)))
+
+  s_unended : (n : ℕ) → child_terminal s n ≡ None
+  s_unended n = by_terminal (child_terminal s n) refl where
+    by_terminal : (x : Option Terminal) → child_terminal s n ≡ x → child_terminal s n ≡ None
+    by_terminal None none = none
+    by_terminal (Some t) some = let w = child_terminal_some s n t some in absurd (s_no_end b h w.0.ended.place w.0.child t w.0.ended.found)
+
+  unfired : (n : ℕ) → is_open h n ≡ true → is_fired h n ≡ false
+  unfired n o = never (is_fired h n) (λ is. settled.none (End n Completed) (due whole (fired o (fired_until b h law n is) is)))
+
+  marks_still : (n : ℕ) → is_open h n ≡ true → marks_of c s n ≡ marks_of b h n
+  marks_still n o =
+      same_marks b (sym (s_sources b h sound n o)) (sym (s_notifiers b h sound n o)) (s_fired b h n ∙ sym (unfired n o))
+      (sym (s_completions b h sound n o)) (s_unended n ∙ sym (unended n o)) (sym (s_debts b h sound n o))
+      (children_by (λ n. n) (λ n. n) h s (trees_alike h s alike (named_below b h law)) n o)
+
+  pub base_agrees : Agree b h c s
+  base_agrees =
+      record {
+        same_length = alike.same_length;
+        there = read_alike alike marks_still (λ n t o x. absurd (settled.none (End n t) (due whole (cut o x))));
+        back = read_alike (alike_back h s alike) (λ n o. sym (marks_still n (alike.same_open n ∙ o))) (λ n t o x.
+            absurd (s_no_end b h x.place x.connection t x.ended));
+        owned = s_is_owned b h sound;
+        held = s_is_held b h sound;
+        waiting = s_is_waiting b h sound;
+        accepts = s_accepts b h sound;
+        used = s_uses b h sound;
+        out = s_is_out b h;
+        leased = λ l out. sym (s_lease b h l out);
+        item_total = let none = s_items b h in let sum = base_items b h in omega arith;
+        accepted_total = let less = s_accepted_less b h sound in let sum = base_accepted b h in omega arith;
+        taken_total = let none = s_takes b h in let sum = base_taken b h in omega arith;
+      }
+
+  -- what is due in the base is due before it, so nothing is
+  due_before : {e : Event} → IsDue c s e → IsDue b h e
+  due_before (mirrored {t = t} o m child) = absurd (s_no_end b h child.ended.place child.child t child.ended.found)
+  due_before (fired {u = u} o m f) = absurd (both_ways _ (s_fired b h u) f)
+  due_before (failed {c = code} o m child) = absurd (s_no_end b h child.ended.place child.child (Error code) child.ended.found)
+  due_before (completed {f = f} o m none source childless paid) =
+      let was : is_open h f ≡ true = alike.same_open f ∙ o in
+      let merges : at is_merging h f ≡ true = at_alike h s alike is_merging f was ∙ m in
+      completed was merges (λ code child. settled.none (End f (Error code)) (due whole (failed was merges child))) (s_completions b h sound f was ∙ source)
+      (childless_alike s h (alike_back h s alike) f childless) (s_debts b h sound f was ∙ paid)
+  due_before (cut {t = t} o x) = absurd (s_no_end b h x.place x.connection t x.ended)
+  due_before (left {c = n} {g = g} o connects auto none) =
+      let was : is_open h n ≡ true = alike.same_open n ∙ o in
+      left was (alike.same_made n was ∙ connects) (auto_alike s h (alike_back h s alike) g auto) (subscribers_alike h s alike g ∙ none)
+
+  pub base_undue : (n : ℕ) (t : Terminal) → IsDue c s (End n t) → ⊥
+  base_undue n t d = settled.none (End n t) (due whole (due_before d))
+
+  pub shown_settled : IsSettled c s
+  shown_settled = record { none = λ e f. settled.none e (by_force f) } where
+    by_force : {e : Event} → IsForced c s e → IsForced b h e
+    by_force (due connected d) = due whole (due_before d)
+    by_force (connecting {g = g} d) = connecting (connect_due_by (λ n. n) (λ n. n) s h (trees_back (trees_alike h s alike (named_below b h law)))
+        (λ n t o x. absurd (settled.none (End n t) (due whole (cut o x)))) g d)

@@ -10,9 +10,9 @@ use Rattle.std.proofs.lemmas.Option.{slice_get_within, same_Some, none-some}
 use Rattle.rx_event.specs.declared.event.Place.{Place}
 use Rattle.rx_event.specs.declared.event.Place.TheVariants.{Root, Source, Inner, Notifier}
 use Rattle.rx_event.specs.declared.event.Kind.{Kind}
-use Rattle.rx_event.specs.declared.event.Kind.TheVariants.{Leaf, Pass, Flat, Switch, Until, Sub}
+use Rattle.rx_event.specs.declared.event.Kind.TheVariants.{Leaf, Sub}
 use Rattle.rx_event.specs.declared.event.Event.{Event}
-use Rattle.rx_event.specs.declared.event.Event.TheVariants.{Open, Hub, Connect, Accept, Lease, Decline}
+use Rattle.rx_event.specs.declared.event.Event.TheVariants.{Open, Connect, Accept, Lease, Decline}
 use Rattle.rx_event.specs.Kept.{Kept, node_kept, resource_kept, shown}
 use Rattle.rx_event.specs.Events.{makes_node, makes_hub, makes_resource, makes_lease, has_source, is_merging, is_until, is_use_of, is_source_of}
 use Rattle.rx_event.specs.Events.{is_making, parent_named, node_of_accept, pays}
@@ -22,7 +22,7 @@ use Rattle.rx_event.specs.Moments.{projected_by, owed}
 use Rattle.rx_event.specs.Forced.{IsSettled}
 use Rattle.rx_event.specs.Allowed.{IsHubbed, IsInOrderAt, IsInOrder}
 use Rattle.rx_event.specs.Lawful.{HasPlace, Started, IsLawful}
-use Rattle.rx_event.specs.Bases.{keep_node, keep_resource, is_untaken, base_of, Alike, Agree}
+use Rattle.rx_event.specs.Bases.{keep_node, keep_resource, is_untaken, base_of, Agree}
 use Rattle.rx_event.proofs.Laws.Places.{slice_get-append, at-take, at_within}
 use Rattle.rx_event.proofs.Laws.Parents.{ancestors-append}
 use Rattle.rx_event.proofs.Laws.Openness.{is_open_past, stays_closed_after, parent_open}
@@ -38,10 +38,10 @@ use Rattle.rx_event.proofs.Laws.Sound.{sound_of, count_none, hub_before, hubbed_
 use Rattle.rx_event.proofs.Laws.MarksNew.{never}
 use Rattle.rx_event.proofs.Laws.TreeRead.{named_parent}
 use Rattle.rx_event.proofs.Laws.Bases.{is_inert, KeptAt, kept_at, node_of_base, length_base}
-use Rattle.rx_event.proofs.Laws.SameForcedAndAllowed.{settled_too}
+use Rattle.rx_event.proofs.Laws.SameTree.{Alike}
 use Rattle.rx_event.proofs.Laws.BaseAgrees.{resource_of_base, s_making, s_unused, s_owned, s_unowned, s_no_resource, s_resource_at, s_lease, s_no_lease}
-use Rattle.rx_event.proofs.Laws.BaseAgrees.{base_is_alike, owned_node, s_one_inner, s_paid, base_sound, base_agrees}
-use Rattle.rx_event.proofs.Laws.ShownBase.{base_one_connection, base_undue, agree_accepted}
+use Rattle.rx_event.proofs.Laws.BaseAgrees.{base_is_alike, owned_node, s_one_inner, s_paid, base_sound, s_debts, base_agrees, base_undue, shown_settled}
+use Rattle.rx_event.proofs.Laws.ShownBase.{base_one_connection, agree_accepted}
 
 -- what an event names stands before it ----------------------------------------------------------------------
 
@@ -79,7 +79,7 @@ module _ (b : Kept) (h : List Event) (law : IsLawful b h) (settled : IsSettled b
   sound_s = base_sound b h sound
 
   agree : Agree b h (base_of b h) s
-  agree = base_agrees b h sound settled
+  agree = base_agrees b h law settled
 
   inert_names : (n : ℕ) (x : Event) → is_inert n x ≡ true → parent_named x ≡ None
   inert_names n (Open place kind) i = absurd (false≢true i)
@@ -232,7 +232,7 @@ module _ (b : Kept) (h : List Event) (law : IsLawful b h) (settled : IsSettled b
   plain : (f : ℕ) → is_open s f ≡ true → at is_merging s f ≡ false → owed (base_of b h) s f ≡ 0
   plain f o none =
       let was : is_open h f ≡ true = alike.same_open f ∙ o in
-      sym (agree.debts f was) ∙ owed_plain b h law f was (ap (λ x. option_map_or is_merging x false) (alike.same_made f was) ∙ none)
+      sym (s_debts b h sound f was) ∙ owed_plain b h law f was (ap (λ x. option_map_or is_merging x false) (alike.same_made f was) ∙ none)
 
   pub base_started : Started (base_of b h)
   base_started =
@@ -258,10 +258,10 @@ module _ (b : Kept) (h : List Event) (law : IsLawful b h) (settled : IsSettled b
         unkept = unkept;
         paid = paid;
         plain = plain;
-        settled = settled_too b h (base_of b h) s agree settled;
+        settled = shown_settled b h law settled;
         alive = alive;
         making = s_making b h;
         unnumbered = unnumbered;
         reads_owned = sound_s.accepted;
-        undue = base_undue b h sound settled;
+        undue = base_undue b h law settled;
       }

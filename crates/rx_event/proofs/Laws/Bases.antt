@@ -20,7 +20,8 @@ use Rattle.rx_event.specs.declared.base.BaseLease.{BaseLease}
 use Rattle.rx_event.specs.declared.base.BaseNode.{BaseNode}
 use Rattle.rx_event.specs.declared.base.BaseHub.{BaseHub}
 use Rattle.rx_event.specs.Kept.{Kept, find_by, node_kept, hub_kept, resource_kept, lease_kept, resource_shown, lease_shown, shown_at, shown}
-use Rattle.rx_event.specs.Bases.{event_or, keep_node, keep_hub, mode_of, base_of, Alike}
+use Rattle.rx_event.specs.Bases.{event_or, keep_node, keep_hub, mode_of, base_of}
+use Rattle.rx_event.proofs.Laws.SameTree.{Alike}
 use Rattle.rx_event.proofs.Laws.Places.{at_within}
 use Rattle.rx_event.proofs.Laws.Parents.{parent-lt}
 use Rattle.rx_event.proofs.Laws.Openness.{is_open_step, is_open_within, parent_open}

@@ -10,18 +10,16 @@ use Rattle.rx_event.specs.Lawful.{IsLawful}
 use Rattle.rx_event.specs.Bases.{base_of}
 use Rattle.rx_event.proofs.Laws.MakingRemovesNothing.{made_untold}
 use Rattle.rx_event.proofs.Laws.BaseStarted.{base_started}
-use Rattle.rx_event.proofs.Laws.SameForcedAndAllowed.{settled_too}
-use Rattle.rx_event.proofs.Laws.AgreeMarks.{reads_of}
-use Rattle.rx_event.proofs.Laws.Checkpoints.{base_lawful, kept_agrees}
+use Rattle.rx_event.proofs.Laws.Checkpoints.{kept_agrees}
 
 -- of a history and its base ----------------------------------------------------------------------------
 
 module _ (b : Kept) (h : List Event) (law : IsLawful b h) (settled : IsSettled b h) where
   pub base_settled : IsSettled (base_of b h) (shown (base_of b h))
-  base_settled = settled_too b h (base_of b h) (shown (base_of b h)) (kept_agrees b h law settled) settled
+  base_settled = (base_started b h law settled).settled
 
   pub base_marks : (n : ℕ) → is_open h n ≡ true → marks_of b h n ≡ marks_of (base_of b h) (shown (base_of b h)) n
-  base_marks n o = sym ((reads_of (kept_agrees b h law settled) law (base_lawful b h law settled)).there.marks n o)
+  base_marks n o = sym ((kept_agrees b h law settled).there.marks n o)
 
   -- a base tells nothing
   pub base_untold : notes (shown (base_of b h)) ≡ []

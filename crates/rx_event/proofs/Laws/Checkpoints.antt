@@ -21,37 +21,16 @@ use Rattle.rx_event.specs.Totals.{debt_of, debt}
 use Rattle.rx_event.specs.Claims.Checkpoints.{EachRule, AgreeingGoOn, CheckpointsAgree}
 use Rattle.rx_event.proofs.Laws.Lawful.{IsLawful-push, IsLawful_empty, may_end}
 use Rattle.rx_event.proofs.Laws.Sums.{sum_by-same}
-use Rattle.rx_event.proofs.Laws.SameTree.{at_alike, open_nodes_alike, stops_of_alike}
-use Rattle.rx_event.proofs.Laws.Sound.{sound_of}
-use Rattle.rx_event.proofs.Laws.SameForcedAndAllowed.{agree_back, completes_too, leaves_too, connects_too, forced_too}
-use Rattle.rx_event.proofs.Laws.SameForcedAndAllowed.{allowed_too, follows_too, hubs_alike, hub_is}
+use Rattle.rx_event.specs.Renumbered.{AreRead}
+use Rattle.rx_event.proofs.Laws.SameTree.{Alike, alike_of, alike_back, at_alike, open_nodes_alike, stops_of_alike}
+use Rattle.rx_event.proofs.Laws.ReadDue.{read_back, connect_due_read}
+use Rattle.rx_event.proofs.Laws.SameForcedAndAllowed.{agree_back, reads_of, forced_too, allowed_too, follows_too, hubs_alike, hub_is}
+use Rattle.rx_event.proofs.Laws.AgreeMarks.{mirrors_too, fires_too, fails_too, completes_too, cuts_too, leaves_too}
 use Rattle.rx_event.proofs.Laws.AgreeAfterEvent.{emits, agree-push}
 use Rattle.rx_event.proofs.Laws.BaseAgrees.{base_agrees}
 use Rattle.rx_event.proofs.Laws.BaseStarted.{base_started}
 use Rattle.rx_event.proofs.Laws.Begin.{empty_base}
 use Rattle.std.proofs.Math.Seq.{drop-append_seam}
-
-agree_self : (b : Kept) (h : List Event) → Agree b h b h
-agree_self b h =
-    record {
-      alike = Rattle.rx_event.proofs.Laws.SameTree.alike_self h;
-      sources = λ n o. refl;
-      notifiers = λ n o. refl;
-      completions = λ n o. refl;
-      debts = λ n o. refl;
-      owned = λ r. refl;
-      held = λ r. refl;
-      waiting = λ r. refl;
-      accepts = λ r i. refl;
-      used = λ r i. refl;
-      out = λ l. refl;
-      leased = λ l o. refl;
-      item_total = refl;
-      accepted_total = refl;
-      taken_total = refl;
-      gives = record { mirrors = λ p t g. g; fires = λ u g. g; fails = λ f c g. g; cuts = λ s t g. g };
-      gives_back = record { mirrors = λ p t g. g; fires = λ u g. g; fails = λ f c g. g; cuts = λ s t g. g };
-    }
 
 -- these events may follow one after the other
 abbrev Continues : Kept → List Event → List Event → Type 0
@@ -74,20 +53,20 @@ goes_on {b} h c k (e ∷ es) law law_k a each =
 
 mail_alike : (b : Kept) (h : List Event) (c : Kept) (k : List Event) → Agree b h c k → IsLawful b h → (e : Event) → MayFollow b h e → mail_of h e ≡ mail_of k e
 mail_alike b h c k a law (Item l v) f =
-    (λ i. filter_map (told (a.alike.same_length i) v) (stops_of_alike b h k (Item l v) law (emits b h (Item l v) f) a.alike i))
+    (λ i. filter_map (told (a.same_length i) v) (stops_of_alike b h k (Item l v) law (emits b h (Item l v) f) (alike_of a) i))
 mail_alike b h c k a law (End n t) f =
-    (λ i. cond (at_alike h k a.alike is_root n (may_end b f) i)
-    ((record { place = a.alike.same_length i; to = n; note = Rattle.rx_note.specs.declared.note.Note.TheVariants.End t }) ∷ []) [])
+    (λ i. cond (at_alike h k (alike_of a) is_root n (may_end b f) i)
+    ((record { place = a.same_length i; to = n; note = Rattle.rx_note.specs.declared.note.Note.TheVariants.End t }) ∷ []) [])
 mail_alike b h c k a law (Open place kind) f = refl
 mail_alike b h c k a law _ f = refl
 
 agreeing : (b : Kept) (h : List Event) (c : Kept) (k : List Event) → IsLawful b h → IsLawful c k → Agree b h c k → (e : Event) → AgreeingGoOn b h c k e
 agreeing b h c k law law_c a e =
     record {
-      forced = (forced_too b h c k a, forced_too c k b h back);
+      forced = (forced_too b h c k a law law_c, forced_too c k b h back law_c law);
       allowed = (allowed_too b h c k a law law_c, allowed_too c k b h back law_c law);
       follows = (follows_too b h c k a law law_c, follows_too c k b h back law_c law);
-      stops = λ next. stops_of_alike b h k e law (emits b h e next) a.alike;
+      stops = λ next. stops_of_alike b h k e law (emits b h e next) (alike_of a);
       notes = λ next. mail_alike b h c k a law e next;
       agree = λ next. agree-push b h c k e law law_c next (follows_too b h c k a law law_c next) a;
     }
@@ -106,27 +85,30 @@ map_filter_same {X = X} f g p same (n ∷ ns) = by_test (p n) refl (map_filter_s
   by_test false fails rest = rest
 
 module _ (b : Kept) (h : List Event) (c : Kept) (k : List Event) (a : Agree b h c k) where
+  alike : Alike h k
+  alike = alike_of a
+
   same_nodes : map (keep_node b h) (open_nodes h) ≡ map (keep_node c k) (open_nodes k)
-  same_nodes = map_filter_same (keep_node b h) (keep_node c k) (is_open h) same (places h) ∙ ap (map (keep_node c k)) (open_nodes_alike h k a.alike) where
+  same_nodes = map_filter_same (keep_node b h) (keep_node c k) (is_open h) same (places h) ∙ ap (map (keep_node c k)) (open_nodes_alike h k alike) where
     same : (n : ℕ) → is_open h n ≡ true → keep_node b h n ≡ keep_node c k n
     same n o =
         (λ i. record {
           number = n;
-          made = option_map_or (λ e. e) (a.alike.same_made n o i) (Close n);
-          source_opened = a.sources n o i;
-          notifier_opened = a.notifiers n o i;
-          source_completed = a.completions n o i;
-          owed = a.debts n o i;
+          made = option_map_or (λ e. e) (alike.same_made n o i) (Close n);
+          source_opened = (sym (a.there.marks n o) i).source_opened;
+          notifier_opened = (sym (a.there.marks n o) i).notifier_opened;
+          source_completed = (sym (a.there.marks n o) i).source_completed;
+          owed = (sym (a.there.marks n o) i).owed;
         })
 
   same_hubs : map (keep_hub h) (hubs h) ≡ map (keep_hub k) (hubs k)
-  same_hubs = map_filter_same (keep_hub h) (keep_hub k) (at makes_hub h) same (places h) ∙ ap (map (keep_hub k)) (hubs_alike h k a.alike) where
+  same_hubs = map_filter_same (keep_hub h) (keep_hub k) (at makes_hub h) same (places h) ∙ ap (map (keep_hub k)) (hubs_alike h k alike) where
     by_event : (n : ℕ) (o : Option Event) → slice_get h n ≡ o → option_map_or makes_hub o false ≡ true → slice_get h n ≡ slice_get k n
     by_event n None at_n fails = absurd (false≢true fails)
     by_event n (Some e) at_n passes =
         let hub = hub_is e passes in
         let here : slice_get h n ≡ Some (Hub hub.0) = at_n ∙ ap Some hub.1 in
-        here ∙ sym (a.alike.same_hub n hub.0 here)
+        here ∙ sym (alike.same_hub n hub.0 here)
 
     same : (n : ℕ) → at makes_hub h n ≡ true → keep_hub h n ≡ keep_hub k n
     same n makes = ap (λ o. record { number = n; mode = mode_of (option_map_or (λ e. e) o (Close n)) }) (by_event n (slice_get h n) refl makes)
@@ -134,7 +116,7 @@ module _ (b : Kept) (h : List Event) (c : Kept) (k : List Event) (a : Agree b h 
   same_resources : map (keep_resource b h) (filter (is_untaken h) (places h)) ≡ map (keep_resource c k) (filter (is_untaken k) (places k))
   same_resources =
       map_filter_same (keep_resource b h) (keep_resource c k) (is_untaken h) same (places h) ∙
-      (λ i. map (keep_resource c k) (filter (λ r. a.held r i || a.waiting r i) (range_with_len 0 (a.alike.same_length i))))
+      (λ i. map (keep_resource c k) (filter (λ r. a.held r i || a.waiting r i) (range_with_len 0 (a.same_length i))))
     where
       same : (r : ℕ) → is_untaken h r ≡ true → keep_resource b h r ≡ keep_resource c k r
       same r u = (λ i. record {
@@ -153,13 +135,13 @@ module _ (b : Kept) (h : List Event) (c : Kept) (k : List Event) (a : Agree b h 
         resource = lease_resource
             (option_map_or (λ e. e) o (Close l));
       }) (a.leased l out)) (places h) ∙
-      (λ i. map (keep_lease k) (filter (λ l. a.out l i) (range_with_len 0 (a.alike.same_length i))))
+      (λ i. map (keep_lease k) (filter (λ l. a.out l i) (range_with_len 0 (a.same_length i))))
 
   -- are the same
   pub same_base : base_of b h ≡ base_of c k
   unfolding base_of
   same_base = (λ i. record {
-    at_length = a.alike.same_length i;
+    at_length = a.same_length i;
     items = a.item_total i;
     accepted = a.accepted_total i;
     taken = a.taken_total i;
@@ -174,14 +156,17 @@ pub same_debt : (b : Kept) (h : List Event) (c : Kept) (k : List Event) → Agre
 unfolding debt
 same_debt b h c k a =
     sum_by-same (debt_of c k) (debt_of b h) (length h) (λ n l. each n (is_open h n) refl) ∙
-    ap (λ m. sum_by (debt_of c k) (range_with_len 0 m)) a.alike.same_length
+    ap (λ m. sum_by (debt_of c k) (range_with_len 0 m)) a.same_length
   where
+    alike : Alike h k
+    alike = alike_of a
+
     each : (n : ℕ) (o : Bool) → is_open h n ≡ o → debt_of b h n ≡ debt_of c k n
     each n true o =
-        (λ i. cond (a.alike.same_open n i) 1 0 + cond (a.owned n i) 2 (cond (a.held n i) 1 (cond (a.waiting n i) 1 0)) + cond (a.out n i) 1 0 +
-        cond (a.alike.same_open n i && at_alike h k a.alike is_merging n o i) (a.debts n o i) 0)
+        (λ i. cond (alike.same_open n i) 1 0 + cond (a.owned n i) 2 (cond (a.held n i) 1 (cond (a.waiting n i) 1 0)) + cond (a.out n i) 1 0 +
+        cond (alike.same_open n i && at_alike h k alike is_merging n o i) ((sym (a.there.marks n o) i).owed) 0)
     each n false o =
-        let closed : is_open k n ≡ false = sym (a.alike.same_open n) ∙ o in
+        let closed : is_open k n ≡ false = sym (alike.same_open n) ∙ o in
         (λ i. cond (o i) 1 0 + cond (a.owned n i) 2 (cond (a.held n i) 1 (cond (a.waiting n i) 1 0)) + cond (a.out n i) 1 0 + cond
         (o i && at is_merging h n) (owed b h n) 0) ∙
         sym (λ i. cond (closed i) 1 0 + cond (is_owned k n) 2 (cond (is_held k n) 1 (cond (is_waiting k n) 1 0)) + cond (is_out k n) 1 0 + cond
@@ -205,7 +190,7 @@ list_continues b h es law longer =
     subst (λ k. Continues b k es) (sym law.reads) (continues_list b (shown b) law.since es (subst (λ k. Continues b (shown b) k) since longer.each))
 
 pub kept_agrees : (b : Kept) (h : List Event) → IsLawful b h → IsSettled b h → Agree b h (base_of b h) (shown (base_of b h))
-kept_agrees b h law settled = base_agrees b h (sound_of b h law) settled
+kept_agrees b h law settled = base_agrees b h law settled
 
 pub base_lawful : (b : Kept) (h : List Event) → IsLawful b h → IsSettled b h → IsLawful (base_of b h) (shown (base_of b h))
 base_lawful b h law settled = IsLawful_empty (base_of b h) (base_started b h law settled)
@@ -221,18 +206,29 @@ before_base b h es law settled longer =
     let from_base = list_continues (base_of b h) (shown (base_of b h)) es based longer in
     lawful_on b h es law (goes_on (shown (base_of b h)) b h es based law agree from_base).continues
 
-each_rule : (b : Kept) (h : List Event) (c : Kept) (k : List Event) → Agree b h c k → EachRule b h c k
-each_rule b h c k a =
-    let back : Agree c k b h = agree_back b h c k a in
+each_rule : (b : Kept) (h : List Event) (c : Kept) (k : List Event) → IsLawful b h → IsLawful c k → Agree b h c k → EachRule b h c k
+each_rule b h c k law law_k a =
     record {
-      mirrors = λ p t. (a.gives.mirrors p t, a.gives_back.mirrors p t);
-      fires = λ u. (a.gives.fires u, a.gives_back.fires u);
-      fails = λ f code. (a.gives.fails f code, a.gives_back.fails f code);
-      completes = λ f. (completes_too b h c k a f, completes_too c k b h back f);
-      cuts = λ s t. (a.gives.cuts s t, a.gives_back.cuts s t);
-      leaves = λ n. (leaves_too b h c k a n, leaves_too c k b h back n);
-      connects = λ g. (connects_too h k a.alike a.gives_back g, connects_too k h back.alike a.gives g);
+      mirrors = λ p t. (mirrors_too b c h k alike there p t, mirrors_too c b k h other back p t);
+      fires = λ u. (fires_too b c h k alike there u, fires_too c b k h other back u);
+      fails = λ f code. (fails_too b c h k alike there f code, fails_too c b k h other back f code);
+      completes = λ f. (completes_too b c h k alike there (fails_too c b k h other back) f, completes_too c b k h other back (fails_too b c h k alike there) f);
+      cuts = λ s t. (cuts_too b c h k alike there s t, cuts_too c b k h other back s t);
+      leaves = λ n. (leaves_too b c h k alike there n, leaves_too c b k h other back n);
+      connects = λ g. (connect_due_read there g, connect_due_read back g);
     }
+  where
+    alike : Alike h k
+    alike = alike_of a
+
+    other : Alike k h
+    other = alike_back h k alike
+
+    there : AreRead b c (λ n. n) (λ n. n) h k
+    there = reads_of a law law_k
+
+    back : AreRead c b (λ n. n) (λ n. n) k h
+    back = read_back there
 
 pub checkpoints_agree : CheckpointsAgree
 checkpoints_agree =

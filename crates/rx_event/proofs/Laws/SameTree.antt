@@ -5,16 +5,20 @@ use Rattle.std.proofs.Math.Bool.{◌&&◌}
 use Rattle.std.specs.List.{list_any, range_with_len}
 use Rattle.std.specs.Option.{option_and_then, option_map_or}
 use Rattle.std.specs.Cmp.{both_ways as same_test}
-use Rattle.std.proofs.lemmas.Bool.{false≢true}
+use Rattle.std.proofs.lemmas.Bool.{false≢true, both_ways, false_from_ne_true}
+use Rattle.rx_note.specs.declared.note.Terminal.{Terminal}
 use Rattle.rx_event.specs.declared.event.Mode.{Mode}
 use Rattle.rx_event.specs.declared.event.Event.{Event}
-use Rattle.rx_event.specs.declared.event.Event.TheVariants.{Open, Hub, Item}
+use Rattle.rx_event.specs.declared.event.Event.TheVariants.{Hub, Item}
 use Rattle.rx_event.specs.Kept.{Kept}
-use Rattle.rx_event.specs.Events.{parent_named, is_subscriber_of, is_connect_of}
+use Rattle.rx_event.specs.Events.{parent_named, is_auto_hub, is_subscriber_of, is_connect_of}
 use Rattle.rx_event.specs.Tree.{at, places, parent, if_less, ancestors, is_open, is_within, open_nodes, open_subscribers, open_connections}
 use Rattle.rx_event.specs.Climb.{Stop, Delivery, Projection, Firing, stops, visits}
 use Rattle.rx_event.specs.Moments.{stops_of}
-use Rattle.rx_event.specs.Bases.{Alike}
+use Rattle.rx_event.specs.Bases.{Agree}
+use Rattle.rx_event.specs.Forced.{SourceEnded}
+use Rattle.rx_event.specs.Marks.{marks_of}
+use Rattle.rx_event.specs.Renumbered.{IsRead}
 use Rattle.rx_event.specs.Lawful.{IsLawful}
 use Rattle.rx_event.proofs.Laws.Parents.{parent-lt, ancestors_step}
 use Rattle.rx_event.proofs.Laws.Openness.{is_open_within, parent_open}
@@ -22,8 +26,13 @@ use Rattle.rx_event.proofs.Laws.Stands.{event_at}
 use Rattle.rx_event.proofs.Laws.Steps.{named_below}
 use Rattle.rx_event.proofs.Laws.TreeRead.{IsTreeRead, AreTreesRead, event_by_itself, stop_by, stops_by, visits_by}
 
-pub alike_self : (p : List Event) → Alike p p
-alike_self p = record { same_length = refl; same_open = λ n. refl; same_made = λ n o. refl; same_hub = λ n m a. a; same_hub_back = λ n m a. a }
+-- two lists of events have the same length, hubs and open nodes, each made by the same event
+pub record Alike (p q : List Event) : Type 0 where
+  pub same_length : length p ≡ length q
+  pub same_open : (n : ℕ) → is_open p n ≡ is_open q n
+  pub same_made : (n : ℕ) → is_open p n ≡ true → slice_get p n ≡ slice_get q n
+  pub same_hub : (n : ℕ) (mode : Mode) → slice_get p n ≡ Some (Hub mode) → slice_get q n ≡ Some (Hub mode)
+  pub same_hub_back : (n : ℕ) (mode : Mode) → slice_get q n ≡ Some (Hub mode) → slice_get p n ≡ Some (Hub mode)
 
 pub alike_back : (p q : List Event) → Alike p q → Alike q p
 alike_back p q a =
@@ -102,6 +111,19 @@ subscribers_alike p q a g = filter_alike p q a _ _ (at_open_alike p q a (is_subs
 pub connections_alike : (p q : List Event) → Alike p q → (g : ℕ) → open_connections p g ≡ open_connections q g
 connections_alike p q a g = filter_alike p q a _ _ (at_open_alike p q a (is_connect_of g))
 
+-- a RefCount hub
+pub auto_alike : (p q : List Event) → Alike p q → (g : ℕ) → at is_auto_hub p g ≡ true → at is_auto_hub q g ≡ true
+auto_alike p q a = at_hub_alike p q a is_auto_hub hub_is where
+  hub_is : (e : Event) → is_auto_hub e ≡ true → (mode : Mode) × (e ≡ Hub mode)
+  hub_is (Hub mode) auto = (mode, refl)
+  hub_is _ auto = absurd (false≢true auto)
+
+-- a node without open children
+pub childless_alike : (p q : List Event) → Alike p q → (f : ℕ) → ((c : ℕ) → parent p c ≡ Some f → is_open p c ≡ false) → (c : ℕ) → parent q c ≡ Some f →
+    is_open q c ≡ false
+childless_alike p q a f none c below = false_from_ne_true (is_open q c) (λ o.
+    let was : is_open p c ≡ true = a.same_open c ∙ o in both_ways _ (none c (parent_alike p q a c was ∙ below)) was)
+
 -- as trees with the same numbers ---------------------------------------------------------------------
 
 -- events name parents before them
@@ -122,15 +144,32 @@ pub trees_alike : (p q : List Event) → Alike p q → NamesBelow p → AreTrees
 trees_alike p q a below =
     record { there = tree_alike p q a; back = tree_alike q p (alike_back p q a); below = λ n m e o at_n named. below n m e at_n named }
 
-pub alike_trees : (p q : List Event) → AreTreesRead (λ n. n) (λ n. n) p q → length p ≡ length q → Alike p q
-alike_trees p q a long = record {
-  same_length = long;
-  same_open = λ n. same_test (is_open p n) (is_open q n) (a.there.alive n) (a.back.alive n);
-  same_made = λ n o. let made = event_at p n (is_open_within p n o) in
-      made.1 ∙ sym (a.there.made n made.0 o made.1 ∙ ap (λ (x : Event). Some x) (event_by_itself made.0));
-  same_hub = a.there.hub;
-  same_hub_back = a.back.hub;
+-- as histories with the same numbers
+pub read_alike : {b c : Kept} {h k : List Event} → Alike h k → ((n : ℕ) → is_open h n ≡ true → marks_of c k n ≡ marks_of b h n) →
+    ((n : ℕ) (t : Terminal) → is_open h n ≡ true → SourceEnded h n t → SourceEnded k n t) → IsRead b c (λ n. n) (λ n. n) h k
+read_alike {h = h} {k = k} a marks ended = let tree = tree_alike h k a in record {
+  alive = tree.alive;
+  undone = tree.undone;
+  order = tree.order;
+  made = tree.made;
+  marks = marks;
+  hub = tree.hub;
+  hub_undone = tree.hub_undone;
+  ended = ended;
 }
+
+pub alike_read : {b c : Kept} {h k : List Event} → length h ≡ length k → IsRead b c (λ n. n) (λ n. n) h k → IsRead c b (λ n. n) (λ n. n) k h → Alike h k
+alike_read {h = h} {k = k} long there back = record {
+  same_length = long;
+  same_open = λ n. same_test (is_open h n) (is_open k n) (there.alive n) (back.alive n);
+  same_made = λ n o. let made = event_at h n (is_open_within h n o) in
+      made.1 ∙ sym (there.made n made.0 o made.1 ∙ ap (λ (x : Event). Some x) (event_by_itself made.0));
+  same_hub = there.hub;
+  same_hub_back = back.hub;
+}
+
+pub alike_of : {b c : Kept} {h k : List Event} → Agree b h c k → Alike h k
+alike_of a = alike_read a.same_length a.there a.back
 
 stops_themselves : (ss : List Stop) → map (stop_by (λ n. n)) ss ≡ ss
 stops_themselves [] = refl

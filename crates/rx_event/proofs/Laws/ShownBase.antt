@@ -1,21 +1,16 @@
 -- What holds of a list holds of what its base shows: where inductions over the events since a base begin.
 use Rattle.std.proofs.Common.{◌≡◌, ℕ, ◌+◌, true, List, sym, ◌∙◌, count_by}
 use Rattle.std.specs.List.{range_with_len}
-use Rattle.rx_note.specs.declared.note.Terminal.{Terminal}
 use Rattle.rx_event.specs.declared.event.Event.{Event}
-use Rattle.rx_event.specs.declared.event.Event.TheVariants.{Connect, End}
 use Rattle.rx_event.specs.Events.{is_connect_of}
 use Rattle.rx_event.specs.Tree.{is_open}
 use Rattle.rx_event.specs.Totals.{held_count, waiting_count, taken_count, accepted_count}
 use Rattle.rx_event.specs.Kept.{Kept, shown}
 use Rattle.rx_event.specs.Bases.{base_of, Agree}
-use Rattle.rx_event.specs.Forced.{connecting, due, IsDue, IsSettled}
 use Rattle.rx_event.proofs.Laws.SoundForm.{Sound}
 use Rattle.rx_event.proofs.Laws.SameTree.{at_alike}
 use Rattle.rx_event.proofs.Laws.Bases.{base_alike}
 use Rattle.rx_event.proofs.Laws.Hubs.{TwoConnections}
-use Rattle.rx_event.proofs.Laws.SameForcedAndAllowed.{agree_back, due_too}
-use Rattle.rx_event.proofs.Laws.BaseAgrees.{base_agrees}
 
 -- it has one open connection of a hub -----------------------------------------------------------------
 
@@ -32,20 +27,12 @@ base_one_connection b h sound one g x y two =
       other_open = y_open;
     })
 
--- nothing is due in it --------------------------------------------------------------------------------
-
-pub base_undue : (b : Kept) (h : List Event) → Sound b h → IsSettled b h → (n : ℕ) (t : Terminal) → IsDue (base_of b h) (shown (base_of b h)) (End n t) → ⊥
-base_undue b h sound settled n t d =
-    let a : Agree b h (base_of b h) (shown (base_of b h)) = base_agrees b h sound settled in
-    settled.none (End n t) (due (λ g waits. settled.none (Connect g) (connecting waits))
-    (due_too (base_of b h) (shown (base_of b h)) b h (agree_back b h (base_of b h) (shown (base_of b h)) a) d))
-
 -- and what was accepted is held, waits or was taken -----------------------------------------------------
 
 pub agree_accepted : (b : Kept) (h : List Event) (c : Kept) (k : List Event) → Agree b h c k →
     accepted_count b h ≡ held_count h + waiting_count h + taken_count b h →
     accepted_count c k ≡ held_count k + waiting_count k + taken_count c k
 agree_accepted b h c k a parts =
-    let held : held_count h ≡ held_count k = (λ i. count_by (λ r. a.held r i) (range_with_len 0 (a.alike.same_length i))) in
-    let waiting : waiting_count h ≡ waiting_count k = (λ i. count_by (λ r. a.waiting r i) (range_with_len 0 (a.alike.same_length i))) in
+    let held : held_count h ≡ held_count k = (λ i. count_by (λ r. a.held r i) (range_with_len 0 (a.same_length i))) in
+    let waiting : waiting_count h ≡ waiting_count k = (λ i. count_by (λ r. a.waiting r i) (range_with_len 0 (a.same_length i))) in
     sym a.accepted_total ∙ parts ∙ (λ i. held i + waiting i + a.taken_total i)

@@ -51,7 +51,7 @@ pub record EmptyBase : Type 0 where
   pub lawful : (h : List Event) → IsLawful nothing_kept h ↔ AllByRecursion (λ m. MayFollow nothing_kept m.before m.event) (moments h)
 
 pub record CheckpointsAgree : Type 0 where
-  pub rules : (b : Kept) (h : List Event) (c : Kept) (k : List Event) → Agree b h c k → EachRule b h c k
+  pub rules : (b : Kept) (h : List Event) (c : Kept) (k : List Event) → IsLawful b h → IsLawful c k → Agree b h c k → EachRule b h c k
   -- histories that agree owe the same to their closing
   pub debts : (b : Kept) (h : List Event) (c : Kept) (k : List Event) → Agree b h c k → debt b h ≡ debt c k
   -- and have one base

@@ -8,8 +8,7 @@ use Rattle.rx_event.specs.declared.event.Event.{Event}
 use Rattle.rx_event.specs.declared.event.Event.TheVariants.{Open, End}
 use Rattle.rx_event.specs.Events.{makes_node, makes_hub, is_subscriber_of}
 use Rattle.rx_event.specs.Tree.{at, is_open}
-use Rattle.rx_event.specs.Bases.{Alike}
-use Rattle.rx_event.proofs.Laws.SameTree.{alike_back, at_alike, at_hub_alike, subscribers_alike, connections_alike}
+use Rattle.rx_event.proofs.Laws.SameTree.{Alike, alike_back, at_alike, at_hub_alike, subscribers_alike, connections_alike}
 use Rattle.rx_event.proofs.Laws.SameForcedAndAllowed.{hub_is}
 use Rattle.rx_hub.specs.Hubs.{Hub, without_end}
 use Rattle.rx_hub.specs.Records.{IsHubOf, HasHub, AreHubsOf}
