@@ -18,49 +18,16 @@ list_any-same p q same [] = refl
 list_any-same p q same (x ∷ xs) = rw (same x, list_any-same p q same xs) refl
 
 removed_key : (r : ℕ) (e : Event) → is_key (removed_of e) r ≡ is_remove_of r e
-removed_key r (Remove q) = refl
 removed_key r (Open place kind) = refl
-removed_key r (Hub mode) = refl
-removed_key r (Connect g) = refl
-removed_key r (Accept m tag) = refl
-removed_key r (Use q) = refl
-removed_key r (Lease q) = refl
-removed_key r (Return q) = refl
-removed_key r (Item m v) = refl
-removed_key r (Decline f) = refl
-removed_key r (End m t) = refl
-removed_key r (Close m) = refl
-removed_key r (Take q) = refl
+removed_key r _ = refl
 
 returned_key : (l : ℕ) (e : Event) → is_key (returned_of e) l ≡ is_return_of l e
-returned_key l (Return q) = refl
-returned_key l (Remove q) = refl
-returned_key l (Lease q) = refl
 returned_key l (Open place kind) = refl
-returned_key l (Hub mode) = refl
-returned_key l (Connect g) = refl
-returned_key l (Accept m tag) = refl
-returned_key l (Use q) = refl
-returned_key l (Item m v) = refl
-returned_key l (Decline f) = refl
-returned_key l (End m t) = refl
-returned_key l (Close m) = refl
-returned_key l (Take q) = refl
+returned_key l _ = refl
 
 taken_key : (r : ℕ) (e : Event) → is_key (taken_of e) r ≡ is_take_of r e
-taken_key r (Take q) = refl
-taken_key r (Remove q) = refl
-taken_key r (Lease q) = refl
-taken_key r (Return q) = refl
 taken_key r (Open place kind) = refl
-taken_key r (Hub mode) = refl
-taken_key r (Connect g) = refl
-taken_key r (Accept m tag) = refl
-taken_key r (Use q) = refl
-taken_key r (Item m v) = refl
-taken_key r (Decline f) = refl
-taken_key r (End m t) = refl
-taken_key r (Close m) = refl
+taken_key r _ = refl
 
 -- resources --------------------------------------------------------------------------------------------
 

@@ -1,15 +1,12 @@
 -- A pass that closes what stands below closed nodes.
-use Rattle.std.proofs.Common.{◌≡◌, ℕ, zero, suc, ◌+◌, ◌-◌, ◌<◌, ◌≤◌, Bool, true, false, List, [], ◌∷◌}
-use Rattle.std.proofs.Common.{◌++◌, length, Option, Some, None, refl, sym, ap, ◌∙◌, arith, cond, inl, inr, ◌⊎◌}
-use Rattle.std.proofs.Common.{get_or, set, get_or-set_other, get_or-set_same, ◌≢◌, length-append}
+use Rattle.std.proofs.Common.{◌≡◌, ℕ, zero, suc, ◌+◌, ◌-◌, ◌<◌, ◌≤◌, Bool, true, false, List, [], ◌∷◌, ◌++◌, length, Option, Some, None, refl, sym, ap, ◌∙◌}
+use Rattle.std.proofs.Common.{arith, cond, inl, inr, ◌⊎◌, get_or, set, get_or-set_other, get_or-set_same, ◌≢◌, length-append, drop, slice_get, ◌==◌, nat_lt}
 use Rattle.std.proofs.Math.ListN.{length-set, get_or-append}
 use Rattle.std.proofs.lemmas.List.{get_or_push}
 use Rattle.std.proofs.lemmas.List.Sums.{sum_by-set}
-use Rattle.std.proofs.lemmas.Bool.{cases_Bool, cases_order, both_ways, false≢true}
+use Rattle.std.proofs.lemmas.Bool.{cases_Bool, cases_order, both_ways, false≢true, and_parts, and_from, eq-eqb, eqb-true, ltb-true, lt-ltb}
 use Rattle.rx_event.specs.declared.event.Event.{Event}
-use Rattle.std.proofs.Common.{drop, slice_get, ◌==◌, nat_lt}
 use Rattle.std.proofs.Math.Bool.{◌&&◌, ◌||◌}
-use Rattle.std.proofs.lemmas.Bool.{and_parts, and_from, eq-eqb, eqb-true, ltb-true, lt-ltb}
 use Rattle.std.proofs.lemmas.Option.{none-some, same_Some}
 use Rattle.std.specs.List.{list_any}
 use Rattle.std.specs.Option.{option_and_then, option_map_or}

@@ -112,10 +112,7 @@ needs_due h place (Sub k) free needs =
         both_ways (has_key (open_connected h) h j) none
         (connected_key h j ∙ any_found (λ n. at (is_connect_of j) h n && is_open h n) (length h) f.number l (and_from _ _ old alive))
 needs_due h place Leaf free needs = absurd (false≢true needs)
-needs_due h place Pass free needs = absurd (false≢true needs)
-needs_due h place Flat free needs = absurd (false≢true needs)
-needs_due h place Switch free needs = absurd (false≢true needs)
-needs_due h place Until free needs = absurd (false≢true needs)
+needs_due h place _ free needs = absurd (false≢true needs)
 
 -- the room that is asked for ---------------------------------------------------------------------------
 

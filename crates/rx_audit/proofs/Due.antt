@@ -1,6 +1,5 @@
 -- The tests that compute decide what is due, what is forced, and what is settled.
-use Rattle.std.proofs.Common.{◌≡◌, ℕ, Bool, true, false, List, [], length, Option, Some}
-use Rattle.std.proofs.Common.{None, refl, sym, ap, ◌∙◌, ◌==◌, cond, slice_get}
+use Rattle.std.proofs.Common.{◌≡◌, ℕ, Bool, true, false, List, [], length, Option, Some, None, refl, sym, ap, ◌∙◌, ◌==◌, cond, slice_get}
 use Rattle.std.proofs.Math.Bool.{not, ◌&&◌}
 use Rattle.std.specs.Option.{option_map_or}
 use Rattle.std.proofs.lemmas.Bool.{and_parts, both_ways, false≢true, eqb-true}
@@ -13,16 +12,11 @@ use Rattle.rx_event.specs.Tree.{at, places, parent, is_open, is_open_child_of, h
 use Rattle.rx_event.specs.Forced.{IsConnectDue, IsDue, left}
 use Rattle.rx_event.proofs.Laws.Parents.{parent_within}
 use Rattle.rx_event.proofs.Laws.Places.{at_within}
-use Rattle.rx_audit.specs.Rules.{is_key}
-use Rattle.rx_audit.specs.Rules.{hub_subscribed_at, hub_connected_at, is_cut}
-use Rattle.rx_audit.specs.Rules.{open_subscribed, open_connected}
-use Rattle.rx_audit.specs.Rules.{open_waiting, has_key, connect_due, any_connect_due, is_left}
-use Rattle.rx_audit.specs.Rules.{close_due}
+use Rattle.rx_audit.specs.Rules.{is_key, hub_subscribed_at, hub_connected_at, is_cut, open_subscribed, open_connected, open_waiting, has_key, connect_due}
+use Rattle.rx_audit.specs.Rules.{any_connect_due, is_left, close_due}
 use Rattle.rx_audit.proofs.KeysInRange.{any_found}
-use Rattle.rx_audit.proofs.TestsDecideRules.{both, not_not, is_false, not_true}
-use Rattle.rx_audit.proofs.TestsDecideRules.{key_is, is_key_of, FoundNumber, find_number}
-use Rattle.rx_audit.proofs.TestsDecideRules.{subscriber_at, at_subscriber, connection_at, at_connection}
-use Rattle.rx_audit.proofs.TestsDecideRules.{cut_ended, is_cut_of, filter_none, none_filtered, subscribed_key, connected_key}
+use Rattle.rx_audit.proofs.TestsDecideRules.{both, not_not, is_false, not_true, key_is, is_key_of, FoundNumber, find_number, subscriber_at, at_subscriber}
+use Rattle.rx_audit.proofs.TestsDecideRules.{connection_at, at_connection, cut_ended, is_cut_of, filter_none, none_filtered, subscribed_key, connected_key}
 
 -- connections ------------------------------------------------------------------------------------------
 

@@ -1,10 +1,10 @@
 -- The list of the nodes that may have to end.
-use Rattle.std.proofs.Common.{◌≡◌, ℕ, ◌<◌, Bool, true, false, List, [], ◌∷◌, ◌++◌, length, take, Option}
-use Rattle.std.proofs.Common.{Some, None, refl, sym, ap, ◌∙◌, arith, inl, inr, ◌⊎◌, slice_get, length-append}
-use Rattle.std.proofs.Math.Bool.{◌&&◌}
-use Rattle.std.proofs.lemmas.Bool.{cases_order, both_ways, false≢true, and_parts}
+use Rattle.std.proofs.Common.{◌≡◌, ℕ, ◌<◌, Bool, true, false, List, [], ◌∷◌, ◌++◌, length, take, Option, Some, None, refl, sym, ap, ◌∙◌, arith, inl, inr, ◌⊎◌}
+use Rattle.std.proofs.Common.{slice_get, length-append, cond, nat_lt, zero-add, ◌+◌}
+use Rattle.std.proofs.Math.Bool.{◌&&◌, ◌||◌}
+use Rattle.std.proofs.lemmas.Bool.{cases_order, both_ways, false≢true, and_parts, lt-ltb}
 use Rattle.std.proofs.lemmas.Option.{none-some, same_Some}
-use Rattle.std.specs.List.{list_any}
+use Rattle.std.specs.List.{list_any, count_by}
 use Rattle.std.specs.Option.{option_map, option_map_or}
 use Rattle.std.specs.Prelude.{is_some}
 use Rattle.rx_event.specs.Kept.{nothing_kept}
@@ -12,14 +12,9 @@ use Rattle.rx_note.specs.declared.note.Terminal.{Terminal}
 use Rattle.rx_event.specs.declared.event.Event.{Event}
 use Rattle.rx_event.specs.declared.event.Event.TheVariants.{End}
 use Rattle.rx_event.specs.declared.marks.Marks.{Marks}
-use Rattle.std.proofs.Common.{cond, nat_lt, zero-add, ◌+◌}
-use Rattle.std.proofs.Math.Bool.{◌||◌}
-use Rattle.std.specs.List.{count_by}
-use Rattle.std.proofs.lemmas.Bool.{lt-ltb}
 use Rattle.std.proofs.lemmas.List.Sums.{sum_by-cons}
 use Rattle.rx_event.specs.Tree.{is_open, has_open_child, is_open_child_of, places}
-use Rattle.rx_event.specs.Marks.{open_children}
-use Rattle.rx_event.specs.Marks.{marks_of, terminal_due, due_at}
+use Rattle.rx_event.specs.Marks.{open_children, marks_of, terminal_due, due_at}
 use Rattle.rx_event.specs.Lawful.{IsLawful, MayFollow}
 use Rattle.rx_event.proofs.Laws.Openness.{is_open_within}
 use Rattle.rx_event.proofs.Laws.OneEnd.{open_old}

@@ -38,18 +38,7 @@ use Rattle.rx_audit.proofs.HubWords.{cut_word, uncut}
 
 pub other_untouched : (h : List Event) (e : Event) → leaf_of e ≡ None → IsUntouched h e
 other_untouched h (Item leaf v) other n item = absurd (none-some leaf (sym other))
-other_untouched h (Open place kind) other n item = absurd (false≢true item)
-other_untouched h (Hub mode) other n item = absurd (false≢true item)
-other_untouched h (Connect g) other n item = absurd (false≢true item)
-other_untouched h (Accept m tag) other n item = absurd (false≢true item)
-other_untouched h (Use r) other n item = absurd (false≢true item)
-other_untouched h (Remove r) other n item = absurd (false≢true item)
-other_untouched h (Lease r) other n item = absurd (false≢true item)
-other_untouched h (Return r) other n item = absurd (false≢true item)
-other_untouched h (Decline f) other n item = absurd (false≢true item)
-other_untouched h (End m t) other n item = absurd (false≢true item)
-other_untouched h (Close c) other n item = absurd (false≢true item)
-other_untouched h (Take r) other n item = absurd (false≢true item)
+other_untouched h _ other n item = absurd (false≢true item)
 
 -- by marks ---------------------------------------------------------------------------------------------
 
@@ -203,16 +192,7 @@ module _ (h : List Event) (law : IsLawful nothing_kept h) (size : ℕ) (known : 
   forced_is (Close c) y =
       let p = and_parts (not (any_connect_due h)) (close_due h c) y in
       due (no_connect_due h (not_not (any_connect_due h) p.0)) (close_is_due h c p.1)
-  forced_is (Open place kind) y = absurd (false≢true y)
-  forced_is (Hub mode) y = absurd (false≢true y)
-  forced_is (Accept m tag) y = absurd (false≢true y)
-  forced_is (Use r) y = absurd (false≢true y)
-  forced_is (Remove r) y = absurd (false≢true y)
-  forced_is (Lease r) y = absurd (false≢true y)
-  forced_is (Return r) y = absurd (false≢true y)
-  forced_is (Item m v) y = absurd (false≢true y)
-  forced_is (Decline f) y = absurd (false≢true y)
-  forced_is (Take r) y = absurd (false≢true y)
+  forced_is _ y = absurd (false≢true y)
 
   none_waits : ((g : ℕ) → ¬ IsConnectDue h g) → not (any_connect_due h) ≡ true
   none_waits none = is_false (any_connect_due h) (not_true (any_connect_due h) (λ y. let d = some_connect_due h y in none d.0 d.1))
@@ -222,16 +202,8 @@ module _ (h : List Event) (law : IsLawful nothing_kept h) (size : ℕ) (known : 
   forced_of (Connect g) (due n d) = elim d [ ]
   forced_of (End n t) (due none d) = both (not (any_connect_due h)) (ends_now h known.ended.items n t) (none_waits none) (ends_due_of n t d)
   forced_of (Close c) (due none d) = both (not (any_connect_due h)) (close_due h c) (none_waits none) (close_due_of h c d)
-  forced_of (Open place kind) f = absurd (false≢true (forced_kind nothing_kept f))
-  forced_of (Hub mode) f = absurd (false≢true (forced_kind nothing_kept f))
-  forced_of (Accept m tag) f = absurd (false≢true (forced_kind nothing_kept f))
-  forced_of (Use r) f = absurd (false≢true (forced_kind nothing_kept f))
-  forced_of (Remove r) f = absurd (false≢true (forced_kind nothing_kept f))
-  forced_of (Lease r) f = absurd (false≢true (forced_kind nothing_kept f))
-  forced_of (Return r) f = absurd (false≢true (forced_kind nothing_kept f))
-  forced_of (Item m v) f = absurd (false≢true (forced_kind nothing_kept f))
   forced_of (Decline f) q = absurd (false≢true (forced_kind nothing_kept q))
-  forced_of (Take r) f = absurd (false≢true (forced_kind nothing_kept f))
+  forced_of _ f = absurd (false≢true (forced_kind nothing_kept f))
 
   pub forced_answer : (e : Event) (b : Bool) → b ≡ forced_now h known.ended.items e → (IsTrue b) ↔ IsForced nothing_kept h e
   forced_answer e b is = (λ y. forced_is e (sym is ∙ y), λ f. is ∙ forced_of e f)

@@ -26,8 +26,7 @@ firing_cons : (u : ℕ) (o : Option Stop) (rest : List Stop) → list_any (is_fi
     (cons_option o rest) ≡ (is_key (option_and_then fired_by o) u || list_any (is_firing_of u) rest)
 firing_cons u None rest = refl
 firing_cons u (Some (Delivery n)) rest = refl
-firing_cons u (Some (Projection f)) rest = refl
-firing_cons u (Some (Firing v)) rest = refl
+firing_cons u (Some _) rest = refl
 
 pub firing_stops : (s : ℕ → Option Stop) (u : ℕ) (nodes : List ℕ)
     → list_any (is_firing_of u) (filter_map s nodes) ≡ list_any (λ n. is_key (option_and_then fired_by (s n)) u) nodes

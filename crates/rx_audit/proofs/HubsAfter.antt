@@ -38,18 +38,7 @@ connected_last h e = ap (option_and_then hub_connected) (slice_get_last h e)
 -- what an event ends that may stand there
 ended_same_event : (h : List Event) (e x : Event) → ((c : ℕ) (t : Terminal) → x ≡ End c t → c < length h) → hub_ended (h ++ e ∷ []) x ≡ hub_ended h x
 ended_same_event h e (End c t) older = connected_same h e c (older c t refl)
-ended_same_event h e (Open place kind) older = refl
-ended_same_event h e (Hub mode) older = refl
-ended_same_event h e (Connect g) older = refl
-ended_same_event h e (Accept n tag) older = refl
-ended_same_event h e (Use r) older = refl
-ended_same_event h e (Remove r) older = refl
-ended_same_event h e (Lease r) older = refl
-ended_same_event h e (Return r) older = refl
-ended_same_event h e (Item l v) older = refl
-ended_same_event h e (Decline f) older = refl
-ended_same_event h e (Close c) older = refl
-ended_same_event h e (Take r) older = refl
+ended_same_event h e _ older = refl
 
 ended_same : (h : List Event) (e : Event) → IsLawful nothing_kept h → (k : ℕ) → k < length h → hub_ended_at (h ++ e ∷ []) k ≡ hub_ended_at h k
 ended_same h e law k l = ap (option_and_then (hub_ended (h ++ e ∷ []))) (slice_get-append h (e ∷ []) k l) ∙ by_event (slice_get h k) refl where

@@ -1,7 +1,6 @@
 -- Marks and counts by a key.
-use Rattle.std.proofs.Common.{◌≡◌, ℕ, zero, suc, ◌+◌, ◌-◌, ◌<◌, ◌≤◌, Bool, true, false, List, [], ◌∷◌, length, Option, Some, None}
-use Rattle.std.proofs.Common.{refl, sym, arith, ◌==◌, ◌≢◌, get_or, set, get_or-set_other, get_or-set_same, ◌⊎◌, inl, inr, cond}
-use Rattle.std.proofs.Common.{add-zero}
+use Rattle.std.proofs.Common.{◌≡◌, ℕ, zero, suc, ◌+◌, ◌-◌, ◌<◌, ◌≤◌, Bool, true, false, List, [], ◌∷◌, length, Option, Some, None, refl, sym, arith, ◌==◌, ◌≢◌}
+use Rattle.std.proofs.Common.{get_or, set, get_or-set_other, get_or-set_same, ◌⊎◌, inl, inr, cond, add-zero}
 use Rattle.std.proofs.Math.Bool.{◌||◌}
 use Rattle.std.proofs.Math.ListN.{length-set}
 use Rattle.std.proofs.lemmas.Bool.{cases_order, eq-eqb, ne_eqb}

@@ -1,7 +1,5 @@
 -- Marks of the keys of a range of numbers.
-use Rattle.std.proofs.Common.{◌≡◌, ℕ, ◌+◌, ◌<◌, Bool, true, List}
-use Rattle.std.proofs.Common.{length, Some, ap, ◌∙◌, arith}
-use Rattle.std.proofs.Common.{take, slice_get, length-take}
+use Rattle.std.proofs.Common.{◌≡◌, ℕ, ◌+◌, ◌<◌, Bool, true, List, length, Some, ap, ◌∙◌, arith, take, slice_get, length-take}
 use Rattle.std.proofs.lemmas.Option.{option_and_then_some}
 use Rattle.std.proofs.lemmas.List.Folds.{list_any_at}
 use Rattle.std.proofs.lemmas.List.FromFn.{length-range_with_len, get_or-range_with_len}
@@ -16,19 +14,8 @@ use Rattle.rx_event.proofs.Laws.Places.{at_within}
 use Rattle.rx_audit.specs.Rules.{hub_connected_at}
 
 is_connect : (e : Event) (g : ℕ) → hub_connected e ≡ Some g → e ≡ Connect g
-is_connect (Connect k) g s = cc
 is_connect (Open place kind) g s = cc
-is_connect (Hub mode) g s = cc
-is_connect (Accept m tag) g s = cc
-is_connect (Use r) g s = cc
-is_connect (Remove r) g s = cc
-is_connect (Lease r) g s = cc
-is_connect (Return r) g s = cc
-is_connect (Item m v) g s = cc
-is_connect (Decline f) g s = cc
-is_connect (End m t) g s = cc
-is_connect (Close m) g s = cc
-is_connect (Take r) g s = cc
+is_connect _ g s = cc
 
 pub connected_below : (h : List Event) → IsLawful nothing_kept h → (c g : ℕ) → hub_connected_at h c ≡ Some g → g < length h
 connected_below h law c g e =

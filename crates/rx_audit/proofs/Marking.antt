@@ -41,16 +41,7 @@ pub touched_open : (h : List Event) (e : Event) (p : ℕ) → MayFollow nothing_
 touched_open h (Open place kind) p next named = may_name nothing_kept next named
 touched_open h (Decline f) p next named = rw (← same_Some f p named) (may_decline nothing_kept next).0
 touched_open h (End c t) p next named = parent_open h c p (may_end nothing_kept next) named
-touched_open h (Hub mode) p next named = absurd (none-some p named)
-touched_open h (Connect g) p next named = absurd (none-some p named)
-touched_open h (Accept n tag) p next named = absurd (none-some p named)
-touched_open h (Use r) p next named = absurd (none-some p named)
-touched_open h (Remove r) p next named = absurd (none-some p named)
-touched_open h (Lease r) p next named = absurd (none-some p named)
-touched_open h (Return r) p next named = absurd (none-some p named)
-touched_open h (Item l v) p next named = absurd (none-some p named)
-touched_open h (Close c) p next named = absurd (none-some p named)
-touched_open h (Take r) p next named = absurd (none-some p named)
+touched_open h _ p next named = absurd (none-some p named)
 
 apart : (q n : ℕ) → (Some q ≡ Some n → ⊥) → (q == n) ≡ false
 apart q n differs = by_test (q == n) refl where
@@ -66,7 +57,6 @@ child_apart h n c differs = by_parent (parent h c) differs where
 
 -- where another node is touched, this one is not, but by a closing
 untouched : (h : List Event) (e : Event) (n : ℕ) → IsUntouched h e → ((c : ℕ) → e ≡ Close c → ⊥) → (touched_by h e ≡ Some n → ⊥) → touches h n e ≡ false
-untouched h (Open Root kind) n no_item no_close differs = refl
 untouched h (Open (Source q) kind) n no_item no_close differs = apart q n differs
 untouched h (Open (Inner q) kind) n no_item no_close differs = apart q n differs
 untouched h (Open (Notifier q) kind) n no_item no_close differs = apart q n differs
@@ -74,14 +64,7 @@ untouched h (Decline q) n no_item no_close differs = apart q n differs
 untouched h (End c t) n no_item no_close differs = child_apart h n c differs
 untouched h (Item l v) n no_item no_close differs = no_item n refl
 untouched h (Close c) n no_item no_close differs = absurd (no_close c refl)
-untouched h (Hub mode) n no_item no_close differs = refl
-untouched h (Connect g) n no_item no_close differs = refl
-untouched h (Accept m tag) n no_item no_close differs = refl
-untouched h (Use r) n no_item no_close differs = refl
-untouched h (Remove r) n no_item no_close differs = refl
-untouched h (Lease r) n no_item no_close differs = refl
-untouched h (Return r) n no_item no_close differs = refl
-untouched h (Take r) n no_item no_close differs = refl
+untouched h _ n no_item no_close differs = refl
 
 -- the marks of an older node that is not touched
 pub marks_apart : {h : List Event} (e : Event) → IsLawful nothing_kept h → MayFollow nothing_kept h e → IsUntouched h e → (n : ℕ) → n < length h

@@ -33,18 +33,7 @@ use Rattle.rx_audit.proofs.DueListCovers.{due_parts, due_made_at}
 
 pub item_of : (e : Event) (leaf : ℕ) → leaf_of e ≡ Some leaf → (v : ℤ) × (e ≡ Item leaf v)
 item_of (Item l v) leaf is = (v, ap (λ k. Item k v) (same_Some l leaf is))
-item_of (Open place kind) leaf is = absurd (none-some leaf is)
-item_of (Hub mode) leaf is = absurd (none-some leaf is)
-item_of (Connect g) leaf is = absurd (none-some leaf is)
-item_of (Accept n tag) leaf is = absurd (none-some leaf is)
-item_of (Use r) leaf is = absurd (none-some leaf is)
-item_of (Remove r) leaf is = absurd (none-some leaf is)
-item_of (Lease r) leaf is = absurd (none-some leaf is)
-item_of (Return r) leaf is = absurd (none-some leaf is)
-item_of (Decline f) leaf is = absurd (none-some leaf is)
-item_of (End n t) leaf is = absurd (none-some leaf is)
-item_of (Close n) leaf is = absurd (none-some leaf is)
-item_of (Take r) leaf is = absurd (none-some leaf is)
+item_of _ leaf is = absurd (none-some leaf is)
 
 fires_same : (h : List Event) (leaf n : ℕ) (log : List Visit) → IsReached h leaf log
     → list_any (λ v. is_key (fired_key h v.node) n) log ≡ list_any (is_firing_of n) (stops h leaf)
@@ -90,22 +79,7 @@ still_due (Open place Flat) m k y = merging_still m.child_terminal (is_over (wit
     (over_still m.source_completed (m.open_children == 0) (m.owed == 0) (m.owed + k == 0) (none_owed m.owed k)) y
 still_due (Open place Switch) m k y = merging_still m.child_terminal (is_over (with_two m m.fired (m.owed + k))) (is_over m)
     (over_still m.source_completed (m.open_children == 0) (m.owed == 0) (m.owed + k == 0) (none_owed m.owed k)) y
-still_due (Open place Pass) m k y = y
-still_due (Open place Until) m k y = y
-still_due (Open place Leaf) m k y = y
-still_due (Open place (Sub g)) m k y = y
-still_due (Connect g) m k y = y
-still_due (Hub mode) m k y = y
-still_due (Accept n tag) m k y = y
-still_due (Use r) m k y = y
-still_due (Remove r) m k y = y
-still_due (Lease r) m k y = y
-still_due (Return r) m k y = y
-still_due (Item l v) m k y = y
-still_due (Decline f) m k y = y
-still_due (End n t) m k y = y
-still_due (Close n) m k y = y
-still_due (Take r) m k y = y
+still_due _ m k y = y
 
 or_false : (b : Bool) → (b || false) ≡ b
 or_false true = refl

@@ -23,9 +23,8 @@ use Rattle.rx_event.proofs.Laws.Openness.{is_open_past}
 use Rattle.rx_event.specs.Climb.{visits, most_visits}
 use Rattle.rx_event.specs.Moments.{owed}
 use Rattle.rx_event.specs.Forced.{IsConnectDue}
-use Rattle.rx_event.specs.Allowed.{most_nodes, most_hubs, IsFree, IsInOrderAt, IsInOrder, IsHubbed, may_abort, IsAllowed, opened}
-use Rattle.rx_event.specs.Allowed.{published, connected, accepted, used, removed, leased, returned}
-use Rattle.rx_event.specs.Allowed.{emitted, declined, leaf_ended, aborted, projection_failed, root_closed}
+use Rattle.rx_event.specs.Allowed.{most_nodes, most_hubs, IsFree, IsInOrderAt, IsInOrder, IsHubbed, may_abort, IsAllowed, opened, published, connected}
+use Rattle.rx_event.specs.Allowed.{accepted, used, removed, leased, returned, emitted, declined, leaf_ended, aborted, projection_failed, root_closed}
 use Rattle.rx_event.specs.Allowed.{disconnected, taken}
 use Rattle.rx_audit.specs.Tables.{IsMarked, mark_count}
 use Rattle.rx_audit.specs.Rules.{hub_connected_at, has_key, open_connected, is_owing}
@@ -77,23 +76,7 @@ is_owed h f l = lt-ltb 0 (owed nothing_kept h f) l
 
 same_abort : (e : Event) → has_source e ≡ may_abort e
 same_abort (Open place Pass) = refl
-same_abort (Open place Flat) = refl
-same_abort (Open place Switch) = refl
-same_abort (Open place Until) = refl
-same_abort (Open place Leaf) = refl
-same_abort (Open place (Sub g)) = refl
-same_abort (Hub mode) = refl
-same_abort (Connect g) = refl
-same_abort (Accept m tag) = refl
-same_abort (Use r) = refl
-same_abort (Remove r) = refl
-same_abort (Lease r) = refl
-same_abort (Return l) = refl
-same_abort (Item m v) = refl
-same_abort (Decline f) = refl
-same_abort (End m t) = refl
-same_abort (Close m) = refl
-same_abort (Take r) = refl
+same_abort _ = refl
 
 abort_at : (h : List Event) (n : ℕ) → at has_source h n ≡ at may_abort h n
 abort_at h n = by_event (slice_get h n) where
@@ -203,8 +186,7 @@ simply_may h (Decline f) e = decline_may h f e
 simply_may h (End n t) e = end_may h n t e
 simply_may h (Close n) e = close_may h n e
 simply_may h (Take r) e = taken e
-simply_may h (Open place kind) e = absurd (false≢true e)
-simply_may h (Item l v) e = absurd (false≢true e)
+simply_may h _ e = absurd (false≢true e)
 
 pub simply_may_of : (h : List Event) (e : Event) → ((place : Place) (kind : Kind) → e ≡ Open place kind → ⊥)
     → ((l : ℕ) (v : ℤ) → e ≡ Item l v → ⊥) → IsAllowed nothing_kept h e → allowed_simply h e ≡ true
@@ -267,19 +249,11 @@ in_order_of h g (Notifier p) o = in_order_at_of h g p o
 
 hubbed : (h : List Event) (place : Place) (kind : Kind) → is_hubbed h place kind ≡ true → IsHubbed h place kind
 hubbed h place (Sub g) e = let w = and_parts (at makes_hub h g) (is_in_order h g place) e in (w.0, in_order h g place w.1)
-hubbed h place Leaf e = tt
-hubbed h place Pass e = tt
-hubbed h place Flat e = tt
-hubbed h place Switch e = tt
-hubbed h place Until e = tt
+hubbed h place _ e = tt
 
 hubbed_of : (h : List Event) (place : Place) (kind : Kind) → IsHubbed h place kind → is_hubbed h place kind ≡ true
 hubbed_of h place (Sub g) o = both (at makes_hub h g) (is_in_order h g place) o.0 (in_order_of h g place o.1)
-hubbed_of h place Leaf o = refl
-hubbed_of h place Pass o = refl
-hubbed_of h place Flat o = refl
-hubbed_of h place Switch o = refl
-hubbed_of h place Until o = refl
+hubbed_of h place _ o = refl
 
 free : (h : List Event) (place : Place) → is_free h place ≡ true → IsFree nothing_kept h place
 free h Root e = tt

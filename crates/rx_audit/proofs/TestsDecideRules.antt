@@ -16,8 +16,7 @@ use Rattle.rx_event.specs.Events.{is_subscriber_of, is_connect_of, hub_subscribe
 use Rattle.rx_event.specs.Tree.{at, places, is_open}
 use Rattle.rx_event.specs.Forced.{SourceEnded}
 use Rattle.rx_event.specs.Sames.{same_terminal}
-use Rattle.rx_audit.specs.Rules.{is_key, hub_subscribed_at, hub_connected_at}
-use Rattle.rx_audit.specs.Rules.{joins, ends_source, is_cut, open_subscribed, open_connected, has_key}
+use Rattle.rx_audit.specs.Rules.{is_key, hub_subscribed_at, hub_connected_at, joins, ends_source, is_cut, open_subscribed, open_connected, has_key}
 
 -- tests ----------------------------------------------------------------------------------------------
 
@@ -112,93 +111,23 @@ find_number q n e = let f = find_from q 0 n e in record { number = f.number; wit
 
 subscribed_is : (e : Event) (g : ℕ) → hub_subscribed e ≡ Some g → is_subscriber_of g e ≡ true
 subscribed_is (Open place (Sub k)) g s = eq-eqb k g (same_Some k g s)
-subscribed_is (Open place Leaf) g s = cc
-subscribed_is (Open place Pass) g s = cc
-subscribed_is (Open place Flat) g s = cc
-subscribed_is (Open place Switch) g s = cc
-subscribed_is (Open place Until) g s = cc
-subscribed_is (Hub mode) g s = cc
-subscribed_is (Connect k) g s = cc
-subscribed_is (Accept m tag) g s = cc
-subscribed_is (Use r) g s = cc
-subscribed_is (Remove r) g s = cc
-subscribed_is (Lease r) g s = cc
-subscribed_is (Return r) g s = cc
-subscribed_is (Item m v) g s = cc
-subscribed_is (Decline f) g s = cc
-subscribed_is (End m t) g s = cc
-subscribed_is (Close m) g s = cc
-subscribed_is (Take r) g s = cc
+subscribed_is _ g s = cc
 
 is_subscribed : (e : Event) (g : ℕ) → is_subscriber_of g e ≡ true → hub_subscribed e ≡ Some g
 is_subscribed (Open place (Sub k)) g s = ap (λ n. Some n) (eqb-true k g s)
-is_subscribed (Open place Leaf) g s = absurd (false≢true s)
-is_subscribed (Open place Pass) g s = absurd (false≢true s)
-is_subscribed (Open place Flat) g s = absurd (false≢true s)
-is_subscribed (Open place Switch) g s = absurd (false≢true s)
-is_subscribed (Open place Until) g s = absurd (false≢true s)
-is_subscribed (Hub mode) g s = absurd (false≢true s)
-is_subscribed (Connect k) g s = absurd (false≢true s)
-is_subscribed (Accept m tag) g s = absurd (false≢true s)
-is_subscribed (Use r) g s = absurd (false≢true s)
-is_subscribed (Remove r) g s = absurd (false≢true s)
-is_subscribed (Lease r) g s = absurd (false≢true s)
-is_subscribed (Return r) g s = absurd (false≢true s)
-is_subscribed (Item m v) g s = absurd (false≢true s)
-is_subscribed (Decline f) g s = absurd (false≢true s)
-is_subscribed (End m t) g s = absurd (false≢true s)
-is_subscribed (Close m) g s = absurd (false≢true s)
-is_subscribed (Take r) g s = absurd (false≢true s)
+is_subscribed _ g s = absurd (false≢true s)
 
 connected_is : (e : Event) (g : ℕ) → hub_connected e ≡ Some g → e ≡ Connect g
 connected_is (Connect k) g s = ap (λ n. Connect n) (same_Some k g s)
-connected_is (Open place kind) g s = cc
-connected_is (Hub mode) g s = cc
-connected_is (Accept m tag) g s = cc
-connected_is (Use r) g s = cc
-connected_is (Remove r) g s = cc
-connected_is (Lease r) g s = cc
-connected_is (Return r) g s = cc
-connected_is (Item m v) g s = cc
-connected_is (Decline f) g s = cc
-connected_is (End m t) g s = cc
-connected_is (Close m) g s = cc
-connected_is (Take r) g s = cc
+connected_is _ g s = cc
 
 same_connected : (e : Event) (g : ℕ) → is_key (hub_connected e) g ≡ is_connect_of g e
-same_connected (Connect k) g = refl
 same_connected (Open place kind) g = refl
-same_connected (Hub mode) g = refl
-same_connected (Accept m tag) g = refl
-same_connected (Use r) g = refl
-same_connected (Remove r) g = refl
-same_connected (Lease r) g = refl
-same_connected (Return r) g = refl
-same_connected (Item m v) g = refl
-same_connected (Decline f) g = refl
-same_connected (End m t) g = refl
-same_connected (Close m) g = refl
-same_connected (Take r) g = refl
+same_connected _ g = refl
 
 pub same_subscribed : (e : Event) (g : ℕ) → is_key (hub_subscribed e) g ≡ is_subscriber_of g e
 same_subscribed (Open place (Sub k)) g = refl
-same_subscribed (Open place Leaf) g = refl
-same_subscribed (Open place Pass) g = refl
-same_subscribed (Open place Flat) g = refl
-same_subscribed (Open place Switch) g = refl
-same_subscribed (Open place Until) g = refl
-same_subscribed (Hub mode) g = refl
-same_subscribed (Connect k) g = refl
-same_subscribed (Accept m tag) g = refl
-same_subscribed (Use r) g = refl
-same_subscribed (Remove r) g = refl
-same_subscribed (Lease r) g = refl
-same_subscribed (Return r) g = refl
-same_subscribed (Item m v) g = refl
-same_subscribed (Decline f) g = refl
-same_subscribed (End m t) g = refl
-same_subscribed (Close m) g = refl
-same_subscribed (Take r) g = refl
+same_subscribed _ g = refl
 
 pub subscriber_at : (h : List Event) (s g : ℕ) → hub_subscribed_at h s ≡ Some g → at (is_subscriber_of g) h s ≡ true
 subscriber_at h s g e =
@@ -244,17 +173,7 @@ cut_at h s i (End c u) l at_i holds =
       },
     )
 cut_at h s i (Open place kind) l at_i holds = no_join (hub_subscribed_at h s) holds
-cut_at h s i (Hub mode) l at_i holds = no_join (hub_subscribed_at h s) holds
-cut_at h s i (Connect g) l at_i holds = no_join (hub_subscribed_at h s) holds
-cut_at h s i (Accept m tag) l at_i holds = no_join (hub_subscribed_at h s) holds
-cut_at h s i (Use r) l at_i holds = no_join (hub_subscribed_at h s) holds
-cut_at h s i (Remove r) l at_i holds = no_join (hub_subscribed_at h s) holds
-cut_at h s i (Lease r) l at_i holds = no_join (hub_subscribed_at h s) holds
-cut_at h s i (Return r) l at_i holds = no_join (hub_subscribed_at h s) holds
-cut_at h s i (Item m v) l at_i holds = no_join (hub_subscribed_at h s) holds
-cut_at h s i (Decline f) l at_i holds = no_join (hub_subscribed_at h s) holds
-cut_at h s i (Close m) l at_i holds = no_join (hub_subscribed_at h s) holds
-cut_at h s i (Take r) l at_i holds = no_join (hub_subscribed_at h s) holds
+cut_at h s i _ l at_i holds = no_join (hub_subscribed_at h s) holds
 
 pub cut_ended : (h : List Event) (s : ℕ) → is_cut h s ≡ true → (t : Terminal) × SourceEnded h s t
 unfolding is_cut

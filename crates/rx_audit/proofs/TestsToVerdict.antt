@@ -1,6 +1,6 @@
 -- From the tests to the verdict.
-use Rattle.std.proofs.Common.{◌≡◌, ℕ, ℤ, zero, suc, ◌+◌, ◌<◌, ◌≤◌, Bool, true, false, List, [], ◌∷◌, ◌++◌, length}
-use Rattle.std.proofs.Common.{take, Option, Some, None, refl, sym, ap, subst, ◌∙◌, arith, ◌==◌, slice_get, get_or, IsTrue, ◌↔◌, length-append}
+use Rattle.std.proofs.Common.{◌≡◌, ℕ, ℤ, zero, suc, ◌+◌, ◌<◌, ◌≤◌, Bool, true, false, List, [], ◌∷◌, ◌++◌, length, take, Option, Some, None, refl, sym, ap}
+use Rattle.std.proofs.Common.{subst, ◌∙◌, arith, ◌==◌, slice_get, get_or, IsTrue, ◌↔◌, length-append, drop, take-append-drop}
 use Rattle.std.proofs.Math.Bool.{◌&&◌}
 use Rattle.std.specs.Option.{option_map_or}
 use Rattle.std.proofs.lemmas.Bool.{and_parts, both_ways, false≢true, eqb-true, eq-eqb}
@@ -25,9 +25,7 @@ use Rattle.rx_audit.specs.Flow.{IsReached}
 use Rattle.rx_audit.specs.Marking.{leaf_of}
 use Rattle.rx_audit.specs.declared.reach.Visit.{Visit}
 use Rattle.rx_audit.specs.Verdict.{IsFoundUnlawful}
-use Rattle.rx_audit.specs.Allowing.{opens_pass, opened_with}
-use Rattle.std.proofs.Common.{drop, take-append-drop}
-use Rattle.rx_audit.specs.Allowing.{allowed_simply, item_allowed, open_allowed, leaves_room}
+use Rattle.rx_audit.specs.Allowing.{opens_pass, opened_with, allowed_simply, item_allowed, open_allowed, leaves_room}
 use Rattle.rx_audit.proofs.TestsDecideRules.{both}
 use Rattle.rx_audit.proofs.ConnectRoom.{room_fits, fits_room}
 use Rattle.rx_audit.proofs.TestsDecideAllowed.{open_may, open_may_of, open_fits, item_may, item_may_of, simply_may, simply_may_of}
@@ -64,23 +62,7 @@ simple_answer h e b no_open no_item is = (λ t. simply_may h e (sym is ∙ t), �
 
 passes : (e : Event) → opens_pass e ≡ true → (place : Place) × (e ≡ Open place Pass)
 passes (Open place Pass) e = (place, refl)
-passes (Open place Leaf) e = absurd (false≢true e)
-passes (Open place Flat) e = absurd (false≢true e)
-passes (Open place Switch) e = absurd (false≢true e)
-passes (Open place Until) e = absurd (false≢true e)
-passes (Open place (Sub g)) e = absurd (false≢true e)
-passes (Hub mode) e = absurd (false≢true e)
-passes (Connect g) e = absurd (false≢true e)
-passes (Accept m tag) e = absurd (false≢true e)
-passes (Use r) e = absurd (false≢true e)
-passes (Remove r) e = absurd (false≢true e)
-passes (Lease r) e = absurd (false≢true e)
-passes (Return r) e = absurd (false≢true e)
-passes (Item m v) e = absurd (false≢true e)
-passes (Decline f) e = absurd (false≢true e)
-passes (End m t) e = absurd (false≢true e)
-passes (Close m) e = absurd (false≢true e)
-passes (Take r) e = absurd (false≢true e)
+passes _ e = absurd (false≢true e)
 
 pass_at : (h : List Event) (n : ℕ) → at opens_pass h n ≡ true → (place : Place) × (slice_get h n ≡ Some (Open place Pass))
 pass_at h n e = by_event (slice_get h n) refl e where
@@ -95,17 +77,7 @@ opened_first h (Accept n tag) e =
     let w = pass_at h n b.0 in
     accepted_with {place = w.0} w.1 (eqb-true (length h) (n + 1) b.1) a.1
 opened_first h (Open place kind) e = absurd (false≢true e)
-opened_first h (Hub mode) e = absurd (false≢true e)
-opened_first h (Connect g) e = absurd (false≢true e)
-opened_first h (Use r) e = absurd (false≢true e)
-opened_first h (Remove r) e = absurd (false≢true e)
-opened_first h (Lease r) e = absurd (false≢true e)
-opened_first h (Return r) e = absurd (false≢true e)
-opened_first h (Item m v) e = absurd (false≢true e)
-opened_first h (Decline f) e = absurd (false≢true e)
-opened_first h (End m t) e = absurd (false≢true e)
-opened_first h (Close m) e = absurd (false≢true e)
-opened_first h (Take r) e = absurd (false≢true e)
+opened_first h _ e = absurd (false≢true e)
 
 first_opened : (h : List Event) (n : ℕ) (place : Place) → slice_get h n ≡ Some (Open place Pass)
     → length h ≡ n + 1 → is_open h n ≡ true → (at opens_pass h n && (length h == n + 1) && is_open h n) ≡ true

@@ -35,16 +35,7 @@ counts_none : (e : Event) (s : Sums) → may_be_forced e ≡ true → counts e s
 counts_none (Connect g) s m = plain (Connect g) s refl refl refl
 counts_none (End n t) s m = plain (End n t) s refl refl refl
 counts_none (Close n) s m = plain (Close n) s refl refl refl
-counts_none (Open place kind) s m = cc
-counts_none (Hub mode) s m = cc
-counts_none (Accept n tag) s m = cc
-counts_none (Use r) s m = cc
-counts_none (Remove r) s m = cc
-counts_none (Lease r) s m = cc
-counts_none (Return l) s m = cc
-counts_none (Item l v) s m = cc
-counts_none (Decline f) s m = cc
-counts_none (Take r) s m = cc
+counts_none _ s m = cc
 
 -- what is forced counts nothing
 sums-forced : (base : Kept) → {h k : List Event} → IsForcedOn base h k → sums_of base k ≡ sums_of base h

@@ -19,11 +19,7 @@ use Rattle.rx_dump.specs.Claims.Dumps.{kind_parts, place_parts, terminal_parts, 
 kind_compact : (kind : Kind) → items_text true (items_of (kind_parts kind)) ≡ codes "," ++ kind_text kind ++ codes "]"
 unfolding serde_json_on_literals
 kind_compact Leaf = refl
-kind_compact Pass = refl
-kind_compact Flat = refl
-kind_compact Switch = refl
-kind_compact Until = refl
-kind_compact (Sub hub) = refl
+kind_compact _ = refl
 
 place_compact : (place : Place) (kind : Kind) → items_text true (items_of (place_parts place ++ kind_parts kind))
     ≡ codes "," ++ place_text place ++ codes "," ++ kind_text kind ++ codes "]"
@@ -42,19 +38,11 @@ event_compact : (e : Event) → compact_text (event_data e) ≡ event_text e
 unfolding serde_json_on_literals event_text
 event_compact (Open place kind) = ap (λ s. codes "[\"open\"" ++ s) (place_compact place kind)
 event_compact (Hub Auto) = refl
-event_compact (Hub Manual) = refl
-event_compact (Connect hub) = refl
 event_compact (Accept node tag) = simp append_assoc
-event_compact (Use res) = refl
-event_compact (Remove res) = refl
-event_compact (Lease res) = refl
-event_compact (Return lease) = refl
 event_compact (Item leaf (pos n)) = simp append_assoc
 event_compact (Item leaf (negsuc n)) = simp append_assoc
-event_compact (Decline node) = refl
 event_compact (End node terminal) = ap (λ s. codes "[\"end\"," ++ (decimal node ++ s)) (terminal_compact terminal) ∙ simp append_assoc
-event_compact (Close node) = refl
-event_compact (Take res) = refl
+event_compact _ = refl
 
 rest_compact : (h : List Event) → items_text true (items_of (map event_data h)) ≡ flat_map next_text h ++ codes "]"
 rest_compact [] = refl

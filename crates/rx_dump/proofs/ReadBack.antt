@@ -20,20 +20,12 @@ use Rattle.rx_dump.specs.Claims.Dumps.{kind_parts, event_data, history_data, is_
 kind_after_two : (a b : Data) (kind : Kind) → kind_from 2 (array (items_of (a ∷ b ∷ kind_parts kind))) ≡ Some kind
 unfolding kind_from has_count word_at number_at plain_kind
 kind_after_two a b Leaf = refl
-kind_after_two a b Pass = refl
-kind_after_two a b Flat = refl
-kind_after_two a b Switch = refl
-kind_after_two a b Until = refl
-kind_after_two a b (Sub hub) = refl
+kind_after_two a b _ = refl
 
 kind_after_three : (a b c : Data) (kind : Kind) → kind_from 3 (array (items_of (a ∷ b ∷ c ∷ kind_parts kind))) ≡ Some kind
 unfolding kind_from has_count word_at number_at plain_kind
 kind_after_three a b c Leaf = refl
-kind_after_three a b c Pass = refl
-kind_after_three a b c Flat = refl
-kind_after_three a b c Switch = refl
-kind_after_three a b c Until = refl
-kind_after_three a b c (Sub hub) = refl
+kind_after_three a b c _ = refl
 
 open_read : (place : Place) (kind : Kind) → event_of (event_data (Open place kind)) ≡ Some (Open place kind)
 unfolding event_of event_by open_of open_by open_below place_below word_at number_at
@@ -46,20 +38,9 @@ event_read : (e : Event) → is_in_range e ≡ true → event_of (event_data e) 
 unfolding event_of event_by hub_of mode_by accept_of item_of end_of terminal_by only_number has_count word_at number_at value_at
 event_read (Open place kind) h = open_read place kind
 event_read (Hub Auto) h = refl
-event_read (Hub Manual) h = refl
-event_read (Connect hub) h = refl
-event_read (Accept node tag) h = refl
-event_read (Use res) h = refl
-event_read (Remove res) h = refl
-event_read (Lease res) h = refl
-event_read (Return lease) h = refl
 event_read (Item leaf (pos n)) h = rw h refl
-event_read (Item leaf (negsuc n)) h = refl
-event_read (Decline node) h = refl
-event_read (End node Completed) h = refl
 event_read (End node (Error code)) h = rw h refl
-event_read (Close node) h = refl
-event_read (Take res) h = refl
+event_read _ h = refl
 
 each_read : (h : List Event) → list_all is_in_range h ≡ true → each_event (items_of (map event_data h)) ≡ Some h
 each_read [] within = refl

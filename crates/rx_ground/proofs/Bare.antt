@@ -18,12 +18,8 @@ use Rattle.rx_ground.specs.Passing.{nodes_at}
 
 module _ (nodes : Slots Node) (hubs : List Hub) where
   stop_made_bare : (key : Key) (above : Option Key) (made : Event) → stop_made (nodes_at nodes.entries) key above made ≡ stop_made nodes key above made
-  stop_made_bare key above (Open Root kind) = refl
   stop_made_bare key None (Open (Source f) kind) = refl
   stop_made_bare key (Some up) (Open (Source f) kind) = refl
-  stop_made_bare key above (Open (Notifier u) kind) = refl
-  stop_made_bare key above (Open (Inner f) kind) = refl
-  stop_made_bare key above (Connect g) = refl
   stop_made_bare key above _ = refl
 
   stop_bare : (key : Key) → stop_of (nodes_at nodes.entries) key ≡ stop_of nodes key

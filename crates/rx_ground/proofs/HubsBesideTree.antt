@@ -344,14 +344,10 @@ module _ (nodes : Slots Node) where
   -- a subscriber that comes has a record
   pub joined_opened : (key : Key) (place : Place) (kind : Kind) (hubs : List Hub) → IsSome (find nodes key) → AreJoined nodes hubs →
       AreJoined nodes (with_made key (Open place kind) hubs)
-  joined_opened key place Leaf hubs there joined = joined
-  joined_opened key place Pass hubs there joined = joined
-  joined_opened key place Flat hubs there joined = joined
-  joined_opened key place Switch hubs there joined = joined
-  joined_opened key place Until hubs there joined = joined
   joined_opened key place (Sub g) hubs there joined =
       joined_at g (subscribed key) hubs
       (λ hub all. AllByRecursion-both (λ k. IsSome (find nodes k)) hub.subscribers (key ∷ []) all (there, tt)) (λ hub there. there) joined
+  joined_opened key place _ hubs there joined = joined
 
   -- and so has a connection
   pub joined_connected : (key : Key) (g : ℕ) (hubs : List Hub) → IsSome (find nodes key) → AreJoined nodes hubs →
@@ -376,12 +372,8 @@ as_many_at g change hubs = length-map hubs (λ (x : Hub). cond (x.number == g) (
 
 -- and so does an opening
 pub as_many : (key : Key) (place : Place) (kind : Kind) (hubs : List Hub) → length (with_made key (Open place kind) hubs) ≡ length hubs
-as_many key place Leaf hubs = refl
-as_many key place Pass hubs = refl
-as_many key place Flat hubs = refl
-as_many key place Switch hubs = refl
-as_many key place Until hubs = refl
 as_many key place (Sub g) hubs = as_many_at g (subscribed key) hubs
+as_many key place _ hubs = refl
 
 -- where a hub is found there is one
 pub some_hub : (hubs : List Hub) (n : ℕ) (hub : Hub) → find_hub hubs n ≡ Some hub → 0 < length hubs

@@ -33,7 +33,6 @@ use Rattle.rx_ground.proofs.Records.{parent_in_tree}
 no_until : (o : Option Event) → option_map_or is_switch o false ≡ true → option_map_or is_until o false ≡ true → ⊥
 no_until None s u = absurd (false≢true s)
 no_until (Some (Open place Switch)) s u = absurd (false≢true u)
-no_until (Some (Open place Until)) s u = absurd (false≢true s)
 no_until (Some _) s u = absurd (false≢true s)
 
 -- what stands below a Switch is a source or an inner
@@ -44,7 +43,6 @@ child_of_switch base h law f n switch below = by_event e.0 e.1 (parent_name h n 
   e = event_at h n (parent_within h n f below)
 
   by_event : (e : Event) → slice_get h n ≡ Some e → parent_named e ≡ Some f → (at (is_source_of f) h n ≡ true) ⊎ (at (is_inner_of f) h n ≡ true)
-  by_event (Open Root kind) at_n named = absurd (none-some f named)
   by_event (Open (Source q) kind) at_n named = inl (ap (λ (o : Option Event). option_map_or (is_source_of f) o false) at_n ∙ eq-eqb q f (same_Some q f named))
   by_event (Open (Inner q) kind) at_n named = inr (ap (λ (o : Option Event). option_map_or (is_inner_of f) o false) at_n ∙ eq-eqb q f (same_Some q f named))
   by_event (Open (Notifier q) kind) at_n named =
@@ -90,9 +88,6 @@ module _ (base : Kept) (h : List Event) (law : IsLawful base h) (nodes : Slots N
     made = (r.each first node found).made
 
     source_inner : (e : Event) → is_source_of switch.number e ≡ true → is_some (inner_named e) ≡ true → ⊥
-    source_inner (Open (Source q) kind) s i = absurd (false≢true i)
-    source_inner (Open Root kind) s i = absurd (false≢true i)
-    source_inner (Open (Notifier q) kind) s i = absurd (false≢true i)
     source_inner (Open (Inner q) kind) s i = absurd (false≢true s)
     source_inner _ s i = absurd (false≢true i)
 
@@ -111,9 +106,6 @@ module _ (base : Kept) (h : List Event) (law : IsLawful base h) (nodes : Slots N
       where
         of_event : (e : Event) → is_inner_of switch.number e ≡ true → is_some (inner_named e) ≡ false → ⊥
         of_event (Open (Inner q) kind) s i = absurd (false≢true (sym i))
-        of_event (Open (Source q) kind) s i = absurd (false≢true s)
-        of_event (Open Root kind) s i = absurd (false≢true s)
-        of_event (Open (Notifier q) kind) s i = absurd (false≢true s)
         of_event _ s i = absurd (false≢true s)
 
     source_first : at (is_source_of switch.number) h first.number ≡ true

@@ -70,10 +70,8 @@ module _ (nodes : Slots Node) (hubs : List Hub) (sound : IsSound nodes)
 
     by_stop : (s : Option Stop) → AreFound nodes (onward_by nodes hubs key s)
     by_stop None = to_parent (above_of nodes key) refl
-    by_stop (Some (Delivery c)) = tt
-    by_stop (Some (Projection c)) = tt
-    by_stop (Some (Firing c)) = tt
     by_stop (Some (Connection c)) = subscribers_found (made_of nodes c)
+    by_stop (Some _) = tt
 
   visited_found : (left : ℕ) (keys : List Key) → AreFound nodes keys → AreFound nodes (visited_over left nodes hubs keys)
   visited_found zero keys found = tt
@@ -94,8 +92,6 @@ module _ (nodes : Slots Node) (hubs : List Hub) (sound : IsSound nodes)
     by_test false = tt
   made_there key None (Open (Notifier u) kind) there up = tt
   made_there key (Some p) (Open (Notifier u) kind) there up = up
-  made_there key above (Open (Inner f) kind) there up = tt
-  made_there key above (Connect g) there up = tt
   made_there key above _ there up = tt
 
   arrival_there : (key : Key) → IsSome (find nodes key) → IfSome (arrival_at nodes key) (IsThere nodes)

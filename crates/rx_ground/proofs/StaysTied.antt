@@ -73,9 +73,6 @@ source_at (Open (Source f) kind) p named = sym (let same = same_Some f p named i
   where
     eq_itself : (n : ℕ) → (n == n) ≡ true
     eq_itself n = eq-eqb n n refl
-source_at (Open Root kind) p named = refl
-source_at (Open (Inner f) kind) p named = refl
-source_at (Open (Notifier f) kind) p named = refl
 source_at _ p named = refl
 
 module _ (base : Kept) {T : Type 0} (g : Ghosts T) (h : List Event) (e : Event) (law : IsLawful base h) (next : MayFollow base h e) (old : Tree T)

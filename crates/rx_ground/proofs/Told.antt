@@ -90,17 +90,14 @@ wrong_at h (Notifier p) n made named found = ap (λ m. not (at is_until h m)) (s
 
 pub taken_at : (base : Kept) → (h : List Event) (place : Place) (n : ℕ) (m : Marks) → named_by place ≡ Some n → m ≡ marks_of base h n →
     is_taken_place base h place ≡ is_used m place
-taken_at base h Root n m named is = refl
 taken_at base h (Source p) n m named is = ap (source_opened base h) (same_Some p n named) ∙ ap (λ (x : Marks). x.source_opened) (sym is)
-taken_at base h (Inner p) n m named is = refl
 taken_at base h (Notifier p) n m named is = ap (notifier_opened base h) (same_Some p n named) ∙ ap (λ (x : Marks). x.notifier_opened) (sym is)
+taken_at base h _ n m named is = refl
 
 pub unowed_at : (base : Kept) → (h : List Event) (place : Place) (n : ℕ) (m : Marks) → named_by place ≡ Some n → m ≡ marks_of base h n →
     is_unowed_place base h place ≡ is_unowed m place
-unowed_at base h Root n m named is = refl
-unowed_at base h (Source p) n m named is = refl
 unowed_at base h (Inner p) n m named is = ap (λ k. owed base h k == 0) (same_Some p n named) ∙ ap (λ (x : Marks). x.owed == 0) (sym is)
-unowed_at base h (Notifier p) n m named is = refl
+unowed_at base h _ n m named is = refl
 
 -- a test holds of some member just where a member is counted
 any_counted : {X : Type 0} (p : X → Bool) (xs : List X) → list_any p xs ≡ nat_lt 0 (count_by p xs)

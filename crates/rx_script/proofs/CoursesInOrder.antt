@@ -10,8 +10,7 @@ use Rattle.rx_agenda.specs.Claims.{IsOrderOf}
 use Rattle.rx_agenda.proofs.Laws.{runs_in_order}
 use Rattle.rx_script.specs.Stage.{Ware, Stage, start}
 use Rattle.rx_script.specs.Course.{Manner, Does, does, leaves, Plays, none_played, one_played, IsCourseIn}
-use Rattle.rx_script.specs.Progress.{Progress, begin, Performs, executes, cancels}
-use Rattle.rx_script.specs.Progress.{Advances, Leads, not_begun, advanced, Ends}
+use Rattle.rx_script.specs.Progress.{Progress, begin, Performs, executes, cancels, Advances, Leads, not_begun, advanced, Ends}
 
 -- a step and its answer
 abbrev pub answer_in : Step × Answer → Answer

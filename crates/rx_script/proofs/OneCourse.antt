@@ -20,9 +20,8 @@ use Rattle.rx_agenda.specs.declared.answer.Cause.TheVariants.{Book}
 use Rattle.rx_agenda.specs.Order.{Placed, Executed, done_in}
 use Rattle.rx_agenda.proofs.Laws.{Agrees, determined_so_far, cancel_alike}
 use Rattle.rx_script.specs.Stage.{Ware, Stage, start, own_cause, call_of, after}
-use Rattle.rx_script.specs.Course.{in_one_order, cause_in, DrainsInOrder, nothing_left, least_taken}
-use Rattle.rx_script.specs.Course.{Executes, refused, refused_by_book, accepted, drained, checkpointed}
-use Rattle.rx_script.specs.Course.{Does, does, leaves, Plays, none_played, one_played, Course, IsCanonicalCourseOf}
+use Rattle.rx_script.specs.Course.{in_one_order, cause_in, DrainsInOrder, nothing_left, least_taken, Executes, refused, refused_by_book, accepted, drained}
+use Rattle.rx_script.specs.Course.{checkpointed, Does, does, leaves, Plays, none_played, one_played, Course, IsCanonicalCourseOf}
 
 -- one step ---------------------------------------------------------------------------------------------------------------------------
 

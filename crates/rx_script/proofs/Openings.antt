@@ -32,9 +32,8 @@ use Rattle.rx_agenda.specs.Names.{name_of, key_of}
 use Rattle.rx_report.specs.Keys.{node_binding, res_binding, lease_binding, IsNodeKey, IsHeldKey, IsLeaseKey}
 use Rattle.rx_agenda.specs.Shown.{number_binding}
 use Rattle.rx_script.specs.Engine.{at_of, is_taken, is_taken_beside, with_named, IsSound}
-use Rattle.rx_agenda.proofs.Laws.{key_of-bind, none_there}
+use Rattle.rx_agenda.proofs.Laws.{key_of-bind, none_there, key_of-holds, bound-numbers}
 use Rattle.rx_report.proofs.Laws.{has_key-is_open, has_key-contained, has_res_key-contained, has_lease_key-contained}
-use Rattle.rx_agenda.proofs.Laws.{key_of-holds, bound-numbers}
 use Rattle.rx_script.proofs.NamesStandForKeys.{bound-nodes, bound-resources, bound-leases, node_bound, node_unbound}
 use Rattle.rx_book.proofs.Laws.StepsContinue.{step_longer}
 use Rattle.rx_script.proofs.EngineCarriesOut.{stored_stage}

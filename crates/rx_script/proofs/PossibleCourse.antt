@@ -7,9 +7,8 @@ use Rattle.rx_book.specs.Drains.{Takes, none_taken, next_taken}
 use Rattle.rx_agenda.specs.declared.answer.Answer.{Answer}
 use Rattle.rx_scenario.specs.Scenario.{Command, Action, Step}
 use Rattle.rx_script.specs.Stage.{Stage, front_is_fresh}
-use Rattle.rx_script.specs.Course.{limited, in_one_order, DrainsInOrder, nothing_left, least_taken}
-use Rattle.rx_script.specs.Course.{Executes, refused, refused_by_book, accepted, drained, checkpointed}
-use Rattle.rx_script.specs.Course.{Does, does, leaves, Plays, none_played, one_played, CanonicalCoursesArePossible}
+use Rattle.rx_script.specs.Course.{limited, in_one_order, DrainsInOrder, nothing_left, least_taken, Executes, refused, refused_by_book, accepted, drained}
+use Rattle.rx_script.specs.Course.{checkpointed, Does, does, leaves, Plays, none_played, one_played, CanonicalCoursesArePossible}
 use Rattle.rx_script.proofs.StepsInOneOrder.{roomy, roomy_first}
 
 -- what is drained in order is drained ------------------------------------------------------------------------------------------------

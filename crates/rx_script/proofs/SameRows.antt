@@ -15,9 +15,8 @@ use Rattle.rx_event.specs.declared.event.Kind.TheVariants.{Leaf, Pass, Flat, Swi
 use Rattle.rx_event.specs.declared.event.Event.{Event}
 use Rattle.rx_event.specs.declared.event.Event.TheVariants.{Open, Hub}
 use Rattle.rx_event.specs.declared.refusal.Refusal.{Refusal}
-use Rattle.rx_event.specs.declared.refusal.Refusal.TheVariants.{Full, Gone, WrongKind, PlaceTaken, NothingOwed}
-use Rattle.rx_event.specs.declared.refusal.Refusal.TheVariants.{NotRoot, NoHub, HubOrder, Connected, NotConnected}
-use Rattle.rx_event.specs.declared.refusal.Refusal.TheVariants.{NoLease, NotHeld, Leased, HasChild, TooMany}
+use Rattle.rx_event.specs.declared.refusal.Refusal.TheVariants.{Full, Gone, WrongKind, PlaceTaken, NothingOwed, NotRoot, NoHub, HubOrder, Connected}
+use Rattle.rx_event.specs.declared.refusal.Refusal.TheVariants.{NotConnected, NoLease, NotHeld, Leased, HasChild, TooMany}
 use Rattle.rx_event.specs.Events.{makes_hub, has_source, is_leaf, is_merging, is_until, is_root, is_auto_hub, is_manual_hub}
 use Rattle.rx_event.specs.Tree.{at, ancestors, parent, is_open, is_open_child_of, has_open_child}
 use Rattle.rx_event.specs.Climb.{most_visits}
@@ -53,12 +52,10 @@ same_test false false there back = refl
 
 auto_is : (e : Event) → is_auto_hub e ≡ true → (mode : Mode) × (e ≡ Hub mode)
 auto_is (Hub mode) is = (mode, refl)
-auto_is (Open place kind) is = absurd (false≢true is)
 auto_is _ is = absurd (false≢true is)
 
 manual_is : (e : Event) → is_manual_hub e ≡ true → (mode : Mode) × (e ≡ Hub mode)
 manual_is (Hub mode) is = (mode, refl)
-manual_is (Open place kind) is = absurd (false≢true is)
 manual_is _ is = absurd (false≢true is)
 
 same_any : (p q : ℕ → Bool) (ns : List ℕ) → AllByRecursion (λ n. p n ≡ q n) ns → list_any p ns ≡ list_any q ns
@@ -113,35 +110,24 @@ module _ (b : Kept) (h : List Event) (c : Kept) (k : List Event) (a : Agree b h 
   wrong_same (Notifier p) o = ap not (on_open is_until p o)
 
   taken_same : (place : Place) → OpenPlace place → is_taken_place b h place ≡ is_taken_place c k place
-  taken_same Root o = refl
   taken_same (Source p) o = sym (λ i. (a.there.marks p o i).source_opened)
-  taken_same (Inner p) o = refl
   taken_same (Notifier p) o = sym (λ i. (a.there.marks p o i).notifier_opened)
+  taken_same _ o = refl
 
   unowed_same : (place : Place) → OpenPlace place → is_unowed_place b h place ≡ is_unowed_place c k place
-  unowed_same Root o = refl
-  unowed_same (Source p) o = refl
   unowed_same (Inner p) o = ap (λ n. n == 0) (owes_same p o)
-  unowed_same (Notifier p) o = refl
+  unowed_same _ o = refl
 
   connection_same : (g : ℕ) → has_connection h g ≡ has_connection k g
   connection_same g = ap (λ (ns : List ℕ). nat_lt 0 (length ns)) (connections_alike h k alike g)
 
   without_same : (kind : Kind) → is_without_hub h kind ≡ is_without_hub k kind
   without_same (Sub g) = ap not (on_hubs makes_hub hub_is g)
-  without_same Leaf = refl
-  without_same Pass = refl
-  without_same Flat = refl
-  without_same Switch = refl
-  without_same Until = refl
+  without_same _ = refl
 
   forces_same : (kind : Kind) → forces_connect h kind ≡ forces_connect k kind
   forces_same (Sub g) = λ i. on_hubs is_auto_hub auto_is g i && not (connection_same g i)
-  forces_same Leaf = refl
-  forces_same Pass = refl
-  forces_same Flat = refl
-  forces_same Switch = refl
-  forces_same Until = refl
+  forces_same _ = refl
 
   open_total : open_count h ≡ open_count k
   open_total = λ i. count_by (λ n. alike.same_open n i) (range_with_len 0 (a.same_length i))
@@ -157,15 +143,11 @@ module _ (b : Kept) (h : List Event) (c : Kept) (k : List Event) (a : Agree b h 
       ∙ ap (list_any (at (connects_up_to g) k)) (ancestors_alike h k alike p o)
 
   order_same : (place : Place) (kind : Kind) → OpenPlace place → is_out_of_order h place kind ≡ is_out_of_order k place kind
-  order_same place Leaf o = refl
-  order_same place Pass o = refl
-  order_same place Flat o = refl
-  order_same place Switch o = refl
-  order_same place Until o = refl
   order_same Root (Sub g) o = refl
   order_same (Source p) (Sub g) o = order_at g p o
   order_same (Inner p) (Sub g) o = order_at g p o
   order_same (Notifier p) (Sub g) o = order_at g p o
+  order_same place _ o = refl
 
   child_same : (p n : ℕ) → is_open_child_of h p n ≡ is_open_child_of k p n
   child_same p n = by_open (is_open h n) refl where

@@ -1,30 +1,27 @@
 -- A course that no full history cuts short has one in the one order beside it, with the same answers, at each of whose steps the names
 -- stand for the same things.
-use Rattle.std.proofs.Common.{subst, ◌≡◌, ℕ, ◌+◌, Bool, true, false, List, [], ◌∷◌, ◌++◌, map, Option, Some, None, refl, sym, ap, ◌∙◌}
+use Rattle.std.proofs.Common.{subst, ◌≡◌, ℕ, ◌+◌, Bool, true, false, List, [], ◌∷◌, ◌++◌, map, Option, Some, None, refl, sym, ap, ◌∙◌, slice_get}
 use Rattle.std.proofs.Math.Bool.{◌||◌}
 use Rattle.std.specs.Prelude.{option_map}
 use Rattle.std.specs.List.{list_any}
 use Rattle.std.specs.Option.{option_map_or}
 use Rattle.std.proofs.lemmas.List.{map-append}
 use Rattle.std.proofs.lemmas.Bool.{false≢true, or_parts}
-use Rattle.std.proofs.lemmas.Option.{same_Some, none-some}
+use Rattle.std.proofs.lemmas.Option.{same_Some, none-some, slice_get_within}
 use Rattle.rx_event.specs.Kept.{nothing_kept}
 use Rattle.rx_event.specs.declared.event.Event.{Event}
 use Rattle.rx_event.specs.declared.refusal.Refusal.{Refusal}
 use Rattle.rx_event.specs.declared.refusal.Refusal.TheVariants.{Full}
 use Rattle.rx_event.specs.Refusals.{refusal_order, first_cause}
 use Rattle.rx_event.specs.Calls.{Call, Disconnecting, outside_of, IsStepOf}
-use Rattle.rx_event.specs.Renumbered.{call_by, IsKnown, AreSameSince}
+use Rattle.rx_event.specs.Renumbered.{call_by, IsKnown, AreSameSince, AreSame}
 use Rattle.rx_event.proofs.Laws.Searches.{list_any_push}
-use Rattle.rx_event.specs.Renumbered.{AreSame}
 use Rattle.rx_event.proofs.Laws.Begin.{started_empty, shown_nothing}
 use Rattle.rx_event.proofs.Laws.ReadWhole.{same_start}
 use Rattle.rx_event.proofs.Laws.ReadSteps.{steps_same}
 use Rattle.rx_event.proofs.Laws.ReadDrained.{TakesOn, takes_none, takes_one, drained_same}
 use Rattle.rx_event.proofs.Laws.Places.{slice_get-append}
-use Rattle.std.proofs.lemmas.Option.{slice_get_within}
 use Rattle.rx_event.specs.declared.event.Event.TheVariants.{Take}
-use Rattle.std.proofs.Common.{slice_get}
 use Rattle.rx_event.specs.Causes.{causes, unlimited}
 use Rattle.rx_register.proofs.Laws.Empty.{settled_empty}
 use Rattle.rx_register.proofs.Laws.SameCauses.{NamesKnown, same_cause, never_full}

@@ -57,10 +57,7 @@ module _ {T : Type 0} where
       lent true e = true≢false (ap is_some (sym e))
       lent false e = by (is_owned nodes x.value) x.value.node.slot (some_same (cond (is_owned nodes x.value) (Held x.value.node.slot) Waiting) Due e)
   due_is nodes resources noted Roots at = absurd (true≢false (ap is_some (sym at)))
-  due_is nodes resources noted Due at = absurd (true≢false (ap is_some (sym at)))
-  due_is nodes resources noted Waiting at = absurd (true≢false (ap is_some (sym at)))
-  due_is nodes resources noted (Children j) at = absurd (true≢false (ap is_some (sym at)))
-  due_is nodes resources noted (Held j) at = absurd (true≢false (ap is_some (sym at)))
+  due_is nodes resources noted _ at = absurd (true≢false (ap is_some (sym at)))
 
   -- the ring of those that may be due is what a walk meets
   pub walk_due : (s : Store T) (nodes : Slots Node) (resources : Slots (Stowed T)) → nodes_of s ≡ nodes →

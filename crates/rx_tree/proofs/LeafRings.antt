@@ -118,10 +118,7 @@ module _ {T : Type 0} (nodes : Slots Node) (resources : Slots (Stowed T)) where
     of None e = true≢false (ap is_some (sym e))
     of (Some x) e = by x.value.above (is_root x.value.made) e
   held_is noted slot Roots at = absurd (true≢false (ap is_some (sym at)))
-  held_is noted slot Due at = absurd (true≢false (ap is_some (sym at)))
-  held_is noted slot Waiting at = absurd (true≢false (ap is_some (sym at)))
-  held_is noted slot (Children j) at = absurd (true≢false (ap is_some (sym at)))
-  held_is noted slot (Held j) at = absurd (true≢false (ap is_some (sym at)))
+  held_is noted slot _ at = absurd (true≢false (ap is_some (sym at)))
 
   module _ (n p : Steps Place) (tied : IsTiedAt n p nodes resources) where
     -- what stands on a node's ring of children is a child

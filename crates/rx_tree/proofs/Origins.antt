@@ -53,17 +53,7 @@ made_back (Open (Notifier n) Switch) above m e = ap (λ k. Open (Notifier k) Swi
 made_back (Open (Notifier n) Until) above m e = ap (λ k. Open (Notifier k) Until) (named n above e)
 made_back (Open (Notifier n) (Sub h)) above m e = ap (λ k. Open (Notifier k) (Sub h)) (named n above e)
 made_back (Connect h) above m e = refl
-made_back (Hub mode) above m e = absurd (true≢false (sym m))
-made_back (Accept a b) above m e = absurd (true≢false (sym m))
-made_back (Use a) above m e = absurd (true≢false (sym m))
-made_back (Remove a) above m e = absurd (true≢false (sym m))
-made_back (Lease a) above m e = absurd (true≢false (sym m))
-made_back (Return a) above m e = absurd (true≢false (sym m))
-made_back (Item a b) above m e = absurd (true≢false (sym m))
-made_back (Decline a) above m e = absurd (true≢false (sym m))
-made_back (End a b) above m e = absurd (true≢false (sym m))
-made_back (Close a) above m e = absurd (true≢false (sym m))
-made_back (Take a) above m e = absurd (true≢false (sym m))
+made_back _ above m e = absurd (true≢false (sym m))
 
 pub above_back : (made : Event) (above : Option Key) → makes_node made ≡ true → parent_named made ≡ option_map (λ key. key.number) above →
     above_of (place_word made) (origin_of made above) ≡ above
@@ -72,17 +62,7 @@ above_back (Open (Source n) kind) above m e = keyed n above e
 above_back (Open (Inner n) kind) above m e = keyed n above e
 above_back (Open (Notifier n) kind) above m e = keyed n above e
 above_back (Connect h) above m e = unnamed above e
-above_back (Hub mode) above m e = absurd (true≢false (sym m))
-above_back (Accept a b) above m e = absurd (true≢false (sym m))
-above_back (Use a) above m e = absurd (true≢false (sym m))
-above_back (Remove a) above m e = absurd (true≢false (sym m))
-above_back (Lease a) above m e = absurd (true≢false (sym m))
-above_back (Return a) above m e = absurd (true≢false (sym m))
-above_back (Item a b) above m e = absurd (true≢false (sym m))
-above_back (Decline a) above m e = absurd (true≢false (sym m))
-above_back (End a b) above m e = absurd (true≢false (sym m))
-above_back (Close a) above m e = absurd (true≢false (sym m))
-above_back (Take a) above m e = absurd (true≢false (sym m))
+above_back _ above m e = absurd (true≢false (sym m))
 
 pub node_back : (node : Node) → makes_node node.made ≡ true → parent_named node.made ≡ option_map (λ key. key.number) node.above →
     node_of (place_word node.made) (kind_word node.made) (origin_of node.made node.above) node.marks ≡ node

@@ -8,13 +8,7 @@ use Rattle.rx_tree.specs.Record.{kind_of, place_of, link_of}
 
 pub leads_back : (p : Place) → place_of (kind_of p) (slot_of p) ≡ p
 leads_back Roots = refl
-leads_back Due = refl
-leads_back Waiting = refl
-leads_back (Children s) = refl
-leads_back (Held s) = refl
-leads_back (Sibling s) = refl
-leads_back (Noted s) = refl
-leads_back (Stored s) = refl
+leads_back _ = refl
 
 pub links_back : (l : Link) → link_of (record { next = slot_of l.next; previous = slot_of l.previous })
     (record { next = kind_of l.next; previous = kind_of l.previous }) ≡ l

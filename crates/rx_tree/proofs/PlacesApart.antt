@@ -13,13 +13,7 @@ place_from t s = cond (t == 0) Roots
 same_from : (p : Place) → place_from (tag_of p) (slot_of p) ≡ p
 unfolding place_from
 same_from Roots = refl
-same_from Due = refl
-same_from Waiting = refl
-same_from (Children s) = refl
-same_from (Held s) = refl
-same_from (Sibling s) = refl
-same_from (Noted s) = refl
-same_from (Stored s) = refl
+same_from _ = refl
 
 pub tells : Tells places
 tells = told_by tag_of slot_of is_end place_from same_from

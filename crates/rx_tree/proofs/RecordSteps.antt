@@ -149,14 +149,12 @@ module _ {T : Type 0} where
     ]
 
     by : (q : Place) → stands nodes resources q ≡ true → stands nodes' resources q ≡ true
-    by Roots at = refl
-    by Due at = refl
-    by Waiting at = refl
     by (Children j) at = more j at
     by (Held j) at = more j at
     by (Sibling j) at = more j at
     by (Noted j) at = more j at
     by (Stored r) at = at
+    by _ at = refl
 
   pub stands_held : (nodes : Slots Node) {resources : Slots (Stowed T)} (resources' : Slots (Stowed T)) (key : Key) (number : ℕ) (stowed : Stowed T) →
       Inserts resources resources' key number stowed → (q : Place) → stands nodes resources q ≡ true → stands nodes resources' q ≡ true
@@ -223,14 +221,9 @@ module _ {T : Type 0} where
     empty_link (Stored j) = ap (λ es. option_map_or (λ r. r.link) (option_map (λ e. e.value) (get_or es j None)) (alone (Stored j))) resources
 
     empty_home : (q : Place) → home_of (nodes_of s) (resources_of s) (λ _. false) q ≡ None
-    empty_home Roots = refl
-    empty_home Due = refl
-    empty_home Waiting = refl
-    empty_home (Children j) = refl
-    empty_home (Held j) = refl
     empty_home (Sibling j) = ap (option_and_then (λ e. sibling_ring e.value)) (no_node j)
-    empty_home (Noted j) = refl
     empty_home (Stored j) = ap (option_and_then (λ e. resource_ring (nodes_of s) e.value)) (no_resource j)
+    empty_home _ = refl
 
     pub empty_tied : IsTied s
     empty_tied = record {

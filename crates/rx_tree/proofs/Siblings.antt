@@ -111,7 +111,6 @@ some_key : (a b : Key) → Some a ≡ Some b → a ≡ b
 some_key a b e = cc
 
 root_named : (made : Event) → is_root made ≡ true → parent_named made ≡ None
-root_named (Open Root kind) root = refl
 root_named (Open (Source m) kind) root = absurd (false≢true root)
 root_named (Open (Inner m) kind) root = absurd (false≢true root)
 root_named (Open (Notifier m) kind) root = absurd (false≢true root)

@@ -100,9 +100,6 @@ module _ {X : Type 0} where
 module _ {T : Type 0} (s : Store T) (slot : ℕ) (link : Link) where
   pub linked-Children : (l : Record) → value_at s.nodes slot ≡ Some l → (q : Place) →
       link_at (record s { nodes = with_value_at s.nodes slot (record l { children = link }) }) q ≡ set_link_at (Children slot) link s q
-  linked-Children l at Roots = refl
-  linked-Children l at Due = refl
-  linked-Children l at Waiting = refl
   linked-Children l at (Children j) =
       part-written (λ x. x.children) (record { next = Children j; previous = Children j }) s.nodes slot l (record l { children = link }) j at
   linked-Children l at (Held j) = part-kept (λ x. x.held) (record { next = Held j; previous = Held j }) s.nodes slot (record l { children = link }) j at refl
@@ -110,7 +107,7 @@ module _ {T : Type 0} (s : Store T) (slot : ℕ) (link : Link) where
       part-kept (λ x. x.sibling) (record { next = Sibling j; previous = Sibling j }) s.nodes slot (record l { children = link }) j at refl
   linked-Children l at (Noted j) =
       part-kept (λ x. x.noted) (record { next = Noted j; previous = Noted j }) s.nodes slot (record l { children = link }) j at refl
-  linked-Children l at (Stored j) = refl
+  linked-Children l at _ = refl
 
   pub relinks-Children : (l : Record) → value_at s.nodes slot ≡ Some l → Relinks s
       (record s { nodes = with_value_at s.nodes slot (record l { children = link }) })
@@ -124,16 +121,13 @@ module _ {T : Type 0} (s : Store T) (slot : ℕ) (link : Link) where
 
   pub linked-Held : (l : Record) → value_at s.nodes slot ≡ Some l → (q : Place) →
       link_at (record s { nodes = with_value_at s.nodes slot (record l { held = link }) }) q ≡ set_link_at (Held slot) link s q
-  linked-Held l at Roots = refl
-  linked-Held l at Due = refl
-  linked-Held l at Waiting = refl
   linked-Held l at (Children j) =
       part-kept (λ x. x.children) (record { next = Children j; previous = Children j }) s.nodes slot (record l { held = link }) j at refl
   linked-Held l at (Held j) = part-written (λ x. x.held) (record { next = Held j; previous = Held j }) s.nodes slot l (record l { held = link }) j at
   linked-Held l at (Sibling j) = part-kept (λ x. x.sibling) (record { next = Sibling j; previous = Sibling j }) s.nodes slot (record l { held = link }) j at
       refl
   linked-Held l at (Noted j) = part-kept (λ x. x.noted) (record { next = Noted j; previous = Noted j }) s.nodes slot (record l { held = link }) j at refl
-  linked-Held l at (Stored j) = refl
+  linked-Held l at _ = refl
 
   pub relinks-Held : (l : Record) → value_at s.nodes slot ≡ Some l → Relinks s (record s { nodes = with_value_at s.nodes slot (record l { held = link }) })
   relinks-Held l at = record {
@@ -146,9 +140,6 @@ module _ {T : Type 0} (s : Store T) (slot : ℕ) (link : Link) where
 
   pub linked-Sibling : (l : Record) → value_at s.nodes slot ≡ Some l → (q : Place) →
       link_at (record s { nodes = with_value_at s.nodes slot (record l { sibling = link }) }) q ≡ set_link_at (Sibling slot) link s q
-  linked-Sibling l at Roots = refl
-  linked-Sibling l at Due = refl
-  linked-Sibling l at Waiting = refl
   linked-Sibling l at (Children j) =
       part-kept (λ x. x.children) (record { next = Children j; previous = Children j }) s.nodes slot (record l { sibling = link }) j at refl
   linked-Sibling l at (Held j) = part-kept (λ x. x.held) (record { next = Held j; previous = Held j }) s.nodes slot (record l { sibling = link }) j at refl
@@ -156,7 +147,7 @@ module _ {T : Type 0} (s : Store T) (slot : ℕ) (link : Link) where
       part-written (λ x. x.sibling) (record { next = Sibling j; previous = Sibling j }) s.nodes slot l (record l { sibling = link }) j at
   linked-Sibling l at (Noted j) =
       part-kept (λ x. x.noted) (record { next = Noted j; previous = Noted j }) s.nodes slot (record l { sibling = link }) j at refl
-  linked-Sibling l at (Stored j) = refl
+  linked-Sibling l at _ = refl
 
   pub relinks-Sibling : (l : Record) → value_at s.nodes slot ≡ Some l → Relinks s
       (record s { nodes = with_value_at s.nodes slot (record l { sibling = link }) })
@@ -170,16 +161,13 @@ module _ {T : Type 0} (s : Store T) (slot : ℕ) (link : Link) where
 
   pub linked-Noted : (l : Record) → value_at s.nodes slot ≡ Some l → (q : Place) →
       link_at (record s { nodes = with_value_at s.nodes slot (record l { noted = link }) }) q ≡ set_link_at (Noted slot) link s q
-  linked-Noted l at Roots = refl
-  linked-Noted l at Due = refl
-  linked-Noted l at Waiting = refl
   linked-Noted l at (Children j) =
       part-kept (λ x. x.children) (record { next = Children j; previous = Children j }) s.nodes slot (record l { noted = link }) j at refl
   linked-Noted l at (Held j) = part-kept (λ x. x.held) (record { next = Held j; previous = Held j }) s.nodes slot (record l { noted = link }) j at refl
   linked-Noted l at (Sibling j) =
       part-kept (λ x. x.sibling) (record { next = Sibling j; previous = Sibling j }) s.nodes slot (record l { noted = link }) j at refl
   linked-Noted l at (Noted j) = part-written (λ x. x.noted) (record { next = Noted j; previous = Noted j }) s.nodes slot l (record l { noted = link }) j at
-  linked-Noted l at (Stored j) = refl
+  linked-Noted l at _ = refl
 
   pub relinks-Noted : (l : Record) → value_at s.nodes slot ≡ Some l → Relinks s (record s { nodes = with_value_at s.nodes slot (record l { noted = link }) })
   relinks-Noted l at = record {
@@ -192,15 +180,9 @@ module _ {T : Type 0} (s : Store T) (slot : ℕ) (link : Link) where
 
   pub linked-Stored : (r : Kept T) → value_at s.resources slot ≡ Some r → (q : Place) →
       link_at (record s { resources = with_value_at s.resources slot (record r { link = link }) }) q ≡ set_link_at (Stored slot) link s q
-  linked-Stored r at Roots = refl
-  linked-Stored r at Due = refl
-  linked-Stored r at Waiting = refl
-  linked-Stored r at (Children j) = refl
-  linked-Stored r at (Held j) = refl
-  linked-Stored r at (Sibling j) = refl
-  linked-Stored r at (Noted j) = refl
   linked-Stored r at (Stored j) =
       part-written (λ x. x.link) (record { next = Stored j; previous = Stored j }) s.resources slot r (record r { link = link }) j at
+  linked-Stored r at _ = refl
 
   pub relinks-Stored : (r : Kept T) → value_at s.resources slot ≡ Some r → Relinks s
       (record s { resources = with_value_at s.resources slot (record r { link = link }) })
@@ -338,36 +320,24 @@ module _ {T : Type 0} (old : Store T) where
       ((j : ℕ) → link_at new (Children j) ≡ link_at old (Children j)) → ((j : ℕ) → link_at new (Held j) ≡ link_at old (Held j)) →
       ((j : ℕ) → link_at new (Sibling j) ≡ set_link_at (Sibling slot) (alone (Sibling slot)) old (Sibling j)) →
       ((j : ℕ) → link_at new (Noted j) ≡ link_at old (Noted j)) → (q : Place) → link_at new q ≡ set_link_at (Sibling slot) (alone (Sibling slot)) old q
-  links_taken nodes slot c h s n Roots = refl
-  links_taken nodes slot c h s n Due = refl
-  links_taken nodes slot c h s n Waiting = refl
   links_taken nodes slot c h s n (Children j) = c j
   links_taken nodes slot c h s n (Held j) = h j
   links_taken nodes slot c h s n (Sibling j) = s j
   links_taken nodes slot c h s n (Noted j) = n j
-  links_taken nodes slot c h s n (Stored j) = refl
+  links_taken nodes slot c h s n _ = refl
 
   -- links stay where each part of the nodes' records does
   pub nodes_keep_links : (nodes : Slots Record) → let new = record old { nodes = nodes } in
       ((j : ℕ) → link_at new (Children j) ≡ link_at old (Children j)) → ((j : ℕ) → link_at new (Held j) ≡ link_at old (Held j)) →
       ((j : ℕ) → link_at new (Sibling j) ≡ link_at old (Sibling j)) → ((j : ℕ) → link_at new (Noted j) ≡ link_at old (Noted j)) → KeepsLinks old new
-  nodes_keep_links nodes c h s n Roots = refl
-  nodes_keep_links nodes c h s n Due = refl
-  nodes_keep_links nodes c h s n Waiting = refl
   nodes_keep_links nodes c h s n (Children j) = c j
   nodes_keep_links nodes c h s n (Held j) = h j
   nodes_keep_links nodes c h s n (Sibling j) = s j
   nodes_keep_links nodes c h s n (Noted j) = n j
-  nodes_keep_links nodes c h s n (Stored j) = refl
+  nodes_keep_links nodes c h s n _ = refl
 
   -- and where that of the resources' records does
   pub resources_keep_links : (resources : Slots (Kept T)) → let new = record old { resources = resources } in
       ((j : ℕ) → link_at new (Stored j) ≡ link_at old (Stored j)) → KeepsLinks old new
-  resources_keep_links resources t Roots = refl
-  resources_keep_links resources t Due = refl
-  resources_keep_links resources t Waiting = refl
-  resources_keep_links resources t (Children j) = refl
-  resources_keep_links resources t (Held j) = refl
-  resources_keep_links resources t (Sibling j) = refl
-  resources_keep_links resources t (Noted j) = refl
   resources_keep_links resources t (Stored j) = t j
+  resources_keep_links resources t _ = refl

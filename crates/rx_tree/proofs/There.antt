@@ -66,10 +66,7 @@ module _ {T : Type 0} (nodes : Slots Node) (resources : Slots (Stowed T)) where
       lent false s = by x.value.node (is_some (find nodes x.value.node)) (not x.value.removed) refl
           (some_same (cond (is_owned nodes x.value) (Held x.value.node.slot) Waiting) e s)
   end_stands noted Roots e sound at = absurd (true≢false (ap is_some (sym at)))
-  end_stands noted Due e sound at = absurd (true≢false (ap is_some (sym at)))
-  end_stands noted Waiting e sound at = absurd (true≢false (ap is_some (sym at)))
-  end_stands noted (Children j) e sound at = absurd (true≢false (ap is_some (sym at)))
-  end_stands noted (Held j) e sound at = absurd (true≢false (ap is_some (sym at)))
+  end_stands noted _ e sound at = absurd (true≢false (ap is_some (sym at)))
 
   -- and the end of the ring where a resource belongs
   pub ring_stands : (stowed : Stowed T) (e : Place) → resource_ring nodes stowed ≡ Some e → stands nodes resources e ≡ true

@@ -48,11 +48,7 @@ module _ {T : Type 0} where
   home_by stay (Sibling j) c = stay.sibling j c
   home_by stay (Noted j) c = ap (λ b. cond b (Some Due) None) (stay.note j c)
   home_by stay (Stored r) c = stay.stored r c
-  home_by stay Roots c = refl
-  home_by stay Due c = refl
-  home_by stay Waiting c = refl
-  home_by stay (Children j) c = refl
-  home_by stay (Held j) c = refl
+  home_by stay _ c = refl
 
   -- what has a home stands somewhere
   pub home_stands : (nodes : Slots Node) (resources : Slots (Stowed T)) (noted : ℕ → Bool) (q e : Place) → home_of nodes resources noted q ≡ Some e →
@@ -70,11 +66,7 @@ module _ {T : Type 0} where
     of : (o : Option (Entry (Stowed T))) → option_and_then (λ e. resource_ring nodes e.value) o ≡ Some e → is_some o ≡ true
     of None at = absurd (true≢false (ap is_some (sym at)))
     of (Some x) at = refl
-  home_stands nodes resources noted Roots e at = absurd (true≢false (ap is_some (sym at)))
-  home_stands nodes resources noted Due e at = absurd (true≢false (ap is_some (sym at)))
-  home_stands nodes resources noted Waiting e at = absurd (true≢false (ap is_some (sym at)))
-  home_stands nodes resources noted (Children j) e at = absurd (true≢false (ap is_some (sym at)))
-  home_stands nodes resources noted (Held j) e at = absurd (true≢false (ap is_some (sym at)))
+  home_stands nodes resources noted _ e at = absurd (true≢false (ap is_some (sym at)))
 
   pub aged : (nodes : Slots Node) (resources : Slots (Stowed T)) (noted : ℕ → Bool) (q e : Place) → home_of nodes resources noted q ≡ Some e →
       is_by_age e ≡ true → IsNodeAt nodes q
@@ -96,10 +88,7 @@ module _ {T : Type 0} where
     of None at = absurd (true≢false (ap is_some (sym at)))
     of (Some x) at = absurd (true≢false (sym age ∙ by (is_lent x.value) (is_owned nodes x.value) x.value.node.slot at))
   aged nodes resources noted Roots e at age = absurd (true≢false (ap is_some (sym at)))
-  aged nodes resources noted Due e at age = absurd (true≢false (ap is_some (sym at)))
-  aged nodes resources noted Waiting e at age = absurd (true≢false (ap is_some (sym at)))
-  aged nodes resources noted (Children j) e at age = absurd (true≢false (ap is_some (sym at)))
-  aged nodes resources noted (Held j) e at age = absurd (true≢false (ap is_some (sym at)))
+  aged nodes resources noted _ e at age = absurd (true≢false (ap is_some (sym at)))
 
   -- the marks of a node change
   module _ (nodes nodes' : Slots Node) (resources : Slots (Stowed T)) (key : Key) (before : Node) (marks : Marks) (found : find nodes key ≡ Some before)

@@ -93,12 +93,7 @@ module _ {T : Type 0} (nodes : Slots Node) (resources : Slots (Stowed T)) where
           of false false e = refl
           of a true e = absurd (true≢false e)
     unnoted_others Roots apart = refl
-    unnoted_others Due apart = refl
-    unnoted_others Waiting apart = refl
-    unnoted_others (Children j) apart = refl
-    unnoted_others (Held j) apart = refl
-    unnoted_others (Sibling j) apart = refl
-    unnoted_others (Stored j) apart = refl
+    unnoted_others _ apart = refl
 
   abbrev pub tied_unnoted : (n p n' p' : Steps Place) (slot : ℕ) → IsTiedAt n p nodes resources → Leaves places n p n' p' (Noted slot) →
       IsTiedAt n' p' nodes resources
@@ -126,13 +121,7 @@ module _ {T : Type 0} (nodes : Slots Node) (resources : Slots (Stowed T)) where
     pub noted_others : (q : Place) → Noted slot ≢ q → home_of nodes resources with_noted q ≡ home_of nodes resources noted q
     noted_others (Noted j) apart = ap (λ b. cond (cond b true (noted j) && is_some (entry_at nodes j)) (Some Due) None)
         (false_from_ne_true (slot == j) (λ e. let s : slot ≡ j = grind (arith, nat_tests, e) in apart (ap (λ k. Noted k) s)))
-    noted_others Roots apart = refl
-    noted_others Due apart = refl
-    noted_others Waiting apart = refl
-    noted_others (Children j) apart = refl
-    noted_others (Held j) apart = refl
-    noted_others (Sibling j) apart = refl
-    noted_others (Stored j) apart = refl
+    noted_others _ apart = refl
 
   abbrev pub tied_noted : {n : Steps Place} (p n' p' : Steps Place) (slot : ℕ) (tied : IsTiedAt n p nodes resources) →
       home_of nodes resources tied.noted (Noted slot) ≡ None →

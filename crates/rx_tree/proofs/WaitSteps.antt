@@ -50,10 +50,7 @@ module _ {T : Type 0} where
     of None e = true≢false (ap is_some (sym e))
     of (Some x) e = by x.value.above (is_root x.value.made) e
   waits_is nodes resources noted Roots at = absurd (true≢false (ap is_some (sym at)))
-  waits_is nodes resources noted Due at = absurd (true≢false (ap is_some (sym at)))
-  waits_is nodes resources noted Waiting at = absurd (true≢false (ap is_some (sym at)))
-  waits_is nodes resources noted (Children j) at = absurd (true≢false (ap is_some (sym at)))
-  waits_is nodes resources noted (Held j) at = absurd (true≢false (ap is_some (sym at)))
+  waits_is nodes resources noted _ at = absurd (true≢false (ap is_some (sym at)))
 
 -- the key of a place that waits, and what it finds
 pub record IsWaiting {T : Type 0} (s : Store T) (slot : ℕ) (key : Key) : Type 0 where

@@ -3,7 +3,7 @@ use Rattle.std.proofs.Common.{◌≡◌, ℕ, Bool, true, false, List, [], ◌�
 use Rattle.std.proofs.Math.Bool.{not, ◌||◌}
 use Rattle.std.specs.List.{AllByRecursion, list_any}
 use Rattle.std.specs.Option.{option_map_or}
-use Rattle.std.proofs.lemmas.Bool.{false≢true, eqb-true}
+use Rattle.std.proofs.lemmas.Bool.{false≢true, or_cases, eqb-true}
 use Rattle.rx_note.specs.declared.note.Terminal.{Terminal}
 use Rattle.rx_note.specs.declared.note.Terminal.TheVariants.{Completed, Error}
 use Rattle.rx_event.specs.Kept.{Kept, shown}
@@ -50,10 +50,6 @@ event_fires_until base h _ law next u found = absurd (false≢true found)
 until_stays : (h : List Event) (e : Event) (u : ℕ) → at is_until h u ≡ true → at is_until (h ++ e ∷ []) u ≡ true
 until_stays h e u is = at-append is_until h (e ∷ []) u (at_within is_until h u is) ∙ is
 
-either : (a b : Bool) → (a || b) ≡ true → (a ≡ true) ⊎ (b ≡ true)
-either true b is = inl refl
-either false b is = inr is
-
 pub fired_until : (base : Kept) (h : List Event) → IsLawful base h → (u : ℕ) → is_fired h u ≡ true → at is_until h u ≡ true
 fired_until base = by_events base (λ h. (u : ℕ) → is_fired h u ≡ true → at is_until h u ≡ true) begun further where
   begun : Rattle.rx_event.specs.Lawful.Started base → (u : ℕ) → is_fired (shown base) u ≡ true → at is_until (shown base) u ≡ true
@@ -61,7 +57,7 @@ fired_until base = by_events base (λ h. (u : ℕ) → is_fired h u ≡ true →
 
   further : (h : List Event) (e : Event) → IsLawful base h → MayFollow base h e → ((u : ℕ) → is_fired h u ≡ true → at is_until h u ≡ true) →
       (u : ℕ) → is_fired (h ++ e ∷ []) u ≡ true → at is_until (h ++ e ∷ []) u ≡ true
-  further h e law next before u is = by_reason (either (is_fired h u) (list_any (is_firing_of u) (stops_of h e)) (sym (is_fired-push h e u) ∙ is)) where
+  further h e law next before u is = by_reason (or_cases (is_fired h u) (list_any (is_firing_of u) (stops_of h e)) (sym (is_fired-push h e u) ∙ is)) where
     by_reason : (is_fired h u ≡ true) ⊎ (list_any (is_firing_of u) (stops_of h e) ≡ true) → at is_until (h ++ e ∷ []) u ≡ true
     by_reason (inl was) = until_stays h e u (before u was)
     by_reason (inr now) = until_stays h e u (event_fires_until base h e law next u now)

@@ -22,6 +22,7 @@ use Rattle.rx_event.specs.Notes.{notes_to, mail_of}
 use Rattle.rx_event.specs.Forced.{IsDue, IsConnected, IsSettled}
 use Rattle.rx_event.specs.Lawful.{stays, more, IsLawful, IsForcedOn, IsStep}
 use Rattle.rx_event.specs.Claims.Determined.{is_closing, AreAlike, EndsSince}
+use Rattle.rx_event.proofs.Laws.Searches.{and_true, and_false}
 use Rattle.rx_event.proofs.Laws.Lists.{same_filter}
 use Rattle.rx_event.proofs.Laws.Places.{slice_get_last}
 use Rattle.rx_event.proofs.Laws.Parents.{ancestors_step}
@@ -29,17 +30,12 @@ use Rattle.rx_event.proofs.Laws.Openness.{stays_closed, is_open_past, is_open_ou
 use Rattle.rx_event.proofs.Laws.Leases.{is_out_past}
 use Rattle.rx_event.proofs.Laws.Resources.{node_of, is_owned_past, is_held_past, is_waiting_past}
 use Rattle.rx_event.proofs.Laws.Notes.{notes_in, notes_to-push, noted_to}
-use Rattle.rx_event.proofs.Laws.Dues.{and_false, IsDueOn, none_more, one_more, IsClosing, by_end, by_close, closing_of, Fails}
-use Rattle.rx_event.proofs.Laws.Dues.{SeesNone, seen_on, connect_on, at_on, any_on, count_on, owed_on, stays_closed_on, EndsSo}
-use Rattle.rx_event.proofs.Laws.Dues.{ends_one, EndStands, stood_before, came_after, end_stands, begun_on}
+use Rattle.rx_event.proofs.Laws.Dues.{IsDueOn, none_more, one_more, IsClosing, by_end, by_close, closing_of, Fails, SeesNone, seen_on, connect_on, at_on}
+use Rattle.rx_event.proofs.Laws.Dues.{any_on, count_on, owed_on, stays_closed_on, EndsSo, ends_one, EndStands, stood_before, came_after, end_stands, begun_on}
 use Rattle.rx_event.proofs.Laws.ClosedInEveryCourse.{same_open, spared}
 use Rattle.rx_event.proofs.Laws.SameMarks.{marks_both}
 use Rattle.rx_event.proofs.Laws.Starts.{StartAlike, BeginsWith, begins_with, starts_with, start_alike, lawful_begun}
 use Rattle.rx_event.proofs.Laws.Lawful.{shown_within}
-
-and_yes : (a : Bool) → (a && true) ≡ a
-and_yes true = refl
-and_yes false = refl
 
 -- notes ------------------------------------------------------------------------------------------------------
 
@@ -85,12 +81,12 @@ tells_closing base {b = b} {k = k} on law whole d (by_close c g at_c none o) n b
   still : at is_root b n ≡ true → is_open (k ++ Close c ∷ []) n ≡ is_open k n
   still root =
       let now : at is_root k n ≡ true = at_on base is_root root_fails on n ∙ root in
-      is_open_outside-close k c n ∙ rw (root_alone k n now, apart now (c == n) refl) (and_yes (is_open k n))
+      is_open_outside-close k c n ∙ rw (root_alone k n now, apart now (c == n) refl) (and_true (is_open k n))
 tells_closing base {b = b} {k = k} on law whole d (by_end c {t = t} x o) n before = by_root (at is_root k c) refl (c == n) refl where
   still : (c == n) ≡ false → at is_root b n ≡ true → is_open (k ++ End c t ∷ []) n ≡ is_open k n
   still other root =
       let now : at is_root k n ≡ true = at_on base is_root root_fails on n ∙ root in
-      is_open_outside-end k c t n ∙ rw (root_alone k n now, other) (and_yes (is_open k n))
+      is_open_outside-end k c t n ∙ rw (root_alone k n now, other) (and_true (is_open k n))
 
   silent : (r a : Bool) → at is_root k c ≡ r → (c == n) ≡ a → (r && a) ≡ false → notes_in n (mail_of k (End c t)) ≡ []
   silent true true root same both = absurd (false≢true (sym both))

@@ -34,7 +34,7 @@ use Rattle.rx_event.specs.Kept.{Kept, node_kept, hub_kept, resource_kept, lease_
 use Rattle.rx_event.specs.Opened.{source_opened, notifier_opened}
 use Rattle.rx_event.specs.Bases.{keep_node, keep_hub, keep_resource, keep_lease, lease_resource, accept_node, accept_tag, is_untaken, base_of, Agree}
 use Rattle.rx_event.proofs.Laws.SoundForm.{StandsWell, SubscribesWell, TwoOpenInners, Sound}
-use Rattle.rx_event.proofs.Laws.Searches.{list_any_found, list_any_holds}
+use Rattle.rx_event.proofs.Laws.Searches.{list_any_found, list_any_holds, or_false, and_true, and_false}
 use Rattle.rx_event.proofs.Laws.Places.{at_within}
 use Rattle.rx_event.proofs.Laws.Openness.{parent_open}
 use Rattle.rx_event.proofs.Laws.Stands.{open_node}
@@ -351,12 +351,8 @@ module _ (b : Kept) (h : List Event) where
 
   pub s_is_out : (l : ℕ) → is_out h l ≡ is_out (shown (base_of b h)) l
   unfolding is_out
-  s_is_out l = by_test (is_out h l) refl ∙ sym (ap (λ c. at makes_lease (shown (base_of b h)) l && not c) (s_unreturned l) ∙ and_yes
+  s_is_out l = by_test (is_out h l) refl ∙ sym (ap (λ c. at makes_lease (shown (base_of b h)) l && not c) (s_unreturned l) ∙ and_true
       (at makes_lease (shown (base_of b h)) l)) where
-        and_yes : (c : Bool) → (c && true) ≡ c
-        and_yes true = refl
-        and_yes false = refl
-
         by_test : (x : Bool) → is_out h l ≡ x → x ≡ at makes_lease (shown (base_of b h)) l
         by_test true out = sym (ap (λ o. option_map_or makes_lease o false) (s_lease l out) ∙ out_lease h l out)
         by_test false back = sym (s_no_lease l back)
@@ -407,10 +403,7 @@ module _ (b : Kept) (h : List Event) where
 
   s_taken : (r : ℕ) → is_taken (shown (base_of b h)) r ≡ false
   unfolding is_taken
-  s_taken r = ap (λ c. at makes_resource (shown (base_of b h)) r && c) (s_untaken r) ∙ and_false (at makes_resource (shown (base_of b h)) r) where
-    and_false : (c : Bool) → (c && false) ≡ false
-    and_false true = refl
-    and_false false = refl
+  s_taken r = ap (λ c. at makes_resource (shown (base_of b h)) r && c) (s_untaken r) ∙ and_false (at makes_resource (shown (base_of b h)) r)
 
   module _ (sound : Sound b h) where
     pub base_is_alike : Alike h (shown (base_of b h))
@@ -419,10 +412,6 @@ module _ (b : Kept) (h : List Event) where
     pub owned_node : (r : ℕ) → is_owned h r ≡ true → option_map_or (is_open h) (node_of h r) false ≡ true
     unfolding is_owned
     owned_node r owned = (and_parts (option_map_or (is_open h) (node_of h r) false) _ owned).0
-
-    and_true : (c : Bool) → (c && true) ≡ c
-    and_true true = refl
-    and_true false = refl
 
     node_open_there : (o : Option Event) →
         option_map_or (is_open h) (option_and_then node_of_accept o) false ≡
@@ -548,11 +537,7 @@ module _ (b : Kept) (h : List Event) where
     s_completions n o =
         sym (completed_read (base_of b h) (shown (base_of b h)) n ∙
         (λ i. option_map_or (λ x. x.source_completed) (s_node n o i) false || s_completed n i) ∙
-        or_nothing (source_completed b h n))
-      where
-        or_nothing : (x : Bool) → (x || false) ≡ x
-        or_nothing true = refl
-        or_nothing false = refl
+        or_false (source_completed b h n))
 
     pub s_debts : (n : ℕ) → is_open h n ≡ true → owed b h n ≡ owed (base_of b h) (shown (base_of b h)) n
     s_debts n o =

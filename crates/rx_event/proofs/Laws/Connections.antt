@@ -13,7 +13,7 @@ use Rattle.rx_event.specs.Kept.{Kept, shown}
 use Rattle.rx_event.specs.declared.event.Place.{Place}
 use Rattle.rx_event.specs.declared.event.Kind.TheVariants.{Sub}
 use Rattle.rx_event.specs.declared.event.Event.{Event}
-use Rattle.rx_event.specs.declared.event.Event.TheVariants.{Open, Hub, Connect, Accept, Use, Remove, Lease, Return, Item, Decline, End, Close, Take}
+use Rattle.rx_event.specs.declared.event.Event.TheVariants.{Open, Connect, End, Close}
 use Rattle.rx_event.specs.Events.{is_auto_hub, is_connect_of, is_subscriber_of, hub_subscribed}
 use Rattle.rx_event.specs.Tree.{at, places, is_open, open_subscribers}
 use Rattle.rx_event.specs.Forced.{cut, left, due, SourceEnded, IsDue, IsConnectDue}

@@ -26,7 +26,7 @@ use Rattle.rx_event.proofs.Laws.Totals.{is_within_self}
 use Rattle.rx_event.proofs.Laws.Waits.{kept_due}
 use Rattle.rx_event.proofs.Laws.Projections.{owed_kept}
 use Rattle.rx_event.proofs.Laws.MarksAfter.{is_fired-push}
-use Rattle.rx_event.proofs.Laws.Searches.{or_false}
+use Rattle.rx_event.proofs.Laws.Searches.{or_false, and_false}
 use Rattle.rx_event.proofs.Laws.Calm.{subscriber_listed, none_subscribed}
 use Rattle.rx_event.proofs.Laws.OneEnd.{ends_as, completes, ends_so, completes_one, fires_it, IsReason, due_before, one_end}
 
@@ -47,10 +47,6 @@ closing_of base (failed {f = c} o m child) = by_end c (failed o m child) o
 closing_of base (completed {f = c} o m x s below w) = by_end c (completed o m x s below w) o
 closing_of base (cut {s = c} o s) = by_end c (cut o s) o
 closing_of base (left {c = c} {g = g} o at_c auto none) = by_close c g at_c none o
-
-pub and_false : (a : Bool) → (a && false) ≡ false
-and_false true = refl
-and_false false = refl
 
 inside_by : (a : Bool) → (true && not a) ≡ false → a ≡ true
 inside_by true gone = refl

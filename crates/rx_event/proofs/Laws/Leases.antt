@@ -16,7 +16,7 @@ use Rattle.rx_event.specs.Resources.{is_owned, is_out, is_out_of, leases_of, is_
 use Rattle.rx_event.specs.Totals.{lease_count}
 use Rattle.rx_event.specs.Lawful.{MayFollow, IsLawful}
 use Rattle.rx_event.proofs.Laws.Places.{slice_get_last, at-append, at_within}
-use Rattle.rx_event.proofs.Laws.Searches.{list_any_push}
+use Rattle.rx_event.proofs.Laws.Searches.{list_any_push, and_true, and_false}
 use Rattle.rx_event.proofs.Laws.Sums.{sum_by-places-push, sums_balance, sum_by-same, sum_by_none, sum_by_one, count_by_one, term_in_sum}
 use Rattle.rx_event.proofs.Laws.Lawful.{in_base, since_base, FoundAt, found_at}
 use Rattle.rx_event.proofs.Laws.Steps.{by_events, may_lease, may_return}
@@ -133,10 +133,7 @@ abbrev returned_count : List Event → ℕ → Event → ℕ
 returned_count h r e = count_by (λ l. is_out_of h r l && is_return_of l e) (places h)
 
 lease_made : (r : ℕ) (e : Event) → (is_lease_of r e && makes_lease e) ≡ is_lease_of r e
-lease_made r (Lease q) = and_true (q == r) where
-  and_true : (b : Bool) → (b && true) ≡ b
-  and_true true = refl
-  and_true false = refl
+lease_made r (Lease q) = and_true (q == r)
 lease_made r _ = refl
 
 leases_of-push : (base : Kept) → (h : List Event) (e : Event) → IsLawful base h → (r : ℕ) →
@@ -189,10 +186,7 @@ leases_of-return base h l q law next at_l r =
     omega arith
   where
     there : is_out_of h r l ≡ (q == r)
-    there = (λ i. option_map_or (is_lease_of r) (at_l i) false && may_return base next i) ∙ and_true (q == r) where
-      and_true : (b : Bool) → (b && true) ≡ b
-      and_true true = refl
-      and_true false = refl
+    there = (λ i. option_map_or (is_lease_of r) (at_l i) false && may_return base next i) ∙ and_true (q == r)
 
     shape : (b : Bool) → cond {A = ℕ} (b && false) 1 0 ≡ 0
     shape true = refl
@@ -359,10 +353,6 @@ leases_of_same h k long same made r =
     (λ l less. ap (λ b. cond {A = ℕ} b 1 0) (each l (is_out h l) refl)) ∙
     ap (λ n. sum_by (λ l. cond {A = ℕ} (is_out_of k r l) 1 0) (range_with_len 0 n)) long
   where
-    and_false : (b : Bool) → (b && false) ≡ false
-    and_false true = refl
-    and_false false = refl
-
     each : (l : ℕ) (b : Bool) → is_out h l ≡ b → is_out_of h r l ≡ is_out_of k r l
     each l true out = (λ i. option_map_or (is_lease_of r) (made l out i) false && same l i)
     each l false back = ap (λ b. at (is_lease_of r) h l && b) back ∙ and_false (at (is_lease_of r) h l) ∙

@@ -7,7 +7,7 @@ use Rattle.std.specs.List.{count_by, range_with_len}
 use Rattle.std.specs.Option.{option_map_or}
 use Rattle.std.proofs.lemmas.Bool.{cases_Bool, both_ways, false≢true, and_parts, and_from, eq-eqb, false_from_ne_true}
 use Rattle.std.proofs.lemmas.Option.{slice_get_within}
-use Rattle.rx_event.proofs.Laws.Hubs.{hub_before}
+use Rattle.rx_event.proofs.Laws.Hubs.{hub_before, at_connect, connection_hub, unsubscribed_unconnected, hubs_in_order}
 use Rattle.rx_event.specs.Kept.{Kept}
 use Rattle.rx_event.specs.declared.event.Place.TheVariants.{Root, Source, Inner, Notifier}
 use Rattle.rx_event.specs.declared.event.Mode.TheVariants.{Auto, Manual}
@@ -27,7 +27,6 @@ use Rattle.rx_event.proofs.Laws.Steps.{parent-named}
 use Rattle.rx_event.proofs.Laws.Stands.{open_node}
 use Rattle.rx_event.proofs.Laws.Sums.{sum_by_none, term_in_sum}
 use Rattle.rx_event.proofs.Laws.Totals.{is_within_self}
-use Rattle.rx_event.proofs.Laws.Hubs.{at_connect, connection_hub, unsubscribed_unconnected, hubs_in_order}
 
 -- the topmost node ---------------------------------------------------------------------------------
 

@@ -4,7 +4,7 @@ use Rattle.std.proofs.Math.Bool.{◌||◌}
 use Rattle.std.specs.List.{list_any, flat_map}
 use Rattle.std.proofs.lemmas.Bool.{false≢true}
 use Rattle.rx_event.specs.declared.event.Event.{Event}
-use Rattle.rx_event.specs.declared.event.Event.TheVariants.{Open, Remove, Return, Item, End, Take}
+use Rattle.rx_event.specs.declared.event.Event.TheVariants.{Remove, Return, Item, End, Take}
 use Rattle.rx_event.specs.Events.{is_making, is_remove_of, is_return_of, is_take_of}
 use Rattle.rx_event.specs.Climb.{Stop}
 use Rattle.rx_event.specs.Moments.{Moment, moments, moments_after, is_firing_of, stops_of, is_fired}

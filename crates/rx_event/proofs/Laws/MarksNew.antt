@@ -7,9 +7,9 @@ use Rattle.std.proofs.lemmas.Bool.{false≢true, eqb-true, ne_eqb}
 use Rattle.std.proofs.lemmas.Option.{slice_get_within}
 use Rattle.rx_note.specs.declared.note.Terminal.{Terminal}
 use Rattle.std.proofs.Math.Bool.{◌||◌}
-use Rattle.rx_event.proofs.Laws.Lawful.{shown_within}
+use Rattle.rx_event.proofs.Laws.Lawful.{shown_within, IsLawful-push}
 use Rattle.rx_event.specs.Kept.{Kept, node_kept, shown}
-use Rattle.rx_event.specs.declared.event.Place.TheVariants.{Root, Source, Inner, Notifier}
+use Rattle.rx_event.specs.declared.event.Place.TheVariants.{Source, Notifier}
 use Rattle.rx_event.specs.declared.event.Event.{Event}
 use Rattle.rx_event.specs.declared.event.Event.TheVariants.{Open, Item}
 use Rattle.rx_event.specs.Events.{is_source_of, is_notifier_of, parent_named}
@@ -20,7 +20,6 @@ use Rattle.rx_event.specs.Marks.{source_completed, completes_source, blank_marks
 use Rattle.rx_event.specs.Lawful.{MayFollow, IsLawful}
 use Rattle.rx_event.proofs.Laws.Parents.{parent-lt, parent_within}
 use Rattle.rx_event.proofs.Laws.Openness.{is_open_within}
-use Rattle.rx_event.proofs.Laws.Lawful.{IsLawful-push}
 use Rattle.rx_event.proofs.Laws.Steps.{by_events, may_emit, named_below}
 use Rattle.rx_event.specs.Claims.Climbs.{StopsAtOpen}
 use Rattle.rx_event.proofs.Laws.Projections.{stops_open, owed_new}

@@ -1,21 +1,19 @@
 -- All that is due in a lawful history ends in one way: as what was ended in this step did, or by a completion.
 use Rattle.std.proofs.Common.{◌≡◌, ℕ, ◌<◌, ◌≤◌, Bool, true, false, List, [], ◌∷◌, ◌++◌, length, Option, Some}
 use Rattle.std.proofs.Common.{None, cond, refl, sym, ap, ◌∙◌, arith, inl, inr, ◌⊎◌, ◌==◌, slice_get}
-use Rattle.std.proofs.Math.Bool.{not, ◌&&◌}
+use Rattle.std.proofs.Math.Bool.{not, ◌&&◌, ◌||◌}
 use Rattle.std.specs.List.{list_any}
 use Rattle.std.specs.Option.{option_map_or}
 use Rattle.std.proofs.lemmas.Bool.{cases_lt, both_ways, false≢true, and_parts, or_cases, eq-eqb, eqb-true}
 use Rattle.std.proofs.lemmas.Option.{slice_get_within, same_Some, none-some}
 use Rattle.rx_note.specs.declared.note.Terminal.{Terminal}
 use Rattle.rx_note.specs.declared.note.Terminal.TheVariants.{Completed, Error}
-use Rattle.std.proofs.Math.Bool.{◌||◌}
-use Rattle.rx_event.specs.Kept.{Kept}
-use Rattle.rx_event.specs.Marks.{completes_source, source_completed}
-use Rattle.rx_event.proofs.Laws.MarksAfter.{source_completed-push}
-use Rattle.rx_event.proofs.Laws.MarksNew.{source_completed_is}
-use Rattle.rx_event.proofs.Laws.MarksFound.{source_completed_true}
-use Rattle.rx_event.proofs.Laws.Lawful.{shown_within}
-use Rattle.rx_event.specs.Kept.{node_kept}
+use Rattle.rx_event.specs.Kept.{Kept, node_kept}
+use Rattle.rx_event.specs.Marks.{completes_source, source_completed, due_at, marks_of, is_child_of}
+use Rattle.rx_event.proofs.Laws.MarksAfter.{source_completed-push, ended_older, child_new, adds_child, is_fired-push}
+use Rattle.rx_event.proofs.Laws.MarksNew.{source_completed_is, fired_past}
+use Rattle.rx_event.proofs.Laws.MarksFound.{source_completed_true, is_child_parent}
+use Rattle.rx_event.proofs.Laws.Lawful.{shown_within, ended_after, due_open}
 use Rattle.rx_event.proofs.Laws.Searches.{or_false}
 use Rattle.rx_event.specs.declared.event.Place.TheVariants.{Root, Source, Inner, Notifier}
 use Rattle.rx_event.specs.declared.event.Event.{Event}
@@ -24,23 +22,18 @@ use Rattle.rx_event.specs.Events.{is_mirroring, is_merging, is_until, is_source_
 use Rattle.rx_event.specs.Tree.{at, parent, is_open, shuts}
 use Rattle.rx_event.specs.Moments.{is_fired, is_firing_of, stops_of}
 use Rattle.rx_event.specs.Forced.{mirrored, fired, failed, completed, cut, due, ChildEnded, SourceEnded, IsDue, IsForced, IsSettled}
-use Rattle.rx_event.specs.Marks.{due_at, marks_of, is_child_of}
 use Rattle.rx_event.specs.Bases.{Completes}
 use Rattle.rx_event.specs.Lawful.{forced, allowed, opened_with, MayFollow, IsLawful}
 use Rattle.rx_event.proofs.Laws.Places.{slice_get-append, slice_get_last, at-append, cases_push}
 use Rattle.rx_event.proofs.Laws.Parents.{parent-append, parent-lt, parent_within, parent_name, ancestors_step}
 use Rattle.rx_event.proofs.Laws.Openness.{is_open_within, is_open_cut, is_cut}
-use Rattle.rx_event.proofs.Laws.Lawful.{ended_after, due_open}
 use Rattle.rx_event.proofs.Laws.Steps.{by_events, parent-named, forced_kind}
 use Rattle.rx_event.proofs.Laws.Stands.{event_at}
 use Rattle.rx_event.proofs.Laws.Waits.{settled_connected}
 use Rattle.rx_event.proofs.Laws.Projections.{owed-push}
-use Rattle.rx_event.proofs.Laws.MarksFound.{is_child_parent}
 use Rattle.rx_event.proofs.Laws.MarksDue.{due_by_marks, due_at_due}
-use Rattle.rx_event.proofs.Laws.MarksAfter.{ended_older, child_new, adds_child, is_fired-push}
-use Rattle.rx_event.proofs.Laws.MarksEnds.{may_close_none}
+use Rattle.rx_event.proofs.Laws.MarksEnds.{may_close_none, not_false}
 use Rattle.rx_event.proofs.Laws.MarksInner.{switched_parent}
-use Rattle.rx_event.proofs.Laws.MarksNew.{fired_past}
 
 -- how what the event makes due ends, if it makes anything due
 abbrev pub end_by : Event → Option Terminal
@@ -139,10 +132,6 @@ child_shut {e = Open Root kind} law next n k below shut silent opens = absurd (f
 child_shut {e = Open (Source f) kind} law next n k below shut silent opens = absurd (false≢true shut)
 child_shut {e = Open (Notifier f) kind} law next n k below shut silent opens = absurd (false≢true shut)
 child_shut law next n k below shut silent opens = absurd (false≢true shut)
-
-not_false : (b : Bool) → not b ≡ true → b ≡ false
-not_false false n = refl
-not_false true n = absurd (false≢true n)
 
 now_closed : (o c : Bool) → (o && not c) ≡ false → c ≡ false → o ≡ false
 now_closed false c gone whole = refl

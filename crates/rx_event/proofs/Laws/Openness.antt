@@ -10,11 +10,12 @@ use Rattle.std.proofs.lemmas.List.{drop-append-le}
 use Rattle.std.proofs.lemmas.List.Folds.{list_any-append}
 use Rattle.rx_note.specs.declared.note.Terminal.{Terminal}
 use Rattle.rx_event.specs.declared.event.Kind.{Kind}
-use Rattle.rx_event.specs.declared.event.Place.TheVariants.{Root, Source, Inner, Notifier}
+use Rattle.rx_event.specs.declared.event.Place.TheVariants.{Inner}
 use Rattle.rx_event.specs.declared.event.Event.{Event}
-use Rattle.rx_event.specs.declared.event.Event.TheVariants.{Open, Hub, Connect, Accept, Use, Remove, Lease, Return, Item, Decline, End, Close, Take}
+use Rattle.rx_event.specs.declared.event.Event.TheVariants.{Open, End, Close}
 use Rattle.rx_event.specs.Events.{makes_node, parent_named, is_switch, is_inner_of}
 use Rattle.rx_event.specs.Tree.{at, parent, if_less, ancestors, shuts, is_shut, is_open, is_standing, is_switched_inner, is_within}
+use Rattle.rx_event.proofs.Laws.Searches.{and_true, and_false}
 use Rattle.rx_event.proofs.Laws.Places.{slice_get_last, at-append}
 use Rattle.rx_event.proofs.Laws.Parents.{parent-lt, ancestors_step, ancestors-append, ancestors-le, option_map_or-same}
 
@@ -113,10 +114,6 @@ not_shut h n _ s = refl
 list_all_yes : {X : Type 0} (p : X → Bool) → ((x : X) → p x ≡ true) → (xs : List X) → list_all p xs ≡ true
 list_all_yes p holds [] = refl
 list_all_yes p holds (x ∷ xs) = rw (holds x) (list_all_yes p holds xs)
-
-and_true : (b : Bool) → (b && true) ≡ b
-and_true true = refl
-and_true false = refl
 
 -- an item, an acceptance and the like leave each node as it was
 pub is_open_kept : (h : List Event) (e : Event) (n : ℕ) → n < length h → shuts_none e ≡ true → is_open (h ++ e ∷ []) n ≡ is_open h n
@@ -248,10 +245,6 @@ closed_below h n p below closed =
     ap (λ q. is_standing h n && option_map_or (is_open h) q true) below ∙
     ap (λ b. is_standing h n && b) closed ∙
     and_false (is_standing h n)
-  where
-    and_false : (b : Bool) → (b && false) ≡ false
-    and_false true = refl
-    and_false false = refl
 
 -- what is not open stays so, whatever comes
 pub stays_closed : (h : List Event) (e : Event) (n : ℕ) → n < length h → is_open h n ≡ false → is_open (h ++ e ∷ []) n ≡ false

@@ -21,6 +21,7 @@ use Rattle.rx_event.specs.Notes.{notes_to}
 use Rattle.rx_event.specs.Forced.{SourceEnded}
 use Rattle.rx_event.specs.Lawful.{MayFollow, IsLawful}
 use Rattle.rx_event.specs.Renumbered.{event_by, is_named, IsRead, AreRenumbered, IsShown, AreSameBy}
+use Rattle.rx_event.proofs.Laws.Searches.{and_true}
 use Rattle.rx_event.proofs.Laws.Lists.{filter_nonempty}
 use Rattle.rx_event.proofs.Laws.Places.{slice_get-append, at_within, cases_push}
 use Rattle.rx_event.proofs.Laws.Openness.{is_open_within, is_open_unchanged}
@@ -63,10 +64,7 @@ uses_take : (base : Kept) → (h : List Event) (q n : ℕ) → uses base (h ++ T
 uses_take base h q n = let push = uses-push base h (Take q) n in omega arith
 
 out_take : (h : List Event) (q l : ℕ) → l < length h → is_out (h ++ Take q ∷ []) l ≡ is_out h l
-out_take h q l less = is_out-push h (Take q) l less ∙ and_yes (is_out h l) where
-  and_yes : (b : Bool) → (b && true) ≡ b
-  and_yes true = refl
-  and_yes false = refl
+out_take h q l less = is_out-push h (Take q) l less ∙ and_true (is_out h l)
 
 counts_take : (p : Event → Bool) (h : List Event) (q : ℕ) → p (Take q) ≡ false → count_by p (h ++ Take q ∷ []) ≡ count_by p h
 counts_take p h q fails =

@@ -10,9 +10,9 @@ use Rattle.std.proofs.lemmas.Bool.{false≢true, both_ways, cases_order, cases_B
 use Rattle.std.proofs.lemmas.Option.{slice_get_within, same_Some}
 use Rattle.rx_note.specs.declared.note.Note.TheVariants.{Next, Project, End as EndNote}
 use Rattle.rx_event.specs.Kept.{Kept, shown}
-use Rattle.rx_event.specs.declared.event.Place.TheVariants.{Root, Source, Inner, Notifier}
+use Rattle.rx_event.specs.declared.event.Place.TheVariants.{Root}
 use Rattle.rx_event.specs.declared.event.Event.{Event}
-use Rattle.rx_event.specs.declared.event.Event.TheVariants.{Open, Hub, Connect, Accept, Use, Remove, Lease, Return, Item, Decline, End, Close, Take}
+use Rattle.rx_event.specs.declared.event.Event.TheVariants.{Open, Hub, Connect, Accept, Use, Remove, Lease, Return, Item, End, Take}
 use Rattle.rx_event.specs.Events.{makes_node, makes_resource, makes_lease, node_of_accept, is_root, is_remove_of, is_lease_of, is_return, is_return_of}
 use Rattle.rx_event.specs.Events.{is_take_of, is_use_of, is_take}
 use Rattle.rx_event.specs.Tree.{at, is_open}

@@ -18,11 +18,11 @@ use Rattle.rx_event.specs.Events.{makes_resource, node_of_accept, is_remove_of, 
 use Rattle.rx_event.specs.Tree.{at, is_open, is_within}
 use Rattle.rx_event.specs.Resources.{is_owned, leases_of, is_leased, is_held, is_taken, is_waiting, accepted_by}
 use Rattle.rx_event.specs.Lawful.{MayFollow, IsLawful}
-use Rattle.rx_event.proofs.Laws.Places.{slice_get-append, slice_get_last, at-append}
+use Rattle.rx_event.proofs.Laws.Searches.{and_true}
+use Rattle.rx_event.proofs.Laws.Places.{slice_get-append, slice_get_last, at-append, at_within}
 use Rattle.rx_event.proofs.Laws.Openness.{is_cut, is_cut_none, is_open_cut, is_open_within, is_open_unchanged, shuts_none}
 use Rattle.rx_event.proofs.Laws.Lawful.{in_base, since_base, FoundAt, found_at, shown_within}
 use Rattle.rx_event.proofs.Laws.Steps.{by_events, may_accept, may_remove, may_take}
-use Rattle.rx_event.proofs.Laws.Places.{at_within}
 use Rattle.rx_event.proofs.Laws.Leases.{is_owned_within, owned_resource, lease_resource, leases_of_kept, leases_of-return, leased_resource, leased_some}
 use Rattle.rx_event.proofs.Laws.Leases.{leased_where, is_leased_past, is_leased_kept, is_leased_last, leased_old, lease_owned}
 use Rattle.rx_event.proofs.Laws.MakingRemovesNothing.{made_unremoved, made_untaken}
@@ -117,10 +117,6 @@ keeps_none h e r s keeps = or_from _ _ (no_cut (node_of h r)) keeps where
   no_cut : (o : Option ℕ) → option_map_or (is_cut h e) o false ≡ false
   no_cut None = refl
   no_cut (Some n) = is_cut_none h e n s
-
-and_true : (b : Bool) → (b && true) ≡ b
-and_true true = refl
-and_true false = refl
 
 -- an event that shuts no node leaves what it does not remove
 pub is_owned_kept : (base : Kept) → (h : List Event) (e : Event) → IsLawful base h → (r : ℕ) → r < length h → shuts_none e ≡ true → is_remove_of r e ≡ false →

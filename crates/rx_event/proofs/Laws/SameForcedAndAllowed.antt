@@ -1,8 +1,8 @@
 -- Stored histories that agree: the same is forced and allowed in both, and followed by one event they agree again.
-use Rattle.std.proofs.Common.{◌≡◌, ℕ, Bool, true, false, List, length}
-use Rattle.std.proofs.Common.{refl, sym, ap, subst, ◌∙◌, filter}
+use Rattle.std.proofs.Common.{◌≡◌, ℕ, true, false, List, length, refl, sym, ap, subst, ◌∙◌, filter}
 use Rattle.std.proofs.Math.Bool.{◌||◌}
 use Rattle.std.specs.List.{range_with_len}
+use Rattle.std.specs.Cmp.{both_ways as same_test}
 use Rattle.std.proofs.lemmas.Bool.{false≢true}
 use Rattle.rx_event.specs.declared.event.Mode.{Mode}
 use Rattle.rx_event.specs.declared.event.Event.{Event}
@@ -10,8 +10,7 @@ use Rattle.rx_event.specs.declared.event.Event.TheVariants.{Hub}
 use Rattle.rx_event.specs.Events.{makes_hub}
 use Rattle.rx_event.specs.Tree.{at, hubs, is_open, is_within}
 use Rattle.rx_event.specs.Forced.{IsForced, IsSettled}
-use Rattle.rx_event.specs.Allowed.{IsInOrderAt}
-use Rattle.rx_event.specs.Allowed.{IsAllowed}
+use Rattle.rx_event.specs.Allowed.{IsInOrderAt, IsAllowed}
 use Rattle.rx_event.specs.Kept.{Kept}
 use Rattle.rx_event.specs.Bases.{is_untaken, Agree}
 use Rattle.rx_event.specs.Renumbered.{AreRead}
@@ -55,11 +54,6 @@ hub_is _ is = absurd (false≢true is)
 
 pub hubs_alike : (h k : List Event) → Alike h k → hubs h ≡ hubs k
 hubs_alike h k a = (λ i. filter (λ n. same n i) (range_with_len 0 (a.same_length i))) where
-  same_test : (x y : Bool) → (x ≡ true → y ≡ true) → (y ≡ true → x ≡ true) → x ≡ y
-  same_test true y there back = sym (there refl)
-  same_test false true there back = back refl
-  same_test false false there back = refl
-
   same : (n : ℕ) → at makes_hub h n ≡ at makes_hub k n
   same n = same_test (at makes_hub h n) (at makes_hub k n) (at_hub_alike h k a makes_hub hub_is n) (at_hub_alike k h (alike_back h k a) makes_hub hub_is n)
 

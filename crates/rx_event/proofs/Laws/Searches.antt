@@ -1,6 +1,6 @@
 -- Searches of a list: by a test, and by the first value that there is.
 use Rattle.std.proofs.Common.{◌≡◌, ℕ, zero, suc, Bool, true, false, List, [], ◌∷◌, ◌++◌, Option, Some, None, refl, sym, ap, ◌∙◌, inl, inr, ◌⊎◌, slice_get}
-use Rattle.std.proofs.Math.Bool.{◌||◌}
+use Rattle.std.proofs.Math.Bool.{◌&&◌, ◌||◌}
 use Rattle.std.specs.List.{list_any}
 use Rattle.std.specs.Option.{option_or}
 use Rattle.std.proofs.lemmas.Bool.{false≢true, or_cases, or_right}
@@ -47,6 +47,14 @@ first_none {X = X} {Y = Y} f (y ∷ xs) none i x at_i = by_first (f y) refl none
 pub or_false : (b : Bool) → (b || false) ≡ b
 or_false true = refl
 or_false false = refl
+
+pub and_true : (b : Bool) → (b && true) ≡ b
+and_true true = refl
+and_true false = refl
+
+pub and_false : (b : Bool) → (b && false) ≡ false
+and_false true = refl
+and_false false = refl
 
 pub list_any_push : {X : Type 0} (p : X → Bool) (xs : List X) (x : X) → list_any p (xs ++ x ∷ []) ≡ (list_any p xs || p x)
 list_any_push p xs x = list_any-append p xs (x ∷ []) ∙ ap (λ b. list_any p xs || b) (or_false (p x))

@@ -8,10 +8,10 @@ use Rattle.std.proofs.lemmas.Bool.{cases_order, and_parts, both_ways, false≢tr
 use Rattle.std.proofs.lemmas.Option.{slice_get_within}
 use Rattle.std.proofs.lemmas.List.Sums.{sum_by-cons}
 use Rattle.rx_event.specs.declared.event.Place.{Place}
-use Rattle.rx_event.specs.declared.event.Kind.TheVariants.{Leaf, Pass, Flat, Switch, Until, Sub}
+use Rattle.rx_event.specs.declared.event.Kind.TheVariants.{Leaf, Sub}
 use Rattle.rx_event.specs.declared.event.Place.TheVariants.{Root, Source, Inner, Notifier}
 use Rattle.rx_event.specs.declared.event.Event.{Event}
-use Rattle.rx_event.specs.declared.event.Event.TheVariants.{Connect, Open, Hub, Accept}
+use Rattle.rx_event.specs.declared.event.Event.TheVariants.{Connect, Open, Accept}
 use Rattle.rx_event.specs.Events.{makes_hub, node_of_accept, is_remove_of}
 use Rattle.rx_event.specs.Tree.{is_within, at, is_open}
 use Rattle.rx_event.specs.Allowed.{IsInOrderAt, IsInOrder, IsHubbed}

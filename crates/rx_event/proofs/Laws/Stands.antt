@@ -5,24 +5,21 @@ use Rattle.std.specs.Option.{option_map_or}
 use Rattle.std.proofs.lemmas.Bool.{and_parts}
 use Rattle.std.proofs.lemmas.List.{length-take-le}
 use Rattle.std.proofs.lemmas.Option.{slice_get_within, same_Some, none-some}
-use Rattle.rx_event.proofs.Laws.Steps.{named_open}
-use Rattle.rx_event.specs.Lawful.{HasPlace}
-use Rattle.rx_event.specs.declared.event.Place.TheVariants.{Root}
+use Rattle.rx_event.proofs.Laws.Steps.{named_open, may_open}
+use Rattle.rx_event.specs.Lawful.{HasPlace, IsLawful}
+use Rattle.rx_event.specs.declared.event.Place.TheVariants.{Root, Source, Inner, Notifier}
 use Rattle.rx_event.specs.Kept.{Kept}
 use Rattle.rx_event.specs.declared.event.Place.{Place}
-use Rattle.rx_event.specs.declared.event.Place.TheVariants.{Source, Inner, Notifier}
 use Rattle.rx_event.specs.declared.event.Kind.{Kind}
 use Rattle.rx_event.specs.declared.event.Event.{Event}
 use Rattle.rx_event.specs.declared.event.Event.TheVariants.{Open, Connect}
 use Rattle.rx_event.specs.Events.{makes_node, has_source, is_merging, is_until}
 use Rattle.rx_event.specs.Tree.{at, parent, is_within, is_open, is_standing}
 use Rattle.rx_event.specs.Allowed.{IsFree}
-use Rattle.rx_event.specs.Lawful.{IsLawful}
 use Rattle.rx_event.proofs.Laws.Places.{at-take, at_within}
 use Rattle.rx_event.proofs.Laws.Parents.{parent-lt, parent_within, parent_name, within_cases}
 use Rattle.rx_event.proofs.Laws.Openness.{is_open_step}
 use Rattle.rx_event.proofs.Laws.Lawful.{in_base, since_base, FoundAt, found_at}
-use Rattle.rx_event.proofs.Laws.Steps.{may_open}
 
 -- what is true of an older event is so in the whole history
 pub at_older : (q : Event → Bool) (h : List Event) (n p : ℕ) → n < length h → at q (take n h) p ≡ true → at q h p ≡ true

@@ -7,7 +7,7 @@ use Rattle.std.specs.Option.{option_map_or}
 use Rattle.std.proofs.lemmas.Bool.{false≢true, cases_order, and_parts, or_cases}
 use Rattle.std.proofs.lemmas.Option.{slice_get_within, same_Some}
 use Rattle.rx_note.specs.declared.note.Terminal.TheVariants.{Completed, Error}
-use Rattle.rx_event.proofs.Laws.Lawful.{IsLawful_empty}
+use Rattle.rx_event.proofs.Laws.Lawful.{IsLawful_empty, IsLawful-push}
 use Rattle.rx_event.specs.Kept.{Kept, shown}
 use Rattle.rx_event.specs.declared.event.Place.{Place}
 use Rattle.rx_event.specs.declared.event.Place.TheVariants.{Root, Source, Inner, Notifier}
@@ -23,7 +23,6 @@ use Rattle.rx_event.specs.Claims.Stays.{ends_or_declines, FiresNone}
 use Rattle.rx_event.proofs.Laws.Places.{slice_get-append, slice_get_last, at-append, at_within}
 use Rattle.rx_event.proofs.Laws.Parents.{ancestors_step, ancestors-append, within_cases, within_parent, is_within-le, parent-lt, parent_name}
 use Rattle.rx_event.proofs.Laws.Openness.{is_open_within, is_open_cut, is_open_outside-close, is_cut, shuts_none}
-use Rattle.rx_event.proofs.Laws.Lawful.{IsLawful-push}
 use Rattle.rx_event.proofs.Laws.Steps.{by_events, forced_kind, may_accept}
 use Rattle.rx_event.proofs.Laws.Totals.{is_open_new}
 use Rattle.rx_event.proofs.Laws.Hubs.{hubs_in_order}

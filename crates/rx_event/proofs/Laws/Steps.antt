@@ -15,7 +15,7 @@ use Rattle.rx_event.specs.Events.{is_merging, parent_named}
 use Rattle.rx_event.specs.Tree.{at, parent, is_open}
 use Rattle.rx_event.specs.Resources.{is_owned, is_out, is_held, is_waiting}
 use Rattle.rx_event.specs.Moments.{Moment, moments_after, owed}
-use Rattle.rx_event.specs.Forced.{mirrored, fired, failed, completed, cut, left, connecting, due, IsDue, IsForced}
+use Rattle.rx_event.specs.Forced.{mirrored, left, connecting, due, IsDue, IsForced}
 use Rattle.rx_event.specs.Allowed.{opened, accepted, used, removed, leased, returned, emitted, declined, root_closed, disconnected, taken, IsFree, IsAllowed}
 use Rattle.rx_event.specs.Lawful.{Started, forced, allowed, opened_with, MayFollow, IsLawful}
 use Rattle.rx_event.proofs.Laws.Openness.{is_open_within}
@@ -52,11 +52,7 @@ may_be_forced _ = false
 
 due_kind : (base : Kept) → {h : List Event} {e : Event} → IsDue base h e → may_be_forced e ≡ true
 due_kind base (mirrored o k e) = refl
-due_kind base (fired o k e) = refl
-due_kind base (failed o k e) = refl
-due_kind base (completed o k n e c w) = refl
-due_kind base (cut o e) = refl
-due_kind base (left o at_c a n) = refl
+due_kind base _ = refl
 
 pub forced_kind : (base : Kept) → {h : List Event} {e : Event} → IsForced base h e → may_be_forced e ≡ true
 forced_kind base (connecting d) = refl

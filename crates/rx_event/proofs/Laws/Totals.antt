@@ -19,15 +19,15 @@ use Rattle.rx_event.specs.Resources.{is_owned, is_leased, is_held, is_waiting, u
 use Rattle.rx_event.specs.Totals.{item_count, accepted_count, taken_count, owned_count, held_count, waiting_count, open_count}
 use Rattle.rx_event.specs.Lawful.{MayFollow, IsLawful}
 use Rattle.rx_event.specs.Claims.Nodes.{IsOpenInner}
+use Rattle.rx_event.proofs.Laws.Searches.{and_false}
 use Rattle.rx_event.proofs.Laws.Parents.{ancestors_step}
 use Rattle.rx_event.proofs.Laws.Openness.{is_cut, is_cut_none, is_cut_inner, is_open_cut, is_open_last}
 use Rattle.rx_event.proofs.Laws.Openness.{is_open_made, is_open_within, is_open_last_none, shuts_none}
 use Rattle.rx_event.proofs.Laws.Steps.{by_events, may_name, may_accept, may_use, may_remove, may_take}
 use Rattle.rx_event.proofs.Laws.Sums.{sum_by-places-push, sums_balance, sum_by-same, sum_by_no_rise, sum_by_falls, sum_by_none, sum_by_one, count_by_one}
 use Rattle.rx_event.proofs.Laws.Switches.{is_cut-inner_switch}
-use Rattle.rx_event.proofs.Laws.Resources.{loses, node_of, is_owned-push, is_owned_last, is_owned-remove, held_is, owned_held, is_held_last}
-use Rattle.rx_event.proofs.Laws.Resources.{is_held_within, is_held_kept, held_old, is_waiting-unheld, is_waiting_new}
-use Rattle.rx_event.proofs.Laws.Resources.{is_waiting_within, waiting_parts}
+use Rattle.rx_event.proofs.Laws.Resources.{loses, node_of, is_owned-push, is_owned_last, is_owned-remove, held_is, owned_held, is_held_last, is_held_within}
+use Rattle.rx_event.proofs.Laws.Resources.{is_held_kept, held_old, is_waiting-unheld, is_waiting_new, is_waiting_within, waiting_parts}
 use Rattle.rx_event.proofs.Laws.Leases.{is_owned_within, is_leased_kept}
 
 pub one_if : {a b : Bool} → a ≡ b → cond {A = ℕ} a 1 0 ≡ cond {A = ℕ} b 1 0
@@ -250,10 +250,6 @@ unowned_one h q owned = sum_by-same (λ r. cond (q == r) 1 0) (λ r. cond (is_ow
       no_cut : (o : Option ℕ) (b : Bool) → (option_map_or (is_cut h (Remove q)) o false || b) ≡ b
       no_cut None b = refl
       no_cut (Some m) b = rw (is_cut_none h (Remove q) m refl) refl
-
-      and_false : (b : Bool) → (b && false) ≡ false
-      and_false true = refl
-      and_false false = refl
 
       just_that : (r : ℕ) (o : Option ℕ) → ((q == r) ≡ true) ⊎ ((q == r) ≡ false) →
           (is_owned h r && (option_map_or (is_cut h (Remove q)) o false || q == r)) ≡ (q == r)

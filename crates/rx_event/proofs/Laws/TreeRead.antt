@@ -6,21 +6,19 @@ use Rattle.std.proofs.Math.Bool.{◌&&◌}
 use Rattle.std.specs.List.{AllByRecursion, filter_map, cons_option}
 use Rattle.std.specs.Option.{option_map_or, option_and_then, option_to_list}
 use Rattle.std.specs.Cmp.{both_ways as same_test}
-use Rattle.std.proofs.lemmas.Bool.{false≢true, and_parts, and_from, eq-eqb, eqb-true}
-use Rattle.std.proofs.lemmas.Bool.{lt-ltb}
+use Rattle.std.proofs.lemmas.Bool.{false≢true, and_parts, and_from, eq-eqb, eqb-true, lt-ltb}
 use Rattle.std.proofs.lemmas.List.{length-map, map-append}
 use Rattle.std.proofs.lemmas.List.Sums.{length-filter}
 use Rattle.std.proofs.lemmas.Option.{same_Some}
 use Rattle.rx_event.specs.declared.event.Place.{Place}
-use Rattle.rx_event.specs.declared.event.Place.TheVariants.{Root, Source, Inner, Notifier}
+use Rattle.rx_event.specs.declared.event.Place.TheVariants.{Root, Source, Inner}
 use Rattle.rx_event.specs.declared.event.Kind.{Kind}
-use Rattle.rx_event.specs.declared.event.Kind.TheVariants.{Leaf, Pass, Flat, Switch, Until, Sub}
+use Rattle.rx_event.specs.declared.event.Kind.TheVariants.{Leaf, Sub}
 use Rattle.rx_event.specs.declared.event.Mode.{Mode}
 use Rattle.rx_event.specs.declared.event.Event.{Event}
 use Rattle.rx_event.specs.declared.event.Event.TheVariants.{Open, Hub, Connect}
 use Rattle.rx_event.specs.Events.{makes_node, makes_hub, parent_named, is_merging, is_switch, is_inner_of, is_subscriber_of, is_connect_of}
-use Rattle.rx_event.specs.Tree.{at, places, parent, if_less, is_open, is_within, open_nodes, open_subscribers}
-use Rattle.rx_event.specs.Tree.{open_connections, is_open_child_of}
+use Rattle.rx_event.specs.Tree.{at, places, parent, if_less, is_open, is_within, open_nodes, open_subscribers, open_connections, is_open_child_of}
 use Rattle.rx_event.specs.Climb.{Stop, Delivery, Projection, Firing, stop_made, stop_at, onward_from, onward_unless, onward, visited, most_visits}
 use Rattle.rx_event.specs.Climb.{climb, stops, visits}
 use Rattle.rx_event.specs.Marks.{is_child_of, open_children}

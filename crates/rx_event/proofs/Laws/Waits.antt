@@ -9,11 +9,11 @@ use Rattle.std.proofs.lemmas.Option.{slice_get_within, same_Some, none-some}
 use Rattle.rx_note.specs.declared.note.Terminal.{Terminal}
 use Rattle.rx_event.specs.Kept.{Kept}
 use Rattle.rx_event.specs.declared.event.Place.{Place}
-use Rattle.rx_event.specs.declared.event.Place.TheVariants.{Root, Source, Inner, Notifier}
+use Rattle.rx_event.specs.declared.event.Place.TheVariants.{Root, Inner}
 use Rattle.rx_event.specs.declared.event.Kind.TheVariants.{Leaf, Pass, Flat, Switch, Until, Sub}
-use Rattle.rx_event.specs.declared.event.Mode.TheVariants.{Auto, Manual}
+use Rattle.rx_event.specs.declared.event.Mode.TheVariants.{Manual}
 use Rattle.rx_event.specs.declared.event.Event.{Event}
-use Rattle.rx_event.specs.declared.event.Event.TheVariants.{Open, Hub, Connect, Accept, Use, Remove, Lease, Return, Item, Decline, End, Close, Take}
+use Rattle.rx_event.specs.declared.event.Event.TheVariants.{Open, Hub, Connect, End, Close}
 use Rattle.rx_event.specs.Events.{is_root, is_manual_hub, is_auto_hub, is_connect_of, is_subscriber_of, is_inner_of, hub_subscribed, is_connect}
 use Rattle.rx_event.specs.Tree.{at, places, parent, ancestors, is_open, shuts, open_subscribers, open_connections}
 use Rattle.rx_event.specs.Totals.{connect_count, open_count}
@@ -287,11 +287,7 @@ record StepConnects (h k : List Event) (most : ℕ) : Type 0 where
 
 due_connects : (base : Kept) → {h : List Event} {e : Event} → IsDue base h e → is_connect e ≡ false
 due_connects base (mirrored o k e) = refl
-due_connects base (fired o k e) = refl
-due_connects base (failed o k e) = refl
-due_connects base (completed o k n e c w) = refl
-due_connects base (cut o e) = refl
-due_connects base (left o at_c a n) = refl
+due_connects base _ = refl
 
 connects_after : (base : Kept) → (h k : List Event) (e : Event) (most : ℕ) → StepConnects h k most → IsForced base k e → StepConnects h (k ++ e ∷ []) most
 connects_after base h k e most s (due none d) =

@@ -26,9 +26,8 @@ use Rattle.rx_event.proofs.Laws.Lawful.{IsLawful-push, may_end}
 use Rattle.rx_event.proofs.Laws.Steps.{may_close}
 use Rattle.rx_event.proofs.Laws.Openness.{shuts_none}
 use Rattle.rx_event.proofs.Laws.Totals.{open_count-push, open_count_made, open_count_falls-end, open_count_falls-close, is_open_new}
-use Rattle.rx_event.proofs.Laws.Debt.{debt-root, debt-source, debt-notifier, debt_no_rise-inner, debt-connect}
-use Rattle.rx_event.proofs.Laws.Debt.{debt-hub, debt-use, debt-accept, debt-remove, debt-lease, debt-return}
-use Rattle.rx_event.proofs.Laws.Debt.{debt-take, debt-item, debt-decline, debt_falls-end, debt_falls-close}
+use Rattle.rx_event.proofs.Laws.Debt.{debt-root, debt-source, debt-notifier, debt_no_rise-inner, debt-connect, debt-hub, debt-use, debt-accept, debt-remove}
+use Rattle.rx_event.proofs.Laws.Debt.{debt-lease, debt-return, debt-take, debt-item, debt-decline, debt_falls-end, debt_falls-close}
 use Rattle.rx_event.proofs.Laws.Hubs.{may_subscribe}
 use Rattle.rx_event.proofs.Laws.Waits.{kept_end, kept_close_allowed, kept_unsubscribed, settled_connected}
 use Rattle.rx_event.specs.Causes.{end_at, forces_connect, nodes_opened}

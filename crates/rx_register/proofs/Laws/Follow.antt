@@ -82,11 +82,7 @@ in_order h (Notifier p) g none = in_order_at h g p none
 -- the hub of a subscriber is there, and in order
 pub hubbed_where : (h : List Event) (place : Place) (kind : Kind) → is_without_hub h kind ≡ false → is_out_of_order h place kind ≡ false → IsHubbed h place kind
 hubbed_where h place (Sub g) there order = (not-false (at makes_hub h g) there, in_order h place g order)
-hubbed_where h place Leaf there order = tt
-hubbed_where h place Pass there order = tt
-hubbed_where h place Flat there order = tt
-hubbed_where h place Switch there order = tt
-hubbed_where h place Until there order = tt
+hubbed_where h place _ there order = tt
 
 -- no more nodes are open than may be
 few_where : (h : List Event) (more : ℕ) → is_crowded h more ≡ false → open_count h + more ≤ most_nodes

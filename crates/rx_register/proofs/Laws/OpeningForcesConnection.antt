@@ -46,9 +46,7 @@ spared h (Inner f) kind c g connects = by_test (cases_Bool (shuts h c (Open (Inn
   by_test (inl shut) =
       let inner : at (is_inner_of f) h c ≡ true = (and_parts _ _ shut).1 in
       absurd (false≢true (sym (ap (λ (o : Option Event). option_map_or (is_inner_of f) o false) (at_connect h g c connects)) ∙ inner))
-spared h Root kind c g connects = refl
-spared h (Source p) kind c g connects = refl
-spared h (Notifier p) kind c g connects = refl
+spared h _ kind c g connects = refl
 
 still_open : (h : List Event) (place : Place) (kind : Kind) (c g : ℕ) → at (is_connect_of g) h c ≡ true → is_open h c ≡ true →
     is_open (h ++ Open place kind ∷ []) c ≡ true
@@ -101,11 +99,7 @@ opening_waits base h place kind law settled hubbed = by_test (forces_connect h k
 
   one : (x : Kind) → kind ≡ x → forces_connect h x ≡ true → MayWait (h ++ Open place kind ∷ []) 1
   one (Sub k) is forced = one_waits {g = k} (λ g d. only k g is d)
-  one Leaf is forced = absurd (false≢true forced)
-  one Pass is forced = absurd (false≢true forced)
-  one Flat is forced = absurd (false≢true forced)
-  one Switch is forced = absurd (false≢true forced)
-  one Until is forced = absurd (false≢true forced)
+  one _ is forced = absurd (false≢true forced)
 
   by_test : (b : Bool) → forces_connect h kind ≡ b → MayWait (h ++ Open place kind ∷ []) (cond b 1 0)
   by_test true forced = one kind refl forced

@@ -67,11 +67,7 @@ one_may (one_waits only) d = refl
 
 is_no_connect : (base : Kept) → {h : List Event} {e : Event} → IsDue base h e → is_connect e ≡ false
 is_no_connect base (mirrored o k e) = refl
-is_no_connect base (fired o k e) = refl
-is_no_connect base (failed o k e) = refl
-is_no_connect base (completed o k n s c w) = refl
-is_no_connect base (cut o e) = refl
-is_no_connect base (left o at_c a n) = refl
+is_no_connect base _ = refl
 
 -- a forced event is no connection, or the one that is paid for
 data HowPaid (s : State) (e : Event) : Type 0 where

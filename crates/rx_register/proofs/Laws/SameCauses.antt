@@ -14,9 +14,8 @@ use Rattle.rx_event.specs.declared.event.Kind.TheVariants.{Leaf, Pass, Flat, Swi
 use Rattle.rx_event.specs.declared.event.Event.{Event}
 use Rattle.rx_event.specs.declared.event.Event.TheVariants.{Connect}
 use Rattle.rx_event.specs.declared.refusal.Refusal.{Refusal}
-use Rattle.rx_event.specs.declared.refusal.Refusal.TheVariants.{Full, Gone, WrongKind, PlaceTaken, NothingOwed, NotRoot}
-use Rattle.rx_event.specs.declared.refusal.Refusal.TheVariants.{NoHub, HubOrder, Connected, NotConnected}
-use Rattle.rx_event.specs.declared.refusal.Refusal.TheVariants.{NoLease, NotHeld, Leased, HasChild, TooMany}
+use Rattle.rx_event.specs.declared.refusal.Refusal.TheVariants.{Full, Gone, WrongKind, PlaceTaken, NothingOwed, NotRoot, NoHub, HubOrder, Connected}
+use Rattle.rx_event.specs.declared.refusal.Refusal.TheVariants.{NotConnected, NoLease, NotHeld, Leased, HasChild, TooMany}
 use Rattle.rx_event.specs.Events.{makes_node, makes_hub, makes_resource, makes_lease}
 use Rattle.rx_event.specs.Tree.{at, ancestors, is_open, is_within, open_connections}
 use Rattle.rx_event.specs.Allowed.{most_nodes, most_hubs, IsInOrderAt}
@@ -124,35 +123,24 @@ module _ (base : Kept) (r s : ℕ → ℕ) (h c : List Event) (a : AreSameBy bas
   wrong_same (Notifier p) o = ap not (seen.untils p o)
 
   taken_same : (place : Place) → OpenPlace place → is_taken_place base c (place_by r place) ≡ is_taken_place base h place
-  taken_same Root o = refl
   taken_same (Source p) o = seen.source_taken p o
-  taken_same (Inner p) o = refl
   taken_same (Notifier p) o = seen.notifier_taken p o
+  taken_same _ o = refl
 
   unowed_same : (place : Place) → OpenPlace place → is_unowed_place base c (place_by r place) ≡ is_unowed_place base h place
-  unowed_same Root o = refl
-  unowed_same (Source p) o = refl
   unowed_same (Inner p) o = ap (λ n. n == 0) (seen.same_owed p o)
-  unowed_same (Notifier p) o = refl
+  unowed_same _ o = refl
 
   connection_same : (g : ℕ) → at makes_hub h g ≡ true → has_connection c (r g) ≡ has_connection h g
   connection_same g hub = ap (λ (n : ℕ). nat_lt 0 n) (ap length (seen.connections g hub) ∙ length-map (open_connections h g) r)
 
   without_same : (kind : Kind) → NamesKind h kind → is_without_hub c (kind_by r kind) ≡ is_without_hub h kind
   without_same (Sub g) hub = ap not (seen.hub_there g hub ∙ sym hub)
-  without_same Leaf known = refl
-  without_same Pass known = refl
-  without_same Flat known = refl
-  without_same Switch known = refl
-  without_same Until known = refl
+  without_same _ known = refl
 
   forces_same : (kind : Kind) → NamesKind h kind → forces_connect c (kind_by r kind) ≡ forces_connect h kind
   forces_same (Sub g) hub = λ i. seen.autos g hub i && not (connection_same g hub i)
-  forces_same Leaf known = refl
-  forces_same Pass known = refl
-  forces_same Flat known = refl
-  forces_same Switch known = refl
-  forces_same Until known = refl
+  forces_same _ known = refl
 
   crowded_same : (n m : ℕ) → n ≡ m → is_crowded c n ≡ is_crowded h m
   crowded_same n m same = λ i. nat_lt most_nodes (seen.open_total i + same i)
@@ -166,15 +154,11 @@ module _ (base : Kept) (r s : ℕ → ℕ) (h c : List Event) (a : AreSameBy bas
 
   order_same : (place : Place) (kind : Kind) → NamesKind h kind → OpenPlace place →
       is_out_of_order c (place_by r place) (kind_by r kind) ≡ is_out_of_order h place kind
-  order_same place Leaf known o = refl
-  order_same place Pass known o = refl
-  order_same place Flat known o = refl
-  order_same place Switch known o = refl
-  order_same place Until known o = refl
   order_same Root (Sub g) hub o = refl
   order_same (Source p) (Sub g) hub o = order_at g p hub o (in_order h (Source p) g) (in_order c (Source (r p)) (r g))
   order_same (Inner p) (Sub g) hub o = order_at g p hub o (in_order h (Inner p) g) (in_order c (Inner (r p)) (r g))
   order_same (Notifier p) (Sub g) hub o = order_at g p hub o (in_order h (Notifier p) g) (in_order c (Notifier (r p)) (r g))
+  order_same place _ known o = refl
 
   opening_same : (l m : ℕ) (place : Place) (kind : Kind) → NamesPlace h place → NamesKind h kind →
       first_cause (unlimited (opening_causes base c l (place_by r place) (kind_by r kind))) ≡
