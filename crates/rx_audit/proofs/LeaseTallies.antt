@@ -5,7 +5,7 @@ use Rattle.std.specs.Option.{option_and_then, option_map_or}
 use Rattle.std.proofs.lemmas.Bool.{false≢true}
 use Rattle.rx_event.specs.Kept.{nothing_kept}
 use Rattle.rx_event.specs.declared.event.Event.{Event}
-use Rattle.rx_event.specs.declared.event.Event.TheVariants.{Open, Hub, Connect, Accept, Use, Remove, Lease, Return, Item, Decline, End, Close, Take}
+use Rattle.rx_event.specs.declared.event.Event.TheVariants.{Lease, Return}
 use Rattle.rx_event.specs.Events.{makes_lease, leased_of, returned_of}
 use Rattle.rx_event.specs.Resources.{leases_of}
 use Rattle.rx_event.specs.Lawful.{IsLawful, MayFollow}
@@ -58,18 +58,7 @@ module _ (h : List Event) (old : List ℕ) (law : IsLawful nothing_kept h) (tied
             let fewer = leases_of-return nothing_kept h l one.0 law next one.1 n in
             let key : resource_of h l ≡ Some one.0 = ap (option_and_then leased_of) one.1 in
             at_each (Return l) (resource_of h l) n less ∙ ap (λ (k : Option ℕ). (leases_of h n + 0) - cond (is_key k n) 1 0) key ∙ omega arith
-        by_event (Open place kind) next n less =
-            quiet (Open place kind) refl refl (λ m. leases_of_still nothing_kept h (Open place kind) law refl m refl) n less
-        by_event (Hub mode) next n less = quiet (Hub mode) refl refl (λ m. leases_of_still nothing_kept h (Hub mode) law refl m refl) n less
-        by_event (Connect g) next n less = quiet (Connect g) refl refl (λ m. leases_of_still nothing_kept h (Connect g) law refl m refl) n less
-        by_event (Accept k tag) next n less = quiet (Accept k tag) refl refl (λ m. leases_of_still nothing_kept h (Accept k tag) law refl m refl) n less
-        by_event (Use r) next n less = quiet (Use r) refl refl (λ m. leases_of_still nothing_kept h (Use r) law refl m refl) n less
-        by_event (Remove r) next n less = quiet (Remove r) refl refl (λ m. leases_of_still nothing_kept h (Remove r) law refl m refl) n less
-        by_event (Item k v) next n less = quiet (Item k v) refl refl (λ m. leases_of_still nothing_kept h (Item k v) law refl m refl) n less
-        by_event (Decline f) next n less = quiet (Decline f) refl refl (λ m. leases_of_still nothing_kept h (Decline f) law refl m refl) n less
-        by_event (End k t) next n less = quiet (End k t) refl refl (λ m. leases_of_still nothing_kept h (End k t) law refl m refl) n less
-        by_event (Close k) next n less = quiet (Close k) refl refl (λ m. leases_of_still nothing_kept h (Close k) law refl m refl) n less
-        by_event (Take r) next n less = quiet (Take r) refl refl (λ m. leases_of_still nothing_kept h (Take r) law refl m refl) n less
+        by_event x next n less = quiet x refl refl (λ m. leases_of_still nothing_kept h x law refl m refl) n less
 
   pub leases_long : (e : Event) → length (counted e (option_and_then (resource_of h) (returned_of e))) ≡ length old
   leases_long e = lengths e (option_and_then (resource_of h) (returned_of e))

@@ -1,18 +1,18 @@
 -- The marks of the open nodes, one event after the other.
 use Rattle.std.proofs.Common.{◌≡◌, ℕ, ◌+◌, ◌<◌, ◌≤◌, Bool, true, false, List, [], ◌∷◌, ◌++◌, length, Option, Some, None, refl, sym, ap}
 use Rattle.std.proofs.Common.{◌∙◌, arith, inl, inr, ◌⊎◌, ◌==◌, ◌≢◌, get_or, set, get_or-set_other, get_or-set_same, slice_get, length-append}
-use Rattle.std.proofs.lemmas.Bool.{cases_Bool, cases_order, both_ways, eqb-true, and_parts, lt-ltb, and_from}
+use Rattle.std.proofs.lemmas.Bool.{false≢true, cases_Bool, cases_order, both_ways, eqb-true, and_parts, lt-ltb, and_from}
 use Rattle.std.proofs.lemmas.Option.{none-some, same_Some}
 use Rattle.std.proofs.Math.ListN.{length-set}
 use Rattle.std.specs.Option.{option_map_or}
 use Rattle.rx_event.specs.Kept.{nothing_kept}
 use Rattle.rx_note.specs.declared.note.Terminal.{Terminal}
-use Rattle.rx_event.specs.declared.event.Place.TheVariants.{Root, Source, Inner, Notifier}
+use Rattle.rx_event.specs.declared.event.Place.TheVariants.{Source, Inner, Notifier}
 use Rattle.rx_event.specs.declared.event.Kind.{Kind}
 use Rattle.rx_event.specs.declared.event.Event.{Event}
-use Rattle.rx_event.specs.declared.event.Event.TheVariants.{Open, Hub, Connect, Accept, Use, Remove, Lease, Return, Item, Decline, End, Close, Take}
+use Rattle.rx_event.specs.declared.event.Event.TheVariants.{Open, Item, Decline, End, Close}
 use Rattle.rx_event.specs.declared.marks.Marks.{Marks}
-use Rattle.rx_event.specs.Events.{is_item, is_merging, is_switch, is_source_of, is_inner_of}
+use Rattle.rx_event.specs.Events.{is_merging, is_switch, is_source_of, is_inner_of}
 use Rattle.rx_event.specs.Tree.{at, parent, places, is_open, is_switched_inner, is_open_child_of}
 use Rattle.std.specs.Prelude.{is_some}
 use Rattle.std.proofs.lemmas.List.Sums.{count_by-le-length}
@@ -70,36 +70,17 @@ untouched h _ n no_item no_close differs = refl
 pub marks_apart : {h : List Event} (e : Event) → IsLawful nothing_kept h → MayFollow nothing_kept h e → IsUntouched h e → (n : ℕ) → n < length h
     → is_open (h ++ e ∷ []) n ≡ true
     → (touched_by h e ≡ Some n → ⊥) → marks_of nothing_kept (h ++ e ∷ []) n ≡ marks_of nothing_kept h n
-marks_apart {h} e law next no_item n l o differs = by_event e refl where
-  by_event : (x : Event) → e ≡ x → marks_of nothing_kept (h ++ e ∷ []) n ≡ marks_of nothing_kept h n
-  by_event (Close c) same =
+marks_apart {h} e law next no_item n l o differs = by_close (cases_Bool (is_close e)) where
+  by_event : (x : Event) → e ≡ x → is_close x ≡ true → marks_of nothing_kept (h ++ e ∷ []) n ≡ marks_of nothing_kept h n
+  by_event (Close c) same is =
       let now : MayFollow nothing_kept h (Close c) = rw (← same) next in
       let stays : is_open (h ++ Close c ∷ []) n ≡ true = rw (← same) o in
       rw same (marks_closed nothing_kept h c law now n stays)
-  by_event (Open place kind) same = marks_untouched h e law next n l o (untouched h e n no_item (λ c is. open_close (sym same ∙ is)) differs) where
-    open_close : {c : ℕ} → Open place kind ≡ Close c → ⊥
-    open_close is = both_ways (is_close (Open place kind)) refl (ap is_close is)
-  by_event (Decline f) same = marks_untouched h e law next n l o
-      (untouched h e n no_item (λ c is. both_ways (is_close (Decline f)) refl (ap is_close (sym same ∙ is))) differs)
-  by_event (End m t) same = marks_untouched h e law next n l o
-      (untouched h e n no_item (λ c is. both_ways (is_close (End m t)) refl (ap is_close (sym same ∙ is))) differs)
-  by_event (Hub mode) same = marks_untouched h e law next n l o
-      (untouched h e n no_item (λ c is. both_ways (is_close (Hub mode)) refl (ap is_close (sym same ∙ is))) differs)
-  by_event (Connect g) same = marks_untouched h e law next n l o
-      (untouched h e n no_item (λ c is. both_ways (is_close (Connect g)) refl (ap is_close (sym same ∙ is))) differs)
-  by_event (Accept m tag) same = marks_untouched h e law next n l o
-      (untouched h e n no_item (λ c is. both_ways (is_close (Accept m tag)) refl (ap is_close (sym same ∙ is))) differs)
-  by_event (Use r) same = marks_untouched h e law next n l o
-      (untouched h e n no_item (λ c is. both_ways (is_close (Use r)) refl (ap is_close (sym same ∙ is))) differs)
-  by_event (Remove r) same = marks_untouched h e law next n l o
-      (untouched h e n no_item (λ c is. both_ways (is_close (Remove r)) refl (ap is_close (sym same ∙ is))) differs)
-  by_event (Lease r) same = marks_untouched h e law next n l o
-      (untouched h e n no_item (λ c is. both_ways (is_close (Lease r)) refl (ap is_close (sym same ∙ is))) differs)
-  by_event (Return r) same = marks_untouched h e law next n l o
-      (untouched h e n no_item (λ c is. both_ways (is_close (Return r)) refl (ap is_close (sym same ∙ is))) differs)
-  by_event (Take r) same = marks_untouched h e law next n l o
-      (untouched h e n no_item (λ c is. both_ways (is_close (Take r)) refl (ap is_close (sym same ∙ is))) differs)
-  by_event (Item m v) same = marks_untouched h e law next n l o (no_item n (ap is_item same))
+  by_event _ same is = absurd (false≢true is)
+
+  by_close : (is_close e ≡ true) ⊎ (is_close e ≡ false) → marks_of nothing_kept (h ++ e ∷ []) n ≡ marks_of nothing_kept h n
+  by_close (inl is) = by_event e refl is
+  by_close (inr other) = marks_untouched h e law next n l o (untouched h e n no_item (λ c same. both_ways (is_close e) other (ap is_close same)) differs)
 
 -- the list after the event: at the node that it touches, and at the new place
 pub kept_more : {h : List Event} {e : Event} (ms : List Marks) {p : ℕ} {m : Marks} → IsLawful nothing_kept h → MayFollow nothing_kept h e

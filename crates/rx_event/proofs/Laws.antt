@@ -62,7 +62,7 @@ pub mod Bases
 pub mod SoundForm
 pub mod Sound
 pub mod SameForcedAndAllowed
-pub mod AgreeMarks
+pub mod SameRules
 pub mod AgreeAfterEvent
 pub mod BaseAgrees
 pub mod ShownBase

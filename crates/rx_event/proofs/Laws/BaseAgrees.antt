@@ -49,7 +49,7 @@ use Rattle.rx_event.proofs.Laws.MarksFound.{child_terminal_some}
 use Rattle.rx_event.proofs.Laws.MarksAfter.{same_marks}
 use Rattle.rx_event.proofs.Laws.SameMarks.{parent_sort}
 use Rattle.rx_event.proofs.Laws.ReadDue.{connect_due_by}
-use Rattle.rx_event.proofs.Laws.AgreeMarks.{fired_until, due_by_child}
+use Rattle.rx_event.proofs.Laws.SameRules.{fired_until, due_by_child}
 use Rattle.rx_event.proofs.Laws.Bases.{found, node_of_base, hub_of_base, shown_get, length_base, base_length, is_inert, KeptAt, kept_at, kept_open, base_alike}
 use Rattle.rx_event.proofs.Laws.Sound.{count_none, sound_of}
 use Rattle.rx_event.proofs.Laws.MakingRemovesNothing.{made_unremoved, made_unreturned, made_untaken, made_unfired}

@@ -25,7 +25,7 @@ use Rattle.rx_event.specs.Renumbered.{AreRead}
 use Rattle.rx_event.proofs.Laws.SameTree.{Alike, alike_of, alike_back, at_alike, open_nodes_alike, stops_of_alike}
 use Rattle.rx_event.proofs.Laws.ReadDue.{read_back, connect_due_read}
 use Rattle.rx_event.proofs.Laws.SameForcedAndAllowed.{agree_back, reads_of, forced_too, allowed_too, follows_too, hubs_alike, hub_is}
-use Rattle.rx_event.proofs.Laws.AgreeMarks.{mirrors_too, fires_too, fails_too, completes_too, cuts_too, leaves_too}
+use Rattle.rx_event.proofs.Laws.SameRules.{mirrors_too, fires_too, fails_too, completes_too, cuts_too, leaves_too}
 use Rattle.rx_event.proofs.Laws.AgreeAfterEvent.{emits, agree-push}
 use Rattle.rx_event.proofs.Laws.BaseAgrees.{base_agrees}
 use Rattle.rx_event.proofs.Laws.BaseStarted.{base_started}

@@ -10,10 +10,10 @@ use Rattle.rx_note.specs.declared.note.Terminal.{Terminal}
 use Rattle.rx_note.specs.declared.note.Terminal.TheVariants.{Completed}
 use Rattle.rx_event.specs.Kept.{Kept, node_kept}
 use Rattle.rx_event.specs.Opened.{source_opened, notifier_opened}
-use Rattle.rx_event.specs.declared.event.Place.TheVariants.{Root, Source, Notifier}
+use Rattle.rx_event.specs.declared.event.Place.TheVariants.{Root, Source, Inner, Notifier}
 use Rattle.rx_event.specs.declared.event.Kind.{Kind}
 use Rattle.rx_event.specs.declared.event.Event.{Event}
-use Rattle.rx_event.specs.declared.event.Event.TheVariants.{Open, Hub, Connect, Accept, Use, Remove, Lease, Return, Item, Decline, End, Take}
+use Rattle.rx_event.specs.declared.event.Event.TheVariants.{Open, Hub, Connect, Accept, Use, Remove, Lease, Return, Item, Decline, End, Close, Take}
 use Rattle.rx_event.specs.declared.marks.Marks.{Marks}
 use Rattle.rx_event.specs.Events.{is_merging, is_source_of, is_notifier_of, makes_node, parent_named, pays}
 use Rattle.rx_event.specs.Tree.{places, parent, is_open, is_open_child_of}
@@ -224,26 +224,15 @@ record SparesMarks (h : List Event) (e : Event) (n : ℕ) : Type 0 where
   pub adds : adds_child n e ≡ false
 
 spares_marks : (h : List Event) (e : Event) (n : ℕ) → is_still e ≡ true → SparesMarks h e n
-spares_marks h (Hub mode) n still =
-    record { shuts = refl; source = refl; notifier = refl; climbs = refl; completes = refl; ends = refl; declines = refl; adds = refl }
-spares_marks h (Connect g) n still =
-    record { shuts = refl; source = refl; notifier = refl; climbs = refl; completes = refl; ends = refl; declines = refl; adds = refl }
-spares_marks h (Open Root kind) n still =
-    record { shuts = refl; source = refl; notifier = refl; climbs = refl; completes = refl; ends = refl; declines = refl; adds = refl }
-spares_marks h (Accept m tag) n still =
-    record { shuts = refl; source = refl; notifier = refl; climbs = refl; completes = refl; ends = refl; declines = refl; adds = refl }
-spares_marks h (Use r) n still =
-    record { shuts = refl; source = refl; notifier = refl; climbs = refl; completes = refl; ends = refl; declines = refl; adds = refl }
-spares_marks h (Remove r) n still =
-    record { shuts = refl; source = refl; notifier = refl; climbs = refl; completes = refl; ends = refl; declines = refl; adds = refl }
-spares_marks h (Lease r) n still =
-    record { shuts = refl; source = refl; notifier = refl; climbs = refl; completes = refl; ends = refl; declines = refl; adds = refl }
-spares_marks h (Return m) n still =
-    record { shuts = refl; source = refl; notifier = refl; climbs = refl; completes = refl; ends = refl; declines = refl; adds = refl }
-spares_marks h (Take r) n still =
-    record { shuts = refl; source = refl; notifier = refl; climbs = refl; completes = refl; ends = refl; declines = refl; adds = refl }
 spares_marks h (Open (Source p) kind) n still = absurd (false≢true still)
-spares_marks h _ n still = absurd (false≢true still)
+spares_marks h (Open (Inner f) kind) n still = absurd (false≢true still)
+spares_marks h (Open (Notifier u) kind) n still = absurd (false≢true still)
+spares_marks h (Item l v) n still = absurd (false≢true still)
+spares_marks h (Decline f) n still = absurd (false≢true still)
+spares_marks h (End c t) n still = absurd (false≢true still)
+spares_marks h (Close c) n still = absurd (false≢true still)
+spares_marks h _ n still =
+    record { shuts = refl; source = refl; notifier = refl; climbs = refl; completes = refl; ends = refl; declines = refl; adds = refl }
 
 pub marks_kept : (base : Kept) → (h : List Event) (e : Event) → IsLawful base h → MayFollow base h e → is_still e ≡ true → (n : ℕ) → n < length h →
     marks_of base (h ++ e ∷ []) n ≡ marks_of base h n

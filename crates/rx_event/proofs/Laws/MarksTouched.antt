@@ -11,11 +11,11 @@ use Rattle.rx_note.specs.declared.note.Terminal.{Terminal}
 use Rattle.rx_note.specs.declared.note.Terminal.TheVariants.{Completed, Error}
 use Rattle.rx_event.specs.Kept.{Kept}
 use Rattle.rx_event.specs.Opened.{source_opened, notifier_opened}
-use Rattle.rx_event.specs.declared.event.Place.TheVariants.{Root, Source, Inner, Notifier}
+use Rattle.rx_event.specs.declared.event.Place.TheVariants.{Source, Inner, Notifier}
 use Rattle.rx_event.specs.declared.event.Kind.{Kind}
 use Rattle.rx_event.specs.declared.event.Kind.TheVariants.{Pass}
 use Rattle.rx_event.specs.declared.event.Event.{Event}
-use Rattle.rx_event.specs.declared.event.Event.TheVariants.{Open, Hub, Connect, Accept, Use, Remove, Lease, Return, Item, Decline, End, Close, Take}
+use Rattle.rx_event.specs.declared.event.Event.TheVariants.{Open, Item, Decline, End, Close}
 use Rattle.rx_event.specs.declared.marks.Marks.{Marks}
 use Rattle.rx_event.specs.Events.{is_merging, is_source_of, is_inner_of, is_switch}
 use Rattle.rx_event.specs.Tree.{at, parent, is_open}
@@ -27,7 +27,7 @@ use Rattle.rx_event.specs.Lawful.{MayFollow, IsLawful}
 use Rattle.rx_event.specs.Claims.Nodes.{IsOpenInner}
 use Rattle.rx_event.proofs.Laws.Openness.{is_open_within}
 use Rattle.rx_event.proofs.Laws.Steps.{may_open, may_decline}
-use Rattle.rx_event.proofs.Laws.Searches.{or_false}
+use Rattle.rx_event.proofs.Laws.Searches.{or_false, and_true, and_false}
 use Rattle.rx_event.proofs.Laws.MarksFound.{open_children_none}
 use Rattle.rx_event.proofs.Laws.MarksAfter.{same_marks, marks-item, marks-decline, marks_kept, marks-source, marks-notifier}
 use Rattle.rx_event.proofs.Laws.MarksEnds.{marks-end_other, marks-close_other, marks-end_parent}
@@ -63,7 +63,6 @@ marks_untouched {base} h (Open (Notifier p) kind) law next n l o apart =
     marks-notifier base h p kind law next n l ∙
     same_marks base refl (ap (λ b. notifier_opened base h n || b) apart ∙ or_false (notifier_opened base h n)) refl refl refl refl (omega arith)
 marks_untouched h (Open (Inner f) kind) law next n l o apart = marks-inner_other f kind law next n l o apart
-marks_untouched {base} h (Open Root kind) law next n l o apart = marks_kept base h (Open Root kind) law next refl n l
 marks_untouched {base} h (Item leaf v) law next n l o apart =
     let w = stops_apart n (stops h leaf) apart in
     let k = w.1 in
@@ -73,14 +72,7 @@ marks_untouched {base} h (Decline f) law next n l o apart =
     marks-decline base h f law next n l ∙ same_marks base refl refl refl refl refl (omega arith) refl
 marks_untouched h (End c t) law next n l o apart = marks-end_other h c t law next n o apart
 marks_untouched {base} h (Close c) law next n l o apart = marks-close_other base h c law next n o apart
-marks_untouched {base} h (Hub mode) law next n l o apart = marks_kept base h (Hub mode) law next refl n l
-marks_untouched {base} h (Connect g) law next n l o apart = marks_kept base h (Connect g) law next refl n l
-marks_untouched {base} h (Accept m tag) law next n l o apart = marks_kept base h (Accept m tag) law next refl n l
-marks_untouched {base} h (Use r) law next n l o apart = marks_kept base h (Use r) law next refl n l
-marks_untouched {base} h (Remove r) law next n l o apart = marks_kept base h (Remove r) law next refl n l
-marks_untouched {base} h (Lease r) law next n l o apart = marks_kept base h (Lease r) law next refl n l
-marks_untouched {base} h (Return m) law next n l o apart = marks_kept base h (Return m) law next refl n l
-marks_untouched {base} h (Take r) law next n l o apart = marks_kept base h (Take r) law next refl n l
+marks_untouched {base} h e law next n l o apart = marks_kept base h e law next refl n l
 
 -- of the parent of what ended, by the events of both
 pub marks-end_parent_at : {base : Kept} → {h : List Event} {c p : ℕ} (made above : Event) (t : Terminal) → IsLawful base h → MayFollow base h (End c t) →
@@ -96,17 +88,9 @@ marks-end_parent_at {base} {h} {c} {p} made above t law next below at_c at_p =
     same_marks base refl refl refl (ap (λ b. source_completed base h p || b) (source_is t))
     (ap (λ o. option_or (child_terminal h p) (if passes_on (option_map_or is_merging o false) t then Some t else None)) at_p) refl refl
   where
-    and_yes : (b : Bool) → b ≡ (b && true)
-    and_yes true = refl
-    and_yes false = refl
-
-    and_no : (b : Bool) → false ≡ (b && false)
-    and_no true = refl
-    and_no false = refl
-
     source_is : (u : Terminal) → completes_source h p (End c u) ≡ (is_source_of p made && not (passes_on true u))
-    source_is Completed = ap (λ o. option_map_or (is_source_of p) o false) at_c ∙ and_yes (is_source_of p made)
-    source_is (Error code) = and_no (is_source_of p made)
+    source_is Completed = ap (λ o. option_map_or (is_source_of p) o false) at_c ∙ sym (and_true (is_source_of p made))
+    source_is (Error code) = sym (and_false (is_source_of p made))
 
 -- the marks of the one node that an event touches -------------------------------------------------
 

@@ -11,7 +11,7 @@ use Rattle.std.proofs.lemmas.Option.{option_and_then_some, slice_get_past, slice
 use Rattle.std.proofs.lemmas.List.Folds.{list_any-append}
 use Rattle.rx_note.specs.declared.note.Terminal.{Terminal}
 use Rattle.rx_event.specs.Kept.{Kept, shown, resource_kept}
-use Rattle.rx_event.specs.declared.event.Place.TheVariants.{Root, Source, Inner, Notifier}
+use Rattle.rx_event.specs.declared.event.Place.TheVariants.{Inner}
 use Rattle.rx_event.specs.declared.event.Event.{Event}
 use Rattle.rx_event.specs.declared.event.Event.TheVariants.{Open, Hub, Connect, Accept, Use, Remove, Lease, Return, Item, Decline, End, Close, Take}
 use Rattle.rx_event.specs.Events.{makes_resource, node_of_accept, is_remove_of, is_lease_of, is_return, is_take_of}
@@ -528,42 +528,14 @@ pub record MovesNone (e : Event) : Type 0 where
 
 moves_parts : (e : Event) → moves_none e ≡ true → MovesNone e
 moves_parts (Open (Inner f) kind) m = absurd (false≢true m)
-moves_parts (Open Root kind) m = record {
-  shuts = refl;
-  accepts = refl;
-  named = refl;
-  removes = λ r. refl;
-  leases = λ r. refl;
-  returns = refl;
-  takes = λ r.
-      refl;
-}
-moves_parts (Open (Source f) kind) m = record {
-  shuts = refl;
-  accepts = refl;
-  named = refl;
-  removes = λ r. refl;
-  leases = λ r. refl;
-  returns = refl;
-  takes =
-      λ r. refl;
-}
-moves_parts (Open (Notifier f) kind) m = record {
-  shuts = refl;
-  accepts = refl;
-  named = refl;
-  removes = λ r. refl;
-  leases = λ r. refl;
-  returns = refl;
-  takes
-      = λ r. refl;
-}
-moves_parts (Hub mode) m = record { shuts = refl; accepts = refl; named = refl; removes = λ r. refl; leases = λ r. refl; returns = refl; takes = λ r. refl }
-moves_parts (Connect g) m = record { shuts = refl; accepts = refl; named = refl; removes = λ r. refl; leases = λ r. refl; returns = refl; takes = λ r. refl }
-moves_parts (Use q) m = record { shuts = refl; accepts = refl; named = refl; removes = λ r. refl; leases = λ r. refl; returns = refl; takes = λ r. refl }
-moves_parts (Item l v) m = record { shuts = refl; accepts = refl; named = refl; removes = λ r. refl; leases = λ r. refl; returns = refl; takes = λ r. refl }
-moves_parts (Decline f) m = record { shuts = refl; accepts = refl; named = refl; removes = λ r. refl; leases = λ r. refl; returns = refl; takes = λ r. refl }
-moves_parts _ m = absurd (false≢true m)
+moves_parts (Accept n tag) m = absurd (false≢true m)
+moves_parts (Remove q) m = absurd (false≢true m)
+moves_parts (Lease q) m = absurd (false≢true m)
+moves_parts (Return l) m = absurd (false≢true m)
+moves_parts (End n t) m = absurd (false≢true m)
+moves_parts (Close n) m = absurd (false≢true m)
+moves_parts (Take q) m = absurd (false≢true m)
+moves_parts _ m = record { shuts = refl; accepts = refl; named = refl; removes = λ r. refl; leases = λ r. refl; returns = refl; takes = λ r. refl }
 
 -- a new resource is held
 pub is_held_new : (base : Kept) → (h : List Event) (e : Event) → IsLawful base h → MayFollow base h e → is_held (h ++ e ∷ []) (length h) ≡ makes_resource e

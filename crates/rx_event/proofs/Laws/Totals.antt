@@ -9,10 +9,10 @@ use Rattle.std.proofs.lemmas.List.Sums.{sum_by_push}
 use Rattle.rx_note.specs.declared.note.Terminal.{Terminal}
 use Rattle.rx_event.specs.declared.base.BaseResource.{BaseResource}
 use Rattle.rx_event.specs.Kept.{Kept, resource_kept}
-use Rattle.rx_event.specs.declared.event.Place.TheVariants.{Root, Source, Inner, Notifier}
+use Rattle.rx_event.specs.declared.event.Place.TheVariants.{Source, Inner, Notifier}
 use Rattle.rx_event.specs.declared.event.Kind.{Kind}
 use Rattle.rx_event.specs.declared.event.Event.{Event}
-use Rattle.rx_event.specs.declared.event.Event.TheVariants.{Open, Hub, Connect, Accept, Use, Remove, Lease, Return, Item, Decline, End, Close, Take}
+use Rattle.rx_event.specs.declared.event.Event.TheVariants.{Open, Accept, Use, Remove, End, Close, Take}
 use Rattle.rx_event.specs.Events.{makes_node, makes_resource, node_of_accept, parent_named, is_use_of, is_take_of, is_item, is_take}
 use Rattle.rx_event.specs.Tree.{places, is_open, is_within}
 use Rattle.rx_event.specs.Resources.{is_owned, is_leased, is_held, is_waiting, uses}
@@ -324,24 +324,14 @@ open_count-push h e =
 
 -- what is made is open, where it names an open node
 pub is_open_named : (h : List Event) (e : Event) → ((p : ℕ) → parent_named e ≡ Some p → is_open h p ≡ true) → is_open (h ++ e ∷ []) (length h) ≡ makes_node e
-is_open_named h (Open Root kind) names = is_open_last h (Open Root kind) refl
 is_open_named h (Open (Source p) kind) names =
     is_open_made h (Open (Source p) kind) p refl refl (names p refl) (is_cut_none h (Open (Source p) kind) p refl)
 is_open_named h (Open (Inner p) kind) names = is_open_made h (Open (Inner p) kind) p refl refl (names p refl) (is_cut_inner h p kind p (omega arith))
 is_open_named h (Open (Notifier p) kind) names =
     is_open_made h (Open (Notifier p) kind) p refl refl (names p refl) (is_cut_none h (Open (Notifier p) kind) p refl)
-is_open_named h (Connect g) names = is_open_last h (Connect g) refl
-is_open_named h (Hub mode) names = is_open_last h (Hub mode) refl
-is_open_named h (Accept n tag) names = is_open_last h (Accept n tag) refl
-is_open_named h (Use r) names = is_open_last h (Use r) refl
-is_open_named h (Remove r) names = is_open_last h (Remove r) refl
-is_open_named h (Lease r) names = is_open_last h (Lease r) refl
-is_open_named h (Return l) names = is_open_last h (Return l) refl
-is_open_named h (Item l v) names = is_open_last h (Item l v) refl
-is_open_named h (Decline f) names = is_open_last h (Decline f) refl
-is_open_named h (Take r) names = is_open_last h (Take r) refl
 is_open_named h (End n t) names = is_open_last_none h (End n t) refl
 is_open_named h (Close n) names = is_open_last_none h (Close n) refl
+is_open_named h e names = is_open_last h e refl
 
 pub is_open_new : (base : Kept) → (h : List Event) (e : Event) → MayFollow base h e → is_open (h ++ e ∷ []) (length h) ≡ makes_node e
 is_open_new base h e next = is_open_named h e (λ p named. may_name base next named)
