@@ -1,11 +1,11 @@
 -- How far an item's way was walked.
-use Rattle.std.proofs.Common.{◌≡◌, ℕ, zero, suc, ◌+◌, ◌≤◌, Bool, true, false, Option, Some, None, is_some, List, [], ◌∷◌, length}
+use Rattle.std.proofs.Common.{◌≡◌, ℕ, zero, suc, ◌+◌, ◌≤◌, Bool, true, false, Option, Some, None, is_some, IfSome, IsSome, List, [], ◌∷◌, length}
 use Rattle.std.proofs.Common.{refl, sym, ap, ◌∙◌, arith, true≢false}
 use Rattle.std.proofs.Math.Bool.{not}
-use Rattle.std.specs.Option.{option_map_or, option_or}
+use Rattle.std.specs.Option.{option_and_then, option_map_or, option_or}
 use Rattle.rx_event.specs.Climb.{most_visits}
 use Rattle.rx_slots.specs.declared.Key.{Key}
-use Rattle.rx_slots.specs.Slots.{Slots}
+use Rattle.rx_slots.specs.Slots.{Slots, find}
 use Rattle.rx_tree.specs.declared.node.Node.{Node}
 use Rattle.rx_flow.specs.declared.stop.Stop.{Stop}
 use Rattle.rx_flow.specs.Way.{above_of, stop_of, onward_of, way_within, way, end_of}
@@ -92,3 +92,52 @@ free_of (Some x) b test none = absurd (true≢false (test ∙ ap not none))
 pub stop_there : (s : Option Stop) (b : Bool) → is_some s ≡ not b → b ≡ false → (x : Stop) × (s ≡ Some x)
 stop_there (Some x) b test some = (x, refl)
 stop_there None b test some = absurd (true≢false (sym (test ∙ ap not some)))
+
+-- a climb by the records ----------------------------------------------------------------------------
+
+-- the climb is at a node of this record, where it stops so
+pub record IsClimbing (nodes : Slots Node) (first : Key) (read : Node) (stop : Option Stop) (visits : ℕ) : Type 0 where
+  pub at : Key
+  pub on : IsOnWay nodes first at visits
+  pub stops : stop ≡ stop_of nodes at
+  pub found : find nodes at ≡ Some read
+  pub above : IfSome read.above (λ up. IsSome (find nodes up))
+
+pub climbing_starts : (nodes : Slots Node) (first : Key) {read : Node} {stop : Option Stop} → find nodes first ≡ Some read →
+    IfSome read.above (λ up. IsSome (find nodes up)) → stop ≡ stop_of nodes first → IsClimbing nodes first read stop 1
+climbing_starts nodes first found above stops =
+    record { at = first; on = at_first nodes first; stops = stops; found = found; above = above }
+
+-- the node above, of a record that is found
+above_found : (nodes : Slots Node) (at : Key) (read : Node) (above : Option Key) → find nodes at ≡ Some read → read.above ≡ above → above_of nodes at ≡ above
+above_found nodes at read above found is = ap (option_and_then (λ (node : Node). node.above)) found ∙ is
+
+pub climbing_on : {nodes : Slots Node} {first : Key} {read : Node} {stop : Option Stop} {visits : ℕ} → IsClimbing nodes first read stop visits →
+    stop ≡ None → visits ≤ most_visits → (next : Key) (after : Node) (onward : Option Stop) → read.above ≡ Some next → find nodes next ≡ Some after →
+    IfSome after.above (λ up. IsSome (find nodes up)) → onward ≡ stop_of nodes next → IsClimbing nodes first after onward (visits + 1)
+climbing_on {nodes} {first} {read} {stop} {visits} w none few next after onward is found above stops = record {
+  at = next;
+  on = one_further first w.at next visits w.on few (sym w.stops ∙ none) (above_found nodes w.at read (Some next) w.found is);
+  stops = stops;
+  found = found;
+  above = above;
+}
+
+-- it ends at the top, at a stop, or at the limit
+pub climbing_top : {nodes : Slots Node} {first : Key} {read : Node} {stop : Option Stop} {visits : ℕ} → IsClimbing nodes first read stop visits →
+    stop ≡ None → read.above ≡ None → (visits ≡ length (way nodes first)) × (stop ≡ end_of nodes (way nodes first))
+climbing_top {nodes} {first} {read} {stop} {visits} w none top =
+    let ends = at_top nodes first w.at visits w.on (sym w.stops ∙ none) (above_found nodes w.at read None w.found top) in
+    (ends.0, w.stops ∙ ends.1)
+
+pub climbing_stop : {nodes : Slots Node} {first : Key} {read : Node} {stop : Option Stop} {visits : ℕ} → IsClimbing nodes first read stop visits →
+    (x : Stop) → stop ≡ Some x → (visits ≡ length (way nodes first)) × (stop ≡ end_of nodes (way nodes first))
+climbing_stop {nodes} {first} {read} {stop} {visits} w x some =
+    let ends = at_stop nodes first w.at visits x w.on (sym w.stops ∙ some) in
+    (ends.0, w.stops ∙ ends.1)
+
+pub climbing_limit : {nodes : Slots Node} {first : Key} {read : Node} {stop : Option Stop} {visits : ℕ} → IsClimbing nodes first read stop visits →
+    most_visits + 1 ≤ visits → (visits ≡ length (way nodes first)) × (stop ≡ end_of nodes (way nodes first))
+climbing_limit {nodes} {first} {read} {stop} {visits} w many =
+    let ends = at_limit nodes first w.at visits w.on many in
+    (ends.0, w.stops ∙ ends.1)

@@ -1,27 +1,22 @@
 //! Where an item goes.
 
-ghost use Rattle.std.specs.Prelude.{◌≡◌, IsSome, length};
+ghost use Rattle.std.specs.Prelude.{◌≡◌, Some, IfSome, IsSome, length};
 ghost use Rattle.rx_slots.specs.Slots.{find};
-ghost use Rattle.rx_flow.specs.Way.{above_of, stop_of, hub_of, way, end_of};
+ghost use Rattle.rx_flow.specs.Way.{stop_of, hub_of, way, end_of};
 
 use crate::stop::{Reached, Stop};
 use rx_event::{Event, MOST_VISITS, Place};
 use rx_resource::Resource;
-use rx_tree::{Key, Tree};
+use rx_tree::{Key, Record, Tree};
 
-/// The key of the node above.
-fn above<R: Resource>(tree: &Tree<R>, key: Key) -> Option<Key>
-    ensures { result ≡ above_of tree.now.nodes key }
-{
-    tree.promise();
-    tree.parent(key)
-}
-
-/// Where an item stops that reaches this node; None where it goes on.
-fn stop_at<R: Resource>(tree: &Tree<R>, key: Key) -> Option<Stop>
+/// Where an item stops that reaches this node, of which this is the record; None where it goes on.
+#[inline(always)]
+fn stop_at<R: Resource>(tree: &Tree<R>, key: Key, read: &Record) -> Option<Stop>
+    requires found { find tree.now.nodes key ≡ Some read.now.node }
+    requires above { IfSome read.now.node.above (λ up. IsSome (find tree.now.nodes up)) }
     ensures { result ≡ stop_of tree.now.nodes key }
 {
-    match tree.made(key)? {
+    match read.made() {
         Event::Open {
             place: Place::Root,
             ..
@@ -30,8 +25,8 @@ fn stop_at<R: Resource>(tree: &Tree<R>, key: Key) -> Option<Stop>
             place: Place::Source(_),
             ..
         } => {
-            let merging = above(tree, key)?;
-            if tree.made(merging)?.is_merging() {
+            let merging = read.parent()?;
+            if tree.above(read).is_merging() {
                 Some(Stop::Projection(merging))
             } else {
                 None
@@ -41,7 +36,7 @@ fn stop_at<R: Resource>(tree: &Tree<R>, key: Key) -> Option<Stop>
             place: Place::Notifier(_),
             ..
         } => {
-            let until = above(tree, key)?;
+            let until = read.parent()?;
             Some(Stop::Firing(until))
         }
         Event::Connect(_) => Some(Stop::Connection(key)),
@@ -50,11 +45,12 @@ fn stop_at<R: Resource>(tree: &Tree<R>, key: Key) -> Option<Stop>
 }
 
 /// The hub of the connection at which an item stops; None where it stops elsewhere.
+#[inline(always)]
 fn hub_behind<R: Resource>(tree: &Tree<R>, stop: Option<Stop>) -> Option<u64>
     ensures { result ≡ hub_of tree.now.nodes stop }
 {
     match stop? {
-        Stop::Connection(connection) => tree.made(connection)?.connects(),
+        Stop::Connection(connection) => tree.get(connection)?.connects(),
         _ => None,
     }
 }
@@ -62,31 +58,38 @@ fn hub_behind<R: Resource>(tree: &Tree<R>, stop: Option<Stop>) -> Option<u64>
 /// Where an item of this node goes inside the tree: up to a root, to a FlatMap or Switch that projects
 /// it, to a TakeUntil that it fires, or to a connection. A way is cut off one visit after the
 /// 1,048,576 that an item may make.
+///
+/// Each record on the way is read in place.
+#[inline(always)]
 pub fn climb<R: Resource>(tree: &Tree<R>, node: Key) -> Reached
     requires { IsSome (find tree.now.nodes node) }
     ensures visits { result.visits ≡ length (way tree.now.nodes node) }
     ensures stop { result.stop ≡ end_of tree.now.nodes (way tree.now.nodes node) }
     ensures hub { result.hub ≡ hub_of tree.now.nodes result.stop }
 {
-    let mut at = node;
-    let mut reached = Reached {
-        stop: stop_at(tree, at),
-        hub: None,
-        visits: 1,
+    let Some(first) = tree.get(node) else {
+        unreachable!()
     };
-    while reached.stop.is_none() && reached.visits <= MOST_VISITS {
-        let Some(next) = above(tree, at) else {
-            return reached;
+    let mut at = node;
+    let mut read = first;
+    let mut stop = stop_at(tree, at, read);
+    let mut visits = 1;
+    while stop.is_none() && visits <= MOST_VISITS {
+        let Some(next) = read.parent() else {
+            return Reached {
+                stop,
+                hub: None,
+                visits,
+            };
         };
+        read = tree.above(read);
         at = next;
-        reached = Reached {
-            stop: stop_at(tree, at),
-            hub: None,
-            visits: reached.visits + 1,
-        };
+        stop = stop_at(tree, at, read);
+        visits += 1;
     }
     Reached {
-        hub: hub_behind(tree, reached.stop),
-        ..reached
+        stop,
+        hub: hub_behind(tree, stop),
+        visits,
     }
 }

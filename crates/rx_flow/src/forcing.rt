@@ -17,11 +17,11 @@ pub struct Due {
 }
 
 /// How the key's node has to end by its marks; None where it has not, and where the key finds none.
+#[inline(always)]
 fn terminal_of<R: Resource>(tree: &Tree<R>, key: Key) -> Option<Terminal>
     ensures { result ≡ terminal_of tree.now.nodes key }
 {
-    let made = tree.made(key)?;
-    tree.marks(key)?.terminal_due(made)
+    tree.get(key)?.terminal_due()
 }
 
 /// What an operator has to do next, by the marks of the records: which mirroring node ends, TakeUntil,
@@ -30,6 +30,7 @@ fn terminal_of<R: Resource>(tree: &Tree<R>, key: Key) -> Option<Terminal>
 ///
 /// It looks at what is on the chain alone, drops the heads at which nothing is due, and leaves the
 /// records as they are. It takes no memory.
+#[inline(always)]
 pub fn next_due<R: Resource>(tree: &mut Tree<R>) -> Option<Due>
     requires chained { IsChained tree.old.nodes tree.old.chain }
     ensures due { IfSome result (IsDueAt tree.old.nodes) }

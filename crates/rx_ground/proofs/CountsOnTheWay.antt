@@ -9,12 +9,15 @@ use Rattle.rx_event.specs.Climb.{most_visits}
 use Rattle.rx_slots.specs.declared.Key.{Key}
 use Rattle.rx_slots.specs.Slots.{Slots}
 use Rattle.rx_tree.specs.declared.node.Node.{Node}
+use Rattle.rx_flow.specs.declared.stop.Reached.{Reached}
 use Rattle.rx_flow.specs.declared.stop.Stop.{Stop}
 use Rattle.rx_flow.specs.declared.stop.Stop.TheVariants.{Delivery, Projection, Firing, Connection}
+use Rattle.rx_flow.specs.Way.{way, end_of}
 use Rattle.rx_hub.specs.Hubs.{Hub}
 use Rattle.rx_hub.specs.Route.{Route, IsUnderWay, Arrives, stops_left, all_visits}
 use Rattle.rx_hub.specs.Walk.{visited_over, onward_over, climb_over, stops_over, arrival_at}
-use Rattle.rx_ground.specs.Passing.{IsMeasured, owed_at, told_at, sum_at}
+use Rattle.rx_hub.proofs.Laws.StopInTree.{climb_over-arrived, stops_over-arrived}
+use Rattle.rx_ground.specs.Passing.{IsArrived, IsMeasured, owed_at, told_at, sum_at}
 
 -- the limit ---------------------------------------------------------------------------------------
 
@@ -50,6 +53,34 @@ pub visits_within : (n v : ℕ) → n ≡ v → n ≤ 1048576 → true ≡ not (
 visits_within n v same less = within n v most_visits same less limit_is where
   within : (n v most : ℕ) → n ≡ v → n ≤ 1048576 → most ≡ 1048576 → true ≡ not (nat_lt most v)
   within n v most same less is = sym (ap not (le-ltb most v (omega arith)))
+
+-- in its own tree ---------------------------------------------------------------------------------
+
+-- an item that makes one stop wants what that wants
+pub measured_alone : (stop : Stop) → IsMeasured (stop ∷ []) (record { events = 1 + owed_at stop; notes = told_at stop })
+measured_alone (Delivery key) = record { events = refl; notes = refl; few = omega arith }
+measured_alone (Projection key) = record { events = refl; notes = refl; few = omega arith }
+measured_alone (Firing key) = record { events = refl; notes = refl; few = omega arith }
+measured_alone (Connection key) = record { events = refl; notes = refl; few = omega arith }
+
+-- what an item wants whose climb ends in its own tree
+pub record IsAlone (nodes : Slots Node) (hubs : List Hub) (key : Key) (stop : Stop) (owed told : ℕ) : Type 0 where
+  pub reach : IsMeasured (stops_over nodes hubs key) (record { events = 1 + owed; notes = told })
+  pub only : stops_over nodes hubs key ≡ stop ∷ []
+  pub visits : true ≡ not (nat_lt most_visits (length (climb_over nodes hubs key)))
+
+pub arrived_alone : (nodes : Slots Node) (hubs : List Hub) (key : Key) (reached : Reached) (stop : Stop) (owed told : ℕ) → IsArrived reached stop →
+    reached.visits ≡ length (way nodes key) → reached.stop ≡ end_of nodes (way nodes key) → owed ≡ owed_at stop → told ≡ told_at stop →
+    IsAlone nodes hubs key stop owed told
+arrived_alone nodes hubs key reached stop owed told is visits stops owed_is told_is =
+    let ends : end_of nodes (way nodes key) ≡ Some stop = sym stops ∙ is.stops in
+    let only : stops_over nodes hubs key ≡ stop ∷ [] = stops_over-arrived nodes hubs key stop ends is.arrives in
+    record {
+      reach = rw only (rw owed_is (rw told_is (measured_alone stop)));
+      only = only;
+      visits = visits_within reached.visits (length (climb_over nodes hubs key))
+          (visits ∙ sym (ap (length {A = Key}) (climb_over-arrived nodes hubs key stop ends is.arrives))) is.few;
+    }
 
 -- on its way --------------------------------------------------------------------------------------
 

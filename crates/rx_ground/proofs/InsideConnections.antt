@@ -10,12 +10,22 @@ use Rattle.rx_event.specs.Events.{parent_named}
 use Rattle.rx_event.specs.Tree.{at, parent, if_less, ancestors}
 use Rattle.rx_event.proofs.Laws.Parents.{ancestors_step, parent-lt}
 use Rattle.rx_slots.specs.declared.Key.{Key}
-use Rattle.rx_slots.specs.Slots.{find}
-use Rattle.rx_tree.specs.Tree.{Tree, named_above, parent_number}
+use Rattle.rx_slots.specs.Slots.{Slots, find}
+use Rattle.rx_tree.specs.declared.node.Node.{Node}
+use Rattle.rx_tree.specs.Tree.{Tree, IsSound, named_above, parent_number}
 use Rattle.rx_tree.proofs.Laws.Keys.{some_of}
+use Rattle.rx_tree.proofs.Laws.Parents.{named_parent}
 use Rattle.rx_event.specs.Causes.{connects_up_to}
 use Rattle.rx_ground.specs.Ties.{IsTied}
 use Rattle.rx_ground.specs.Told.{is_inside_up_to}
+
+-- a record that is found has the key of the node that its place names
+pub parent_read : (nodes : Slots Node) (key : Key) (node : Node) → find nodes key ≡ Some node → IsSound nodes →
+    option_map (λ (p : Key). p.number) node.above ≡ parent_number nodes key
+parent_read nodes key node found sound = named_parent nodes key node found sound
+
+pub parent_none : (nodes : Slots Node) (key : Key) → find nodes key ≡ None → None ≡ parent_number nodes key
+parent_none nodes key none = sym (ap (option_and_then (named_above key.number)) none)
 
 -- a record names the node above as the history does
 pub parent_told : (base : Kept) → {T : Type 0} (g : Ghosts T) (h : List Event) (tree : Tree T) → IsTied base g h tree → (key : Key) →

@@ -1,6 +1,6 @@
 -- What all open FlatMaps and Switches owe together, by the history and by the records of a tree, and that it stays within 64 bits.
 use Rattle.std.proofs.Common.{◌≡◌, ℕ, zero, suc, ◌+◌, ◌*◌, ◌<◌, ◌≤◌, Bool, true, false, cond, List, [], ◌∷◌, ◌++◌, length}
-use Rattle.std.proofs.Common.{Option, Some, None, is_some, IsSome, option_map, refl, sym, ap, ◌∙◌, arith, length-append}
+use Rattle.std.proofs.Common.{Option, Some, None, is_some, IsSome, IfSome, option_map, refl, sym, ap, ◌∙◌, arith, length-append}
 use Rattle.std.proofs.Math.Bool.{not, ◌&&◌}
 use Rattle.std.specs.List.{AllByRecursion, count_by, filter_map, cons_option}
 use Rattle.std.proofs.lemmas.Option.{none-some, same_Some}
@@ -126,13 +126,13 @@ owed_count-bounded s promised =
 
 -- by the records of a tree ------------------------------------------------------------------------
 
--- a node's marks say what it owes by the history
-pub owed_told : (base : Kept) → (h : List Event) (nodes : Slots Node) (chain : List Key) → AreRecords base h nodes chain → (key : Key) (marks : Marks) →
-    option_map (λ (node : Node). node.marks) (find nodes key) ≡ Some marks → marks.owed ≡ owed base h key.number
-owed_told base h nodes chain records key marks at_key = by_value (find nodes key) refl at_key where
-  by_value : (o : Option Node) → find nodes key ≡ o → option_map (λ (node : Node). node.marks) o ≡ Some marks → marks.owed ≡ owed base h key.number
-  by_value None found none = absurd (none-some marks none)
-  by_value (Some node) found same = ap (λ (m : Marks). m.owed) (sym (same_Some node.marks marks same) ∙ (records.each key node found).marks)
+-- a node's marks owe something where it does by the history
+pub owes_told : {base : Kept} {h : List Event} {nodes : Slots Node} {chain : List Key} (key : Key) → AreRecords base h nodes chain →
+    0 < owed base h key.number → IfSome (find nodes key) (λ (node : Node). 0 < node.marks.owed)
+owes_told {base} {h} {nodes} {chain} key records some = by_value (find nodes key) refl where
+  by_value : (o : Option Node) → find nodes key ≡ o → IfSome o (λ (node : Node). 0 < node.marks.owed)
+  by_value None found = tt
+  by_value (Some node) found = let same = ap (λ (m : Marks). m.owed) (records.each key node found).marks in omega (arith, some)
 
 -- what the records owe together is what the history's FlatMaps and Switches do
 pub owed_in-count : (base : Kept) → (h : List Event) → IsLawful base h → (nodes : Slots Node) (chain : List Key) → AreRecords base h nodes chain →

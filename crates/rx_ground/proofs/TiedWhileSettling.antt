@@ -13,7 +13,7 @@ use Rattle.rx_event.specs.declared.event.Event.{Event}
 use Rattle.rx_event.specs.declared.event.Event.TheVariants.{Connect, End}
 use Rattle.rx_event.specs.Events.{is_merging}
 use Rattle.rx_event.specs.Tree.{is_open}
-use Rattle.rx_event.specs.Marks.{after_child}
+use Rattle.rx_event.specs.Marks.{after_child, after_decline}
 use Rattle.rx_event.specs.Notes.{mail_of}
 use Rattle.rx_event.specs.Forced.{IsConnectDue, IsForced, IsSettled, connecting, due}
 use Rattle.rx_event.specs.Lawful.{IsLawful, IsForcedOn, forced, stays, more}
@@ -284,15 +284,32 @@ set_remarks {T = T} {old} {new} {key} {marks} {after} change at_marks changes se
         resources = sets.stored;
       }
 
--- those of an end are set by the record that is found
-pub found_end : {T : Type 0} {old new : Tree T} {key : Key} {made : Event} {marks : Marks} (source : Bool) {merging : Bool} (t : Terminal) →
-    option_map (λ (node : Node). node.made) (find old.nodes key) ≡ Some made →
-    option_map (λ (node : Node). node.marks) (find old.nodes key) ≡ Some marks → merging ≡ is_merging made →
-    SetsMarks old new key (after_child source merging t marks) →
+-- the marks of a record that is found are set so by the end of a child, and it stays in its place
+pub end_marked : {T : Type 0} (old new : Tree T) (key : Key) (source : Bool) (t : Terminal) → ((node : Node) → find old.nodes key ≡ Some node →
+    Rewrites old.nodes new.nodes key (with_marks (after_child source (is_merging node.made) t node.marks))) →
+    new.chain ≡ with_due new.nodes key old.chain → new.resources ≡ old.resources →
     IfSome (find old.nodes key) (λ node. Remarks old new key (after_child source (is_merging node.made) t))
-found_end {T = T} {old} {new} {key} {made} {marks} source t at_made at_marks merges sets = by_value (find old.nodes key) refl where
+end_marked {T = T} old new key source t nodes chain stored = by_value (find old.nodes key) refl where
   by_value : (o : Option Node) → find old.nodes key ≡ o → IfSome o (λ node. Remarks old new key (after_child source (is_merging node.made) t))
   by_value None e = tt
   by_value (Some x) e =
-      let is_made : made ≡ x.made = same_Some made x.made (sym at_made ∙ ap (option_map (λ (node : Node). node.made)) e) in
-      set_remarks (after_child source (is_merging x.made) t) at_marks (ap (λ b. after_child source b t marks) (merges ∙ ap is_merging is_made)) sets
+      let at_marks : option_map (λ (node : Node). node.marks) (find old.nodes key) ≡ Some x.marks = ap (option_map (λ (node : Node). node.marks)) e in
+      let sets : SetsMarks old new key (after_child source (is_merging x.made) t x.marks) =
+      record { nodes = nodes x e; chain = chain; stored = stored } in
+      set_remarks (after_child source (is_merging x.made) t) at_marks refl sets
+
+pub end_rest : {T : Type 0} (old new : Tree T) (key : Key) (source : Bool) (t : Terminal) → IsSome (find old.nodes key) → ((node : Node) →
+    find old.nodes key ≡ Some node →
+    Rewrites old.nodes new.nodes key (with_marks (after_child source (is_merging node.made) t node.marks))) →
+    new.nodes ≡ record old.nodes { entries = new.nodes.entries }
+end_rest {T = T} old new key source t there nodes = let x = some_of (find old.nodes key) there in (nodes x.0 x.1).rest
+
+-- a record that is found declined one
+pub decline_marked : {T : Type 0} {old new : Tree T} {key : Key} → IsSome (find old.nodes key) → ((node : Node) → find old.nodes key ≡ Some node →
+    Rewrites old.nodes new.nodes key (with_marks (after_decline node.marks))) → new.chain ≡ with_due new.nodes key old.chain →
+    new.resources ≡ old.resources → Remarks old new key after_decline
+decline_marked {T = T} {old} {new} {key} there nodes chain stored =
+    let x = some_of (find old.nodes key) there in
+    let at_marks : option_map (λ (node : Node). node.marks) (find old.nodes key) ≡ Some x.0.marks = ap (option_map (λ (node : Node). node.marks)) x.1 in
+    let sets : SetsMarks old new key (after_decline x.0.marks) = record { nodes = nodes x.0 x.1; chain = chain; stored = stored } in
+    set_remarks after_decline at_marks refl sets

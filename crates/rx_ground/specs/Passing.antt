@@ -17,11 +17,12 @@ use Rattle.rx_slots.specs.Slots.{Slots, find}
 use Rattle.rx_tree.specs.declared.node.Node.{Node}
 use Rattle.rx_tree.specs.Owed.{owed_in}
 use Rattle.rx_tree.specs.Tree.{Tree, is_on}
+use Rattle.rx_flow.specs.declared.stop.Reached.{Reached}
 use Rattle.rx_flow.specs.declared.stop.Stop.{Stop}
 use Rattle.rx_flow.specs.declared.stop.Stop.TheVariants.{Delivery, Projection, Firing, Connection}
 use Rattle.rx_flow.specs.Claims.{numbered}
 use Rattle.rx_hub.specs.Hubs.{Hub}
-use Rattle.rx_hub.specs.Walk.{stops_over}
+use Rattle.rx_hub.specs.Walk.{arrival, stops_over}
 use Rattle.rx_register.specs.State.{State as Register}
 use Rattle.rx_ground.specs.declared.base.Only.{Only}
 use Rattle.rx_ground.specs.declared.route.Reach.{Reach}
@@ -67,6 +68,12 @@ module _ {T : Type 0} where
 abbrev pub sum_at : (Stop → ℕ) → List Stop → ℕ
 sum_at f [] = 0
 sum_at f (stop ∷ stops) = f stop + sum_at f stops
+
+-- an item that climbed so arrives there, and its way ends
+pub record IsArrived (climb : Reached) (stop : Stop) : Type 0 where
+  pub stops : climb.stop ≡ Some stop
+  pub arrives : arrival stop ≡ Some stop
+  pub few : climb.visits ≤ 1048576
 
 -- what an item wants that makes these stops
 pub record IsMeasured (stops : List Stop) (reach : Reach) : Type 0 where

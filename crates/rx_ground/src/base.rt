@@ -1,9 +1,9 @@
 //! What a book stands on: the register of what happened, the tree of what is open, held and waiting, the
 //! hubs that were made, and the leases that are out.
 
-ghost use Rattle.std.specs.Prelude.{◌≡◌, ◌+◌, ◌-◌, ◌<◌, ◌≤◌, length, vec_capacity, option_map, OnOk};
+ghost use Rattle.std.specs.Prelude.{◌≡◌, ◌+◌, ◌-◌, ◌<◌, ◌≤◌, length, vec_capacity, option_map, IfSome, IsSome, OnOk};
 ghost use Rattle.rx_register.specs.State.{IsPromised as IsRegisterPromised};
-ghost use Rattle.rx_tree.specs.Tree.{AreApart, IsPromised as IsTreePromised};
+ghost use Rattle.rx_tree.specs.Tree.{AreApart, IsPromised as IsTreePromised, parent_number};
 ghost use Rattle.rx_hub.specs.Hubs.{IsPromised as IsHubsPromised};
 ghost use Rattle.rx_slots.specs.Slots.{find};
 ghost use Rattle.rx_ground.specs.Ties.{IsRoomier, HasRoom, record_of};
@@ -80,7 +80,22 @@ pub struct Record {
     pub marks: Marks,
 }
 
+// The key of the node above, by the record as it stands.
+#[inline(always)]
+#[tactic(auto, using(crate::proofs::InsideConnections::parent_read, crate::proofs::InsideConnections::parent_none))]
+pub(crate) fn parent<R: Resource>(tree: &Tree<R>, key: Key) -> Option<Key>
+    ensures number { option_map (λ parent. parent.number) result ≡ parent_number tree.now.nodes key }
+    ensures found { IfSome result (λ parent. IsSome (find tree.now.nodes parent)) }
+{
+    tree.promise();
+    match tree.get(key) {
+        Some(node) => node.parent(),
+        None => None,
+    }
+}
+
 // Room for so many nodes more, and for closing all there are then. Where none is wanted, none is asked for.
+#[inline(always)]
 fn reserve_nodes<R: Resource>(
     tree: &mut Tree<R>,
     closed: &mut Vec<Closed>,
@@ -104,6 +119,7 @@ fn reserve_nodes<R: Resource>(
 }
 
 // Room for so many resources more. Where none is wanted, none is asked for.
+#[inline(always)]
 fn reserve_resources<R: Resource>(tree: &mut Tree<R>, additional: usize) -> Result<(), AllocError>
     ensures ok { OnOk result (additional ≤ tree.new.resources.room) }
     ensures kept { tree.new ≡ record tree.old
@@ -116,6 +132,7 @@ fn reserve_resources<R: Resource>(tree: &mut Tree<R>, additional: usize) -> Resu
 }
 
 // Room for so many leases more. Where none is wanted, none is asked for.
+#[inline(always)]
 fn reserve_leases(leases: &mut Leases, additional: usize) -> Result<(), AllocError>
     ensures ok { OnOk result (additional ≤ leases.new.room) }
     ensures kept { leases.new ≡ record leases.old { room = leases.new.room } }
@@ -127,6 +144,7 @@ fn reserve_leases(leases: &mut Leases, additional: usize) -> Result<(), AllocErr
 }
 
 // Lets subscribers stand at all slots below this one, where there are hubs.
+#[inline(always)]
 fn reserve_slots(hubs: &mut Hubs, slots: usize) -> Result<(), AllocError>
     ensures ok { OnOk result (0 < length hubs.old.hubs → slots ≤ hubs.new.slots) }
     ensures kept { hubs.new ≡ record hubs.old { slots = hubs.new.slots } }
@@ -139,6 +157,7 @@ fn reserve_slots(hubs: &mut Hubs, slots: usize) -> Result<(), AllocError>
 
 // Room for so many hubs more, and for an item's way over all there are then. Where none is wanted, none is
 // asked for.
+#[inline(always)]
 fn reserve_hubs(hubs: &mut Hubs, route: &mut Route, additional: usize) -> Result<(), AllocError>
     requires within { length hubs.old.hubs + hubs.old.room ≤ route.old.room }
     ensures ok { OnOk result (additional ≤ hubs.new.room) }
@@ -157,6 +176,7 @@ fn reserve_hubs(hubs: &mut Hubs, route: &mut Route, additional: usize) -> Result
 
 impl<R: Resource> Ground<R> {
     /// What its parts promise, for proofs. It does nothing.
+    #[inline(always)]
     pub fn promise(&self)
         ensures register { IsRegisterPromised self.now.register }
         ensures tree { IsTreePromised self.now.tree }
@@ -190,6 +210,7 @@ impl<R: Resource> Ground<R> {
     }
 
     /// How many events there are, which is the place of the next one.
+    #[inline(always)]
     pub fn len(&self) -> u64
         ensures { result ≡ length self.now.register.history }
     {
@@ -197,12 +218,14 @@ impl<R: Resource> Ground<R> {
     }
 
     /// What the record of an open node says; None where the key finds none.
+    #[inline(always)]
     pub fn record(&self, key: Key) -> Option<Record>
         ensures { result ≡ option_map record_of (find self.now.tree.nodes key) }
     {
-        match (self.tree.made(key), self.tree.marks(key)) {
-            (Some(made), Some(marks)) => Some(Record { made, marks }),
-            _ => None,
-        }
+        let node = self.tree.get(key)?;
+        Some(Record {
+            made: node.made(),
+            marks: node.marks(),
+        })
     }
 }

@@ -14,6 +14,7 @@ use rx_resource::Resource;
 
 /// How many events the end of a node at this place has to be given, when it is opened: 0 for an inner,
 /// whose end the item was given that it was projected for, and 1 at each other place.
+#[inline(always)]
 fn end_at(place: Place) -> u64
     ensures { result ≡ end_at_in place }
 {
@@ -27,6 +28,7 @@ fn end_at(place: Place) -> u64
 impl Wanted {
     /// Of opening a node with a resource: both events, one for the node's end, and two for the resource's
     /// removal and its taking.
+    #[inline(always)]
     pub fn of_using(place: Place) -> Self
         ensures { result ≡ cost_of [] (OpeningUsing place 0) }
     {
@@ -41,6 +43,7 @@ impl Wanted {
     }
 
     /// Of holding a resource: its event, and two for its removal and its taking.
+    #[inline(always)]
     pub fn of_holding() -> Self
         ensures { result ≡ cost_of [] (Holding 0 0) }
     {
@@ -55,6 +58,7 @@ impl Wanted {
     }
 
     /// Of using a resource: its event.
+    #[inline(always)]
     pub fn of_applying() -> Self
         ensures { result ≡ cost_of [] (Applying 0) }
     {
@@ -69,6 +73,7 @@ impl Wanted {
     }
 
     /// Of a lease: its event, and one for its return.
+    #[inline(always)]
     pub fn of_leasing() -> Self
         ensures { result ≡ cost_of [] (Leasing 0) }
     {
@@ -83,6 +88,7 @@ impl Wanted {
     }
 
     /// Of an item, by what it reaches.
+    #[inline(always)]
     pub fn of_item(reach: Reach) -> Self
         ensures { result ≡ record { events = reach.events; notes = reach.notes; nodes = 0; resources = 0; hubs = 0; leases = 0 } }
     {
@@ -97,6 +103,7 @@ impl Wanted {
     }
 
     /// Of making a hub: its event.
+    #[inline(always)]
     pub fn of_hub() -> Self
         ensures { result ≡ cost_of [] (Publishing Mode.Auto) }
     {
@@ -111,6 +118,7 @@ impl Wanted {
     }
 
     /// Of connecting a hub: its event, and one for the connection's end.
+    #[inline(always)]
     pub fn of_connecting() -> Self
         ensures { result ≡ cost_of [] (Connecting 0) }
     {
@@ -128,6 +136,7 @@ impl Wanted {
 impl<R: Resource> Ground<R> {
     /// Of opening such a node there: its event, and one for its end; with a connection that it forces, two
     /// more.
+    #[inline(always)]
     pub fn opening_cost(&self, place: Place, kind: Kind) -> Wanted
         requires standing { IsStanding R.Resource self.now }
         ensures { result ≡ cost_of self.now.register.history (Opening place kind) }

@@ -51,6 +51,7 @@ impl<R: Resource> Ground<R> {
     }
 
     /// How many nodes are open.
+    #[inline(always)]
     pub fn open_count(&self) -> u64
         requires standing { IsStanding R.Resource self.now }
         ensures { result ≡ open_count_in self.now.register.history }
@@ -69,6 +70,7 @@ impl<R: Resource> Ground<R> {
     }
 
     /// How many resources wait for their release.
+    #[inline(always)]
     pub fn waiting_count(&self) -> u64
         requires standing { IsStanding R.Resource self.now }
         ensures { result ≡ waiting_count self.now.register.history }
@@ -78,6 +80,7 @@ impl<R: Resource> Ground<R> {
     }
 
     /// How many resources were accepted.
+    #[inline(always)]
     pub fn accepted(&self) -> u64
         ensures { result ≡ accepted_count self.now.register.base self.now.register.history }
     {
@@ -85,6 +88,7 @@ impl<R: Resource> Ground<R> {
     }
 
     /// How many resources were taken.
+    #[inline(always)]
     pub fn taken(&self) -> u64
         ensures { result ≡ taken_count self.now.register.base self.now.register.history }
     {
@@ -92,6 +96,7 @@ impl<R: Resource> Ground<R> {
     }
 
     /// How many items were emitted.
+    #[inline(always)]
     pub fn items(&self) -> u64
         ensures { result ≡ item_count self.now.register.base self.now.register.history }
     {
@@ -106,6 +111,7 @@ impl<R: Resource> Ground<R> {
     }
 
     /// Whether the key is an open node's.
+    #[inline(always)]
     pub fn contains(&self, node: Key) -> bool
         ensures { IsTrue result ↔ IsSome (find self.now.tree.nodes node) }
     {
@@ -113,6 +119,7 @@ impl<R: Resource> Ground<R> {
     }
 
     /// Whether the key is a held resource's.
+    #[inline(always)]
     pub fn holds(&self, res: ResKey) -> bool
         ensures { result ≡ is_held_at self.now.tree res }
     {
@@ -120,6 +127,7 @@ impl<R: Resource> Ground<R> {
     }
 
     /// Whether the resource of the key is owned: its node is open, and it was not removed.
+    #[inline(always)]
     pub fn owns(&self, res: ResKey) -> bool
         ensures { result ≡ is_owned_at self.now.tree res }
     {
@@ -127,6 +135,7 @@ impl<R: Resource> Ground<R> {
     }
 
     /// How many leases are out.
+    #[inline(always)]
     pub fn lease_count(&self) -> u64
         requires standing { IsStanding R.Resource self.now }
         ensures { result ≡ lease_count self.now.register.history }
@@ -136,6 +145,7 @@ impl<R: Resource> Ground<R> {
     }
 
     /// Whether the key is that of a lease that is out.
+    #[inline(always)]
     pub fn lends(&self, lease: LeaseKey) -> bool
         ensures { result ≡ is_out_at self.now.leases lease }
     {
@@ -161,6 +171,7 @@ impl<R: Resource> Ground<R> {
     /// What is open, and what its closing may need: an event for each open node, two for each resource
     /// that its node owns, one for each that leases alone hold or that waits, one for each lease that is
     /// out, and one for each projected item that is owed.
+    #[inline(always)]
     pub(crate) fn load(&self) -> Load
         requires standing { IsStanding R.Resource self.now }
         ensures load { IsLoadOf self.now.register.base self.now.register.history result }
@@ -183,6 +194,7 @@ impl<R: Resource> Ground<R> {
     ///
     /// `NoMemory` where memory is refused; then some of the room may have been gotten, and nothing else
     /// changed.
+    #[inline(always)]
     pub fn make_room(&mut self, wanted: Wanted) -> Result<(), Refusal>
         requires standing { IsStanding R.Resource self.old }
         requires within { length self.old.register.history + debt self.old.register.base self.old.register.history + wanted.events ≤
@@ -210,6 +222,7 @@ impl<R: Resource> Ground<R> {
     }
 
     /// The next of the notes, which is then handed out; None where all were. It takes no memory.
+    #[inline(always)]
     pub fn take_mail(&mut self) -> Option<Mail>
         requires standing { IsStanding R.Resource self.old }
         ensures value { result ≡ slice_get (notes self.old.register.history) self.old.register.given }

@@ -28,6 +28,7 @@ use rx_resource::Resource;
 use rx_tree::{Key, ResKey};
 
 /// Whether a node that this event made has such a place below it.
+#[inline(always)]
 fn has_place(made: Event, place: Place) -> bool
     ensures { result ≡ has_place_in made place }
 {
@@ -40,6 +41,7 @@ fn has_place(made: Event, place: Place) -> bool
 }
 
 /// Whether a node with these marks had its source or its notifier opened, which the place is.
+#[inline(always)]
 fn is_used(marks: Marks, place: Place) -> bool
     ensures { result ≡ is_used_in marks place }
 {
@@ -51,6 +53,7 @@ fn is_used(marks: Marks, place: Place) -> bool
 }
 
 /// Whether a node with these marks owes no inner, where the place is one's.
+#[inline(always)]
 fn is_unowed(marks: Marks, place: Place) -> bool
     ensures { result ≡ is_unowed_in marks place }
 {
@@ -63,6 +66,7 @@ fn is_unowed(marks: Marks, place: Place) -> bool
 impl<R: Resource> Ground<R> {
     /// What is known of an open node; None where the key finds none.
     #[tactic(auto, using(crate::proofs::Told::told))]
+    #[inline(always)]
     pub(crate) fn told(&self, node: Key) -> Option<Record>
         requires { IsStanding R.Resource self.now }
         ensures some { IfSome result (IsTold self.now.register.base self.now.register.history self.now.tree.nodes node) }
@@ -72,6 +76,7 @@ impl<R: Resource> Ground<R> {
     }
 
     /// Whether the kind is that of a subscriber of a hub that is not there.
+    #[inline(always)]
     fn is_without_hub(&self, kind: Kind) -> bool
         requires { IsStanding R.Resource self.now }
         ensures { result ≡ is_without_hub_in self.now.register.history kind }
@@ -83,6 +88,7 @@ impl<R: Resource> Ground<R> {
     }
 
     /// Whether the node of this key is open, if there is a key.
+    #[inline(always)]
     fn is_there(&self, above: Option<Key>) -> bool
         ensures { result ≡ is_there self.now.tree.nodes above }
     {
@@ -94,6 +100,7 @@ impl<R: Resource> Ground<R> {
 
     /// Whether the node above has no such place.
     #[tactic(auto, using(crate::proofs::Told::wrong_at))]
+    #[inline(always)]
     fn is_wrong_place(&self, place: Place, above: Option<Key>) -> bool
         requires standing { IsStanding R.Resource self.now }
         requires named { named_by place ≡ option_map (λ key. key.number) above }
@@ -111,6 +118,7 @@ impl<R: Resource> Ground<R> {
 
     /// Whether the source or the notifier of the node above was opened, which the place is.
     #[tactic(auto, using(crate::proofs::Told::taken_at))]
+    #[inline(always)]
     fn is_taken_place(&self, place: Place, above: Option<Key>) -> bool
         requires standing { IsStanding R.Resource self.now }
         requires named { named_by place ≡ option_map (λ key. key.number) above }
@@ -128,6 +136,7 @@ impl<R: Resource> Ground<R> {
 
     /// Whether no projected item waits for an inner, where the place is one's.
     #[tactic(auto, using(crate::proofs::Told::unowed_at))]
+    #[inline(always)]
     fn is_unowed_place(&self, place: Place, above: Option<Key>) -> bool
         requires standing { IsStanding R.Resource self.now }
         requires named { named_by place ≡ option_map (λ key. key.number) above }
@@ -144,6 +153,7 @@ impl<R: Resource> Ground<R> {
     }
 
     /// Whether so many open nodes more would be too many.
+    #[inline(always)]
     pub(crate) fn is_crowded(&self, more: u64) -> bool
         requires { IsStanding R.Resource self.now }
         ensures { result ≡ is_crowded_in self.now.register.history more }
@@ -153,6 +163,7 @@ impl<R: Resource> Ground<R> {
 
     /// Whether so many events and reservations more would pass the limit, with what closing everything
     /// needs counted in.
+    #[inline(always)]
     pub(crate) fn is_over(&self, more: u64) -> bool
         requires { IsStanding R.Resource self.now }
         ensures { result ≡ is_over_in self.now.register.base self.now.register.history self.now.register.limit more }
@@ -163,6 +174,7 @@ impl<R: Resource> Ground<R> {
     /// What stands first against opening a node there; `above` is the key of the node that the place
     /// names.
     #[tactic(auto, using(crate::proofs::Told::there_open))]
+    #[inline(always)]
     pub fn opening_cause(&self, place: Place, above: Option<Key>, kind: Kind) -> Option<Refusal>
         requires standing { IsStanding R.Resource self.now }
         requires named { named_by place ≡ option_map (λ key. key.number) above }
@@ -198,6 +210,7 @@ impl<R: Resource> Ground<R> {
 
     /// What stands first against opening a mirroring node there with a resource.
     #[tactic(auto, using(crate::proofs::Told::there_open))]
+    #[inline(always)]
     pub fn using_cause(
         &self,
         place: Place,
@@ -238,6 +251,7 @@ impl<R: Resource> Ground<R> {
 
     /// What stands first against holding a resource at the node.
     #[tactic(auto, using(crate::proofs::Told::there_open))]
+    #[inline(always)]
     pub fn holding_cause(&self, node: Key, tag: u64, is_fresh: bool) -> Option<Refusal>
         requires standing { IsStanding R.Resource self.now }
         ensures { result ≡ first_by_key self.now (has_node self.now node) is_fresh (Holding node.number tag) }
@@ -257,6 +271,7 @@ impl<R: Resource> Ground<R> {
 
     /// What stands first against using the resource.
     #[tactic(auto, using(crate::proofs::Told::held_in_history))]
+    #[inline(always)]
     pub fn applying_cause(&self, res: ResKey) -> Option<Refusal>
         requires standing { IsStanding R.Resource self.now }
         ensures { result ≡ first_by_res_key self.now (is_held_at self.now.tree res) (Applying res.number) }
@@ -272,6 +287,7 @@ impl<R: Resource> Ground<R> {
 
     /// What stands first against removing the resource from its node.
     #[tactic(auto, using(crate::proofs::Told::held_in_history, crate::proofs::Told::owned_in_history))]
+    #[inline(always)]
     pub fn removing_cause(&self, res: ResKey) -> Option<Refusal>
         requires standing { IsStanding R.Resource self.now }
         ensures { result ≡ first_by_res_key self.now (is_held_at self.now.tree res) (Removing res.number) }
@@ -287,6 +303,7 @@ impl<R: Resource> Ground<R> {
 
     /// What stands first against leasing the resource.
     #[tactic(auto, using(crate::proofs::Told::held_in_history, crate::proofs::Told::owned_in_history))]
+    #[inline(always)]
     pub fn leasing_cause(&self, res: ResKey) -> Option<Refusal>
         requires standing { IsStanding R.Resource self.now }
         ensures { result ≡ first_by_res_key self.now (is_held_at self.now.tree res) (Leasing res.number) }
@@ -305,6 +322,7 @@ impl<R: Resource> Ground<R> {
 
     /// What stands first against giving the lease back.
     #[tactic(auto, using(crate::proofs::Told::out_in_history))]
+    #[inline(always)]
     pub fn returning_cause(&self, lease: LeaseKey) -> Option<Refusal>
         requires standing { IsStanding R.Resource self.now }
         ensures { result ≡
@@ -317,6 +335,7 @@ impl<R: Resource> Ground<R> {
     }
 
     /// What stands first against the end of the leaf.
+    #[inline(always)]
     pub fn ending_cause(&self, leaf: Key, terminal: Terminal) -> Option<Refusal>
         requires standing { IsStanding R.Resource self.now }
         ensures { result ≡ first_at self.now leaf (Ending leaf.number terminal) }
@@ -333,6 +352,7 @@ impl<R: Resource> Ground<R> {
 
     /// What stands first against ending the node with an error.
     #[tactic(auto, using(crate::proofs::Told::child_marked))]
+    #[inline(always)]
     pub fn aborting_cause(&self, node: Key, code: u32) -> Option<Refusal>
         requires standing { IsStanding R.Resource self.now }
         ensures { result ≡ first_at self.now node (Aborting node.number code) }
@@ -351,6 +371,7 @@ impl<R: Resource> Ground<R> {
     }
 
     /// What stands first against an answer to an item that was projected to the node.
+    #[inline(always)]
     fn projecting_cause(&self, merging: Key) -> Option<Refusal>
         requires standing { IsStanding R.Resource self.now }
         ensures { result ≡ first_cause (by_key (has_node self.now merging)
@@ -369,6 +390,7 @@ impl<R: Resource> Ground<R> {
     }
 
     /// What stands first against declining an item that was projected to the node.
+    #[inline(always)]
     pub fn declining_cause(&self, merging: Key) -> Option<Refusal>
         requires standing { IsStanding R.Resource self.now }
         ensures { result ≡ first_at self.now merging (Declining merging.number) }
@@ -377,6 +399,7 @@ impl<R: Resource> Ground<R> {
     }
 
     /// What stands first against failing at an item that was projected to the node. `code` is any `u32`.
+    #[inline(always)]
     pub fn failing_cause(&self, merging: Key, code: u32) -> Option<Refusal>
         requires standing { IsStanding R.Resource self.now }
         ensures { result ≡ first_at self.now merging (Failing merging.number code) }
@@ -386,6 +409,7 @@ impl<R: Resource> Ground<R> {
     }
 
     /// How many projected items an open FlatMap or Switch owes; None where the key is of no such node.
+    #[inline(always)]
     pub fn owed(&self, merging: Key) -> Option<u64>
         requires standing { IsStanding R.Resource self.now }
         ensures { result ≡ (if has_node self.now merging && at is_merging self.now.register.history merging.number
@@ -400,6 +424,7 @@ impl<R: Resource> Ground<R> {
     }
 
     /// What stands first against unsubscribing the root.
+    #[inline(always)]
     pub fn disposing_cause(&self, root: Key) -> Option<Refusal>
         requires standing { IsStanding R.Resource self.now }
         ensures { result ≡ first_at self.now root (Disposing root.number) }

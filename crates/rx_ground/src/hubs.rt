@@ -35,6 +35,7 @@ fn is_up_by_hand(hub: Published) -> bool
 
 impl<R: Resource> Ground<R> {
     /// Whether a hub has this number.
+    #[inline(always)]
     pub(crate) fn has_hub(&self, hub: u64) -> bool
         requires standing { IsStanding R.Resource self.now }
         ensures { result ≡ at makes_hub self.now.register.history hub }
@@ -43,6 +44,7 @@ impl<R: Resource> Ground<R> {
     }
 
     /// What is known of a hub; None where no hub has this number.
+    #[inline(always)]
     fn published(&self, hub: u64) -> Option<Published>
         requires standing { IsStanding R.Resource self.now }
         ensures some { IfSome result (IsHubTold self.now.register.history hub) }
@@ -53,6 +55,7 @@ impl<R: Resource> Ground<R> {
 
     /// Whether opening such a node forces a connection: it subscribes to a RefCount hub that has none.
     #[tactic(auto, using(crate::proofs::HubsAfterEvent::no_auto_hub))]
+    #[inline(always)]
     pub fn forces_connect(&self, kind: Kind) -> bool
         requires standing { IsStanding R.Resource self.now }
         ensures { result ≡ forces_connect self.now.register.history kind }

@@ -16,6 +16,7 @@ use rx_tree::ResKey;
 
 impl<R: Resource> Ground<R> {
     /// Gives out a lease of an owned resource, for which there is room.
+    #[inline(always)]
     pub fn write_lease(&mut self, res: ResKey) -> LeaseKey
         requires tied { AreTied self.old.register.base R.Resource self.old.register.history self.old.tree
             self.old.hubs }
@@ -45,6 +46,7 @@ impl<R: Resource> Ground<R> {
     }
 
     /// Takes a lease back that is out.
+    #[inline(always)]
     pub fn write_return(&mut self, lease: LeaseKey)
         requires tied { AreTied self.old.register.base R.Resource self.old.register.history self.old.tree
             self.old.hubs }

@@ -23,6 +23,7 @@ use rx_resource::Resource;
 use rx_tree::{Key, Tree};
 
 /// The marks of a node at whose place a node was opened, an inner in the place of an open one or not.
+#[inline(always)]
 fn opened_marks(replaces: bool, place: Place, marks: Marks) -> Marks
     requires room { marks.open_children + 1 < 18446744073709551616 }
     requires owes { (f : _) → place ≡ Place.Inner f → 0 < marks.owed }
@@ -37,6 +38,7 @@ fn opened_marks(replaces: bool, place: Place, marks: Marks) -> Marks
 }
 
 /// Marks the node above as one at whose place a node was opened, an inner in the place of an open one or not.
+#[inline(always)]
 fn mark_opened<R: Resource>(tree: &mut Tree<R>, replaces: bool, place: Place, above: Option<Key>)
     requires there { IfSome above (λ key. IsSome (find tree.old.nodes key)) }
     requires found { IfSome above (λ key. IfSome (find tree.old.nodes key) (λ node. node.marks.open_children + 1 < 18446744073709551616)) }
@@ -55,6 +57,7 @@ fn mark_opened<R: Resource>(tree: &mut Tree<R>, replaces: bool, place: Place, ab
 }
 
 /// Lets a node that was opened join the hub that it subscribes to (Publish). Nothing for any other node.
+#[inline(always)]
 fn join(hubs: &mut Hubs, place: Place, kind: Kind, key: Key)
     requires there { (g : _) → kind ≡ Kind.Sub g → IsSome (find_hub hubs.old.hubs g) }
     requires newest { (g : _) → kind ≡ Kind.Sub g →
@@ -92,6 +95,7 @@ impl<R: Resource> Ground<R> {
 
     /// The key of the open inner whose place is taken by what is opened at this place; None where there
     /// is none. The inners of a FlatMap stay beside each other, however many they are.
+    #[inline(always)]
     fn replaced(&self, place: Place, above: Option<Key>) -> Option<Key>
         requires tied { AreTied self.now.register.base R.Resource self.now.register.history self.now.tree
             self.now.hubs }
@@ -113,6 +117,7 @@ impl<R: Resource> Ground<R> {
 
     /// Moves out what makes way for a node that is opened at this place: the open inner of a Switch, and
     /// all below it. Whether there was one.
+    #[inline(always)]
     fn exchange(&mut self, place: Place, above: Option<Key>) -> bool
         requires tied { AreTied self.old.register.base R.Resource self.old.register.history self.old.tree
             self.old.hubs }
@@ -137,6 +142,7 @@ impl<R: Resource> Ground<R> {
     /// Opens a node, for which there is room. An inner of a Switch takes the place of the open one: in the
     /// same step that one is closed, and all below it (Switch: it unsubscribes from the previous inner). A
     /// subscriber of a hub comes last among those of its hub (Publish).
+    #[inline(always)]
     pub fn write_open(&mut self, place: Place, kind: Kind, above: Option<Key>) -> Key
         requires tied { AreTied self.old.register.base R.Resource self.old.register.history self.old.tree
             self.old.hubs }

@@ -3,13 +3,13 @@
 
 ghost use Rattle.std.specs.Prelude.{◌≡◌, true, IsSome, option_map};
 ghost use Rattle.rx_event.specs.Events.{named_by};
-ghost use Rattle.rx_event.specs.Tree.{at, parent};
+ghost use Rattle.rx_event.specs.Tree.{at, parent as parent_in};
 ghost use Rattle.rx_slots.specs.Slots.{find};
 ghost use Rattle.rx_event.specs.Causes.{connects_up_to as connects_up_to_in, is_out_of_order as is_out_of_order_in};
 ghost use Rattle.rx_ground.specs.Ties.{IsStanding, is_there};
 ghost use Rattle.rx_ground.specs.Told.{is_inside_up_to};
 
-use crate::base::Ground;
+use crate::base::{Ground, parent};
 use rx_event::{Event, Kind, Place};
 use rx_resource::Resource;
 use rx_tree::Key;
@@ -41,10 +41,10 @@ impl<R: Resource> Ground<R> {
     fn above(&self, node: Key) -> Option<Key>
         requires standing { IsStanding R.Resource self.now }
         requires there { IsSome (find self.now.tree.nodes node) }
-        ensures number { option_map (λ key. key.number) result ≡ parent self.now.register.history node.number }
+        ensures number { option_map (λ key. key.number) result ≡ parent_in self.now.register.history node.number }
         ensures there { is_there self.now.tree.nodes result ≡ true }
     {
-        self.tree.parent(node)
+        parent(&self.tree, node)
     }
 
     /// Whether the node, or one above it, connects the hub of this number or an earlier one.
@@ -65,6 +65,7 @@ impl<R: Resource> Ground<R> {
 
     /// Whether a subscriber of a hub at this place would stand inside a connection of its own hub or of an earlier
     /// one.
+    #[inline(always)]
     pub(crate) fn is_out_of_order(&self, place: Place, above: Option<Key>, kind: Kind) -> bool
         requires standing { IsStanding R.Resource self.now }
         requires named { named_by place ≡ option_map (λ key. key.number) above }

@@ -18,12 +18,12 @@ ghost use Rattle.rx_hub.specs.Route.{IsOrdered};
 ghost use Rattle.rx_hub.specs.Walk.{IsWalk, climb_over, stops_over};
 ghost use Rattle.rx_ground.specs.FirstCause.{first_at};
 ghost use Rattle.rx_ground.specs.Ties.{AreRecords, IsStanding, Remarks};
-ghost use Rattle.rx_ground.specs.Passing.{owed_at, told_at, mail_at, IsThere, IsMarkedAt, IsMeasured, IsPassing};
+ghost use Rattle.rx_ground.specs.Passing.{owed_at, told_at, mail_at, IsThere, IsMarkedAt, IsArrived, IsMeasured, IsPassing};
 ghost use Rattle.rx_ground.specs.Reached.{IsReach};
 
 use crate::base::{Ground, Only};
 use rx_event::{MOST_VISITS, Mail, Refusal};
-use rx_flow::Stop;
+use rx_flow::{Reached, Stop, climb};
 use rx_hub::{Hubs, Route};
 use rx_note::Note;
 use rx_register::Register;
@@ -48,6 +48,7 @@ pub(crate) struct Counted {
 }
 
 /// How many answers an item is owed that stops there.
+#[inline(always)]
 fn owed_at(stop: Stop) -> u64
     ensures { result ≡ owed_at stop }
 {
@@ -58,6 +59,7 @@ fn owed_at(stop: Stop) -> u64
 }
 
 /// How many notes an item tells that stops there.
+#[inline(always)]
 fn told_at(stop: Stop) -> u64
     ensures { result ≡ told_at stop }
 {
@@ -68,15 +70,34 @@ fn told_at(stop: Stop) -> u64
 }
 
 /// The stop, where it is the first of its way.
+#[inline(always)]
 fn if_first(is_first: bool, stop: Stop) -> Option<Stop>
     ensures { result ≡ (if is_first then Some stop else None) }
 {
     if is_first { Some(stop) } else { None }
 }
 
-/// What an item of this node wants, by one walk of its way, and its stop where it makes just one; None
-/// where it would make more visits than it may.
-fn measure<R: Resource>(
+/// The stop, where the item of a climb comes to its end there: not where it was cut off, and not at a connection,
+/// from which it goes on.
+#[inline(always)]
+fn arrived(climb: Reached) -> Option<Stop>
+    ensures { IfSome result (IsArrived climb) }
+{
+    if climb.visits > MOST_VISITS {
+        return None;
+    }
+    match climb.stop? {
+        Stop::Delivery(root) => Some(Stop::Delivery(root)),
+        Stop::Projection(merging) => Some(Stop::Projection(merging)),
+        Stop::Firing(until) => Some(Stop::Firing(until)),
+        Stop::Connection(_) => None,
+    }
+}
+
+/// What an item of this node wants, by one walk of its way over all hubs, and its stop where it makes just one;
+/// None where it would make more visits than it may.
+#[inline(never)]
+fn measure_over<R: Resource>(
     tree: &Tree<R>,
     hubs: &Hubs,
     route: &mut Route,
@@ -111,7 +132,43 @@ fn measure<R: Resource>(
     })
 }
 
+/// What an item of this node wants, and its stop where it makes just one; None where it would make more visits
+/// than it may. Where it reaches no connection, one climb tells it.
+#[inline(always)]
+fn measure<R: Resource>(
+    tree: &Tree<R>,
+    hubs: &Hubs,
+    route: &mut Route,
+    node: Key,
+) -> Option<Counted>
+    requires open { IsSome (find tree.now.nodes node) }
+    requires ordered { IsOrdered tree.now.nodes hubs.now.hubs }
+    requires room { length hubs.now.hubs ≤ route.old.room }
+    ensures reach { IfSome result (λ counted. IsMeasured (stops_over tree.now.nodes hubs.now.hubs node) counted.reach) }
+    ensures only { IfSome result (λ counted. IfSome counted.only (λ stop.
+        stops_over tree.now.nodes hubs.now.hubs node ≡ stop ∷ [])) }
+    ensures visits { is_some result ≡ not (nat_lt most_visits (length (climb_over tree.now.nodes hubs.now.hubs node))) }
+    ensures room { route.new.room ≡ route.old.room }
+{
+    let reached = climb(tree, node);
+    match arrived(reached) {
+        Some(stop) => {
+            let owed = owed_at(stop);
+            let told = told_at(stop);
+            Some(Counted {
+                reach: Reach {
+                    events: 1 + owed,
+                    notes: told,
+                },
+                only: Some(stop),
+            })
+        }
+        None => measure_over(tree, hubs, route, node),
+    }
+}
+
 /// Whether two keys are one.
+#[inline(always)]
 fn is_same(a: Key, b: Key) -> bool
     ensures { result ≡ is_key a b }
 {
@@ -119,6 +176,7 @@ fn is_same(a: Key, b: Key) -> bool
 }
 
 /// The one stop of this leaf, where there is one.
+#[inline(always)]
 fn only_at(leaf: Key, stop: Option<Stop>) -> Option<Only>
     ensures { result ≡ option_map (λ stop. record { leaf = leaf; stop = stop }) stop }
 {
@@ -129,6 +187,7 @@ fn only_at(leaf: Key, stop: Option<Stop>) -> Option<Only>
 }
 
 /// Tells of an item at one of its stops: a root is told it, and a FlatMap or a Switch to project it.
+#[inline(always)]
 fn tell_at(register: &mut Register, stop: Stop, value: i64)
     requires room { told_at stop ≤ register.old.mail_room }
     ensures same { register.new ≡ record register.old { pending = register.new.pending; mail_room = register.new.mail_room } }
@@ -153,6 +212,7 @@ fn tell_at(register: &mut Register, stop: Stop, value: i64)
 }
 
 /// Marks a FlatMap or a Switch as one to which an item was projected.
+#[inline(always)]
 fn mark_projection<R: Resource>(tree: &mut Tree<R>, merging: Key)
     requires open { IsSome (find tree.old.nodes merging) }
     requires countable { owed_in tree.old.nodes < 9223372036854775808 }
@@ -165,6 +225,7 @@ fn mark_projection<R: Resource>(tree: &mut Tree<R>, merging: Key)
 }
 
 /// Marks a TakeUntil as one that an item fired.
+#[inline(always)]
 fn mark_firing<R: Resource>(tree: &mut Tree<R>, until: Key)
     requires open { IsSome (find tree.old.nodes until) }
     requires countable { owed_in tree.old.nodes < 9223372036854775808 }
@@ -177,6 +238,7 @@ fn mark_firing<R: Resource>(tree: &mut Tree<R>, until: Key)
 }
 
 /// Marks the node at which an item stops.
+#[inline(always)]
 fn mark_at<R: Resource>(tree: &mut Tree<R>, stop: Stop)
     requires there { IsThere tree.old.nodes stop }
     requires countable { owed_in tree.old.nodes < 9223372036854775808 }
@@ -190,6 +252,7 @@ fn mark_at<R: Resource>(tree: &mut Tree<R>, stop: Stop)
 }
 
 /// Takes an item its way: at each stop it tells who is to be told of it, and marks what it changes there.
+#[inline(never)]
 fn pass_on<R: Resource>(
     register: &mut Register,
     tree: &mut Tree<R>,
@@ -217,6 +280,7 @@ fn pass_on<R: Resource>(
 }
 
 /// Takes an item its way that makes this stop and no other.
+#[inline(always)]
 fn pass_one<R: Resource>(
     register: &mut Register,
     tree: &mut Tree<R>,
@@ -242,6 +306,7 @@ fn pass_one<R: Resource>(
 }
 
 /// Takes an item its way, where it is known whether that has just one stop: then without a walk.
+#[inline(always)]
 pub(crate) fn pass<R: Resource>(
     register: &mut Register,
     tree: &mut Tree<R>,
@@ -271,6 +336,7 @@ pub(crate) fn pass<R: Resource>(
 
 impl<R: Resource> Ground<R> {
     /// The one stop of an item of this leaf, where it was measured last and makes just one.
+    #[inline(always)]
     pub(crate) fn only_of(&self, leaf: Key) -> Option<Stop>
         ensures { IfSome result (λ stop. stops_over self.now.tree.nodes self.now.hubs.hubs leaf ≡ stop ∷ []) }
     {
@@ -286,6 +352,7 @@ impl<R: Resource> Ground<R> {
 
     /// What an item of this node wants; None where it would make more visits than it may. Where it makes just
     /// one stop, that is kept.
+    #[inline(always)]
     fn measured(&mut self, node: Key) -> Option<Reach>
         requires standing { IsStanding R.Resource self.old }
         requires open { IsSome (find self.old.tree.nodes node) }
@@ -305,6 +372,7 @@ impl<R: Resource> Ground<R> {
     /// What an item of this leaf wants, or what stands first against it: `TooMany` counts the visits of its
     /// whole way over all hubs, and `Full` the item's event, and one more for each time that a FlatMap or a
     /// Switch projects it. Nothing changes.
+    #[inline(always)]
     pub fn route(&mut self, leaf: Key, value: i64) -> Result<Reach, Refusal>
         requires standing { IsStanding R.Resource self.old }
         ensures kept { self.new ≡ self.old }

@@ -19,6 +19,7 @@ use rx_resource::Resource;
 impl<R: Resource> Ground<R> {
     /// What is forced next; None where nothing is. What is due at a hub comes first, since nothing else
     /// is forced while one waits for its connection.
+    #[inline(always)]
     fn next_forced(&mut self) -> Option<HubDue>
         requires tied { AreTied self.old.register.base R.Resource self.old.register.history self.old.tree
             self.old.hubs }
@@ -35,6 +36,8 @@ impl<R: Resource> Ground<R> {
     }
 
     /// Writes what is due: a hub connects, a node ends, or a connection closes.
+    #[cold]
+    #[inline(never)]
     fn write_due(&mut self, due: HubDue)
         requires tied { AreTied self.old.register.base R.Resource self.old.register.history self.old.tree
             self.old.hubs }
@@ -63,6 +66,7 @@ impl<R: Resource> Ground<R> {
 
     /// Writes what is forced until nothing is. It takes no memory: for the one connection that may be
     /// forced there is room.
+    #[inline(always)]
     pub fn settle(&mut self)
         requires tied { AreTied self.old.register.base R.Resource self.old.register.history self.old.tree
             self.old.hubs }

@@ -18,7 +18,7 @@ ghost use Rattle.rx_ground.specs.Ties.{AreTied, AreLeased, IsReady, KeepsNodes, 
 ghost use Rattle.rx_hub.specs.After.{end_by};
 ghost use Rattle.rx_ground.specs.Memory.{TakesNoMemory};
 
-use crate::base::Ground;
+use crate::base::{Ground, parent};
 use crate::route::pass;
 use rx_event::{Event, Mail, Terminal};
 use rx_hub::LastEnd;
@@ -28,6 +28,7 @@ use rx_resource::{Handed, Resource};
 use rx_tree::{Key, ResKey, Tree};
 
 /// Queues the note of the end of a root; nothing for another node.
+#[inline(always)]
 fn tell_end(register: &mut Register, node: u64, terminal: Terminal, is_root: bool)
     requires root { is_root ≡ at is_root_in register.old.history node }
     requires room { length (mail_of register.old.history (Event.End node terminal)) ≤ register.old.mail_room }
@@ -47,6 +48,7 @@ fn tell_end(register: &mut Register, node: u64, terminal: Terminal, is_root: boo
 }
 
 /// Marks the node above as one whose child ended, which stood at its source's place or not.
+#[inline(always)]
 fn mark_end<R: Resource>(
     tree: &mut Tree<R>,
     above: Option<Key>,
@@ -54,24 +56,21 @@ fn mark_end<R: Resource>(
     terminal: Terminal,
 )
     requires found { IfSome above (λ key. IfSome (find tree.old.nodes key) (λ node. 0 < node.marks.open_children)) }
-    requires countable { owed_in tree.old.nodes < 9223372036854775808 }
     ensures marked { IfSome above (λ key. IfSome (find tree.old.nodes key) (λ node. Remarks tree.old tree.new key (after_child is_source (is_merging node.made) terminal))) }
     ensures none { IfNone above (tree.new ≡ tree.old) }
     ensures rest { tree.new.nodes ≡ record tree.old.nodes { entries = tree.new.nodes.entries } }
     ensures resources { tree.new.resources ≡ tree.old.resources }
 {
     if let Some(key) = above {
-        if let (Some(made), Some(marks)) = (tree.made(key), tree.marks(key)) {
-            tree.set_marks(
-                key,
-                marks.after_child(is_source, made.is_merging(), terminal),
-            );
+        if tree.contains(key) {
+            tree.mark_end(key, is_source, terminal);
         }
     }
 }
 
 impl<R: Resource> Ground<R> {
     /// Accepts a fresh resource at an open node, for which there is room.
+    #[inline(always)]
     pub fn write_accept(&mut self, node: Key, resource: R) -> ResKey
         requires tied { AreTied self.old.register.base R.Resource self.old.register.history self.old.tree
             self.old.hubs }
@@ -105,6 +104,7 @@ impl<R: Resource> Ground<R> {
     }
 
     /// Uses a held resource on a word, and answers its word.
+    #[inline(always)]
     pub fn write_use(&mut self, res: ResKey, word: u64) -> u64
         requires tied { AreTied self.old.register.base R.Resource self.old.register.history self.old.tree
             self.old.hubs }
@@ -128,6 +128,7 @@ impl<R: Resource> Ground<R> {
     }
 
     /// Removes an owned resource from its node.
+    #[inline(always)]
     pub fn write_remove(&mut self, res: ResKey)
         requires tied { AreTied self.old.register.base R.Resource self.old.register.history self.old.tree
             self.old.hubs }
@@ -150,6 +151,7 @@ impl<R: Resource> Ground<R> {
     }
 
     /// Declines an item that was projected to this FlatMap or Switch.
+    #[inline(always)]
     pub fn write_decline(&mut self, merging: Key)
         requires tied { AreTied self.old.register.base R.Resource self.old.register.history self.old.tree
             self.old.hubs }
@@ -167,16 +169,14 @@ impl<R: Resource> Ground<R> {
     {
         self.register.promise();
         self.tree.promise();
-        let Some(marks) = self.tree.marks(merging) else {
-            unreachable!()
-        };
-        self.tree.set_marks(merging, marks.after_decline());
+        self.tree.mark_decline(merging);
         self.only = None;
         self.register.write(Event::Decline(merging.number));
     }
 
     /// Emits an item, which goes its whole way: each root that it reaches is told of it, as often as it is
     /// reached, each FlatMap or Switch is told to project it, and each TakeUntil fires.
+    #[inline(always)]
     pub fn write_item(&mut self, leaf: Key, value: i64)
         requires tied { AreTied self.old.register.base R.Resource self.old.register.history self.old.tree
             self.old.hubs }
@@ -210,6 +210,7 @@ impl<R: Resource> Ground<R> {
 
     /// Moves out a node and all below it, which gives their room back, and lets them leave the hubs. A
     /// connection among them ended so if it ended by itself.
+    #[inline(always)]
     pub(crate) fn cut(&mut self, node: Key, ended: Option<LastEnd>)
         requires tied { AreTied self.old.register.base R.Resource self.old.register.history self.old.tree
             self.old.hubs }
@@ -252,7 +253,7 @@ impl<R: Resource> Ground<R> {
         let Some(record) = self.record(node) else {
             unreachable!()
         };
-        let above = self.tree.parent(node);
+        let above = parent(&self.tree, node);
         tell_end(
             &mut self.register,
             node.number,
@@ -273,6 +274,7 @@ impl<R: Resource> Ground<R> {
     }
 
     /// Closes an open root, and all below it.
+    #[inline(always)]
     pub fn write_close(&mut self, node: Key)
         requires tied { AreTied self.old.register.base R.Resource self.old.register.history self.old.tree
             self.old.hubs }
@@ -295,6 +297,7 @@ impl<R: Resource> Ground<R> {
     }
 
     /// Hands out a resource that waits; None where none does.
+    #[inline(always)]
     pub fn write_take(&mut self) -> Option<Handed<R>>
         requires tied { AreTied self.old.register.base R.Resource self.old.register.history self.old.tree
             self.old.hubs }

@@ -9,3 +9,4 @@ pub mod AfterCases
 pub mod AfterReady
 pub mod AfterOrder
 pub mod HubsWithoutEnds
+pub mod StopInTree

@@ -14,6 +14,7 @@ impl Hubs {
     /// and time that grows with what was closed.
     ///
     /// Each closed node stands in the hubs as what its event made it.
+    #[inline(always)]
     pub fn leave_closed(&mut self, closed: &[Closed], ended: Option<LastEnd>)
         requires closing { AreClosing self.old.hubs closed.now }
         ensures { self.new ≡ record self.old { hubs = map (after_closing closed.now ended) self.old.hubs } }

@@ -22,6 +22,7 @@ pub(crate) enum Rule {
 }
 
 // Whether a hub connects by itself.
+#[inline(always)]
 fn is_auto(mode: Mode) -> bool
     ensures { result ≡ is_auto mode }
 {
@@ -32,6 +33,7 @@ fn is_auto(mode: Mode) -> bool
 }
 
 // Whether a subscriber is older than the end.
+#[inline(always)]
 fn is_cut(last: Option<LastEnd>, key: Key) -> bool
     ensures { result ≡ is_cut last key }
 {
@@ -42,6 +44,7 @@ fn is_cut(last: Option<LastEnd>, key: Key) -> bool
 }
 
 // The Connect that a hub's youngest subscriber asks for.
+#[inline(always)]
 fn connect_by(hub: Published, youngest: Option<Key>) -> Option<HubDue>
     ensures { result ≡ connect_by hub youngest }
 {
@@ -59,6 +62,7 @@ fn connect_by(hub: Published, youngest: Option<Key>) -> Option<HubDue>
 }
 
 // What else is due where this is a hub's oldest subscriber.
+#[inline(always)]
 fn due_by(hub: Published, oldest: Option<Key>) -> Option<HubDue>
     ensures { result ≡ due_by hub oldest }
 {
@@ -90,6 +94,7 @@ pub(crate) fn due_at(store: &Store, rule: Rule, index: usize) -> Option<HubDue>
 
 // What a rule gives at some hub; None only where it gives nothing at any. It drops what stands on the
 // chain before that hub.
+#[inline(always)]
 pub(crate) fn next_at(store: &Store, chain: &mut Rings, rule: Rule) -> Option<HubDue>
     requires calm { IsCalm (given_by rule) store.now.hubs chain.old }
     requires chain { IsChain chain.old }

@@ -61,6 +61,7 @@ fn lengthen(chain: &mut Rings, members: usize) -> Result<(), AllocError>
 }
 
 // Puts an index on a chain, where it is not there.
+#[inline(always)]
 fn put(chain: &mut Rings, index: usize)
     requires chain { IsChain chain.old }
     requires index { index < chain.old.members }
@@ -72,6 +73,7 @@ fn put(chain: &mut Rings, index: usize)
 }
 
 // Puts an index on a chain where the rule gives something there.
+#[inline(always)]
 fn note(store: &Store, chain: &mut Rings, rule: Rule, index: usize)
     requires chain { IsChain chain.old }
     requires index { index < chain.old.members }
@@ -103,6 +105,7 @@ impl Hubs {
 
     /// What holds of all hubs, for proofs: their numbers rise, and so do those of each hub's subscribers.
     /// It does nothing.
+    #[inline(always)]
     pub fn promise(&self)
         ensures { IsPromised self.now }
     {
@@ -110,6 +113,7 @@ impl Hubs {
     }
 
     /// How many hubs there are.
+    #[inline(always)]
     pub fn len(&self) -> usize
         ensures { result ≡ length self.now.hubs }
     {
@@ -158,6 +162,7 @@ impl Hubs {
     }
 
     /// A hub without its subscribers; None where no hub has the number.
+    #[inline(always)]
     pub fn get(&self, hub: u64) -> Option<Published>
         ensures { result ≡ option_map published_of (find_hub self.now.hubs hub) }
     {
@@ -173,6 +178,7 @@ impl Hubs {
     }
 
     /// The key of a hub's oldest subscriber; None where it has none, and where no hub has the number.
+    #[inline(always)]
     pub fn first_subscriber(&self, hub: u64) -> Option<Key>
         ensures { result ≡ option_and_then (λ (h : Hub). first_of h.subscribers) (find_hub self.now.hubs hub) }
     {
@@ -181,6 +187,7 @@ impl Hubs {
     }
 
     /// The key of the next younger subscriber of the same hub; None for the youngest.
+    #[inline(always)]
     pub fn next_subscriber(&self, key: Key) -> Option<Key>
         ensures { (n : _) (h : Hub) → find_hub self.now.hubs n ≡ Some h → IsTrue (is_on key h.subscribers) →
             result ≡ key_after key h.subscribers }
@@ -190,6 +197,7 @@ impl Hubs {
 
     /// Subscribes: the node of this key comes last among the hub's subscribers. It is newer than they
     /// are, and no subscriber stands at its slot, which was reserved for.
+    #[inline(always)]
     pub fn subscribe(&mut self, hub: u64, key: Key)
         requires there { IsSome (find_hub self.old.hubs hub) }
         requires newest { IfSome (find_hub self.old.hubs hub) (λ h. AreBelow key.number h.subscribers) }
@@ -208,6 +216,7 @@ impl Hubs {
 
     /// Takes a subscriber away from its hub, when its node is closed. It takes the same time however
     /// many subscribers there are.
+    #[inline(always)]
     pub fn leave(&mut self, hub: u64, key: Key)
         requires there { IsSome (find_hub self.old.hubs hub) }
         requires subscribes { IfSome (find_hub self.old.hubs hub) (λ h. IsTrue (is_on key h.subscribers)) }
@@ -260,6 +269,7 @@ impl Hubs {
     ///
     /// It looks at hubs alone that were changed since it last found nothing due there, and takes no
     /// memory.
+    #[inline(always)]
     pub fn next_forced(&mut self) -> Option<HubDue>
         ensures due { IfSome result (IsDueIn self.old.hubs) }
         ensures concerns { IfSome result (ConcernsHub self.old.hubs) }

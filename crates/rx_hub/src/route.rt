@@ -55,6 +55,7 @@ impl Model for Route {
 }
 
 // The first subscriber of the hub behind a connection.
+#[inline(always)]
 fn first_beyond(hubs: &Hubs, hub: Option<u64>) -> Option<Frame>
     ensures keys { first_keys hubs.now.hubs result ≡ hub_keys hubs.now.hubs hub }
     ensures frame { IfSome result (IsFrame hubs.now.hubs) }
@@ -86,6 +87,7 @@ fn turn_to(frames: &mut Vec<Frame>, hubs: &Hubs, frame: Frame) -> Key
 }
 
 // Goes on from the first, if there is one, and else from what comes after.
+#[inline(always)]
 fn go_on(frames: &mut Vec<Frame>, hubs: &Hubs, first: Option<Frame>) -> Option<Key>
     requires frame { IfSome first (IsFrame hubs.now.hubs) }
     requires behind { IfSome first (λ frame. IsBehind frame.hub (reverse frames.old.items)) }
@@ -102,6 +104,7 @@ fn go_on(frames: &mut Vec<Frame>, hubs: &Hubs, first: Option<Frame>) -> Option<K
 }
 
 // The stop, where an item arrives there: a connection is none.
+#[inline(always)]
 fn arrival(stop: Option<Stop>) -> Option<Stop>
     ensures { result ≡ option_and_then arrival stop }
 {
@@ -144,6 +147,7 @@ impl Route {
     }
 
     /// Begins the way of an item of this node.
+    #[inline(always)]
     pub fn start(&mut self, node: Key)
         ensures started { self.new ≡ started node self.old }
         ensures stops { (nodes : _) (hubs : _) → stops_left nodes hubs self.new ≡ stops_over nodes hubs node }
@@ -158,6 +162,7 @@ impl Route {
 
     /// How many visits were made since the beginning: 1,048,577 where the way was cut off, one visit after
     /// the most that an item may make.
+    #[inline(always)]
     pub fn visits(&self) -> u64
         ensures { result ≡ self.now.visits }
     {
@@ -165,6 +170,7 @@ impl Route {
     }
 
     // Climbs from the node up to a stop, and goes on from there.
+    #[inline(always)]
     fn climb_on<R: Resource>(&mut self, tree: &Tree<R>, hubs: &Hubs, node: Key) -> Option<Stop>
         requires ordered { IsOrdered tree.now.nodes hubs.now.hubs }
         requires under_way { IsUnderWay tree.now.nodes hubs.now.hubs self.old }
@@ -185,6 +191,7 @@ impl Route {
 
     /// The next stop where the item arrives: at a root, at a FlatMap or Switch that projects it, or at a
     /// TakeUntil that it fires. None at the end of its way. It takes no memory.
+    #[inline(always)]
     pub fn next<R: Resource>(&mut self, tree: &Tree<R>, hubs: &Hubs) -> Option<Stop>
         requires ordered { IsOrdered tree.now.nodes hubs.now.hubs }
         requires under_way { IsUnderWay tree.now.nodes hubs.now.hubs self.old }

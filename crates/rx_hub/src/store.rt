@@ -35,6 +35,7 @@ impl Model for Store {
 }
 
 // The record at an index.
+#[inline(always)]
 fn copy_at(records: &Vec<Published>, index: usize) -> Option<Published>
     ensures { result ≡ slice_get records.now.items index }
 {
@@ -42,6 +43,7 @@ fn copy_at(records: &Vec<Published>, index: usize) -> Option<Published>
 }
 
 // The key of the subscriber at a slot, if there is one.
+#[inline(always)]
 fn key_of(numbers: &Vec<u64>, slot: Option<usize>) -> Option<Key>
     ensures { result ≡ option_map (key_in numbers.now.items) slot }
 {
@@ -96,6 +98,7 @@ impl Store {
     }
 
     // What holds of all hubs.
+    #[inline(always)]
     pub(crate) fn promise(&self)
         ensures { IsPromised self.now }
     {
@@ -115,6 +118,7 @@ impl Store {
     }
 
     // How many hubs there are.
+    #[inline(always)]
     pub(crate) fn len(&self) -> usize
         ensures { result ≡ length self.now.hubs }
     {
@@ -139,6 +143,7 @@ impl Store {
     }
 
     // Where the hub of a number stands.
+    #[inline(always)]
     pub(crate) fn index_of(&self, number: u64) -> Option<usize>
         ensures some { IfSome result (λ i.
             option_map (λ (hub : Hub). hub.number) (slice_get self.now.hubs i) ≡ Some number) }
@@ -163,6 +168,7 @@ impl Store {
     }
 
     // A hub without its subscribers.
+    #[inline(always)]
     pub(crate) fn published(&self, index: usize) -> Option<Published>
         ensures { result ≡ option_map published_of (slice_get self.now.hubs index) }
     {
@@ -216,6 +222,7 @@ impl Store {
     }
 
     // A hub's first subscriber, which has the least number.
+    #[inline(always)]
     pub(crate) fn first(&self, index: usize) -> Option<Key>
         ensures { IfSome (slice_get self.now.hubs index) (λ hub. result ≡ first_of hub.subscribers) }
     {
@@ -223,6 +230,7 @@ impl Store {
     }
 
     // A hub's last subscriber, which has the greatest number.
+    #[inline(always)]
     pub(crate) fn last(&self, index: usize) -> Option<Key>
         ensures { IfSome (slice_get self.now.hubs index) (λ hub. result ≡ last_from None hub.subscribers) }
     {
@@ -230,6 +238,7 @@ impl Store {
     }
 
     // The subscriber that follows one of the same hub.
+    #[inline(always)]
     pub(crate) fn next(&self, key: Key) -> Option<Key>
         ensures { (i : _) (hub : Hub) → slice_get self.now.hubs i ≡ Some hub → IsTrue (is_on key hub.subscribers) →
             result ≡ key_after key hub.subscribers }
@@ -250,6 +259,7 @@ impl Store {
     }
 
     // Puts a subscriber last among those of a hub.
+    #[inline(always)]
     pub(crate) fn subscribe(&mut self, index: usize, key: Key)
         requires hub { IsSome (slice_get self.old.hubs index) }
         requires newest { IfSome (slice_get self.old.hubs index) (λ hub. AreBelow key.number hub.subscribers) }
@@ -263,6 +273,7 @@ impl Store {
     }
 
     // Takes a subscriber away from a hub.
+    #[inline(always)]
     pub(crate) fn unsubscribe(&mut self, index: usize, key: Key)
         requires hub { IsSome (slice_get self.old.hubs index) }
         requires there { IfSome (slice_get self.old.hubs index) (λ hub. IsTrue (is_on key hub.subscribers)) }

@@ -1,4 +1,4 @@
-use Rattle.std.proofs.Common.{◌≡◌, ◌∷◌, [], refl, sym, ap, subst, ◌∙◌, arith, Option, Some, option_map, false, ◌≤◌, ◌+◌, ◌-◌, vec_capacity, length}
+use Rattle.std.proofs.Common.{◌≡◌, ◌∷◌, [], refl, sym, ap, subst, ◌∙◌, arith, Option, Some, option_map, false, ◌+◌, ◌-◌, vec_capacity, length}
 use Rattle.std.specs.Option.{option_map_or}
 use Rattle.rx_event.specs.declared.event.Event.{Event}
 use Rattle.rx_event.specs.declared.event.Event.TheVariants.{End}
@@ -6,7 +6,6 @@ use Rattle.rx_event.specs.Events.{is_root}
 use Rattle.rx_slots.specs.Slots.{find, Slots}
 use Rattle.rx_register.specs.State.{State, Writes}
 use Rattle.rx_tree.specs.declared.node.Stowed.{Stowed}
-use Rattle.rx_tree.specs.Owed.{owed_in}
 use Rattle.rx_hub.specs.After.{is_inside, end_by}
 use Rattle.rx_hub.specs.Hubs.{Hubs}
 use Rattle.rx_hub.proofs.Laws.AfterCases.{hubs_ended}
@@ -14,7 +13,6 @@ use Rattle.rx_ground.specs.Shown.{Ground}
 use Rattle.rx_ground.specs.Ties.{AreLeased, IsTied, AreTied, record_of, left_inside}
 use Rattle.rx_ground.proofs.Memory.{written_memory, same_places}
 use Rattle.rx_ground.proofs.RegisterAfterWrite.{TellsOf, writes_told}
-use Rattle.rx_ground.proofs.OwedCountBounded.{owed_in-bounded}
 use Rattle.rx_ground.proofs.NodeEnds.{IsReadyToEnd, IsEnded, record_read, above_counted, ended_tied}
 use Rattle.rx_ground.proofs.HubsAfterEvent.{LeavesHubs, rebased, tied_closed}
 use Rattle.rx_ground.proofs.Leases.{leased_quiet}
@@ -53,12 +51,6 @@ ready g c =
 
 pub mark_end-requires-clause-found : goal.mark_end-requires-clause-found
 mark_end-requires-clause-found g c κs within = above_counted c.parent-above.result (ready g (goal.at.mark_end-requires-clause-found g c).After-write)
-
-pub mark_end-requires-clause-countable : goal.mark_end-requires-clause-countable
-mark_end-requires-clause-countable g c =
-    let r = ready g (goal.at.mark_end-requires-clause-countable g c).After-write in
-    let less : owed_in c.self-2.inside.tree.nodes ≤ owed_in c.self.inside.tree.nodes = rw (← c.self-2.view_is) at c.cut.ensures.owed in
-    omega (arith, owed_in-bounded g.R.Resource c.self.inside.register c.self.inside.tree r.tied c.promise.ensures r.sound.apart, less)
 
 -- the register is the one to which the note was told, until the event is written
 registered : (g : Over) (c : goal.After-mark_end g) → c.self-2.inside.register ≡ c.tell_end.new.register
