@@ -9,6 +9,10 @@ use Rattle.rx_event.specs.Lawful.{IsLawful, MayFollow}
 use Rattle.rx_audit.specs.declared.verdict.Verdict.{Verdict}
 use Rattle.rx_audit.specs.declared.verdict.Verdict.TheVariants.{Lawful, Unlawful, Unsettled}
 
+-- how many events a list that is judged has at most
+abbrev pub most_judged : ℕ
+most_judged = 4294967295
+
 -- each event may follow those before it, operators have nothing left to do, and the lists are those of the open nodes,
 -- the held and the waiting resources, each by rising number
 pub record IsFoundLawful (h : List Event) (nodes kept left_over : List ℕ) : Type 0 where

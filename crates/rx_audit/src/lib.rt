@@ -5,8 +5,9 @@
 //! those before it; `Unsettled` says that all may, and that operators have something left to do.
 //!
 //! Promised: on any list of events the answer is the verdict of the definitions of `rx_event`, in
-//! the words of `specs/Verdict.antt`. `NoMemory` comes where memory was refused; that it comes only
-//! there is not proved. Nothing is assumed of the list, and nothing is shared with whoever wrote it.
+//! the words of `specs/Verdict.antt`. `TooMany` comes exactly where the list is longer than
+//! `MOST_JUDGED`. `NoMemory` comes where memory was refused; that it comes only there is not proved.
+//! Nothing is assumed of the list, and nothing is shared with whoever wrote it.
 //!
 //! How: the events are followed in order. Which nodes are open, and what became of resources, stands
 //! in lists by number, each tied to its definition (`found`). A closing goes down from the node that
@@ -45,4 +46,4 @@ mod reach;
 mod subscribers;
 mod verdict;
 
-pub use verdict::{NoMemory, Verdict, audit};
+pub use verdict::{MOST_JUDGED, NoVerdict, Verdict, audit};

@@ -1,7 +1,7 @@
 //! The verdict on a list of events.
 
 ghost use Rattle.rx_event.specs.Kept.{nothing_kept};
-ghost use Rattle.std.specs.Prelude.{◌≡◌, ◌<◌, ◌≤◌, ◌&&◌, ◌↔◌, true, false, IsTrue, IfOk, [], Some, None, MatchOption, length};
+ghost use Rattle.std.specs.Prelude.{◌≡◌, ◌<◌, ◌≤◌, ◌&&◌, ◌↔◌, true, false, IsTrue, Err, IfOk, [], Some, None, MatchOption, length};
 ghost use Rattle.rx_event.specs.declared.event.Event.{Event};
 ghost use Rattle.rx_event.specs.Tree.{open_nodes};
 ghost use Rattle.rx_event.specs.Resources.{held_resources, waiting_resources};
@@ -12,7 +12,7 @@ ghost use Rattle.rx_audit.specs.Allowing.{needs_connection, leaves_room, open_al
 ghost use Rattle.rx_audit.specs.Known.{IsFoundHere};
 ghost use Rattle.rx_audit.specs.Standing.{IsFollowed, IsKnown, IsAllFound};
 ghost use Rattle.rx_audit.specs.Found.{IsFound, IsClimbed};
-ghost use Rattle.rx_audit.specs.Verdict.{IsVerdict, IsFoundUnlawful};
+ghost use Rattle.rx_audit.specs.Verdict.{IsVerdict, IsFoundUnlawful, most_judged};
 
 use crate::advance::{Nodes, no_nodes};
 use crate::allowed::{
@@ -49,9 +49,14 @@ pub enum Verdict {
     Unsettled,
 }
 
-/// Memory was asked for and refused.
+/// Why there is no verdict.
 #[derive(Clone, Copy, Debug, PartialEq, Eq, Drop)]
-pub struct NoMemory;
+pub enum NoVerdict {
+    /// The list has more than [`MOST_JUDGED`] events.
+    TooMany,
+    /// Memory was asked for and refused.
+    NoMemory,
+}
 
 /// Whether the event's subscriber, which may be opened, has to be given a connection (RefCount).
 fn needs_connection(past: &[Event], live: &[bool], nodes: &Nodes, event: Event) -> bool
@@ -207,7 +212,7 @@ fn first_unlawful(
 ) -> Result<Option<u64>, AllocError>
     requires found { IsFound [] (length events.now) found.old }
     requires followed { IsFollowed [] (length events.now) nodes.old }
-    requires short { length events.now ≤ 4294967295 }
+    requires short { length events.now ≤ most_judged }
     ensures { IfOk result
         (λ place. MatchOption place (IsAllFound events.now found.new nodes.new) (IsFoundUnlawful events.now)) }
 {
@@ -273,16 +278,14 @@ fn judge_lawful(
     })
 }
 
-/// The longest list of events that is judged: their numbers take 32 bits.
-const MOST_EVENTS: usize = 4_294_967_295;
+/// How many events a list that is judged has at most: their numbers take 32 bits.
+pub const MOST_JUDGED: usize = 4_294_967_295;
 
-/// The verdict on a list of events.
+/// The verdict on a list of events that is not too long.
 fn judge(alloc: Global, events: &[Event]) -> Result<Verdict, AllocError>
+    requires { length events.now ≤ most_judged }
     ensures { IfOk result (IsVerdict events.now) }
 {
-    if events.len() > MOST_EVENTS {
-        return Err(AllocError);
-    }
     let mut found = nothing_found(alloc, events.len())?;
     let mut nodes = no_nodes(alloc, events.len())?;
     let mut climb = no_climb(alloc, events.len())?;
@@ -297,13 +300,17 @@ fn judge(alloc: Global, events: &[Event]) -> Result<Verdict, AllocError>
 /// else `Lawful` with what is open, held and waiting. The rules are those of the Observable
 /// Contract, of the operators' pages at reactivex.io and of System.Reactive's disposables.
 ///
-/// Refused with `NoMemory` where memory was asked for and refused, and for more than 4,294,967,295 events,
-/// whose numbers the lists of the audit have no room for.
-pub fn audit(alloc: Global, events: &[Event]) -> Result<Verdict, NoMemory>
-    ensures { IfOk result (IsVerdict events.now) }
+/// Refused with `TooMany` exactly where there are more than [`MOST_JUDGED`] events, whose numbers the lists of
+/// the audit have no room for, and else with `NoMemory` where memory was asked for and refused.
+pub fn audit(alloc: Global, events: &[Event]) -> Result<Verdict, NoVerdict>
+    ensures ok { IfOk result (IsVerdict events.now) }
+    ensures refused_too_many { (result ≡ Err NoVerdict.TooMany) ↔ (most_judged < length events.now) }
 {
+    if events.len() > MOST_JUDGED {
+        return Err(NoVerdict::TooMany);
+    }
     match judge(alloc, events) {
         Ok(verdict) => Ok(verdict),
-        Err(_) => Err(NoMemory),
+        Err(_) => Err(NoVerdict::NoMemory),
     }
 }

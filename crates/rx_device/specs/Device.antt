@@ -44,13 +44,13 @@ pub record IsFresh {D : Type 0} (w : Watched D) : Type 0 where
   pub failed : has_failed w ≡ false
   pub stopped : has_stopped w ≡ false
 
--- how often a reader may be asked for bytes before it counts as one that never ends
+-- how often a reader is asked for bytes at most
 abbrev pub most_turns : ℕ
 most_turns = 33554432
 
--- the reader failed, or it had not ended after so many turns
+-- the reader failed; one that never ends gives too many bytes before it was asked so often
 abbrev pub HasReadFault : {D : Type 0} → Watched D → Type 0
-HasReadFault w = (has_failed w ≡ true) ⊎ (turns_of w ≡ most_turns)
+HasReadFault w = has_failed w ≡ true
 
 -- the writer failed, or took no byte
 abbrev pub HasWriteFault : {D : Type 0} → Watched D → Type 0

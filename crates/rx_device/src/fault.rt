@@ -5,7 +5,7 @@ use thiserror::Error;
 /// Why a run or a check ended early.
 #[derive(Debug, Drop, Error)]
 pub enum ScriptError {
-    /// The reader failed, or had not ended after 33,554,432 turns.
+    /// The reader failed.
     #[error("read fault")]
     Read,
     /// The writer failed, or took no byte.

@@ -13,7 +13,9 @@
 //!
 //! # Promised, and not
 //!
-//! - An Ok means that no call of the device failed; of a reader, that it was read to its end.
+//! - An Ok means that no call of the device failed; of a reader, that it was read to its end; of a writer,
+//!   that it took a byte at each call. A device is called no further after a fault, and how often it is called
+//!   has a bound.
 //! - Each error comes only for its cause, and a cause is never passed over. `Memory` alone has no cause
 //!   that a contract could name: that it is given only where memory was refused is tested above.
 //! - How `serde_json` reads a text is its own promise. How fast a device is, nothing says.

@@ -1,7 +1,7 @@
 //! Reading a device to its end.
 
-ghost use Rattle.std.specs.Prelude.{◌≡◌, ◌≢◌, false, true, IfOk, IfErr, OnOk, IsErrOf};
-ghost use Rattle.rx_device.specs.Device.{device_of, KeepsDevice, has_failed, has_stopped, HasReadFault, IsFresh};
+ghost use Rattle.std.specs.Prelude.{◌≡◌, ◌≢◌, ◌≤◌, false, true, IfOk, IfErr, OnOk, IsErrOf};
+ghost use Rattle.rx_device.specs.Device.{device_of, KeepsDevice, turns_of, most_turns, has_failed, has_stopped, HasReadFault, IsFresh};
 ghost use Rattle.rx_device.specs.Input.{GivesWhole, GivesTooMuch};
 
 use crate::fault::ScriptError;
@@ -12,7 +12,8 @@ use std::io::Read;
 /// The longest input, in bytes.
 pub const MOST_BYTES: usize = 16_777_216;
 
-/// How often a reader may be asked for bytes before it counts as one that never ends.
+/// How often a reader is asked for bytes at most. One that has not ended gives a byte each time, and so
+/// gives more than [`MOST_BYTES`] before that.
 pub const MOST_TURNS: u32 = 33_554_432;
 
 const PIECE: usize = 4096;
@@ -25,6 +26,7 @@ pub fn read_all<R: Read>(alloc: Global, reader: &mut Watched<'_, R>) -> Result<V
         (λ v. GivesWhole (R.remaining (device_of reader.old)) (R.remaining (device_of reader.new)) v.items) }
     ensures unhurt { OnOk result (has_failed reader.new ≡ false) }
     ensures stopped { OnOk result (has_stopped reader.new ≡ true) }
+    ensures bound { turns_of reader.new ≤ most_turns }
     ensures same_device { KeepsDevice reader.old reader.new }
 
     ensures read { IsErrOf result ScriptError.Read → HasReadFault reader.new }

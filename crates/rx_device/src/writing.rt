@@ -1,8 +1,8 @@
 //! Writing a text to a device.
 
-ghost use Rattle.std.specs.Prelude.{◌≡◌, OnOk, OnErr};
+ghost use Rattle.std.specs.Prelude.{◌≡◌, ◌≤◌, ◌+◌, length, OnOk, OnErr};
 ghost use Rattle.std.specs.Io.KnownBytes.{Appends};
-ghost use Rattle.rx_device.specs.Device.{device_of, KeepsDevice, has_failed, HasWriteFault, AppendsPrefix};
+ghost use Rattle.rx_device.specs.Device.{device_of, KeepsDevice, turns_of, has_failed, has_stopped, HasWriteFault, AppendsPrefix};
 
 use crate::watched::Watched;
 use std::io::Write;
@@ -11,7 +11,8 @@ use std::io::Write;
 #[derive(Clone, Copy, Debug, PartialEq, Eq)]
 pub struct WriteFault;
 
-/// Writes the whole text, or a front of it where the writer fails or takes no byte.
+/// Writes the whole text, or a front of it where the writer fails or takes no byte: it is not asked again
+/// after that, and at most once for each byte.
 pub fn write_text<W: Write>(writer: &mut Watched<'_, W>, text: &[u8]) -> Result<(), WriteFault>
     ensures same_device { KeepsDevice writer.old writer.new }
     ensures ok { OnOk result
@@ -19,6 +20,8 @@ pub fn write_text<W: Write>(writer: &mut Watched<'_, W>, text: &[u8]) -> Result<
     ensures err { OnErr result
         (AppendsPrefix (W.contents (device_of writer.old)) (W.contents (device_of writer.new)) text.now) }
     ensures unhurt { OnOk result (has_failed writer.new ≡ has_failed writer.old) }
+    ensures moved { OnOk result (has_stopped writer.new ≡ has_stopped writer.old) }
+    ensures bound { turns_of writer.new ≤ turns_of writer.old + length text.now }
     ensures failed { OnErr result (HasWriteFault writer.new) }
 {
     let mut done = 0;

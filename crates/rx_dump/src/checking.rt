@@ -61,6 +61,7 @@ fn verdict_on(alloc: Global, input: Vec<u8>) -> Result<Verdict, ScriptError>
     drop(input);
     match audit(alloc, history.as_slice()) {
         Ok(verdict) => Ok(verdict),
+        // `TooMany` is out of reach: an event takes more than one of the 16,777,216 bytes that an input has at most.
         Err(_) => Err(ScriptError::Memory),
     }
 }

@@ -1,12 +1,13 @@
 -- What an outcome tells.
-use Rattle.std.proofs.Common.{◌≡◌, Option, Some, None, Result, Ok, Err, IfOk, Bool, ℕ, List, refl}
+use Rattle.std.proofs.Common.{◌≡◌, Option, Some, None, Result, Ok, Err, IfOk, Bool, ℕ, List, refl, subst, ◌∙◌}
 use Rattle.std.specs.Prelude.{is_ok, IfErr, OnOk}
 use Rattle.rx_book.specs.State.{State}
 use Rattle.rx_crew.specs.declared.finishing.Totals.{Totals}
 use Rattle.rx_crew.specs.declared.finishing.Mismatch.{Mismatch}
 use Rattle.rx_storm.specs.declared.outcome.Lack.{Lack}
 use Rattle.rx_storm.specs.declared.figures.Figures.{Figures}
-use Rattle.rx_storm.specs.Storms.{figures_of, outcome_of, TellsOf, TellsFrontOf, Tells, TellsFront}
+use Rattle.rx_storm.specs.Storms.{figures_of, figures_text, outcome_of, IsEnd, TellsOf, TellsFrontOf, Tells, TellsFront}
+use Rattle.rx_device.specs.Device.{AppendsPrefix}
 use Rattle.rx_ledger.specs.declared.ledgers.Sums.{Sums}
 use Rattle.rx_ledger.specs.declared.receipt.Receipt.{Receipt}
 use Rattle.rx_storm.specs.declared.StormFault.{StormFault}
@@ -54,4 +55,18 @@ front_of shares receipts released faults old new tells = record {
   released = released;
   faults = faults;
   tells = tells;
+}
+
+-- a front of these bytes is one of the figures that the threads came to
+pub front_told : (outcome : Result (Figures × Bool) Lack) (told : Figures × Bool) (shares : Sums) (receipts : List Receipt) (released faults : ℕ)
+    (old new : Option (List ℕ)) (bytes text : List ℕ) → outcome ≡ Ok told
+    → IfOk outcome (λ t. IsEnd shares receipts t.0 t.1) → IfOk outcome (λ t. t.0.released ≡ released) → IfOk outcome (λ t. t.0.faults ≡ faults)
+    → text ≡ figures_text told.0 → bytes ≡ text → AppendsPrefix old new bytes → TellsFrontOf shares receipts released faults old new
+front_told outcome told shares receipts released faults old new bytes text is ended freed met tells same front = record {
+  told = told.0;
+  answer = told.1;
+  released_is = subst (λ (o : Result (Figures × Bool) Lack). IfOk o (λ t. t.0.released ≡ released)) is freed;
+  faults_is = subst (λ (o : Result (Figures × Bool) Lack). IfOk o (λ t. t.0.faults ≡ faults)) is met;
+  ended = subst (λ (o : Result (Figures × Bool) Lack). IfOk o (λ t. IsEnd shares receipts t.0 t.1)) is ended;
+  written = subst (λ (b : List ℕ). AppendsPrefix old new b) (same ∙ tells) front;
 }

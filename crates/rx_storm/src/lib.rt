@@ -32,7 +32,7 @@ ghost use Rattle.std.specs.Prelude.{◌≡◌, ◌≤◌, ◌↔◌, [], Err, So
 ghost use Rattle.std.specs.List.{All};
 ghost use Rattle.rx_resource.specs.declared.Life.{Life};
 ghost use Rattle.rx_ledger.specs.Shares.{Opens, together, sums_in};
-ghost use Rattle.rx_device.specs.Device.{device_of, has_failed, HasWriteFault, KeepsDevice};
+ghost use Rattle.rx_device.specs.Device.{device_of, has_failed, has_stopped, HasWriteFault, KeepsDevice};
 ghost use Rattle.rx_storm.specs.declared.StormFault.{StormFault};
 ghost use Rattle.rx_storm.specs.declared.outcome.Lack.{Lack};
 ghost use Rattle.rx_storm.specs.Storms.{Tells, TellsFront, TellsOf, TellsFrontOf};
@@ -104,6 +104,7 @@ pub fn end_storm<R: Resource, I: Ledger, A: Ledger, K: Ledger, W: Write>(
     ensures untold { IsErrOf result StormFault.Memory → writer.new ≡ writer.old }
     ensures unstarted { IsErrOf result StormFault.Thread → writer.new ≡ writer.old }
     ensures unhurt { OnOk result (has_failed writer.new ≡ has_failed writer.old) }
+    ensures moved { OnOk result (has_stopped writer.new ≡ has_stopped writer.old) }
     ensures failed { IsErrOf result StormFault.Write → HasWriteFault writer.new }
     ensures same_device { KeepsDevice writer.old writer.new }
 {
@@ -151,6 +152,7 @@ fn storm_named<
     ensures untold { IsErrOf result StormFault.Memory → writer.new ≡ writer.old }
     ensures unstarted { IsErrOf result StormFault.Thread → writer.new ≡ writer.old }
     ensures unhurt { OnOk result (has_failed writer.new ≡ has_failed writer.old) }
+    ensures moved { OnOk result (has_stopped writer.new ≡ has_stopped writer.old) }
     ensures failed { IsErrOf result StormFault.Write → HasWriteFault writer.new }
     ensures same_device { KeepsDevice writer.old writer.new }
 {
@@ -191,6 +193,7 @@ pub fn storm<R: Resource, G: Gate, T: Threads + Wait + Sync, W: Write>(
     ensures front { IsErrOf result StormFault.Write
         → TellsFront (W.contents (device_of writer.old)) (W.contents (device_of writer.new)) }
     ensures unhurt { OnOk result (has_failed writer.new ≡ has_failed writer.old) }
+    ensures moved { OnOk result (has_stopped writer.new ≡ has_stopped writer.old) }
     ensures failed { IsErrOf result StormFault.Write → HasWriteFault writer.new }
     ensures same_device { KeepsDevice writer.old writer.new }
 {

@@ -317,7 +317,7 @@ pub fn push_svg(
 }
 
 /// The picture of the events, which need not be lawful, with the verdict of the audit, as a well-formed
-/// SVG document. The error comes where memory is refused.
+/// SVG document. The error comes where memory is refused, and for more events than `rx_audit` judges.
 pub fn picture(alloc: Global, events: &[Event]) -> Result<String, AllocError>
     ensures { IfOk result (λ s. IsPicture events.now (string_bytes s)) }
 {

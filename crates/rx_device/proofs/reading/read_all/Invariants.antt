@@ -10,5 +10,6 @@ invariant-loop-turn g l = record {
   same : KeepsDevice l.initial.reader l.reader;
   short : vec_len l.bytes ≤ 16777216;
   turns : turns_of l.reader ≡ l._turn;
+  moved : l._turn ≤ vec_len l.bytes;
   unhurt : has_failed l.reader ≡ false;
 }

@@ -1,7 +1,7 @@
 -- A front of the text is written.
-use Rattle.std.proofs.Common.{◌≡◌, length, ◌-◌, ◌≤◌, take}
+use Rattle.std.proofs.Common.{◌≡◌, length, ◌-◌, ◌+◌, ◌≤◌, take}
 use Rattle.std.specs.Io.KnownBytes.{Appends}
-use Rattle.rx_device.specs.Device.{device_of, KeepsDevice, has_failed}
+use Rattle.rx_device.specs.Device.{device_of, KeepsDevice, turns_of, has_failed, has_stopped}
 use Rattle.rx_device.proofs.writing.write_text.Given as goal
 
 abbrev pub invariant-loop-done : goal.invariant-loop-done
@@ -10,6 +10,8 @@ invariant-loop-done g l = record {
   within : l.done ≤ length l.text;
   written : Appends (g.W.Write.contents (device_of l.initial.writer)) (g.W.Write.contents (device_of l.writer)) (take l.done l.text);
   unhurt : has_failed l.writer ≡ has_failed l.initial.writer;
+  moved : has_stopped l.writer ≡ has_stopped l.initial.writer;
+  bound : turns_of l.writer ≤ turns_of l.initial.writer + l.done;
 }
 
 abbrev pub decreases-loop-done : goal.decreases-loop-done
