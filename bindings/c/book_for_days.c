@@ -6,13 +6,8 @@
 #include <stdlib.h>
 #include <string.h>
 
-#define MUST(holds)                                               \
-  do {                                                            \
-    if (!(holds)) {                                               \
-      fprintf(stderr, "%s:%d: %s\n", __FILE__, __LINE__, #holds); \
-      exit(1);                                                    \
-    }                                                             \
-  } while (0)
+#include "must.h"
+
 #define CALL(call) MUST((calls++, (call)) == RX_BOOK_DONE)
 
 enum { TAGS = 4096, BETWEEN = 100000 };

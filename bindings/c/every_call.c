@@ -2,15 +2,8 @@
 #include <rx.h>
 #include <rx_book.h>
 #include <stdio.h>
-#include <stdlib.h>
 
-#define MUST(holds)                                                     \
-  do {                                                                  \
-    if (!(holds)) {                                                     \
-      fprintf(stderr, "%s:%d: %s\n", __FILE__, __LINE__, #holds);       \
-      exit(1);                                                          \
-    }                                                                   \
-  } while (0)
+#include "must.h"
 
 enum { FILES = 8 };
 static FILE *files[FILES];
