@@ -4,7 +4,8 @@
 #include <pthread.h>
 #include <stdatomic.h>
 #include <stdio.h>
-#include <stdlib.h>
+
+#include "must.h"
 
 #ifndef ROUNDS
 #define ROUNDS 20000
@@ -16,7 +17,6 @@ static atomic_uint released[THREADS * ROUNDS];
 static atomic_ulong told_in_all;
 
 #define LOCKED(call) (pthread_mutex_lock(&lock), status = (call), pthread_mutex_unlock(&lock), status)
-#define MUST(holds) do { if (!(holds)) { fprintf(stderr, "line %d: %s\n", __LINE__, #holds); exit(1); } } while (0)
 
 static void *run(void *words) {
   const struct rx_node none = {0, 0};

@@ -2,15 +2,8 @@
 #include <rx.h>
 #include <rx_book.h>
 #include <stdio.h>
-#include <stdlib.h>
 
-#define MUST(holds)                                                     \
-  do {                                                                  \
-    if (!(holds)) {                                                     \
-      fprintf(stderr, "%s:%d: %s\n", __FILE__, __LINE__, #holds);       \
-      exit(1);                                                          \
-    }                                                                   \
-  } while (0)
+#include "must.h"
 
 enum { FILES = 8 };
 static FILE *files[FILES];
@@ -24,7 +17,8 @@ static void release(uint64_t tag) {
 }
 static void tell(const struct rx_mail *mail) {
   static const char *const words[] = {"next", "project", "completed", "error"};
-  printf("%llu to %llu: %s %lld\n", (unsigned long long)mail->place, (unsigned long long)mail->to, words[mail->kind], (long long)mail->value);
+  printf("%llu to %llu: %s %lld\n", (unsigned long long)mail->place, (unsigned long long)mail->to, words[mail->kind],
+         (long long)mail->value);
 }
 static void hear(struct rx_book *book, const struct rx_told *told) {
   struct rx_mail mail;
@@ -94,7 +88,8 @@ int main(void) {
 
   /* Its history so far, judged. */
   MUST(rx_book_event(&book, 0, &event) == 0 && event.what == RX_OPENED && event.place == RX_ROOT && event.kind == RX_PASS);
-  MUST(rx_book_event(&book, used.res.number, &event) == 0 && event.what == RX_HELD_AT && event.of == used.node.number && event.other == 0);
+  MUST(rx_book_event(&book, used.res.number, &event) == 0 && event.what == RX_HELD_AT);
+  MUST(event.of == used.node.number && event.other == 0);
   MUST(rx_book_event(&book, 3, &event) == 0 && event.what == RX_ITEM && event.of == leaf.node.number && event.value == INT64_MIN);
   MUST(rx_book_event(&book, 1000, &event) == RX_NOTHING_WAITS);
   MUST(rx_book_dump(&book, dump, 3, &length) == RX_SMALL && length > 3 && dump[0] == 0);
@@ -122,7 +117,8 @@ int main(void) {
   MUST(rx_book_decline(&book, flat.node, &place) == RX_NOTHING_OWED);
   MUST(rx_book_next(&book, source.node, 13, &place) == 0);
   MUST(rx_book_fail(&book, flat.node, 404, &place) == 0);
-  MUST(rx_book_drain(&book, mails, 3, takens, 2, &drained) == 0 && drained.mails == 3 && drained.resources == 1 && takens[0].tag == 1);
+  MUST(rx_book_drain(&book, mails, 3, takens, 2, &drained) == 0 && drained.mails == 3 && drained.resources == 1);
+  MUST(takens[0].tag == 1);
   for (uint64_t i = 0; i < drained.mails; i++)
     tell(&mails[i]);
   release(takens[0].tag);
@@ -185,14 +181,17 @@ int main(void) {
 
   /* Several items at once, up to the first that is refused; calls that open and tell. */
   MUST(rx_book_new(&book, 20) == 0);
-  MUST(rx_book_open_told(&book, RX_ROOT, none, RX_SWITCH, 0, &flat, &told) == 0 && told.mails == 0 && told.place == flat.node.number);
+  MUST(rx_book_open_told(&book, RX_ROOT, none, RX_SWITCH, 0, &flat, &told) == 0 && told.mails == 0);
+  MUST(told.place == flat.node.number);
   MUST(rx_book_open(&book, RX_SOURCE, flat.node, RX_LEAF, 0, &source) == 0);
   MUST(rx_book_next_all(&book, source.node, values, 0, &count) == 0 && count == 0);
   MUST(rx_book_next_all(&book, source.node, values, 3, &count) == 0 && count == 3);
   MUST(rx_book_using_told(&book, RX_INNER, flat.node, 30, &used, &told) == 0 && told.mails == 3 && told.resources == 0);
-  MUST(rx_book_using_told(&book, RX_INNER, flat.node, 31, &inner, &told) == 0 && told.resources == 1 && told.resource[0].tag == 30);
+  MUST(rx_book_using_told(&book, RX_INNER, flat.node, 31, &inner, &told) == 0 && told.resources == 1);
+  MUST(told.resource[0].tag == 30);
   MUST(told.resource[0].number == used.res.number && told.place == inner.node.number);
-  MUST(rx_book_open_told(&book, RX_INNER, flat.node, RX_LEAF, 0, &leaf, &told) == 0 && told.resources == 1 && told.resource[0].tag == 31);
+  MUST(rx_book_open_told(&book, RX_INNER, flat.node, RX_LEAF, 0, &leaf, &told) == 0 && told.resources == 1);
+  MUST(told.resource[0].tag == 31);
   MUST(rx_book_open_told(&book, RX_INNER, flat.node, RX_LEAF, 0, &under, &told) == RX_NOTHING_OWED && told.place == 0);
   MUST(rx_book_open_told(&book, 7, flat.node, RX_LEAF, 0, &under, &told) == RX_NO_SUCH_CODE);
   MUST(rx_book_using_told(&book, 7, flat.node, 1, &used, &told) == RX_NO_SUCH_CODE);
@@ -219,6 +218,29 @@ int main(void) {
   MUST(rx_book_hub(&book, RX_MANUAL, &hub) == 0 && rx_book_connect(&book, hub, &connection) == 0);
   MUST(rx_book_using(&book, RX_SOURCE, connection, 22, &used) == 0);
   MUST(rx_book_disconnect_told(&book, hub, &told) == 0 && told.resources == 1 && told.resource[0].tag == 22);
+  MUST(rx_book_finish(&book) == 0);
+
+  /* Refusals that did not come yet. */
+  MUST(rx_book_new(&book, 2000) == 0);
+  MUST(rx_book_hub(&book, RX_AUTO, &hub) == 0);
+  MUST(rx_book_open(&book, RX_ROOT, none, RX_SUB, hub, &sub) == 0 && sub.is_connected == 1);
+  MUST(rx_book_open(&book, RX_SOURCE, sub.connection, RX_SUB, hub, &under) == RX_HUB_ORDER);
+  MUST(rx_book_connect(&book, hub, &connection) == RX_WRONG_KIND && rx_book_disconnect(&book, hub, &place) == RX_WRONG_KIND);
+  MUST(rx_book_dispose(&book, sub.connection, &place) == RX_NOT_ROOT);
+  MUST(rx_book_hub(&book, RX_MANUAL, &hub) == 0 && rx_book_disconnect(&book, hub, &place) == RX_NOT_CONNECTED);
+  MUST(rx_book_using(&book, RX_ROOT, none, 23, &used) == 0);
+  MUST(rx_book_open(&book, RX_SOURCE, used.node, RX_LEAF, 0, &leaf) == 0);
+  MUST(rx_book_open(&book, RX_SOURCE, leaf.node, RX_LEAF, 0, &under) == RX_WRONG_KIND);
+  MUST(rx_book_open(&book, RX_NOTIFIER, used.node, RX_LEAF, 0, &under) == RX_WRONG_KIND);
+  MUST(rx_book_next(&book, used.node, 1, &place) == RX_WRONG_KIND);
+  MUST(rx_book_end(&book, used.node, RX_COMPLETED, 0, &place) == RX_WRONG_KIND);
+  MUST(rx_book_abort(&book, leaf.node, 1, &place) == RX_WRONG_KIND && rx_book_abort(&book, used.node, 1, &place) == RX_HAS_CHILD);
+  MUST(rx_book_decline(&book, used.node, &place) == RX_WRONG_KIND && rx_book_fail(&book, used.node, 1, &place) == RX_WRONG_KIND);
+  MUST(rx_book_remove_told(&book, used.res, &told) == 0 && told.resources == 1 && told.resource[0].tag == 23);
+  MUST(rx_book_apply(&book, used.res, 1, &word) == RX_NOT_HELD && rx_book_lease(&book, used.res, &lease) == RX_NOT_HELD);
+  for (int i = 2; i < 1024; i++)
+    MUST(rx_book_hub(&book, RX_AUTO, &hub) == 0);
+  MUST(rx_book_hub(&book, RX_AUTO, &hub) == RX_TOO_MANY && hub == 0);
   MUST(rx_book_finish(&book) == 0);
 
   /* A full history. */

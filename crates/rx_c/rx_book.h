@@ -2,14 +2,15 @@
  *
  * A resource stays with the caller: the book holds a tag in its place, which is any number of the caller's (a file
  * descriptor, an index into a table of the caller's), and hands each tag back exactly once, by rx_book_take,
- * rx_book_drain or a call that tells, once the node that held it is closed and no lease of it is out. The caller then releases what it stands
- * for.
+ * rx_book_drain or a call that tells, once the node that held it is closed and no lease of it is out. The caller then
+ * releases what it stands for.
  *
  * Each call answers a status, and writes the rest through pointers, all of which are written whatever the status is (with
  * zeros where there is nothing to say). No pointer may be null, none is kept, and no two may overlap.
  *
- * Of any calls on one handle, from rx_book_new until rx_book_finish answers 0: each tag that rx_book_using or rx_book_hold took in
- * with the status 0 is told exactly once, and no other tag is; and the notes of all events are told in order, each once. */
+ * Of any calls on one handle, from rx_book_new until rx_book_finish answers 0: each tag that rx_book_using or
+ * rx_book_hold took in with the status 0 is told exactly once, and no other tag is; and the notes of all events are told in
+ * order, each once, but for those that are still left then. */
 #ifndef RX_BOOK_H
 #define RX_BOOK_H
 

@@ -23,9 +23,11 @@ using node = rx_node;
 using resource = rx_res;
 using lease = rx_lease;
 
-constexpr bool same(node a, node b) noexcept { return a.slot == b.slot && a.number == b.number; }
-constexpr bool same(resource a, resource b) noexcept { return a.slot == b.slot && a.number == b.number; }
-constexpr bool same(lease a, lease b) noexcept { return a.slot == b.slot && a.number == b.number; }
+// Whether two keys of one sort are the same.
+template <class Key>
+constexpr bool same(Key a, Key b) noexcept {
+  return a.slot == b.slot && a.number == b.number;
+}
 
 // A status of rx_book.h.
 enum class status : std::uint8_t {};

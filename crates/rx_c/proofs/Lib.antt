@@ -4,4 +4,5 @@ mod HeldToTheEnd
 pub mod NoOutput
 mod AnswersHandedOut
 pub mod Values
-pub mod BookValues
+pub mod OwnedMayBeSent
+mod ExportsMakeCourses

@@ -1,14 +1,17 @@
--- The machine values of a `Loose` and of a `Handle`, and what each owns. Assumes `Logic`.
+-- The machine values of a `Loose` and of the two handles, and what each owns. Assumes `Logic`.
 --     loose_out, loose_in      a `Loose` by value is [the box's memory and token; its allocator]
+--     pointer_out, pointer_in  a struct of one pointer by value is [what it owns beside it]
 --     handle_out, handle_in    a `Handle` by value is [what it owns]
+--     book_out, book_in        a `BookHandle` by value is [what it owns]
 --     either                   what a handle owns: nothing at null, or a block whose pointer may be compared with null
 use Rattle.std.proofs.Common.{◌≡◌, ℕ, List, [], ◌∷◌, ◌++◌, Option, None, Some, refl, subst, lit<}
 use mathlib.Core.Bool.{true, ◌&&◌}
 use lib.Dec.{T}
 use seplogic.Ra.Ura.{Ura}
-use mir.Syntax.{impl, tnil, dnil, ty_ptr}
+use mir.Syntax.{Sym, Lifetime, impl, tnil, dnil, ty_ptr}
 use mir.Raw.{raw as bare}
 use mir.Val.{Val, vptr, vstruct, vcons, vnil, of_list, has_ty, WT}
+use base.Fml.{Fml, fsep}
 use base.Fraction.{full_share}
 use base.Logic.{ent, guard, guard_i, via, never, fst∗, snd∗}
 use contract.Monad.{fact_use}
@@ -22,7 +25,7 @@ use denote.RawPtr.{Ptr, block_ptr, null_ptr, ptr_val, lies_at, in_a_block, Testa
 use denote.Steps.{nothing}
 use denote.Param.{layout}
 use denote.Param.Laws.{Laws}
-use denote.Struct.Struct.{within}
+use denote.Struct.Struct.{Shape, Struct, within}
 use denote.Struct.Owning.{shape}
 use Rattle.std.specs.declared.alloc.Allocator.{Ghosts}
 use Rattle.std.proofs.alloc.Calls.{Al, handle_tells}
@@ -34,6 +37,8 @@ use Rattle.std.proofs.GlobalToken.{dealloc_token-Testable}
 use Rattle.rx_c.specs.Ownership.{heap_token, handle_owns}
 use Rattle.rx_c.specs.contracts.kept.Kept as kept
 use Rattle.rx_c.specs.contracts.handle.Handle as handle
+use Rattle.rx_typed.specs.contracts.typed.Typed as typed
+use Rattle.rx_c.specs.contracts.book.handle.BookHandle as book
 use Rattle.rx_c.specs.contracts.loose.Loose as loose
 
 abbrev pub both : Val → Val → Val
@@ -83,25 +88,54 @@ ptr_good null_ptr = (tt, record { fits = lit< tt })
 pub alone_good : (p : Ptr) → T (has_ty ty_ptr (ptr_val p) && true) × WT (alone (ptr_val p))
 alone_good p = (and_tt (has_ty ty_ptr (ptr_val p)) (ptr_good p).0, ((ptr_good p).1, tt))
 
+-- a struct of one pointer, and what it owns beside it
+module _ (name : Sym) (args : List Lifetime) (types : List RattleType) where
+  abbrev pub pointed : Shape
+  pointed = record { name = name; args = args; types = types; fields = RawPtr ∷ [] }
+
+  module _ {M : Type 1} {𝓤 : Ura M} {𝓛 : Logic 𝓤} {K : Type 0} {Γ : List (Item 𝓤)} {G : Goal 𝓤 𝓛.H} where
+    pub pointer_out : K → (p : Ptr) (owned : Fml) (vs : List Val)
+        → (vs ≡ alone (ptr_val p) ∷ [] → Seq K 𝓛 (‵ owned ∷ Γ) G)
+        → Seq K 𝓛 (‵ (fsep ((Struct pointed).own_val (p, tt) vs) owned) ∷ Γ) G
+    pointer_out t p owned vs k =
+        fsplit t $ fpick t (λ vss. fsplit t $ feq_l t (λ ev. fsplit t $ feq_l t (λ ep. drop t $
+        k (subst (λ (ps : List Val). vs ≡ vstruct (of_list (ps ++ [])) ∷ []) ep ev))))
+
+    pub pointer_in : K → (p : Ptr) (owned : Fml)
+        → Step K 𝓛 (‵ (fsep ((Struct pointed).own_val (p, tt) (alone (ptr_val p) ∷ [])) owned) ∷ Γ) G (‵ owned ∷ Γ) G
+    pointer_in t p owned = step (λ s. let v : Val = alone (ptr_val p) in
+        nothing t $ feq_i t (List Val) (ptr_val p ∷ []) (ptr_val p ∷ []) refl $ fjoin t $
+        feq_i t (List Val) (v ∷ []) (v ∷ []) refl $ fjoin t $
+        fpack t (Valss (RawPtr ∷ [])) (within pointed (p, tt) (v ∷ [])) (ptr_val p ∷ [], tt) $
+        fjoin t $ s)
+
 abbrev pub Handle : RattleType
 Handle = handle.the_row
+
+abbrev pub Book : RattleType
+Book = book.the_row
 
 module _ {M : Type 1} {𝓤 : Ura M} {𝓛 : Logic 𝓤} {K : Type 0} {Γ : List (Item 𝓤)} {G : Goal 𝓤 𝓛.H} where
   pub handle_out : K → (d : Handle.Denot) (vs : List Val)
       → (vs ≡ alone (ptr_val d.at) ∷ [] → Seq K 𝓛 (‵ (handle_owns kept.the_row d.at d.kept) ∷ Γ) G)
       → Seq K 𝓛 (‵ (Handle.own_val d vs) ∷ Γ) G
   handle_out t d vs k =
-      fsplit t $ fpick t (λ vss. fsplit t $ feq_l t (λ ev. fsplit t $ feq_l t (λ ep. drop t $
-      k (subst (λ (ps : List Val). vs ≡ vstruct (of_list (ps ++ [])) ∷ []) ep ev))))
+      pointer_out handle.the_type.name handle.the_type.args handle.the_type.types t d.at (handle_owns kept.the_row d.at d.kept) vs k
 
   pub handle_in : K → (p : Ptr) (k : Option (kept.the_row).Denot)
       → Step K 𝓛 (‵ (Handle.own_val (record { at = p; kept = k }) (alone (ptr_val p) ∷ [])) ∷ Γ) G (‵
       (handle_owns kept.the_row p k) ∷ Γ) G
-  handle_in t p k = step (λ s. let v : Val = alone (ptr_val p) in
-      nothing t $ feq_i t (List Val) (ptr_val p ∷ []) (ptr_val p ∷ []) refl $ fjoin t $
-      feq_i t (List Val) (v ∷ []) (v ∷ []) refl $ fjoin t $
-      fpack t (Valss (RawPtr ∷ [])) (within (shape handle.the_type) (p, tt) (v ∷ [])) (ptr_val p ∷ [], tt) $
-      fjoin t $ s)
+  handle_in t p k = pointer_in handle.the_type.name handle.the_type.args handle.the_type.types t p (handle_owns kept.the_row p k)
+
+  pub book_out : K → (d : Book.Denot) (vs : List Val)
+      → (vs ≡ alone (ptr_val d.at) ∷ [] → Seq K 𝓛 (‵ (handle_owns typed.the_row d.at d.kept) ∷ Γ) G)
+      → Seq K 𝓛 (‵ (Book.own_val d vs) ∷ Γ) G
+  book_out t d vs k = pointer_out book.the_type.name book.the_type.args book.the_type.types t d.at (handle_owns typed.the_row d.at d.kept) vs k
+
+  pub book_in : K → (p : Ptr) (k : Option (typed.the_row).Denot)
+      → Step K 𝓛 (‵ (Book.own_val (record { at = p; kept = k }) (alone (ptr_val p) ∷ [])) ∷ Γ) G (‵
+      (handle_owns typed.the_row p k) ∷ Γ) G
+  book_in t p k = pointer_in book.the_type.name book.the_type.args book.the_type.types t p (handle_owns typed.the_row p k)
 
 module _ (R : RattleType) (a : Global) where
   pub tested : {M : Type 1} {𝓤 : Ura M} (𝓛 : Logic 𝓤) (p : Ptr) (x : R.Denot)

@@ -7,3 +7,4 @@ pub mod Ownership
 pub mod Ran
 pub mod Stages
 pub mod Dumped
+pub mod BookCourses

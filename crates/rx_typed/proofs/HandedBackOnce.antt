@@ -1,6 +1,6 @@
 -- Of the calls on a book: what is handed in is handed back once.
-use Rattle.std.proofs.Common.{◌≡◌, ℕ, ℤ, ◌+◌, ◌<◌, ◌≤◌, Bool, true, false, List, [], ◌∷◌, ◌++◌, map, length, cond, slice_get, Option, Some, None, Result, Ok, Err}
-use Rattle.std.proofs.Common.{refl, sym, ap, ◌∙◌, arith, subst, ◌==◌, append-nil, append_assoc, length-append}
+use Rattle.std.proofs.Common.{◌≡◌, ℕ, ℤ, ◌+◌, ◌<◌, ◌≤◌, Bool, true, false, List, [], ◌∷◌, ◌++◌, map, length, cond, slice_get}
+use Rattle.std.proofs.Common.{Option, Some, None, Result, Ok, Err, refl, sym, ap, ◌∙◌, arith, subst, ◌==◌, append-nil, append_assoc, length-append}
 use Rattle.std.proofs.lemmas.List.{map-append}
 use Rattle.std.specs.Prelude.{option_and_then}
 use Rattle.std.specs.List.{Contains, list_any}
@@ -45,7 +45,8 @@ use Rattle.rx_typed.specs.declared.shapes.RxRes.{RxRes}
 use Rattle.rx_typed.specs.declared.shapes.RxUsing.{RxUsing}
 use Rattle.rx_typed.specs.Tokens.{fresh}
 use Rattle.rx_typed.specs.Codes.{key_of, refusal_status, status_given_back, used_told, res_told}
-use Rattle.rx_typed.specs.Calls.{IsTaken, takes, none_waits, IsMailTaken, tells as tells_mail, has_no_mail, new_book, IsTakenWhole, IsCheckpoint, IsUsing, IsHold}
+use Rattle.rx_typed.specs.Calls.{IsTaken, takes, none_waits, IsMailTaken, tells as tells_mail, has_no_mail, new_book, IsTakenWhole}
+use Rattle.rx_typed.specs.Calls.{IsCheckpoint, IsUsing, IsHold}
 use Rattle.rx_typed.specs.Drained.{AreTaken, none_taken, one_taken, AreMailsTaken, no_mail_taken, mail_taken}
 use Rattle.rx_typed.specs.Courses.{Act, handed_in, handed_back, told, Leads, no_act, comes, goes, tells, with_entry, tag_in, taken_in, given_back, note_told}
 use Rattle.rx_typed.specs.Courses.{Course, no_call, calls, drains, checkpoints, AreHandedBackOnce, IsCall, next, next_all, end, abort, fail, decline, dispose}
@@ -108,7 +109,8 @@ lets_go_keeps _ lets = absurd (cc)
 
 let_go : {s t : State} → LetsGo s t → Leads (tag_in s) [] (tag_in t)
 let_go {s} none_let_go = unchanged s s refl
-let_go {s} {t} (next_let_go {t = m} {asked = asked} before kept lets accepts) = leads_on (let_go before) (kept_call m t asked accepts (lets_go_keeps asked.call lets))
+let_go {s} {t} (next_let_go {t = m} {asked = asked} before kept lets accepts) =
+    leads_on (let_go before) (kept_call m t asked accepts (lets_go_keeps asked.call lets))
 
 emits : {leaf : Key} {s t : State} {values : List ℤ} → Emits leaf s values t → Leads (tag_in s) [] (tag_in t)
 emits {leaf} {s} none_emitted = unchanged s s refl
@@ -164,14 +166,15 @@ one_comes s t x past kept tags named =
     by_number r = ap (λ (b : Bool). cond b (tag_by t r) None) (kept r) ∙ by_test r (x.number == r) refl
 
 module _ (g : Ghosts Token) (names : (tag : ℕ) → g.tag_of (fresh tag) ≡ tag) where
-  comes_by_hold : (s t : State) (node : Key) (tag number : ℕ) → IsLawful s.base s.history → Accepts s (hold_request g s node (fresh tag)) t → number ≡ length s.history →
-      Leads (tag_in s) (handed_in (record { number = number; tag = tag }) ∷ []) (tag_in t)
+  comes_by_hold : (s t : State) (node : Key) (tag number : ℕ) → IsLawful s.base s.history → Accepts s (hold_request g s node (fresh tag)) t →
+      number ≡ length s.history → Leads (tag_in s) (handed_in (record { number = number; tag = tag }) ∷ []) (tag_in t)
   comes_by_hold s t node tag number law accepts here =
       let h : List Event = s.history in
       let e : Event = Accept node.number (g.tag_of (fresh tag)) in
       let long : length (h ++ e ∷ []) ≡ length h + 1 = length-append h (e ∷ []) in
       let named : tag_by t (length h) ≡ Some tag =
-      new_tag s t (hold_request g s node (fresh tag)).call law accepts.base accepts.step (length h) node.number (g.tag_of (fresh tag)) (omega arith) (omega arith)
+      new_tag s t (hold_request g s node (fresh tag)).call law accepts.base accepts.step (length h) node.number (g.tag_of (fresh tag)) (omega arith)
+      (omega arith)
       (slice_get_last h e) ∙ ap (λ (n : ℕ). Some n) (names tag) in
       subst (λ (n : ℕ). Leads (tag_in s) (handed_in (record { number = n; tag = tag }) ∷ []) (tag_in t)) (sym here)
       (one_comes s t (record { number = length h; tag = tag }) (omega arith) (kept_held law accepts.step)
@@ -189,7 +192,8 @@ module _ (g : Ghosts Token) (names : (tag : ℕ) → g.tag_of (fresh tag) ≡ ta
       let there : slice_get (h ++ o ∷ e ∷ []) (length h + 1) ≡ Some e =
       (λ i. slice_get (both i) (sym one i)) ∙ slice_get_last (h ++ o ∷ []) e in
       let named : tag_by t (length h + 1) ≡ Some tag =
-      new_tag s t (using_request g s place (fresh tag)).call law accepts.base accepts.step (length h + 1) (length h) (g.tag_of (fresh tag)) (omega arith) (omega arith) there
+      new_tag s t (using_request g s place (fresh tag)).call law accepts.base accepts.step (length h + 1) (length h) (g.tag_of (fresh tag)) (omega arith)
+      (omega arith) there
       ∙ ap (λ (n : ℕ). Some n) (names tag) in
       subst (λ (n : ℕ). Leads (tag_in s) (handed_in (record { number = n; tag = tag }) ∷ []) (tag_in t)) (sym here)
       (one_comes s t (record { number = length h + 1; tag = tag }) (omega arith) (kept_used law accepts.step)
@@ -240,7 +244,8 @@ module _ (g : Ghosts Token) where
       let listed : Contains s.waiting (label_of g number token) = says.cases in
       let label : IsLabelOf s.base s.history (label_of g number token) =
       subst (IsLabelOf s.base s.history) listed.2 (kept.waiting_labels listed.0 (label_of g number token) listed.1) in
-      let numbered : Contains (map (λ (l : Label). l.number) s.waiting) number = Contains-map (λ (l : Label). l.number) s.waiting (label_of g number token) listed in
+      let numbered : Contains (map (λ (l : Label). l.number) s.waiting) number =
+      Contains-map (λ (l : Label). l.number) s.waiting (label_of g number token) listed in
       let waits : is_waiting s.history number ≡ true =
       subst (λ (n : ℕ). is_waiting s.history n ≡ true) numbered.2 (kept.waiting.each numbered.0 number numbered.1) in
       let was : tag_in s number ≡ Some (g.tag_of token) =
@@ -368,6 +373,7 @@ module _ (g : Ghosts Token) (names : (tag : ℕ) → g.tag_of (fresh tag) ≡ ta
 
   pub handed_back_once : AreHandedBackOnce g
   handed_back_once max_events acts t kept course whole =
-      let nothing : (n : ℕ) → tag_in (new_book max_events) n ≡ None = λ n. ap (λ (b : Bool). cond b (tag_by (new_book max_events) n) None) (kept_past [] n (omega arith)) in
+      let nothing : (n : ℕ) → tag_in (new_book max_events) n ≡ None =
+      λ n. ap (λ (b : Bool). cond b (tag_by (new_book max_events) n) None) (kept_past [] n (omega arith)) in
       leads_same (λ n. None) (tag_in (new_book max_events)) (λ n. None) acts nothing
       (subst (λ (last : ℕ → Option ℕ). Leads (tag_in (new_book max_events)) acts last) (λ i n. none_kept t whole n i) (by_course kept course))

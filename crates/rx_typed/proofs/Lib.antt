@@ -1,3 +1,4 @@
+pub mod Laws
 mod EachIsTaken
 mod HandedBackOnce
 mod NotesToldOnce

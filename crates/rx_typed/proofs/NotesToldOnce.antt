@@ -27,7 +27,8 @@ use Rattle.rx_typed.specs.declared.shapes.RxTaken.{RxTaken}
 use Rattle.rx_typed.specs.Codes.{mail_of}
 use Rattle.rx_typed.specs.Calls.{IsTaken, takes, none_waits, IsMailTaken, tells as tells_mail, has_no_mail, new_book, IsCheckpoint}
 use Rattle.rx_typed.specs.Drained.{AreTaken, none_taken, one_taken, AreMailsTaken, no_mail_taken, mail_taken}
-use Rattle.rx_typed.specs.Courses.{Act, handed_in, handed_back, told, given_back, taken_in, note_told, notes_told, notes_between, notes_made, notes_left, all_drained}
+use Rattle.rx_typed.specs.Courses.{Act, handed_in, handed_back, told, given_back, taken_in, note_told, notes_told, notes_between, notes_made}
+use Rattle.rx_typed.specs.Courses.{notes_left, all_drained}
 use Rattle.rx_typed.specs.Courses.{Course, no_call, calls, drains, checkpoints, AreNotesToldOnce, IsCall, next, next_all, end, abort, fail, decline, dispose}
 use Rattle.rx_typed.specs.Courses.{open_node, using, hold, hub, connect, disconnect, apply, remove, lease, give_back, take_one, take_mail, close, asks}
 
@@ -102,7 +103,8 @@ let_go {s} {t} (next_let_go {t = m} {asked = asked} before kept lets accepts) = 
 
 emits : {leaf : Key} {s t : State} {values : List ℤ} → Emits leaf s values t → Does s t []
 emits {leaf} {s} none_emitted = does_nothing s s [] refl refl
-emits {leaf} {s} {t} (next_emitted {t = m} value before kept accepts) = does_both (emits before) (by_accepted m t (next_request m leaf value) accepts kept.given)
+emits {leaf} {s} {t} (next_emitted {t = m} value before kept accepts) =
+    does_both (emits before) (by_accepted m t (next_request m leaf value) accepts kept.given)
 
 -- what is handed out ------------------------------------------------------------------------------
 
@@ -208,7 +210,8 @@ module _ (g : Ghosts Token) where
       ∙ sym (append_assoc (notes_told acts) (notes_told more) (notes_left u))
       ∙ ap (λ (ms : List RxMail). ms ++ notes_left u) (sym (notes_told-append acts more))
 
-  by_course : {s t : State} {acts : List Act} → IsPromised s → (course : Course g s acts t) → notes_left s ++ notes_made course ≡ notes_told acts ++ notes_left t
+  by_course : {s t : State} {acts : List Act} → IsPromised s → (course : Course g s acts t) →
+      notes_left s ++ notes_made course ≡ notes_told acts ++ notes_left t
   by_course {s} kept no_call = append-nil (notes_left s)
   by_course {s} {t = u} kept (calls {acts = acts} {more = more} {t = t} before call after) =
       one_on s t u acts more (notes_made before) (by_course kept before) (by_call (promised kept before) call)

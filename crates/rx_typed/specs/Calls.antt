@@ -19,7 +19,8 @@ use Rattle.rx_note.specs.declared.note.Terminal.{Terminal}
 use Rattle.rx_event.specs.declared.event.Kind.{Kind}
 use Rattle.rx_event.specs.declared.event.Mode.{Mode}
 use Rattle.rx_book.specs.declared.answer.At.{At}
-use Rattle.rx_book.specs.Requests.{next_request, end_request, dispose_request, abort_request, fail_request, decline_request, open_request, using_request, hold_request}
+use Rattle.rx_book.specs.Requests.{next_request, end_request, dispose_request, abort_request, fail_request, decline_request}
+use Rattle.rx_book.specs.Requests.{open_request, using_request, hold_request}
 use Rattle.rx_book.specs.Requests.{apply_request, remove_request, lease_request, give_back_request, hub_request, connect_request, disconnect_request}
 use Rattle.rx_book.specs.Answers.{AnswersPlace, AnswersPlaceOrWant, AnswersWord, AnswersKey, AnswersResKey, AnswersLeaseKey}
 use Rattle.rx_book.specs.Answers.{AnswersOpened, AnswersOpenedUsing, AnswersHanded}
@@ -47,7 +48,8 @@ book_of (Some k) = Some k.book
 
 -- a new book: nothing happened in it
 abbrev pub new_book : (max_events : ℕ) → State
-new_book max_events = record { base = nothing_kept; history = []; limit = max_events; keys = []; res_keys = []; lease_keys = []; held = []; waiting = []; given = 0 }
+new_book max_events =
+    record { base = nothing_kept; history = []; limit = max_events; keys = []; res_keys = []; lease_keys = []; held = []; waiting = []; given = 0 }
 
 pub data IsMade (max_events : ℕ) (old new : Option State) (status : ℕ) : Type 0 where
   makes : old ≡ None → new ≡ Some (new_book max_events) → IsPromised (new_book max_events) → status ≡ 0 → IsMade max_events old new status
@@ -61,7 +63,8 @@ pub data IsCalled (Says : State → State → ℕ → Type 0) (IsBlank : Type 0)
   has_none : old ≡ None → new ≡ None → IsBlank → status ≡ 1 → IsCalled Says IsBlank old new status
 
 -- what the book answers, by `rx_book`, is what is told, and its status
-pub record IsAnswered {A E B : Type 0} (Answers : Result A E → Type 0) (shown : Result A E → B) (status_of : Result A E → ℕ) (told : B) (status : ℕ) : Type 0 where
+pub record IsAnswered {A E B : Type 0} (Answers : Result A E → Type 0) (shown : Result A E → B) (status_of : Result A E → ℕ) (told : B) (status : ℕ)
+    : Type 0 where
   pub answer : Result A E
   pub says : Answers answer
   pub tells : told ≡ shown answer
@@ -155,7 +158,8 @@ IsUsing g at tag used s t status = IsAnswered (AnswersOpenedUsing s (using_reque
 
 -- a node holds a token of this tag
 abbrev pub IsHold : Ghosts Token → RxNode → (tag : ℕ) → (held : RxRes) → State → State → (status : ℕ) → Type 0
-IsHold g node tag held s t status = IsAnswered (AnswersResKey s (hold_request g s (key_of node) (fresh tag)) (fresh tag) t) res_told status_given_back held status
+IsHold g node tag held s t status =
+    IsAnswered (AnswersResKey s (hold_request g s (key_of node) (fresh tag)) (fresh tag) t) res_told status_given_back held status
 
 -- a hub is connected by hand
 abbrev pub IsConnect : (hub : ℕ) → (connection : RxNode) → State → State → (status : ℕ) → Type 0

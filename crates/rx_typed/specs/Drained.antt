@@ -17,7 +17,8 @@ pub data AreMailsTaken (s : State) : List RxMail → State → Type 0 where
 -- these resources were taken, one after another
 pub data AreTaken (g : Ghosts Token) (s : State) : List RxTaken → State → Type 0 where
   none_taken : AreTaken g s [] s
-  one_taken : {before : List RxTaken} {t u : State} (taken : RxTaken) → AreTaken g s before t → IsPromised t → IsTaken g taken t u 0 → AreTaken g s (before ++ taken ∷ []) u
+  one_taken : {before : List RxTaken} {t u : State} (taken : RxTaken) → AreTaken g s before t → IsPromised t → IsTaken g taken t u 0
+      → AreTaken g s (before ++ taken ∷ []) u
 
 -- no note is left
 abbrev pub HasNoMail : State → Type 0

@@ -1,7 +1,7 @@
 -- What a call tells at once: the notes and the resources that wait, as many as the arrays have room for.
 use Rattle.std.specs.Prelude.{◌≡◌, ℕ}
 use Rattle.rx_resource.specs.declared.Resource.{Ghosts}
-use Rattle.rx_book.specs.State.{State}
+use Rattle.rx_book.specs.State.{State, IsPromised}
 use Rattle.rx_typed.specs.declared.token.Token.{Token}
 use Rattle.rx_typed.specs.declared.shapes.RxDrained.{RxDrained}
 use Rattle.rx_typed.specs.declared.shapes.RxTold.{RxTold}
@@ -19,8 +19,9 @@ pub record IsTold (g : Ghosts Token) (told told' : RxTold) (s t : State) : Type 
   pub drains : IsDrainedCall g told.mail told'.mail told.resource told'.resource (drained_of told') s t
   pub place : told'.place ≡ told.place
 
--- a call, and then what waits
+-- a call, behind which the book's promise stands, and then what waits
 pub record IsThenTold (g : Ghosts Token) (Says : State → State → ℕ → Type 0) (told told' : RxTold) (s t : State) (status : ℕ) : Type 0 where
   pub mid : State
   pub says : Says s mid status
+  pub promised : IsPromised mid
   pub drains : IsDrainedCall g told.mail told'.mail told.resource told'.resource (drained_of told') mid t

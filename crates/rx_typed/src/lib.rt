@@ -26,9 +26,9 @@
 
 mod codes;
 mod counts;
+mod course_laws;
 mod draining;
 mod dumping;
-mod laws;
 mod shapes;
 mod status;
 mod telling;
@@ -37,9 +37,9 @@ mod told;
 mod typed;
 
 pub use codes::{asked, kind_of, mode_of, place_at, terminal_of};
+pub use course_laws::{notes_are_told_once, resources_are_handed_back_once};
 pub use draining::drain;
 pub use dumping::no_event;
-pub use laws::{notes_are_told_once, resources_are_handed_back_once};
 pub use shapes::{
     RxCounts, RxDrained, RxEvent, RxLease, RxMail, RxNode, RxOpened, RxRes, RxTaken, RxTold,
     RxUsing, no_lease, no_mail, no_node, no_opened, no_res, no_taken, no_used,

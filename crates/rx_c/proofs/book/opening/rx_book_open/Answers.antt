@@ -3,7 +3,11 @@ use Rattle.rx_typed.specs.Calls.{calls, has_none, decodes, book_of}
 use Rattle.rx_c.proofs.book.opening.rx_book_open.Goals as goal
 
 pub returns-in_default-take : goal.returns-in_default-take
-returns-in_default-take c = decodes (sym c.asked.ensures ∙ c.in-Some.is) (has_none (ap book_of c.in_default-take.ensures.taken) (ap book_of c.in_default-take.ensures.left) c.no_opened-in_default-take.ensures refl)
+returns-in_default-take c =
+    decodes (sym c.asked.ensures ∙ c.in-Some.is)
+    (has_none (ap book_of c.in_default-take.ensures.taken) (ap book_of c.in_default-take.ensures.left) c.no_opened-in_default-take.ensures refl)
 
 pub returns : goal.returns
-returns c = rw (c.in-Some-take.ensures.taken, c.put.ensures.kept, ← c.deref_mut.ensures.value) (decodes (sym c.asked.ensures ∙ c.in-Some.is) (calls refl refl c.put.ensures.promised c.open-status.ensures))
+returns c =
+    rw (c.in-Some-take.ensures.taken, c.put.ensures.kept, ← c.deref_mut.ensures.value)
+    (decodes (sym c.asked.ensures ∙ c.in-Some.is) (calls refl refl c.put.ensures.promised c.open-status.ensures))

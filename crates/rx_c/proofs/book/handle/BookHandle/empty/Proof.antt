@@ -16,8 +16,7 @@ use denote.Steps.{nothing}
 use denote.Triple.Entry.{alive}
 use denote.Triple.Walked.{walk_of}
 use Rattle.std.proofs.raw_atomic.Walks.{proved_at, leaves}
-use Rattle.rx_c.proofs.Values.{alone, alone_good}
-use Rattle.rx_c.proofs.BookValues.{handle_in}
+use Rattle.rx_c.proofs.Values.{alone, alone_good, book_in}
 use Rattle.rx_typed.specs.contracts.typed.Typed as kept
 use Rattle.rx_c.specs.contracts.book.handle.BookHandle.empty.{ended, clauses}
 use Rattle.rx_c.specs.contracts.book.handle.BookHandle.empty.Key.{name as #self}
@@ -35,7 +34,7 @@ empty_spec 𝓤 𝓛 𝓜 𝓡 wired =
     ((c κs z.0.3).requires z.1) ∷ []) ∵
     split ! $ enter ! 𝓣.C 𝓣.Λ code.function [] Post $ alloc_all ! (λ l. pass_all ! refl tt $
     sets ! (agg ! (and_then ! (lit ! tt) (no_more !))) refl (alone_good null_ptr) $
-    nothing ! $ fpack ! (null_ptr ≡ null_ptr) (λ _. ftrue) refl $ handle_in ! null_ptr none $
+    nothing ! $ fpack ! (null_ptr ≡ null_ptr) (λ _. ftrue) refl $ book_in ! null_ptr none $
     use0 𝓛 (raw (fact 𝓤 Said)) (fact_i 𝓤 Said (emp 𝓤) refl) $ nothing ! $
     returns ! (look_at ! 0 refl) $ free_all ! refl $
     -- [nothing; the promise; the handle; the tokens; nothing; the premise]

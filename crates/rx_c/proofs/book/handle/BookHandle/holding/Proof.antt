@@ -20,8 +20,7 @@ use Rattle.std.proofs.raw_atomic.Walks.{proved_at, leaves}
 use Rattle.std.specs.contracts.alloc.Global as heap
 use Rattle.std.proofs.alloc.Global.TheLaws as heap_laws
 use Rattle.std.specs.contracts.impls.GlobalAllocator.TheImpl.{ghosts}
-use Rattle.rx_c.proofs.Values.{both, alone, alone_good, Loose, loose_good, loose_out}
-use Rattle.rx_c.proofs.BookValues.{handle_in}
+use Rattle.rx_c.proofs.Values.{both, alone, alone_good, Loose, loose_good, loose_out, book_in}
 use Rattle.rx_typed.specs.contracts.typed.Typed as kept
 use Rattle.rx_c.specs.contracts.book.handle.BookHandle.holding.{ended, clauses}
 use Rattle.rx_c.specs.contracts.book.handle.BookHandle.holding.Key.{name as #self}
@@ -50,7 +49,7 @@ holding_spec 𝓤 𝓛 𝓜 𝓡 wired =
     sets ! (of_opd ! (get_in ! (fld ! refl (stop !)) (sub ! 0 refl (whole !)))) refl (tt, tt) $
     sets ! (of_opd ! (get ! refl)) refl (tt, tt) $
     sets ! (agg ! (and_then ! (get ! refl) (no_more !))) refl (alone_good (block_ptr b o)) $
-    handle_in ! (block_ptr b o) one $
+    book_in ! (block_ptr b o) one $
     use0 𝓛 (raw (fact 𝓤 Said)) (fact_i 𝓤 Said (emp 𝓤) refl) $ nothing ! $ nothing ! $ fjoin ! $
     returns ! (look_at ! 0 refl) $ free_all ! refl $
     -- [nothing; the promise; the handle; the allocator; nothing; the tokens; the premise]

@@ -28,8 +28,7 @@ use Rattle.std.proofs.ResultValues.{and_tt}
 use Rattle.std.specs.contracts.alloc.Global as heap
 use Rattle.std.proofs.alloc.Global.TheLaws as heap_laws
 use Rattle.std.specs.contracts.impls.GlobalAllocator.TheImpl.{ghosts}
-use Rattle.rx_c.proofs.Values.{both, alone, alone_good, al, Loose, loose_good, loose_in, either}
-use Rattle.rx_c.proofs.BookValues.{Handle, handle_out}
+use Rattle.rx_c.proofs.Values.{both, alone, alone_good, al, Loose, loose_good, loose_in, Book, book_out, either}
 use Rattle.rx_typed.specs.contracts.typed.Typed as kept
 use Rattle.rx_c.specs.contracts.book.handle.BookHandle.into_loose.{ended, clauses}
 use Rattle.rx_c.specs.contracts.book.handle.BookHandle.into_loose.Key.{name as #self}
@@ -42,8 +41,8 @@ into_loose_spec 𝓤 𝓛 𝓜 𝓡 wired =
     let R : RattleType = kept.the_row in let Z : RattleType = heap.the_row in let LZ = heap_laws.the_row_laws in
     let To : RattleType = Loose R Z LZ ghosts in
     let hs : Stays ended.signature.params ended.kept =
-    (stay_dropped (plain (λ _. Handle)) yes, (stay_dropped (plain (λ _. Z)) yes, tt)) in
-    let goes = Goes-dropped 𝓛 0 (plain (λ _. Handle)) yes (λ κs x f. refl) in
+    (stay_dropped (plain (λ _. Book)) yes, (stay_dropped (plain (λ _. Z)) yes, tt)) in
+    let goes = Goes-dropped 𝓛 0 (plain (λ _. Book)) yes (λ κs x f. refl) in
     let spent = Goes-dropped 𝓛 0 (plain (λ _. Z)) yes (λ κs x f. refl) in
     proved_at 𝓛 ended hs c 𝓜 𝓡 (goes, (spent, tt))
     #self fn (code.unfolded 𝓤 𝓛.H 𝓜 𝓡 wired) (λ z are.
@@ -53,7 +52,7 @@ into_loose_spec 𝓤 𝓛 𝓜 𝓡 wired =
     let Run : List Val → SProp 𝓤 = λ ws. WpFn 𝓤 𝓛.H 𝓣.C 𝓣.Λ fn ws Post in
     qed 𝓛 ((raw (alive 𝓛 ended.signature κs qs) ⊛ ‵ (owns (types_at ended.signature.params κs) z.0.3 z.0.4)) ∷ raw
     ((c κs z.0.3).requires z.1) ∷ []) ∵
-    split ! $ move ! (1 ∷ []) $ fsplit3 ! $ handle_out ! v z.0.4.0 (λ ws. move ! (1 ∷ []) $
+    split ! $ move ! (1 ∷ []) $ fsplit3 ! $ book_out ! v z.0.4.0 (λ ws. move ! (1 ∷ []) $
     handle_tells (al R Z LZ ghosts) ! a z.0.4.1.0 (λ h ea fits. move ! (1 ∷ []) $
     -- [what the handle owns; the allocator; nothing; the tokens; the premise]
     either R a ! v.at v.kept
