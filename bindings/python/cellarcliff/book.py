@@ -75,6 +75,8 @@ class Calls(abc.ABC):
     name of the cause: `Gone` where a node is closed, `NotHeld`, `NoLease`, `TooMany`, `Full` and so on.
     """
 
+    #: How many hubs it may have.
+    most_hubs: int = 1024
     #: What is to be told, oldest first. The caller takes it.
     mail: Deque[Tuple[int, int, int]]
     #: The tags of resources that are to be released. The caller takes them, and each comes once.
@@ -127,7 +129,7 @@ class Calls(abc.ABC):
 
     @abc.abstractmethod
     def hub(self, mode: int) -> int:
-        """Makes a hub, AUTO or MANUAL, and answers its number; a book has 1,024 of them at most."""
+        """Makes a hub, AUTO or MANUAL, and answers its number; a book has `most_hubs` of them."""
 
     @abc.abstractmethod
     def connect(self, hub: int) -> Any:

@@ -16,7 +16,7 @@ from typing import Any, Callable, Iterable, Optional
 
 from ._engine import _hook, _print, current, use
 from ._observable import (Concat, ConnectableObservable, Created, Defer, Empty, FromIterable, Just, Merging, Never,
-                          Observable, Observer, Throw, Using, to_observable)
+                          Observable, Observer, Throw, Using, pipe, to_observable)
 from ._time import Timer
 
 __all__ = ["ConnectableObservable", "Observable", "Observer", "concat", "create", "current", "defer", "empty", "from_", "from_iterable",
@@ -125,12 +125,3 @@ def timer(duetime: Any, period: Any = None, scheduler: Any = None) -> Observable
 def interval(period: Any, scheduler: Any = None) -> Observable:
     """0, 1, 2 and so on, one each period, in seconds or as timedelta."""
     return Timer(period, period, scheduler)
-
-
-def pipe(*operators: Callable[[Any], Any]) -> Callable[[Any], Any]:
-    """The operators as one, from left to right."""
-    def compose(source: Any) -> Any:
-        for it in operators:
-            source = it(source)
-        return source
-    return compose

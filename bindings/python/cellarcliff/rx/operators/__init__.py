@@ -4,11 +4,11 @@ from __future__ import annotations
 from typing import Any, Callable, Optional
 
 from .._observable import (ENDING, HEARING, PLAIN, Concat, ConnectableObservable, Defer, Finally, Fn, FromIterable,
-                           Merging, Multicast, Observable, Published, RefCount, Stage, Until, counted, to_observable)
+                           Merging, Multicast, Observable, Published, RefCount, Stage, Until, counted, pipe, to_observable)
 
 __all__ = ["concat", "connect", "do", "do_action", "filter", "filter_indexed", "finally_action", "flat_map", "flat_map_indexed",
-           "flat_map_latest", "map", "map_indexed", "merge", "merge_all", "multicast", "pairwise", "publish", "ref_count", "scan",
-           "share", "skip", "start_with", "switch_latest", "take", "take_until", "take_while"]
+           "flat_map_latest", "map", "map_indexed", "merge", "merge_all", "multicast", "pairwise", "pipe", "publish", "ref_count",
+           "scan", "share", "skip", "start_with", "switch_latest", "take", "take_until", "take_while"]
 
 Operator = Callable[[Any], Observable]
 _NOTHING = object()
@@ -267,7 +267,8 @@ def finally_action(action: Callable[[], Any]) -> Operator:
 
 
 def _mapper(mapper: Any) -> Callable[[Any], Any]:
-    return mapper if callable(mapper) else lambda _: mapper
+    call: Callable[[Any], Any] = mapper if callable(mapper) else lambda _: mapper
+    return call
 
 
 def flat_map(mapper: Any = None) -> Operator:

@@ -13,9 +13,15 @@ import sys
 from datetime import datetime
 from typing import Any, Callable, List, Optional, Tuple
 
-from .._observable import Observable
+from .._observable import Makes, Observable, _create
 from ..disposable import CompositeDisposable, Disposable, SingleAssignmentDisposable
 from ..scheduler import Scheduler
+
+
+def __getattr__(name: str) -> Any:
+    if name in ("MockDisposable", "OnErrorPredicate", "OnNextPredicate", "is_prime"):
+        raise NotImplementedError(f"cellarcliff.rx.testing has no {name}: RxPY's own rx.testing drives this package as well")
+    raise AttributeError(f"module {__name__!r} has no attribute {name!r}")
 
 
 class _Notification:
@@ -213,8 +219,7 @@ class _Recording(Observable):
     def _open(self, at: Any) -> None:
         self._open_with(at, [])
 
-    def _open_with(self, at: Any, makes: List[Any]) -> bool:
-        from .._observable import _create
+    def _open_with(self, at: Any, makes: Makes) -> bool:
         _create(self._subscribe_core, at, makes)
         return True
 
