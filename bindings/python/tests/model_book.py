@@ -135,7 +135,7 @@ class ModelBook(Calls):
             if of.is_open(self._h, node) and getattr(of.at(self._h, node), "place", "") == "root":
                 self._make("dispose", node)
         for hub in of.hubs(self._h):
-            if of.open_connections(self._h, hub):
+            if of.at(self._h, hub) == of.Hub("manual") and of.open_connections(self._h, hub):
                 self._make("disconnect", hub)
 
     def finish(self):

@@ -121,7 +121,7 @@ class Model(Beside, unittest.TestCase):
         return model_book.ModelBook()
 
     def test_both_do_the_same(self):
-        self.courses(MANY // 2)
+        self.courses(MANY // 4)
 
 
 @unittest.skipUnless(os.environ.get("CELLARCLIFF_LIBRARY"), "without the library")
