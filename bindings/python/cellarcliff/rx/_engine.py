@@ -274,6 +274,15 @@ class Engine:
         self.book.checkpoint()
         self._events, self._checkpoint_at = 0, max(_CHECKPOINT, 4 * self.book.counts().nodes)
 
+    def _heard(self) -> None:
+        """The end of an event: what it told is taken, and the history does not grow. The lock is held."""
+        book = self.book
+        if book.mail or book.tags:
+            self._fill()
+        self._events += 3
+        if self._events > self._checkpoint_at:
+            self._checkpoint()
+
     def _first_of_all(self) -> None:
         """Does what comes before anybody is told."""
         while self._first:
@@ -429,13 +438,9 @@ class Engine:
                 if why.name not in ("Gone", "NothingOwed"):
                     raise
             finally:
-                if self.book.mail or self.book.tags:
-                    self._fill()
+                self._heard()
                 if code is not None:
                     del self._values[code]
-            self._events += 3
-            if self._events > self._checkpoint_at:
-                self._checkpoint()
         if self._first or self._projections:
             self._first_of_all()
 
@@ -454,11 +459,7 @@ class Engine:
             except Refused as why:
                 if why.name not in ("Gone", "NothingOwed", "NotConnected"):
                     raise
-            if self.book.mail or self.book.tags:
-                self._fill()
-            self._events += 3
-            if self._events > self._checkpoint_at:
-                self._checkpoint()
+            self._heard()
         if self._first or self._projections:
             self._first_of_all()
 
@@ -467,7 +468,7 @@ class Engine:
 
     def dispose(self, root: Root) -> None:
         """Unsubscribes; a second time is none."""
-        book, lock = self.book, self.lock
+        lock = self.lock
         if lock._is_owned():  # type: ignore[attr-defined]
             # a finalizer that runs in the midst of a call on the book; what is under way does it next
             self._first.append(lambda: self.dispose(root))
@@ -475,15 +476,11 @@ class Engine:
         with lock:
             self._roots.pop(root.number, None)
             try:
-                book.dispose(root.key)
+                self.book.dispose(root.key)
             except Refused as why:
                 if why.name != "Gone":
                     raise
-            if book.mail or book.tags:
-                self._fill()
-            self._events += 3
-            if self._events > self._checkpoint_at:
-                self._checkpoint()
+            self._heard()
         if self._first or self._projections:
             self._first_of_all()
 

@@ -159,11 +159,7 @@ class VirtualTimeScheduler(Scheduler):
 
     def schedule_absolute(self, duetime: Any, action: Any, state: Any = None) -> Any:
         whole = SingleAssignmentDisposable()
-
-        def act() -> None:
-            if not whole.is_disposed:
-                whole.disposable = self.invoke_action(action, state)
-        heapq.heappush(self._queue, (self.to_seconds(duetime), next(self._numbers), act))
+        heapq.heappush(self._queue, (self.to_seconds(duetime), next(self._numbers), self._into(whole, action, state)))
         return whole
 
     def _run(self, until: Optional[float]) -> None:
