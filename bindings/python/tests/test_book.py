@@ -3,6 +3,7 @@ back is the same."""
 import os
 import random
 import unittest
+from unittest import mock
 
 from cellarcliff import book as it
 from tests import model_book
@@ -155,6 +156,7 @@ class Books(Beside, unittest.TestCase):
                 book.next(leaf, number)
                 self.assertEqual(book.mail.popleft(), (root.number, it.NEXT, number))
 
+    @mock.patch.object(it, "_calls", None)
     def test_what_an_interrupted_call_told_is_taken_by_the_next(self):
         with it.Book() as book:
             root, _ = book.using(it.ROOT, None, 5)
