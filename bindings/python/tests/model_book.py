@@ -10,7 +10,7 @@ from collections import deque
 from cellarcliff.book import (AUTO, FLAT, INNER, LEAF, NEXT, NOTIFIER, ON_COMPLETED, ON_ERROR, PASS, PROJECT, ROOT, SOURCE, SUB, SWITCH,
                               UNTIL, Calls, Counts, Node, Refused)
 
-TOOLS = pathlib.Path(__file__).resolve().parents[3] / "tools"
+TOOLS = (pathlib.Path(__file__).parent / "../../../tools").resolve()
 PLACES = {ROOT: "root", SOURCE: "source", INNER: "inner", NOTIFIER: "notifier"}
 KINDS = {LEAF: "leaf", PASS: "pass", FLAT: "flat", SWITCH: "switch", UNTIL: "until", SUB: "sub"}
 NOTES = {"next": NEXT, "project": PROJECT, "completed": ON_COMPLETED, "error": ON_ERROR}
