@@ -283,8 +283,9 @@ class Manners(unittest.TestCase):
         self.assertEqual(len(source.observers), 0)
 
     def test_what_is_not_here_says_what_to_do(self):
-        for get in (lambda: ops.debounce, lambda: rx.zip, lambda: rx.subject.ReplaySubject,
-                    lambda: rx.scheduler.ThreadPoolScheduler):
+        for get in (lambda: ops.debounce, lambda: rx.zip, lambda: rx.subject.ReplaySubject, lambda: rx.scheduler.ThreadPoolScheduler,
+                    lambda: rx.disposable.ScheduledDisposable, lambda: rx.core.GroupedObservable, lambda: rx.testing.MockDisposable,
+                    lambda: rx.never()[1:], rx.never().__await__):
             with self.assertRaisesRegex(NotImplementedError, "RxPY|create"):
                 get()
         with self.assertRaises(NotImplementedError):

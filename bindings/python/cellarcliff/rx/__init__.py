@@ -33,8 +33,10 @@ _ELSEWHERE = frozenset((
 
 
 def __getattr__(name: str) -> Any:
-    if name in ("operators", "subject", "disposable", "scheduler", "core", "testing"):
+    if name in ("operators", "subject", "disposable", "scheduler", "core", "internal", "testing"):
         return importlib.import_module(f"{__name__}.{name}")
+    if name == "typing":
+        return importlib.import_module(f"{__name__}.core.typing")
     if name in _ELSEWHERE:
         raise NotImplementedError(
             f"cellarcliff.rx has no {name}(): an observable of RxPY may stand wherever one of this package may, so make it with "

@@ -14,6 +14,7 @@ from typing import Any, Callable, List, Optional, Sequence, Tuple
 from ..book import AUTO, FLAT, INNER, LEAF, MANUAL, NOTIFIER, PASS, ROOT, SOURCE, SUB, SWITCH, UNTIL, Refused
 from ._engine import BEHIND, NOW, SOON, At, Engine, Leaf, Root, current, here
 from .disposable import CompositeDisposable, Disposable
+from .internal import SequenceContainsNoElementsError
 from .scheduler import CurrentThreadScheduler
 
 
@@ -177,8 +178,16 @@ class Observable:
     def __add__(self, other: Any) -> "Observable":
         return Concat((self, other))
 
+    def __await__(self) -> Any:
+        raise NotImplementedError("an observable of cellarcliff.rx cannot be awaited: call run() in a thread, or pipe it into RxPY's "
+                                  "rx.operators.to_future()")
+
+    def __getitem__(self, key: Any) -> Any:
+        raise NotImplementedError("an observable of cellarcliff.rx has no slices: use skip() and take(), or RxPY's rx.operators.slice()")
+
     def run(self) -> Any:
-        """Subscribes, waits for the end, and answers the last item; raises the error that it ends with."""
+        """Subscribes, waits for the end, and answers the last item. Raises the error that it ends with, and
+        SequenceContainsNoElementsError where it ends without an item."""
         ended, last = threading.Event(), []  # type: Tuple[threading.Event, List[Any]]
         failed: List[Exception] = []
 
@@ -190,7 +199,7 @@ class Observable:
         if failed:
             raise failed[0]
         if not last:
-            raise Exception("Sequence contains no elements")
+            raise SequenceContainsNoElementsError()
         return last[0]
 
 

@@ -5,6 +5,7 @@ from typing import Any, Callable, Optional
 
 from .._observable import (ENDING, HEARING, PLAIN, Concat, ConnectableObservable, Defer, Finally, Fn, FromIterable,
                            Merging, Multicast, Observable, Published, RefCount, Stage, Until, counted, pipe, to_observable)
+from ..internal import ArgumentOutOfRangeException
 
 __all__ = ["concat", "connect", "do", "do_action", "filter", "filter_indexed", "finally_action", "flat_map", "flat_map_indexed",
            "flat_map_latest", "map", "map_indexed", "merge", "merge_all", "multicast", "pairwise", "pipe", "publish", "ref_count",
@@ -216,7 +217,7 @@ def scan(accumulator: Callable[[Any, Any], Any], seed: Any = _NOTHING) -> Operat
 def take(count: int) -> Operator:
     """The first items, and then the completion."""
     if count < 0:
-        raise ValueError("take: a count of 0 or more is expected")
+        raise ArgumentOutOfRangeException("take: a count of 0 or more is expected")
     return lambda source: Fn(source, lambda down: _Take(down, count), ENDING)
 
 
@@ -228,7 +229,7 @@ def take_while(predicate: Callable[[Any], Any], inclusive: bool = False) -> Oper
 def skip(count: int) -> Operator:
     """All but the first items."""
     if count < 0:
-        raise ValueError("skip: a count of 0 or more is expected")
+        raise ArgumentOutOfRangeException("skip: a count of 0 or more is expected")
     return lambda source: Fn(source, lambda down: _Skip(down, count), PLAIN)
 
 

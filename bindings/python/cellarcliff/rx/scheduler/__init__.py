@@ -12,6 +12,7 @@ from typing import Any, Callable, Union
 
 from .._engine import here
 from ..disposable import Disposable, MultipleAssignmentDisposable, SerialDisposable, SingleAssignmentDisposable
+from ..internal import WouldBlockException
 
 
 def __getattr__(name: str) -> Any:
@@ -101,7 +102,7 @@ class ImmediateScheduler(_Shared):
 
     def schedule_relative(self, duetime: RelativeTime, action: Action, state: Any = None) -> Any:
         if self.to_seconds(duetime) > 0:
-            raise RuntimeError("the immediate scheduler waits for nothing")
+            raise WouldBlockException()
         return self.invoke_action(action, state)
 
 
