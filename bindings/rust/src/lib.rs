@@ -23,6 +23,15 @@
 //! told it; what was held by a node that closed comes out of [`Book::take`], and is released by dropping it. A refused call changes
 //! nothing, and hands back what it was given. Dropping a book closes it and drops every resource that is left.
 //!
+//! Keys do not mix: one of a resource or a lease is none of a node, and that of another book is refused.
+//!
+//! ```compile_fail
+//! # use cellarcliff::{Book, Refusal, Res};
+//! fn dispose(book: &mut Book<u8, u8>, res: Res) -> Result<(), Refusal> {
+//!     book.dispose(res)
+//! }
+//! ```
+//!
 //! Not proved is this crate, which the tests try, and not what a caller does with a resource once it has it.
 #![deny(missing_docs)]
 
