@@ -66,7 +66,7 @@ class Mail(NamedTuple):
 
 class Counts(NamedTuple):
     """How much there is: open nodes; resources that are held, that wait, leases that are out; how many resources were
-    accepted and taken, and how many events there are since the last checkpoint."""
+    accepted and taken, and how many events there were, which a checkpoint does not make fewer."""
 
     nodes: int
     held: int

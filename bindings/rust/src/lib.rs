@@ -274,7 +274,7 @@ pub struct Counts {
     pub leases: u64,
     /// Resources that were ever accepted.
     pub accepted: u64,
-    /// Events since the last checkpoint.
+    /// Events that there were, which a checkpoint does not make fewer.
     pub events: u64,
 }
 
