@@ -103,7 +103,8 @@ def run(scenario: Scenario) -> str:
 
 def run_dump(scenario: Scenario) -> List[List[Any]]:
     """The history of the scenario, which `audit` judges."""
-    return json.loads(_answer("rx_run_dump", scenario))
+    events: List[List[Any]] = json.loads(_answer("rx_run_dump", scenario))
+    return events
 
 
 def picture(history: History, program: Union[str, Sequence[str]] = "rxpicture") -> str:

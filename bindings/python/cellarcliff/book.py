@@ -18,11 +18,20 @@ from __future__ import annotations
 
 import abc
 import ctypes
+import os
+import sys
 from collections import deque
 from ctypes import addressof, c_int64, c_size_t, c_uint8, c_uint32, c_uint64, c_void_p
 from typing import Any, Deque, Dict, NamedTuple, Optional, Tuple
 
 from . import _library
+
+_calls: Any = None  # the extension, which a wheel has; without it every call is made by ctypes
+if sys.version_info >= (3, 10) and not os.environ.get("CELLARCLIFF_CTYPES"):
+    try:
+        from . import _calls
+    except ImportError:
+        pass
 
 #: Places: at no node; and below one, as its source, as an inner observable that it owes, as its notifier.
 ROOT, SOURCE, INNER, NOTIFIER = range(4)
@@ -57,7 +66,7 @@ class Mail(NamedTuple):
 
 class Counts(NamedTuple):
     """How much there is: open nodes; resources that are held, that wait, leases that are out; how many resources were
-    accepted and taken, and how many events there are since the last checkpoint."""
+    accepted and taken, and how many events there were, which a checkpoint does not make fewer."""
 
     nodes: int
     held: int
@@ -75,6 +84,8 @@ class Calls(abc.ABC):
     name of the cause: `Gone` where a node is closed, `NotHeld`, `NoLease`, `TooMany`, `Full` and so on.
     """
 
+    #: How many hubs it may have.
+    most_hubs: int = 1024
     #: What is to be told, oldest first. The caller takes it.
     mail: Deque[Tuple[int, int, int]]
     #: The tags of resources that are to be released. The caller takes them, and each comes once.
@@ -127,7 +138,7 @@ class Calls(abc.ABC):
 
     @abc.abstractmethod
     def hub(self, mode: int) -> int:
-        """Makes a hub, AUTO or MANUAL, and answers its number; a book has 1,024 of them at most."""
+        """Makes a hub, AUTO or MANUAL, and answers its number; a book has `most_hubs` of them."""
 
     @abc.abstractmethod
     def connect(self, hub: int) -> Any:
@@ -218,12 +229,33 @@ class Lease(ctypes.Structure):
     __repr__, __eq__, __hash__ = Node.__repr__, Node.__eq__, Node.__hash__
 
 
+#: Of what the extension is given the addresses, in its order; and the calls that it makes then.
+_ADDRESSES = "open_told using_told hold next_told end_told abort_told fail_told decline_told dispose_told drain checkpoint".split()
+_FAST = "open open_using using hold hold_tag next end abort fail decline dispose".split()
+
+
+def _fast(kind: Any) -> Any:
+    """The same kind of key as the extension makes it, which ctypes takes as well."""
+    return type(kind.__name__, (_calls.Key,), {
+        "__slots__": (), "__doc__": kind.__doc__, "__repr__": kind.__repr__, "__eq__": kind.__eq__, "__hash__": kind.__hash__,
+        "_as_parameter_": property(lambda self: kind(self.slot, self.number))})
+
+
 _NONE = Node(0, 0)
 _ROOM = 4  # notes, and resources, that a call tells at once
 _MAIL, _RESOURCE = 3, 3 + 4 * _ROOM  # where they begin, in words: a note has four, a resource its number and its tag
 _TOLD_WORDS = _RESOURCE + 2 * _ROOM
 _MOST = 64  # that a drain takes
 _DONE, _NO_BOOK, _NOTHING, _NO_MEMORY, _SMALL, _CUT, _FULL = 0, 1, 2, 4, 7, 8, 16
+
+
+def _refuse(status: int) -> None:
+    """Raises what a status other than 0 stands for."""
+    if status == _NO_MEMORY:
+        raise MemoryError
+    if status == _NO_BOOK:
+        raise ValueError("the book is ended")
+    raise Refused(REFUSALS.get(status, f"status {status}"))
 
 
 class _Library:
@@ -268,6 +300,10 @@ class _Library:
         self.finish = call("finish")
         self.drop = library.rx_book_drop
         self.drop.restype, self.drop.argtypes = None, [c_void_p]
+        self.kinds = Node, Res, Lease
+        if _calls is not None:
+            self.kinds = _fast(Node), _fast(Res), _fast(Lease)
+            _calls.bind([ctypes.cast(getattr(library, f"rx_book_{name}"), c_void_p).value for name in _ADDRESSES])
 
     @classmethod
     def get(cls) -> "_Library":
@@ -297,8 +333,14 @@ class Book(Calls):
         self._mails, self._tags, self._drained = (c_int64 * (4 * _MOST))(), (c_uint64 * (2 * _MOST))(), (c_uint64 * 2)()
         self._open, self._using, self._hold = library.open, library.using, library.hold
         self._next, self._end, self._dispose = library.next, library.end, library.dispose
+        self._node, self._res, self._lease = library.kinds
         if library.new(self._at, max_events):
             raise MemoryError
+        if _calls is not None:
+            core = _calls.Core(self._at, self._handle, self.mail.append, self.tags.append, _refuse, self._node, self._res)
+            for name in _FAST:
+                if getattr(type(self), name) is getattr(Book, name):  # unless a subclass has its own
+                    setattr(self, name, getattr(core, name))
 
     def __enter__(self) -> "Book":
         return self
@@ -312,13 +354,6 @@ class Book(Calls):
             self._library.drop(self._at)  # of what keeps nothing any more it is nothing
 
     # what every call ends with
-
-    def _refuse(self, status: int) -> None:
-        if status == _NO_MEMORY:
-            raise MemoryError
-        if status == _NO_BOOK:
-            raise ValueError("the book is ended")
-        raise Refused(REFUSALS.get(status, f"status {status}"))
 
     def _hear(self, status: int) -> None:
         """Takes what the call told, whatever its status is."""
@@ -338,7 +373,7 @@ class Book(Calls):
         if mails == _ROOM or resources == _ROOM:
             self._drain()
         if status:
-            self._refuse(status)
+            _refuse(status)
 
     def _drain(self) -> None:
         """Takes what else waits."""
@@ -355,8 +390,10 @@ class Book(Calls):
 
     def _again(self, status: int, call: Any, *words: Any) -> int:
         """Makes a call again that was refused, if it found the history full by its age, behind a checkpoint."""
-        if status == _FULL and self._library.checkpoint(self._at, self._made) == _DONE:
-            status = call(self._at, *words)
+        if status == _FULL:
+            self._hear(_DONE)
+            if self._library.checkpoint(self._at, self._made) == _DONE:
+                status = call(self._at, *words)
         return status
 
     # opening
@@ -390,7 +427,7 @@ class Book(Calls):
         if status:
             status = self._again(status, self._hold, node, tag, self._made)
             if status:
-                self._refuse(status)
+                _refuse(status)
 
     def hold(self, node: Any, tag: int) -> Any:
         self.hold_tag(node, tag)
@@ -437,7 +474,7 @@ class Book(Calls):
 
     def _word(self, status: int) -> int:
         if status:
-            self._refuse(status)
+            _refuse(status)
         return self._keys[0]
 
     def hub(self, mode: int) -> int:
@@ -445,7 +482,7 @@ class Book(Calls):
 
     def connect(self, hub: int) -> Any:
         slot = self._word(self._library.connect(self._at, hub, self._made))
-        return Node(slot, self._keys[1])
+        return self._node(slot, self._keys[1])
 
     def disconnect(self, hub: int) -> None:
         self._event(self._library.disconnect, hub)
@@ -458,7 +495,7 @@ class Book(Calls):
 
     def lease(self, res: Any) -> Any:
         slot = self._word(self._library.lease(self._at, res, self._made))
-        return Lease(slot, self._keys[1])
+        return self._lease(slot, self._keys[1])
 
     def give_back(self, lease: Any) -> None:
         self._event(self._library.give_back, lease)
@@ -501,4 +538,4 @@ class Book(Calls):
     def finish(self) -> None:
         status = self._library.finish(self._at)
         if status:
-            self._refuse(status)
+            _refuse(status)

@@ -131,7 +131,7 @@ class _InProcess:
             self._library.rx_live_drop(ctypes.byref(self._handle))
 
 
-class Book(contextlib.AbstractContextManager):
+class Book:
     """A live book. `program` is the command that starts one; without it the book is in this process.
 
     Leaving `with` closes the book and releases the rest, also where the book can no longer say what that is, as where its
@@ -227,7 +227,7 @@ class Book(contextlib.AbstractContextManager):
             if asked.release is not None:
                 self._held[words["res"]] = asked.release
             if words["do"] in ("open", "using"):
-                self._observers.pop(words.get("name"), None)  # a name that is given again is not heard by whom it had
+                self._observers.pop(words["name"], None)  # a name that is given again is not heard by whom it had
                 if asked.observer is not None:
                     self._observers[words["name"]] = asked.observer
         self._is_late = "late" in answer
@@ -237,7 +237,7 @@ class Book(contextlib.AbstractContextManager):
         for res in answer.get("release", ()):
             self._held.pop(res, None)
         if words["do"] == "dispose" and "ok" in answer and not self._is_late:
-            self._observers.pop(words.get("node"), None)
+            self._observers.pop(words["node"], None)
 
     def _sweep(self) -> None:
         """Lets go of the observers of nodes that are closed: of roots all but those that closed unheard are gone already, but
@@ -274,6 +274,9 @@ class Book(contextlib.AbstractContextManager):
                 self._serving.release()
         if failures:
             raise failures[0]
+
+    def __enter__(self) -> "Book":
+        return self
 
     def __exit__(self, *_: Any) -> None:
         last = _Asked({"do": "close"}, None, None)

@@ -1,12 +1,13 @@
 """What the tests of operators are run over: RxPY where it is installed, this package, and this package under RxPY's own clock.
 
-The package stands over the book in Python, or with CELLARCLIFF_LIBRARY=1 over librx.
+The package stands over the book in Python, or with CELLARCLIFF_LIBRARY=1 over librx; in a checkout once more over the model.
 """
 import importlib
 import os
 from types import SimpleNamespace
 
 from cellarcliff import rx
+from tests import model_book
 
 try:
     import rx as rxpy
@@ -34,8 +35,8 @@ def _kit(name, package, testing, engine):
     return kit
 
 
-def ours(testing="cellarcliff.rx.testing", name="cellarcliff"):
-    return _kit(name, "cellarcliff.rx", testing, rx.use(fresh_book()))
+def ours(testing="cellarcliff.rx.testing", name="cellarcliff", book=None):
+    return _kit(name, "cellarcliff.rx", testing, rx.use(book or fresh_book()))
 
 
 def theirs():
@@ -49,3 +50,6 @@ def kits():
     yield ours
     if rxpy is not None:
         yield lambda: ours("rx.testing", "cellarcliff, RxPY's TestScheduler")
+    model = model_book.find()
+    if model is not None:
+        yield lambda: ours(name="cellarcliff over the model", book=model())

@@ -1,9 +1,12 @@
-"""The book over librx beside the book in Python, call by call at random: what is refused, told and handed back is the same."""
+"""The book in Python beside the model, and beside the one over librx, call by call at random: what is refused, told and handed
+back is the same."""
 import os
 import random
 import unittest
+from unittest import mock
 
 from cellarcliff import book as it
+from tests import model_book
 from tests.fake_book import FakeBook
 
 MANY = int(os.environ.get("CELLARCLIFF_PIPELINES", "400"))
@@ -16,8 +19,9 @@ class Pair:
         self.real, self.fake = real, fake
 
 
-@unittest.skipUnless(os.environ.get("CELLARCLIFF_LIBRARY"), "without the library")
-class Books(unittest.TestCase):
+class Beside:
+    """What the tests of two books have in common: `make` makes one, to which the book in Python is compared."""
+
     def both(self, name, *words):
         """Makes the call on both, and compares; answers pairs of what they answer, or None where it is refused."""
         answers = []
@@ -105,11 +109,29 @@ class Books(unittest.TestCase):
         self.both("close")
         self.assertEqual(self.real.counts()[:4], (0, 0, 0, 0))
 
-    def test_both_do_the_same(self):
-        for seed in range(MANY):
-            self.fake = FakeBook()
-            with it.Book() as self.real, self.subTest(seed):
+    def courses(self, many):
+        for seed in range(many):
+            self.real, self.fake = self.make(), FakeBook()
+            with self.subTest(seed):
                 self.course(random.Random(seed))
+
+
+@unittest.skipIf(model_book.find() is None, "without the model")
+class Model(Beside, unittest.TestCase):
+    def make(self):
+        return model_book.ModelBook()
+
+    def test_both_do_the_same(self):
+        self.courses(MANY // 4)
+
+
+@unittest.skipUnless(os.environ.get("CELLARCLIFF_LIBRARY"), "without the library")
+class Books(Beside, unittest.TestCase):
+    def make(self):
+        return it.Book()
+
+    def test_both_do_the_same(self):
+        self.courses(MANY)
 
     def test_many_at_once(self):
         with it.Book() as book:
@@ -134,6 +156,7 @@ class Books(unittest.TestCase):
                 book.next(leaf, number)
                 self.assertEqual(book.mail.popleft(), (root.number, it.NEXT, number))
 
+    @mock.patch.object(it, "_calls", None)
     def test_what_an_interrupted_call_told_is_taken_by_the_next(self):
         with it.Book() as book:
             root, _ = book.using(it.ROOT, None, 5)

@@ -76,6 +76,14 @@ def an_exchange_between_subscribers(k, told):
         source.on_next(value)
 
 
+def a_shared_source_ends(k, told):
+    subject = k.Subject()
+    shared = subject.pipe(k.ops.share())
+    shared.pipe(k.ops.start_with(0)).subscribe(None, None, lambda: told.append("with an operator behind the share"))
+    shared.subscribe(None, None, lambda: told.append("without"))
+    subject.on_completed()
+
+
 def map_indexed_twice(k, told):
     indexed = k.rx.of("a").pipe(k.ops.map_indexed(lambda value, index: index))
     for _ in range(2):
@@ -102,6 +110,7 @@ ROWS = {
     a_share_that_has_ended: ([1, "completed", "completed"], [1, "completed", 1, "completed"]),
     a_publish_that_has_ended: (["completed"], []),
     an_exchange_between_subscribers: (["made", "x", "released", "made", "y"], ["made", "x", "y"]),
+    a_shared_source_ends: (["with an operator behind the share", "without"], ["without", "with an operator behind the share"]),
     map_indexed_twice: ([0, 1], [0, 0]),
     ref_count_of_one_that_is_connected: (["subscribed"], ["subscribed", "subscribed"]),
     one_of_a_group_raises: (["a", "raised"], ["a", "b", "raised"]),

@@ -8,7 +8,7 @@ import unittest
 
 from cellarcliff.live import Book, Refused
 
-PROGRAM = [sys.executable, "-S", str(pathlib.Path(__file__).resolve().parent / "fake_live.py")]
+PROGRAM = [sys.executable, "-B", str(pathlib.Path(__file__).resolve().parent / "fake_live.py")]
 
 
 class Interrupt(Exception):

@@ -12,6 +12,18 @@ from cellarcliff.rx.subject import Subject
 from tests.kits import fresh_book, rxpy
 
 
+def emitting(subject, told):
+    """A thread that emits thousands of items, of which the first was told."""
+    def emit():
+        for value in range(3000):
+            subject.on_next(value)
+    thread = threading.Thread(target=emit)
+    thread.start()
+    while not told:
+        time.sleep(0.0001)
+    return thread
+
+
 class Manners(unittest.TestCase):
     def setUp(self):
         self.engine = rx.use(fresh_book())
@@ -72,14 +84,7 @@ class Manners(unittest.TestCase):
     def test_nothing_is_told_after_a_disposal(self):
         subject, told = Subject(), []
         subscription = subject.subscribe(told.append)
-
-        def emit():
-            for value in range(3000):
-                subject.on_next(value)
-        thread = threading.Thread(target=emit)
-        thread.start()
-        while not told:
-            time.sleep(0.0001)
+        thread = emitting(subject, told)
         subscription.dispose()
         seen = len(told)
         thread.join()
@@ -90,14 +95,7 @@ class Manners(unittest.TestCase):
         told, subject = [], Subject()
         pipeline = rx.using(lambda: Disposable(lambda: told.append("released")), lambda _: subject)
         subscription = pipeline.subscribe(told.append)
-
-        def emit():
-            for value in range(2000):
-                subject.on_next(value)
-        thread = threading.Thread(target=emit)
-        thread.start()
-        while not told:
-            time.sleep(0.0001)
+        thread = emitting(subject, told)
         subscription.dispose()
         thread.join()
         self.assertEqual(told.index("released"), len(told) - 1)
@@ -285,8 +283,9 @@ class Manners(unittest.TestCase):
         self.assertEqual(len(source.observers), 0)
 
     def test_what_is_not_here_says_what_to_do(self):
-        for get in (lambda: ops.debounce, lambda: rx.zip, lambda: rx.subject.ReplaySubject,
-                    lambda: rx.scheduler.ThreadPoolScheduler):
+        for get in (lambda: ops.debounce, lambda: rx.zip, lambda: rx.subject.ReplaySubject, lambda: rx.scheduler.ThreadPoolScheduler,
+                    lambda: rx.disposable.ScheduledDisposable, lambda: rx.core.GroupedObservable, lambda: rx.testing.MockDisposable,
+                    lambda: rx.never()[1:], rx.never().__await__):
             with self.assertRaisesRegex(NotImplementedError, "RxPY|create"):
                 get()
         with self.assertRaises(NotImplementedError):

@@ -96,6 +96,7 @@ extern "C" {
     pub fn rx_book_lease(book: *mut Handle, res: Key, lease: *mut Key) -> u8;
     pub fn rx_book_give_back_told(book: *mut Handle, lease: Key, told: *mut Told) -> u8;
     pub fn rx_book_drain(book: *mut Handle, mails: *mut Mail, room: usize, resources: *mut Taken, others: usize, drained: *mut Drained) -> u8;
+    pub fn rx_book_is_held(book: *mut Handle, res: Key, is_held: *mut u8) -> u8;
     pub fn rx_book_is_open(book: *mut Handle, node: Key, is_open: *mut u8) -> u8;
     pub fn rx_book_owed(book: *mut Handle, merging: Key, count: *mut u64) -> u8;
     pub fn rx_book_counts(book: *mut Handle, counts: *mut Counts) -> u8;

@@ -23,6 +23,15 @@
 //! told it; what was held by a node that closed comes out of [`Book::take`], and is released by dropping it. A refused call changes
 //! nothing, and hands back what it was given. Dropping a book closes it and drops every resource that is left.
 //!
+//! Keys do not mix: one of a resource or a lease is none of a node, and that of another book is refused.
+//!
+//! ```compile_fail
+//! # use cellarcliff::{Book, Refusal, Res};
+//! fn dispose(book: &mut Book<u8, u8>, res: Res) -> Result<(), Refusal> {
+//!     book.dispose(res)
+//! }
+//! ```
+//!
 //! Not proved is this crate, which the tests try, and not what a caller does with a resource once it has it.
 #![deny(missing_docs)]
 
@@ -31,24 +40,28 @@ mod ffi;
 use ffi::{Handle, Told};
 use std::collections::VecDeque;
 use std::fmt;
+use std::sync::atomic::{AtomicU64, Ordering};
 
 macro_rules! key {
     ($(#[$doc:meta])* $name:ident) => {
         $(#[$doc])*
         #[derive(Clone, Copy, Debug, PartialEq, Eq, Hash)]
-        pub struct $name(ffi::Key);
+        pub struct $name {
+            key: ffi::Key,
+            book: u64,
+        }
 
         impl $name {
-            /// The place of the event that made it, which is given once.
+            /// The place of the event that made it, which its book gives once.
             pub fn number(self) -> u64 {
-                self.0.number
+                self.key.number
             }
         }
     };
 }
 
 key! {
-    /// The key of a node: a plain value, which is refused once the node is closed.
+    /// The key of a node: a plain value, which is refused once the node is closed, and by every book but its own.
     Node
 }
 key! {
@@ -61,11 +74,15 @@ key! {
 pub struct Res {
     key: ffi::Key,
     tag: u64,
+    book: u64,
 }
 
 /// A hub, which shares one source among its subscribers.
 #[derive(Clone, Copy, Debug, PartialEq, Eq, Hash)]
-pub struct Hub(u64);
+pub struct Hub {
+    number: u64,
+    book: u64,
+}
 
 /// Where a node is opened.
 #[derive(Clone, Copy, Debug, PartialEq, Eq)]
@@ -257,7 +274,7 @@ pub struct Counts {
     pub leases: u64,
     /// Resources that were ever accepted.
     pub accepted: u64,
-    /// Events since the last checkpoint.
+    /// Events that there were, which a checkpoint does not make fewer.
     pub events: u64,
 }
 
@@ -266,6 +283,7 @@ pub struct Counts {
 /// It may go to another thread where `T` and `R` may. Threads that share one put it into a `Mutex`: a call takes some hundred
 /// nanoseconds, and what it told is read, and resources are dropped, outside the lock.
 pub struct Book<T, R> {
+    id: u64, // of which its keys have a copy
     handle: Handle,
     told: Told,
     mail: VecDeque<Mail<T>>,
@@ -276,6 +294,11 @@ pub struct Book<T, R> {
 
 // SAFETY: the library keeps nothing of a thread's, as is proved of its handle; the rest is T and R.
 unsafe impl<T: Send, R: Send> Send for Book<T, R> {}
+
+static BOOKS: AtomicU64 = AtomicU64::new(1);
+
+// What no key of the library is: it refuses a call on it, as it does one on what is gone.
+const FOREIGN: u64 = u64::MAX;
 
 impl<T: Clone, R> Book<T, R> {
     /// A new book. Its history is bounded by memory alone, since it makes checkpoints by itself.
@@ -289,6 +312,7 @@ impl<T: Clone, R> Book<T, R> {
         // SAFETY: the handle is zeros, and lives.
         match unsafe { ffi::rx_book_new(&mut handle, max_events) } {
             0 => Ok(Book {
+                id: BOOKS.fetch_add(1, Ordering::Relaxed),
                 handle,
                 told: Told::default(),
                 mail: VecDeque::new(),
@@ -378,37 +402,63 @@ impl<T: Clone, R> Book<T, R> {
         })
     }
 
-    fn place(at: At) -> (u8, ffi::Key) {
+    // The key of a node, a resource or a lease; of another book it is none.
+    fn own(&self, key: ffi::Key, book: u64) -> ffi::Key {
+        if book == self.id {
+            key
+        } else {
+            ffi::Key { slot: FOREIGN, number: FOREIGN }
+        }
+    }
+
+    fn node(&self, node: Node) -> ffi::Key {
+        self.own(node.key, node.book)
+    }
+
+    fn hub_number(&self, hub: Hub) -> u64 {
+        if hub.book == self.id {
+            hub.number
+        } else {
+            FOREIGN
+        }
+    }
+
+    fn made(&self, key: ffi::Key) -> Node {
+        Node { key, book: self.id }
+    }
+
+    fn place(&self, at: At) -> (u8, ffi::Key) {
         match at {
             At::Root => (0, ffi::Key::default()),
-            At::Source(node) => (1, node.0),
-            At::Inner(node) => (2, node.0),
-            At::Notifier(node) => (3, node.0),
+            At::Source(node) => (1, self.node(node)),
+            At::Inner(node) => (2, self.node(node)),
+            At::Notifier(node) => (3, self.node(node)),
         }
     }
 
     /// Opens a node.
     pub fn open(&mut self, at: At, kind: Kind) -> Result<Opened, Refusal> {
-        let (place, above) = Self::place(at);
+        let (place, above) = self.place(at);
         let (kind, hub) = match kind {
             Kind::Leaf => (0, 0),
             Kind::Pass => (1, 0),
             Kind::Flat => (2, 0),
             Kind::Switch => (3, 0),
             Kind::Until => (4, 0),
-            Kind::Sub(hub) => (5, hub.0),
+            Kind::Sub(hub) => (5, self.hub_number(hub)),
         };
         let opened = std::cell::Cell::new(ffi::Opened::default());
         // SAFETY: all of these live and are apart.
         let status = self.call(|handle, told| unsafe { ffi::rx_book_open_told(handle, place, above, kind, hub, opened.as_ptr(), told) });
         self.hear(status, None).map_err(|it| it.why)?;
         let opened = opened.get();
-        Ok(Opened { node: Node(opened.node), connection: (opened.is_connected == 1).then_some(Node(opened.connection)) })
+        let connection = (opened.is_connected == 1).then_some(self.made(opened.connection));
+        Ok(Opened { node: self.made(opened.node), connection })
     }
 
     /// Opens a mirroring node that holds the resource; refused it hands that back.
     pub fn using(&mut self, at: At, resource: R) -> Result<Using, Refused<R>> {
-        let (place, above) = Self::place(at);
+        let (place, above) = self.place(at);
         let tag = self.tag();
         let used = std::cell::Cell::new(ffi::Using::default());
         // SAFETY: all of these live and are apart.
@@ -418,18 +468,19 @@ impl<T: Clone, R> Book<T, R> {
             return Err(Refused { why: refused.why, back: resource });
         }
         self.resources[tag as usize] = Some(resource);
-        Ok(Using { node: Node(used.get().node), res: Res { key: used.get().res, tag } })
+        Ok(Using { node: self.made(used.get().node), res: Res { key: used.get().res, tag, book: self.id } })
     }
 
     /// Lets a node hold the resource; refused it hands that back.
     pub fn hold(&mut self, node: Node, resource: R) -> Result<Res, Refused<R>> {
         let tag = self.tag();
         let held = std::cell::Cell::new(ffi::Key::default());
+        let node = self.node(node);
         // SAFETY: these live and are apart.
-        match self.call(|handle, _| unsafe { ffi::rx_book_hold(handle, node.0, tag, held.as_ptr()) }) {
+        match self.call(|handle, _| unsafe { ffi::rx_book_hold(handle, node, tag, held.as_ptr()) }) {
             0 => {
                 self.resources[tag as usize] = Some(resource);
-                Ok(Res { key: held.get(), tag })
+                Ok(Res { key: held.get(), tag, book: self.id })
             }
             status => {
                 self.free.push(tag);
@@ -440,8 +491,9 @@ impl<T: Clone, R> Book<T, R> {
 
     /// The leaf emits the item; refused it hands that back.
     pub fn next(&mut self, leaf: Node, item: T) -> Result<(), Refused<T>> {
+        let leaf = self.node(leaf);
         // SAFETY: these live and are apart; so in the calls below.
-        let status = self.call(|handle, told| unsafe { ffi::rx_book_next_told(handle, leaf.0, 0, told) });
+        let status = self.call(|handle, told| unsafe { ffi::rx_book_next_told(handle, leaf, 0, told) });
         self.hear(status, Some(item)).map_err(|it| Refused { why: it.why, back: it.back.expect("a refused item is told to nobody") })
     }
 
@@ -451,34 +503,39 @@ impl<T: Clone, R> Book<T, R> {
             Terminal::Completed => (0, 0),
             Terminal::Error(code) => (1, code),
         };
-        self.plainly(|handle, told| unsafe { ffi::rx_book_end_told(handle, leaf.0, how, error, told) })
+        let leaf = self.node(leaf);
+        self.plainly(|handle, told| unsafe { ffi::rx_book_end_told(handle, leaf, how, error, told) })
     }
 
     /// A node that is no leaf, and has none below it, fails.
     pub fn abort(&mut self, node: Node, error: u32) -> Result<(), Refusal> {
-        self.plainly(|handle, told| unsafe { ffi::rx_book_abort_told(handle, node.0, error, told) })
+        let node = self.node(node);
+        self.plainly(|handle, told| unsafe { ffi::rx_book_abort_told(handle, node, error, told) })
     }
 
     /// A FlatMap or a Switch fails in the place of an inner observable that it owes.
     pub fn fail(&mut self, merging: Node, error: u32) -> Result<(), Refusal> {
-        self.plainly(|handle, told| unsafe { ffi::rx_book_fail_told(handle, merging.0, error, told) })
+        let merging = self.node(merging);
+        self.plainly(|handle, told| unsafe { ffi::rx_book_fail_told(handle, merging, error, told) })
     }
 
     /// A FlatMap or a Switch has no inner observable for an item.
     pub fn decline(&mut self, merging: Node) -> Result<(), Refusal> {
-        self.plainly(|handle, told| unsafe { ffi::rx_book_decline_told(handle, merging.0, told) })
+        let merging = self.node(merging);
+        self.plainly(|handle, told| unsafe { ffi::rx_book_decline_told(handle, merging, told) })
     }
 
     /// Unsubscribes a root.
     pub fn dispose(&mut self, root: Node) -> Result<(), Refusal> {
-        self.plainly(|handle, told| unsafe { ffi::rx_book_dispose_told(handle, root.0, told) })
+        let root = self.node(root);
+        self.plainly(|handle, told| unsafe { ffi::rx_book_dispose_told(handle, root, told) })
     }
 
     /// Makes a hub; there are 1,024 at most.
     pub fn hub(&mut self, mode: Mode) -> Result<Hub, Refusal> {
         let number = std::cell::Cell::new(0);
         match self.call(|handle, _| unsafe { ffi::rx_book_hub(handle, (mode == Mode::Manual) as u8, number.as_ptr()) }) {
-            0 => Ok(Hub(number.get())),
+            0 => Ok(Hub { number: number.get(), book: self.id }),
             status => Err(Refusal::of(status)),
         }
     }
@@ -486,21 +543,24 @@ impl<T: Clone, R> Book<T, R> {
     /// Connects a hub of mode `Manual`: the connection, at whose source the shared observable is opened.
     pub fn connect(&mut self, hub: Hub) -> Result<Node, Refusal> {
         let key = std::cell::Cell::new(ffi::Key::default());
-        match self.call(|handle, _| unsafe { ffi::rx_book_connect(handle, hub.0, key.as_ptr()) }) {
-            0 => Ok(Node(key.get())),
+        let hub = self.hub_number(hub);
+        match self.call(|handle, _| unsafe { ffi::rx_book_connect(handle, hub, key.as_ptr()) }) {
+            0 => Ok(self.made(key.get())),
             status => Err(Refusal::of(status)),
         }
     }
 
     /// Disconnects a hub of mode `Manual`.
     pub fn disconnect(&mut self, hub: Hub) -> Result<(), Refusal> {
-        self.plainly(|handle, told| unsafe { ffi::rx_book_disconnect_told(handle, hub.0, told) })
+        let hub = self.hub_number(hub);
+        self.plainly(|handle, told| unsafe { ffi::rx_book_disconnect_told(handle, hub, told) })
     }
 
     /// Uses a resource that is held.
     pub fn apply<A>(&mut self, res: Res, using: impl FnOnce(&mut R) -> A) -> Result<A, Refusal> {
         let answer = std::cell::Cell::new(0);
-        match self.call(|handle, _| unsafe { ffi::rx_book_apply(handle, res.key, res.tag, answer.as_ptr()) }) {
+        let held = self.own(res.key, res.book);
+        match self.call(|handle, _| unsafe { ffi::rx_book_apply(handle, held, res.tag, answer.as_ptr()) }) {
             0 => Ok(using(self.resources[answer.get() as usize].as_mut().expect("what is held is here"))),
             status => Err(Refusal::of(status)),
         }
@@ -508,21 +568,24 @@ impl<T: Clone, R> Book<T, R> {
 
     /// Takes a resource from its node.
     pub fn remove(&mut self, res: Res) -> Result<(), Refusal> {
-        self.plainly(|handle, told| unsafe { ffi::rx_book_remove_told(handle, res.key, told) })
+        let held = self.own(res.key, res.book);
+        self.plainly(|handle, told| unsafe { ffi::rx_book_remove_told(handle, held, told) })
     }
 
     /// Gives out a lease, before whose return the resource is not released.
     pub fn lease(&mut self, res: Res) -> Result<Lease, Refusal> {
         let key = std::cell::Cell::new(ffi::Key::default());
-        match self.call(|handle, _| unsafe { ffi::rx_book_lease(handle, res.key, key.as_ptr()) }) {
-            0 => Ok(Lease(key.get())),
+        let held = self.own(res.key, res.book);
+        match self.call(|handle, _| unsafe { ffi::rx_book_lease(handle, held, key.as_ptr()) }) {
+            0 => Ok(Lease { key: key.get(), book: self.id }),
             status => Err(Refusal::of(status)),
         }
     }
 
     /// Takes a lease back.
     pub fn give_back(&mut self, lease: Lease) -> Result<(), Refusal> {
-        self.plainly(|handle, told| unsafe { ffi::rx_book_give_back_told(handle, lease.0, told) })
+        let lease = self.own(lease.key, lease.book);
+        self.plainly(|handle, told| unsafe { ffi::rx_book_give_back_told(handle, lease, told) })
     }
 
     /// The next note.
@@ -538,14 +601,24 @@ impl<T: Clone, R> Book<T, R> {
     /// Whether the node is open.
     pub fn is_open(&mut self, node: Node) -> bool {
         let mut is_open = 0;
-        unsafe { ffi::rx_book_is_open(&mut self.handle, node.0, &mut is_open) };
+        let node = self.node(node);
+        unsafe { ffi::rx_book_is_open(&mut self.handle, node, &mut is_open) };
         is_open == 1
+    }
+
+    /// Whether the resource is held, by its node or by a lease.
+    pub fn is_held(&mut self, res: Res) -> bool {
+        let mut is_held = 0;
+        let held = self.own(res.key, res.book);
+        unsafe { ffi::rx_book_is_held(&mut self.handle, held, &mut is_held) };
+        is_held == 1
     }
 
     /// How many items an open FlatMap or Switch is owed an inner observable for.
     pub fn owed(&mut self, merging: Node) -> Option<u64> {
         let mut count = 0;
-        (unsafe { ffi::rx_book_owed(&mut self.handle, merging.0, &mut count) } == 0).then_some(count)
+        let merging = self.node(merging);
+        (unsafe { ffi::rx_book_owed(&mut self.handle, merging, &mut count) } == 0).then_some(count)
     }
 
     /// How much there is.

@@ -49,6 +49,25 @@ fn a_refused_call_hands_back_what_it_was_given() -> Result<(), Box<dyn std::erro
 }
 
 #[test]
+fn a_key_of_another_book_is_refused() -> Result<(), Box<dyn std::error::Error>> {
+    let (mut book, mut other) = (Book::<u8, u32>::new()?, Book::<u8, u32>::new()?);
+    let (mine, theirs) = (book.using(At::Root, 1)?, other.using(At::Root, 2)?);
+    let (hub, lease) = (other.hub(Mode::Manual)?, other.lease(theirs.res)?);
+    assert_eq!(mine.node.number(), theirs.node.number());
+    assert!(mine.node != theirs.node && !book.is_open(theirs.node) && !book.is_held(theirs.res));
+    assert_eq!(book.dispose(theirs.node), Err(Refusal::Gone));
+    assert_eq!(book.open(At::Source(theirs.node), Kind::Leaf).unwrap_err(), Refusal::Gone);
+    assert_eq!(book.hold(theirs.node, 3).unwrap_err().back, 3);
+    assert_eq!(book.apply(theirs.res, |it| *it), Err(Refusal::NotHeld));
+    assert_eq!(book.remove(theirs.res), Err(Refusal::NotHeld));
+    assert_eq!(book.open(At::Root, Kind::Sub(hub)).unwrap_err(), Refusal::NoHub);
+    assert_eq!(book.connect(hub), Err(Refusal::NoHub));
+    assert_eq!(book.give_back(lease), Err(Refusal::NoLease));
+    assert!(book.is_open(mine.node) && book.is_held(mine.res));
+    Ok(())
+}
+
+#[test]
 fn a_shared_item_goes_to_every_subscriber() -> Result<(), Box<dyn std::error::Error>> {
     let mut book: Book<String, ()> = Book::new()?;
     let hub = book.hub(Mode::Auto)?;

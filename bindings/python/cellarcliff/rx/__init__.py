@@ -16,7 +16,7 @@ from typing import Any, Callable, Iterable, Optional
 
 from ._engine import _hook, _print, current, use
 from ._observable import (Concat, ConnectableObservable, Created, Defer, Empty, FromIterable, Just, Merging, Never,
-                          Observable, Observer, Throw, Using, to_observable)
+                          Observable, Observer, Throw, Using, pipe, to_observable)
 from ._time import Timer
 
 __all__ = ["ConnectableObservable", "Observable", "Observer", "concat", "create", "current", "defer", "empty", "from_", "from_iterable",
@@ -33,8 +33,10 @@ _ELSEWHERE = frozenset((
 
 
 def __getattr__(name: str) -> Any:
-    if name in ("operators", "subject", "disposable", "scheduler", "core", "testing"):
+    if name in ("operators", "subject", "disposable", "scheduler", "core", "internal", "testing"):
         return importlib.import_module(f"{__name__}.{name}")
+    if name == "typing":
+        return importlib.import_module(f"{__name__}.core.typing")
     if name in _ELSEWHERE:
         raise NotImplementedError(
             f"cellarcliff.rx has no {name}(): an observable of RxPY may stand wherever one of this package may, so make it with "
@@ -125,12 +127,3 @@ def timer(duetime: Any, period: Any = None, scheduler: Any = None) -> Observable
 def interval(period: Any, scheduler: Any = None) -> Observable:
     """0, 1, 2 and so on, one each period, in seconds or as timedelta."""
     return Timer(period, period, scheduler)
-
-
-def pipe(*operators: Callable[[Any], Any]) -> Callable[[Any], Any]:
-    """The operators as one, from left to right."""
-    def compose(source: Any) -> Any:
-        for it in operators:
-            source = it(source)
-        return source
-    return compose

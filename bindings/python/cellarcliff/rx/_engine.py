@@ -22,7 +22,7 @@ _first_of = itemgetter(0)
 #: projected; the user's in the order of the queue.
 NOW, SOON, BEHIND, DUE = range(4)
 _NOTHING = (NOW, int)
-_LEVELS, _MOST_HUBS = 8, 1024
+_LEVELS = 8  # of shares below each other, each with a part of the hubs
 _CHECKPOINT = 1 << 16  # events behind which a checkpoint is made
 
 
@@ -111,7 +111,8 @@ class Root:
 
     def __init__(self, engine: "Engine", on_next: Callable[[Any], Any], on_error: Callable[[Exception], Any],
                  on_completed: Callable[[], Any], is_inner: bool = False):
-        self.engine, self.key, self.number, self.head = engine, None, -1, None
+        self.engine, self.key, self.number = engine, None, -1
+        self.head: Any = None
         self._on_next, self._on_error, self._on_completed = on_next, on_error, on_completed
         self.is_stopped = False  # nothing is told any more
         self.is_over = False  # the book has ended it
@@ -273,6 +274,15 @@ class Engine:
         self.book.checkpoint()
         self._events, self._checkpoint_at = 0, max(_CHECKPOINT, 4 * self.book.counts().nodes)
 
+    def _heard(self) -> None:
+        """The end of an event: what it told is taken, and the history does not grow. The lock is held."""
+        book = self.book
+        if book.mail or book.tags:
+            self._fill()
+        self._events += 3
+        if self._events > self._checkpoint_at:
+            self._checkpoint()
+
     def _first_of_all(self) -> None:
         """Does what comes before anybody is told."""
         while self._first:
@@ -428,13 +438,9 @@ class Engine:
                 if why.name not in ("Gone", "NothingOwed"):
                     raise
             finally:
-                if self.book.mail or self.book.tags:
-                    self._fill()
+                self._heard()
                 if code is not None:
                     del self._values[code]
-            self._events += 3
-            if self._events > self._checkpoint_at:
-                self._checkpoint()
         if self._first or self._projections:
             self._first_of_all()
 
@@ -453,11 +459,7 @@ class Engine:
             except Refused as why:
                 if why.name not in ("Gone", "NothingOwed", "NotConnected"):
                     raise
-            if self.book.mail or self.book.tags:
-                self._fill()
-            self._events += 3
-            if self._events > self._checkpoint_at:
-                self._checkpoint()
+            self._heard()
         if self._first or self._projections:
             self._first_of_all()
 
@@ -466,7 +468,7 @@ class Engine:
 
     def dispose(self, root: Root) -> None:
         """Unsubscribes; a second time is none."""
-        book, lock = self.book, self.lock
+        lock = self.lock
         if lock._is_owned():  # type: ignore[attr-defined]
             # a finalizer that runs in the midst of a call on the book; what is under way does it next
             self._first.append(lambda: self.dispose(root))
@@ -474,15 +476,11 @@ class Engine:
         with lock:
             self._roots.pop(root.number, None)
             try:
-                book.dispose(root.key)
+                self.book.dispose(root.key)
             except Refused as why:
                 if why.name != "Gone":
                     raise
-            if book.mail or book.tags:
-                self._fill()
-            self._events += 3
-            if self._events > self._checkpoint_at:
-                self._checkpoint()
+            self._heard()
         if self._first or self._projections:
             self._first_of_all()
 
@@ -553,18 +551,19 @@ class Engine:
     def take_hub(self, mode: int, level: int, limit: Optional[int]) -> int:
         """A hub that is free. Below the connection of a hub only those before it may be subscribed to, so a level, which
         is higher the more shares stand below this one, says where to look first. The lock is held."""
+        most = self.book.most_hubs
         if not self._hubs:
-            self._hubs = [self.book.hub(index % 2) for index in range(_MOST_HUBS)]
+            self._hubs = [self.book.hub(index % 2) for index in range(most)]
             for each in (AUTO, MANUAL):
-                self._free[each] = list(range(each, _MOST_HUBS, 2))
+                self._free[each] = list(range(each, most, 2))
         free = self._free[mode]
         end = len(free) if limit is None else bisect_left(free, limit)
-        at = bisect_left(free, min(level, _LEVELS - 1) * (_MOST_HUBS // _LEVELS))
+        at = bisect_left(free, min(level, _LEVELS - 1) * (most // _LEVELS))
         if at >= end:
             at = end - 1
         if at < 0:
             raise RuntimeError(
-                "no hub is left for this share: a book has 1,024, of which half are for publish() and half for ref_count() and "
+                f"no hub is left for this share: a book has {most:,}, of which half are for publish() and half for ref_count() and "
                 "share(), and each that has a subscriber or is connected takes one" if limit is None else
                 "no hub is left for this share, which stands below another: all that come before that one's are in use")
         return free.pop(at)

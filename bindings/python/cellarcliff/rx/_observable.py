@@ -9,16 +9,26 @@ from __future__ import annotations
 import threading
 from collections import deque
 from collections.abc import Iterable
-from typing import Any, Callable, List, Optional, Tuple
+from typing import Any, Callable, List, Optional, Sequence, Tuple
 
 from ..book import AUTO, FLAT, INNER, LEAF, MANUAL, NOTIFIER, PASS, ROOT, SOURCE, SUB, SWITCH, UNTIL, Refused
 from ._engine import BEHIND, NOW, SOON, At, Engine, Leaf, Root, current, here
 from .disposable import CompositeDisposable, Disposable
+from .internal import SequenceContainsNoElementsError
 from .scheduler import CurrentThreadScheduler
 
 
 def noop(*_: Any) -> None:
     pass
+
+
+def pipe(*operators: Callable[[Any], Any]) -> Callable[[Any], Any]:
+    """The operators as one, from left to right."""
+    def compose(source: Any) -> Any:
+        for it in operators:
+            source = it(source)
+        return source
+    return compose
 
 
 def default_error(error: Any) -> None:
@@ -60,6 +70,21 @@ class Observer:
 
     def dispose(self) -> None:
         self.is_stopped = True
+
+    def fail(self, exn: Exception) -> bool:
+        """Tells it the error, unless it was told an end: whether it was told."""
+        if self.is_stopped:
+            return False
+        self.on_error(exn)
+        return True
+
+    def to_notifier(self) -> Callable[[Any], Any]:
+        """A function that tells this observer a notification."""
+        return lambda notifier: notifier.accept(self)
+
+    def as_observer(self) -> "Observer":
+        """An observer that tells this one, and has nothing else of it."""
+        return Observer(self.on_next, self.on_error, self.on_completed)
 
 
 class _Subscription(Disposable):
@@ -104,11 +129,11 @@ class Observable:
         """Opens what this is at the place. Raises Refused("Gone") where that is closed."""
         _create(self._subscribe or (lambda *_: None), at, [])
 
-    def _open_with(self, at: At, stages: List["Stage"]) -> bool:
+    def _open_with(self, at: At, makes: "Makes") -> bool:
         """The same with functions on the items on their way into the book, the last first; only of what is a source."""
         if type(self) is not Observable:
             return False
-        _create(self._subscribe or (lambda *_: None), at, stages)
+        _create(self._subscribe or (lambda *_: None), at, makes)
         return True
 
     def _below(self) -> Tuple[Any, ...]:
@@ -148,16 +173,21 @@ class Observable:
 
     def pipe(self, *operators: Callable[[Any], Any]) -> Any:
         """The observable behind these operators, from left to right."""
-        observable = self
-        for it in operators:
-            observable = it(observable)
-        return observable
+        return pipe(*operators)(self)
 
     def __add__(self, other: Any) -> "Observable":
         return Concat((self, other))
 
+    def __await__(self) -> Any:
+        raise NotImplementedError("an observable of cellarcliff.rx cannot be awaited: call run() in a thread, or pipe it into RxPY's "
+                                  "rx.operators.to_future()")
+
+    def __getitem__(self, key: Any) -> Any:
+        raise NotImplementedError("an observable of cellarcliff.rx has no slices: use skip() and take(), or RxPY's rx.operators.slice()")
+
     def run(self) -> Any:
-        """Subscribes, waits for the end, and answers the last item; raises the error that it ends with."""
+        """Subscribes, waits for the end, and answers the last item. Raises the error that it ends with, and
+        SequenceContainsNoElementsError where it ends without an item."""
         ended, last = threading.Event(), []  # type: Tuple[threading.Event, List[Any]]
         failed: List[Exception] = []
 
@@ -169,7 +199,7 @@ class Observable:
         if failed:
             raise failed[0]
         if not last:
-            raise Exception("Sequence contains no elements")
+            raise SequenceContainsNoElementsError()
         return last[0]
 
 
@@ -198,10 +228,11 @@ def _fails(at: At, error: Exception) -> None:
     """The observable at a root raised as it was subscribed to."""
     root = at.root
     assert root is not None
+    head = root.head or root
     if root.is_inner:
-        (root.head or root).on_error(error)
+        head.on_error(error)
     else:
-        at.engine.put(lambda: (root.head or root).on_error(error))
+        at.engine.put(lambda: head.on_error(error))
 
 
 def _open_below(observable: Any, at: At) -> None:
@@ -260,7 +291,11 @@ class Stage:
         self.down.on_completed()
 
 
-def _chained(makes: List[Callable[[Any], Any]], down: Any) -> Any:
+#: What makes stages, the observer's side first: each of what is below it.
+Makes = Sequence[Callable[[Any], Any]]
+
+
+def _chained(makes: Makes, down: Any) -> Any:
     """What the source tells, the functions being listed from the observer's side; the outermost starts first."""
     for make in makes:
         down = make(down)
@@ -316,7 +351,7 @@ def _disposable(value: Any) -> Any:
     return value if hasattr(value, "dispose") else Disposable(value)
 
 
-def _create(subscribe: Callable[[Any, Any], Any], at: At, makes: List[Any]) -> None:
+def _create(subscribe: Callable[[Any, Any], Any], at: At, makes: Makes) -> None:
     """A source that a function of the user's subscribes to; its disposable is held by the book."""
     leaf = Leaf(at.engine)
     leaf.key = at.engine.open(at, LEAF, NOW, leaf.closed)
@@ -348,7 +383,7 @@ class Foreign(_Source):
     def __init__(self, observable: Any):
         self._observable = observable
 
-    def _open_with(self, at: At, makes: List[Any]) -> bool:
+    def _open_with(self, at: At, makes: Makes) -> bool:
         def subscribe(observer: Any, scheduler: Any) -> Any:
             given = {} if scheduler is None else {"scheduler": scheduler}
             return self._observable.subscribe(observer, **given)
@@ -364,7 +399,7 @@ class _Scheduled(_Source):
     def _emit(self, up: Any, leaf: Leaf) -> None:
         raise NotImplementedError
 
-    def _open_with(self, at: At, makes: List[Any]) -> bool:
+    def _open_with(self, at: At, makes: Makes) -> bool:
         engine, leaf = at.engine, Leaf(at.engine)
         leaf.key = engine.open(at, LEAF, NOW, leaf.closed)
         up = _chained(makes, leaf)
@@ -442,7 +477,7 @@ class Throw(_Scheduled):
 
 
 class Never(_Source):
-    def _open_with(self, at: At, makes: List[Any]) -> bool:
+    def _open_with(self, at: At, makes: Makes) -> bool:
         leaf = Leaf(at.engine)
         leaf.key = at.engine.open(at, LEAF)
         _chained(makes, leaf)
@@ -451,10 +486,10 @@ class Never(_Source):
 
 class Created(_Source):
     def __init__(self, subscribe: Callable[[Any, Any], Any]):
-        self._subscribe = subscribe
+        self._source = subscribe
 
-    def _open_with(self, at: At, makes: List[Any]) -> bool:
-        _create(self._subscribe, at, makes)
+    def _open_with(self, at: At, makes: Makes) -> bool:
+        _create(self._source, at, makes)
         return True
 
 
@@ -490,7 +525,7 @@ class Fn(Observable):
             _Relay(core, at, makes, manner == ENDING)
 
     @staticmethod
-    def _at_root(core: Observable, at: At, makes: List[Callable[[Any], Stage]]) -> None:
+    def _at_root(core: Observable, at: At, makes: Makes) -> None:
         root = at.root
         assert root is not None
         down: Any = root
@@ -510,7 +545,7 @@ class _Relay:
 
     __slots__ = ("_engine", "_node", "_inner", "_leaf", "_stop", "_up", "_is_owed")
 
-    def __init__(self, core: Observable, at: At, makes: List[Callable[[Any], Stage]], is_ending: bool):
+    def __init__(self, core: Observable, at: At, makes: Makes, is_ending: bool):
         engine = self._engine = at.engine
         self._leaf: Optional[Leaf] = None
         self._stop: Any = None  # the notifier that ends the source
@@ -558,7 +593,7 @@ class _Relay:
         self._engine.end(self._stop, None)
 
 
-def _linked(core: Observable, at: At, makes: List[Callable[[Any], Stage]]) -> None:
+def _linked(core: Observable, at: At, makes: Makes) -> None:
     """A source which a subscription of its own feeds; that goes when the source does."""
     engine, leaf = at.engine, Leaf(at.engine)
     root = Root(engine, noop, noop, noop, is_inner=True)
@@ -676,7 +711,7 @@ class Merging(Observable):
 class Concat(Observable):
     """Observables one after another: a FlatMap, to which the next is given once the one before has completed."""
 
-    def __init__(self, sources: Iterable):
+    def __init__(self, sources: Iterable[Any]):
         self._sources = sources
 
     def _below(self) -> Tuple[Any, ...]:
@@ -897,7 +932,7 @@ class Multicast(ConnectableObservable):
     def _open(self, at: At) -> None:
         to_observable(self.subject)._open(at)
 
-    def _open_with(self, at: At, makes: List[Any]) -> bool:
+    def _open_with(self, at: At, makes: Makes) -> bool:
         return to_observable(self.subject)._open_with(at, makes)
 
     def connect(self, scheduler: Any = None) -> Any:
@@ -914,22 +949,24 @@ class Multicast(ConnectableObservable):
 def counted(source: Any) -> Observable:
     """ref_count() of a connectable that is none of publish(): counted here."""
     lock = threading.RLock()
-    state = {"many": 0, "connection": None}
+    many, connection = 0, None
 
     def subscribe(observer: Any, scheduler: Any = None) -> Any:
+        nonlocal many, connection
         with lock:
-            state["many"] += 1
-            is_first = state["many"] == 1
+            many += 1
+            is_first = many == 1
         subscription = source.subscribe(observer, scheduler=scheduler)
         if is_first:
-            state["connection"] = source.connect(scheduler)
+            connection = source.connect(scheduler)
 
         def dispose() -> None:
+            nonlocal many
             subscription.dispose()
             with lock:
-                state["many"] -= 1
-                connection = None if state["many"] else state["connection"]
-            if connection is not None:
+                many -= 1
+                is_last = many == 0
+            if is_last and connection is not None:
                 connection.dispose()
         return Disposable(dispose)
     return Created(subscribe)

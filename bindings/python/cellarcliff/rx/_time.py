@@ -2,11 +2,11 @@
 from __future__ import annotations
 
 from datetime import datetime
-from typing import Any, List
+from typing import Any
 
 from ..book import LEAF
 from ._engine import NOW, At, Leaf
-from ._observable import _chained, _Emitter, _Source
+from ._observable import Makes, _chained, _Emitter, _Source
 from .disposable import MultipleAssignmentDisposable
 from .scheduler import TimeoutScheduler
 
@@ -17,7 +17,7 @@ class Timer(_Source):
     def __init__(self, duetime: Any, period: Any, scheduler: Any):
         self._duetime, self._period, self._scheduler = duetime, period, scheduler
 
-    def _open_with(self, at: At, makes: List[Any]) -> bool:
+    def _open_with(self, at: At, makes: Makes) -> bool:
         engine, leaf = at.engine, Leaf(at.engine)
         leaf.key = engine.open(at, LEAF, NOW, leaf.closed)
         emitter = _Emitter(_chained(makes, leaf), leaf)

@@ -5,6 +5,13 @@ from threading import RLock
 from typing import Any, Callable, List, Optional
 
 
+def __getattr__(name: str) -> Any:
+    if name == "ScheduledDisposable":
+        raise NotImplementedError("cellarcliff.rx.disposable has no ScheduledDisposable: schedule the disposal, as in "
+                                  "scheduler.schedule(lambda *_: disposable.dispose()), or give RxPY's own, which serves here too")
+    raise AttributeError(f"module {__name__!r} has no attribute {name!r}")
+
+
 class Disposable:
     """Calls its action once, with the first `dispose`."""
 

@@ -4,11 +4,12 @@ from __future__ import annotations
 from typing import Any, Callable, Optional
 
 from .._observable import (ENDING, HEARING, PLAIN, Concat, ConnectableObservable, Defer, Finally, Fn, FromIterable,
-                           Merging, Multicast, Observable, Published, RefCount, Stage, Until, counted, to_observable)
+                           Merging, Multicast, Observable, Published, RefCount, Stage, Until, counted, pipe, to_observable)
+from ..internal import ArgumentOutOfRangeException
 
 __all__ = ["concat", "connect", "do", "do_action", "filter", "filter_indexed", "finally_action", "flat_map", "flat_map_indexed",
-           "flat_map_latest", "map", "map_indexed", "merge", "merge_all", "multicast", "pairwise", "publish", "ref_count", "scan",
-           "share", "skip", "start_with", "switch_latest", "take", "take_until", "take_while"]
+           "flat_map_latest", "map", "map_indexed", "merge", "merge_all", "multicast", "pairwise", "pipe", "publish", "ref_count",
+           "scan", "share", "skip", "start_with", "switch_latest", "take", "take_until", "take_while"]
 
 Operator = Callable[[Any], Observable]
 _NOTHING = object()
@@ -216,7 +217,7 @@ def scan(accumulator: Callable[[Any, Any], Any], seed: Any = _NOTHING) -> Operat
 def take(count: int) -> Operator:
     """The first items, and then the completion."""
     if count < 0:
-        raise ValueError("take: a count of 0 or more is expected")
+        raise ArgumentOutOfRangeException("take: a count of 0 or more is expected")
     return lambda source: Fn(source, lambda down: _Take(down, count), ENDING)
 
 
@@ -228,7 +229,7 @@ def take_while(predicate: Callable[[Any], Any], inclusive: bool = False) -> Oper
 def skip(count: int) -> Operator:
     """All but the first items."""
     if count < 0:
-        raise ValueError("skip: a count of 0 or more is expected")
+        raise ArgumentOutOfRangeException("skip: a count of 0 or more is expected")
     return lambda source: Fn(source, lambda down: _Skip(down, count), PLAIN)
 
 
@@ -267,7 +268,8 @@ def finally_action(action: Callable[[], Any]) -> Operator:
 
 
 def _mapper(mapper: Any) -> Callable[[Any], Any]:
-    return mapper if callable(mapper) else lambda _: mapper
+    call: Callable[[Any], Any] = mapper if callable(mapper) else lambda _: mapper
+    return call
 
 
 def flat_map(mapper: Any = None) -> Operator:

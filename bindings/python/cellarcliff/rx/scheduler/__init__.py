@@ -8,10 +8,11 @@ from __future__ import annotations
 import threading
 from collections import deque
 from datetime import datetime, timedelta, timezone
-from typing import Any, Callable, Optional, Union
+from typing import Any, Callable, Union
 
 from .._engine import here
 from ..disposable import Disposable, MultipleAssignmentDisposable, SerialDisposable, SingleAssignmentDisposable
+from ..internal import WouldBlockException
 
 
 def __getattr__(name: str) -> Any:
@@ -72,8 +73,28 @@ class Scheduler:
         answer = action(self, state)
         return answer if hasattr(answer, "dispose") else Disposable()
 
+    def _into(self, whole: Any, action: Action, state: Any) -> Callable[[], None]:
+        """Does the action, unless `whole` was disposed of before; whatever it answers is disposed of with that."""
+        def act() -> None:
+            if not whole.is_disposed:
+                whole.disposable = self.invoke_action(action, state)
+        return act
 
-class ImmediateScheduler(Scheduler):
+
+class _Shared(Scheduler):
+    """One that serves all."""
+
+    _one: Any = None
+
+    @classmethod
+    def singleton(cls) -> Any:
+        """The one that sources use where they are given none."""
+        if "_one" not in cls.__dict__:
+            cls._one = cls()
+        return cls._one
+
+
+class ImmediateScheduler(_Shared):
     """Does it at once, in this thread."""
 
     def schedule(self, action: Action, state: Any = None) -> Any:
@@ -81,29 +102,19 @@ class ImmediateScheduler(Scheduler):
 
     def schedule_relative(self, duetime: RelativeTime, action: Action, state: Any = None) -> Any:
         if self.to_seconds(duetime) > 0:
-            raise RuntimeError("the immediate scheduler waits for nothing")
+            raise WouldBlockException()
         return self.invoke_action(action, state)
 
 
-class CurrentThreadScheduler(Scheduler):
+class CurrentThreadScheduler(_Shared):
     """Does it in this thread, behind what is under way."""
-
-    _one: Optional["CurrentThreadScheduler"] = None
-
-    @classmethod
-    def singleton(cls) -> "CurrentThreadScheduler":
-        cls._one = cls._one or cls()
-        return cls._one
 
     def schedule_required(self) -> bool:
         return here.it.trampoline is None
 
     def schedule(self, action: Action, state: Any = None) -> Any:
         whole = SingleAssignmentDisposable()
-
-        def act() -> None:
-            if not whole.is_disposed:
-                whole.disposable = self.invoke_action(action, state)
+        act = self._into(whole, action, state)
         if here.it.trampoline is not None:
             here.it.trampoline.append(act)
             return whole
@@ -115,26 +126,15 @@ class CurrentThreadScheduler(Scheduler):
         return whole
 
 
-class TimeoutScheduler(Scheduler):
+class TimeoutScheduler(_Shared):
     """Does it in a thread of its own, when its time has come."""
-
-    _one: Optional["TimeoutScheduler"] = None
-
-    @classmethod
-    def singleton(cls) -> "TimeoutScheduler":
-        cls._one = cls._one or cls()
-        return cls._one
 
     def schedule(self, action: Action, state: Any = None) -> Any:
         return self.schedule_relative(0.0, action, state)
 
     def schedule_relative(self, duetime: RelativeTime, action: Action, state: Any = None) -> Any:
         whole = SerialDisposable()
-
-        def act() -> None:
-            if not whole.is_disposed:
-                whole.disposable = self.invoke_action(action, state)
-        timer = threading.Timer(max(0.0, self.to_seconds(duetime)), act)
+        timer = threading.Timer(max(0.0, self.to_seconds(duetime)), self._into(whole, action, state))
         timer.daemon = True
         whole.disposable = Disposable(timer.cancel)
         timer.start()

@@ -3,11 +3,11 @@ from __future__ import annotations
 
 from collections import deque
 from threading import Lock, get_ident
-from typing import Any, Callable, Deque, Dict, List, Optional, Sequence, Tuple
+from typing import Any, Deque, Dict, List, Optional, Tuple
 
 from ...book import LEAF
 from .._engine import NOW, At, Leaf, here
-from .._observable import Observer, _chained, _Source
+from .._observable import Makes, Observer, _chained, _Source
 from ..internal import DisposedException
 
 _NEXT, _ERROR, _COMPLETED = range(3)
@@ -55,7 +55,7 @@ class Subject(_Source, Observer):
     def _open(self, at: At) -> None:
         self._open_with(at, ())
 
-    def _open_with(self, at: At, makes: Sequence[Callable[[Any], Any]]) -> bool:
+    def _open_with(self, at: At, makes: Makes) -> bool:
         if self.is_disposed:
             raise DisposedException()
         engine, ups = at.engine, self._ups

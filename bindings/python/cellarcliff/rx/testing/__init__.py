@@ -13,9 +13,15 @@ import sys
 from datetime import datetime
 from typing import Any, Callable, List, Optional, Tuple
 
-from .._observable import Observable
+from .._observable import Makes, Observable, _create
 from ..disposable import CompositeDisposable, Disposable, SingleAssignmentDisposable
 from ..scheduler import Scheduler
+
+
+def __getattr__(name: str) -> Any:
+    if name in ("MockDisposable", "OnErrorPredicate", "OnNextPredicate", "is_prime"):
+        raise NotImplementedError(f"cellarcliff.rx.testing has no {name}: RxPY's own rx.testing drives this package as well")
+    raise AttributeError(f"module {__name__!r} has no attribute {name!r}")
 
 
 class _Notification:
@@ -153,11 +159,7 @@ class VirtualTimeScheduler(Scheduler):
 
     def schedule_absolute(self, duetime: Any, action: Any, state: Any = None) -> Any:
         whole = SingleAssignmentDisposable()
-
-        def act() -> None:
-            if not whole.is_disposed:
-                whole.disposable = self.invoke_action(action, state)
-        heapq.heappush(self._queue, (self.to_seconds(duetime), next(self._numbers), act))
+        heapq.heappush(self._queue, (self.to_seconds(duetime), next(self._numbers), self._into(whole, action, state)))
         return whole
 
     def _run(self, until: Optional[float]) -> None:
@@ -213,8 +215,7 @@ class _Recording(Observable):
     def _open(self, at: Any) -> None:
         self._open_with(at, [])
 
-    def _open_with(self, at: Any, makes: List[Any]) -> bool:
-        from .._observable import _create
+    def _open_with(self, at: Any, makes: Makes) -> bool:
         _create(self._subscribe_core, at, makes)
         return True
 
