@@ -50,8 +50,9 @@ class Commands:
     """Commands by names. They are carried out on the model as they are made, so that most of them find what they name and
     are accepted; in a scenario with times they come in another order, and find less."""
 
-    def __init__(self, rng: random.Random, book: Book, checkpoints: float = 0, timed: bool = False):
+    def __init__(self, rng: random.Random, book: Book, checkpoints: float = 0, timed: bool = False, rare: float = 1):
         self.rng, self.book, self.made, self.timed, self.checkpoints = rng, book, 0, timed, checkpoints
+        self.rare = rare  # how much likelier the rare commands are
         self.labels: list[str] = []
         self.most = 0  # events and debt at a time, where that is asked for
         self.counts = False
@@ -109,7 +110,7 @@ class Commands:
         return step
 
     def command(self) -> dict[str, Any]:
-        h, rng = self.book.h, self.rng
+        h, rng, rare = self.book.h, self.rng, self.rare
         some = lambda found, weight: weight if found else 0.3
         leaves = [n for n in open_nodes(h) if kind_of(h, n) == 'leaf']
         by_hand = [g for g in hubs(h) if at(h, g).mode == 'manual']
@@ -117,8 +118,9 @@ class Commands:
         do = rng.choices(
             ('open', 'using', 'next', 'end', 'hub', 'connect', 'disconnect', 'hold', 'apply', 'remove', 'lease', 'return', 'abort',
              'fail', 'decline', 'dispose', 'drain', 'checkpoint', 'cancel'),
-            (34, 7, some(leaves, 24), some(leaves, 9), 3 + 3 * (len(hubs(h)) < 2), some(by_hand, 5), some(by_hand, 2), some(h, 4),
-             some(held, 3), some(held, 1.5), some(held, 4), some(held, 2.5), some(h, 1.5), some(owing, 2), some(owing, 6), some(h, 3), 2,
+            (34, 7, some(leaves, 24), some(leaves, 9), 3 + 3 * (len(hubs(h)) < 2), some(by_hand, 5), some(by_hand, 2) * rare, some(h, 4),
+             some(held, 3), some(held, 1.5) * rare, some(held, 4), some(held, 2.5) * rare, some(h, 1.5) * rare, some(owing, 2) * rare,
+             some(owing, 6) * rare, some(h, 3), 2,
              self.checkpoints, 3 * bool(self.labels)))[0]
         step: dict[str, Any] = {'do': do}
         match do:
