@@ -9,7 +9,7 @@ from collections.abc import Callable
 from typing import Any
 
 from .definitions import (COMPLETED, PLACES, Accept, Close, Connect, Decline, End, Event, History, Hub, Item, Lease, Open, Remove,
-                          Return, Take, Use, at, children, debt, forced, held_count, hubs, is_held, is_open, is_out, is_owned, is_settled,
+                          Return, Take, Use, at, children, debt, forced, held_count, history, hubs, is_held, is_open, is_out, is_owned, is_settled,
                           is_waiting, kind_of, makes_lease, may_follow, nodes, open_connections, open_nodes, owed, resources,
                           source_completed, was_opened)
 from .live import Live
@@ -31,7 +31,7 @@ def stored(suffix: str) -> list[Any]:
 
 def begun(rng: random.Random) -> History:
     """A front of a stored history, as far as it is lawful; mostly nothing."""
-    h = History()
+    h = history([])
     for e in rng.choice(stored('.dump') or [[]])[:rng.randrange(LONG)] if rng.random() < 0.3 else []:
         if not may_follow(h, e):
             break
@@ -50,8 +50,9 @@ class Commands:
     """Commands by names. They are carried out on the model as they are made, so that most of them find what they name and
     are accepted; in a scenario with times they come in another order, and find less."""
 
-    def __init__(self, rng: random.Random, book: Book, checkpoints: float = 0, timed: bool = False):
+    def __init__(self, rng: random.Random, book: Book, checkpoints: float = 0, timed: bool = False, rare: float = 1):
         self.rng, self.book, self.made, self.timed, self.checkpoints = rng, book, 0, timed, checkpoints
+        self.rare = rare  # how much likelier the rare commands are
         self.labels: list[str] = []
         self.most = 0  # events and debt at a time, where that is asked for
         self.counts = False
@@ -109,7 +110,7 @@ class Commands:
         return step
 
     def command(self) -> dict[str, Any]:
-        h, rng = self.book.h, self.rng
+        h, rng, rare = self.book.h, self.rng, self.rare
         some = lambda found, weight: weight if found else 0.3
         leaves = [n for n in open_nodes(h) if kind_of(h, n) == 'leaf']
         by_hand = [g for g in hubs(h) if at(h, g).mode == 'manual']
@@ -117,8 +118,9 @@ class Commands:
         do = rng.choices(
             ('open', 'using', 'next', 'end', 'hub', 'connect', 'disconnect', 'hold', 'apply', 'remove', 'lease', 'return', 'abort',
              'fail', 'decline', 'dispose', 'drain', 'checkpoint', 'cancel'),
-            (34, 7, some(leaves, 24), some(leaves, 9), 3 + 3 * (len(hubs(h)) < 2), some(by_hand, 5), some(by_hand, 2), some(h, 4),
-             some(held, 3), some(held, 1.5), some(held, 4), some(held, 2.5), some(h, 1.5), some(owing, 2), some(owing, 6), some(h, 3), 2,
+            (34, 7, some(leaves, 24), some(leaves, 9), 3 + 3 * (len(hubs(h)) < 2), some(by_hand, 5), some(by_hand, 2) * rare, some(h, 4),
+             some(held, 3), some(held, 1.5) * rare, some(held, 4), some(held, 2.5) * rare, some(h, 1.5) * rare, some(owing, 2) * rare,
+             some(owing, 6) * rare, some(h, 3), 2,
              self.checkpoints, 3 * bool(self.labels)))[0]
         step: dict[str, Any] = {'do': do}
         match do:
@@ -205,7 +207,7 @@ def scenario(rng: random.Random) -> bytes:
     front = rng.choice(stored('.json') or [[]])[:rng.randrange(LONG)] if rng.random() < 0.2 else []
     for step in front:
         commands.repeated(step)
-    made['steps'] = front + commands.steps(rng.randrange(1, 12) if rng.random() < 0.3 or len(front) > 9 else rng.randrange(8, 40))
+    made['steps'] = front + commands.steps(rng.randrange(1, 14) if rng.random() < 0.6 or len(front) > 9 else rng.randrange(8, 36))
     if commands.counts:
         made['events'] = max(1, commands.most - rng.randrange(-1, 4))  # there is just room, or not quite
     if timed and rng.random() < 0.3:
@@ -223,7 +225,7 @@ def session(rng: random.Random) -> list[bytes]:
             commands.book.perform(step)
             commands.book.drain()
             lines.append(json.dumps(step).encode())
-    for _ in range(rng.randrange(1, 12) if rng.random() < 0.3 else rng.randrange(8, 40)):
+    for _ in range(rng.randrange(1, 14) if rng.random() < 0.6 else rng.randrange(8, 36)):
         step = commands.next()
         commands.book.drain()
         line = json.dumps(step).encode()
@@ -295,7 +297,7 @@ def grown(rng: random.Random, h: History, many: int) -> History:
 def grown_history(rng: random.Random) -> list[Event]:
     """A lawful history, or one that is turned at one event; most of these are unlawful there or behind it."""
     h = begun(rng)
-    h = grown(rng, h, rng.randrange(1, 12) if rng.random() < 0.3 or len(h) > 12 else rng.randrange(8, 30))
+    h = grown(rng, h, rng.randrange(1, 14) if rng.random() < 0.6 or len(h) > 12 else rng.randrange(8, 28))
     events, how = list(h), rng.random()
     if how < 0.3 or not events:
         return events

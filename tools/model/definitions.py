@@ -471,7 +471,7 @@ def debt(h: History) -> int:
 def verdict(events: list[Event]) -> str:
     """Unlawful, with the first place whose event may not follow those before it; unsettled, where something is still
     forced; lawful, with the open nodes, the held and the waiting resources."""
-    h = History()
+    h = history([])
     for place, e in enumerate(events):
         if not may_follow(h, e):
             return f'unlawful {place}\n'

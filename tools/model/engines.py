@@ -11,6 +11,8 @@ import tempfile
 from types import ModuleType
 from typing import Any
 
+from . import handle
+
 DONE, TOO_SMALL = 0, 1
 
 
@@ -57,7 +59,7 @@ class Programs:
         return [*text.decode().splitlines(), *([f'status {status}'] if status else [])]
 
 
-class Handle(ctypes.Structure):
+class LiveHandle(ctypes.Structure):
     _fields_ = [('at', ctypes.c_void_p)]
 
 
@@ -93,21 +95,24 @@ class Library:
     def audit(self, text: bytes) -> tuple[int, bytes]:
         return self._ask('rx_audit', text)
 
+    def numbers(self, calls: list[list[Any]]) -> list[tuple[list[Any], list[list[int]]]]:
+        return handle.Handle(self.calls).session(calls)
+
     def live(self, lines: list[bytes], limit: int | None = None, cut: bytes = b'') -> list[str]:
-        handle, answers = Handle(), []
-        if self.calls.rx_live_new(ctypes.byref(handle), ctypes.c_uint32(limit or 4_194_304)) != DONE:
+        book, answers = LiveHandle(), []
+        if self.calls.rx_live_new(ctypes.byref(book), ctypes.c_uint32(limit or 4_194_304)) != DONE:
             return ['no book']
 
         def answer(status: int) -> None:
             if status == TOO_SMALL:
                 self._grow()
-                status = self.calls.rx_live_read(ctypes.byref(handle), self.buffer, ctypes.c_size_t(self.capacity), ctypes.byref(self.told))
+                status = self.calls.rx_live_read(ctypes.byref(book), self.buffer, ctypes.c_size_t(self.capacity), ctypes.byref(self.told))
             answers.append(ctypes.string_at(self.buffer, self.told.value).decode() if status == DONE else f'status {status}')
         room = ctypes.c_size_t
         for line in lines:
-            answer(self.calls.rx_live_send(ctypes.byref(handle), line, room(len(line)), self.buffer, room(self.capacity),
+            answer(self.calls.rx_live_send(ctypes.byref(book), line, room(len(line)), self.buffer, room(self.capacity),
                                            ctypes.byref(self.told)))
-        answer(self.calls.rx_live_end(ctypes.byref(handle), self.buffer, room(self.capacity), ctypes.byref(self.told)))
+        answer(self.calls.rx_live_end(ctypes.byref(book), self.buffer, room(self.capacity), ctypes.byref(self.told)))
         return answers
 
 
@@ -120,7 +125,7 @@ def copy_of_the_model(name: str) -> ModuleType:
     package = importlib.util.module_from_spec(spec)
     sys.modules[name] = package
     spec.loader.exec_module(package)
-    for module in ('events', 'definitions', 'texts', 'calls', 'scenario', 'live'):
+    for module in ('events', 'definitions', 'texts', 'calls', 'scenario', 'live', 'typed'):
         importlib.import_module(f'{name}.{module}')
     return package
 
@@ -151,6 +156,14 @@ class Model:
         events = self._faulty(self.of.texts.events_of, text)
         verdict = None if events is None else self.of.definitions.verdict(events)
         return (3, b'') if verdict is None else (0 if verdict.startswith('lawful') else 5, verdict.encode())
+
+    def numbers(self, calls: list[list[Any]]) -> list[tuple[list[Any], list[list[int]]]]:
+        book, answers = self.of.typed.Typed(self.way()), []
+        for call in calls:
+            seen = len(book.h) if book.keeps else 0
+            answer = book.answer(call)
+            answers.append((answer, [self.of.typed.numbers_of(e) for e in book.h.behind(seen - 1)] if book.keeps else []))
+        return answers
 
     def live(self, lines: list[bytes], limit: int | None = None, cut: bytes = b'') -> list[str]:
         book = self.of.live.Live(self.way(), limit or 4_194_304)

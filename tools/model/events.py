@@ -81,13 +81,18 @@ class History:
     """A list of events, oldest first; it may begin with a base (section 20). `h.then(e)` is h followed by e."""
 
     def __init__(self, kept: Kept = NOTHING_KEPT):
-        self.kept, self.length, self.memo = kept, 0, {}
+        self.kept, self.length, self.memo, self.on = kept, 0, {}, {}
         self._events: list[Event] = []  # shared with the histories that this one goes on to
         self._before: list[History] = []
 
     def then(self, e: Event) -> History:
-        k = History.__new__(History)
-        k.kept, k.length, k.memo = self.kept, self.length + 1, {}
+        """h followed by e: each time the same history, of which what was asked is known."""
+        k = self.on.get(e)
+        return self._longer(e) if k is None else k
+
+    def _longer(self, e: Event) -> History:
+        k = self.on[e] = History.__new__(History)
+        k.kept, k.length, k.memo, k.on = self.kept, self.length + 1, {}, {}
         shares = len(self._events) == self.length
         k._events = self._events if shares else self._events[:self.length]
         k._before = self._before if shares else self._before[:self.length]
@@ -109,8 +114,14 @@ class History:
         """The history in which the event at place n came."""
         return self._before[n]
 
+NOTHING = [History()]
+
+def forget() -> None:
+    """Lets go all histories without a base, and what is known of them."""
+    NOTHING[0] = History()
+
 def history(events: Iterable[Event], kept: Kept = NOTHING_KEPT) -> History:
-    return functools.reduce(History.then, events, History(kept))
+    return functools.reduce(History.then, events, NOTHING[0] if kept is NOTHING_KEPT else History(kept))
 
 def once(define: Callable[..., Any]) -> Callable[..., Any]:
     """A definition is asked once for each history and its words. Without this line it says the same, more slowly."""

@@ -11,7 +11,7 @@ from collections import deque
 from typing import Any
 
 from .calls import Call, first_cause, outside_of
-from .definitions import (COMPLETED, Connect, Event, History, Take, accepted_count, at, forced, held_count, is_held, is_leased, is_open,
+from .definitions import (COMPLETED, Connect, Event, History, Take, accepted_count, at, forced, held_count, history, is_held, is_leased, is_open,
                           is_waiting, kind_of, leases_of, nodes, notes_to, open_nodes, resources, taken_count, uses, waiting_count)
 from .texts import MOST_UNTIL
 
@@ -55,7 +55,7 @@ class Book:
     """A history with names: what a scenario and a live book have in common."""
 
     def __init__(self, way: Canonical, limit: int | None = None):
-        self.h, self.way, self.limit, self.since = History(), way, limit, 0
+        self.h, self.way, self.limit, self.since = history([]), way, limit, 0
         self.names: dict[str, dict[str, int]] = {'node': {}, 'hub': {}, 'res': {}, 'lease': {}}
         self.tags = 0
 
