@@ -276,7 +276,7 @@ fn action_by(alloc: Global, what: &str, object: &Value) -> Result<Action, ShapeE
 }
 
 /// What a step does, by its member `do`: the command, or the `cancel`, that has just the members which
-/// docs/FORMATS.md gives it, beside those that any step may have and which are not read here.
+/// docs/reference/scenario.md gives it, beside those that any step may have and which are not read here.
 ///
 /// # Errors
 ///
