@@ -88,6 +88,7 @@ pub fn check<R: Read, W: Write>(
         (Appends (W.contents (device_of writer.old)) (W.contents (device_of writer.new)))) }
     ensures stopped { OnOk result (has_stopped reader.new ≡ true) }
     ensures unhurt { OnOk result ((has_failed reader.new ≡ false) × (has_failed writer.new ≡ false)) }
+    ensures moved { OnOk result (has_stopped writer.new ≡ false) }
 
     ensures read { IsErrOf result ScriptError.Read → HasReadFault reader.new }
     ensures write { IsErrOf result ScriptError.Write → HasWriteFault writer.new }

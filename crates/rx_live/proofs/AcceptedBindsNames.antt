@@ -18,7 +18,7 @@ use Rattle.rx_scenario.specs.Scenario.{Name}
 use Rattle.rx_resource.specs.declared.Life.{Life}
 use Rattle.rx_resource.specs.declared.Life.TheVariants.{Live}
 use Rattle.rx_book.specs.declared.key.LeaseKey.{LeaseKey}
-use Rattle.rx_book.specs.State.{State, IsPromised}
+use Rattle.rx_book.specs.State.{State, IsPromised, is_kept}
 use Rattle.rx_book.specs.Requests.{Request, is_live}
 use Rattle.rx_book.specs.Answers.{Accepts, IsCauseOrWant}
 use Rattle.rx_line.specs.declared.names.Spot.{Spot}
@@ -27,9 +27,9 @@ use Rattle.rx_line.specs.Names.{spot_of, name_of, IsPaired, AreSame, Binds, Forg
 use Rattle.rx_line.specs.declared.outcome.Cause.TheVariants.{Book}
 use Rattle.rx_line.specs.declared.outcome.Outcome.{Outcome}
 use Rattle.rx_line.specs.declared.outcome.Outcome.TheVariants.{Accepted, Refused}
-use Rattle.rx_live.specs.Session.{Session, IsSound, IsPlaced, is_kept, has_resource, lease_of, lease_key_at}
+use Rattle.rx_live.specs.Session.{Session, IsSound, IsPlaced, has_resource, lease_of, lease_key_at}
 use Rattle.rx_live.specs.Given.{AreOpenSame, IsAlike, GivesNames, IsUnchanged, BindsResource, BindsLease, BindsHub}
-use Rattle.rx_live.proofs.LastsThroughSteps.{keeps_resources, keeps_leases, kept_same, out_same, kept_held, kept_past, out_leased, out_returned}
+use Rattle.rx_book.proofs.Laws.LastsThroughSteps.{keeps_resources, keeps_leases, kept_same, out_same, kept_held, kept_past, out_leased, out_returned}
 use Rattle.rx_live.proofs.Soundness.{accepted_longer}
 
 -- names ----------------------------------------------------------------------------------------------

@@ -12,7 +12,6 @@ use Rattle.rx_live.specs.Session.{Session, IsSound, has_resource}
 use Rattle.rx_live.specs.Promise.{released, no_act}
 use Rattle.rx_live.specs.Answers.{told_text, WritesNotes, late_text}
 use Rattle.rx_live.specs.Listed.{all_names}
-use Rattle.rx_live.specs.Given.{IsAlike}
 use Rattle.rx_live.specs.Renewals.{Renews, IsFullByOpen}
 use Rattle.rx_live.specs.Dumps.{dump_text}
 use Rattle.rx_live.specs.Lines.{Runs, handed_by, TellsAll, CarriesOut, refuses, carries, is_faulty, is_refused}

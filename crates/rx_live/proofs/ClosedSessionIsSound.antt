@@ -9,9 +9,9 @@ use Rattle.rx_event.specs.declared.event.Event.{Event}
 use Rattle.rx_event.specs.Events.{makes_resource, is_take_of}
 use Rattle.rx_event.specs.Tree.{at}
 use Rattle.rx_event.specs.Resources.{is_out, is_held, is_waiting, is_taken}
-use Rattle.rx_book.specs.State.{IsPromised}
+use Rattle.rx_book.specs.State.{IsPromised, is_kept}
 use Rattle.rx_line.specs.Names.{IsPaired}
-use Rattle.rx_live.specs.Session.{Session, IsSound, is_kept}
+use Rattle.rx_live.specs.Session.{Session, IsSound}
 use Rattle.rx_live.specs.Lines.{IsClosed}
 
 kept_shape : (made held gone : Bool) → (made && not gone) ≡ true → (held ≡ true) ⊎ ((made && not held && not (made && gone)) ≡ true)

@@ -16,19 +16,19 @@ use Rattle.rx_event.specs.Events.{makes_resource, is_take_of}
 use Rattle.rx_event.specs.Tree.{at}
 use Rattle.rx_event.specs.Resources.{is_waiting, is_held, is_taken}
 use Rattle.rx_scenario.specs.Scenario.{Name}
-use Rattle.rx_book.specs.State.{State, IsPromised}
+use Rattle.rx_book.specs.State.{State, IsPromised, is_kept}
 use Rattle.rx_book.specs.Requests.{take_request}
 use Rattle.rx_book.specs.Answers.{Accepts}
 use Rattle.rx_line.specs.declared.names.Spot.{Spot}
 use Rattle.rx_line.specs.declared.names.Names.{Names}
 use Rattle.rx_line.specs.Names.{spot_of, name_of, IsPaired, Forgets}
 use Rattle.rx_line.specs.Pieces.{name_text, joined}
-use Rattle.rx_live.specs.Session.{Session, IsSound, is_kept, has_resource}
+use Rattle.rx_live.specs.Session.{Session, IsSound, has_resource}
 use Rattle.rx_live.specs.Promise.{Act, released, Leads, no_act, releases}
 use Rattle.rx_live.specs.Answers.{Takes, none_taken, one_taken, WritesNames}
 use Rattle.rx_live.specs.Steps.{TakesName, DropsName, WritesName, WritesNoName, AreNamesWritten}
 use Rattle.rx_live.proofs.Laws.HeldStaysHeld.{leads_on}
-use Rattle.rx_live.proofs.LastsThroughSteps.{kept_taken, out_same}
+use Rattle.rx_book.proofs.Laws.LastsThroughSteps.{kept_taken, out_same}
 use Rattle.rx_live.proofs.Soundness.{accepted_longer}
 use Rattle.rx_live.proofs.AcceptedBindsNames.{placed_longer, some_gone}
 use Rattle.rx_live.proofs.NamesOfOpenNodes.{free_forgot}

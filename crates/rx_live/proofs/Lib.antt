@@ -1,5 +1,4 @@
 pub mod Laws
-pub mod LastsThroughSteps
 pub mod Soundness
 pub mod AcceptedBindsNames
 pub mod NamesOfOpenNodes
@@ -11,7 +10,6 @@ pub mod SessionAfterCheckpoint
 pub mod Listings
 pub mod Acts
 pub mod AnswersTellNotes
-pub mod EventsWithoutBase
 pub mod ClosedSessionIsSound
 pub mod AnswerToEachLine
 pub mod Ties

@@ -15,10 +15,11 @@ use Rattle.rx_scenario.specs.Scenario.{Name}
 use Rattle.rx_line.specs.declared.names.Spot.{Spot}
 use Rattle.rx_line.specs.Names.{spot_of, name_of}
 use Rattle.rx_line.specs.Pieces.{name_text, joined}
-use Rattle.rx_live.specs.Session.{Session, IsSound, is_kept, has_resource}
+use Rattle.rx_book.specs.State.{is_kept}
+use Rattle.rx_live.specs.Session.{Session, IsSound, has_resource}
 use Rattle.rx_live.specs.Promise.{Act, released, with_held, Leads, no_act, releases}
 use Rattle.rx_live.specs.Listed.{names_below, all_names, is_nil, led_text, open_text}
-use Rattle.rx_live.proofs.LastsThroughSteps.{kept_past}
+use Rattle.rx_book.proofs.Laws.LastsThroughSteps.{kept_past}
 use Rattle.rx_live.proofs.AcceptedBindsNames.{none_of}
 use Rattle.rx_live.proofs.Tellings.{joined_more}
 use Rattle.rx_live.proofs.Laws.HeldStaysHeld.{leads_on, leads_same}

@@ -23,7 +23,7 @@ use Rattle.rx_line.specs.Names.{spot_of, name_of, IsPaired, AreSame, Binds}
 use Rattle.rx_live.specs.Session.{Session, IsSound, IsPlaced, has_resource}
 use Rattle.rx_live.specs.Given.{AreOpenSame, IsAlike, IsUnchanged, NamesOne}
 use Rattle.rx_live.specs.Openings.{using_at, is_node, is_open_taken, BindsMade, BindsNode, BindsUsing, BindsConnection}
-use Rattle.rx_live.proofs.LastsThroughSteps.{keeps_resources, keeps_leases, kept_same, out_same, kept_used, kept_past}
+use Rattle.rx_book.proofs.Laws.LastsThroughSteps.{keeps_resources, keeps_leases, kept_same, out_same, kept_used, kept_past}
 use Rattle.rx_live.proofs.Soundness.{accepted_longer}
 use Rattle.rx_live.proofs.AcceptedBindsNames.{same_names, bound_after, none_of, some_cond, not_unnamed, placed_longer, placed_bound, sound_alike}
 use Rattle.rx_live.proofs.NamesOfOpenNodes.{open_same, open_on, placed_open, made_placed, made_within}

@@ -23,7 +23,7 @@ use Rattle.rx_event.proofs.Laws.MakingRemovesNothing.{made_untold}
 use Rattle.rx_event.proofs.Laws.Resources.{held_resource, held_not_taken}
 use Rattle.rx_event.specs.Causes.{checkpoint_causes, most_places}
 use Rattle.rx_register.proofs.Laws.NoCause.{no_cause}
-use Rattle.rx_book.specs.State.{State, IsPromised}
+use Rattle.rx_book.specs.State.{State, IsPromised, is_kept}
 use Rattle.rx_book.specs.Checkpoints.{Checkpoints}
 use Rattle.rx_line.specs.declared.names.Names.{Names}
 use Rattle.rx_line.specs.declared.outcome.Cause.{Cause}
@@ -32,7 +32,7 @@ use Rattle.rx_line.specs.declared.outcome.Outcome.{Outcome}
 use Rattle.rx_line.specs.declared.outcome.Outcome.TheVariants.{Refused}
 use Rattle.std.specs.declared.alloc.AllocError.{AllocError}
 use Rattle.rx_line.specs.Names.{name_of, IsPaired}
-use Rattle.rx_live.specs.Session.{Session, IsSound, is_kept}
+use Rattle.rx_live.specs.Session.{Session, IsSound}
 use Rattle.rx_live.specs.Given.{AreOpenSame, IsAlike}
 use Rattle.rx_live.specs.Answers.{to_tell}
 use Rattle.rx_live.specs.Renewals.{AreOpen, Renews, renewing_causes, Renewing, IsFullByOpen, may_renew}

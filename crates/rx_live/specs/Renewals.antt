@@ -15,7 +15,7 @@ use Rattle.rx_line.specs.declared.outcome.Outcome.{Outcome}
 use Rattle.rx_line.specs.declared.outcome.Outcome.TheVariants.{Accepted, Refused}
 use Rattle.rx_line.specs.Names.{spot_of}
 use Rattle.rx_live.specs.Session.{Session, node_in}
-use Rattle.rx_live.specs.Given.{AreOpenSame, IsAlike}
+use Rattle.rx_live.specs.Given.{AreOpenSame}
 use Rattle.rx_live.specs.Answers.{to_tell}
 
 -- each name that is bound to a node is that of an open one

@@ -1,20 +1,16 @@
 -- What a live book is: its book, and which names are bound.
 use Rattle.std.specs.Prelude.{◌≡◌, ℕ, ◌≤◌, ◌&&◌, ◌||◌, Bool, false, Option, Some, None, List, length}
 use Rattle.std.specs.Prelude.{is_some, option_map, option_and_then, string_bytes, if◌then◌else◌}
-use Rattle.std.proofs.Math.Bool.{not}
 use Rattle.std.specs.Str.{bytes_eq}
-use Rattle.std.specs.List.{list_any}
 use Rattle.std.specs.Option.{option_map_or}
 use Rattle.rx_event.specs.declared.event.Event.{Event}
 use Rattle.rx_event.specs.declared.mail.Mail.{Mail}
-use Rattle.rx_event.specs.Events.{makes_resource, is_take_of}
 use Rattle.rx_event.specs.Resources.{is_out}
-use Rattle.rx_event.specs.Tree.{at}
 use Rattle.rx_scenario.specs.Scenario.{Name}
 use Rattle.rx_book.specs.declared.key.Key.{Key}
 use Rattle.rx_book.specs.declared.key.ResKey.{ResKey}
 use Rattle.rx_book.specs.declared.key.LeaseKey.{LeaseKey}
-use Rattle.rx_book.specs.State.{State, has_key, IsPromised}
+use Rattle.rx_book.specs.State.{State, has_key, is_kept, IsPromised}
 use Rattle.rx_line.specs.declared.names.Spot.{Spot}
 use Rattle.rx_line.specs.declared.names.Names.{Names}
 use Rattle.rx_line.specs.Names.{spot_of, name_of, IsPaired}
@@ -84,10 +80,6 @@ abbrev pub has_resource : Session → Name → Bool
 has_resource s name = is_some (spot_of s.resources name) || option_map_or (bytes_eq name) s.unnamed false
 
 -- what holds at every moment -------------------------------------------------------------------------
-
--- accepted, and not taken yet
-unfoldable pub is_kept : List Event → ℕ → Bool
-is_kept h r = at makes_resource h r && not (list_any (is_take_of r) h)
 
 -- the numbers that have names are places of the history
 abbrev pub IsPlaced : List Event → Names → Type 0

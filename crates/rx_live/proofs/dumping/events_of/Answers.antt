@@ -1,5 +1,5 @@
 use Rattle.std.proofs.Common.{◌<◌, length, sym, ap, ◌∙◌, arith}
-use Rattle.rx_live.proofs.EventsWithoutBase.{event_more, event_there}
+use Rattle.rx_book.proofs.Laws.EventsWithoutBase.{event_more, event_there}
 use Rattle.rx_live.proofs.dumping.events_of.Goals as goal
 use Rattle.rx_live.proofs.dumping.events_of.Goals.{in-Some+in_ok-push, in_default}
 
