@@ -242,6 +242,19 @@ class Manners(unittest.TestCase):
                 it.dispose()
         self.assertEqual(len(source.observers), 0)
 
+    def test_a_share_below_a_share_where_every_hub_before_it_is_in_use(self):
+        source, told = Subject(), []
+        others = [source.pipe(ops.share()).subscribe() for _ in range(505)]
+        shared = source
+        for _ in range(5):
+            shared = rx.merge(shared.pipe(ops.share()), rx.never())
+        subscription = shared.subscribe(told.append)
+        source.on_next(1)
+        self.assertEqual((told, len(source.observers)), ([1], 506))
+        for it in (subscription, *others):
+            it.dispose()
+        self.assertEqual(len(source.observers), 0)
+
     def test_an_exchange_keeps_the_connection_of_a_share(self):
         connections, source, told = [], Subject(), []
         feed = rx.using(lambda: connections.append("made") or Disposable(lambda: connections.append("released")),

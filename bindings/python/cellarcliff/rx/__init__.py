@@ -110,7 +110,8 @@ def range(start: int, stop: Optional[int] = None, step: Optional[int] = None, sc
 
 def using(resource_factory: Callable[[], Any], observable_factory: Callable[[Any], Any]) -> Observable:
     """An observable with a resource, which is made for each subscription and disposed of once: after the end, or with the
-    subscription. The factory of the resource may answer None."""
+    subscription. The factory of the resource may answer None. Where a factory raises, the observable fails with that; what the
+    disposal raises is raised by the call that ended or disposed of it."""
     return Using(resource_factory, observable_factory)
 
 

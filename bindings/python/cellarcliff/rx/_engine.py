@@ -548,9 +548,10 @@ class Engine:
 
     # hubs, by their place in the order in which they were made
 
-    def take_hub(self, mode: int, level: int, limit: Optional[int]) -> int:
-        """A hub that is free. Below the connection of a hub only those before it may be subscribed to, so a level, which
-        is higher the more shares stand below this one, says where to look first. The lock is held."""
+    def take_hub(self, mode: int, level: int, limit: Optional[int]) -> Optional[int]:
+        """A hub that is free, by its place in their order; None where all that are free are behind the limit. Below the
+        connection of a hub only those before it may be subscribed to, so a level, which is higher the more shares stand below
+        this one, says where to look first. The lock is held."""
         most = self.book.most_hubs
         if not self._hubs:
             self._hubs = [self.book.hub(index % 2) for index in range(most)]
@@ -561,12 +562,11 @@ class Engine:
         at = bisect_left(free, min(level, _LEVELS - 1) * (most // _LEVELS))
         if at >= end:
             at = end - 1
-        if at < 0:
+        if not free:
             raise RuntimeError(
                 f"no hub is left for this share: a book has {most:,}, of which half are for publish() and half for ref_count() and "
-                "share(), and each that has a subscriber or is connected takes one" if limit is None else
-                "no hub is left for this share, which stands below another: all that come before that one's are in use")
-        return free.pop(at)
+                "share(), and each that has a subscriber or is connected takes one")
+        return None if at < 0 else free.pop(at)
 
     def hub_number(self, index: int) -> int:
         return self._hubs[index]

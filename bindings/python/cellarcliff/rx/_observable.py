@@ -779,10 +779,13 @@ class _Share:
         self._many = 0
         self._connection: Any = None
 
-    def _take(self, engine: Engine, limit: Optional[int]) -> int:
+    def _take(self, engine: Engine, limit: Optional[int]) -> Optional[int]:
+        """The number of its hub, which it takes if it has none; None where that would not be before the limit."""
         if self._index is None:
             self._index = engine.take_hub(self._mode, _level(self.source), limit)
-        return engine.hub_number(self._index)
+        elif limit is not None and self._index >= limit:
+            return None
+        return None if self._index is None else engine.hub_number(self._index)
 
     def _give(self, engine: Engine) -> None:
         if not self._many and self._connection is None and self._index is not None:
@@ -793,10 +796,10 @@ class _Share:
         """Opens a subscriber; False where the order of hubs forbids it there."""
         engine = at.engine
         with engine.lock:
-            if self._index is not None and at.hub is not None and self._index >= at.hub:
+            number = self._take(engine, at.hub)
+            if number is None:
                 return False
             try:
-                number = self._take(engine, at.hub)
                 node, connection = engine.book.open(at.place, at.above, SUB, number)
             except BaseException:
                 self._give(engine)
@@ -833,6 +836,7 @@ class _Share:
             if self._connection is not None:
                 return self._connection
             number = self._take(engine, None)
+            assert number is not None
             connection = engine.book.connect(number)
             self._connected(engine, connection)
             index = self._index

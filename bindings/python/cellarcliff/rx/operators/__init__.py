@@ -215,7 +215,7 @@ def scan(accumulator: Callable[[Any, Any], Any], seed: Any = _NOTHING) -> Operat
 
 
 def take(count: int) -> Operator:
-    """The first items, and then the completion."""
+    """The first items, and then the completion; of 0 the completion at once. Raises ArgumentOutOfRangeException below 0."""
     if count < 0:
         raise ArgumentOutOfRangeException("take: a count of 0 or more is expected")
     return lambda source: Fn(source, lambda down: _Take(down, count), ENDING)
@@ -227,7 +227,7 @@ def take_while(predicate: Callable[[Any], Any], inclusive: bool = False) -> Oper
 
 
 def skip(count: int) -> Operator:
-    """All but the first items."""
+    """All but the first items. Raises ArgumentOutOfRangeException below 0."""
     if count < 0:
         raise ArgumentOutOfRangeException("skip: a count of 0 or more is expected")
     return lambda source: Fn(source, lambda down: _Skip(down, count), PLAIN)
@@ -263,7 +263,8 @@ def concat(*sources: Any) -> Operator:
 
 
 def finally_action(action: Callable[[], Any]) -> Operator:
-    """Calls the action once: after the end, or when the subscription is disposed of."""
+    """Calls the action once: after the observer was told the end, or when the subscription is disposed of. What it raises is
+    raised by the call that emitted or disposed, once all else is released."""
     return lambda source: Finally(source, action)
 
 
@@ -273,7 +274,8 @@ def _mapper(mapper: Any) -> Callable[[Any], Any]:
 
 
 def flat_map(mapper: Any = None) -> Operator:
-    """The items of the observables that the items are mapped to: of all of them at once. A mapper may answer an iterable."""
+    """The items of the observables that the items are mapped to: of all of them at once. A mapper may answer an iterable; where it
+    raises, or answers what is no observable, the observable fails with that."""
     return lambda source: Merging(source, _mapper(mapper), False)
 
 
@@ -284,7 +286,8 @@ def flat_map_indexed(mapper_indexed: Any = None) -> Operator:
 
 
 def flat_map_latest(mapper: Any) -> Operator:
-    """The items of the observable that the latest item is mapped to."""
+    """The items of the observable that the latest item is mapped to; the one before it is closed first, and what it holds
+    released. Where the mapper raises, the observable fails."""
     return lambda source: Merging(source, _mapper(mapper), True)
 
 
@@ -298,7 +301,7 @@ def merge_all() -> Operator:
 
 
 def merge(*sources: Any, max_concurrent: Optional[int] = None) -> Operator:
-    """The items of the source and of these."""
+    """The items of the source and of these. Raises NotImplementedError where `max_concurrent` is given."""
     if max_concurrent is not None:
         raise NotImplementedError("merge: max_concurrent is not here; use merge_all(), or RxPY's own over this source")
     return lambda source: Merging(FromIterable((source, *sources), None), _itself, False)
@@ -310,7 +313,8 @@ def switch_latest() -> Operator:
 
 
 def take_until(other: Any) -> Operator:
-    """The items up to the first of the other observable."""
+    """The items up to the first of the other observable, with which it completes; it fails where that one does. Raises TypeError
+    where the other is no observable."""
     return lambda source: Until(source, other)
 
 
@@ -331,14 +335,15 @@ def multicast(subject: Any = None, subject_factory: Any = None, mapper: Any = No
 
 
 def ref_count() -> Operator:
-    """Of a connectable observable: connected while it has a subscriber."""
+    """Of a connectable observable: connected while it has a subscriber. Where no hub is left for it a subscriber is told a
+    RuntimeError."""
     def operate(source: Any) -> Observable:
         return RefCount(source.source) if isinstance(source, Published) else counted(source)
     return operate
 
 
 def share() -> Operator:
-    """publish() and ref_count()."""
+    """publish() and ref_count(): one subscription to the source for all that subscribe, for as long as there are any."""
     return RefCount
 
 
