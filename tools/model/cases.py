@@ -207,7 +207,7 @@ def scenario(rng: random.Random) -> bytes:
     front = rng.choice(stored('.json') or [[]])[:rng.randrange(LONG)] if rng.random() < 0.2 else []
     for step in front:
         commands.repeated(step)
-    made['steps'] = front + commands.steps(rng.randrange(1, 14) if rng.random() < 0.6 or len(front) > 9 else rng.randrange(8, 36))
+    made['steps'] = front + commands.steps(rng.randrange(1, 10) if rng.random() < 0.7 or len(front) > 9 else rng.randrange(8, 36))
     if commands.counts:
         made['events'] = max(1, commands.most - rng.randrange(-1, 4))  # there is just room, or not quite
     if timed and rng.random() < 0.3:
@@ -225,7 +225,7 @@ def session(rng: random.Random) -> list[bytes]:
             commands.book.perform(step)
             commands.book.drain()
             lines.append(json.dumps(step).encode())
-    for _ in range(rng.randrange(1, 14) if rng.random() < 0.6 else rng.randrange(8, 36)):
+    for _ in range(rng.randrange(1, 10) if rng.random() < 0.7 else rng.randrange(8, 36)):
         step = commands.next()
         commands.book.drain()
         line = json.dumps(step).encode()
@@ -297,7 +297,7 @@ def grown(rng: random.Random, h: History, many: int) -> History:
 def grown_history(rng: random.Random) -> list[Event]:
     """A lawful history, or one that is turned at one event; most of these are unlawful there or behind it."""
     h = begun(rng)
-    h = grown(rng, h, rng.randrange(1, 14) if rng.random() < 0.6 or len(h) > 12 else rng.randrange(8, 28))
+    h = grown(rng, h, rng.randrange(1, 10) if rng.random() < 0.7 or len(h) > 12 else rng.randrange(8, 28))
     events, how = list(h), rng.random()
     if how < 0.3 or not events:
         return events

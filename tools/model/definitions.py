@@ -1,16 +1,16 @@
 """What a history of subscriptions means, and which histories may be: the definitions, as Python that can be run.
 
-One function is one definition, in the order and by the names of docs/explanation/definitions.md, with the sentence that it says and,
-where the rule is public, its source: Rx stands for the pages of reactivex.io, System.Reactive for its documentation of
-disposables. What has no source is this project's own. Every function is a search of the history, and keeps nothing but
-what `once` remembers of it. It was written from that page and not from the proved code, with which it shares nothing.
+One function is one definition, in the order and by the names of docs/explanation/definitions.md, with the sentence that it says and, where
+the rule is public, its source: Rx is reactivex.io, System.Reactive its documentation of disposables; the rest is this project's own. Every
+function is a search of the history. It was written from that page and not from the proved code, with which it shares nothing.
 """
 from __future__ import annotations
 
 from typing import NamedTuple
 
-from .events import (COMPLETED, Accept, Close, Connect, Decline, End, Event, History, Hub, Item, Kept, KeptNode, KeptResource, Lease,
-                     Open, Remove, Return, Take, Terminal, Use, history, once)
+from .events import (COMPLETED, Accept, Close, Connect, Decline, End, Event, Hub, Item, Kept, KeptNode, KeptResource, Lease, Open,
+                     Remove, Return, Take, Terminal, Use)
+from .history import History, history, once
 
 MOST_NODES = 1_048_576   # open at a time
 MOST_HUBS = 1_024
@@ -435,8 +435,7 @@ def is_lawful(h: History) -> bool:
 # 12. Steps
 
 def is_step(h: History, outside: list[Event], k: History) -> bool:
-    """k is h, then the caller's events, then events each of which is forced in the history before it; it is lawful and
-    settled."""
+    """k is h, then the caller's events, then events each of which is forced when it comes; it is lawful and settled."""
     events, since = list(k), len(h) + len(outside)
     return (events[:since] == [*h, *outside] and all(is_forced(k.before(n), events[n]) for n in range(since, len(k)))
             and is_lawful(k) and is_settled(k))
@@ -469,8 +468,7 @@ def debt(h: History) -> int:
 # 18. The verdict on a list of events
 
 def verdict(events: list[Event]) -> str:
-    """Unlawful, with the first place whose event may not follow those before it; unsettled, where something is still
-    forced; lawful, with the open nodes, the held and the waiting resources."""
+    """Unlawful, with the first place whose event may not follow; unsettled, where something is forced; lawful, with what is left."""
     h = history([])
     for place, e in enumerate(events):
         if not may_follow(h, e):
@@ -478,8 +476,7 @@ def verdict(events: list[Event]) -> str:
         h = h.then(e)
     return standing(h)
 
-def standing(h: History) -> str:
-    """The verdict on a lawful history."""
+def standing(h: History) -> str:  # the verdict on a lawful history
     if not is_settled(h):
         return 'unsettled\n'
     lists = {'live': open_nodes(h), 'held': [r for r in resources(h) if is_held(h, r)],
@@ -524,6 +521,5 @@ def agree(h: History, k: History) -> bool:
 # 22. One step, one outcome
 
 def canonical(h: History) -> Event:
-    """The one of the forced events that comes first in the canonical order: a hub's connection, else of the first rule
-    that gives one, at the node of the least number."""
+    """What is forced first in the canonical order: a connection, else by the first rule that gives one, at the least node."""
     return forced(h)[0][1]

@@ -134,7 +134,7 @@ def session(rng: random.Random) -> bytes:
     book.put('new', rng.randrange(1, 50) if small else 100_000)
     commands = Commands(rng, book, 2 if small or rng.random() < 0.2 else 0, rare=rng.choice((1, 3)))
     asks = rng.choice((0.05, 0.2, 0.5))
-    for _ in range(rng.randrange(1, 14) if rng.random() < 0.6 else rng.randrange(8, 30)):
+    for _ in range(rng.randrange(1, 10) if rng.random() < 0.7 else rng.randrange(8, 30)):
         commands.next()
         if small and book.calls[-1][0].removesuffix('_told') in ADDS and rng.random() < 0.1:
             book.put('drain', 60, 60)

@@ -3,7 +3,8 @@
 
 Usage: tools/model/try_pages.py, from anywhere; it takes a second. A claim is a sentence of the page, which has to stand in
 its section, and what it says of the section's example. Each fault is a line; the last line counts them, and the status is 1
-where there is one. docs/dev/model.md is compared too: each function that it names is there.
+where there is one. docs/dev/model.md is compared too: each function that it names is there, and each name at the head of a section of
+the page has its place in the table of functions.
 """
 import pathlib
 import re
@@ -11,7 +12,7 @@ import sys
 
 sys.dont_write_bytecode = True
 sys.path.insert(0, str(pathlib.Path(__file__).resolve().parents[1]))
-from model import calls, definitions
+from model import calls, definitions, scenario, typed
 from model.calls import Call, causes, first_cause
 from model.definitions import *
 from model.scenario import Canonical, Course
@@ -159,12 +160,17 @@ def main():
         r'\w+', page[14].partition('in this order: ')[2].partition('.')[0])
     if tuple(order) != calls.REFUSAL_ORDER:
         faults.append(f'the order of refusals is not {", ".join(order)}')
-    names = set()
-    if OURS.exists():
-        table = OURS.read_text(encoding='utf-8').partition('## The functions')[2].partition('\n## ')[0]
-        names = set(re.findall(r'`(\w+)`', table.partition('| Section')[2]))
-        faults += [f'{OURS.name}: the model has no {name}' for name in sorted(names)
-                   if not (hasattr(definitions, name) or hasattr(calls, name) or hasattr(Course, name) or name == 'Course')]
+    names, table = set(), re.findall(r'^\| (\d+) [^|]*\|([^|]*)\|([^|]*)\|$', OURS.read_text(encoding='utf-8'), re.M)
+    ours = {int(n): (set(re.findall(r'`(\w+)`', here)), set(re.findall(r'`(\w+)`', others))) for n, here, others in table}
+    for section, text in page.items():
+        here, others = ours.get(section, (set(), set()))
+        names |= here
+        head = re.sub(r'`(specs|crates)/[^`]*`', '', text.strip().split('\n\n')[0])
+        for name in re.findall(r'`(\w+)`', head):
+            if not {name, re.sub('(?<!^)(?=[A-Z])', '_', name).lower(), name.upper()} & (here | others):
+                faults.append(f'{OURS.name} has nothing beside {name} of section {section}')
+    faults += [f'{OURS.name}: the model has no {name}' for name in sorted(names)
+               if not any(hasattr(it, name) for it in (definitions, calls, scenario, typed, Course))]
     for fault in faults:
         print(fault)
     print(f'{len(CLAIMS)} claims and {len(names)} names, {len(faults)} faults')
