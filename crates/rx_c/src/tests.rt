@@ -3,6 +3,8 @@
 
 mod book;
 mod live;
+mod starved;
+mod telling;
 
 use crate::{rx_audit, rx_run, rx_run_dump};
 use std::test::Fail;

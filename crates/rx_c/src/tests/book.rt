@@ -17,7 +17,7 @@ use std::test::Fail;
 
 // What is called.
 #[derive(Clone, Copy)]
-enum Call {
+pub(super) enum Call {
     Make,
     Open,
     Using,
@@ -47,21 +47,21 @@ enum Call {
 }
 
 // A call with a place or another code, which of the keys so far, and a kind, a tag or a value.
-type Step = (Call, u8, usize, u64);
+pub(super) type Step = (Call, u8, usize, u64);
 
 // A handle, the keys that its calls gave last, and what they answered.
-struct Bench {
-    alloc: Global,
-    handle: BookHandle,
-    nodes: Vec<RxNode>,
-    hub: u64,
-    res: RxRes,
-    lease: RxLease,
+pub(super) struct Bench {
+    pub(super) alloc: Global,
+    pub(super) handle: BookHandle,
+    pub(super) nodes: Vec<RxNode>,
+    pub(super) hub: u64,
+    pub(super) res: RxRes,
+    pub(super) lease: RxLease,
 }
 
 impl Bench {
     // Of a handle of zeros.
-    fn new(alloc: Global) -> Bench {
+    pub(super) fn new(alloc: Global) -> Bench {
         Bench {
             alloc,
             handle: BookHandle::empty(),
@@ -73,7 +73,7 @@ impl Bench {
     }
 
     // The node of this number among those so far; none is 0.
-    fn node(&self, which: usize) -> RxNode {
+    pub(super) fn node(&self, which: usize) -> RxNode {
         match which {
             0 => no_node(),
             _ => self.nodes.get(which - 1).copied().unwrap_or(no_node()),
@@ -203,7 +203,8 @@ impl Bench {
         }
     }
 
-    fn step(&mut self, step: Step) -> Result<u8, AllocError> {
+    // Makes the call.
+    pub(super) fn step(&mut self, step: Step) -> Result<u8, AllocError> {
         Ok(match step.0 {
             Call::Open | Call::Using => self.open(step)?,
             Call::Hold
@@ -244,7 +245,7 @@ impl Bench {
     }
 
     // Drops what the handle keeps.
-    fn close(self) {
+    pub(super) fn close(self) {
         let Bench {
             alloc,
             mut handle,
