@@ -16,11 +16,11 @@
 //!
 //! # What is promised
 //!
-//! Each call says which hub it changes and how. Only `reserve` and `reserve_slots` ask for memory, and
-//! what they refuse changes nothing. A hub is found by its number in steps that grow with the
-//! logarithm of the hubs, and by its index among them in one; no call takes longer where a hub has many
-//! subscribers. `next_forced` gives what is due at some hub, a Connect before anything else, and nothing
-//! only where nothing is due.
+//! Each call says which hub it changes and how. Only `reserve`, `reserve_slots` and, for a checkpoint,
+//! `base_hubs` ask for memory, and what they refuse changes nothing. A hub is found by its number in
+//! steps that grow with the logarithm of the hubs, and by its index among them in one; no call takes
+//! longer where a hub has many subscribers. `next_forced` gives what is due at some hub, a Connect before
+//! anything else, and nothing only where nothing is due.
 //! `Route::next` gives the stops of an item one by one, and takes no memory once there is room for a
 //! frame of each hub.
 //!

@@ -15,8 +15,8 @@
 //! # What is promised
 //!
 //! Each call says which lease comes or goes, and that the others stay. [`Leases::first`] is the lease
-//! of least number. Only [`Leases::reserve`] asks for memory, and what it refuses changes no lease.
-//! No call but `reserve` takes longer where more leases are out.
+//! of least number. Only [`Leases::reserve`] and, for a checkpoint, [`Leases::base_leases`] ask for memory,
+//! and what they refuse changes no lease. No other call takes longer where more leases are out.
 //!
 //! # What is not
 //!

@@ -29,8 +29,9 @@
 //!
 //! Each call says what it answers, which record it changes, and that the others stay. A closing moves
 //! out exactly the node and all below it, each once and as it was. After `reserve(n)`, n calls of
-//! `open` succeed, and after `reserve_resources(n)` n calls of `hold`. Only these four ask for
-//! memory; what they refuse changes no record, and a refused resource comes back.
+//! `open` succeed, and after `reserve_resources(n)` n calls of `hold`. Only these four and, for a
+//! checkpoint, `base_nodes` and `base_resources` ask for memory; what they refuse changes no record, and
+//! a refused resource comes back.
 //!
 //! Each call takes time that does not grow with the tree nor with the resources, but for a closing,
 //! which costs what it moves out.
