@@ -137,6 +137,7 @@ class Model:
         self.of, self.way = package, getattr(package.scenario, way)
 
     def _faulty(self, read: Any, text: bytes) -> Any:
+        self.of.history.forget()
         try:
             return read(text)
         except self.of.texts.Faulty:
@@ -158,6 +159,7 @@ class Model:
         return (3, b'') if verdict is None else (0 if verdict.startswith('lawful') else 5, verdict.encode())
 
     def numbers(self, calls: list[list[Any]]) -> list[tuple[list[Any], list[list[int]]]]:
+        self.of.history.forget()
         book, answers = self.of.typed.Typed(self.way()), []
         for call in calls:
             seen = len(book.h) if book.keeps else 0
@@ -166,6 +168,7 @@ class Model:
         return answers
 
     def live(self, lines: list[bytes], limit: int | None = None, cut: bytes = b'') -> list[str]:
+        self.of.history.forget()
         book = self.of.live.Live(self.way(), limit or 4_194_304)
         said = [book.answer(line) for line in lines]
         return [json.dumps(it, separators=(',', ':')) for it in [*said, book.last()]]

@@ -8,7 +8,7 @@ from typing import Any
 from .cases import Commands
 from .definitions import nodes, open_nodes, owed, resources
 from .scenario import Canonical
-from .typed import ADDS, AT, DONE, KINDS, MODES, REFUSED, TELLS, Typed
+from .typed import ADDS, AT, DONE, KINDS, MODES, TELLS, Typed
 
 MOST = (0, 1, 2, 3, 9, 60)  # that a drain or a dump has room for, or nearly
 

@@ -9,14 +9,14 @@ import random
 import re
 import unittest
 
-from . import cases, numbered, plants_typed, try_pages, typed
-from .compare import COMPARE, difference, smallest
+from . import cases, numbered, try_pages, typed
+from .compare import difference, smallest
 from .definitions import *
 from .engines import Model, copy_of_the_model
 from .explain import explain
 from .handle import WORDS
 from .history import History
-from .plants import PLANTS
+from .plants_typed import PLANTS
 from .scenario import Canonical, Course, Differs
 from .texts import Faulty, dump_of, events_of, json_of, line_of, scenario_of
 from .typed import TELLS, Typed, event_of, moved, numbers_of

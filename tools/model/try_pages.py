@@ -13,7 +13,7 @@ import sys
 sys.dont_write_bytecode = True
 sys.path.insert(0, str(pathlib.Path(__file__).resolve().parents[1]))
 from model import calls, definitions, scenario, typed
-from model.calls import Call, causes, first_cause
+from model.calls import Call, first_cause
 from model.definitions import *
 from model.scenario import Canonical, Course
 from model.texts import event_of, json_of

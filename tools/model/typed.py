@@ -7,18 +7,17 @@ An answer is the status, and what else the call writes, in order: a key as its n
 from __future__ import annotations
 
 import json
-from collections.abc import Callable
 from typing import Any
 
 from .calls import Call, outside_of
-from .definitions import (COMPLETED, PLACES, Accept, Close, Connect, Decline, End, Event, History, Hub, Item, Lease, Note, Open, Remove,
-                          Return, Take, Use, accepted_count, at, forced, held_count, is_allowed, is_held, is_open, is_out, is_waiting,
+from .definitions import (COMPLETED, Accept, Close, Connect, Decline, End, Event, Hub, Item, Lease, Note, Open, Remove,
+                          Return, Take, Use, accepted_count, at, held_count, is_allowed, is_held, is_open, is_out, is_waiting,
                           kind_of, notes, open_nodes, owed, resources, taken_count, waiting_count)
 from .scenario import Book, Canonical, Differs, Following
 from .texts import dump_of
 
-AT, KINDS, MODES, WHAT = ('root', 'source', 'inner', 'notifier'), ('leaf', 'pass', 'flat', 'switch', 'until', 'sub'), ('auto', 'manual'), (
-    Open, Hub, Connect, Accept, Use, Remove, Lease, Return, Item, Decline, End, Close, Take)
+AT, KINDS, MODES = ('root', 'source', 'inner', 'notifier'), ('leaf', 'pass', 'flat', 'switch', 'until', 'sub'), ('auto', 'manual')
+WHAT = (Open, Hub, Connect, Accept, Use, Remove, Lease, Return, Item, Decline, End, Close, Take)
 NOTES = ('next', 'project', COMPLETED, 'error')
 DONE, NOTHING_KEPT, NOTHING_WAITS, HELD, NO_MEMORY, NO_SUCH_CODE, UNTAKEN, SMALL, CUT = range(9)
 REFUSED = {name: status for status, name in enumerate((
@@ -39,7 +38,7 @@ def code(words: tuple[str, ...], number: int) -> str | None:
 
 def numbers_of(e: Event) -> list[int]:
     """An event as the members of `struct rx_event`: what, place, kind, how, of, other, value."""
-    what, by = WHAT.index(type(e)), [0] * 4
+    what = WHAT.index(type(e))
     match e:
         case Open(place, of, kind, hub):
             return [what, AT.index(place), KINDS.index(kind), 0, of or 0, hub or 0, 0]
