@@ -6,10 +6,10 @@ ghost use Rattle.rx_ledger.specs.Shares.{Opens};
 ghost use Rattle.rx_crew.specs.declared.feeding.Pull.{Pull};
 
 use super::parts::blanks;
-use rx_book::{At, Book, Mail};
-use rx_crew::{Desk, Pull, Source, Stop, feed};
+use rx_book::{At, Book, Key, Mail};
+use rx_crew::{Desk, Floor, Pull, Source, Stop, feed};
 use rx_event::{Event, Kind, Refusal, Terminal};
-use rx_ledger::Seat;
+use rx_ledger::{Receipt, Seat};
 use rx_note::Note;
 use rx_resource::Sample;
 use std::alloc::Global;
@@ -50,8 +50,11 @@ impl Source for Single {
     }
 }
 
-// Why feeds stop, and which events they have receipts of, with their places.
-type Told = ([Stop; 4], Vec<(u64, Event)>);
+// Why feeds stop, and which receipts they give.
+type Told = (
+    [Stop; 4],
+    (Vec<Receipt>, Vec<Receipt>, Vec<Receipt>, Vec<Receipt>),
+);
 
 // What four feeds of one leaf tell, of no turn, one turn and many, and of many once the leaf has ended.
 fn fed<I: Ledger, A: Ledger, K: Ledger>(
@@ -59,8 +62,8 @@ fn fed<I: Ledger, A: Ledger, K: Ledger>(
     alloc: Global,
     desk: &Desk<Sample, I, A, K>,
     seat: Seat<I, A, K>,
-) -> Result<Told, Fail> {
-    let leaf = desk.floor.lock(rt).open(At::Root, Kind::Leaf)?.key;
+    leaf: Key,
+) -> Told {
     let mut source = Single::completing();
     let none = feed(rt, alloc, desk, seat, leaf, &mut source, 0);
     let mut source = Single::completing();
@@ -69,13 +72,10 @@ fn fed<I: Ledger, A: Ledger, K: Ledger>(
     let all = feed(rt, alloc, desk, one.seat, leaf, &mut source, 9);
     let mut source = Single::completing();
     let late = feed(rt, alloc, desk, all.seat, leaf, &mut source, 9);
-    let mut events = Vec::new(alloc);
-    for receipts in [none.receipts, one.receipts, all.receipts, late.receipts] {
-        for receipt in receipts {
-            events.push((receipt.place, receipt.event))?;
-        }
-    }
-    Ok(([none.stop, one.stop, all.stop, late.stop], events))
+    (
+        [none.stop, one.stop, all.stop, late.stop],
+        (none.receipts, one.receipts, all.receipts, late.receipts),
+    )
 }
 
 // Makes the desk for it.
@@ -90,55 +90,62 @@ fn at_desk<I: Ledger, A: Ledger, K: Ledger>(
 {
     let book = Book::new(alloc, 1000);
     let (desk, seat) = Desk::<Sample, I, A, K>::new(book, blanks.0, blanks.1, blanks.2);
-    fed(rt, alloc, &desk, seat)
+    let leaf = desk.floor.lock(rt).open(At::Root, Kind::Leaf)?.key;
+    Ok(fed(rt, alloc, &desk, seat, leaf))
+}
+
+fn receipt(place: u64, event: Event) -> Receipt {
+    Receipt { place, event }
 }
 
 #[test]
 fn a_feed_stops_at_its_turns_at_the_end_and_when_refused(rt: HostRuntime) -> Result<(), Fail> {
-    let (stops, events) = at_desk::<Brand, Brand, Brand>(&rt, rt.alloc(), blanks())?;
+    let (stops, (none, one, all, late)) = at_desk::<Brand, Brand, Brand>(
+        &rt,
+        rt.alloc(),
+        blanks(),
+    )?;
     let gone = Stop::Refused(Refusal::Gone);
     assert_eq!(rt; stops, [Stop::Turns, Stop::Turns, Stop::Done, gone]);
+    assert!(rt; none.is_empty() && late.is_empty());
     let end = Event::End(0, Terminal::Completed);
-    let (first, second) = (Event::Item(0, 5), Event::Item(0, 5));
+    let first = [receipt(1, Event::Item(0, 5))];
+    let rest = [receipt(2, Event::Item(0, 5)), receipt(3, end)];
     assert_eq!(rt;
-        events.as_slice(),
-        [(1, first), (2, second), (3, end)].as_slice()
+        (one.as_slice(), all.as_slice()),
+        (first.as_slice(), rest.as_slice())
     );
     Ok(())
 }
 
-// Why three feeds stop, one of a leaf, one that begins with its end, and one of a node that is no leaf; the
-// events that they may have written, and the notes that are left.
-type Written = ([Stop; 3], [Option<Event>; 4], [Option<Mail>; 4]);
-
-// A source that fails is fed, and what the desk has then is looked at.
-fn written<I: Ledger, A: Ledger, K: Ledger>(
+// Three feeds, of a leaf whose source fails, of another that begins with its end, and of a node that is no leaf:
+// why they stop, and the receipts of the second.
+fn feed_three<I: Ledger, A: Ledger, K: Ledger>(
     rt: &impl Wait,
     alloc: Global,
-    blanks: (Blank, Blank, Blank),
-) -> Result<Written, Fail>
-    requires items { Opens I.name I.parts blanks.0.name blanks.0.parts }
-    requires accepted { Opens A.name A.parts blanks.1.name blanks.1.parts }
-    requires taken { Opens K.name K.parts blanks.2.name blanks.2.parts }
-{
-    let book = Book::new(alloc, 1000);
-    let (desk, seat) = Desk::<Sample, I, A, K>::new(book, blanks.0, blanks.1, blanks.2);
-    let pass = desk.floor.lock(rt).open(At::Root, Kind::Pass)?.key;
-    let leaf = desk.floor.lock(rt).open(At::Root, Kind::Leaf)?.key;
-    let other = desk.floor.lock(rt).open(At::Root, Kind::Leaf)?.key;
+    desk: &Desk<Sample, I, A, K>,
+    seat: Seat<I, A, K>,
+    [leaf, other, pass]: [Key; 3],
+) -> ([Stop; 3], Vec<Receipt>) {
     let mut source = Single {
         left: 2,
         terminal: Terminal::Error(7),
     };
-    let failed = feed(rt, alloc, &desk, seat, leaf, &mut source, 9);
+    let failed = feed(rt, alloc, desk, seat, leaf, &mut source, 9);
     let mut source = Single {
         left: 1,
         terminal: Terminal::Completed,
     };
-    let ended = feed(rt, alloc, &desk, failed.seat, other, &mut source, 9);
+    let ended = feed(rt, alloc, desk, failed.seat, other, &mut source, 9);
     let mut source = Single::completing();
-    let refused = feed(rt, alloc, &desk, ended.seat, pass, &mut source, 9);
-    let mut floor = desk.floor.lock(rt);
+    let refused = feed(rt, alloc, desk, ended.seat, pass, &mut source, 9);
+    ([failed.stop, ended.stop, refused.stop], ended.receipts)
+}
+
+// The events from 3 to 6, and four notes.
+type Left = ([Option<Event>; 4], [Option<Mail>; 4]);
+
+fn look_at<I: Ledger, A: Ledger, K: Ledger>(floor: &mut Floor<Sample, I, A, K>) -> Left {
     let events = [
         floor.event(3),
         floor.event(4),
@@ -151,36 +158,59 @@ fn written<I: Ledger, A: Ledger, K: Ledger>(
         floor.take_mail(),
         floor.take_mail(),
     ];
-    Ok(([failed.stop, ended.stop, refused.stop], events, mail))
+    (events, mail)
+}
+
+// A node that mirrors, and two leaves: the leaves and then the other.
+fn three_roots<I: Ledger, A: Ledger, K: Ledger>(
+    floor: &mut Floor<Sample, I, A, K>,
+) -> Result<[Key; 3], Refusal> {
+    let pass = floor.open(At::Root, Kind::Pass)?.key;
+    let leaf = floor.open(At::Root, Kind::Leaf)?.key;
+    let other = floor.open(At::Root, Kind::Leaf)?.key;
+    Ok([leaf, other, pass])
+}
+
+// Makes the desk for them, and tells what is left there.
+fn written<I: Ledger, A: Ledger, K: Ledger>(
+    rt: &impl Wait,
+    alloc: Global,
+    blanks: (Blank, Blank, Blank),
+) -> Result<([Stop; 3], Vec<Receipt>, Left), Fail>
+    requires items { Opens I.name I.parts blanks.0.name blanks.0.parts }
+    requires accepted { Opens A.name A.parts blanks.1.name blanks.1.parts }
+    requires taken { Opens K.name K.parts blanks.2.name blanks.2.parts }
+{
+    let book = Book::new(alloc, 1000);
+    let (desk, seat) = Desk::<Sample, I, A, K>::new(book, blanks.0, blanks.1, blanks.2);
+    let roots = three_roots(&mut desk.floor.lock(rt))?;
+    let (stops, receipts) = feed_three(rt, alloc, &desk, seat, roots);
+    let left = look_at(&mut desk.floor.lock(rt));
+    Ok((stops, receipts, left))
+}
+
+fn mail(place: u64, to: u64, note: Note) -> Option<Mail> {
+    Some(Mail { place, to, note })
 }
 
 #[test]
 fn a_feed_writes_what_was_pulled_and_takes_no_note(rt: HostRuntime) -> Result<(), Fail> {
-    let (stops, events, mail) = written::<Brand, Brand, Brand>(&rt, rt.alloc(), blanks())?;
+    let (stops, receipts, (events, notes)) = written::<Brand, Brand, Brand>(
+        &rt,
+        rt.alloc(),
+        blanks(),
+    )?;
     let wrong = Stop::Refused(Refusal::WrongKind);
     assert_eq!(rt; stops, [Stop::Done, Stop::Done, wrong]);
-    let error = Terminal::Error(7);
-    let (item, end) = (Event::Item(1, 5), Event::End(1, error));
-    let other = Event::End(2, Terminal::Completed);
-    assert_eq!(rt; events, [Some(item), Some(end), Some(other), None]);
-    let told = [
-        Some(Mail {
-            place: 3,
-            to: 1,
-            note: Note::Next(5),
-        }),
-        Some(Mail {
-            place: 4,
-            to: 1,
-            note: Note::End(error),
-        }),
-        Some(Mail {
-            place: 5,
-            to: 2,
-            note: Note::End(Terminal::Completed),
-        }),
-        None,
-    ];
-    assert_eq!(rt; mail, told);
+    let (failed, done) = (Terminal::Error(7), Terminal::Completed);
+    let ended = Event::End(2, done);
+    assert_eq!(rt; receipts.as_slice(), [receipt(5, ended)].as_slice());
+    let items = [Some(Event::Item(1, 5)), Some(Event::End(1, failed))];
+    assert_eq!(rt; events, [items[0], items[1], Some(ended), None]);
+    let first = [mail(3, 1, Note::Next(5)), mail(4, 1, Note::End(failed))];
+    assert_eq!(rt;
+        notes,
+        [first[0], first[1], mail(5, 2, Note::End(done)), None]
+    );
     Ok(())
 }

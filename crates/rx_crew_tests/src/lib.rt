@@ -4,25 +4,25 @@
 #[cfg(test)]
 mod caller;
 #[cfg(test)]
-mod calls;
-#[cfg(test)]
 mod checkpoints;
 #[cfg(test)]
 mod closed;
 #[cfg(test)]
 mod day;
 #[cfg(test)]
+mod desk_calls;
+#[cfg(test)]
 mod endless;
 #[cfg(test)]
 mod feeds;
-#[cfg(test)]
-mod hubs;
 #[cfg(test)]
 mod leases;
 #[cfg(test)]
 mod meetings;
 #[cfg(test)]
 mod parts;
+#[cfg(test)]
+mod rows;
 #[cfg(test)]
 mod ticks;
 #[cfg(test)]
