@@ -2,7 +2,7 @@
 
 use super::probe::{Back, Probe, Totals, untouched};
 use rx_book::{At, Key, ResKey};
-use rx_event::{Kind, Mode, Refusal};
+use rx_event::{Event, Kind, Mode, Refusal};
 use rx_resource::Sample;
 
 // The tag of each resource that is handed in.
@@ -10,7 +10,7 @@ const TAG: u64 = 7;
 
 #[derive(Clone, Copy)]
 pub(super) enum Asking {
-    Open(At),
+    Open(At, Kind),
     OpenUsing(At),
     Hold(Key),
     Apply(ResKey),
@@ -19,62 +19,52 @@ pub(super) enum Asking {
     Hub,
     // By hand, the hub of this number.
     Connect(u64),
-    // At the root, to the hub of this number.
-    Subscribe(u64),
     Checkpoint,
 }
 
-// What came of a call: it was done, and opened a node or not; it was refused for want of memory, and its
+// What came of a call: it opened a node, or answered a number; it was refused for want of memory, and its
 // resource came back as it was; or anything else.
-#[derive(Clone, Copy)]
+#[derive(Clone, Copy, PartialEq, Eq)]
 pub(super) enum Outcome {
-    Done(Option<Key>),
+    Opened(Key),
+    Done(u64),
     NoMemory,
     Other,
 }
 
 pub(super) fn ask(book: &mut Probe<Sample>, asking: Asking) -> Outcome {
     match asking {
-        Asking::Open(at) => match book.open(at, Kind::Pass) {
-            Ok(opened) => Outcome::Done(Some(opened.key)),
+        Asking::Open(at, kind) => match book.open(at, kind) {
+            Ok(opened) => Outcome::Opened(opened.key),
             Err(why) => refused(why),
         },
         Asking::OpenUsing(at) => match book.open_using(at, Sample::new(TAG)) {
-            Ok(opened) => Outcome::Done(Some(opened.key)),
+            Ok(opened) => Outcome::Opened(opened.key),
             Err(back) => given_back(back),
         },
         Asking::Hold(node) => match book.hold(node, Sample::new(TAG)) {
-            Ok(_) => Outcome::Done(None),
+            Ok(res) => Outcome::Done(res.number),
             Err(back) => given_back(back),
         },
-        Asking::Apply(res) => match book.apply(res, 1) {
-            Ok(_) => Outcome::Done(None),
-            Err(why) => refused(why),
-        },
         Asking::Lease(res) => match book.lease(res) {
-            Ok(_) => Outcome::Done(None),
-            Err(why) => refused(why),
-        },
-        Asking::Next(leaf) => match book.next(leaf, 1) {
-            Ok(_) => Outcome::Done(None),
-            Err(why) => refused(why),
-        },
-        Asking::Hub => match book.hub(Mode::Auto) {
-            Ok(_) => Outcome::Done(None),
+            Ok(lease) => Outcome::Done(lease.number),
             Err(why) => refused(why),
         },
         Asking::Connect(hub) => match book.connect(hub) {
-            Ok(key) => Outcome::Done(Some(key)),
+            Ok(key) => Outcome::Opened(key),
             Err(why) => refused(why),
         },
-        Asking::Subscribe(hub) => match book.open(At::Root, Kind::Sub(hub)) {
-            Ok(opened) => Outcome::Done(opened.connected),
-            Err(why) => refused(why),
-        },
-        Asking::Checkpoint => match book.checkpoint() {
-            Ok(_) => Outcome::Done(None),
-            Err(why) => refused(why),
-        },
+        Asking::Apply(res) => outcome_of(book.apply(res, 1)),
+        Asking::Next(leaf) => outcome_of(book.next(leaf, 1)),
+        Asking::Hub => outcome_of(book.hub(Mode::Auto)),
+        Asking::Checkpoint => outcome_of(book.checkpoint()),
+    }
+}
+
+fn outcome_of(answer: Result<u64, Refusal>) -> Outcome {
+    match answer {
+        Ok(number) => Outcome::Done(number),
+        Err(why) => refused(why),
     }
 }
 
@@ -95,35 +85,53 @@ fn given_back(back: Back) -> Outcome {
 }
 
 // What is seen of a book before and after a call: its counts, how many nodes are open, its first root, how
-// many leases are out, and whether that which the call names is there, or gives up: the events of a checkpoint.
+// many leases are out, the first hub that is connected by hand, the last event, and what the call names.
 #[derive(Clone, Copy, PartialEq, Eq)]
 pub(super) struct Sight {
     totals: Totals,
     open: u64,
     root: Option<Key>,
     leases: u64,
-    is_there: bool,
+    manual: Option<u64>,
+    last: Option<Event>,
+    named: Option<bool>,
 }
 
 pub(super) fn sight_of(book: &Probe<Sample>, asking: Asking) -> Sight {
+    let totals = book.totals();
     Sight {
-        totals: book.totals(),
+        totals,
         open: book.open_count(),
         root: book.open_root(),
         leases: book.leases(),
-        is_there: is_there(book, asking),
+        manual: book.open_manual(),
+        last: book.event(totals.len.saturating_sub(1)),
+        named: is_there(book, asking),
     }
 }
 
-fn is_there(book: &Probe<Sample>, asking: Asking) -> bool {
+// Whether that which the call names is there, or gives up: the events of a checkpoint. None where it names
+// nothing.
+fn is_there(book: &Probe<Sample>, asking: Asking) -> Option<bool> {
     match asking {
-        Asking::Open(at) | Asking::OpenUsing(at) => match at {
-            At::Root => true,
-            At::Source(node) | At::Inner(node) | At::Notifier(node) => book.is_open(node),
-        },
-        Asking::Hold(node) | Asking::Next(node) => book.is_open(node),
-        Asking::Apply(res) | Asking::Lease(res) => book.is_held(res),
-        Asking::Hub | Asking::Connect(_) | Asking::Subscribe(_) => true,
-        Asking::Checkpoint => book.event(0).is_some(),
+        Asking::Open(at, _) => is_place(book, at),
+        Asking::OpenUsing(at) => is_place(book, at),
+        Asking::Hold(node) => Some(book.is_open(node)),
+        Asking::Next(leaf) => Some(book.is_open(leaf)),
+        Asking::Apply(res) => Some(book.is_held(res)),
+        Asking::Lease(res) => Some(book.is_held(res)),
+        Asking::Connect(hub) => Some(book.event(hub) == Some(Event::Hub(Mode::Manual))),
+        Asking::Checkpoint => Some(book.event(0).is_some()),
+        Asking::Hub => None,
+    }
+}
+
+// Whether the node above is open, where there is one.
+fn is_place(book: &Probe<Sample>, at: At) -> Option<bool> {
+    match at {
+        At::Root => None,
+        At::Source(node) => Some(book.is_open(node)),
+        At::Inner(node) => Some(book.is_open(node)),
+        At::Notifier(node) => Some(book.is_open(node)),
     }
 }

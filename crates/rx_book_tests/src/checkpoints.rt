@@ -1,22 +1,21 @@
 //! Checkpoints: what the history leaves stands in place of its events, and all goes on as before.
 
 use super::asking::Asking;
-use super::probe::{Probe, Totals, unused, used};
+use super::probe::{Given, Probe, Totals, unused, used};
 use super::same::same;
 use super::want::done_in_the_end;
-use rx_book::{At, Key, LeaseKey, Mail, ResKey};
-use rx_event::{Event, Kind, Mode, Refusal, Terminal};
-use rx_note::Note;
+use rx_book::{At, Key, LeaseKey, ResKey};
+use rx_event::{Event, Kind, Mode, Refusal};
 use rx_resource::Sample;
 use rx_scarce::Scarce;
 use std::alloc::Global;
+use std::process::Abort;
 use std::test::Fail;
 
-// A book with a resource that is held and leased, one that waits, and one that was taken; a hub that is
-// connected with its subscriber, one that is connected by hand, and one that is not connected.
-#[derive(Drop)]
+// The keys of a book with a resource that is held and leased, one that waits, and one that was taken; a hub that
+// is connected with its subscriber, one that is connected by hand, and one that is not connected.
+#[derive(Clone, Copy)]
 struct Scene {
-    book: Probe<Sample>,
     root: Key,
     leaf: Key,
     connection: Key,
@@ -27,27 +26,39 @@ struct Scene {
     manual: u64,
 }
 
-fn new_scene(alloc: Global) -> Result<Scene, Fail> {
-    let mut book = Probe::new(alloc, 1000);
-    let opened = book.open_using(At::Root, Sample::new(1))?;
-    let leaf = book.open(At::Source(opened.key), Kind::Leaf)?.key;
+// Holds a resource that is removed and taken, and one that is used and removed.
+fn make_removed(book: &mut Probe<Sample>, leaf: Key) -> Result<ResKey, Fail> {
     let taken = book.hold(leaf, Sample::new(2))?;
     book.remove(taken)?;
     book.take();
     let removed = book.hold(leaf, Sample::new(3))?;
     book.apply(removed, 5)?;
     book.remove(removed)?;
-    let lease = book.lease(opened.res)?;
+    Ok(removed)
+}
+
+// A hub that connects for its subscriber, one that is connected by hand, and one that is not: the connections,
+// and the number of the second.
+fn make_hubs(book: &mut Probe<Sample>) -> Result<(Key, Key, u64), Fail> {
     let auto = book.hub(Mode::Auto)?;
     let manual = book.hub(Mode::Manual)?;
     book.hub(Mode::Manual)?;
     let by_hand = book.connect(manual)?;
     let subscribed = book.open(At::Root, Kind::Sub(auto))?;
+    let connection = subscribed.connected.ok_or(Refusal::NotConnected)?;
+    Ok((connection, by_hand, manual))
+}
+
+fn make_scene(book: &mut Probe<Sample>) -> Result<Scene, Fail> {
+    let opened = book.open_using(At::Root, Sample::new(1))?;
+    let leaf = book.open(At::Source(opened.key), Kind::Leaf)?.key;
+    let removed = make_removed(book, leaf)?;
+    let lease = book.lease(opened.res)?;
+    let (connection, by_hand, manual) = make_hubs(book)?;
     Ok(Scene {
-        book,
         root: opened.key,
         leaf,
-        connection: subscribed.connected.ok_or(Refusal::NotConnected)?,
+        connection,
         by_hand,
         res: opened.res,
         removed,
@@ -58,143 +69,109 @@ fn new_scene(alloc: Global) -> Result<Scene, Fail> {
 
 // What is seen of the scene: its counts and open nodes, its leases, what is connected by hand, and which of
 // its keys are good.
-type Seen = (
-    Totals,
-    Option<Key>,
-    [u64; 2],
-    Option<LeaseKey>,
-    Option<u64>,
-    [bool; 6],
-);
-
-fn seen(scene: &Scene) -> Seen {
-    let book = &scene.book;
-    let good = [
-        book.is_open(scene.root),
-        book.is_open(scene.leaf),
-        book.is_open(scene.connection),
-        book.is_open(scene.by_hand),
-        book.is_held(scene.res),
-        book.is_held(scene.removed),
-    ];
-    let counts = [book.open_count(), book.leases()];
-    let lease = book.open_lease();
-    (
-        book.totals(),
-        book.open_root(),
-        counts,
-        lease,
-        book.open_manual(),
-        good,
-    )
+#[derive(Clone, Copy, Debug, PartialEq, Eq)]
+struct Seen {
+    totals: Totals,
+    root: Option<Key>,
+    open: u64,
+    leases: u64,
+    lease: Option<LeaseKey>,
+    manual: Option<u64>,
+    good: [bool; 6],
 }
 
-#[test]
-fn a_checkpoint_makes_room_where_a_book_was_full(rt: HostRuntime) -> Result<(), Fail> {
-    let mut book = Probe::new(rt.alloc(), 6);
-    let opened = book.open_using(At::Root, Sample::new(1))?;
-    book.apply(opened.res, 7)?;
-    same(&rt, book.apply(opened.res, 7), Err(Refusal::Full));
-    same(&rt, book.checkpoint(), Ok(3));
-    same(&rt, book.event(1), None);
-    for place in [3, 4, 5] {
-        book.apply(opened.res, 7)?;
-        same(&rt, book.event(place), Some(Event::Use(1)));
+fn look_at(book: &Probe<Sample>, scene: Scene) -> Seen {
+    Seen {
+        totals: book.totals(),
+        root: book.open_root(),
+        open: book.open_count(),
+        leases: book.leases(),
+        lease: book.open_lease(),
+        manual: book.open_manual(),
+        good: [
+            book.is_open(scene.root),
+            book.is_open(scene.leaf),
+            book.is_open(scene.connection),
+            book.is_open(scene.by_hand),
+            book.is_held(scene.res),
+            book.is_held(scene.removed),
+        ],
     }
-    same(&rt, book.apply(opened.res, 7), Err(Refusal::Full));
-    same(&rt, book.remove(opened.res), Ok(6));
-    same(&rt, book.take(), Some(used(1, 1, 4)));
-    same(&rt, book.event(7), Some(Event::Take(1)));
-    same(&rt, book.dispose(opened.key), Ok(8));
-    same(&rt, book.totals().len, 9);
-    Ok(())
 }
 
-#[test]
-fn a_checkpoint_keeps_what_a_flat_map_owes(rt: HostRuntime) -> Result<(), Fail> {
-    let mut book: Probe<Sample> = Probe::new(rt.alloc(), 1000);
-    let flat = book.open(At::Root, Kind::Flat)?.key;
-    let source = book.open(At::Source(flat), Kind::Leaf)?.key;
-    same(&rt, book.next(source, 5), Ok(2));
-    same(&rt, book.end(source, Terminal::Completed), Ok(3));
-    same(&rt, book.checkpoint(), Err(Refusal::MailLeft));
-    let told = Mail {
-        place: 2,
-        to: 0,
-        note: Note::Project(5),
-    };
-    same(&rt, book.take_mail(), Some(told));
-    same(&rt, book.checkpoint(), Ok(4));
-    let again = book.open(At::Source(flat), Kind::Leaf);
-    same(&rt, again, Err(Refusal::PlaceTaken));
-    let inner = book.open(At::Inner(flat), Kind::Leaf)?.key;
-    same(
-        &rt,
-        (inner.number, book.end(inner, Terminal::Completed)),
-        (4, Ok(5)),
-    );
-    let forced = Event::End(0, Terminal::Completed);
-    same(
-        &rt,
-        [book.event(5), book.event(6)],
-        [Some(Event::End(4, Terminal::Completed)), Some(forced)],
-    );
-    same(&rt, (book.open_count(), book.totals().len), (0, 7));
-    Ok(())
+// Makes a checkpoint, twice, which changes nothing that is seen.
+fn pause_twice(rt: &impl Abort, book: &mut Probe<Sample>, scene: Scene) -> Result<u64, Fail> {
+    let before = look_at(book, scene);
+    let len = book.checkpoint()?;
+    same(rt, (len, look_at(book, scene)), (before.totals.len, before));
+    same(rt, book.checkpoint(), Ok(len));
+    same(rt, look_at(book, scene), before);
+    Ok(len)
+}
+
+// The last event is gone, and an item comes behind it.
+fn go_on(rt: &impl Abort, book: &mut Probe<Sample>, leaf: Key, len: u64) {
+    same(rt, book.event(len.wrapping_sub(1)), None);
+    same(rt, book.next(leaf, 3), Ok(len));
+    same(rt, book.event(len), Some(Event::Item(leaf.number, 3)));
+    same(rt, book.checkpoint(), Err(Refusal::MailLeft));
 }
 
 #[test]
 fn a_checkpoint_keeps_keys_and_counts(rt: HostRuntime) -> Result<(), Fail> {
-    let mut scene = new_scene(rt.alloc())?;
-    let before = seen(&scene);
-    let len = scene.book.totals().len;
-    same(&rt, scene.book.checkpoint(), Ok(len));
-    same(&rt, seen(&scene), before);
-    same(&rt, scene.book.checkpoint(), Ok(len));
-    same(&rt, seen(&scene), before);
-    let last = len.wrapping_sub(1);
-    same(&rt, scene.book.event(last), None);
-    same(&rt, scene.book.next(scene.leaf, 3), Ok(len));
-    same(
-        &rt,
-        scene.book.event(len),
-        Some(Event::Item(scene.leaf.number, 3)),
-    );
-    same(&rt, scene.book.checkpoint(), Err(Refusal::MailLeft));
+    let mut book = Probe::new(rt.alloc(), 1000);
+    let scene = make_scene(&mut book)?;
+    let len = pause_twice(&rt, &mut book, scene)?;
+    go_on(&rt, &mut book, scene.leaf, len);
     Ok(())
+}
+
+// Closes the root and gives the lease back: what waits then, at each of the three steps.
+fn end_root(book: &mut Probe<Sample>, scene: Scene) -> Result<[Option<Given>; 3], Fail> {
+    let before = book.take();
+    book.dispose(scene.root)?;
+    let between = book.take();
+    book.give_back(scene.lease)?;
+    Ok([before, between, book.take()])
+}
+
+// Disconnects the hub that is connected by hand, and closes the book: which connections are open between.
+fn end_hubs(book: &mut Probe<Sample>, scene: Scene) -> Result<[bool; 2], Fail> {
+    book.disconnect(scene.manual)?;
+    let open = [book.is_open(scene.by_hand), book.is_open(scene.connection)];
+    book.checkpoint()?;
+    book.close();
+    Ok(open)
 }
 
 #[test]
 fn what_a_checkpoint_kept_is_ended_by_its_keys(rt: HostRuntime) -> Result<(), Fail> {
-    let mut scene = new_scene(rt.alloc())?;
-    scene.book.checkpoint()?;
-    let book = &mut scene.book;
-    same(&rt, book.take(), Some(used(scene.removed.number, 3, 1)));
-    book.dispose(scene.root)?;
-    same(&rt, book.take(), None);
-    book.give_back(scene.lease)?;
-    same(&rt, book.take(), Some(unused(scene.res.number, 1)));
-    book.disconnect(scene.manual)?;
-    let open = [book.is_open(scene.by_hand), book.is_open(scene.connection)];
-    same(&rt, open, [false, true]);
-    same(&rt, book.checkpoint(), Ok(book.totals().len));
-    book.close();
+    let mut book = Probe::new(rt.alloc(), 1000);
+    let scene = make_scene(&mut book)?;
+    book.checkpoint()?;
+    let removed = Some(used(scene.removed.number, 3, 1));
+    let leased = Some(unused(scene.res.number, 1));
+    same(&rt, end_root(&mut book, scene)?, [removed, None, leased]);
+    same(&rt, end_hubs(&mut book, scene)?, [false, true]);
     same(&rt, (book.open_count(), book.totals().taken), (0, 3));
     Ok(())
 }
 
+// Makes a checkpoint with no memory at first: how often it was refused.
+fn pause_in_the_end(alloc: Global, book: &mut Probe<Sample>) -> Result<usize, Fail> {
+    let mut scarce = Scarce::new(alloc)?;
+    match done_in_the_end(book, Asking::Checkpoint, &mut scarce) {
+        Some((_, refusals)) => Ok(refusals),
+        None => Err(Fail::from("a refused checkpoint changed the book")),
+    }
+}
+
 #[test]
 fn a_checkpoint_that_is_refused_memory_changes_nothing(rt: HostRuntime) -> Result<(), Fail> {
-    let alloc = rt.alloc();
-    let mut scene = new_scene(alloc)?;
-    let before = seen(&scene);
-    let done = {
-        let mut scarce = Scarce::new(alloc)?;
-        done_in_the_end(&mut scene.book, Asking::Checkpoint, &mut scarce)
-    };
-    let refusals = done.map_or(0, |(_, refusals)| refusals);
-    assert!(rt; 0 < refusals, "refused {refusals} times");
-    same(&rt, seen(&scene), before);
-    same(&rt, scene.book.event(0), None);
+    let mut book = Probe::new(rt.alloc(), 1000);
+    let scene = make_scene(&mut book)?;
+    let before = look_at(&book, scene);
+    assert!(rt; pause_in_the_end(rt.alloc(), &mut book)? > 0);
+    same(&rt, (look_at(&book, scene), book.event(0)), (before, None));
     Ok(())
 }

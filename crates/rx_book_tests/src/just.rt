@@ -66,7 +66,7 @@ fn fill(book: &mut Probe<Sample>, full: Full) -> Result<Asking, Fail> {
     match full {
         Full::Events => fill_events(book),
         Full::Notes => fill_notes(book),
-        Full::Nodes => fill_nodes(book, Asking::Open(At::Root)),
+        Full::Nodes => fill_nodes(book, Asking::Open(At::Root, Kind::Pass)),
         Full::NodesUsing => fill_nodes(book, Asking::OpenUsing(At::Root)),
         Full::Resources => fill_resources(book),
     }
@@ -125,6 +125,7 @@ fn is_done_with(alloc: Global, full: Full, room: Room) -> Result<bool, Fail> {
     drop(memory);
     match ask(&mut book, asking) {
         Outcome::Done(_) => Ok(true),
+        Outcome::Opened(_) => Ok(true),
         Outcome::NoMemory => Ok(false),
         Outcome::Other => Err(Fail::from("it is refused for another cause")),
     }

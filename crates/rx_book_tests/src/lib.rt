@@ -1,7 +1,8 @@
 //! What no clause says and no scenario shows: memory that is refused, just the memory that a call needs,
 //! closings where none is left, keys that are nobody's, resources that are handed in used or released, boxes
 //! of two kinds, many items, checkpoints, and what becomes of a book that is closed or dropped. What operators
-//! do, and which calls are refused, stands in the scenarios that `rx_replay` compares.
+//! do over checkpoints too, and which calls are refused, stands in the scenarios that `rx_replay` compares, and
+//! worked examples with their events in `rx_crew_tests`.
 #![tactic(auto)]
 
 #[cfg(test)]
@@ -23,11 +24,7 @@ mod fresh;
 #[cfg(test)]
 mod just;
 #[cfg(test)]
-mod leases;
-#[cfg(test)]
 mod load;
-#[cfg(test)]
-mod midway;
 #[cfg(test)]
 mod probe;
 #[cfg(test)]
@@ -38,8 +35,6 @@ mod sharing;
 mod slots;
 #[cfg(test)]
 mod spare;
-#[cfg(test)]
-mod twice;
 #[cfg(test)]
 mod unasked;
 #[cfg(test)]

@@ -1,11 +1,13 @@
-//! Many items: none of the calls searches the history.
+//! Many items, nodes and resources: none of the calls searches the history.
 
-use super::probe::Probe;
+use super::probe::{Given, Probe};
 use super::same::same;
 use rx_book::{At, Key, Mail};
 use rx_event::{Event, Kind, Refusal, Terminal};
 use rx_note::Note;
 use rx_resource::Sample;
+use rx_scarce::Scarce;
+use std::alloc::{AllocError, Global};
 use std::test::Fail;
 
 const ITEMS: u32 = 4096;
@@ -52,5 +54,87 @@ fn many_items_are_emitted_and_read_and_leave_room_for_the_end(rt: HostRuntime) -
         [book.take_mail(), book.take_mail()],
         [Some(last), None],
     );
+    Ok(())
+}
+
+// A chain of nodes, each at the source of the one before. Its first.
+fn chain(book: &mut Probe<Sample>, count: u32) -> Result<Key, Fail> {
+    let top = book.open(At::Root, Kind::Pass)?.key;
+    let mut above = top;
+    for _ in 1..count {
+        above = book.open(At::Source(above), Kind::Pass)?.key;
+    }
+    Ok(top)
+}
+
+// Disposes of a root with no memory left.
+fn dispose_without(alloc: Global, book: &mut Probe<Sample>, root: Key) -> Result<u64, Fail> {
+    let _scarce = Scarce::new(alloc)?;
+    Ok(book.dispose(root)?)
+}
+
+#[test]
+fn a_hundred_thousand_nodes_are_closed_with_no_memory_left(rt: HostRuntime) -> Result<(), Fail> {
+    let mut book = Probe::new(rt.alloc(), 1_000_000);
+    let top = chain(&mut book, 100_000)?;
+    let other = book.open(At::Root, Kind::Leaf)?.key;
+    let place = dispose_without(rt.alloc(), &mut book, top)?;
+    same(&rt, (place, book.totals().len), (100_001, 100_002));
+    same(&rt, (book.open_count(), book.open_root()), (1, Some(other)));
+    Ok(())
+}
+
+// Lets a node hold so many resources, with the tags from 0, and removes every second one.
+fn hold_many(book: &mut Probe<Sample>, node: Key, count: u64) -> Result<(), Fail> {
+    for tag in 0..count {
+        let res = book.hold(node, Sample::new(tag))?;
+        if tag % 2 == 0 {
+            book.remove(res)?;
+        }
+    }
+    Ok(())
+}
+
+// Whether a resource was not given before, and is marked as given now.
+fn is_new(given: Given, marks: &mut [bool]) -> bool {
+    match marks.get_mut(given.tag as usize) {
+        Some(mark) => {
+            let was_given = *mark;
+            *mark = true;
+            !was_given && given.uses == 0
+        }
+        None => false,
+    }
+}
+
+// Takes all that waits, and answers how many there were; None where one was given twice.
+fn take_all(book: &mut Probe<Sample>, marks: &mut [bool]) -> Option<u64> {
+    for count in 0..1_000_000 {
+        match book.take() {
+            Some(given) => {
+                if !is_new(given, marks) {
+                    return None;
+                }
+            }
+            None => return Some(count),
+        }
+    }
+    None
+}
+
+// So many marks that are not set.
+fn marks_of(alloc: Global, count: usize) -> Result<Vec<bool>, AllocError> {
+    Ok(vec![in alloc; false; count]?)
+}
+
+#[test]
+fn ten_thousand_resources_are_taken_once_each(rt: HostRuntime) -> Result<(), Fail> {
+    let mut marks = marks_of(rt.alloc(), 10_000)?;
+    let mut book = Probe::new(rt.alloc(), 100_000);
+    let root = book.open(At::Root, Kind::Pass)?.key;
+    hold_many(&mut book, root, 10_000)?;
+    same(&rt, book.totals().waiting, 5_000);
+    dispose_without(rt.alloc(), &mut book, root)?;
+    same(&rt, take_all(&mut book, marks.as_mut_slice()), Some(10_000));
     Ok(())
 }

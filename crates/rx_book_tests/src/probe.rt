@@ -137,10 +137,6 @@ impl<R: Resource> Probe<R> {
         self.book.dispose(root)
     }
 
-    pub(super) fn owed(&self, merging: Key) -> Option<u64> {
-        self.book.owed(merging)
-    }
-
     pub(super) fn checkpoint(&mut self) -> Result<u64, Refusal> {
         self.book.checkpoint()
     }

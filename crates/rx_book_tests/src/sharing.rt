@@ -1,9 +1,9 @@
-//! What subscribers share: items that reach many of them, and connections by hand.
+//! What subscribers share: items that reach many of them.
 
 use super::probe::Probe;
 use super::same::same;
 use rx_book::{At, Key};
-use rx_event::{Event, Kind, Mode, Refusal};
+use rx_event::{Kind, Mode, Refusal};
 use rx_resource::Sample;
 use std::test::Fail;
 
@@ -73,49 +73,5 @@ fn an_item_visits_so_many_nodes_and_no_more(rt: HostRuntime) -> Result<(), Fail>
         [Ok(142), Err(Refusal::TooMany)],
     );
     same(&rt, book.totals().len, 144);
-    Ok(())
-}
-
-#[test]
-fn a_hub_that_was_not_made_is_refused(rt: HostRuntime) -> Result<(), Fail> {
-    let mut book: Probe<Sample> = Probe::new(rt.alloc(), 100);
-    let subscribed = book.open(At::Root, Kind::Sub(5));
-    let connected = [book.connect(0), book.connect(5)];
-    same(
-        &rt,
-        (subscribed, connected),
-        (Err(Refusal::NoHub), [Err(Refusal::NoHub); 2]),
-    );
-    same(
-        &rt,
-        (book.disconnect(0), book.totals().len),
-        (Err(Refusal::NoHub), 0),
-    );
-    Ok(())
-}
-
-#[test]
-fn a_hub_is_connected_by_hand_until_it_is_disconnected(rt: HostRuntime) -> Result<(), Fail> {
-    let mut book: Probe<Sample> = Probe::new(rt.alloc(), 100);
-    let (first, second) = (book.hub(Mode::Manual)?, book.hub(Mode::Manual)?);
-    let (later, earlier) = (book.connect(second)?, book.connect(first)?);
-    let open = [book.open_manual(), Some(first)];
-    let disconnected = book.disconnect(first);
-    same(&rt, (open[0], disconnected), (open[1], Ok(4)));
-    let closed = (book.event(4), book.is_open(earlier), book.is_open(later));
-    same(
-        &rt,
-        closed,
-        (Some(Event::Close(earlier.number)), false, true),
-    );
-    same(
-        &rt,
-        (
-            book.open_manual(),
-            book.disconnect(second),
-            book.open_manual(),
-        ),
-        (Some(second), Ok(5), None),
-    );
     Ok(())
 }

@@ -135,3 +135,70 @@ fn a_key_of_another_book_finds_nothing(rt: HostRuntime) -> Result<(), Fail> {
     assert!(rt; book.is_open(here.key) && other.is_open(there.key));
     Ok(())
 }
+
+const SLOTS: usize = 4;
+
+// Four numbers below four, of which the first changes with `order` last; None where two are equal.
+fn places(order: usize) -> Option<[usize; SLOTS]> {
+    let places = [order % 4, order / 4 % 4, order / 16 % 4, order / 64 % 4];
+    for one in 0..SLOTS {
+        for other in 0..one {
+            if places.get(one) == places.get(other) {
+                return None;
+            }
+        }
+    }
+    Some(places)
+}
+
+// Opens a root that holds a resource of this tag, where both have slots below four.
+fn open_holding(book: &mut Probe<Sample>, tag: u64) -> Option<OpenedUsing> {
+    let opened = book.open_using(At::Root, Sample::new(tag)).ok()?;
+    if opened.key.slot < 4 && opened.res.slot < 4 {
+        Some(opened)
+    } else {
+        None
+    }
+}
+
+fn open_four(book: &mut Probe<Sample>) -> Option<[OpenedUsing; SLOTS]> {
+    Some([
+        open_holding(book, 0)?,
+        open_holding(book, 1)?,
+        open_holding(book, 2)?,
+        open_holding(book, 3)?,
+    ])
+}
+
+// Closes such a root: whether it gives just its resource, of this tag, and is not there any more.
+fn is_closed(book: &mut Probe<Sample>, opened: OpenedUsing, tag: u64) -> bool {
+    book.dispose(opened.key).is_ok()
+        && book.take() == Some(unused(opened.res.number, tag))
+        && !book.is_open(opened.key)
+        && !book.is_held(opened.res)
+}
+
+// Fills four slots and empties them in this order; whether each gave what it had, and nothing is left.
+fn is_emptied(book: &mut Probe<Sample>, places: [usize; SLOTS]) -> Option<bool> {
+    let there = open_four(book)?;
+    for place in places {
+        let opened = *there.get(place)?;
+        if !is_closed(book, opened, place as u64) {
+            return Some(false);
+        }
+    }
+    Some(book.open_count() == 0 && book.totals().waiting == 0)
+}
+
+#[test]
+fn slots_are_used_again_in_every_order(rt: HostRuntime) {
+    let mut book = Probe::new(rt.alloc(), 1000);
+    let mut orders = 0u32;
+    for order in 0..256 {
+        if let Some(places) = places(order) {
+            orders = orders.saturating_add(1);
+            same(&rt, is_emptied(&mut book, places), Some(true));
+        }
+    }
+    same(&rt, orders, 24);
+}

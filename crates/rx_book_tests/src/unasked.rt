@@ -29,6 +29,7 @@ fn is_refused_memory(book: &mut Probe<Sample>, asking: Asking) -> bool {
     for _ in 0..1000 {
         match ask(book, asking) {
             Outcome::Done(_) => {}
+            Outcome::Opened(_) => {}
             Outcome::NoMemory => return true,
             Outcome::Other => return false,
         }
@@ -41,7 +42,7 @@ fn is_filled(alloc: Global, book: &mut Probe<Sample>, leaf: Key) -> Result<bool,
     let res = book.hold(leaf, Sample::new(9))?;
     let _scarce = Scarce::new(alloc)?;
     for asking in [
-        Asking::Open(At::Root),
+        Asking::Open(At::Root, Kind::Pass),
         Asking::Hold(leaf),
         Asking::Lease(res),
         Asking::Hub,

@@ -1,31 +1,31 @@
-//! Memory refused to each call that asks for some, until it is there.
+//! Memory refused to each call that asks for some, until it is there: it changes nothing, and then the call
+//! answers as a twin's call does, to which no memory was refused.
 
 use super::asking::{Asking, Outcome, ask, sight_of};
 use super::probe::Probe;
 use rx_book::{At, Key, ResKey};
-use rx_event::{Kind, Mode};
+use rx_event::{Kind, Mode, Refusal};
 use rx_resource::Sample;
 use rx_scarce::{MOST_BLOCKS, Scarce};
 use std::alloc::Global;
+use std::process::Abort;
 use std::test::Fail;
 
 // So many calls that each list that they ask for has to grow at some of them.
 const CALLS: usize = 20;
 
-// Makes a call again and again, each time with one more block of memory, until it is done; answers the
-// node that it opened, if it opens one, and how often it was refused before. None where something else
-// came of it, or a refusal changed what is seen.
+// Makes a call again and again, each time with one more block of memory, until it is done; answers what came
+// of it, and how often it was refused before. None where a refusal changed what is seen.
 pub(super) fn done_in_the_end(
     book: &mut Probe<Sample>,
     asking: Asking,
     scarce: &mut Scarce,
-) -> Option<(Option<Key>, usize)> {
+) -> Option<(Outcome, usize)> {
     let before = sight_of(book, asking);
     for refusals in 0..MOST_BLOCKS {
-        match ask(book, asking) {
-            Outcome::Done(opened) => return Some((opened, refusals)),
-            Outcome::NoMemory => {}
-            Outcome::Other => return None,
+        let outcome = ask(book, asking);
+        if outcome != Outcome::NoMemory {
+            return Some((outcome, refusals));
         }
         if sight_of(book, asking) != before || !scarce.give_back_one() {
             return None;
@@ -34,58 +34,39 @@ pub(super) fn done_in_the_end(
     None
 }
 
-// The next call of the same kind: where a node was opened below another, one with a resource below it, or
-// without after one with; of a hub that was connected, the next hub.
-fn following(asking: Asking, opened: Option<Key>) -> Asking {
-    match (asking, opened) {
-        (Asking::Open(At::Source(_)), Some(key)) => Asking::OpenUsing(At::Source(key)),
-        (Asking::OpenUsing(At::Source(_)), Some(key)) => Asking::Open(At::Source(key)),
-        (Asking::Connect(hub), Some(_)) => Asking::Connect(hub.wrapping_add(1)),
-        (Asking::Subscribe(hub), Some(_)) => Asking::Subscribe(hub.wrapping_add(1)),
-        _ => asking,
-    }
+// Which call is made in a new book.
+#[derive(Clone, Copy, Debug)]
+enum Made {
+    Open(Kind),
+    OpenUsing,
+    OpenBelow,
+    OpenInner,
+    OpenNotifier,
+    Hold,
+    Apply,
+    Lease,
+    Next,
+    NextProjected,
+    NextShared,
+    Hub,
+    Connect,
+    Subscribe,
 }
 
-// A book with hubs of both modes, a leaf at a root, and a mirroring root that holds a resource.
-#[derive(Drop)]
+// What a book has for such calls: the first of its hubs that are connected by hand and of those with RefCount,
+// a leaf at a root, a mirroring root that holds a resource, a FlatMap with its source, a TakeUntil, and the
+// source of a hub with two subscribers.
+#[derive(Clone, Copy)]
 struct Scene {
-    book: Probe<Sample>,
     manual: u64,
     auto: u64,
     leaf: Key,
     root: Key,
     res: ResKey,
-}
-
-fn new_scene(alloc: Global) -> Result<Scene, Fail> {
-    let mut book = Probe::new(alloc, 1000);
-    let manual = make_hubs(&mut book, Mode::Manual)?;
-    let auto = make_hubs(&mut book, Mode::Auto)?;
-    let leaf = book.open(At::Root, Kind::Leaf)?.key;
-    let opened = book.open_using(At::Root, Sample::new(1))?;
-    Ok(Scene {
-        book,
-        manual,
-        auto,
-        leaf,
-        root: opened.key,
-        res: opened.res,
-    })
-}
-
-// Which call is made in a new book.
-#[derive(Clone, Copy, Debug)]
-enum Made {
-    Open,
-    OpenUsing,
-    OpenBelow,
-    Hold,
-    Apply,
-    Lease,
-    Next,
-    Hub,
-    Connect,
-    Subscribe,
+    flat: Key,
+    source: Key,
+    until: Key,
+    shared: Key,
 }
 
 // Makes as many hubs as there are calls, and answers the number of the first.
@@ -97,32 +78,155 @@ fn make_hubs(book: &mut Probe<Sample>, mode: Mode) -> Result<u64, Fail> {
     Ok(first)
 }
 
-fn first_of(scene: &Scene, made: Made) -> Asking {
+// A FlatMap that owes an inner for each call, and its source.
+fn make_flat(book: &mut Probe<Sample>) -> Result<(Key, Key), Fail> {
+    let flat = book.open(At::Root, Kind::Flat)?.key;
+    let source = book.open(At::Source(flat), Kind::Leaf)?.key;
+    for _ in 0..CALLS {
+        book.next(source, 0)?;
+    }
+    Ok((flat, source))
+}
+
+// The source of a hub with two subscribers.
+fn make_shared(book: &mut Probe<Sample>) -> Result<Key, Fail> {
+    let hub = book.hub(Mode::Auto)?;
+    let opened = book.open(At::Root, Kind::Sub(hub))?;
+    book.open(At::Root, Kind::Sub(hub))?;
+    let connection = opened.connected.ok_or(Refusal::NotConnected)?;
+    Ok(book.open(At::Source(connection), Kind::Leaf)?.key)
+}
+
+fn make_scene(book: &mut Probe<Sample>) -> Result<Scene, Fail> {
+    let manual = make_hubs(book, Mode::Manual)?;
+    let auto = make_hubs(book, Mode::Auto)?;
+    let (flat, source) = make_flat(book)?;
+    let shared = make_shared(book)?;
+    let until = book.open(At::Root, Kind::Until)?.key;
+    let leaf = book.open(At::Root, Kind::Leaf)?.key;
+    let opened = book.open_using(At::Root, Sample::new(1))?;
+    Ok(Scene {
+        manual,
+        auto,
+        leaf,
+        root: opened.key,
+        res: opened.res,
+        flat,
+        source,
+        until,
+        shared,
+    })
+}
+
+fn first_of(scene: Scene, made: Made) -> Asking {
     match made {
-        Made::Open => Asking::Open(At::Root),
+        Made::Open(kind) => Asking::Open(At::Root, kind),
         Made::OpenUsing => Asking::OpenUsing(At::Root),
-        Made::OpenBelow => Asking::Open(At::Source(scene.root)),
+        Made::OpenBelow => Asking::Open(At::Source(scene.root), Kind::Pass),
+        Made::OpenInner => Asking::Open(At::Inner(scene.flat), Kind::Pass),
+        Made::OpenNotifier => Asking::Open(At::Notifier(scene.until), Kind::Until),
         Made::Hold => Asking::Hold(scene.root),
         Made::Apply => Asking::Apply(scene.res),
         Made::Lease => Asking::Lease(scene.res),
         Made::Next => Asking::Next(scene.leaf),
+        Made::NextProjected => Asking::Next(scene.source),
+        Made::NextShared => Asking::Next(scene.shared),
         Made::Hub => Asking::Hub,
         Made::Connect => Asking::Connect(scene.manual),
-        Made::Subscribe => Asking::Subscribe(scene.auto),
+        Made::Subscribe => Asking::Open(At::Root, Kind::Sub(scene.auto)),
     }
 }
 
-// Makes so many calls, each with no memory at first, and answers how often they were refused in all.
-fn refusals_in(alloc: Global, book: &mut Probe<Sample>, first: Asking) -> Option<usize> {
+// The next call of the same kind: where a node was opened at the source of another, one with a resource below
+// it, or without after one with; at a notifier, a notifier of that; of a hub that was connected, the next hub.
+fn following(asking: Asking, outcome: Outcome) -> Asking {
+    let Outcome::Opened(key) = outcome else {
+        return asking;
+    };
+    match asking {
+        Asking::Open(At::Source(_), _) => Asking::OpenUsing(At::Source(key)),
+        Asking::OpenUsing(At::Source(_)) => Asking::Open(At::Source(key), Kind::Pass),
+        Asking::Open(At::Notifier(_), kind) => Asking::Open(At::Notifier(key), kind),
+        Asking::Open(at, Kind::Sub(hub)) => Asking::Open(at, Kind::Sub(hub.wrapping_add(1))),
+        Asking::Connect(hub) => Asking::Connect(hub.wrapping_add(1)),
+        _ => asking,
+    }
+}
+
+// How many calls are made where no memory is left, one after the other: a use and a hub take so little that a
+// list has to grow only once in a while.
+fn calls_in_a_row(made: Made) -> usize {
+    match made {
+        Made::Apply => 10,
+        Made::Hub => 10,
+        _ => 1,
+    }
+}
+
+// Makes so many calls of a book to which no memory is refused: what came of the last, and the next one.
+fn made_by_twin(twin: &mut Probe<Sample>, asking: Asking, count: usize) -> (Outcome, Asking) {
+    let mut next = asking;
+    let mut last = Outcome::Other;
+    for _ in 0..count {
+        last = ask(twin, next);
+        next = following(next, last);
+    }
+    (last, next)
+}
+
+// Makes as many where memory is scarce: what came of the last, and how often one was refused. None where one
+// was not done in the end.
+fn made_in_the_end(
+    book: &mut Probe<Sample>,
+    asking: Asking,
+    count: usize,
+    scarce: &mut Scarce,
+) -> Option<(Outcome, usize)> {
+    let mut next = asking;
+    let mut last = Outcome::Other;
+    let mut refused = 0usize;
+    for _ in 0..count {
+        let (outcome, refusals) = done_in_the_end(book, next, scarce)?;
+        last = outcome;
+        refused = refused.saturating_add(refusals);
+        next = following(next, last);
+    }
+    Some((last, refused))
+}
+
+// Makes such calls, with no memory at first, and answers how often they were refused in all; None where one is
+// answered otherwise than the twin's.
+fn refusals_in(
+    alloc: Global,
+    book: &mut Probe<Sample>,
+    twin: &mut Probe<Sample>,
+    first: Asking,
+    count: usize,
+) -> Option<usize> {
     let mut asking = first;
     let mut refused = 0usize;
     for _ in 0..CALLS {
+        let (wanted, next) = made_by_twin(twin, asking, count);
         let mut scarce = Scarce::new(alloc).ok()?;
-        let (opened, refusals) = done_in_the_end(book, asking, &mut scarce)?;
+        let (outcome, refusals) = made_in_the_end(book, asking, count, &mut scarce)?;
+        if outcome != wanted {
+            return None;
+        }
         refused = refused.saturating_add(refusals);
-        asking = following(asking, opened);
+        asking = next;
     }
     Some(refused)
+}
+
+// Whether both tell the same notes, and have the same events.
+fn are_alike(book: &mut Probe<Sample>, twin: &mut Probe<Sample>) -> bool {
+    for place in 0..1_000 {
+        let note = book.take_mail();
+        if note != twin.take_mail() || book.event(place) != twin.event(place) {
+            return false;
+        }
+    }
+    book.take_mail().is_none() && book.totals() == twin.totals()
 }
 
 // Closes the book; each resource that was accepted is then released.
@@ -131,55 +235,71 @@ fn releases_all(book: &mut Probe<Sample>) -> bool {
     book.close().released == accepted && book.totals().taken == accepted
 }
 
-// Whether such calls in a new book are refused more than twice in all, change nothing then, and are each
-// done in the end.
+// Whether such calls in a new book are refused more than twice in all, change nothing then, and are each done
+// in the end as in its twin.
 fn is_refused_first(alloc: Global, made: Made) -> Result<bool, Fail> {
-    let mut scene = new_scene(alloc)?;
-    let first = first_of(&scene, made);
-    let refused = refusals_in(alloc, &mut scene.book, first);
-    Ok(refused > Some(2) && releases_all(&mut scene.book))
+    let mut book = Probe::new(alloc, 1000);
+    let mut twin = Probe::new(alloc, 1000);
+    let scene = make_scene(&mut book)?;
+    make_scene(&mut twin)?;
+    let first = first_of(scene, made);
+    let count = calls_in_a_row(made);
+    let refused = refusals_in(alloc, &mut book, &mut twin, first, count);
+    Ok(refused > Some(2) && are_alike(&mut book, &mut twin) && releases_all(&mut book))
 }
+
+// So with each of these calls.
+fn are_refused_first<T: Abort>(rt: &T, alloc: Global, calls: &[Made]) -> Result<(), Fail> {
+    for call in calls {
+        let made = *call;
+        assert!(rt; is_refused_first(alloc, made)?, "{made:?}");
+    }
+    Ok(())
+}
+
+const AT_A_ROOT: [Made; 6] = [
+    Made::Open(Kind::Pass),
+    Made::Open(Kind::Leaf),
+    Made::Open(Kind::Flat),
+    Made::Open(Kind::Switch),
+    Made::Open(Kind::Until),
+    Made::OpenUsing,
+];
 
 #[test]
 fn an_opening_at_a_root_that_is_refused_memory_changes_nothing(
     rt: HostRuntime,
 ) -> Result<(), Fail> {
-    for made in [Made::Open, Made::OpenUsing] {
-        assert!(rt; is_refused_first(rt.alloc(), made)?, "{made:?}");
-    }
-    Ok(())
+    are_refused_first(&rt, rt.alloc(), &AT_A_ROOT)
 }
+
+const BELOW: [Made; 4] = [
+    Made::OpenBelow,
+    Made::OpenInner,
+    Made::OpenNotifier,
+    Made::Hold,
+];
 
 #[test]
 fn an_opening_below_or_a_resource_that_is_refused_memory_changes_nothing(
     rt: HostRuntime,
 ) -> Result<(), Fail> {
-    for made in [Made::OpenBelow, Made::Hold] {
-        assert!(rt; is_refused_first(rt.alloc(), made)?, "{made:?}");
-    }
-    Ok(())
+    are_refused_first(&rt, rt.alloc(), &BELOW)
 }
 
 #[test]
 fn a_use_or_a_lease_that_is_refused_memory_changes_nothing(rt: HostRuntime) -> Result<(), Fail> {
-    for made in [Made::Apply, Made::Lease] {
-        assert!(rt; is_refused_first(rt.alloc(), made)?, "{made:?}");
-    }
-    Ok(())
+    are_refused_first(&rt, rt.alloc(), &[Made::Apply, Made::Lease])
 }
+
+const ITEMS: [Made; 4] = [Made::Next, Made::NextProjected, Made::NextShared, Made::Hub];
 
 #[test]
 fn an_item_or_a_hub_that_is_refused_memory_changes_nothing(rt: HostRuntime) -> Result<(), Fail> {
-    for made in [Made::Next, Made::Hub] {
-        assert!(rt; is_refused_first(rt.alloc(), made)?, "{made:?}");
-    }
-    Ok(())
+    are_refused_first(&rt, rt.alloc(), &ITEMS)
 }
 
 #[test]
 fn a_connection_that_is_refused_memory_changes_nothing(rt: HostRuntime) -> Result<(), Fail> {
-    for made in [Made::Connect, Made::Subscribe] {
-        assert!(rt; is_refused_first(rt.alloc(), made)?, "{made:?}");
-    }
-    Ok(())
+    are_refused_first(&rt, rt.alloc(), &[Made::Connect, Made::Subscribe])
 }

@@ -1,7 +1,9 @@
 //! Streams that count how often they were asked: a failure is the stream's own, and none is made up.
 
 use super::same::same;
-use rx_device::{ScriptError, Watched, WriteFault, read_value, write_text};
+use rx_device::{
+    MOST_BYTES, MOST_TURNS, ScriptError, Watched, WriteFault, read_all, read_value, write_text,
+};
 use std::alloc::Global;
 use std::io::{Error, ErrorKind, Read, Write};
 
@@ -115,4 +117,49 @@ fn a_writer_fails_where_it_was_asked_and_failed_or_took_none(rt: HostRuntime) {
             (Err(WriteFault), 3, 6),
         );
     }
+}
+
+// Gives so many spaces, one each time that it is asked: no reader takes more turns for as many bytes.
+#[derive(Drop)]
+struct Slow {
+    left: u64,
+    asked: u64,
+}
+
+impl Read for Slow {
+    fn read(&mut self, buf: &mut [u8]) -> std::io::Result<usize> {
+        self.asked = self.asked.saturating_add(1);
+        if self.left == 0 || buf.is_empty() {
+            return Ok(0);
+        }
+        self.left = self.left.saturating_sub(1);
+        buf[0] = b' ';
+        Ok(1)
+    }
+}
+
+// What comes of reading it to its end, how many bytes that were, and how often it was asked.
+fn read_slowly(alloc: Global, bytes: u64) -> (Option<ScriptError>, usize, u64) {
+    let mut slow = Slow {
+        left: bytes,
+        asked: 0,
+    };
+    match read_all(alloc, &mut Watched::new(&mut slow)) {
+        Ok(text) => (None, text.len(), slow.asked),
+        Err(fault) => (Some(fault), 0, slow.asked),
+    }
+}
+
+// The slowest reader of the longest input is done in half of the turns that there are, and a longer input is too
+// long before they are over: so no reader meets their bound that goes on giving bytes, and all meet its end.
+#[test]
+fn the_slowest_reader_is_read_within_the_bound_on_turns(rt: HostRuntime) {
+    let most = MOST_BYTES as u64;
+    let (fault, len, asked) = read_slowly(rt.alloc(), most);
+    assert!(rt; fault.is_none());
+    same(&rt, (len, asked), (MOST_BYTES, most + 1));
+    let (fault, len, asked) = read_slowly(rt.alloc(), most + 1);
+    assert!(rt; matches!(fault, Some(ScriptError::Syntax)));
+    same(&rt, (len, asked), (0, most + 1));
+    same(&rt, u64::from(MOST_TURNS), 2 * most);
 }

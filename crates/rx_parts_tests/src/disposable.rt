@@ -149,55 +149,6 @@ fn an_add_in_want_of_memory_hands_the_value_back(rt: HostRuntime) -> Result<(), 
     Ok(())
 }
 
-// Uses a group that has the numbers up to 10.
-fn use_ten(rt: &impl Abort, group: &mut Group<u64>) {
-    same(rt, value_of(group, 7), Some(7));
-    same(rt, group.remove(7), Some(7));
-    same(rt, group.clear().len(), 9);
-    same(rt, told(group.add(10)), Ok(10));
-    same(rt, group.dispose().next(), Some((10, 10)));
-}
-
-// Adds a value to a new group.
-fn add_first(group: &mut Group<u64>) -> Result<u64, (Why, u64)> {
-    told(group.add(1))
-}
-
-// Uses a value of each other kind.
-fn use_others(rt: &impl Abort) {
-    let mut single = Single::new();
-    same(rt, told(single.set(1)), Ok(()));
-    same(rt, single.dispose(), Some(1));
-    let mut serial = Serial::new();
-    same(rt, serial.replace(1), Ok(None));
-    same(rt, serial.dispose(), Some(1));
-    let mut counted = Counted::new(1);
-    same(rt, counted.lease(), Ok(()));
-    same(rt, counted.give_back(), Ok(None));
-    same(rt, counted.dispose(), Some(1));
-}
-
-// Uses all where no memory can be had.
-fn use_all(rt: &impl Abort, alloc: Global, group: &mut Group<u64>) -> Result<(), Fail> {
-    let mut scarce = Scarce::new(alloc)?;
-    let block: Result<Vec<u8>, _> = Vec::with_capacity(alloc, 16);
-    assert!(rt; block.is_err());
-    use_ten(rt, group);
-    same(rt, add_first(&mut Group::new(alloc)), Ok(0));
-    use_others(rt);
-    assert!(rt; scarce.give_back_one());
-    Ok(())
-}
-
-#[test]
-fn all_else_needs_no_memory(rt: HostRuntime) -> Result<(), Fail> {
-    let mut group = Group::new(rt.alloc());
-    for number in 0..10 {
-        same(&rt, told(group.add(number)), Ok(number));
-    }
-    use_all(&rt, rt.alloc(), &mut group)
-}
-
 // Whether a block of this many bytes can be had.
 fn is_had(alloc: Global, bytes: usize) -> bool {
     let block: Result<Vec<u8>, AllocError> = Vec::with_capacity(alloc, bytes);

@@ -23,10 +23,6 @@ fn push_two(history: &mut History) -> Result<(), Refusal> {
     Ok(())
 }
 
-fn item(number: i64) -> Option<Event> {
-    Some(Event::Item(0, number))
-}
-
 // How many events there are, and the first three.
 fn shown(history: &History) -> (u64, [Option<Event>; 3]) {
     let first = [history.get(0), history.get(1), history.get(2)];
@@ -83,26 +79,6 @@ fn a_refused_reservation_changes_nothing(rt: HostRuntime) -> Result<(), Fail> {
     let mut history = History::new(rt.alloc(), 1000);
     same(&rt, push_one(&mut history), Ok(()));
     reserve_after_one(&rt, rt.alloc(), &mut history)
-}
-
-// Pushes three events, where there is room and no memory to be asked for.
-fn push_three(history: &mut History) -> Result<(), Refusal> {
-    history.reserve(3)?;
-    history.push_reserved(Event::Item(0, 7));
-    history.push_reserved(Event::Item(0, 8));
-    history.push_reserved(Event::Item(0, 9));
-    Ok(())
-}
-
-#[test]
-fn what_was_reserved_is_pushed_with_no_memory_left(rt: HostRuntime) -> Result<(), Fail> {
-    let mut scarce = Scarce::new(rt.alloc())?;
-    let mut history = History::new(rt.alloc(), 3);
-    reserve_in_the_end(&rt, &mut history, &mut scarce, 3);
-    same(&rt, push_three(&mut history), Ok(()));
-    same(&rt, shown(&history), (3, [item(7), item(8), item(9)]));
-    same(&rt, history.reserve(1), Err(Refusal::Full));
-    Ok(())
 }
 
 // The room of a thousand events is all the memory that is free once the block is dropped.

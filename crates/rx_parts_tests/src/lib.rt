@@ -1,6 +1,6 @@
-//! What no clause says of the crates below the book: that each call can succeed, memory that is refused or
-//! just enough, slots that are used again, closings of many nodes, and the worked examples of disposables and
-//! of virtual time. A test sees of a crate what its users see.
+//! What no clause says of the crates that users meet below the book: that each call can succeed, memory that is
+//! refused or just enough, slots that are used again, and the worked examples of disposables and of virtual time.
+//! A test sees of a crate what its users see. What lies between them and the book is tested through a book.
 #![tactic(auto)]
 
 #[cfg(test)]
@@ -14,8 +14,6 @@ mod ledger;
 #[cfg(test)]
 mod note;
 #[cfg(test)]
-mod register;
-#[cfg(test)]
 mod resource;
 #[cfg(test)]
 mod same;
@@ -25,7 +23,5 @@ mod scarce;
 mod slots;
 #[cfg(test)]
 mod time;
-#[cfg(test)]
-mod tree;
 #[cfg(test)]
 mod uses;

@@ -27,17 +27,6 @@ fn numbered(alloc: Global, numbers: &[u64]) -> Result<Slots<u64>, Fail> {
     Ok(slots)
 }
 
-// How many values a walk over all slots meets.
-fn values_met<T>(slots: &Slots<T>) -> usize {
-    let mut met = 0usize;
-    for slot in 0..slots.slot_count() {
-        if slots.value_at(slot).is_some() {
-            met = met.wrapping_add(1);
-        }
-    }
-    met
-}
-
 // Writes a value through a key, where that finds one.
 fn write(slots: &mut Slots<u64>, key: Key, value: u64) -> bool
     ensures found { IsTrue result ↔ IsSome (find slots.old key) }
@@ -52,6 +41,15 @@ fn write(slots: &mut Slots<u64>, key: Key, value: u64) -> bool
     } else {
         false
     }
+}
+
+#[test]
+fn a_key_writes_its_own_value(rt: HostRuntime) -> Result<(), Fail> {
+    let mut slots = numbered(rt.alloc(), &[8])?;
+    let (other, own) = (Key { slot: 0, number: 9 }, Key { slot: 0, number: 8 });
+    let written = (write(&mut slots, other, 99), write(&mut slots, own, 88));
+    same(&rt, (written, slots.take(own)), ((false, true), Some(88)));
+    Ok(())
 }
 
 // Two values in turn, of which the first key finds its own alone.
@@ -116,60 +114,6 @@ fn a_key_whose_slot_was_used_again_finds_nothing(rt: HostRuntime) -> Result<(), 
 // How many values there are, how many slots, and the next slot.
 fn counts(slots: &Slots<u64>) -> (usize, usize, usize) {
     (slots.len(), slots.slot_count(), slots.next_slot())
-}
-
-// Walks over four values of which the second is taken out.
-fn walk(rt: &impl Abort, slots: &mut Slots<u64>) {
-    same(rt, slots.take(Key { slot: 1, number: 6 }), Some(60));
-    same(rt, counts(slots), (3, 4, 1));
-    same(rt, values_met(slots), 3);
-    same(rt, slots.next_key(0), Some(Key { slot: 0, number: 5 }));
-    same(rt, slots.next_key(1), Some(Key { slot: 2, number: 7 }));
-    same(rt, slots.next_key(3), Some(Key { slot: 3, number: 8 }));
-    same(rt, slots.next_key(4), None);
-}
-
-// Changes the last two of them.
-fn change_two(rt: &impl Abort, slots: &mut Slots<u64>) {
-    assert!(rt; !write(slots, Key { slot: 3, number: 9 }, 99));
-    assert!(rt; write(slots, Key { slot: 3, number: 8 }, 88));
-    if let Some(value) = slots.value_at_mut(2) {
-        *value = 77;
-    }
-    assert!(rt; slots.value_at_mut(1).is_none());
-}
-
-// A slot's number and value, as each call tells them.
-fn told_at(slots: &Slots<u64>, slot: usize) -> [(Option<u64>, Option<u64>); 2] {
-    let number = match slots.key_at(slot) {
-        Some(key) => Some(key.number),
-        None => None,
-    };
-    let value = match slots.entry_at(slot) {
-        Some(entry) => Some(entry.value),
-        None => None,
-    };
-    [
-        (slots.number_at(slot), slots.value_at(slot).copied()),
-        (number, value),
-    ]
-}
-
-#[test]
-fn a_walk_meets_each_value_once(rt: HostRuntime) -> Result<(), Fail> {
-    let mut slots = numbered(rt.alloc(), &[5, 6, 7, 8])?;
-    walk(&rt, &mut slots);
-    change_two(&rt, &mut slots);
-    let found = [
-        (Some(5), Some(50)),
-        (None, None),
-        (Some(7), Some(77)),
-        (Some(8), Some(88)),
-    ];
-    for (slot, pair) in found.into_iter().enumerate() {
-        same(&rt, (slot, told_at(&slots, slot)), (slot, [pair, pair]));
-    }
-    Ok(())
 }
 
 // Whether the next number is inserted, with its tenfold. Where memory is refused, the value comes back and

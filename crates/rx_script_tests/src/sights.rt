@@ -1,6 +1,6 @@
 //! Resources of the tests, streams that fail, and how a scenario is run over memory.
 
-use rx_resource::{Sample, Tracked, Tracker};
+use rx_resource::{Resource, Sample, Tracked, Tracker};
 use rx_script::{Form, ScriptError, Watched, run};
 use std::alloc::{AllocError, Global};
 use std::io::{Error, ErrorKind, Read, Write};
@@ -67,18 +67,41 @@ pub fn heard_count(trackers: &[Tracker]) -> usize {
     count
 }
 
+/// Runs what a stream gives into another.
+pub fn run_over<R: Read, W: Write, S: Resource>(
+    alloc: Global,
+    reader: &mut R,
+    writer: &mut W,
+    stock: Vec<S>,
+    form: Form,
+) -> Result<(), ScriptError> {
+    run(
+        alloc,
+        &mut Watched::new(reader),
+        &mut Watched::new(writer),
+        stock,
+        form,
+    )
+}
+
+/// The report of a scenario, which has these resources.
+pub fn report_of<S: Resource>(
+    alloc: Global,
+    scenario: &str,
+    stock: Vec<S>,
+) -> Result<Vec<u8>, ScriptError> {
+    let mut output: Vec<u8> = Vec::new(alloc);
+    let mut input = scenario.as_bytes();
+    run_over(alloc, &mut input, &mut output, stock, Form::Report)?;
+    Ok(output)
+}
+
 /// The error of a run over memory of no resources, which has to write nothing.
 pub fn error_of(rt: &impl Abort, alloc: Global, scenario: &[u8]) -> Option<ScriptError> {
     let stock: Vec<Sample> = Vec::new(alloc);
     let mut input = scenario;
     let mut output: Vec<u8> = Vec::new(alloc);
-    let outcome = run(
-        alloc,
-        &mut Watched::new(&mut input),
-        &mut Watched::new(&mut output),
-        stock,
-        Form::Report,
-    );
+    let outcome = run_over(alloc, &mut input, &mut output, stock, Form::Report);
     assert!(rt; output.is_empty() || outcome.is_ok());
     outcome.err()
 }

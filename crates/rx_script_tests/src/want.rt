@@ -2,13 +2,14 @@
 //! accepted; and a closing that takes none.
 
 use super::same::same;
-use super::sights::{are_released_once, heard_count, stock_by, trackers};
+use super::sights::{are_released_once, heard_count, run_over, stock_by, trackers};
 use rx_book::{At, Book};
 use rx_event::Kind;
-use rx_resource::{Resource, Tracked, Tracker};
+use rx_resource::{Tracked, Tracker};
 use rx_scarce::Scarce;
-use rx_script::{Closed, Form, ScriptError, Watched, close, run};
+use rx_script::{Closed, Form, ScriptError, close};
 use std::alloc::{AllocError, Global};
+use std::process::Abort;
 use std::test::Fail;
 
 // What is left in bytes: more than a run takes.
@@ -66,6 +67,15 @@ totals nodes=11 open=5 accepted=3 held=1 waiting=2 taken=0
 closed 3 faults 0
 ";
 
+const DUMP: &str =
+    "[[\"open\",\"root\",\"pass\"],[\"accept\",0,0],[\"use\",1],[\"accept\",0,1],[\"use\",3],\
+    [\"open\",\"root\",\"pass\"],[\"accept\",5,2],[\"use\",6],[\"open\",\"source\",0,\"leaf\"],[\"item\",8,5],\
+    [\"remove\",3],[\"end\",8,\"completed\"],[\"end\",0,\"completed\"],[\"open\",\"root\",\"flat\"],\
+    [\"open\",\"source\",13,\"leaf\"],[\"item\",14,1],[\"open\",\"inner\",13,\"leaf\"],[\"item\",14,2],[\"decline\",13],\
+    [\"item\",14,3],[\"end\",13,\"error\",4],[\"open\",\"root\",\"pass\"],[\"end\",21,\"error\",6],[\"hub\",\"auto\"],\
+    [\"open\",\"root\",\"sub\",23],[\"connect\",23],[\"open\",\"source\",25,\"leaf\"],[\"item\",26,7],\
+    [\"hub\",\"manual\"],[\"connect\",28]]\n";
+
 // Resources for a run, and what tells of each.
 #[derive(Drop)]
 struct Course {
@@ -73,13 +83,18 @@ struct Course {
     stock: Vec<Tracked>,
 }
 
-// What so many runs need, made while there is memory.
-fn courses(alloc: Global) -> Result<Vec<Course>, Fail> {
+// What a run needs, made while there is memory.
+fn new_course(alloc: Global) -> Result<Course, AllocError> {
+    let trackers = trackers(alloc, 3)?;
+    let stock = stock_by(alloc, &trackers)?;
+    Ok(Course { trackers, stock })
+}
+
+// What so many runs need.
+fn courses(alloc: Global) -> Result<Vec<Course>, AllocError> {
     let mut courses = Vec::new(alloc);
     for _ in 0..RUNS {
-        let trackers = trackers(alloc, 3)?;
-        let stock = stock_by(alloc, &trackers)?;
-        courses.push(Course { trackers, stock })?;
+        courses.push(new_course(alloc)?)?;
     }
     Ok(courses)
 }
@@ -100,43 +115,81 @@ fn rest_of_room(alloc: Global, steps: usize) -> Result<Vec<u8>, AllocError> {
     Vec::with_capacity(alloc, ROOM.saturating_sub(steps.saturating_mul(STEP)))
 }
 
+// One run: how many resources had heard a word where it was refused memory, wrote nothing and released what it
+// accepted; None where it was done.
+fn refused_after(
+    alloc: Global,
+    course: Course,
+    form: Form,
+    output: &mut Vec<u8>,
+) -> Result<Option<usize>, Fail> {
+    let Course { trackers, stock } = course;
+    let mut input = SCENARIO.as_bytes();
+    match run_over(alloc, &mut input, output, stock, form) {
+        Ok(()) => Ok(None),
+        Err(ScriptError::Memory) => match closed_count(&trackers) {
+            Some(heard) => {
+                if output.is_empty() {
+                    Ok(Some(heard))
+                } else {
+                    Err(Fail::from("it wrote"))
+                }
+            }
+            None => Err(Fail::from("a resource was not released once")),
+        },
+        Err(_) => Err(Fail::from("it is refused for another cause")),
+    }
+}
+
+// Runs, each with a step of memory more, until one is done: whether one was refused before a resource heard its
+// word, and one when all had.
+fn run_in_the_end(
+    alloc: Global,
+    courses: &mut Vec<Course>,
+    form: Form,
+    output: &mut Vec<u8>,
+) -> Result<(bool, bool), Fail> {
+    let room = rest_of_room(alloc, 0)?;
+    let _scarce = Scarce::new(alloc)?;
+    drop(room);
+    let mut early = false;
+    let mut late = false;
+    for steps in 0..RUNS {
+        let course = courses.pop().ok_or("no run is left")?;
+        let _rest = rest_of_room(alloc, steps)?;
+        match refused_after(alloc, course, form, output)? {
+            Some(heard) => {
+                early = early || heard == 0;
+                late = late || heard == 3;
+            }
+            None => return Ok((early, late)),
+        }
+    }
+    Err(Fail::from("no run is done"))
+}
+
+// Such runs in this form, the last of which writes this text.
+fn assert_written(rt: &impl Abort, alloc: Global, form: Form, text: &str) -> Result<(), Fail> {
+    let mut output: Vec<u8> = Vec::with_capacity(alloc, 4096)?;
+    let mut courses = courses(alloc)?;
+    let refused = run_in_the_end(alloc, &mut courses, form, &mut output)?;
+    same(rt, output.as_slice(), text.as_bytes());
+    same(rt, refused, (true, true));
+    Ok(())
+}
+
 #[test]
 fn a_run_without_memory_writes_nothing_and_releases_what_it_accepted(
     rt: HostRuntime,
 ) -> Result<(), Fail> {
-    let mut output: Vec<u8> = Vec::with_capacity(rt.alloc(), 4096)?;
-    let mut courses = courses(rt.alloc())?;
-    let mut refused = [0u32; 4];
-    let room = rest_of_room(rt.alloc(), 0)?;
-    let _scarce = Scarce::new(rt.alloc())?;
-    drop(room);
-    for steps in 0..RUNS {
-        let Some(Course { trackers, stock }) = courses.pop() else {
-            break;
-        };
-        let _rest = rest_of_room(rt.alloc(), steps)?;
-        let mut input = SCENARIO.as_bytes();
-        let outcome = run(
-            rt.alloc(),
-            &mut Watched::new(&mut input),
-            &mut Watched::new(&mut output),
-            stock,
-            Form::Report,
-        );
-        if outcome.is_ok() {
-            assert!(rt; are_released_once(&trackers, 3));
-            break;
-        }
-        assert!(rt; matches!(outcome, Err(ScriptError::Memory)), "{outcome:?}");
-        assert!(rt; output.is_empty());
-        let Some(heard) = closed_count(&trackers) else {
-            return Err(Fail::from("an accepted resource was not released once"));
-        };
-        refused[heard.min(3)] = refused[heard.min(3)].wrapping_add(1);
-    }
-    same(&rt, output.as_slice(), REPORT.as_bytes());
-    assert!(rt; refused[0] > 0 && refused[3] > 0, "{refused:?}");
-    Ok(())
+    assert_written(&rt, rt.alloc(), Form::Report, REPORT)
+}
+
+#[test]
+fn a_dump_without_memory_is_not_begun_and_what_was_accepted_is_released(
+    rt: HostRuntime,
+) -> Result<(), Fail> {
+    assert_written(&rt, rt.alloc(), Form::Dump, DUMP)
 }
 
 // A book with two roots, one of which holds a resource and one of which is closed and held one.
@@ -158,41 +211,32 @@ fn open_book(alloc: Global, tracker: &Tracker) -> Result<Book<Tracked>, Fail> {
     Ok(book)
 }
 
-// Closes a book, and closes it again.
-fn close_twice<R: Resource>(book: &mut Book<R>) -> (Closed, Closed) {
-    let first = close(book);
-    (first, close(book))
+// How many resources a book holds, and how many wait and were taken, and how many of its nodes are open.
+fn sums(book: &Book<Tracked>) -> [u64; 4] {
+    [book.held(), book.waiting(), book.taken(), book.open_count()]
+}
+
+// Closes a book with no memory left, and closes it again.
+fn close_twice(alloc: Global, book: &mut Book<Tracked>) -> Result<[Closed; 2], AllocError> {
+    let _scarce = Scarce::new(alloc)?;
+    Ok([close(book), close(book)])
 }
 
 #[test]
 fn a_closing_takes_no_memory(rt: HostRuntime) -> Result<(), Fail> {
     let tracker = Tracker::new(rt.alloc())?;
     let mut book = open_book(rt.alloc(), &tracker)?;
-    same(
-        &rt,
-        (book.held(), book.waiting(), book.open_count()),
-        (2, 1, 2),
-    );
-    let (first, second) = {
-        let _scarce = Scarce::new(rt.alloc())?;
-        close_twice(&mut book)
-    };
-    let three = Closed {
+    same(&rt, sums(&book), [2, 1, 0, 2]);
+    let closed = close_twice(rt.alloc(), &mut book)?;
+    let first = Closed {
         released: 3,
         faults: 1,
     };
-    let none = Closed {
+    let second = Closed {
         released: 0,
         faults: 0,
     };
-    same(&rt, first, three);
-    same(&rt, second, none);
-    same(
-        &rt,
-        (book.held(), book.waiting(), book.taken(), book.open_count()),
-        (0, 0, 3, 0),
-    );
-    assert!(rt; book.open_root().is_none());
-    same(&rt, tracker.released(), 3);
+    same(&rt, closed, [first, second]);
+    same(&rt, (sums(&book), tracker.released()), ([0, 0, 3, 0], 3));
     Ok(())
 }

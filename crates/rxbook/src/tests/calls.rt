@@ -1,10 +1,13 @@
 //! The statuses and lines over memory, storms, help, the stock, streams that fail, and refused memory.
 
+ghost use Rattle.std.specs.Prelude.{◌≡◌};
+ghost use Rattle.rx_resource.specs.declared.Life.{Life};
+
 use super::same::same;
 use clap::error::ErrorKind;
 use rx_cli::{Faulty, Form, Order, Plain, ResourceKind, Tally, order, refuse_bytes, serve, stock};
 use rx_device::Watched;
-use rx_resource::Resource as _;
+use rx_resource::Resource;
 use rx_scarce::Scarce;
 use std::alloc::{AllocError, Global};
 use std::io;
@@ -35,26 +38,38 @@ struct Left {
     errors: Vec<u8>,
 }
 
-// A call over memory, with the program's stock.
+// Does what the words order, with the program's stock.
+fn serve_into<T: Threads + Wait + Sync, R: Read, W: Write, E: Write>(
+    rt: &T,
+    alloc: Global,
+    words: &[&str],
+    reader: &mut R,
+    output: &mut W,
+    errors: &mut E,
+) -> Result<u8, AllocError> {
+    let stock = stock(alloc)?;
+    Ok(serve(
+        rt,
+        alloc,
+        words,
+        stock,
+        &mut Watched::new(reader),
+        &mut Watched::new(output),
+        &mut Watched::new(errors),
+    ))
+}
+
+// A call over memory.
 fn call<T: Threads + Wait + Sync>(
     rt: &T,
     alloc: Global,
     words: &[&str],
     input: &[u8],
 ) -> Result<Left, AllocError> {
-    let stock = stock(alloc)?;
     let mut reader = input;
     let mut output = Vec::new(alloc);
     let mut errors = Vec::new(alloc);
-    let status = serve(
-        rt,
-        alloc,
-        words,
-        stock,
-        &mut Watched::new(&mut reader),
-        &mut Watched::new(&mut output),
-        &mut Watched::new(&mut errors),
-    );
+    let status = serve_into(rt, alloc, words, &mut reader, &mut output, &mut errors)?;
     Ok(Left {
         status,
         unread: reader.len(),
@@ -63,97 +78,116 @@ fn call<T: Threads + Wait + Sync>(
     })
 }
 
+// What a call over memory has to leave: its status, how much is not read, and both texts.
+fn assert_left<T: Threads + Wait + Sync + Abort>(
+    rt: &T,
+    alloc: Global,
+    words: &[&str],
+    input: &str,
+    (status, output, errors): (u8, &str, &str),
+) -> Result<(), Fail> {
+    let left = call(rt, alloc, words, input.as_bytes())?;
+    same(rt, left.status, status);
+    same(rt, left.output.as_slice(), output.as_bytes());
+    same(rt, left.errors.as_slice(), errors.as_bytes());
+    let is_unread = status == 2 || input == UNREAD;
+    let unread = if is_unread { input.len() } else { 0 };
+    same(rt, left.unread, unread);
+    Ok(())
+}
+
+// What a call that reads nothing is given.
+const UNREAD: &str = "unread";
+
+const EMPTY: &str = "{\"steps\":[]}";
+
+const FAULTY: &str = "rxbook: faulty input\n";
+
+const OUTCOMES: [(&[&str], &str, u8, &str, &str); 18] = [
+    (&["rxbook"], EMPTY, 0, NOTHING_DONE, ""),
+    (&["rxbook", "run"], EMPTY, 0, NOTHING_DONE, ""),
+    (&["rxbook", "run", "--dump"], EMPTY, 0, "[]\n", ""),
+    (&["rxbook"], "{\"steps\":[", 3, "", FAULTY),
+    (&["rxbook"], "[]", 3, "", FAULTY),
+    (
+        &["rxbook", "audit"],
+        HALF_CLOSED,
+        0,
+        HALF_CLOSED_VERDICT,
+        "",
+    ),
+    (
+        &["rxbook", "audit"],
+        "[[\"take\",0]]",
+        5,
+        "unlawful 0\n",
+        "",
+    ),
+    (&["rxbook", "audit"], NOT_CONNECTED, 5, "unsettled\n", ""),
+    (&["rxbook", "audit"], "[[", 3, "", FAULTY),
+    (&["rxbook", "audit"], EMPTY, 3, "", FAULTY),
+    (
+        &["rxbook", "bad"],
+        EMPTY,
+        2,
+        "",
+        "error: unrecognized subcommand 'bad'\n\nUsage: rxbook [COMMAND] < FILE\n\nFor more information, try '--help'.\n",
+    ),
+    (
+        &["rxbook", "audit", "--dump"],
+        EMPTY,
+        2,
+        "",
+        "error: unexpected argument '--dump' found\n\nUsage: rxbook audit < FILE\n\nFor more information, try '--help'.\n",
+    ),
+    (
+        &["rxbook", "audit", "x"],
+        "[]",
+        2,
+        "",
+        "error: unexpected argument 'x' found\n\nUsage: rxbook audit < FILE\n\nFor more information, try '--help'.\n",
+    ),
+    (
+        &["rxbook", "audit", "--run"],
+        "[]",
+        2,
+        "",
+        "error: unexpected argument '--run' found\n\nUsage: rxbook audit < FILE\n\nFor more information, try '--help'.\n",
+    ),
+    (
+        &["rxbook", "retry.json"],
+        EMPTY,
+        2,
+        "",
+        "error: unrecognized subcommand 'retry.json'\n\nUsage: rxbook [COMMAND] < FILE\n\nFor more information, try '--help'.\n",
+    ),
+    (
+        &["rxbook", "run", "first-run.json"],
+        EMPTY,
+        2,
+        "",
+        "error: unexpected argument 'first-run.json' found\n\nUsage: rxbook run [OPTIONS] < FILE\n\nFor more information, try '--help'.\n",
+    ),
+    (
+        &["rxbook", "storm", "--sources", "65"],
+        EMPTY,
+        2,
+        "",
+        "error: invalid value '65' for '--sources <N>': 65 is not in 1..=64\n\nFor more information, try '--help'.\n",
+    ),
+    (
+        &["rxbook", "storm", "--workers", "x"],
+        EMPTY,
+        2,
+        "",
+        "error: invalid value 'x' for '--workers <N>': invalid digit found in string\n\nFor more information, try '--help'.\n",
+    ),
+];
+
 #[test]
 fn each_outcome_has_its_status_and_line(rt: HostRuntime) -> Result<(), Fail> {
-    let empty = "{\"steps\":[]}";
-    let faulty = "rxbook: faulty input\n";
-    let cases: [(&[&str], &str, u8, &str, &str); 18] = [
-        (&["rxbook"], empty, 0, NOTHING_DONE, ""),
-        (&["rxbook", "run"], empty, 0, NOTHING_DONE, ""),
-        (&["rxbook", "run", "--dump"], empty, 0, "[]\n", ""),
-        (&["rxbook"], "{\"steps\":[", 3, "", faulty),
-        (&["rxbook"], "[]", 3, "", faulty),
-        (
-            &["rxbook", "audit"],
-            HALF_CLOSED,
-            0,
-            HALF_CLOSED_VERDICT,
-            "",
-        ),
-        (
-            &["rxbook", "audit"],
-            "[[\"take\",0]]",
-            5,
-            "unlawful 0\n",
-            "",
-        ),
-        (&["rxbook", "audit"], NOT_CONNECTED, 5, "unsettled\n", ""),
-        (&["rxbook", "audit"], "[[", 3, "", faulty),
-        (&["rxbook", "audit"], empty, 3, "", faulty),
-        (
-            &["rxbook", "bad"],
-            empty,
-            2,
-            "",
-            "error: unrecognized subcommand 'bad'\n\nUsage: rxbook [COMMAND] < FILE\n\nFor more information, try '--help'.\n",
-        ),
-        (
-            &["rxbook", "audit", "--dump"],
-            empty,
-            2,
-            "",
-            "error: unexpected argument '--dump' found\n\nUsage: rxbook audit < FILE\n\nFor more information, try '--help'.\n",
-        ),
-        (
-            &["rxbook", "audit", "x"],
-            "[]",
-            2,
-            "",
-            "error: unexpected argument 'x' found\n\nUsage: rxbook audit < FILE\n\nFor more information, try '--help'.\n",
-        ),
-        (
-            &["rxbook", "audit", "--run"],
-            "[]",
-            2,
-            "",
-            "error: unexpected argument '--run' found\n\nUsage: rxbook audit < FILE\n\nFor more information, try '--help'.\n",
-        ),
-        (
-            &["rxbook", "retry.json"],
-            empty,
-            2,
-            "",
-            "error: unrecognized subcommand 'retry.json'\n\nUsage: rxbook [COMMAND] < FILE\n\nFor more information, try '--help'.\n",
-        ),
-        (
-            &["rxbook", "run", "first-run.json"],
-            empty,
-            2,
-            "",
-            "error: unexpected argument 'first-run.json' found\n\nUsage: rxbook run [OPTIONS] < FILE\n\nFor more information, try '--help'.\n",
-        ),
-        (
-            &["rxbook", "storm", "--sources", "65"],
-            empty,
-            2,
-            "",
-            "error: invalid value '65' for '--sources <N>': 65 is not in 1..=64\n\nFor more information, try '--help'.\n",
-        ),
-        (
-            &["rxbook", "storm", "--workers", "x"],
-            empty,
-            2,
-            "",
-            "error: invalid value 'x' for '--workers <N>': invalid digit found in string\n\nFor more information, try '--help'.\n",
-        ),
-    ];
-    for (words, input, status, output, errors) in cases {
-        let left = call(&rt, rt.alloc(), words, input.as_bytes())?;
-        same(&rt, left.status, status);
-        same(&rt, left.output.as_slice(), output.as_bytes());
-        same(&rt, left.errors.as_slice(), errors.as_bytes());
-        let unread = if status == 2 { input.len() } else { 0 };
-        same(&rt, left.unread, unread);
+    for (words, input, status, output, errors) in OUTCOMES {
+        assert_left(&rt, rt.alloc(), words, input, (status, output, errors))?;
     }
     Ok(())
 }
@@ -176,32 +210,43 @@ fn options_of_a_storm_may_stand_in_any_form(rt: HostRuntime) -> Result<(), Fail>
     Ok(())
 }
 
+const STORMS: [(&[&str], &str); 3] = [
+    (
+        &["rxbook", "storm"],
+        "accepted 4\ntaken 4\nreleased 4\nfaults 1\nheld 0\nwaiting 0\nnotes 404\nevents 424\n",
+    ),
+    (
+        &[
+            "rxbook",
+            "storm",
+            "--sources",
+            "64",
+            "--workers",
+            "16",
+            "--items",
+            "0",
+        ],
+        "accepted 64\ntaken 64\nreleased 64\nfaults 8\nheld 0\nwaiting 0\nnotes 64\nevents 384\n",
+    ),
+    (
+        &[
+            "rxbook",
+            "storm",
+            "--sources",
+            "1",
+            "--workers",
+            "1",
+            "--items",
+            "10000",
+        ],
+        "accepted 1\ntaken 1\nreleased 1\nfaults 0\nheld 0\nwaiting 0\nnotes 10001\nevents 10006\n",
+    ),
+];
+
 #[test]
 fn a_storm_tells_its_figures(rt: HostRuntime) -> Result<(), Fail> {
-    let many = ["--sources", "64", "--workers", "16", "--items", "0"];
-    let long = ["--sources", "1", "--workers", "1", "--items", "10000"];
-    let cases: [(&[&str], &str); 3] = [
-        (
-            &[],
-            "accepted 4\ntaken 4\nreleased 4\nfaults 1\nheld 0\nwaiting 0\nnotes 404\nevents 424\n",
-        ),
-        (
-            &many,
-            "accepted 64\ntaken 64\nreleased 64\nfaults 8\nheld 0\nwaiting 0\nnotes 64\nevents 384\n",
-        ),
-        (
-            &long,
-            "accepted 1\ntaken 1\nreleased 1\nfaults 0\nheld 0\nwaiting 0\nnotes 10001\nevents 10006\n",
-        ),
-    ];
-    for (options, figures) in cases {
-        let mut words = vec![in rt.alloc(); "rxbook", "storm"]?;
-        words.extend_from_slice(options)?;
-        let left = call(&rt, rt.alloc(), &words, b"unread")?;
-        same(&rt, left.status, 0);
-        same(&rt, left.output.as_slice(), figures.as_bytes());
-        assert!(rt; left.errors.is_empty());
-        same(&rt, left.unread, 6);
+    for (words, figures) in STORMS {
+        assert_left(&rt, rt.alloc(), words, UNREAD, (0, figures, ""))?;
     }
     Ok(())
 }
@@ -290,24 +335,21 @@ The exit status is 0 if the threads counted what the book says, otherwise 5; 1 i
 thread could not be started, 4 if out of memory. docs/reference/command-line.md explains the figures.
 ";
 
+const HELPS: [(&[&str], &str); 8] = [
+    (&["rxbook", "--help"], HELP),
+    (&["rxbook", "-h"], HELP),
+    (&["rxbook", "help"], HELP),
+    (&["rxbook", "run", "--help"], RUN_HELP),
+    (&["rxbook", "audit", "--help"], AUDIT_HELP),
+    (&["rxbook", "storm", "--help"], STORM_HELP),
+    (&["rxbook", "--version"], "rxbook 0.1.0\n"),
+    (&["rxbook", "-V"], "rxbook 0.1.0\n"),
+];
+
 #[test]
 fn help_and_version_go_to_the_output(rt: HostRuntime) -> Result<(), Fail> {
-    let cases: [(&[&str], &str); 8] = [
-        (&["rxbook", "--help"], HELP),
-        (&["rxbook", "-h"], HELP),
-        (&["rxbook", "help"], HELP),
-        (&["rxbook", "run", "--help"], RUN_HELP),
-        (&["rxbook", "audit", "--help"], AUDIT_HELP),
-        (&["rxbook", "storm", "--help"], STORM_HELP),
-        (&["rxbook", "--version"], "rxbook 0.1.0\n"),
-        (&["rxbook", "-V"], "rxbook 0.1.0\n"),
-    ];
-    for (words, text) in cases {
-        let left = call(&rt, rt.alloc(), words, b"unread")?;
-        same(&rt, left.status, 0);
-        same(&rt, left.output.as_slice(), text.as_bytes());
-        assert!(rt; left.errors.is_empty());
-        same(&rt, left.unread, 6);
+    for (words, text) in HELPS {
+        assert_left(&rt, rt.alloc(), words, UNREAD, (0, text, ""))?;
     }
     Ok(())
 }
@@ -364,107 +406,110 @@ fn make_full(alloc: Global, room: usize, stuck: bool) -> Full {
     }
 }
 
-#[test]
-fn a_reader_that_fails_is_a_read_fault(rt: HostRuntime) -> Result<(), Fail> {
-    let cases: [&[&str]; 2] = [&["rxbook"], &["rxbook", "audit"]];
-    for words in cases {
-        let mut output = Vec::new(rt.alloc());
-        let mut errors = Vec::new(rt.alloc());
-        let stock = stock(rt.alloc())?;
-        let status = serve(
-            &rt,
-            rt.alloc(),
-            words,
-            stock,
-            &mut Watched::new(&mut Broken { reads: 0 }),
-            &mut Watched::new(&mut output),
-            &mut Watched::new(&mut errors),
-        );
-        same(&rt, status, 1);
-        assert!(rt; output.is_empty());
-        same(&rt, errors.as_slice(), b"rxbook: read fault\n".as_slice());
-    }
+// The words over a reader that fails: a read fault, with nothing written.
+fn assert_read_fault<T: Threads + Wait + Sync + Abort>(
+    rt: &T,
+    alloc: Global,
+    words: &[&str],
+) -> Result<(), Fail> {
+    let mut output: Vec<u8> = Vec::new(alloc);
+    let mut errors: Vec<u8> = Vec::new(alloc);
+    let mut reader = Broken { reads: 0 };
+    let status = serve_into(rt, alloc, words, &mut reader, &mut output, &mut errors)?;
+    same(rt, (status, output.len()), (1, 0));
+    same(rt, errors.as_slice(), b"rxbook: read fault\n".as_slice());
     Ok(())
 }
 
 #[test]
+fn a_reader_that_fails_is_a_read_fault(rt: HostRuntime) -> Result<(), Fail> {
+    assert_read_fault(&rt, rt.alloc(), &["rxbook"])?;
+    assert_read_fault(&rt, rt.alloc(), &["rxbook", "audit"])
+}
+
+// The words over a writer that stops after ten bytes: a write fault, with a front of the text.
+fn assert_write_fault<T: Threads + Wait + Sync + Abort>(
+    rt: &T,
+    alloc: Global,
+    words: &[&str],
+    input: &str,
+    (stuck, taken): (bool, &str),
+) -> Result<(), Fail> {
+    let mut output = make_full(alloc, 10, stuck);
+    let mut errors: Vec<u8> = Vec::new(alloc);
+    let mut reader = input.as_bytes();
+    let status = serve_into(rt, alloc, words, &mut reader, &mut output, &mut errors)?;
+    same(rt, status, 1);
+    same(rt, output.taken.as_slice(), taken.as_bytes());
+    same(rt, errors.as_slice(), b"rxbook: write fault\n".as_slice());
+    Ok(())
+}
+
+const FRONTS: [(&[&str], &str, bool, &str); 6] = [
+    (&["rxbook"], EMPTY, false, "totals nod"),
+    (&["rxbook"], EMPTY, true, "totals nod"),
+    (&["rxbook", "audit"], "[]", false, "lawful\nliv"),
+    (&["rxbook", "audit"], "[[\"take\",0]]", true, "unlawful 0"),
+    (&["rxbook", "storm"], EMPTY, false, "accepted 4"),
+    (&["rxbook", "--help"], EMPTY, false, "Runs scena"),
+];
+
+#[test]
 fn an_output_that_fails_is_a_write_fault(rt: HostRuntime) -> Result<(), Fail> {
-    let empty = "{\"steps\":[]}";
-    let cases: [(&[&str], &str, bool, &[u8]); 6] = [
-        (&["rxbook"], empty, false, b"totals nod"),
-        (&["rxbook"], empty, true, b"totals nod"),
-        (&["rxbook", "audit"], "[]", false, b"lawful\nliv"),
-        (&["rxbook", "audit"], "[[\"take\",0]]", true, b"unlawful 0"),
-        (&["rxbook", "storm"], empty, false, b"accepted 4"),
-        (&["rxbook", "--help"], empty, false, b"Runs scena"),
-    ];
-    for (words, text, stuck, taken) in cases {
-        let mut output = make_full(rt.alloc(), 10, stuck);
-        let mut errors = Vec::new(rt.alloc());
-        let mut input = text.as_bytes();
-        let stock = stock(rt.alloc())?;
-        let status = serve(
-            &rt,
-            rt.alloc(),
-            words,
-            stock,
-            &mut Watched::new(&mut input),
-            &mut Watched::new(&mut output),
-            &mut Watched::new(&mut errors),
-        );
-        same(&rt, status, 1);
-        same(&rt, output.taken.as_slice(), taken);
-        same(&rt, errors.as_slice(), b"rxbook: write fault\n".as_slice());
+    for (words, input, stuck, taken) in FRONTS {
+        assert_write_fault(&rt, rt.alloc(), words, input, (stuck, taken))?;
     }
+    Ok(())
+}
+
+// The words over errors that are not taken: this status, with nothing written.
+fn assert_status<T: Threads + Wait + Sync + Abort>(
+    rt: &T,
+    alloc: Global,
+    words: &[&str],
+    wanted: u8,
+) -> Result<(), Fail> {
+    let mut output: Vec<u8> = Vec::new(alloc);
+    let mut errors = make_full(alloc, 3, false);
+    let mut reader: &[u8] = b"{";
+    let status = serve_into(rt, alloc, words, &mut reader, &mut output, &mut errors)?;
+    same(rt, (status, output.len()), (wanted, 0));
     Ok(())
 }
 
 #[test]
 fn errors_that_are_not_taken_leave_the_status(rt: HostRuntime) -> Result<(), Fail> {
-    let cases: [(&[&str], u8); 2] = [(&["rxbook"], 3), (&["rxbook", "bad"], 2)];
-    for (words, wanted) in cases {
-        let mut output = Vec::new(rt.alloc());
-        let mut input: &[u8] = b"{";
-        let stock = stock(rt.alloc())?;
-        let status = serve(
-            &rt,
-            rt.alloc(),
-            words,
-            stock,
-            &mut Watched::new(&mut input),
-            &mut Watched::new(&mut output),
-            &mut Watched::new(&mut make_full(rt.alloc(), 3, false)),
-        );
-        same(&rt, status, wanted);
-        assert!(rt; output.is_empty());
-    }
-    Ok(())
+    assert_status(&rt, rt.alloc(), &["rxbook"], 3)?;
+    assert_status(&rt, rt.alloc(), &["rxbook", "bad"], 2)
 }
+
+// What a resource answers to 12 and then to 10, how often it was used then, and what its release answers.
+fn course_of<R: Resource>(resource: R) -> ([u64; 2], u64, Result<(), u32>)
+    requires live { R.life_of resource ≡ Life.Live }
+    requires unused { R.uses_of resource ≡ 0 }
+{
+    let mut used = resource;
+    let answers = [used.apply(12), used.apply(10)];
+    let uses = used.uses();
+    (answers, uses, used.release())
+}
+
+const KINDS: [(u64, ResourceKind); 6] = [
+    (2, ResourceKind::Plain),
+    (3, ResourceKind::Faulty),
+    (5, ResourceKind::Tally),
+    (251, ResourceKind::Faulty),
+    (253, ResourceKind::Tally),
+    (255, ResourceKind::Plain),
+];
 
 #[test]
 fn the_stock_has_its_kinds_by_tag(rt: HostRuntime) -> Result<(), Fail> {
-    let stock = stock(rt.alloc())?;
-    same(&rt, stock.len(), 256);
-    let mut plain = Plain::new(0);
-    same(&rt, (plain.apply(12), plain.apply(10)), (12, 10));
-    same(&rt, plain.uses(), 2);
-    same(&rt, plain.release(), Ok(()));
-    let mut tally = Tally::new(5);
-    same(&rt, (tally.apply(12), tally.apply(10)), (12, 6));
-    same(&rt, tally.uses(), 2);
-    same(&rt, tally.release(), Ok(()));
-    let mut faulty = Faulty::new(3);
-    same(&rt, (faulty.apply(12), faulty.apply(10)), (12, 10));
-    same(&rt, faulty.uses(), 2);
-    same(&rt, faulty.release(), Err(2));
-    for (tag, kind) in [
-        (2, ResourceKind::Plain),
-        (3, ResourceKind::Faulty),
-        (5, ResourceKind::Tally),
-        (251, ResourceKind::Faulty),
-        (253, ResourceKind::Tally),
-        (255, ResourceKind::Plain),
-    ] {
+    same(&rt, stock(rt.alloc())?.len(), 256);
+    same(&rt, course_of(Plain::new(0)), ([12, 10], 2, Ok(())));
+    same(&rt, course_of(Tally::new(5)), ([12, 6], 2, Ok(())));
+    same(&rt, course_of(Faulty::new(3)), ([12, 10], 2, Err(2)));
+    for (tag, kind) in KINDS {
         same(&rt, ResourceKind::by_tag(tag), kind);
     }
     Ok(())
@@ -481,18 +526,27 @@ fn a_word_that_is_no_text_is_a_usage_error(rt: HostRuntime) {
     );
 }
 
+// Whether the words are read; where they are not, for want of memory.
+fn is_ordered(rt: &impl Abort, alloc: Global) -> bool {
+    match order(alloc, &["rxbook", "run"]) {
+        Ok(found) => {
+            same(rt, found, Order::Run(Form::Report));
+            true
+        }
+        Err(error) => {
+            same(rt, error.kind(), ErrorKind::OutOfMemory);
+            false
+        }
+    }
+}
+
 #[test]
 fn refused_memory_is_told_from_refused_words(rt: HostRuntime) -> Result<(), Fail> {
-    let words = ["rxbook", "run"];
     let mut scarce = Scarce::new(rt.alloc())?;
     let mut refused = 0u32;
     for _turn in 0..100_000 {
-        match order(rt.alloc(), &words) {
-            Ok(found) => {
-                same(&rt, found, Order::Run(Form::Report));
-                break;
-            }
-            Err(error) => same(&rt, error.kind(), ErrorKind::OutOfMemory),
+        if is_ordered(&rt, rt.alloc()) {
+            break;
         }
         refused = refused.saturating_add(1);
         assert!(rt; scarce.give_back_one());
@@ -501,8 +555,50 @@ fn refused_memory_is_told_from_refused_words(rt: HostRuntime) -> Result<(), Fail
     Ok(())
 }
 
-// Does what the words order with more and more memory, until it is done. Before that it says that memory is
-// wanted and writes nothing, and then it writes just this.
+// Does what the words order: whether it is done. Where it is not, it says that memory is wanted, and writes
+// nothing.
+fn is_done<T: Threads + Wait + Sync + Abort>(
+    rt: &T,
+    alloc: Global,
+    words: &[&str],
+    text: &str,
+    output: &mut Vec<u8>,
+    errors: &mut Vec<u8>,
+) -> Result<bool, AllocError> {
+    let mut input = text.as_bytes();
+    let status = serve_into(rt, alloc, words, &mut input, output, errors)?;
+    if status == 0 {
+        return Ok(true);
+    }
+    same(rt, (status, output.len()), (4, 0));
+    same(rt, errors.as_slice(), b"rxbook: out of memory\n".as_slice());
+    errors.clear();
+    Ok(false)
+}
+
+// Does so with more and more memory. How often it was refused.
+fn refusals_of<T: Threads + Wait + Sync + Abort>(
+    rt: &T,
+    alloc: Global,
+    words: &[&str],
+    text: &str,
+    output: &mut Vec<u8>,
+    errors: &mut Vec<u8>,
+) -> Result<Option<u32>, AllocError> {
+    // The memory of the stock, and no more, is free.
+    let spare = stock(alloc)?;
+    let mut scarce = Scarce::new(alloc)?;
+    drop(spare);
+    for refused in 0..100_000 {
+        if is_done(rt, alloc, words, text, output, errors)? {
+            return Ok(Some(refused));
+        }
+        assert!(rt; scarce.give_back_one());
+    }
+    Ok(None)
+}
+
+// Does so, and in the end it writes just this.
 fn assert_silent_without_memory<T: Threads + Wait + Sync + Abort>(
     rt: &T,
     alloc: Global,
@@ -510,45 +606,18 @@ fn assert_silent_without_memory<T: Threads + Wait + Sync + Abort>(
     text: &str,
     written: &str,
 ) -> Result<(), Fail> {
-    let mut output = Vec::with_capacity(alloc, 256)?;
-    let mut errors = Vec::with_capacity(alloc, 256)?;
-    // The memory of the stock, and no more, is free.
-    let spare = stock(alloc)?;
-    let mut scarce = Scarce::new(alloc)?;
-    drop(spare);
-    let mut refused = 0u32;
-    for _turn in 0..100_000 {
-        let mut input = text.as_bytes();
-        let stock = stock(alloc)?;
-        let status = serve(
-            rt,
-            alloc,
-            words,
-            stock,
-            &mut Watched::new(&mut input),
-            &mut Watched::new(&mut output),
-            &mut Watched::new(&mut errors),
-        );
-        if status == 0 {
-            break;
-        }
-        same(rt, status, 4);
-        assert!(rt; output.is_empty());
-        same(rt, errors.as_slice(), b"rxbook: out of memory\n".as_slice());
-        errors.clear();
-        refused = refused.saturating_add(1);
-        assert!(rt; scarce.give_back_one());
-    }
-    assert!(rt; refused > 0);
+    let mut output: Vec<u8> = Vec::with_capacity(alloc, 256)?;
+    let mut errors: Vec<u8> = Vec::with_capacity(alloc, 256)?;
+    let refused = refusals_of(rt, alloc, words, text, &mut output, &mut errors)?;
+    assert!(rt; refused > Some(0) && errors.is_empty());
     same(rt, output.as_slice(), written.as_bytes());
-    assert!(rt; errors.is_empty());
     Ok(())
 }
 
 #[test]
 fn a_call_without_memory_says_so_and_writes_nothing(rt: HostRuntime) -> Result<(), Fail> {
     let alloc = rt.alloc();
-    assert_silent_without_memory(&rt, alloc, &["rxbook"], "{\"steps\":[]}", NOTHING_DONE)?;
     let audit = ["rxbook", "audit"];
+    assert_silent_without_memory(&rt, alloc, &["rxbook"], EMPTY, NOTHING_DONE)?;
     assert_silent_without_memory(&rt, alloc, &audit, HALF_CLOSED, HALF_CLOSED_VERDICT)
 }

@@ -1,4 +1,4 @@
-//! Storms that were run: their figures, faults of writer, memory and threads, releases at one time, a
+//! Storms that were run: faults of writer, memory and threads, releases at one time, a
 //! receipt that is false, and that the book is closed in each outcome.
 
 ghost use Rattle.std.specs.Prelude.{◌≡◌, vec_len, IfOk};
@@ -7,10 +7,9 @@ ghost use Rattle.rx_resource.specs.declared.Life.{Life};
 ghost use Rattle.rx_ledger.specs.Shares.{Opens};
 
 use super::same::same;
-use rx_audit::{Verdict, audit};
 use rx_book::{At, Book};
 use rx_cli::weathered;
-use rx_crew::{Desk, Gate, finish};
+use rx_crew::{Desk, Gate};
 use rx_device::Watched;
 use rx_event::Event;
 use rx_ledger::{PARTS, Receipt};
@@ -67,14 +66,6 @@ impl Gate for Open {
     fn after(&self, _number: u64) {}
 }
 
-#[test]
-fn a_storm_tells_its_figures(rt: HostRuntime) -> Result<(), Fail> {
-    let mut output = Vec::new(rt.alloc());
-    same(&rt, usual(&rt, rt.alloc(), &Open, &mut output), Ok(true));
-    same(&rt, output.as_slice(), FIGURES.as_bytes());
-    Ok(())
-}
-
 // Takes so many bytes and fails then.
 #[derive(Drop)]
 struct Narrow {
@@ -109,28 +100,94 @@ fn a_writer_that_fails_is_a_write_fault(rt: HostRuntime) -> Result<(), Fail> {
     Ok(())
 }
 
-#[test]
-fn a_storm_without_memory_or_threads_ends_and_writes_nothing(rt: HostRuntime) -> Result<(), Fail> {
-    let mut output = Vec::with_capacity(rt.alloc(), 256)?;
-    let mut scarce = Scarce::new(rt.alloc())?;
-    let (mut for_memory, mut for_threads) = (0u32, 0u32);
+// A resource for each of four sources.
+fn four_tracked(alloc: Global, tracker: &Tracker) -> Result<Vec<Tracked>, AllocError> {
+    let mut stock = Vec::new(alloc);
+    for tag in 0..4 {
+        stock.push(tracker.resource(tag, None)?)?;
+    }
+    Ok(stock)
+}
+
+// What comes of a storm of these resources, and how many of them its book accepted.
+fn weather<
+    I: Ledger + Send + Sync,
+    A: Ledger + Send + Sync,
+    K: Ledger + Send + Sync,
+    T: Threads + Wait + Sync,
+>(
+    rt: &T,
+    alloc: Global,
+    blanks: (Blank, Blank, Blank),
+    stock: Vec<Tracked>,
+    output: &mut Vec<u8>,
+) -> (Result<bool, StormFault>, u64)
+    requires items { Opens I.name I.parts blanks.0.name blanks.0.parts }
+    requires accepted { Opens A.name A.parts blanks.1.name blanks.1.parts }
+    requires taken { Opens K.name K.parts blanks.2.name blanks.2.parts }
+{
+    let book = Book::new(alloc, 1_000_000);
+    let (desk, first) = Desk::<Tracked, I, A, K>::new(book, blanks.0, blanks.1, blanks.2);
+    let gathered = run_threads(rt, alloc, &desk, first, stock, 3, 100, &Open);
+    let accepted = desk.floor.lock(rt).accepted();
+    let ended = end_storm(alloc, desk, gathered, &mut Watched::new(output));
+    (ended, accepted)
+}
+
+// What comes of such a storm; each resource that its book accepted is released once.
+fn storm_once<T: Threads + Wait + Sync + Abort>(
+    rt: &T,
+    alloc: Global,
+    tracker: &Tracker,
+    output: &mut Vec<u8>,
+) -> Result<bool, StormFault> {
+    let Ok(stock) = four_tracked(alloc, tracker) else {
+        return Err(StormFault::Memory);
+    };
+    let before = tracker.released();
+    let blanks = (Blank::new(PARTS), Blank::new(PARTS), Blank::new(PARTS));
+    let (ended, accepted) = weather::<Brand, Brand, Brand, _>(rt, alloc, blanks, stock, output);
+    let released = tracker.released().wrapping_sub(before);
+    same(rt, u64::from(released), accepted);
+    ended
+}
+
+// Storms with more and more memory, until one is done. How often memory and how often a thread was refused, and
+// how many resources were released in all of those.
+fn storm_in_the_end<T: Threads + Wait + Sync + Abort>(
+    rt: &T,
+    alloc: Global,
+    tracker: &Tracker,
+    output: &mut Vec<u8>,
+) -> Result<(u32, u32, u32), Fail> {
+    let mut scarce = Scarce::new(alloc)?;
+    let mut for_memory = 0u32;
+    let mut for_threads = 0u32;
     for _turn in 0..100_000u32 {
-        match usual(&rt, rt.alloc(), &Open, &mut output) {
+        let released = tracker.released();
+        match storm_once(rt, alloc, tracker, output) {
             Ok(agrees) => {
                 assert!(rt; agrees);
-                break;
+                return Ok((for_memory, for_threads, released));
             }
             Err(StormFault::Memory) => for_memory = for_memory.saturating_add(1),
             Err(StormFault::Thread) => for_threads = for_threads.saturating_add(1),
-            Err(StormFault::Write) => assert!(rt; false),
+            Err(StormFault::Write) => return Err(Fail::from("a vector was not written")),
         }
-        assert!(rt; output.is_empty());
-        assert!(rt; scarce.give_back_one());
+        assert!(rt; output.is_empty() && scarce.give_back_one());
     }
-    drop(scarce);
+    Err(Fail::from("no storm is done"))
+}
+
+#[test]
+fn a_storm_without_memory_or_threads_ends_and_writes_nothing(rt: HostRuntime) -> Result<(), Fail> {
+    let tracker = Tracker::new(rt.alloc())?;
+    let mut output = Vec::with_capacity(rt.alloc(), 256)?;
+    let told = storm_in_the_end(&rt, rt.alloc(), &tracker, &mut output)?;
+    let (for_memory, for_threads, released) = told;
     assert!(rt;
-        for_memory > 0 && for_threads > 0,
-        "{for_memory} {for_threads}"
+        for_memory > 0 && for_threads > 0 && released > 0,
+        "{told:?}"
     );
     Ok(())
 }
@@ -172,47 +229,6 @@ fn two_releases_of_a_storm_run_at_the_same_time(rt: HostRuntime) -> Result<(), F
     let mut output = Vec::new(rt.alloc());
     same(&rt, usual(&rt, rt.alloc(), &gate, &mut output), Ok(true));
     same(&rt, gate.has_met.load(Ordering::SeqCst), 1);
-    Ok(())
-}
-
-// The history that the threads of a storm write.
-fn history_of<
-    I: Ledger + Send + Sync,
-    A: Ledger + Send + Sync,
-    K: Ledger + Send + Sync,
-    T: Threads + Wait + Sync,
->(rt: &T, alloc: Global, blanks: (Blank, Blank, Blank)) -> Result<Vec<Event>, Fail>
-    requires items { Opens I.name I.parts blanks.0.name blanks.0.parts }
-    requires accepted { Opens A.name A.parts blanks.1.name blanks.1.parts }
-    requires taken { Opens K.name K.parts blanks.2.name blanks.2.parts }
-{
-    let book = Book::new(alloc, 1000);
-    let (desk, first) = Desk::<Sample, I, A, K>::new(book, blanks.0, blanks.1, blanks.2);
-    let stock = four_samples(alloc)?;
-    let gathered = run_threads(rt, alloc, &desk, first, stock, 3, 20, &Open);
-    let finished = finish(desk, gathered.seats, &gathered.receipts);
-    let mut events = Vec::new(alloc);
-    for place in 0..finished.book.len() {
-        events.push(finished.book.event(place).ok_or("no event")?)?;
-    }
-    Ok(events)
-}
-
-#[test]
-fn the_audit_of_a_storm_is_lawful(rt: HostRuntime) -> Result<(), Fail> {
-    let blanks = (Blank::new(PARTS), Blank::new(PARTS), Blank::new(PARTS));
-    let events = history_of::<Brand, Brand, Brand, _>(&rt, rt.alloc(), blanks)?;
-    same(&rt, events.len(), 104);
-    match audit(rt.alloc(), &events) {
-        Ok(
-            Verdict::Lawful {
-                live,
-                held,
-                waiting,
-            },
-        ) => assert!(rt; live.is_empty() && held.is_empty() && waiting.is_empty()),
-        _ => return Err(Fail::from("the history is not lawful")),
-    }
     Ok(())
 }
 
