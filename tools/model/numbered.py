@@ -32,8 +32,7 @@ class Numbered(Typed):
         if do == 'drain':
             self.put('drain', rng.choice(MOST), rng.choice(MOST))
         elif do == 'checkpoint':
-            if rng.random() < 0.8:
-                self.put('drain', 60, rng.choice(MOST))
+            self.put('drain', rng.choice((0, 60, 60)), rng.choice(MOST))
             self.put('checkpoint')
         elif why := self.own_cause(step):
             return why
@@ -55,14 +54,15 @@ class Numbered(Typed):
         """The call of a command, with its numbers, and the place at which it would come."""
         do, rng, number = step['do'], self.rng, lambda space, member: self.number(space, step[member]) if member in step else 0
         node = lambda: self.other(number('node', 'node'))
+        hub = lambda: number('hub', 'hub') if rng.random() < 0.97 else rng.choice((0, len(self.h), 2**64 - 1))
         match do:
             case 'open' | 'using':
                 where = [do, AT.index(step['place']), self.other(number('node', 'of'))]
-                call = [*where, self.tag()] if do == 'using' else [*where, KINDS.index(step['kind']), number('hub', 'hub')]
+                call = [*where, self.tag()] if do == 'using' else [*where, KINDS.index(step['kind']), hub()]
             case 'hub':
                 call = [do, MODES.index(step['mode'])]
             case 'connect' | 'disconnect':
-                call = [do, number('hub', 'hub') if rng.random() < 0.97 else rng.choice((0, len(self.h), 2**64 - 1))]
+                call = [do, hub()]
             case 'hold':
                 call = [do, node(), self.tag()]
             case 'apply':
