@@ -257,12 +257,9 @@ fn are_refused_first<T: Abort>(rt: &T, alloc: Global, calls: &[Made]) -> Result<
     Ok(())
 }
 
-const AT_A_ROOT: [Made; 6] = [
+const WITHOUT_INNERS: [Made; 3] = [
     Made::Open(Kind::Pass),
     Made::Open(Kind::Leaf),
-    Made::Open(Kind::Flat),
-    Made::Open(Kind::Switch),
-    Made::Open(Kind::Until),
     Made::OpenUsing,
 ];
 
@@ -270,7 +267,20 @@ const AT_A_ROOT: [Made; 6] = [
 fn an_opening_at_a_root_that_is_refused_memory_changes_nothing(
     rt: HostRuntime,
 ) -> Result<(), Fail> {
-    are_refused_first(&rt, rt.alloc(), &AT_A_ROOT)
+    are_refused_first(&rt, rt.alloc(), &WITHOUT_INNERS)
+}
+
+const WITH_PLACES: [Made; 3] = [
+    Made::Open(Kind::Flat),
+    Made::Open(Kind::Switch),
+    Made::Open(Kind::Until),
+];
+
+#[test]
+fn an_operator_at_a_root_that_is_refused_memory_changes_nothing(
+    rt: HostRuntime,
+) -> Result<(), Fail> {
+    are_refused_first(&rt, rt.alloc(), &WITH_PLACES)
 }
 
 const BELOW: [Made; 4] = [

@@ -7,11 +7,10 @@
 
 ghost use Rattle.std.specs.Prelude.{◌≡◌, ◌≢◌, ◌⊎◌, None, IfOk, IfErr, OnOk, IsErrOf, string_bytes};
 ghost use Rattle.std.specs.Io.KnownBytes.{Appends};
-ghost use Rattle.serde_json.specs.Data.{Data};
 ghost use Rattle.serde_json.specs.View.{view};
 ghost use Rattle.rx_device.specs.declared.fault.ScriptError.{ScriptError};
 ghost use Rattle.rx_device.specs.Device.{device_of, HasReadFault, HasWriteFault, IsFresh, AppendsPrefix};
-ghost use Rattle.rx_device.specs.Input.{GivesJson, GivesTooMuch, GivesNoJson};
+ghost use Rattle.rx_device.specs.Input.{GivesTooMuch, GivesNoJson};
 ghost use Rattle.rx_dump.specs.Checking.{GivesNoDump};
 ghost use Rattle.rx_dump.specs.History.{history_of};
 ghost use Rattle.rxpicture.specs.Pictured.{IsPictureOn, Draws};
