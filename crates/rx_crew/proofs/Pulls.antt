@@ -21,6 +21,8 @@ record NextOf (n : ℕ) (xs : List Pull) (p : Pull) (rest : List Pull) : Type 0 
   pub within : n < length xs
 
 next_of : (n : ℕ) (xs : List Pull) (p : Pull) (rest : List Pull) → drop n xs ≡ p ∷ rest → NextOf n xs p rest
+next_of zero [] p rest e = cc
+next_of (suc n) [] p rest e = cc
 next_of zero (x ∷ xs) p rest e =
     let first : x ≡ p = cc in
     let others : xs ≡ rest = cc in
@@ -28,7 +30,6 @@ next_of zero (x ∷ xs) p rest e =
 next_of (suc n) (x ∷ xs) p rest e =
     let r = next_of n xs p rest e in
     record { taken = ap (λ (l : List Pull). x ∷ l) r.taken; left = r.left; within = let w = r.within in omega arith }
-next_of _ [] p rest e = cc
 
 -- the next of the pulls, and what is left after it
 record IsNext (n : ℕ) (xs : List Pull) (p : Pull) (rest : List Pull) : Type 0 where
