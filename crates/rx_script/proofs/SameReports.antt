@@ -35,7 +35,10 @@ use Rattle.rx_script.proofs.NamesForOtherNumbers.{renamed, AllNumbers}
 use Rattle.rx_script.proofs.SameStages.{AreSameStages}
 
 told_by : (r : ℕ → ℕ) (e : Event) → is_told (event_by r e) ≡ is_told e
+told_by r (Open Root kind) = refl
 told_by r (Open (Source p) Leaf) = refl
+told_by r (Open (Inner p) Leaf) = refl
+told_by r (Open (Notifier p) Leaf) = refl
 told_by r _ = refl
 
 node_made : (h : List Event) (n : ℕ) → at makes_node h n ≡ true → (e : Event) × (slice_get h n ≡ Some e) × (makes_node e ≡ true)
