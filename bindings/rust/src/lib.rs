@@ -37,9 +37,11 @@
 
 mod event;
 mod ffi;
+mod record;
 
 pub use event::Event;
 use ffi::{Handle, Told};
+pub use record::Record;
 use std::collections::VecDeque;
 use std::fmt;
 use std::sync::atomic::{AtomicU64, Ordering};

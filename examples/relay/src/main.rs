@@ -3,49 +3,35 @@
 //! Usage: relay [--life SECONDS] [--dump FILE] [--checkpoint EVENTS] ADDRESS TOPIC=ADDRESS..
 mod desk;
 mod peer;
-mod record;
 mod system;
 
-use cellarcliff::Terminal;
+use cellarcliff::{Record, Terminal};
 use desk::{After, Desk, Dial, Role, CUT, UNREACHED};
 use peer::{Input, Line, Peer};
-use record::Record;
+use std::fs::File;
 use std::net::{SocketAddr, TcpListener, TcpStream};
 use std::sync::atomic::Ordering::Relaxed;
 use std::sync::mpsc::{channel, Receiver, Sender};
 use std::sync::Mutex;
 use std::thread;
 use std::time::{Duration, Instant};
-use system::{Poll, DUMP, STOP};
+use system::{Poll, DUMP, LISTENER, SOCKET, STOP};
 
 type Failure = Box<dyn std::error::Error>;
 
 const WORKERS: usize = 3;
-const LISTENER: u64 = u64::MAX;
+const NEW_CLIENT: u64 = u64::MAX; // the token of the listener
 const ROUNDS: usize = 16; // readings of one socket before others have their turn
-
-struct Options {
-    life: Duration,
-    dump: Option<String>,
-    checkpoint: u64,
-    address: String,
-    topics: Vec<(String, SocketAddr)>,
-}
 
 struct Relay {
     desk: Mutex<Desk>,
     poll: Poll,
     listener: TcpListener,
+    dials: Sender<Dial>,
     life: Duration,
 }
 
-/// What each thread has: the relay, and where upstreams are asked for.
-struct Hand<'a> {
-    relay: &'a Relay,
-    dials: Sender<Dial>,
-}
-
-impl Hand<'_> {
+impl Relay {
     /// Makes a call at the book under the lock, and does outside of it what it leads to.
     fn with<A>(&self, call: impl FnOnce(&mut Desk, &mut After) -> A) -> A {
         let mut after = After::default();
@@ -58,12 +44,12 @@ impl Hand<'_> {
             if gone.is_empty() {
                 return answer;
             }
-            self.locked(&mut after, |desk, _| gone.iter().for_each(|it| leave(desk, it)));
+            self.locked(&mut after, |desk, _| gone.iter().for_each(|it| desk.leave(it)));
         }
     }
 
     fn locked<A>(&self, after: &mut After, call: impl FnOnce(&mut Desk, &mut After) -> A) -> A {
-        let mut desk = self.relay.desk.lock().unwrap();
+        let mut desk = self.desk.lock().unwrap();
         let answer = call(&mut desk, after);
         desk.serve(after);
         answer
@@ -71,54 +57,48 @@ impl Hand<'_> {
 
     fn work(&self) {
         while !STOP.load(Relaxed) {
-            self.relay.poll.wait(|token| if token == LISTENER { self.accept() } else { self.read(token) });
+            self.poll.wait(|token| if token == NEW_CLIENT { self.accept() } else { self.read(token) });
         }
     }
 
     /// Where no descriptor is left the listener rests until the next tick.
     fn accept(&self) {
-        while let Ok((stream, _)) = self.relay.listener.accept() {
+        while let Ok((stream, _)) = self.listener.accept() {
             let Ok(peer) = Peer::new(stream) else { continue };
-            let until = Instant::now() + self.relay.life;
-            if self.with(|desk, after| desk.join(&peer, until, after)).is_ok() {
-                let _ = self.relay.poll.add(&peer.stream, peer.number());
+            if self.with(|desk, after| desk.join(&peer, Instant::now() + self.life, after)) && !self.watch(&peer) {
+                self.with(|desk, _| desk.leave(&peer));
             }
         }
+    }
+
+    fn watch(&self, peer: &Peer) -> bool {
+        self.poll.watch(&peer.stream, peer.number(), SOCKET).is_ok()
     }
 
     fn read(&self, token: u64) {
-        let Some((peer, role)) = self.relay.desk.lock().unwrap().peer(token) else { return };
+        let Some((peer, role)) = self.desk.lock().unwrap().peer(token) else { return };
         if peer.flush().is_err() {
-            return self.with(|desk, _| leave(desk, &peer));
+            return self.with(|desk, _| desk.leave(&peer));
         }
         let mut input = peer.input.lock().unwrap();
         for _ in 0..ROUNDS {
-            match peer.read(&mut input) {
-                Input::Lines(lines) => self.take(&peer, role, lines),
-                Input::Nothing => return,
-                Input::End { is_whole } => return self.end(role, is_whole),
-            }
-        }
-        let _ = self.relay.poll.again(&peer.stream, token);
-    }
-
-    fn take(&self, peer: &std::sync::Arc<Peer>, role: Role, lines: Vec<Line>) {
-        match role {
-            Role::Client { root, choices } => {
-                for line in lines {
-                    self.with(|desk, after| desk.choose(peer, root, choices, &line, after));
+            match (peer.read(&mut input), role) {
+                (Input::Lines(lines), Role::Client { choices, .. }) => {
+                    lines.iter().for_each(|it| self.with(|desk, after| desk.choose(&peer, choices, it, after)))
                 }
+                // some at a time, so that queues are written in between
+                (Input::Lines(lines), Role::Upstream { leaf }) => {
+                    lines.chunks(64).for_each(|it: &[Line]| self.with(|desk, _| desk.emit(leaf, it)))
+                }
+                (Input::End { .. }, Role::Client { .. }) => return self.with(|desk, _| desk.leave(&peer)),
+                (Input::End { is_whole }, Role::Upstream { leaf }) => {
+                    let how = if is_whole { Terminal::Completed } else { Terminal::Error(CUT) };
+                    return self.with(|desk, _| desk.end(leaf, how));
+                }
+                (Input::Nothing, _) => return,
             }
-            // some at a time, so that queues are written in between
-            Role::Upstream { leaf } => lines.chunks(64).for_each(|some| self.with(|desk, _| desk.emit(leaf, some.to_vec()))),
         }
-    }
-
-    fn end(&self, role: Role, is_whole: bool) {
-        self.with(|desk, _| match role {
-            Role::Client { root, .. } => desk.leave(root),
-            Role::Upstream { leaf } => desk.end(leaf, if is_whole { Terminal::Completed } else { Terminal::Error(CUT) }),
-        })
+        self.watch(&peer); // there may be more
     }
 
     /// Reaches upstreams, one after another, so that no worker waits for one.
@@ -126,111 +106,91 @@ impl Hand<'_> {
         while !STOP.load(Relaxed) {
             let Ok(dial) = dials.recv_timeout(Duration::from_millis(50)) else { continue };
             let reached = TcpStream::connect_timeout(&dial.address, Duration::from_secs(1)).and_then(Peer::new);
-            match reached {
-                Ok(peer) if self.with(|desk, after| desk.attach(dial.leaf, &peer, after)) => {
-                    let _ = self.relay.poll.add(&peer.stream, peer.number());
-                }
-                Ok(_) => {}
-                Err(_) => self.with(|desk, _| desk.end(dial.leaf, Terminal::Error(UNREACHED))),
+            if !reached.is_ok_and(|it| self.with(|desk, after| desk.attach(dial.leaf, &it, after)) && self.watch(&it)) {
+                self.with(|desk, _| desk.end(dial.leaf, Terminal::Error(UNREACHED))); // refused where nobody waits
             }
         }
     }
 
-    /// Time, signals, the history and the line of figures.
-    fn tick(&self, record: &mut Record, checkpoint: u64) -> Result<(), Failure> {
+    /// Time, signals, checkpoints and the line of figures.
+    fn tick(&self, record: &mut Option<Record<File>>, checkpoint: u64) -> std::io::Result<()> {
         let (mut shown, mut kept) = (Instant::now(), 0);
         while !STOP.load(Relaxed) {
             thread::sleep(Duration::from_millis(50));
-            let _ = self.relay.poll.once(&self.relay.listener, LISTENER);
+            let _ = self.poll.watch(&self.listener, NEW_CLIENT, LISTENER);
             self.with(|desk, _| desk.expire(Instant::now()));
-            let mut desk = self.relay.desk.lock().unwrap();
+            let mut desk = self.desk.lock().unwrap();
             let events = desk.book.counts().events;
             let is_due = events - kept >= checkpoint;
-            if DUMP.swap(false, Relaxed) || is_due {
-                let copied = record.copy(&mut desk);
-                if is_due && desk.book.checkpoint() {
-                    kept = events;
-                }
-                drop(desk);
-                record.write(&copied)?;
-            } else {
-                drop(desk);
+            let record = record.as_mut().filter(|_| DUMP.swap(false, Relaxed) || is_due);
+            let copied = record.map(|it| (it.copy(&mut desk.book), it));
+            if is_due && desk.book.checkpoint() {
+                kept = events;
             }
+            drop(desk);
+            copied.map_or(Ok(()), |(events, it)| it.write(&events))?;
             if shown.elapsed() >= Duration::from_secs(10) {
-                shown = Instant::now();
-                self.show();
+                (shown, _) = (Instant::now(), self.show());
             }
         }
         Ok(())
     }
 
     fn show(&self) {
-        let mut desk = self.relay.desk.lock().unwrap();
-        let (counts, told) = (desk.book.counts(), desk.told);
+        let mut desk = self.desk.lock().unwrap();
+        let (it, told, slow) = (desk.book.counts(), desk.told, desk.slow);
         drop(desk);
-        println!(
-            "open {} held {} waiting {} events {} lines {told} descriptors {}",
-            counts.nodes, counts.held, counts.waiting, counts.events, descriptors()
-        );
+        print!("open {} held {} waiting {} events {} ", it.nodes, it.held, it.waiting, it.events);
+        println!("lines {told} slow {slow} descriptors {}", descriptors());
     }
 }
 
-fn leave(desk: &mut Desk, peer: &Peer) {
-    if let Some((_, Role::Client { root, .. })) = desk.peer(peer.number()) {
-        desk.leave(root);
-    }
-}
-
-/// How many descriptors the system counts; the reading has one itself.
+/// How many descriptors the system counts, but for that of the reading.
 fn descriptors() -> usize {
-    std::fs::read_dir("/proc/self/fd").map_or(0, |it| it.count().saturating_sub(1))
+    std::fs::read_dir("/proc/self/fd").map_or(0, |it| it.count() - 1)
 }
 
-fn options() -> Option<Options> {
+fn run() -> Result<(), Failure> {
     let (mut life, mut dump, mut checkpoint, mut rest) = (600, None, 1_000_000, Vec::new());
     let mut words = std::env::args().skip(1);
     while let Some(word) = words.next() {
         match word.as_str() {
-            "--life" => life = words.next()?.parse().ok()?,
-            "--dump" => dump = Some(words.next()?),
-            "--checkpoint" => checkpoint = words.next()?.parse().ok()?,
+            "--life" => life = words.next().ok_or("--life SECONDS")?.parse()?,
+            "--dump" => dump = Some(words.next().ok_or("--dump FILE")?),
+            "--checkpoint" => checkpoint = words.next().ok_or("--checkpoint EVENTS")?.parse()?,
             _ => rest.push(word),
         }
     }
-    let topics = rest.get(1..)?.iter().map(|it| Some((it.split_once('=')?.0.into(), it.split_once('=')?.1.parse().ok()?)));
-    let topics = topics.collect::<Option<Vec<_>>>()?;
-    Some(Options { life: Duration::from_secs(life), dump, checkpoint, address: rest.first()?.clone(), topics })
-}
-
-fn run(options: Options) -> Result<(), Failure> {
-    let mut record = Record::new(options.dump.as_deref())?;
-    let (desk, listener) = (Mutex::new(Desk::new(options.topics)?), TcpListener::bind(options.address)?);
+    let (address, topics) = rest.split_first().ok_or("an address is missing")?;
+    let topics = topics.iter().map(|it| it.split_once('=').ok_or("a topic is NAME=ADDRESS".into()));
+    let topics = topics.map(|it| it.and_then(|(name, at)| Ok((name.to_string(), at.parse()?))));
+    let desk = Desk::new(topics.collect::<Result<Vec<(String, SocketAddr)>, Failure>>()?)?;
+    let mut record = dump.map(File::create).transpose()?.map(Record::new).transpose()?;
+    let listener = TcpListener::bind(address)?;
     listener.set_nonblocking(true)?;
-    println!("listening {}", listener.local_addr()?);
-    let relay = Relay { desk, poll: Poll::new()?, listener, life: options.life };
     let (dials, asked) = channel();
-    let hand = || Hand { relay: &relay, dials: dials.clone() };
+    let relay = Relay { desk: Mutex::new(desk), poll: Poll::new()?, listener, dials, life: Duration::from_secs(life) };
+    println!("listening {}", relay.listener.local_addr()?);
     let outcome = thread::scope(|all| {
-        (0..WORKERS).for_each(|_| drop(all.spawn({ let it = hand(); move || it.work() })));
-        all.spawn({ let it = hand(); move || it.dial(asked) });
-        let outcome = hand().tick(&mut record, options.checkpoint);
+        (0..WORKERS).for_each(|_| drop(all.spawn(|| relay.work())));
+        all.spawn(|| relay.dial(asked));
+        let outcome = relay.tick(&mut record, checkpoint);
         STOP.store(true, Relaxed);
         outcome
     });
-    hand().with(|desk, _| desk.book.close());
-    hand().show();
-    let copied = record.copy(&mut relay.desk.lock().unwrap());
-    outcome.and(record.write(&copied).map_err(Failure::from))
+    relay.with(|desk, _| desk.book.close());
+    relay.show();
+    if let Some(it) = &mut record {
+        let copied = it.copy(&mut relay.desk.lock().unwrap().book);
+        it.write(&copied)?;
+    }
+    Ok(outcome?)
 }
 
 fn main() -> Result<(), Failure> {
     let before = descriptors();
-    let Some(options) = options() else {
-        eprintln!("usage: relay [--life SECONDS] [--dump FILE] [--checkpoint EVENTS] ADDRESS TOPIC=ADDRESS..");
-        std::process::exit(2);
-    };
     system::hear_signals();
-    run(options)?;
+    run()?;
     println!("descriptors before {before} after {}", descriptors());
     Ok(())
 }

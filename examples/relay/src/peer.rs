@@ -27,14 +27,6 @@ struct Queue {
     again: bool,
 }
 
-/// What became of a line: it is the first of its queue, so somebody has to flush; or it waits with others; or there is no room.
-#[derive(PartialEq)]
-pub enum Pushed {
-    First,
-    Behind,
-    Full,
-}
-
 /// What was read: lines, perhaps the end; or nothing for now.
 pub enum Input {
     Lines(Vec<Line>),
@@ -54,13 +46,14 @@ impl Peer {
         self.number.load(Ordering::Relaxed)
     }
 
-    pub fn push(&self, line: Line) -> Pushed {
+    /// Whether there is room for the line; and whether it is the first of the queue, so that somebody has to flush.
+    pub fn push(&self, line: Line) -> Option<bool> {
         let mut queue = self.queue.lock().unwrap();
         if queue.lines.len() == QUEUE {
-            return Pushed::Full;
+            return None;
         }
         queue.lines.push_back(line);
-        if queue.lines.len() == 1 { Pushed::First } else { Pushed::Behind }
+        Some(queue.lines.len() == 1)
     }
 
     /// Writes what the socket takes without waiting. One thread at a time writes; another leaves it word to go on.
@@ -76,14 +69,15 @@ impl Peer {
             queue.again = false;
             let (batch, sent) = (queue.lines.iter().take(64).cloned().collect::<Vec<_>>(), queue.sent);
             drop(queue); // the system is called without a lock
-            let parts: Vec<_> = batch.iter().enumerate().map(|(i, it)| IoSlice::new(&it[if i == 0 { sent } else { 0 }..])).collect();
+            let mut parts: Vec<_> = batch.iter().map(|it| IoSlice::new(it)).collect();
+            parts[0] = IoSlice::new(&batch[0][sent..]);
             let written = (&self.stream).write_vectored(&parts);
             queue = self.queue.lock().unwrap();
             outcome = written.map(|bytes| queue.advance(bytes));
         }
         queue.is_written = false;
         match outcome {
-            Err(why) if why.kind() != ErrorKind::WouldBlock && why.kind() != ErrorKind::Interrupted => Err(why),
+            Err(why) if why.kind() != ErrorKind::WouldBlock => Err(why),
             _ => Ok(()),
         }
     }
@@ -91,20 +85,18 @@ impl Peer {
     /// Reads once, and cuts off whole lines. The guard is of `input`: lines come in order, whoever reads them.
     pub fn read(&self, input: &mut Vec<u8>) -> Input {
         let mut chunk = [0; 16_384];
+        if input.len() > LONGEST {
+            return Input::End { is_whole: false };
+        }
         match (&self.stream).read(&mut chunk) {
             Ok(0) => Input::End { is_whole: input.is_empty() },
             Ok(bytes) => {
                 input.extend_from_slice(&chunk[..bytes]);
-                let whole = input.iter().rposition(|it| *it == b'\n').map_or(0, |it| it + 1);
-                let rest = input.split_off(whole);
+                let rest = input.split_off(input.iter().rposition(|it| *it == b'\n').map_or(0, |it| it + 1));
                 let lines = std::mem::replace(input, rest);
-                if input.len() > LONGEST {
-                    return Input::End { is_whole: false };
-                }
                 Input::Lines(lines.split_inclusive(|it| *it == b'\n').map(Line::from).collect())
             }
             Err(why) if why.kind() == ErrorKind::WouldBlock => Input::Nothing,
-            Err(why) if why.kind() == ErrorKind::Interrupted => Input::Lines(Vec::new()),
             Err(_) => Input::End { is_whole: false },
         }
     }

@@ -24,19 +24,19 @@ extern "C" {
 }
 
 const USR1: c_int = 10;
-const SIGNALS: [c_int; 3] = [2, 15, USR1]; // with INT and TERM
 const ADD: c_int = 1;
 const AGAIN: c_int = 3;
-const BY_EDGE: u32 = 1 << 31 | 0x2000 | 0x4 | 0x1; // EPOLLET, and EPOLLRDHUP, OUT, IN
-const ONCE: u32 = 1 << 30 | 0x1; // EPOLLONESHOT, IN
 const ROOM: usize = 64;
+/// What is watched: EPOLLET, RDHUP, OUT and IN; EPOLLONESHOT and IN.
+pub const SOCKET: u32 = 1 << 31 | 0x2000 | 0x4 | 0x1;
+pub const LISTENER: u32 = 1 << 30 | 0x1;
 
 extern "C" fn heard(number: c_int) {
     if number == USR1 { &DUMP } else { &STOP }.store(true, Ordering::Relaxed);
 }
 
 pub fn hear_signals() {
-    for it in SIGNALS {
+    for it in [2, 15, USR1] { // with INT and TERM
         // SAFETY: the handler only stores into an atomic.
         unsafe { signal(it, heard) };
     }
@@ -48,35 +48,16 @@ pub struct Poll(OwnedFd);
 impl Poll {
     pub fn new() -> io::Result<Poll> {
         // SAFETY: what it answers is a descriptor of ours, unless it is negative.
-        match unsafe { epoll_create1(0o2000000) } {
-            it if it < 0 => Err(io::Error::last_os_error()),
-            it => Ok(Poll(unsafe { OwnedFd::from_raw_fd(it) })),
-        }
+        let it = unsafe { epoll_create1(0o2000000) };
+        if it < 0 { Err(io::Error::last_os_error()) } else { Ok(Poll(unsafe { OwnedFd::from_raw_fd(it) })) }
     }
 
-    fn control(&self, how: c_int, file: &impl AsRawFd, what: u32, token: u64) -> io::Result<()> {
+    /// Whenever a socket can be read anew, or written, one thread hears its token; of a listener once for each call.
+    pub fn watch(&self, file: &impl AsRawFd, token: u64, what: u32) -> io::Result<()> {
         let mut event = Event { what, token };
         // SAFETY: both descriptors are open, and the event is read in the call only.
-        match unsafe { epoll_ctl(self.0.as_raw_fd(), how, file.as_raw_fd(), &mut event) } {
-            0 => Ok(()),
-            _ => Err(io::Error::last_os_error()),
-        }
-    }
-
-    /// A socket: whenever it can be read anew, or written, one thread hears its token.
-    pub fn add(&self, file: &impl AsRawFd, token: u64) -> io::Result<()> {
-        self.control(ADD, file, BY_EDGE, token)
-    }
-
-    /// The same, for a thread that has not read all of it.
-    pub fn again(&self, file: &impl AsRawFd, token: u64) -> io::Result<()> {
-        self.control(AGAIN, file, BY_EDGE, token)
-    }
-
-    /// A listener: one thread hears its token, once for each of these calls.
-    pub fn once(&self, file: &impl AsRawFd, token: u64) -> io::Result<()> {
-        let again = self.control(AGAIN, file, ONCE, token);
-        again.or_else(|_| self.control(ADD, file, ONCE, token))
+        let mut control = |how| unsafe { epoll_ctl(self.0.as_raw_fd(), how, file.as_raw_fd(), &mut event) };
+        if control(AGAIN) == 0 || control(ADD) == 0 { Ok(()) } else { Err(io::Error::last_os_error()) }
     }
 
     /// Waits a while, and calls for each token that is heard.
