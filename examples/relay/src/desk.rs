@@ -107,7 +107,6 @@ impl Desk {
         if self.book.next(choices, Item::Topic(topic)).is_err() {
             self.end(choices, Terminal::Error(NO_ROOM)); // refused too if it is closed
         }
-        self.serve(after);
     }
 
     /// A Switch is owed an inner: a subscriber of the topic.

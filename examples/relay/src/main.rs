@@ -1,4 +1,4 @@
-//! relay: a client connects, chooses a topic by a line, and gets its lines. See docs/how-to/relay.md.
+//! relay: a client connects, chooses a topic by a line, and gets its lines. See docs/explanation/relay.md.
 //!
 //! Usage: relay [--life SECONDS] [--dump FILE] [--checkpoint EVENTS] ADDRESS TOPIC=ADDRESS..
 mod desk;
@@ -61,7 +61,7 @@ impl Relay {
         }
     }
 
-    /// Where no descriptor is left the listener rests until the next tick.
+    /// Then the listener rests until the next tick; so it does where no descriptor is left.
     fn accept(&self) {
         while let Ok((stream, _)) = self.listener.accept() {
             let Ok(peer) = Peer::new(stream) else { continue };
