@@ -75,6 +75,18 @@ pub struct Counts {
     pub events: u64,
 }
 
+#[repr(C)]
+#[derive(Clone, Copy, Debug, Default, PartialEq, Eq)]
+pub struct Event {
+    pub what: u8,
+    pub place: u8,
+    pub kind: u8,
+    pub how: u8,
+    pub of: u64,
+    pub other: u64,
+    pub value: i64,
+}
+
 extern "C" {
     pub fn rx_book_new(book: *mut Handle, max_events: u32) -> u8;
     pub fn rx_book_finish(book: *mut Handle) -> u8;
@@ -100,6 +112,7 @@ extern "C" {
     pub fn rx_book_is_open(book: *mut Handle, node: Key, is_open: *mut u8) -> u8;
     pub fn rx_book_owed(book: *mut Handle, merging: Key, count: *mut u64) -> u8;
     pub fn rx_book_counts(book: *mut Handle, counts: *mut Counts) -> u8;
+    pub fn rx_book_event(book: *mut Handle, place: u64, event: *mut Event) -> u8;
     pub fn rx_book_checkpoint(book: *mut Handle, place: *mut u64) -> u8;
     pub fn rx_book_close(book: *mut Handle) -> u8;
 }

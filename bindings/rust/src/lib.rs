@@ -35,9 +35,13 @@
 //! Not proved is this crate, which the tests try, and not what a caller does with a resource once it has it.
 #![deny(missing_docs)]
 
+mod event;
 mod ffi;
+mod record;
 
+pub use event::Event;
 use ffi::{Handle, Told};
+pub use record::Record;
 use std::collections::VecDeque;
 use std::fmt;
 use std::sync::atomic::{AtomicU64, Ordering};
@@ -270,6 +274,8 @@ pub struct Counts {
     pub nodes: u64,
     /// Resources that are held.
     pub held: u64,
+    /// Resources that are to be released: `take` has them.
+    pub waiting: u64,
     /// Leases that are out.
     pub leases: u64,
     /// Resources that were ever accepted.
@@ -625,7 +631,25 @@ impl<T: Clone, R> Book<T, R> {
     pub fn counts(&mut self) -> Counts {
         let mut it = ffi::Counts::default();
         unsafe { ffi::rx_book_counts(&mut self.handle, &mut it) };
-        Counts { nodes: it.nodes, held: it.held, leases: it.leases, accepted: it.accepted, events: it.events }
+        let waiting = it.waiting + self.waiting.len() as u64;
+        Counts { nodes: it.nodes, held: it.held, waiting, leases: it.leases, accepted: it.accepted, events: it.events }
+    }
+
+    /// The event at this place of the history; None where it has not come yet, or a checkpoint took it away. A checkpoint is made
+    /// by `checkpoint`, and by a call for which the history has no room. Where a history is to be whole, read its events before.
+    ///
+    /// ```
+    /// # use cellarcliff::{At, Book, Kind};
+    /// # let mut book: Book<u8, u8> = Book::new()?;
+    /// let root = book.open(At::Root, Kind::Leaf)?.node;
+    /// book.dispose(root)?;
+    /// let events: Vec<String> = (0..).map_while(|it| book.event(it)).map(|it| it.to_string()).collect();
+    /// assert_eq!(format!("[{}]", events.join(",")), r#"[["open","root","leaf"],["close",0]]"#); // which `rxbook audit` judges
+    /// # Ok::<(), cellarcliff::Refusal>(())
+    /// ```
+    pub fn event(&mut self, place: u64) -> Option<Event> {
+        let mut event = ffi::Event::default();
+        (unsafe { ffi::rx_book_event(&mut self.handle, place, &mut event) } == 0).then_some(Event(event))
     }
 
     /// Puts what is open in the place of the events so far, and gives their memory back: whether it could be done.

@@ -177,6 +177,55 @@ fn a_small_history_goes_on_for_ever() -> Result<(), Box<dyn std::error::Error>> 
 }
 
 #[test]
+fn every_kind_of_event_has_its_form_in_a_dump() -> Result<(), Box<dyn std::error::Error>> {
+    let mut book: Book<u8, u32> = Book::new()?;
+    let (auto, manual) = (book.hub(Mode::Auto)?, book.hub(Mode::Manual)?);
+    book.open(At::Root, Kind::Sub(auto))?;
+    book.connect(manual)?;
+    book.disconnect(manual)?;
+    let root = book.using(At::Root, 1)?;
+    let until = book.open(At::Source(root.node), Kind::Until)?.node;
+    let notifier = book.open(At::Notifier(until), Kind::Leaf)?.node;
+    let switch = book.open(At::Source(until), Kind::Switch)?.node;
+    let leaf = book.open(At::Source(switch), Kind::Leaf)?.node;
+    book.next(leaf, 5)?;
+    book.decline(switch)?;
+    book.next(leaf, 6)?;
+    let flat = book.open(At::Inner(switch), Kind::Flat)?.node;
+    book.open(At::Source(flat), Kind::Pass)?;
+    book.apply(root.res, |_| ())?;
+    let lease = book.lease(root.res)?;
+    book.remove(root.res)?;
+    book.give_back(lease)?;
+    book.end(notifier, Terminal::Error(3))?;
+    let alone = book.open(At::Root, Kind::Leaf)?.node;
+    book.end(alone, Terminal::Completed)?;
+    // the forms are those of docs/reference/history.md
+    let wanted = r#"["hub","auto"] ["hub","manual"] ["open","root","sub",0] ["connect",0] ["connect",1] ["close",4] ["open","root","pass"]
+        ["accept",6,0] ["open","source",6,"until"] ["open","notifier",8,"leaf"] ["open","source",8,"switch"] ["open","source",10,"leaf"]
+        ["item",11,0] ["decline",10] ["item",11,0] ["open","inner",10,"flat"] ["open","source",15,"pass"] ["use",7] ["lease",7] ["remove",7]
+        ["return",18] ["take",7] ["end",9,"error",3] ["end",8,"error",3] ["end",6,"error",3] ["open","root","leaf"]
+        ["end",25,"completed"]"#;
+    let found: Vec<String> = (0..).map_while(|it| book.event(it)).map(|it| it.to_string()).collect();
+    assert_eq!(found, wanted.split_whitespace().collect::<Vec<_>>());
+    assert!(book.checkpoint());
+    assert_eq!(book.event(0), None);
+    Ok(())
+}
+
+#[test]
+fn what_waits_is_counted_until_it_is_taken() -> Result<(), Box<dyn std::error::Error>> {
+    let mut book: Book<(), u32> = Book::new()?;
+    let root = book.using(At::Root, 1)?.node;
+    assert_eq!((book.counts().held, book.counts().waiting), (1, 0));
+    book.dispose(root)?;
+    assert_eq!((book.counts().held, book.counts().waiting), (0, 1));
+    book.take();
+    assert_eq!(book.counts().waiting, 0);
+    Ok(())
+}
+
+#[test]
 fn random_courses_drop_every_resource_once() -> Result<(), Box<dyn std::error::Error>> {
     let mut state = 88172645463325252u64;
     let mut random = move |below: usize| {
