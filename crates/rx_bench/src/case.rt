@@ -42,6 +42,8 @@ pub enum Case {
     Json(Shape),
     /// Threads at one desk.
     Storm,
+    /// Threads at one desk, with 16 items of a source under one lock, to compare it with.
+    StormBatches,
 }
 
 /// The word that asks for the audit of a history of this shape.
@@ -101,6 +103,7 @@ impl Case {
             Case::Audit(shape) => audit_name(shape),
             Case::Json(shape) => json_name(shape),
             Case::Storm => "storm",
+            Case::StormBatches => "storm-batches",
         }
     }
 
@@ -115,13 +118,13 @@ impl Case {
             Case::Audit(_) | Case::Json(_) => 1_000_000,
             Case::Chain | Case::Checkpoint | Case::CheckpointShort => 100_000,
             Case::Scenario => 65_536,
-            Case::Storm => 10_000,
+            Case::Storm | Case::StormBatches => 10_000,
         }
     }
 }
 
 /// All of them but those of a shape.
-static CASES: [Case; 15] = [
+static CASES: [Case; 16] = [
     Case::Timeline,
     Case::Trampoline,
     Case::Sorted,
@@ -137,6 +140,7 @@ static CASES: [Case; 15] = [
     Case::CheckpointShort,
     Case::Scenario,
     Case::Storm,
+    Case::StormBatches,
 ];
 
 /// The case of this name, or `None` where no case has it.

@@ -49,8 +49,10 @@
 //!   call, the next one is measured. N: each event.
 //! - `json-SHAPE`: serde_json's own reading of the dump of that history. The text is made before the
 //!   time begins. N: each event.
-//! - `storm`: a storm of 64 sources, 16 workers and N items of each source, with its start, its end and
-//!   its figures. 64N: each item.
+//! - `storm`: a storm of 64 sources, 16 workers and N items of each source, each item under a lock of its own,
+//!   with its start, its end and its figures. Beside it, in the same call, the next one is measured. 64N: each
+//!   item.
+//! - `storm-batches`: the same with 16 items of a source under one lock. 64N: each item.
 //!
 //! The exit status is 0 where the case was run and what it did is written, 1 where memory, a call,
 //! the clock or the output refused, and 2 where the words are refused: a case that is not known, a

@@ -21,7 +21,7 @@ use crate::material::Material;
 use crate::scenario::run_scenario;
 use crate::share::run_share;
 use crate::sorted::SortedList;
-use crate::storm::run_storm;
+use crate::storm::{run_batches, run_storm};
 use crate::times::{RUNS, Summary, summarize};
 use crate::words::Request;
 use rx_book::Book;
@@ -70,6 +70,7 @@ pub fn run<T: Threads + Wait + Sync>(
         Case::Audit(_) => run_audit(alloc, events.as_slice(), request.size),
         Case::Json(_) => run_json(alloc, dump.as_str(), request.size),
         Case::Storm => run_storm(rt, alloc, request.size),
+        Case::StormBatches => run_batches(rt, alloc, request.size),
         Case::Checkpoint | Case::CheckpointShort => run_checkpoint(&mut book, request.size),
         _ => run_on_book(alloc, request),
     }

@@ -71,11 +71,12 @@ fn write_fault<E: Write>(errors: &mut E, fault: Fault, name: &str) -> io::Result
 }
 
 /// What is measured beside what is asked for: beside an audit, the reading of the same dump; beside a
-/// checkpoint, one of a book with as many open nodes and a shorter history.
+/// checkpoint, one of a book with as many open nodes and a shorter history; beside a storm, one in batches.
 fn beside(request: Request) -> Option<Request> {
     match request.case {
         Case::Audit(shape) => Request::of(Case::Json(shape), request.size),
         Case::Checkpoint => Request::of(Case::CheckpointShort, request.size),
+        Case::Storm => Request::of(Case::StormBatches, request.size),
         _ => None,
     }
 }
@@ -112,7 +113,7 @@ fn bench<T: Threads + Wait + Sync, C: Clock, O: Write, E: Write>(
 }
 
 /// Each case at a small size, but those of a shape.
-static SMALL: [(Case, u64); 16] = [
+static SMALL: [(Case, u64); 17] = [
     (Case::Timeline, 1),
     (Case::Timeline, 2),
     (Case::Sorted, 2),
@@ -135,6 +136,7 @@ static SMALL: [(Case, u64); 16] = [
     (Case::Scenario, 12),
     // The mark of the figures: 64 accepted, taken and released, 128 notes, 448 events.
     (Case::Storm, 1),
+    (Case::StormBatches, 1),
 ];
 
 /// Whether the words are the program's name and `all`.

@@ -1,4 +1,4 @@
-//! The case `storm`: threads at one desk.
+//! The cases `storm` and `storm-batches`: threads at one desk.
 
 ghost use Rattle.std.specs.Prelude.{◌≡◌, ◌≤◌, ◌*◌, IfOk};
 
@@ -6,7 +6,7 @@ use crate::done::{Done, Halt, mark_of};
 use crate::samples::samples;
 use rx_crew::Gate;
 use rx_device::Watched;
-use rx_storm::{StormFault, storm};
+use rx_storm::{StormFault, storm, storm_in_batches};
 use std::alloc::Global;
 use std::sync::Wait;
 use std::thread::Threads;
@@ -26,7 +26,22 @@ impl Gate for Open {
     fn after(&self, _number: u64) {}
 }
 
-/// A storm with so many items of each source: an operation each.
+/// What so many items of each source came to, where the answer of a storm says that seats and book agree.
+fn done(answer: Result<bool, StormFault>, items: u64, text: &[u8]) -> Result<Done, Halt>
+    requires { items ≤ 10000 }
+    ensures { IfOk result (λ done. done.operations ≡ 64 * items) }
+{
+    match answer {
+        Ok(true) => Ok(Done {
+            operations: SOURCES * items,
+            mark: mark_of(text),
+        }),
+        Err(StormFault::Memory) => Err(Halt::Memory),
+        _ => Err(Halt::Refused),
+    }
+}
+
+/// A storm with so many items of each source, each under a lock of its own: an operation each.
 pub fn run_storm<T: Threads + Wait + Sync>(rt: &T, alloc: Global, items: u64) -> Result<Done, Halt>
     requires { items ≤ 10000 }
     ensures { IfOk result (λ done. done.operations ≡ 64 * items) }
@@ -34,7 +49,7 @@ pub fn run_storm<T: Threads + Wait + Sync>(rt: &T, alloc: Global, items: u64) ->
     let stock = samples(alloc, SOURCES)?;
     let mut text = Vec::new(alloc);
     let mut writer = Watched::new(&mut text);
-    match storm(
+    let answer = storm(
         rt,
         alloc,
         SOURCES,
@@ -43,13 +58,31 @@ pub fn run_storm<T: Threads + Wait + Sync>(rt: &T, alloc: Global, items: u64) ->
         stock,
         &Open,
         &mut writer,
-    ) {
-        Ok(true) => {}
-        Err(StormFault::Memory) => return Err(Halt::Memory),
-        _ => return Err(Halt::Refused),
-    }
-    Ok(Done {
-        operations: SOURCES * items,
-        mark: mark_of(&text),
-    })
+    );
+    done(answer, items, &text)
+}
+
+/// The same with 16 items under one lock.
+pub fn run_batches<T: Threads + Wait + Sync>(
+    rt: &T,
+    alloc: Global,
+    items: u64,
+) -> Result<Done, Halt>
+    requires { items ≤ 10000 }
+    ensures { IfOk result (λ done. done.operations ≡ 64 * items) }
+{
+    let stock = samples(alloc, SOURCES)?;
+    let mut text = Vec::new(alloc);
+    let mut writer = Watched::new(&mut text);
+    let answer = storm_in_batches(
+        rt,
+        alloc,
+        SOURCES,
+        WORKERS,
+        items,
+        stock,
+        &Open,
+        &mut writer,
+    );
+    done(answer, items, &text)
 }

@@ -7,6 +7,7 @@
 //!   the figures.
 //! - The **figures** are what it came to, one a line: `accepted`, `taken`, `released`, `faults`, `held`,
 //!   `waiting`, `notes` (mail taken at the end) and `events`. `specs/Storms.antt` defines their text.
+//! - [`storm_in_batches`] is the same with 16 items of a source under one lock.
 //! - A [`StormFault`] says what kept a storm from being told.
 //! - [`run_threads`] is a storm at a desk of the caller's; what the threads gave back is [`Gathered`], with
 //!   the [`Lack`] that kept the storm from its end. [`end_storm`] ends it: it takes the book out, compares,
@@ -18,7 +19,7 @@
 //!   promise, with the notes that were not handed out yet and the releases and faults that were gathered,
 //!   and nothing else; the answer is whether the verdict on the seats and receipts is no mismatch, and that
 //!   book was closed. Where the threads lacked something, that is the answer.
-//! - [`storm`] promises the same for some seats and receipts.
+//! - [`storm`] and [`storm_in_batches`] promise the same for some seats and receipts.
 //! - With `Memory` or `Thread` nothing was written; with `Write` a front of the text may have been.
 //! - A feeding thread's source gives the numbers from 0 up to its count, in order, and then completes.
 //! - That threads are started and nothing that they gave back is left out, that as many resources were
@@ -37,6 +38,7 @@ ghost use Rattle.rx_storm.specs.declared.StormFault.{StormFault};
 ghost use Rattle.rx_storm.specs.declared.outcome.Lack.{Lack};
 ghost use Rattle.rx_storm.specs.Storms.{Tells, TellsFront, TellsOf, TellsFrontOf};
 
+mod batches;
 mod ending;
 mod figures;
 mod numbers;
@@ -56,6 +58,7 @@ use std::marker::Brand;
 use std::sync::Wait;
 use std::sync::ledger::{Blank, Ledger};
 use std::thread::Threads;
+use threads::run_feeding;
 pub use threads::{Gathered, run_threads};
 
 /// How many events the book of a storm may have.
@@ -139,6 +142,7 @@ fn storm_named<
     stock: Vec<R>,
     workers: u64,
     items: u32,
+    in_batches: bool,
     gate: &G,
     writer: &mut Watched<'_, W>,
 ) -> Result<bool, StormFault>
@@ -157,7 +161,9 @@ fn storm_named<
     ensures same_device { KeepsDevice writer.old writer.new }
 {
     let (desk, first) = Desk::<R, I, A, K>::new(new_book(alloc), blanks.0, blanks.1, blanks.2);
-    let gathered = run_threads(rt, alloc, &desk, first, stock, workers, items, gate);
+    let gathered = run_feeding(
+        rt, alloc, &desk, first, stock, workers, items, in_batches, gate,
+    );
     end_storm(alloc, desk, gathered, writer)
 }
 
@@ -202,6 +208,45 @@ pub fn storm<R: Resource, G: Gate, T: Threads + Wait + Sync, W: Write>(
     let blanks = (Blank::new(PARTS), Blank::new(PARTS), Blank::new(PARTS));
     let count = items as u32;
     storm_named::<R, Brand, Brand, Brand, G, T, W>(
-        rt, alloc, blanks, stock, workers, count, gate, writer,
+        rt, alloc, blanks, stock, workers, count, false, gate, writer,
+    )
+}
+
+/// The same as [`storm`], with 16 items of a source under one lock. A receipt is asked for after its item.
+///
+/// Refused are `Memory` where memory was refused to the storm or to one of its calls, and else `Thread`
+/// where a thread could not be started: nothing is written then. With `Write` a front of the text may
+/// have been. In each case all that was open is disposed of and all that waits is released.
+pub fn storm_in_batches<R: Resource, G: Gate, T: Threads + Wait + Sync, W: Write>(
+    rt: &T,
+    alloc: Global,
+    sources: u64,
+    workers: u64,
+    items: u64,
+    stock: Vec<R>,
+    gate: &G,
+    writer: &mut Watched<'_, W>,
+) -> Result<bool, StormFault>
+    requires sources { (1 ≤ sources) × (sources ≤ 64) × (sources ≤ vec_len stock) }
+    requires workers { (1 ≤ workers) × (workers ≤ 16) }
+    requires items { items ≤ 10000 }
+    requires live { All (λ r. R.life_of r ≡ Life.Live) stock.items }
+    requires unused { All (λ r. R.uses_of r ≡ 0) stock.items }
+    ensures told { IfOk result (λ answer.
+        Tells answer (W.contents (device_of writer.old)) (W.contents (device_of writer.new))) }
+    ensures untold { IsErrOf result StormFault.Memory → writer.new ≡ writer.old }
+    ensures unstarted { IsErrOf result StormFault.Thread → writer.new ≡ writer.old }
+    ensures front { IsErrOf result StormFault.Write
+        → TellsFront (W.contents (device_of writer.old)) (W.contents (device_of writer.new)) }
+    ensures unhurt { OnOk result (has_failed writer.new ≡ has_failed writer.old) }
+    ensures failed { IsErrOf result StormFault.Write → HasWriteFault writer.new }
+    ensures same_device { KeepsDevice writer.old writer.new }
+{
+    let mut stock = stock;
+    stock.truncate(sources as usize);
+    let blanks = (Blank::new(PARTS), Blank::new(PARTS), Blank::new(PARTS));
+    let count = items as u32;
+    storm_named::<R, Brand, Brand, Brand, G, T, W>(
+        rt, alloc, blanks, stock, workers, count, true, gate, writer,
     )
 }

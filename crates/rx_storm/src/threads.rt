@@ -5,6 +5,7 @@ ghost use Rattle.std.specs.Thread.{IsSend, IsSync};
 ghost use Rattle.rx_crew.specs.declared.working.Stop.{Stop};
 ghost use Rattle.rx_storm.specs.declared.outcome.Lack.{Lack};
 
+use crate::batches::emit_batches;
 use crate::numbers::Numbers;
 use crate::outcome::Lack;
 use rx_book::At;
@@ -149,6 +150,23 @@ fn emit_all<R: Resource, I: Ledger, A: Ledger, K: Ledger>(
     Some(feed(rt, alloc, desk, seat, leaf, &mut numbers, turns))
 }
 
+/// Emits as the one or the other does: an item under one lock, or 16.
+fn emit<R: Resource, I: Ledger, A: Ledger, K: Ledger>(
+    rt: &impl Wait,
+    alloc: Global,
+    desk: &Desk<R, I, A, K>,
+    seat: Seat<I, A, K>,
+    resource: R,
+    items: u32,
+    in_batches: bool,
+) -> Option<Fed<I, A, K>> {
+    if in_batches {
+        emit_batches(rt, alloc, desk, seat, resource, items)
+    } else {
+        emit_all(rt, alloc, desk, seat, resource, items)
+    }
+}
+
 /// Keeps a thread that was started, to be joined; or answers what kept it from that.
 fn keep_thread<V: Send + Drop, F: Drop>(
     threads: &mut Vec<JoinHandle<V>>,
@@ -186,6 +204,28 @@ pub fn run_threads<
     items: u32,
     gate: &G,
 ) -> Gathered<I, A, K> {
+    run_feeding(rt, alloc, desk, first, stock, workers, items, false, gate)
+}
+
+/// The same, with an item under one lock, or 16.
+pub fn run_feeding<
+    R: Resource,
+    I: Ledger + Send + Sync,
+    A: Ledger + Send + Sync,
+    K: Ledger + Send + Sync,
+    G: Gate,
+    T: Threads + Wait + Sync,
+>(
+    rt: &T,
+    alloc: Global,
+    desk: &Desk<R, I, A, K>,
+    first: Seat<I, A, K>,
+    stock: Vec<R>,
+    workers: u64,
+    items: u32,
+    in_batches: bool,
+    gate: &G,
+) -> Gathered<I, A, K> {
     let turns = (stock.len() as u64).saturating_add(1);
     thread::scope(
         thread::scope_env(),
@@ -202,7 +242,9 @@ pub fn run_threads<
                 let Some(seat) = first.split() else {
                     break;
                 };
-                let started = scope.spawn(move || emit_all(rt, alloc, desk, seat, resource, items));
+                let started = scope.spawn(move || emit(
+                    rt, alloc, desk, seat, resource, items, in_batches,
+                ));
                 gathered.fault = keep_thread(&mut feeds, started);
                 if gathered.fault.is_some() {
                     break;
