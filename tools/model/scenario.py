@@ -11,8 +11,8 @@ from collections import deque
 from typing import Any
 
 from .calls import Call, first_cause, outside_of
-from .definitions import (COMPLETED, Connect, Event, History, Take, accepted_count, at, forced, held_count, history, is_held, is_leased, is_open,
-                          is_waiting, kind_of, leases_of, nodes, notes_to, open_nodes, resources, taken_count, uses, waiting_count)
+from .definitions import (COMPLETED, Connect, End, Event, History, Take, accepted_count, at, forced, held_count, history, is_held, is_leased,
+                          is_open, is_waiting, is_within, kind_of, leases_of, nodes, notes_to, open_nodes, resources, taken_count, uses, waiting_count)
 from .texts import MOST_UNTIL
 
 STOCK = 256
@@ -34,6 +34,13 @@ class Last(Canonical):
 
     def choose(self, h: History, free: list[Event]) -> Event:
         return free[-1]
+
+
+class Longest(Canonical):
+    """The order that has the most events, to see what may be full: what ends takes the fewest others with it."""
+
+    def choose(self, h: History, free: list[Event]) -> Event:
+        return min(free, key=lambda e: sum(is_within(h, n, e.node) for n in open_nodes(h)) if isinstance(e, End) else 0)
 
 
 class Following(Canonical):

@@ -25,6 +25,7 @@ struct Queue {
     sent: usize, // bytes of the first line
     is_written: bool,
     again: bool,
+    is_over: bool, // then whoever writes last shuts the socket down
 }
 
 /// What was read: lines, perhaps the end; or nothing for now.
@@ -76,10 +77,8 @@ impl Peer {
             outcome = written.map(|bytes| queue.advance(bytes));
         }
         queue.is_written = false;
-        match outcome {
-            Err(why) if why.kind() != ErrorKind::WouldBlock => Err(why),
-            _ => Ok(()),
-        }
+        let _ = queue.is_over.then(|| self.stream.shutdown(Shutdown::Both));
+        outcome.or_else(|why| if why.kind() == ErrorKind::WouldBlock { Ok(()) } else { Err(why) })
     }
 
     /// Reads once, and cuts off whole lines. The guard is of `input`: lines come in order, whoever reads them.
@@ -122,7 +121,7 @@ pub struct Socket(pub Arc<Peer>);
 
 impl Drop for Socket {
     fn drop(&mut self) {
+        self.0.queue.lock().unwrap().is_over = true;
         let _ = self.0.flush();
-        let _ = self.0.stream.shutdown(Shutdown::Both);
     }
 }
