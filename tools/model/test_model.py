@@ -17,7 +17,7 @@ from .explain import explain
 from .handle import WORDS
 from .history import History
 from .plants_typed import PLANTS
-from .scenario import Canonical, Course, Differs
+from .scenario import Canonical, Course, Differs, Longest
 from .texts import Faulty, dump_of, events_of, json_of, line_of, scenario_of
 from .typed import TELLS, Typed, event_of, moved, numbers_of
 
@@ -137,6 +137,12 @@ class Comparing(unittest.TestCase):
             for kind, make in (('json', cases.scenario), ('lines', lambda rng: b''.join(it + b'\n' for it in limit + cases.session(rng))),
                                ('calls', numbered.session)):
                 self.assertIsNone(difference(kind, engine, make(random.Random(seed))), (kind, seed))
+
+    def test_what_only_some_order_fills_is_left_open(self):
+        text = (pathlib.Path(__file__).parent / 'found/one-order-is-full.json').read_bytes()
+        scenario = scenario_of(text)
+        self.assertFalse(Course(scenario, Canonical()).was_full())
+        self.assertTrue(Course(scenario, Longest()).was_full())
 
     def test_a_case_that_differs_is_made_smaller(self):
         _, turned = PLANTS['json: next emits another value']
