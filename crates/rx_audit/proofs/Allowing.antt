@@ -4,7 +4,7 @@ use Rattle.std.proofs.Math.Bool.{not, ◌&&◌, ◌||◌}
 use Rattle.std.specs.List.{list_any}
 use Rattle.std.specs.Option.{option_and_then}
 use Rattle.rx_event.specs.declared.event.Event.{Event}
-use Rattle.rx_event.specs.declared.event.Event.TheVariants.{Open, Hub, Connect, Accept, Use, Remove, Lease, Return, Item, Decline, End, Close, Take}
+use Rattle.rx_event.specs.declared.event.Event.TheVariants.{Open}
 use Rattle.rx_event.specs.Events.{makes_resource, makes_lease, node_of_accept, is_remove_of, is_return_of, is_take_of, removed_of, returned_of, taken_of}
 use Rattle.rx_event.specs.Tree.{at, is_open, parent}
 use Rattle.rx_event.specs.Resources.{is_owned, is_out, leases_of, is_leased, is_held, is_taken, is_waiting}

@@ -8,7 +8,7 @@ use Rattle.std.proofs.lemmas.Option.{none-some}
 use Rattle.rx_note.specs.declared.note.Terminal.{Terminal}
 use Rattle.rx_event.specs.Kept.{nothing_kept}
 use Rattle.rx_event.specs.declared.event.Event.{Event}
-use Rattle.rx_event.specs.declared.event.Event.TheVariants.{Open, Hub, Connect, Accept, Use, Remove, Lease, Return, Item, Decline, End, Close, Take}
+use Rattle.rx_event.specs.declared.event.Event.TheVariants.{Open, Connect, End}
 use Rattle.rx_event.specs.Events.{makes_hub, hub_connected, hub_subscribed}
 use Rattle.rx_event.specs.Tree.{at, places, hubs}
 use Rattle.rx_event.specs.Forced.{connecting, IsConnectDue, IsSettled}

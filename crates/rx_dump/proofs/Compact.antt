@@ -9,10 +9,10 @@ use Rattle.rx_note.specs.declared.note.Terminal.TheVariants.{Completed, Error}
 use Rattle.rx_event.specs.declared.event.Place.{Place}
 use Rattle.rx_event.specs.declared.event.Place.TheVariants.{Root, Source, Inner, Notifier}
 use Rattle.rx_event.specs.declared.event.Kind.{Kind}
-use Rattle.rx_event.specs.declared.event.Kind.TheVariants.{Leaf, Pass, Flat, Switch, Until, Sub}
-use Rattle.rx_event.specs.declared.event.Mode.TheVariants.{Auto, Manual}
+use Rattle.rx_event.specs.declared.event.Kind.TheVariants.{Leaf}
+use Rattle.rx_event.specs.declared.event.Mode.TheVariants.{Auto}
 use Rattle.rx_event.specs.declared.event.Event.{Event}
-use Rattle.rx_event.specs.declared.event.Event.TheVariants.{Open, Hub, Connect, Accept, Use, Remove, Lease, Return, Item, Decline, End, Close, Take}
+use Rattle.rx_event.specs.declared.event.Event.TheVariants.{Open, Hub, Accept, Item, End}
 use Rattle.rx_dump.specs.Dump.{place_text, kind_text, terminal_text, event_text, next_text, events_text, dump}
 use Rattle.rx_dump.specs.Claims.Dumps.{kind_parts, place_parts, terminal_parts, event_data, history_data}
 

@@ -8,7 +8,7 @@ use Rattle.rx_slots.specs.declared.Entry.{Entry}
 use Rattle.rx_slots.specs.declared.Key.{Key}
 use Rattle.rx_slots.specs.Slots.{Slots, entry_at, key_at, find}
 use Rattle.rx_tree.specs.declared.links.Place.{Place}
-use Rattle.rx_tree.specs.declared.links.Place.TheVariants.{Roots, Due, Waiting, Children, Held, Sibling, Noted, Stored}
+use Rattle.rx_tree.specs.declared.links.Place.TheVariants.{Roots, Due, Children, Held, Sibling, Noted, Stored}
 use Rattle.rx_tree.specs.declared.node.Node.{Node}
 use Rattle.rx_tree.specs.declared.node.Stowed.{Stowed}
 use Rattle.rx_rings.specs.Rings.{is_among, Steps, IsLink, Leads, AreRings}

@@ -2,7 +2,7 @@
 use Rattle.std.proofs.Common.{◌≡◌, refl}
 use Rattle.rx_tree.specs.declared.links.Link.{Link}
 use Rattle.rx_tree.specs.declared.links.Place.{Place}
-use Rattle.rx_tree.specs.declared.links.Place.TheVariants.{Roots, Due, Waiting, Children, Held, Sibling, Noted, Stored}
+use Rattle.rx_tree.specs.declared.links.Place.TheVariants.{Roots}
 use Rattle.rx_tree.specs.Places.{slot_of}
 use Rattle.rx_tree.specs.Record.{kind_of, place_of, link_of}
 

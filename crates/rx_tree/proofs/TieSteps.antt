@@ -6,7 +6,7 @@ use Rattle.std.proofs.lemmas.Bool.{false≢true, false_from_ne_true}
 use Rattle.std.proofs.lemmas.Bool.Decides.{nat_tests}
 use Rattle.rx_slots.specs.Slots.{Slots, entry_at}
 use Rattle.rx_tree.specs.declared.links.Place.{Place}
-use Rattle.rx_tree.specs.declared.links.Place.TheVariants.{Roots, Due, Waiting, Children, Held, Sibling, Noted, Stored}
+use Rattle.rx_tree.specs.declared.links.Place.TheVariants.{Roots, Due, Noted}
 use Rattle.rx_tree.specs.declared.node.Node.{Node}
 use Rattle.rx_tree.specs.declared.node.Stowed.{Stowed}
 use Rattle.rx_rings.specs.Rings.{is_among, without, Steps, AreRings, Joins, Leaves}
