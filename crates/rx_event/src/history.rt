@@ -6,6 +6,7 @@ ghost use Rattle.rx_event.specs.Kept.{nothing_kept, shown, event_since};
 use crate::base::Base;
 use crate::event::Event;
 use crate::refusal::Refusal;
+use rx_segments::Segments;
 use std::alloc::{AllocError, Global};
 use std::marker::Model;
 
@@ -14,20 +15,23 @@ use std::marker::Model;
 #[derive(Drop)]
 pub struct History {
     base: Base,
-    events: Vec<Event>,
+    events: Segments<Event>,
+    // For how many more there is room, within the limit too.
+    room: u64,
     limit: u64,
 }
 
 impl Model for History {
-    ghost use Rattle.std.specs.Prelude.{◌-◌, ◌≤◌, min, vec_len, vec_capacity, length};
+    ghost use Rattle.std.specs.Prelude.{◌+◌, ◌≤◌, length};
     ghost use Rattle.rx_event.specs.Kept.{stored};
     ghost use Rattle.rx_event.specs.Stored.{Stored};
 
     ghost Value = { Stored };
 
-    ghost view = { λ h. record { base = h.base; events = stored h.base h.events.items; limit = h.limit; room = min (vec_capacity h.events) h.limit - vec_len h.events } };
+    ghost view = { λ h. record { base = h.base; events = stored h.base h.events.items; limit = h.limit; room = h.room } };
 
-    ghost invariant = { λ h. (h.limit ≤ 4294967295) × (length h.events.items ≤ h.limit) × (h.base.at_length ≤ 9223372036854775807) };
+    ghost invariant = { λ h. (h.limit ≤ 4294967295) × (length h.events.items + h.room ≤ h.limit) ×
+        (h.room ≤ h.events.room) × (h.base.at_length ≤ 9223372036854775807) };
 }
 
 impl History {
@@ -43,12 +47,22 @@ impl History {
     {
         History {
             base: Base::empty(alloc),
-            events: Vec::new(alloc),
+            events: Segments::new(alloc),
+            room: 0,
             limit,
         }
     }
 
+    /// For how many more events there is room, within the limit too.
+    #[inline(always)]
+    pub fn room(&self) -> u64
+        ensures { result ≡ self.now.room }
+    {
+        self.room
+    }
+
     /// How many events there ever were.
+    #[inline(always)]
     #[tactic(auto, using(crate::proofs::Laws::StoredAt::length_stored))]
     pub fn len(&self) -> u64
         ensures value { result ≡ length self.now.events }
@@ -80,7 +94,7 @@ impl History {
     }
 
     /// Puts a base of as many events, at most 9,223,372,036,854,775,807, in place of the base and the
-    /// events. First it gets room for just `room` events after them, at most the limit; the memory that
+    /// events. First it gets room for `room` events after them, at most the limit; the memory that
     /// the events had is given back. Refused only where memory was refused; then nothing changes.
     #[tactic(auto, using(crate::proofs::Laws::StoredAt::stored_nothing))]
     pub fn rebase(&mut self, base: Base, room: u64) -> Result<(), AllocError>
@@ -93,15 +107,15 @@ impl History {
         ensures limit { self.new.limit ≡ self.old.limit }
         ensures refused { OnErr result (self.new ≡ self.old) }
     {
-        let alloc = *self.events.allocator();
-        let events = Vec::with_capacity(alloc, room as usize)?;
+        self.events.start_over(room as usize)?;
         self.base = base;
-        self.events = events;
+        self.room = room;
         Ok(())
     }
 
     /// Gets room for `n` more events. `Full` exactly where with them there were more since the base than
     /// the limit; `NoMemory` where memory was asked for and refused. Neither changes anything.
+    #[inline(always)]
     #[tactic(auto, using(crate::proofs::Laws::StoredAt::length_stored))]
     pub fn reserve(&mut self, n: u64) -> Result<(), Refusal>
         ensures base { self.new.base ≡ self.old.base }
@@ -114,16 +128,43 @@ impl History {
         ensures more { self.old.room ≤ self.new.room }
         ensures kept { OnErr result (self.new ≡ self.old) }
     {
-        if n > self.limit - self.events.len() as u64 {
+        if n <= self.room {
+            return Ok(());
+        }
+        self.ask_for_room(n)
+    }
+
+    // `reserve` where there is not as much room.
+    #[cold]
+    #[inline(never)]
+    #[tactic(auto, using(crate::proofs::Laws::StoredAt::length_stored))]
+    fn ask_for_room(&mut self, n: u64) -> Result<(), Refusal>
+        requires { self.old.room < n }
+        ensures base { self.new.base ≡ self.old.base }
+        ensures events { self.new.events ≡ self.old.events }
+        ensures limit { self.new.limit ≡ self.old.limit }
+        ensures ok { OnOk result (n ≤ self.new.room) }
+        ensures refused_full { IsErrOf result Refusal.Full ↔
+            (self.old.base.at_length + self.old.limit < length self.old.events + n) }
+        ensures refused { IfErr result (λ why. (why ≡ Refusal.Full) ⊎ (why ≡ Refusal.NoMemory)) }
+        ensures more { self.old.room ≤ self.new.room }
+        ensures kept { OnErr result (self.new ≡ self.old) }
+    {
+        let left = self.limit - self.events.len() as u64;
+        if n > left {
             return Err(Refusal::Full);
         }
         match self.events.reserve(n as usize) {
-            Ok(()) => Ok(()),
+            Ok(()) => {
+                self.room = left.min(self.events.room() as u64);
+                Ok(())
+            }
             Err(_) => Err(Refusal::NoMemory),
         }
     }
 
     /// Adds an event last. It takes no memory, since room was reserved.
+    #[inline(always)]
     #[tactic(auto, using(crate::proofs::Laws::StoredAt::length_stored))]
     pub fn push_reserved(&mut self, event: Event)
         requires { 0 < self.old.room }
@@ -133,12 +174,13 @@ impl History {
         ensures room { self.new.room + 1 ≡ self.old.room }
     {
         self.events.push_reserved(event);
+        self.room -= 1;
     }
 }
 
-/// The element at an index, if there is one.
-fn nth(events: &[Event], index: u64) -> Option<Event>
-    ensures { result ≡ slice_get events.now index }
+/// The event at an index, if there is one.
+fn nth(events: &Segments<Event>, index: u64) -> Option<Event>
+    ensures { result ≡ slice_get events.now.items index }
 {
     events.get(index as usize).copied()
 }
