@@ -1,4 +1,4 @@
--- Pieces one after the other as one list, and what holds of all of them.
+-- Pieces one after the other as one list.
 use Rattle.std.proofs.Common.{◌≡◌, ℕ, zero, suc, ◌+◌, ◌-◌, ◌*◌, ◌<◌, ◌≤◌, List, [], ◌∷◌, ◌++◌, All, Vec, vec_items, length, get_or, Bor, Option, Some, None, option_copied}
 use Rattle.std.proofs.Common.{flat_map, slice_get, refl, sym, ap, ◌∙◌, arith, length-append, append_assoc}
 use Rattle.std.specs.Slice.{IsItemAt}
@@ -22,24 +22,9 @@ slice_get-after (x ∷ xs) ys zero past = absurd (omega arith)
 slice_get-after (x ∷ xs) ys (suc n) past =
     slice_get-after xs ys n (omega arith) ∙ ap (slice_get ys) (let e : n - length xs ≡ suc n - length (x ∷ xs) = omega arith in e)
 
--- what holds of all
+-- what holds of all holds of the rest
 pub All-rest : {X : Type 0} (P : X → Type 0) (x : X) (xs : List X) → All P (x ∷ xs) → All P xs
 All-rest P x xs all k d within = all (suc k) d (omega arith)
-
-pub All-more : {X : Type 0} (P : X → Type 0) (xs : List X) (y : X) → All P xs → P y → All P (xs ++ y ∷ [])
-All-more P [] y all one zero d within = one
-All-more P [] y all one (suc k) d within = absurd (omega arith)
-All-more P (x ∷ xs) y all one zero d within = all 0 d (omega arith)
-All-more P (x ∷ xs) y all one (suc k) d within = All-more P xs y (All-rest P x xs all) one k d (omega arith)
-
-pub All-before : {X : Type 0} (P : X → Type 0) (xs ys : List X) → All P (xs ++ ys) → All P xs
-All-before P [] ys all k d within = absurd (omega arith)
-All-before P (x ∷ xs) ys all zero d within = all 0 d (omega (arith, length-append xs ys))
-All-before P (x ∷ xs) ys all (suc k) d within = All-before P xs ys (All-rest P x (xs ++ ys) all) k d (omega arith)
-
-pub All-last : {X : Type 0} (P : X → Type 0) (xs : List X) (y : X) → All P (xs ++ y ∷ []) → P y
-All-last P [] y all = all 0 y (omega arith)
-All-last P (x ∷ xs) y all = All-last P xs y (All-rest P x (xs ++ y ∷ []) all)
 
 module _ {X Z : Type 0} where
   size : (v : Vec X Z) (vs : List (Vec X Z)) → All IsFullPiece (v ∷ vs) → length v.items ≡ 4096

@@ -1,10 +1,9 @@
--- What keeps the pieces of a list in order, and what they hold.
-use Rattle.std.proofs.Common.{◌≡◌, ℕ, ◌+◌, ◌-◌, ◌*◌, ◌/◌, ◌%◌, ◌<◌, ◌≤◌, List, [], ◌∷◌, ◌++◌, All, Vec, vec_items, vec_len, vec_capacity, length, get_or, min}
-use Rattle.std.proofs.Common.{flat_map, slice_get, refl, sym, ap, subst, ◌∙◌, arith, length-append, append-nil}
+-- What the pieces of a list hold, and what more of them keep.
+use Rattle.std.proofs.Common.{◌≡◌, ℕ, ◌+◌, ◌-◌, ◌*◌, ◌/◌, ◌%◌, ◌<◌, ◌≤◌, All, Vec, vec_items, vec_len, vec_capacity, length, get_or, min}
+use Rattle.std.proofs.Common.{flat_map, slice_get, sym, ap, subst, ◌∙◌, arith, length-append}
 use Rattle.std.proofs.lemmas.Nat.{div-add-mod', mod_below}
-use Rattle.std.proofs.lemmas.List.{flat_map_more}
-use Rattle.rx_segments.specs.Kept.{IsFullPiece, IsEmptyPiece, AreKeptIn, items_in, room_in}
-use Rattle.rx_segments.proofs.Joined.{length-joined, slice_get-full, slice_get-last, All-more, All-before, All-last}
+use Rattle.rx_segments.specs.Kept.{IsFullPiece, IsEmptyPiece, AreKeptIn, items_in}
+use Rattle.rx_segments.proofs.Joined.{length-joined, slice_get-full, slice_get-last}
 
 module _ {T Z : Type 0} where
   pub length_items : (full : Vec (Vec T Z) Z) (last : Vec T Z) (spare : Vec (Vec T Z) Z) → AreKeptIn full last spare →
@@ -42,30 +41,9 @@ module _ {T Z : Type 0} where
         counted = omega arith;
       }
 
-  -- more room among the full ones
-  pub kept_roomier : (full roomier : Vec (Vec T Z) Z) (last : Vec T Z) (spare : Vec (Vec T Z) Z) → AreKeptIn full last spare →
-      roomier.items ≡ full.items → vec_capacity full ≤ vec_capacity roomier → AreKeptIn roomier last spare
-  kept_roomier full roomier last spare kept same more =
-      let as_many : vec_len roomier ≡ vec_len full = roomier.ok.0 ∙ ap length same ∙ sym full.ok.0 in
-      let places = kept.places in
-      let counted = kept.counted in
-      record {
-        full_ones = subst (All IsFullPiece) (sym same) kept.full_ones;
-        empty_ones = kept.empty_ones;
-        most = kept.most;
-        whole = kept.whole;
-        places = omega arith;
-        counted = omega arith;
-      }
-
--- so many empty pieces are enough, where the last one has room for as many as it takes
-pub enough_room : (capacity held spare n : ℕ) → min 4096 (held + n) ≤ capacity → held ≤ capacity → 0 < n → (held + n - 1) / 4096 ≤ spare →
-    n ≤ (capacity - held) + 4096 * spare
-enough_room capacity held spare n wide within some few =
-    omega (arith, div-add-mod' (held + n - 1) 4096, mod_below (held + n - 1) 4096 (omega arith))
-
--- they are wanted only where the last one is whole, and all that they take is a number
-pub whole_last : (capacity held spare n : ℕ) → min 4096 (held + n) ≤ capacity → capacity ≤ 4096 → spare < (held + n - 1) / 4096 → capacity ≡ 4096
+-- empty pieces are wanted only where the last one is whole, and all that they take is a number
+pub whole_last : (capacity held spare n : ℕ) → min 4096 (held + n) ≤ capacity → capacity ≤ 4096 →
+    spare < (held + n - 1) / 4096 → capacity ≡ 4096
 whole_last capacity held spare n wide most more =
     omega (arith, div-add-mod' (held + n - 1) 4096, mod_below (held + n - 1) 4096 (omega arith))
 
