@@ -57,6 +57,7 @@ impl Model for Record {
 
 impl Record {
     // A record at a slot that stands on no ring.
+    #[inline(always)]
     #[tactic(auto, using(crate::proofs::Origins::node_back))]
     pub(crate) fn alone(node: Node, slot: usize) -> Self
         requires makes { IsTrue (makes_node node.made) }
@@ -90,6 +91,7 @@ impl Record {
     }
 
     // The record itself.
+    #[inline(always)]
     pub(crate) fn node(&self) -> Node
         ensures { result ≡ self.now.node }
     {
@@ -126,6 +128,7 @@ impl Record {
     }
 
     /// What it remembers of what happened below it.
+    #[inline(always)]
     pub fn marks(&self) -> Marks
         ensures { result ≡ self.now.node.marks }
     {
@@ -460,6 +463,7 @@ impl Record {
     }
 
     // How many resources it owns.
+    #[inline(always)]
     pub(crate) fn held_count(&self) -> Counts
         ensures { result ≡ self.now.held_count }
     {
@@ -467,6 +471,7 @@ impl Record {
     }
 
     // Writes how many resources it owns.
+    #[inline(always)]
     pub(crate) fn set_held_count(&mut self, count: Counts)
         ensures { self.new ≡ record self.old { held_count = count } }
     {
@@ -474,6 +479,7 @@ impl Record {
     }
 
     // Its link among its siblings.
+    #[inline(always)]
     pub(crate) fn sibling(&self) -> Link
         ensures { result ≡ self.now.sibling }
     {
@@ -481,6 +487,7 @@ impl Record {
     }
 
     // Writes that link.
+    #[inline(always)]
     #[tactic(auto, using(crate::proofs::PlaceKinds::links_back))]
     pub(crate) fn set_sibling(&mut self, link: Link)
         ensures { self.new ≡ record self.old { sibling = link } }
@@ -490,6 +497,7 @@ impl Record {
     }
 
     // Writes where it leads next.
+    #[inline(always)]
     #[tactic(auto, using(crate::proofs::PlaceKinds::leads_back))]
     pub(crate) fn set_sibling_next(&mut self, to: Place)
         ensures { self.new ≡ record self.old { sibling = record self.old.sibling { next = to } } }
@@ -499,6 +507,7 @@ impl Record {
     }
 
     // Writes where it leads back.
+    #[inline(always)]
     #[tactic(auto, using(crate::proofs::PlaceKinds::leads_back))]
     pub(crate) fn set_sibling_previous(&mut self, to: Place)
         ensures { self.new ≡ record self.old { sibling = record self.old.sibling { previous = to } } }
@@ -508,6 +517,7 @@ impl Record {
     }
 
     // Its link among the nodes that may be due.
+    #[inline(always)]
     pub(crate) fn noted(&self) -> Link
         ensures { result ≡ self.now.noted }
     {
@@ -515,6 +525,7 @@ impl Record {
     }
 
     // Writes that link.
+    #[inline(always)]
     #[tactic(auto, using(crate::proofs::PlaceKinds::links_back))]
     pub(crate) fn set_noted(&mut self, link: Link)
         ensures { self.new ≡ record self.old { noted = link } }
@@ -524,6 +535,7 @@ impl Record {
     }
 
     // Writes where it leads next.
+    #[inline(always)]
     #[tactic(auto, using(crate::proofs::PlaceKinds::leads_back))]
     pub(crate) fn set_noted_next(&mut self, to: Place)
         ensures { self.new ≡ record self.old { noted = record self.old.noted { next = to } } }
@@ -533,6 +545,7 @@ impl Record {
     }
 
     // Writes where it leads back.
+    #[inline(always)]
     #[tactic(auto, using(crate::proofs::PlaceKinds::leads_back))]
     pub(crate) fn set_noted_previous(&mut self, to: Place)
         ensures { self.new ≡ record self.old { noted = record self.old.noted { previous = to } } }
@@ -542,6 +555,7 @@ impl Record {
     }
 
     // Its link to its first and last child.
+    #[inline(always)]
     pub(crate) fn children(&self) -> Link
         ensures { result ≡ self.now.children }
     {
@@ -549,6 +563,7 @@ impl Record {
     }
 
     // Writes that link.
+    #[inline(always)]
     #[tactic(auto, using(crate::proofs::PlaceKinds::links_back))]
     pub(crate) fn set_children(&mut self, link: Link)
         ensures { self.new ≡ record self.old { children = link } }
@@ -558,6 +573,7 @@ impl Record {
     }
 
     // Writes where it leads next.
+    #[inline(always)]
     #[tactic(auto, using(crate::proofs::PlaceKinds::leads_back))]
     pub(crate) fn set_children_next(&mut self, to: Place)
         ensures { self.new ≡ record self.old { children = record self.old.children { next = to } } }
@@ -567,6 +583,7 @@ impl Record {
     }
 
     // Writes where it leads back.
+    #[inline(always)]
     #[tactic(auto, using(crate::proofs::PlaceKinds::leads_back))]
     pub(crate) fn set_children_previous(&mut self, to: Place)
         ensures { self.new ≡ record self.old { children = record self.old.children { previous = to } } }
@@ -576,6 +593,7 @@ impl Record {
     }
 
     // Its link to the first and last resource that it owns and that has no lease out.
+    #[inline(always)]
     pub(crate) fn held(&self) -> Link
         ensures { result ≡ self.now.held }
     {
@@ -583,6 +601,7 @@ impl Record {
     }
 
     // Writes that link.
+    #[inline(always)]
     #[tactic(auto, using(crate::proofs::PlaceKinds::links_back))]
     pub(crate) fn set_held(&mut self, link: Link)
         ensures { self.new ≡ record self.old { held = link } }
@@ -592,6 +611,7 @@ impl Record {
     }
 
     // Writes where it leads next.
+    #[inline(always)]
     #[tactic(auto, using(crate::proofs::PlaceKinds::leads_back))]
     pub(crate) fn set_held_next(&mut self, to: Place)
         ensures { self.new ≡ record self.old { held = record self.old.held { next = to } } }
@@ -601,6 +621,7 @@ impl Record {
     }
 
     // Writes where it leads back.
+    #[inline(always)]
     #[tactic(auto, using(crate::proofs::PlaceKinds::leads_back))]
     pub(crate) fn set_held_previous(&mut self, to: Place)
         ensures { self.new ≡ record self.old { held = record self.old.held { previous = to } } }

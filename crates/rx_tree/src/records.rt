@@ -28,6 +28,7 @@ use std::alloc::AllocError;
 
 impl<R: Drop> Store<R> {
     // The record of a key.
+    #[inline(always)]
     pub(crate) fn node(&self, key: Key) -> Option<Node>
         ensures { result ≡ find (nodes_of self.now) key }
     {
@@ -35,6 +36,7 @@ impl<R: Drop> Store<R> {
     }
 
     // The key of the node at a slot.
+    #[inline(always)]
     pub(crate) fn node_at(&self, slot: usize) -> Option<Key>
         ensures { result ≡ key_at (nodes_of self.now) slot }
     {
@@ -42,6 +44,7 @@ impl<R: Drop> Store<R> {
     }
 
     // The key of the resource at a slot.
+    #[inline(always)]
     pub(crate) fn resource_at(&self, slot: usize) -> Option<Key>
         ensures { result ≡ key_at (resources_of self.now) slot }
     {
@@ -49,7 +52,9 @@ impl<R: Drop> Store<R> {
     }
 
     // Whether a slot's node stands among those that may be due.
+    #[inline(always)]
     pub(crate) fn is_noted(&self, slot: usize) -> bool
+        requires there { IsTrue (is_there self.now (Noted slot)) }
         ensures { result ≡ not (is_place (next_of self.now (Noted slot)) (Noted slot)) }
     {
         match self.link(Place::Noted(slot)).next {
@@ -59,6 +64,7 @@ impl<R: Drop> Store<R> {
     }
 
     // Adds a record that stands on no ring and owes nothing.
+    #[inline(always)]
     pub(crate) fn add_node(&mut self, number: u64, node: Node) -> Result<Key, AllocError>
         requires counted { IsCounted self.old }
         requires homes { (key : Key) (stowed : Stowed R) → find (resources_of self.old) key ≡ Some stowed →
@@ -185,6 +191,7 @@ impl<R: Drop> Store<R> {
     }
 
     // Puts a node last on the chain of what may be due, where it is not there.
+    #[inline(never)]
     pub(crate) fn note(&mut self, key: Key)
         requires kept { IsKept self.old }
         requires open { IsSome (find (nodes_of self.old) key) }
@@ -213,6 +220,7 @@ impl<R: Drop> Store<R> {
 
     // Takes out a record that its siblings pass by, which is on no chain and on whose rings nothing
     // stands. What it owned waits from then on, or leases alone hold it.
+    #[inline(always)]
     pub(crate) fn take_node(&mut self, key: Key) -> Option<Node>
         requires counted { IsCounted self.old }
         requires noted { link_at self.old (Noted key.slot) ≡ alone (Noted key.slot) }
@@ -237,16 +245,16 @@ impl<R: Drop> Store<R> {
     }
 
     // How many resources a slot's node owns.
+    #[inline(always)]
     fn held_count(&self, slot: usize) -> Counts
+        requires there { IsTrue (is_there self.now (Held slot)) }
         ensures { result ≡ held_count_at self.now slot }
     {
-        match self.nodes.value_at(slot) {
-            Some(linked) => linked.held_count(),
-            None => Counts::zero(),
-        }
+        self.nodes.at(slot).held_count()
     }
 
     // Writes how many resources a slot's node owns.
+    #[inline(always)]
     fn set_held_count(&mut self, slot: usize, count: Counts)
         requires there { IsTrue (is_there self.old (Held slot)) }
         ensures held { (q : _) → held_count_at self.new q ≡ cond (slot == q) count (held_count_at self.old q) }
@@ -256,12 +264,11 @@ impl<R: Drop> Store<R> {
         ensures nodes { nodes_of self.new ≡ nodes_of self.old }
         ensures resources { self.new.resources ≡ self.old.resources }
     {
-        if let Some(linked) = self.nodes.value_at_mut(slot) {
-            linked.set_held_count(count);
-        }
+        self.nodes.at_mut(slot).set_held_count(count);
     }
 
     // Adds a resource that its node owns and that has no lease out, and that stands on no ring yet.
+    #[inline(always)]
     pub(crate) fn add_resource(&mut self, number: u64, stowed: Stowed<R>) -> Result<Key, R>
         requires counted { IsCounted self.old }
         requires owned { IsTrue (is_owned (nodes_of self.old) stowed) }
@@ -298,6 +305,7 @@ impl<R: Drop> Store<R> {
     }
 
     // Marks an owned resource as removed from its node: it waits from then on, or leases alone hold it.
+    #[inline(always)]
     pub(crate) fn mark_removed(&mut self, key: Key)
         requires counted { IsCounted self.old }
         requires owned { IfSome (find (resources_of self.old) key)
@@ -323,6 +331,7 @@ impl<R: Drop> Store<R> {
     }
 
     // Takes out a resource that waits and stands on no ring.
+    #[inline(always)]
     pub(crate) fn take_resource(&mut self, key: Key) -> Option<Stowed<R>>
         requires counted { IsCounted self.old }
         requires waits { IfSome (find (resources_of self.old) key)
@@ -340,6 +349,7 @@ impl<R: Drop> Store<R> {
     }
 
     // One lease more of an owned resource is out.
+    #[inline(always)]
     pub(crate) fn lend(&mut self, key: Key)
         requires counted { IsCounted self.old }
         requires owned { IfSome (find (resources_of self.old) key)
@@ -367,6 +377,7 @@ impl<R: Drop> Store<R> {
     }
 
     // One lease of a resource is out no more.
+    #[inline(always)]
     pub(crate) fn unlend(&mut self, key: Key)
         requires counted { IsCounted self.old }
         requires lent { IfSome (find (resources_of self.old) key) (λ stowed. IsTrue (is_lent stowed)) }
@@ -392,6 +403,7 @@ impl<R: Drop> Store<R> {
     }
 
     // Counts one of those with a lease out among the others.
+    #[inline(always)]
     fn free_one(&mut self, slot: usize, owned: bool)
         requires there { IsTrue owned → IsTrue (is_there self.old (Held slot)) }
         requires some { 0 < (cond owned (held_count_at self.old slot) self.old.waiting_count).lent }
@@ -413,6 +425,7 @@ impl<R: Drop> Store<R> {
     }
 
     // Whether the node of a key's resource owns it.
+    #[inline(always)]
     pub(crate) fn owns(&self, key: Key) -> bool
         ensures { result ≡ option_map_or (is_owned (nodes_of self.now)) (find (resources_of self.now) key) false }
     {
@@ -423,6 +436,7 @@ impl<R: Drop> Store<R> {
     }
 
     // The ring on which the resource of a key belongs; None for one of which a lease is out.
+    #[inline(always)]
     pub(crate) fn ring_of(&self, key: Key) -> Option<Place>
         ensures { result ≡ option_and_then (resource_ring (nodes_of self.now)) (find (resources_of self.now) key) }
     {
@@ -438,6 +452,7 @@ impl<R: Drop> Store<R> {
     }
 
     // How many leases of a key's resource are out.
+    #[inline(always)]
     pub(crate) fn leases(&self, key: Key) -> u64
         ensures { result ≡ option_map_or (λ stowed. stowed.leases) (find (resources_of self.now) key) 0 }
     {
@@ -448,6 +463,7 @@ impl<R: Drop> Store<R> {
     }
 
     // Whether the resource of a key is held.
+    #[inline(always)]
     pub(crate) fn holds(&self, key: Key) -> bool
         ensures { result ≡ option_map_or (is_held (nodes_of self.now)) (find (resources_of self.now) key) false }
     {

@@ -107,36 +107,21 @@ impl<R: Drop> Store<R> {
 
     // The calls on links are inlined, so that no kind is asked for where the caller writes it.
 
-    // What comes after a place and before it: itself where nothing stands there.
+    // What comes after a place and before it.
     #[inline(always)]
     pub(crate) fn link(&self, place: Place) -> Link
+        requires there { IsTrue (is_there self.now place) }
         ensures { result ≡ link_at self.now place }
     {
-        let alone = Link::alone(place);
         match place {
             Place::Roots => self.roots,
             Place::Due => self.due,
             Place::Waiting => self.waiting,
-            Place::Children(slot) => match self.nodes.value_at(slot) {
-                Some(linked) => linked.children(),
-                None => alone,
-            },
-            Place::Held(slot) => match self.nodes.value_at(slot) {
-                Some(linked) => linked.held(),
-                None => alone,
-            },
-            Place::Sibling(slot) => match self.nodes.value_at(slot) {
-                Some(linked) => linked.sibling(),
-                None => alone,
-            },
-            Place::Noted(slot) => match self.nodes.value_at(slot) {
-                Some(linked) => linked.noted(),
-                None => alone,
-            },
-            Place::Stored(slot) => match self.resources.value_at(slot) {
-                Some(stored) => stored.link,
-                None => alone,
-            },
+            Place::Children(slot) => self.nodes.at(slot).children(),
+            Place::Held(slot) => self.nodes.at(slot).held(),
+            Place::Sibling(slot) => self.nodes.at(slot).sibling(),
+            Place::Noted(slot) => self.nodes.at(slot).noted(),
+            Place::Stored(slot) => self.resources.at(slot).link,
         }
     }
 
@@ -151,31 +136,11 @@ impl<R: Drop> Store<R> {
             Place::Roots => self.roots = link,
             Place::Due => self.due = link,
             Place::Waiting => self.waiting = link,
-            Place::Children(slot) => {
-                if let Some(linked) = self.nodes.value_at_mut(slot) {
-                    linked.set_children(link);
-                }
-            }
-            Place::Held(slot) => {
-                if let Some(linked) = self.nodes.value_at_mut(slot) {
-                    linked.set_held(link);
-                }
-            }
-            Place::Sibling(slot) => {
-                if let Some(linked) = self.nodes.value_at_mut(slot) {
-                    linked.set_sibling(link);
-                }
-            }
-            Place::Noted(slot) => {
-                if let Some(linked) = self.nodes.value_at_mut(slot) {
-                    linked.set_noted(link);
-                }
-            }
-            Place::Stored(slot) => {
-                if let Some(stored) = self.resources.value_at_mut(slot) {
-                    stored.link = link;
-                }
-            }
+            Place::Children(slot) => self.nodes.at_mut(slot).set_children(link),
+            Place::Held(slot) => self.nodes.at_mut(slot).set_held(link),
+            Place::Sibling(slot) => self.nodes.at_mut(slot).set_sibling(link),
+            Place::Noted(slot) => self.nodes.at_mut(slot).set_noted(link),
+            Place::Stored(slot) => self.resources.at_mut(slot).link = link,
         }
     }
 
@@ -191,31 +156,11 @@ impl<R: Drop> Store<R> {
             Place::Roots => self.roots.next = to,
             Place::Due => self.due.next = to,
             Place::Waiting => self.waiting.next = to,
-            Place::Children(slot) => {
-                if let Some(linked) = self.nodes.value_at_mut(slot) {
-                    linked.set_children_next(to);
-                }
-            }
-            Place::Held(slot) => {
-                if let Some(linked) = self.nodes.value_at_mut(slot) {
-                    linked.set_held_next(to);
-                }
-            }
-            Place::Sibling(slot) => {
-                if let Some(linked) = self.nodes.value_at_mut(slot) {
-                    linked.set_sibling_next(to);
-                }
-            }
-            Place::Noted(slot) => {
-                if let Some(linked) = self.nodes.value_at_mut(slot) {
-                    linked.set_noted_next(to);
-                }
-            }
-            Place::Stored(slot) => {
-                if let Some(stored) = self.resources.value_at_mut(slot) {
-                    stored.link.next = to;
-                }
-            }
+            Place::Children(slot) => self.nodes.at_mut(slot).set_children_next(to),
+            Place::Held(slot) => self.nodes.at_mut(slot).set_held_next(to),
+            Place::Sibling(slot) => self.nodes.at_mut(slot).set_sibling_next(to),
+            Place::Noted(slot) => self.nodes.at_mut(slot).set_noted_next(to),
+            Place::Stored(slot) => self.resources.at_mut(slot).link.next = to,
         }
     }
 
@@ -231,31 +176,11 @@ impl<R: Drop> Store<R> {
             Place::Roots => self.roots.previous = to,
             Place::Due => self.due.previous = to,
             Place::Waiting => self.waiting.previous = to,
-            Place::Children(slot) => {
-                if let Some(linked) = self.nodes.value_at_mut(slot) {
-                    linked.set_children_previous(to);
-                }
-            }
-            Place::Held(slot) => {
-                if let Some(linked) = self.nodes.value_at_mut(slot) {
-                    linked.set_held_previous(to);
-                }
-            }
-            Place::Sibling(slot) => {
-                if let Some(linked) = self.nodes.value_at_mut(slot) {
-                    linked.set_sibling_previous(to);
-                }
-            }
-            Place::Noted(slot) => {
-                if let Some(linked) = self.nodes.value_at_mut(slot) {
-                    linked.set_noted_previous(to);
-                }
-            }
-            Place::Stored(slot) => {
-                if let Some(stored) = self.resources.value_at_mut(slot) {
-                    stored.link.previous = to;
-                }
-            }
+            Place::Children(slot) => self.nodes.at_mut(slot).set_children_previous(to),
+            Place::Held(slot) => self.nodes.at_mut(slot).set_held_previous(to),
+            Place::Sibling(slot) => self.nodes.at_mut(slot).set_sibling_previous(to),
+            Place::Noted(slot) => self.nodes.at_mut(slot).set_noted_previous(to),
+            Place::Stored(slot) => self.resources.at_mut(slot).link.previous = to,
         }
     }
 
@@ -297,6 +222,7 @@ impl<R: Drop> Store<R> {
     // Lets its ring pass a place by, whose own link stays as it was.
     #[inline(always)]
     pub(crate) fn pass_by(&mut self, place: Place)
+        requires place { IsTrue (is_there self.old place) }
         requires before { IsTrue (is_there self.old (previous_of self.old place)) }
         requires after { IsTrue (is_there self.old (next_of self.old place)) }
         ensures passes { PassesBy places (next_of self.old) (previous_of self.old)
@@ -322,7 +248,7 @@ impl<R: Drop> Store<R> {
     }
 
     // Puts what a ring goes over at the end of another ring.
-    #[inline(always)]
+    #[inline(never)]
     pub(crate) fn merge(&mut self, from: Place, into: Place)
         requires from { IsTrue (is_there self.old from) }
         requires into { IsTrue (is_there self.old into) }

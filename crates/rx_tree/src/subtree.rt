@@ -15,6 +15,7 @@ use crate::store::Store;
 use rx_slots::Key;
 
 // The number of a key, which is bounded.
+#[inline(always)]
 fn number_of(key: Key) -> u64
     ensures value { result ≡ key.number }
     ensures bounded { result < 2 ^ 64 }
@@ -24,6 +25,7 @@ fn number_of(key: Key) -> u64
 
 impl<R: Drop> Store<R> {
     // The key of a node's first child.
+    #[inline(always)]
     fn child(&self, key: Key) -> Option<Key>
         requires tied { IsTied self.now }
         requires open { IsSome (find (nodes_of self.now) key) }
@@ -39,6 +41,7 @@ impl<R: Drop> Store<R> {
     }
 
     // The key of a node without children: this one, or one below it.
+    #[inline(always)]
     fn leaf_below(&self, key: Key) -> Key
         requires tied { IsTied self.now }
         requires open { IsSome (find (nodes_of self.now) key) }
@@ -55,6 +58,7 @@ impl<R: Drop> Store<R> {
     }
 
     // Lets the resources wait that are held at a slot's node.
+    #[inline(always)]
     fn let_wait(&mut self, slot: usize)
         requires tied { IsTied self.old }
         requires there { is_some (entry_at (nodes_of self.old) slot) ≡ true }
@@ -67,6 +71,7 @@ impl<R: Drop> Store<R> {
     }
 
     // Takes a slot's node off the chain of what may be due, where it stands there.
+    #[inline(always)]
     fn unnote(&mut self, slot: usize)
         requires there { IsTrue (is_there self.old (Noted slot)) }
         requires before { IsTrue (is_there self.old (previous_of self.old (Noted slot))) }
@@ -82,6 +87,7 @@ impl<R: Drop> Store<R> {
     }
 
     // Takes out the record of a node without children.
+    #[inline(always)]
     fn take_leaf(&mut self, key: Key) -> Option<Node>
         requires tied { IsTied self.old }
         requires open { IsSome (find (nodes_of self.old) key) }
@@ -102,6 +108,7 @@ impl<R: Drop> Store<R> {
 
     // Moves out a node without children that is this one or stands below it, and gives the key of its
     // parent; None once the top is out.
+    #[inline(always)]
     pub(crate) fn close_leaf(
         &mut self,
         top: Key,

@@ -21,6 +21,7 @@ use std::alloc::{AllocError, Global};
 use std::marker::Model;
 
 // The ring that a node stands on among its siblings; a connection stands on none.
+#[inline(always)]
 fn sibling_ring(node: Node) -> Option<Place>
     ensures { result ≡ sibling_ring node }
 {
@@ -214,6 +215,7 @@ impl<R: Resource> Tree<R> {
     }
 
     /// The Open or Connect that made the node; None where the key finds none.
+    #[inline(always)]
     pub fn made(&self, key: Key) -> Option<Event>
         ensures { result ≡ option_map (λ node. node.made) (find self.now.nodes key) }
     {
@@ -221,6 +223,7 @@ impl<R: Resource> Tree<R> {
     }
 
     /// The node's marks; None where the key finds none.
+    #[inline(always)]
     pub fn marks(&self, key: Key) -> Option<Marks>
         ensures { result ≡ option_map (λ node. node.marks) (find self.now.nodes key) }
     {
@@ -229,6 +232,7 @@ impl<R: Resource> Tree<R> {
 
     /// The key of the node that this one stands below; None for a root, for a connection, and where
     /// the key finds none.
+    #[inline(always)]
     pub fn parent(&self, key: Key) -> Option<Key>
         ensures number { option_map (λ parent. parent.number) result ≡ parent_number self.now.nodes key }
         ensures found { IfSome result (λ parent. IsSome (find self.now.nodes parent)) }
@@ -237,6 +241,7 @@ impl<R: Resource> Tree<R> {
     }
 
     /// The key of the oldest node directly below this one; None where there is none.
+    #[inline(always)]
     pub fn first_child(&self, key: Key) -> Option<Key>
         ensures some { IfSome result (IsFirst (IsChild self.now.nodes key) 0) }
         ensures none { IfNone result (HasNone (IsChild self.now.nodes key) 0) }
@@ -250,6 +255,7 @@ impl<R: Resource> Tree<R> {
 
     /// The key of the next younger node directly below the same one; None for the youngest, for a node
     /// that stands below none, and where the key finds none.
+    #[inline(always)]
     pub fn next_sibling(&self, key: Key) -> Option<Key>
         ensures some { IfSome result (λ next. (parent : Key) → IsChild self.now.nodes parent key →
             IsFirst (IsChild self.now.nodes parent) (key.number + 1) next) }
@@ -265,6 +271,7 @@ impl<R: Resource> Tree<R> {
     }
 
     /// The key of the oldest open root; None where no root is open. A connection is no root.
+    #[inline(always)]
     pub fn first_root(&self) -> Option<Key>
         ensures some { IfSome result (IsFirst (IsRoot self.now.nodes) 0) }
         ensures none { IfNone result (HasNone (IsRoot self.now.nodes) 0) }
@@ -280,6 +287,7 @@ impl<R: Resource> Tree<R> {
     /// The event is the Open or Connect that makes the node, and `above` the key of the node that its
     /// place names, None for a root or a connection; with the key the parent needs no search.
     /// Refused only where there was no room and memory was refused; then nothing else changes.
+    #[inline(always)]
     pub fn open(&mut self, number: u64, made: Event, above: Option<Key>) -> Result<Key, AllocError>
         requires newest { IsNewest self.old number }
         requires placed { IsPlaced self.old.nodes number made above }
@@ -442,6 +450,7 @@ impl<R: Resource> Tree<R> {
     }
 
     /// The key of the node that is first on the chain of what may be due; None where it is empty.
+    #[inline(always)]
     pub fn pending(&self) -> Option<Key>
         ensures { result ≡ first_of self.now.chain }
     {
@@ -466,6 +475,7 @@ impl<R: Resource> Tree<R> {
     ///
     /// The caller keeps room in the list for as many records as the tree has. It takes no memory, and
     /// time that grows with what it moves out alone; the slots are free again.
+    #[inline(always)]
     pub fn close_below(&mut self, key: Key, closed: &mut Vec<Closed>)
         requires open { IsSome (find self.old.nodes key) }
         requires room { vec_len closed.old + self.old.nodes.count ≤ vec_capacity closed.old }
@@ -492,6 +502,7 @@ impl<R: Resource> Tree<R> {
     ///
     /// Refused only where there was no room and memory was refused: the resource then comes back, and
     /// nothing else changes.
+    #[inline(always)]
     pub fn hold(&mut self, key: Key, number: u64, resource: R) -> Result<ResKey, R>
         requires open { IsSome (find self.old.nodes key) }
         requires newest { IsPast self.old.resources number }

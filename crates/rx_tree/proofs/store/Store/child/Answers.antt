@@ -3,6 +3,7 @@ use Rattle.rx_slots.specs.Slots.{find}
 use Rattle.rx_tree.specs.Cuts.{Descends, from_top, one_down}
 use Rattle.rx_tree.specs.Store.{nodes_of, resources_of, next_of, previous_of}
 use Rattle.rx_tree.proofs.LeafRings.{first_child_at, no_child}
+use Rattle.rx_tree.proofs.There.{slot_stands}
 use Rattle.rx_tree.proofs.store.Store.child.Goals as goal
 
 pub returns-in-Sibling-clause-below : goal.returns-in-Sibling-clause-below
@@ -44,3 +45,6 @@ returns-in_default g c =
       none = λ _. no_child (nodes_of s) (resources_of s) (next_of s) (previous_of s) c.requires.tied
           c.args.key.slot (λ j e. c.in_default.not-Sibling j (ap (λ l. l.next) c.link.ensures ∙ e));
     }
+
+pub link-requires : goal.link-requires
+link-requires g c = record { there = slot_stands (nodes_of c.args.self.now) c.args.key c.requires.«open» }

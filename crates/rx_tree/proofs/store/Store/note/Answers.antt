@@ -42,3 +42,6 @@ returns-else-not-is_noted-clause-chain g c =
 
 pub returns-else-not-is_noted-clause-rest : goal.returns-else-not-is_noted-clause-rest
 returns-else-not-is_noted-clause-rest g c = record { nodes = refl; resources = refl; waiting_count = refl; owed = refl; held_count = λ j. refl }
+
+pub is_noted-requires : goal.is_noted-requires
+is_noted-requires g c = record { there = slot_stands (nodes_of c.args.self.now) c.args.key c.requires.«open» }

@@ -1,55 +1,66 @@
-use Rattle.std.proofs.Common.{sym, ap, ◌∙◌}
-use Rattle.std.specs.Option.{option_copied_mut}
+use Rattle.rx_tree.proofs.InPlace.{there_project}
 use Rattle.rx_tree.proofs.StoreLemmas.{linked-Children, linked-Held, linked-Sibling, linked-Noted, linked-Stored, relinks-Children, relinks-Held}
 use Rattle.rx_tree.proofs.StoreLemmas.{relinks-Sibling, relinks-Noted, relinks-Stored}
 use Rattle.rx_tree.proofs.store.Store.set_link.Goals as goal
 
-pub returns-in-Some-clause-linked : goal.returns-in-Some-clause-linked
-returns-in-Some-clause-linked g c =
-    rw (c.in-Children.is, c.set_children.ensures) (linked-Children c.args.self.now c.in-Children.slot c.args.link c.in-Some.linked.now
-    (sym c.value_at_mut.ensures.value ∙ ap option_copied_mut c.in-Some.is))
+pub at_mut-requires : goal.at_mut-requires
+at_mut-requires g c =
+    record { there = there_project (λ l. l.node) c.args.self.now.nodes c.in-Children.slot (rw c.in-Children.is at c.requires.there) }
 
-pub returns-in-Some-clause-rest : goal.returns-in-Some-clause-rest
-returns-in-Some-clause-rest g c =
-    rw c.set_children.ensures (relinks-Children c.args.self.now c.in-Children.slot c.args.link c.in-Some.linked.now
-    (sym c.value_at_mut.ensures.value ∙ ap option_copied_mut c.in-Some.is))
+pub returns-in-Children-clause-linked : goal.returns-in-Children-clause-linked
+returns-in-Children-clause-linked g c =
+    rw (c.in-Children.is, c.set_children.ensures) (linked-Children c.args.self.now c.in-Children.slot c.args.link c.at_mut.result.now c.at_mut.ensures.value)
 
-pub returns-in-Some-value_at_mut-clause-linked : goal.returns-in-Some-value_at_mut-clause-linked
-returns-in-Some-value_at_mut-clause-linked g c =
-    rw (c.in-Held.is, c.set_held.ensures) (linked-Held c.args.self.now c.in-Held.slot c.args.link c.in-Some-value_at_mut.linked.now
-    (sym c.value_at_mut-in-Held.ensures.value ∙ ap option_copied_mut c.in-Some-value_at_mut.is))
+pub returns-in-Children-clause-rest : goal.returns-in-Children-clause-rest
+returns-in-Children-clause-rest g c =
+    rw c.set_children.ensures (relinks-Children c.args.self.now c.in-Children.slot c.args.link c.at_mut.result.now c.at_mut.ensures.value)
 
-pub returns-in-Some-value_at_mut-clause-rest : goal.returns-in-Some-value_at_mut-clause-rest
-returns-in-Some-value_at_mut-clause-rest g c =
-    rw c.set_held.ensures (relinks-Held c.args.self.now c.in-Held.slot c.args.link c.in-Some-value_at_mut.linked.now
-    (sym c.value_at_mut-in-Held.ensures.value ∙ ap option_copied_mut c.in-Some-value_at_mut.is))
+pub at_mut-requires-in-Held : goal.at_mut-requires-in-Held
+at_mut-requires-in-Held g c =
+    record { there = there_project (λ l. l.node) c.args.self.now.nodes c.in-Held.slot (rw c.in-Held.is at c.requires.there) }
 
-pub returns-in-Some-value_at_mut-2-clause-linked : goal.returns-in-Some-value_at_mut-2-clause-linked
-returns-in-Some-value_at_mut-2-clause-linked g c =
-    rw (c.in-Sibling.is, c.set_sibling.ensures) (linked-Sibling c.args.self.now c.in-Sibling.slot c.args.link c.in-Some-value_at_mut-2.linked.now
-    (sym c.value_at_mut-in-Sibling.ensures.value ∙ ap option_copied_mut c.in-Some-value_at_mut-2.is))
+pub returns-in-Held-clause-linked : goal.returns-in-Held-clause-linked
+returns-in-Held-clause-linked g c =
+    rw (c.in-Held.is, c.set_held.ensures) (linked-Held c.args.self.now c.in-Held.slot c.args.link c.at_mut-in-Held.result.now c.at_mut-in-Held.ensures.value)
 
-pub returns-in-Some-value_at_mut-2-clause-rest : goal.returns-in-Some-value_at_mut-2-clause-rest
-returns-in-Some-value_at_mut-2-clause-rest g c =
-    rw c.set_sibling.ensures (relinks-Sibling c.args.self.now c.in-Sibling.slot c.args.link c.in-Some-value_at_mut-2.linked.now
-    (sym c.value_at_mut-in-Sibling.ensures.value ∙ ap option_copied_mut c.in-Some-value_at_mut-2.is))
+pub returns-in-Held-clause-rest : goal.returns-in-Held-clause-rest
+returns-in-Held-clause-rest g c =
+    rw c.set_held.ensures (relinks-Held c.args.self.now c.in-Held.slot c.args.link c.at_mut-in-Held.result.now c.at_mut-in-Held.ensures.value)
 
-pub returns-in-Some-value_at_mut-3-clause-linked : goal.returns-in-Some-value_at_mut-3-clause-linked
-returns-in-Some-value_at_mut-3-clause-linked g c =
-    rw (c.in-Noted.is, c.set_noted.ensures) (linked-Noted c.args.self.now c.in-Noted.slot c.args.link c.in-Some-value_at_mut-3.linked.now
-    (sym c.value_at_mut-in-Noted.ensures.value ∙ ap option_copied_mut c.in-Some-value_at_mut-3.is))
+pub at_mut-requires-in-Sibling : goal.at_mut-requires-in-Sibling
+at_mut-requires-in-Sibling g c =
+    record { there = there_project (λ l. l.node) c.args.self.now.nodes c.in-Sibling.slot (rw c.in-Sibling.is at c.requires.there) }
 
-pub returns-in-Some-value_at_mut-3-clause-rest : goal.returns-in-Some-value_at_mut-3-clause-rest
-returns-in-Some-value_at_mut-3-clause-rest g c =
-    rw c.set_noted.ensures (relinks-Noted c.args.self.now c.in-Noted.slot c.args.link c.in-Some-value_at_mut-3.linked.now
-    (sym c.value_at_mut-in-Noted.ensures.value ∙ ap option_copied_mut c.in-Some-value_at_mut-3.is))
+pub returns-in-Sibling-clause-linked : goal.returns-in-Sibling-clause-linked
+returns-in-Sibling-clause-linked g c =
+    rw (c.in-Sibling.is, c.set_sibling.ensures) (linked-Sibling c.args.self.now c.in-Sibling.slot c.args.link
+    c.at_mut-in-Sibling.result.now c.at_mut-in-Sibling.ensures.value)
 
-pub returns-in-Some-value_at_mut-4-clause-linked : goal.returns-in-Some-value_at_mut-4-clause-linked
-returns-in-Some-value_at_mut-4-clause-linked g c =
-    rw c.in-Stored.is (linked-Stored c.args.self.now c.in-Stored.slot c.args.link c.in-Some-value_at_mut-4.stored.now
-    (sym c.value_at_mut-in-Stored.ensures.value ∙ ap option_copied_mut c.in-Some-value_at_mut-4.is))
+pub returns-in-Sibling-clause-rest : goal.returns-in-Sibling-clause-rest
+returns-in-Sibling-clause-rest g c =
+    rw c.set_sibling.ensures (relinks-Sibling c.args.self.now c.in-Sibling.slot c.args.link c.at_mut-in-Sibling.result.now c.at_mut-in-Sibling.ensures.value)
 
-pub returns-in-Some-value_at_mut-4-clause-rest : goal.returns-in-Some-value_at_mut-4-clause-rest
-returns-in-Some-value_at_mut-4-clause-rest g c =
-    relinks-Stored c.args.self.now c.in-Stored.slot c.args.link c.in-Some-value_at_mut-4.stored.now
-    (sym c.value_at_mut-in-Stored.ensures.value ∙ ap option_copied_mut c.in-Some-value_at_mut-4.is)
+pub at_mut-requires-in-Noted : goal.at_mut-requires-in-Noted
+at_mut-requires-in-Noted g c =
+    record { there = there_project (λ l. l.node) c.args.self.now.nodes c.in-Noted.slot (rw c.in-Noted.is at c.requires.there) }
+
+pub returns-in-Noted-clause-linked : goal.returns-in-Noted-clause-linked
+returns-in-Noted-clause-linked g c =
+    rw (c.in-Noted.is, c.set_noted.ensures) (linked-Noted c.args.self.now c.in-Noted.slot c.args.link
+    c.at_mut-in-Noted.result.now c.at_mut-in-Noted.ensures.value)
+
+pub returns-in-Noted-clause-rest : goal.returns-in-Noted-clause-rest
+returns-in-Noted-clause-rest g c =
+    rw c.set_noted.ensures (relinks-Noted c.args.self.now c.in-Noted.slot c.args.link c.at_mut-in-Noted.result.now c.at_mut-in-Noted.ensures.value)
+
+pub at_mut-requires-in-Stored : goal.at_mut-requires-in-Stored
+at_mut-requires-in-Stored g c =
+    record { there = there_project (λ r. r.stowed) c.args.self.now.resources c.in-Stored.slot (rw c.in-Stored.is at c.requires.there) }
+
+pub returns-in-Stored-clause-linked : goal.returns-in-Stored-clause-linked
+returns-in-Stored-clause-linked g c =
+    rw c.in-Stored.is (linked-Stored c.args.self.now c.in-Stored.slot c.args.link c.at_mut-in-Stored.result.now c.at_mut-in-Stored.ensures.value)
+
+pub returns-in-Stored-clause-rest : goal.returns-in-Stored-clause-rest
+returns-in-Stored-clause-rest g c =
+    relinks-Stored c.args.self.now c.in-Stored.slot c.args.link c.at_mut-in-Stored.result.now c.at_mut-in-Stored.ensures.value

@@ -1,10 +1,11 @@
-use Rattle.std.proofs.Common.{ap}
-use Rattle.rx_slots.specs.Slots.{find}
+use Rattle.std.proofs.Common.{◌≡◌, true, is_some, sym, ap, subst, ◌∙◌}
+use Rattle.rx_slots.specs.Slots.{find, entry_at}
 use Rattle.rx_tree.specs.Store.{project, nodes_of}
 use Rattle.rx_tree.proofs.Laws.Keys.{some_of}
 use Rattle.rx_tree.proofs.LeafSteps.{noted_before, noted_after, noted_loop, sibling_before, sibling_after, noted_alone, children_alone, held_alone}
 use Rattle.rx_tree.proofs.LeafSteps.{taken, leaf_tied, leaf_chain, took_of}
 use Rattle.rx_tree.proofs.CountSteps.{counted_relinked}
+use Rattle.rx_tree.proofs.There.{slot_stands}
 use Rattle.rx_tree.proofs.store.Store.take_leaf.Goals as goal
 
 pub unnote-requires-clause-before : goal.unnote-requires-clause-before
@@ -90,3 +91,8 @@ take_node-requires-clause-counted g c =
     let waiting = counted_relinked c.args.self.now c.let_wait.new.self c.let_wait.ensures.rest c.requires.counted in
     let off = counted_relinked c.let_wait.new.self c.unnote.new.self c.unnote.ensures.rest waiting in
     counted_relinked c.unnote.new.self c.pass_by.new.self c.pass_by.ensures.rest off
+
+pub pass_by-requires-clause-place : goal.pass_by-requires-clause-place
+pass_by-requires-clause-place g c =
+    subst (λ nodes. is_some (entry_at nodes c.args.key.slot) ≡ true) (sym (c.unnote.ensures.rest.nodes ∙ c.let_wait.ensures.rest.nodes))
+    (slot_stands (nodes_of c.args.self.now) c.args.key c.requires.«open»)

@@ -3,6 +3,7 @@ use Rattle.rx_tree.specs.declared.links.Place.TheVariants.{Children}
 use Rattle.rx_tree.specs.Store.{nodes_of, resources_of, next_of, previous_of}
 use Rattle.rx_tree.specs.Tree.{IsChild, IsFirst, HasNone}
 use Rattle.rx_tree.proofs.Siblings.{children_ring, first_some, first_there, first_none}
+use Rattle.rx_tree.proofs.There.{slot_stands}
 use Rattle.rx_tree.proofs.tree.Tree.first_child.Goals as goal
 
 pub returns-in-Sibling-clause-some : goal.returns-in-Sibling-clause-some
@@ -33,3 +34,6 @@ returns-in_default g c =
       none = first_none (nodes_of s) (resources_of s) (next_of s) (previous_of s) c.self.invariant.tied (IsChild (nodes_of s) c.args.key)
           (Children c.args.key.slot) refl refl ring (λ slot e. c.in_default.not-Sibling slot (ap (λ l. l.next) c.link.ensures ∙ e));
     })
+
+pub link-requires : goal.link-requires
+link-requires g c = record { there = slot_stands (nodes_of c.self.inside.store) c.args.key (ap is_some (sym c.node.ensures ∙ c.in_ok-_node.was)) }

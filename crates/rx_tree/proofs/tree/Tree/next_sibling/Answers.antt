@@ -1,8 +1,9 @@
-use Rattle.std.proofs.Common.{refl, ◌+◌, IfSome, IfNone, sym, ap, subst, ◌∙◌}
+use Rattle.std.proofs.Common.{refl, ◌+◌, is_some, IfSome, IfNone, sym, ap, subst, ◌∙◌}
 use Rattle.rx_slots.specs.declared.Key.{Key}
 use Rattle.rx_tree.specs.Store.{nodes_of, resources_of, next_of, previous_of}
 use Rattle.rx_tree.specs.Tree.{IsChild, IsFirst, HasNone}
 use Rattle.rx_tree.proofs.Siblings.{sibling_some, sibling_there, sibling_none, named_above_one, named_above_none}
+use Rattle.rx_tree.proofs.There.{slot_stands}
 use Rattle.rx_tree.proofs.tree.Tree.next_sibling.Goals as goal
 
 pub returns-in_err-_parent-clause-none : goal.returns-in_err-_parent-clause-none
@@ -46,3 +47,6 @@ returns-in_default g c =
           (λ slot e. c.in_default.not-Sibling slot (ap (λ l. l.next) c.link.ensures ∙ e));
       alone = λ none. refl;
     })
+
+pub link-requires : goal.link-requires
+link-requires g c = record { there = slot_stands (nodes_of c.self.inside.store) c.args.key (ap is_some (sym c.node.ensures ∙ c.in_ok-node.was)) }

@@ -1,0 +1,11 @@
+use Rattle.std.proofs.Common.{sym, ap, ◌∙◌}
+use Rattle.std.specs.Option.{option_map_or}
+use Rattle.rx_tree.specs.Store.{no_counts}
+use Rattle.rx_tree.proofs.InPlace.{there_project}
+use Rattle.rx_tree.proofs.store.Store.held_count.Goals as goal
+
+pub at-requires : goal.at-requires
+at-requires g c = record { there = there_project (λ l. l.node) c.args.self.now.nodes c.args.slot c.requires.there }
+
+pub returns : goal.returns
+returns g c = c.held_count.ensures ∙ sym (ap (λ o. option_map_or (λ l. l.held_count) o no_counts) c.at.ensures)
