@@ -64,6 +64,7 @@ impl Register {
     }
 
     /// What a register promises at every moment, for proofs. It does nothing.
+    #[inline(always)]
     pub fn promise(&self)
         ensures { IsPromised self.now }
     {
@@ -73,6 +74,7 @@ impl Register {
     /// Gets room for so many events in all beyond those that are there, so that writing as many takes
     /// no memory. Refused only where there was less room and memory was refused. No event changes
     /// either way.
+    #[inline(always)]
     pub fn reserve(&mut self, events: u64) -> Result<(), AllocError>
         requires { length self.old.history + events ≤ self.old.base.at_length + self.old.limit }
         ensures ok { OnOk result (events ≤ self.new.room) }
@@ -88,6 +90,7 @@ impl Register {
     }
 
     /// How many events there ever were.
+    #[inline(always)]
     pub fn len(&self) -> u64
         ensures { result ≡ length self.now.history }
     {
@@ -102,6 +105,7 @@ impl Register {
     }
 
     /// How many items were emitted.
+    #[inline(always)]
     pub fn items(&self) -> u64
         ensures { result ≡ item_count self.now.base self.now.history }
     {
@@ -109,6 +113,7 @@ impl Register {
     }
 
     /// How many resources were accepted.
+    #[inline(always)]
     pub fn accepted(&self) -> u64
         ensures { result ≡ accepted_count self.now.base self.now.history }
     {
@@ -116,6 +121,7 @@ impl Register {
     }
 
     /// How many resources were taken.
+    #[inline(always)]
     pub fn taken(&self) -> u64
         ensures { result ≡ taken_count self.now.base self.now.history }
     {

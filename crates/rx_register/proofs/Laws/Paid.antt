@@ -9,7 +9,7 @@ use Rattle.rx_event.specs.declared.event.Event.TheVariants.{Item, End, Close, Co
 use Rattle.rx_event.specs.Events.{is_connect}
 use Rattle.rx_event.specs.Notes.{notes, mail_of}
 use Rattle.rx_event.specs.Totals.{debt, open_count}
-use Rattle.rx_event.specs.Forced.{IsConnectDue, IsForced, IsDue, MayWait, connecting, due, none_waits, one_waits, mirrored, fired, failed, completed, cut, left}
+use Rattle.rx_event.specs.Forced.{IsConnectDue, IsForced, IsDue, MayWait, connecting, due, none_waits, one_waits, mirrored}
 use Rattle.rx_event.specs.Lawful.{forced, MayFollow, IsLawful}
 use Rattle.rx_event.specs.Calls.{Call}
 use Rattle.rx_event.proofs.Laws.Counts.{notes-push}

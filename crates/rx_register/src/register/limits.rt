@@ -10,6 +10,7 @@ use rx_event::MOST_NODES;
 
 impl Register {
     /// Whether so many open nodes more would be too many.
+    #[inline(always)]
     pub fn is_crowded(&self, load: Load, more: u64) -> bool
         requires { IsLoadOf self.now.base self.now.history load }
         ensures { result ≡ is_crowded_in self.now.history more }
@@ -20,6 +21,7 @@ impl Register {
 
     /// Whether so many events and reservations more would pass the limit on the events since the
     /// base, with what closing everything needs counted in.
+    #[inline(always)]
     pub fn is_over(&self, load: Load, more: u64) -> bool
         requires { IsLoadOf self.now.base self.now.history load }
         ensures { result ≡ is_over_in self.now.base self.now.history self.now.limit more }

@@ -7,6 +7,7 @@ ghost use Rattle.rx_event.specs.Lawful.{MayFollow};
 use super::Register;
 use rx_event::Event;
 
+#[inline(always)]
 fn one_if(test: bool) -> u64
     ensures { result ≡ cond test 1 0 }
 {
@@ -15,6 +16,7 @@ fn one_if(test: bool) -> u64
 
 impl Register {
     /// Writes an event that may come next, whose notes were told. It takes no memory.
+    #[inline(always)]
     pub fn write(&mut self, event: Event)
         requires next { MayFollow self.old.base self.old.history event }
         requires room { 0 < self.old.room }
