@@ -1,5 +1,5 @@
 -- Which rows last beyond the last event, and what leaks of a lawful history.
-use Rattle.std.proofs.Common.{◌≡◌, ℕ, ◌<◌, ◌≤◌, Bool, true, false, List, [], ◌∷◌, length, take}
+use Rattle.std.proofs.Common.{◌≡◌, ℕ, ◌<◌, ◌≤◌, Bool, true, false, List, [], ◌∷◌, length}
 use Rattle.std.proofs.Common.{Option, Some, None, refl, sym, ap, ◌∙◌, arith, inl, inr, ◌⊎◌, ◌==◌, nat_lt, slice_get}
 use Rattle.std.proofs.Math.Bool.{not, ◌&&◌, ◌||◌}
 use Rattle.std.proofs.Math.Seq.{take-length}
@@ -12,15 +12,12 @@ use Rattle.rx_event.specs.Events.{makes_node, makes_hub, makes_resource, makes_l
 use Rattle.rx_event.specs.Kept.{nothing_kept}
 use Rattle.rx_event.specs.Tree.{at}
 use Rattle.rx_event.specs.Resources.{is_out, is_taken, is_held, is_waiting}
-use Rattle.rx_event.specs.Lawful.{IsLawful}
 use Rattle.rx_event.proofs.Laws.Places.{at_within}
 use Rattle.rx_event.proofs.Laws.Resources.{held_resource, held_not_taken}
 use Rattle.rx_picture.specs.declared.row.Row.{Row}
 use Rattle.rx_picture.specs.declared.row.Shape.{Shape}
 use Rattle.rx_picture.specs.declared.row.Shape.TheVariants.{Node, Hub, Resource, Loan}
-use Rattle.rx_picture.specs.declared.drawing.Drawing.{Drawing}
 use Rattle.rx_picture.specs.Rows.{IsRow, IsShape, leaks}
-use Rattle.rx_picture.specs.Drawn.{IsDrawing}
 use Rattle.rx_picture.specs.Leaks.{is_leaking, is_leaking_row, LeaksAreDrawn, LeaksAreLeft}
 
 -- what an event makes ------------------------------------------------------------------------------
