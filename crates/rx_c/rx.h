@@ -1,7 +1,7 @@
 /* The library rx: the audit of a dump, the run of a scenario, and a live book behind a handle. Text in, text out.
  *
  * A call that takes a text reads `length` bytes at its pointer; one that answers a text writes it to the front of
- * `buffer`, which has room for `capacity` bytes. Each answers a status. docs/reference/c-library.md tells what a caller has to see to. */
+ * `buffer`, which has room for `capacity` bytes. Each answers a status. docs/reference/c-library.md lists what a caller has to ensure. */
 #ifndef RX_H
 #define RX_H
 

@@ -1,4 +1,4 @@
-//! What is wrong with a dump: which event is none, and which of its elements.
+//! What is wrong with a dump: which event is not one, and which of its elements.
 
 use crate::walk::{Stop, Walk, tell};
 use crate::wanted::{Wanted, shown};
@@ -94,7 +94,7 @@ fn event_fault(alloc: Global, event: &Value) -> Walk {
     }
 }
 
-/// What is wrong with an array that is no dump.
+/// What is wrong with an array that is not a dump.
 pub fn dump_fault(alloc: Global, dump: &Value) -> Walk {
     let Some(events) = dump.as_array() else {
         return Ok(());

@@ -30,13 +30,13 @@ fn or_else(alloc: Global, walk: Walk, other: &str) -> Result<String, AllocError>
     }
 }
 
-// What is said of an input that is no JSON text.
+// What to say about an input that is not a JSON text.
 fn no_json(alloc: Global, error: &Error) -> Result<String, AllocError> {
     let (line, column) = (error.line(), error.column());
     if error.is_eof() {
         return format!(in alloc; "line {line}, column {column}: the JSON text ends too early");
     }
-    format!(in alloc; "line {line}, column {column}: no JSON text; look here and just before")
+    format!(in alloc; "line {line}, column {column}: not a JSON text; look here and just before")
 }
 
 // An event as it stands in a dump.
@@ -127,7 +127,7 @@ fn explain_dump(alloc: Global, value: &Value) -> Told
         Err(ShapeError::Memory) => return Err(AllocError),
         Err(ShapeError::Shape) => {
             let walk = dump_fault(alloc, value);
-            return Ok(Some(or_else(alloc, walk, "the input is no dump")?));
+            return Ok(Some(or_else(alloc, walk, "the input is not a dump")?));
         }
     };
     match audit(alloc, history.as_slice()) {
@@ -145,7 +145,7 @@ fn explain_scenario(alloc: Global, value: &Value) -> Told
         Err(ShapeError::Memory) => Err(AllocError),
         Err(ShapeError::Shape) => {
             let walk = scenario_fault(alloc, value);
-            Ok(Some(or_else(alloc, walk, "the input is no scenario")?))
+            Ok(Some(or_else(alloc, walk, "the input is not a scenario")?))
         }
     }
 }

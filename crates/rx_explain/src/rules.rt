@@ -50,10 +50,10 @@ fn no_place(alloc: Global, past: Past<'_>, place: Place) -> Walk {
             "node {node} has no place for a source"
         )),
         Place::Inner(_) if !made.is_merging() => tell(format!(in alloc;
-            "node {node} is no FlatMap and no Switch"
+            "node {node} is neither a FlatMap nor a Switch"
         )),
         Place::Notifier(_) if !made.is_until() => tell(format!(in alloc;
-            "node {node} is no TakeUntil"
+            "node {node} is not a TakeUntil"
         )),
         Place::Inner(_) => Ok(()),
         _ => used_before(alloc, past, place),
@@ -76,7 +76,7 @@ fn no_subscriber(alloc: Global, past: Past<'_>, place: Place, hub: u64) -> Walk 
         && may_follow(alloc, past.events, Event::Open { place, kind })?
     {
         return tell(format!(in alloc;
-            "a subscriber of hub {hub} may stand below no connection of that hub or of an earlier one"
+            "a subscriber of hub {hub} may not stand below a connection of that hub or of an earlier one"
         ));
     }
     Ok(())
@@ -111,7 +111,7 @@ fn connect_rule(alloc: Global, past: Past<'_>, hub: u64) -> Walk {
     no_hub(alloc, past, hub)?;
     if event_at(past.events, hub).is_some_and(Event::is_auto_hub) {
         return tell(format!(in alloc;
-            "hub {hub} has RefCount: it is connected where a subscriber waits, and else not"
+            "hub {hub} has RefCount: it connects when a subscriber waits, and only then"
         ));
     }
     match connection_of(past, hub) {
@@ -154,7 +154,7 @@ fn held_rule(alloc: Global, past: Past<'_>, resource: u64) -> Walk {
     gone_resource(alloc, past, resource)?;
     let reason = unowned(alloc, past, resource)?;
     if past.held.contains(&resource) {
-        return tell(format!(in alloc; "leases alone hold resource {resource}: {reason}"));
+        return tell(format!(in alloc; "only leases hold resource {resource}: {reason}"));
     }
     let ending = no_lease_left(alloc, past, resource)?;
     tell(format!(in alloc; "resource {resource} is not held: {reason}{ending}"))
@@ -188,7 +188,7 @@ fn take_rule(alloc: Global, past: Past<'_>, resource: u64) -> Walk {
 fn item_rule(alloc: Global, past: Past<'_>, leaf: u64) -> Walk {
     not_open(alloc, past, leaf)?;
     if !event_at(past.events, leaf).is_some_and(Event::is_leaf) {
-        return tell(format!(in alloc; "node {leaf} is no leaf"));
+        return tell(format!(in alloc; "node {leaf} is not a leaf"));
     }
     say(alloc, "the item would make more than 1048576 visits")
 }
@@ -197,7 +197,7 @@ fn item_rule(alloc: Global, past: Past<'_>, leaf: u64) -> Walk {
 fn decline_rule(alloc: Global, past: Past<'_>, node: u64) -> Walk {
     not_open(alloc, past, node)?;
     if !event_at(past.events, node).is_some_and(Event::is_merging) {
-        return tell(format!(in alloc; "node {node} is no FlatMap and no Switch"));
+        return tell(format!(in alloc; "node {node} is neither a FlatMap nor a Switch"));
     }
     tell(format!(in alloc; "nothing is owed at node {node}"))
 }
@@ -216,7 +216,7 @@ fn end_rule(alloc: Global, past: Past<'_>, node: u64, terminal: Terminal) -> Wal
     }
     match terminal {
         Terminal::Completed => tell(format!(in alloc;
-            "node {node} is no leaf: it completes where a rule forces that, and else not"
+            "node {node} is not a leaf: it completes only when a rule forces it to"
         )),
         Terminal::Error(_) => tell(format!(in alloc;
             "a node below node {node} is open, and nothing is owed there"
@@ -231,7 +231,7 @@ fn close_rule(alloc: Global, past: Past<'_>, node: u64) -> Walk {
         Some(Event::Connect(hub)) => tell(format!(in alloc;
             "node {node} is the connection of hub {hub}, which has RefCount: it closes with the last subscriber"
         )),
-        _ => tell(format!(in alloc; "node {node} is no root: it closes with the node above it")),
+        _ => tell(format!(in alloc; "node {node} is not a root: it closes with the node above it")),
     }
 }
 

@@ -59,10 +59,10 @@ fn is_word(object: &Value, member: &str, word: &str) -> bool {
 fn need_of(step: &Value, command: &str, member: &str) -> Need {
     match (command, member) {
         ("connect", "name") | ("end", "error") => Need::May,
-        (_, "of") if is_word(step, "place", "root") => Need::Never("a root stands below no node"),
+        (_, "of") if is_word(step, "place", "root") => Need::Never("a root has no node above it"),
         ("open", "connection") if is_word(step, "kind", "sub") => Need::May,
         ("open", "hub" | "connection") if !is_word(step, "kind", "sub") => {
-            Need::Never("the kind is no \"sub\"")
+            Need::Never("the kind is not \"sub\"")
         }
         _ => Need::Must,
     }
@@ -87,7 +87,7 @@ fn member_fault(alloc: Global, object: &Value, member: &str, need: Need) -> Walk
         }
         (None, _) => Ok(()),
         (Some(_), Need::Never(reason)) => {
-            tell(format!(in alloc; ".{member}: not to be given: {reason}"))
+            tell(format!(in alloc; ".{member}: not allowed here: {reason}"))
         }
         (Some(value), _) => value_fault(alloc, member, value),
     }
@@ -103,10 +103,8 @@ fn stranger_told(
     let shown = quoted(alloc, member)?;
     let near = nearest(member, own).or(nearest(member, common));
     match near {
-        Some(known) => {
-            format!(in alloc; ": no member {shown} is known here; the nearest is \"{known}\"")
-        }
-        None => format!(in alloc; ": no member {shown} is known here"),
+        Some(known) => { format!(in alloc; ": unknown member {shown}; the nearest is \"{known}\"") }
+        None => format!(in alloc; ": unknown member {shown}"),
     }
 }
 
@@ -185,7 +183,7 @@ fn step_fault(alloc: Global, step: &Value, follows: bool, depth: u32, seen: &mut
     };
     if depth == 0 {
         return tell(format!(in alloc;
-            ".then: too deep; a \"then\" stands at most {MOST_LEVELS} deep"
+            ".then: too deep; a \"then\" may be nested at most {MOST_LEVELS} deep"
         ));
     }
     inside(
@@ -222,7 +220,7 @@ fn steps_fault(alloc: Global, scenario: &Value) -> Walk {
     inside(alloc, ".steps", walk)
 }
 
-/// What is wrong with a value that is no scenario.
+/// What is wrong with a value that is not a scenario.
 pub fn scenario_fault(alloc: Global, scenario: &Value) -> Walk {
     if !scenario.is_object() {
         let shown = shown(alloc, scenario)?;

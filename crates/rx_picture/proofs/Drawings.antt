@@ -5,7 +5,7 @@ use Rattle.rx_event.specs.Tree.{at, places}
 use Rattle.rx_picture.specs.declared.drawing.Drawing.{Drawing}
 use Rattle.rx_picture.specs.Choice.{count_below, marked, AreMarks}
 use Rattle.rx_picture.specs.Levels.{AreLevels}
-use Rattle.rx_picture.specs.Rows.{AreRows, is_drawn, is_left}
+use Rattle.rx_picture.specs.Rows.{AreRows, is_drawn, leaks, is_left}
 use Rattle.rx_picture.specs.Told.{marbles, ArePoints}
 use Rattle.rx_picture.specs.Drawn.{is_shown, is_placed, is_rowed, is_rowed_by, AreColumns, IsDrawing}
 use Rattle.rx_picture.proofs.FewAreChosen.{few_chosen}
@@ -32,6 +32,7 @@ pub record AreMarked (h : List Event) (drawn shown placed rowed : List Bool) : T
 pub record IsDrawnByMarks (h : List Event) (drawn shown placed rowed : List Bool) (d : Drawing) : Type 0 where
   pub rows : AreRows h (marked rowed) d.rows.items
   pub all : d.all ≡ count_below (marked drawn) (length drawn)
+  pub leaking : d.leaks.items ≡ filter (leaks h) (places h)
   pub marbles : d.marbles.items ≡ marbles (marked shown) (marked placed) h
   pub points : ArePoints h (marked placed) d.points.items
   pub lanes : AreColumns (marked shown) (length shown) d.lanes.items
@@ -44,6 +45,7 @@ drawing_is {h} {d} {drawn} {shown} {placed} {rowed} marks by = record {
   rows = rows_same h rowed (is_rowed h) d.rows.items (rowed_same h shown rowed marks.of_shown marks.of_rowed) by.rows;
   all = by.all ∙ ap (count_below (marked drawn)) marks.of_drawn.size
       ∙ count_same (marked drawn) (at is_drawn h) (length h) (λ k l. marks.of_drawn.each k l);
+  leaks = by.leaking;
   marbles = by.marbles
       ∙ (λ i. marbles (λ n. shown_anywhere h shown marks.of_shown n i) (λ n. placed_anywhere h placed marks.of_placed n i) h);
   points = points_same h d placed marks.of_placed by.points;

@@ -15,3 +15,4 @@ mod MarblesOfPrefixes
 mod PointsOfFirstPlaces
 mod Drawings
 mod HeldByFullBar
+mod LeakingRows

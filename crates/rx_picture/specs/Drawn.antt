@@ -1,13 +1,13 @@
 -- What is drawn of a history: which rows and places are shown, and where they stand.
-use Rattle.std.specs.Prelude.{◌≡◌, ℕ, ◌+◌, ◌≤◌, Bool, false, nat_lt, List, length, slice_get, slice_index_or}
+use Rattle.std.specs.Prelude.{◌≡◌, ℕ, ◌+◌, ◌≤◌, Bool, false, nat_lt, List, length, filter, slice_get, slice_index_or}
 use Rattle.std.specs.Option.{option_map_or}
 use Rattle.rx_event.specs.declared.event.Event.{Event}
-use Rattle.rx_event.specs.Tree.{at}
+use Rattle.rx_event.specs.Tree.{at, places}
 use Rattle.rx_picture.specs.declared.drawing.Drawing.{Drawing}
 use Rattle.rx_picture.specs.Choice.{count_below, is_chosen}
 use Rattle.rx_picture.specs.Levels.{AreLevels}
 use Rattle.rx_picture.specs.Told.{marbles, ArePoints}
-use Rattle.rx_picture.specs.Rows.{AreRows, is_drawn, is_left, lane_of}
+use Rattle.rx_picture.specs.Rows.{AreRows, is_drawn, leaks, is_left, lane_of}
 
 -- at most 200 lanes: what leaks comes first
 abbrev pub is_shown : List Event → ℕ → Bool
@@ -32,6 +32,7 @@ pub record AreColumns (test : ℕ → Bool) (bound : ℕ) (columns : List ℕ) :
 pub record IsDrawing (h : List Event) (drawing : Drawing) : Type 0 where
   pub rows : AreRows h (is_rowed h) drawing.rows.items
   pub all : drawing.all ≡ count_below (at is_drawn h) (length h)
+  pub leaks : drawing.leaks.items ≡ filter (leaks h) (places h)
   pub marbles : drawing.marbles.items ≡ marbles (is_shown h) (is_placed h) h
   pub points : ArePoints h (is_placed h) drawing.points.items
   pub lanes : AreColumns (is_shown h) (length h) drawing.lanes.items

@@ -5,3 +5,4 @@ pub mod Tables
 pub mod Told
 pub mod Drawn
 pub mod Held
+pub mod Leaks

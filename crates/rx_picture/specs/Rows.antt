@@ -92,6 +92,10 @@ pub record AreRows (h : List Event) (shown : ℕ → Bool) (rows : List Row) : T
   pub numbers : map (λ row. row.number) rows ≡ filter (λ n. at has_row h n && shown n) (places h)
   pub each : AllByRecursion (IsRow h) rows
 
--- what leaks: an open node, or a resource that was never handed out, which is held or waits
+-- a resource that leaks: it was never handed out
+abbrev pub leaks : List Event → ℕ → Bool
+leaks h r = at makes_resource h r && not (is_taken h r)
+
+-- what is left behind the events: an open node, or a resource that leaks
 abbrev pub is_left : List Event → ℕ → Bool
-is_left h n = is_open h n || (at makes_resource h n && not (is_taken h n))
+is_left h n = is_open h n || leaks h n

@@ -10,6 +10,7 @@ ghost use Rattle.rx_picture.specs.Tables.{AreTables};
 use crate::choice::{choose, count_marks};
 use crate::columns::columns_of;
 use crate::lanes::row_marks;
+use crate::leaks::leaks_of;
 use crate::levels::levels_of;
 use crate::marbles::marbles_of;
 use crate::points::{Point, points_of};
@@ -19,7 +20,7 @@ use crate::tables::{Tables, drawn_marks, left_marks, tables_of};
 use rx_event::{Event, Mail};
 use std::alloc::{AllocError, Global};
 
-/// How many lanes are shown at most. What leaks comes first, by rising number, then the others.
+/// How many lanes are shown at most. What is left comes first, by rising number, then the others.
 const MOST_LANES: usize = 200;
 
 /// How many places are shown at most. Those at which a shown lane begins come first, by rising
@@ -33,6 +34,8 @@ pub struct Drawing {
     pub rows: Vec<Row>,
     /// How many lanes there would be without a limit.
     pub all: usize,
+    /// The resources that were never handed out, by rising number, whether or not they are shown.
+    pub leaks: Vec<u64>,
     /// What was told to whose lane is shown, by events whose place is, in order.
     pub marbles: Vec<Mail>,
     /// The places that are shown, by rising number.
@@ -94,9 +97,11 @@ pub fn draw(alloc: Global, events: &[Event]) -> Result<Drawing, AllocError>
     let columns = columns_of(alloc, &placed)?;
     let levels = levels_of(alloc, events)?;
     let all = count_marks(&drawn);
+    let leaks = leaks_of(alloc, events, &tables.taken)?;
     Ok(Drawing {
         rows,
         all,
+        leaks,
         marbles,
         points,
         lanes,

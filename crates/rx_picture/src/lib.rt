@@ -6,12 +6,13 @@
 //! had happened just before the event at place `k`.
 //!
 //! Promised: on any list of events there is one row for each node, hub, resource and lease whose lane
-//! is shown, by rising number. At most 200 lanes are shown: first those of what leaks, which is an open
+//! is shown, by rising number. At most 200 lanes are shown: first those of what is left, which is an open
 //! node or a resource that was never handed out, by rising number, then the others. At most 2,000
 //! places are shown: first those at which a shown lane begins, then the others. A node's line spans
 //! just the prefixes in which the definitions of `rx_event` say that it is open, and ends as the event
 //! says that closed it; a resource's bar spans just those in which its node owns it, and is taken from
-//! the one on in which they say that; a lease's row spans just those in which it is out. Each note that
+//! the one on in which they say that; a lease's row spans just those in which it is out. Each resource
+//! that was never handed out is on the list of what leaks, shown or not. Each note that
 //! goes to a shown lane from a shown place has its marble, in order. Nothing is assumed of the list: it
 //! need not be lawful.
 //!
@@ -26,6 +27,7 @@ mod drawing;
 mod firsts;
 mod lanes;
 mod laws;
+mod leaks;
 mod levels;
 mod lines;
 mod marbles;
@@ -36,6 +38,9 @@ mod shut;
 mod tables;
 
 pub use drawing::{Drawing, draw};
-pub use laws::a_resource_is_held_where_it_has_a_full_bar;
+pub use laws::{
+    a_resource_is_held_where_it_has_a_full_bar, a_row_is_leaking_where_its_resource_leaks,
+    what_leaks_is_held_or_waits,
+};
 pub use points::Point;
 pub use row::{Ending, Row, Shape};

@@ -1,13 +1,13 @@
 //! What is known of a whole history, by number.
 
 ghost use Rattle.std.specs.Prelude.{◌≡◌, ◌<◌, IfOk, length};
-ghost use Rattle.rx_event.specs.Events.{makes_resource};
 ghost use Rattle.rx_event.specs.Tree.{at};
 ghost use Rattle.rx_picture.specs.Rows.{is_drawn, is_left};
 ghost use Rattle.rx_picture.specs.Choice.{AreMarks};
 ghost use Rattle.rx_picture.specs.Tables.{AreTables, AreTurns, AreLines, was_taken};
 
 use crate::firsts::{removals, returns, takings, value_at};
+use crate::leaks::is_leak;
 use crate::lines::line_ends;
 use crate::shut::shuttings;
 use rx_event::Event;
@@ -53,17 +53,7 @@ fn is_drawn_at(events: &[Event], n: usize) -> bool
     }
 }
 
-/// Whether the event at the place makes a resource.
-fn is_resource_at(events: &[Event], n: usize) -> bool
-    ensures { result ≡ at makes_resource events.now n }
-{
-    match events.get(n).copied() {
-        Some(event) => event.makes_resource(),
-        None => false,
-    }
-}
-
-/// Whether number `n` leaks: an open node, or a resource that was never handed out.
+/// Whether number `n` is left: an open node, or a resource that was never handed out.
 fn is_left(events: &[Event], taken: &[usize], ends: &[usize], n: usize) -> bool
     requires taken { AreTurns events.now was_taken (length events.now) taken.now }
     requires ends { AreLines events.now (length events.now) ends.now }
@@ -73,13 +63,10 @@ fn is_left(events: &[Event], taken: &[usize], ends: &[usize], n: usize) -> bool
     if value_at(ends, n as u64) >= events.len() {
         return true;
     }
-    if value_at(taken, n as u64) < events.len() {
-        return false;
-    }
-    is_resource_at(events, n)
+    is_leak(events, taken, n)
 }
 
-/// Marks what leaks.
+/// Marks what is left.
 pub fn left_marks(alloc: Global, events: &[Event], tables: &Tables) -> Result<Vec<bool>, AllocError>
     requires { AreTables events.now tables.now }
     ensures { IfOk result (λ v. AreMarks v.items (length events.now) (is_left events.now)) }

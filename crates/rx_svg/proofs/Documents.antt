@@ -1,6 +1,7 @@
 -- The document of a drawing is well formed, whatever the drawing and the verdict are.
 use Rattle.std.proofs.Common.{◌≡◌, ℕ, ◌+◌, ◌-◌, true, List, [], ◌∷◌, ◌++◌, map, codes, flat_map}
 use Rattle.std.proofs.Common.{length, take, drop, refl, sym, ap, subst, ◌∙◌, append_assoc, append-nil}
+use Rattle.std.specs.Prelude.{◌==◌}
 use Rattle.std.proofs.lemmas.Bool.{and_from}
 use Rattle.rx_audit.specs.declared.verdict.Verdict.{Verdict}
 use Rattle.rx_audit.specs.declared.verdict.Verdict.TheVariants.{Lawful, Unlawful, Unsettled}
@@ -9,9 +10,10 @@ use Rattle.rx_picture.specs.declared.drawing.Drawing.{Drawing}
 use Rattle.rx_svg.specs.Parts.{Part, words, number, text_of}
 use Rattle.rx_svg.specs.Lane.{x_of, row_text, tick_text, told_text}
 use Rattle.rx_svg.specs.Page.{lanes_shown, places_shown, height_of, style_text, head_text, point_text, below_text, listed_text, list_text}
-use Rattle.rx_svg.specs.Page.{untaken_text, lawful_text, unlawful_text, unsettled_text, verdict_text, break_text, shares_text, under_text, lanes_text, svg_text}
+use Rattle.rx_svg.specs.Page.{untaken_text, lawful_text, unlawful_text, unsettled_text, verdict_text, leak_words, count_text, leaking_text, leaks_text, leaks_class}
+use Rattle.rx_svg.specs.Page.{break_text, shares_text, verdict_line, leaks_line, shares_line, under_text, lanes_text, svg_text}
 use Rattle.rx_svg.specs.WellFormed.{is_plain, IsContent, nothing, IsWellFormed}
-use Rattle.rx_svg.proofs.Characters.{plain_append, plain_flat_map}
+use Rattle.rx_svg.proofs.Characters.{both_are_plain, plain_append, plain_flat_map}
 use Rattle.rx_svg.proofs.Contents.{content_append, contents}
 use Rattle.rx_svg.proofs.Markup.{Valued, text_from, text_from-append, attribute_of, element_parts, element_reads}
 use Rattle.rx_svg.proofs.Markup.{tag_of, element_then, words_then, content_then, parts_are_plain, plain_parts, newline}
@@ -62,27 +64,51 @@ shares_is_plain d end =
     (number (lanes_shown d end) ∷ words (codes " of ") ∷ number d.all ∷ words (codes " lanes and ") ∷ number (places_shown d end)
     ∷ words (codes " of ") ∷ number end ∷ words (codes " places are drawn") ∷ []) refl
 
-below_is_content : (y : ℕ) (text : List ℕ) → is_plain text ≡ true → IsContent (below_text y ++ text ++ codes "</text>\n")
-unfolding below_text text_of
-below_is_content y text plain =
-    let front : List Part = words (codes "<text x=\"10\" y=\"") ∷ number y ∷ words (codes "\">") ∷ [] in
-    let attributes : List Valued = valued (codes "x") (words (codes "10") ∷ []) ∷ valued (codes "y") (number y ∷ []) ∷ [] in
-    subst IsContent (between front (words (codes "</text>\n") ∷ []) text)
-    (text_content attributes (words text ∷ []) refl refl (and_from _ _ plain refl))
+count_is_plain : (n : ℕ) (ending : List ℕ) → is_plain ending ≡ true → is_plain (count_text n ending) ≡ true
+unfolding count_text text_of
+count_is_plain n ending plain = parts_are_plain (number n ∷ words ending ∷ []) (and_from _ _ plain refl)
 
-three_and_three : (a b c d e f : List ℕ) → (a ++ b ++ c) ++ (d ++ e ++ f) ≡ a ++ b ++ c ++ d ++ e ++ f
-three_and_three a b c d e f = simp append_assoc
+leaking_is_plain : (leaks : List ℕ) → is_plain (leaking_text leaks) ≡ true
+unfolding leaking_text
+leaking_is_plain leaks =
+    plain_append (count_text (length leaks) (leak_words (length leaks))) (flat_map listed_text leaks)
+    (count_is_plain (length leaks) (leak_words (length leaks)) (both_are_plain (length leaks == 1) _ _ refl refl))
+    (plain_flat_map listed_text listed_is_plain leaks)
+
+leaks_are_plain : (leaks : List ℕ) → is_plain (leaks_text leaks) ≡ true
+leaks_are_plain leaks = both_are_plain (length leaks == 0) _ _ refl (leaking_is_plain leaks)
+
+below_is_content : (class : List ℕ) (y : ℕ) (text : List ℕ) → is_plain class ≡ true → is_plain text ≡ true
+    → IsContent (below_text class y ++ text ++ codes "</text>\n")
+unfolding below_text text_of
+below_is_content class y text of_class plain =
+    let front : List Part =
+    words (codes "<text class=\"") ∷ words class ∷ words (codes "\" x=\"10\" y=\"") ∷ number y ∷ words (codes "\">") ∷ [] in
+    let attributes : List Valued =
+    valued (codes "class") (words class ∷ []) ∷ valued (codes "x") (words (codes "10") ∷ []) ∷ valued (codes "y") (number y ∷ []) ∷ [] in
+    subst IsContent (between front (words (codes "</text>\n") ∷ []) text)
+    (text_content attributes (words text ∷ []) (and_from _ _ (and_from _ _ of_class refl) refl) refl (and_from _ _ plain refl))
+
+verdict_is_content : (height : ℕ) (verdict : Verdict) → IsContent (verdict_line height verdict)
+unfolding verdict_line
+verdict_is_content height verdict = below_is_content (codes "under") (height + 48) (verdict_text verdict) refl (verdict_is_plain verdict)
+
+leaks_are_content : (height : ℕ) (leaks : List ℕ) → IsContent (leaks_line height leaks)
+unfolding leaks_line
+leaks_are_content height leaks =
+    below_is_content (leaks_class leaks) (height + 72) (leaks_text leaks) (both_are_plain (length leaks == 0) _ _ refl refl) (leaks_are_plain leaks)
+
+shares_are_content : (d : Drawing) (end height : ℕ) → IsContent (shares_line d end height)
+unfolding shares_line
+shares_are_content d end height = below_is_content (codes "under") (height + 96) (shares_text d end) refl (shares_is_plain d end)
 
 under_is_content : (d : Drawing) (end height : ℕ) (verdict : Verdict) → IsContent (under_text d end height verdict)
 unfolding under_text
 under_is_content d end height verdict =
-    let ending = codes "</text>\n" in
-    let first = below_text (height + 48) in
-    let second = below_text (height + 72) in
-    subst IsContent (three_and_three first (verdict_text verdict) ending second (shares_text d end) ending)
-    (content_append (first ++ verdict_text verdict ++ ending) (second ++ shares_text d end ++ ending)
-    (below_is_content (height + 48) (verdict_text verdict) (verdict_is_plain verdict))
-    (below_is_content (height + 72) (shares_text d end) (shares_is_plain d end)))
+    let leaks = d.leaks.items in
+    content_append (verdict_line height verdict ++ leaks_line height leaks) (shares_line d end height)
+    (content_append (verdict_line height verdict) (leaks_line height leaks) (verdict_is_content height verdict) (leaks_are_content height leaks))
+    (shares_are_content d end height)
 
 -- the lanes ---------------------------------------------------------------------------------------
 
@@ -172,5 +198,5 @@ pub svg_is_well_formed : (d : Drawing) (end : ℕ) (verdict : Verdict) → IsWel
 unfolding svg_text
 svg_is_well_formed d end verdict =
     let height = height_of d end in
-    document_is_well_formed (x_of d end + 50) (height + 84) (lanes_text d end height verdict) (under_text d end height verdict)
+    document_is_well_formed (x_of d end + 130) (height + 108) (lanes_text d end height verdict) (under_text d end height verdict)
     (lanes_are_content d end height verdict) (under_is_content d end height verdict)

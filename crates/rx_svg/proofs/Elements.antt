@@ -9,7 +9,8 @@ use Rattle.rx_event.specs.declared.event.Event.{Event}
 use Rattle.rx_svg.specs.Parts.{Part, words, number, signed, text_of}
 use Rattle.rx_svg.specs.Label.{event_text}
 use Rattle.rx_svg.specs.Said.{note_text}
-use Rattle.rx_svg.specs.Stroke.{Stretch, Look, until_text, stretch_end, line_front, line_text, bar_front, bar_text, mark_text, code_text, leak_text}
+use Rattle.rx_svg.specs.Stroke.{Stretch, Look, until_text, stretch_end, line_front, line_text, bar_front, bar_text, mark_text, code_text}
+use Rattle.rx_svg.specs.Stroke.{arrow_text, unreleased_text, leak_text}
 use Rattle.rx_svg.specs.Stroke.{marble_shape, above_text, value_text, marble_front, by_text, marble_text, column_front, axis_text, column_text, broken_text}
 use Rattle.rx_svg.specs.WellFormed.{is_plain, are_distinct, IsContent, nothing}
 use Rattle.rx_svg.proofs.Characters.{both_are_plain, event_is_plain, note_is_plain}
@@ -97,11 +98,23 @@ mark_is_content class shape title x y at plain =
     let told : List Part = words title ∷ words (codes " by event ") ∷ number at ∷ [] in
     path_then class drawn told (words (codes "\n") ∷ []) of_class.0 (and_from _ _ of_shape.0 refl) (and_from _ _ of_title.0 refl) newline
 
-pub leak_is_content : (x y : ℕ) → IsContent (leak_text x y)
-unfolding leak_text text_of
-leak_is_content x y =
+arrow_is_content : (x y : ℕ) → IsContent (arrow_text x y)
+unfolding arrow_text text_of
+arrow_is_content x y =
     let drawn : List Part = words (codes "M") ∷ number x ∷ words (codes " ") ∷ number y ∷ words (codes "m0 -9l15 9l-15 9z") ∷ [] in
-    path_then (codes "leak") drawn (words (codes "never released") ∷ []) (words (codes "\n") ∷ []) refl refl refl newline
+    path_then (codes "arrow leak") drawn (words (codes "not released") ∷ []) (words (codes "\n") ∷ []) refl refl refl newline
+
+unreleased_is_content : (x y : ℕ) → IsContent (unreleased_text x y)
+unfolding unreleased_text text_of
+unreleased_is_content x y =
+    let attributes : List Valued =
+    valued (codes "class") (words (codes "leak") ∷ []) ∷ valued (codes "x") (number x ∷ []) ∷ valued (codes "y") (number y ∷ [])
+    ∷ valued (codes "dx") (words (codes "20") ∷ []) ∷ valued (codes "dy") (words (codes "4") ∷ []) ∷ [] in
+    text_content attributes (words (codes "not released") ∷ []) refl refl refl
+
+pub leak_is_content : (x y : ℕ) → IsContent (leak_text x y)
+unfolding leak_text
+leak_is_content x y = content_append (arrow_text x y) (unreleased_text x y) (arrow_is_content x y) (unreleased_is_content x y)
 
 pub broken_is_content : (x height place : ℕ) → IsContent (broken_text x height place)
 unfolding broken_text text_of

@@ -1,6 +1,5 @@
 -- What stands in the lanes of a picture is content, whatever the drawing is.
-use Rattle.std.proofs.Common.{◌≡◌, ℕ, ◌*◌, true, List, [], ◌∷◌, ◌++◌, codes, nat_lt, refl, subst}
-use Rattle.std.specs.Prelude.{◌==◌}
+use Rattle.std.proofs.Common.{◌≡◌, ℕ, ◌*◌, Bool, true, false, List, [], ◌∷◌, ◌++◌, codes, nat_lt, refl, subst}
 use Rattle.std.proofs.lemmas.Bool.{and_from}
 use Rattle.rx_note.specs.declared.note.Terminal.TheVariants.{Completed, Error}
 use Rattle.rx_event.specs.declared.event.Event.{Event}
@@ -14,11 +13,12 @@ use Rattle.rx_picture.specs.declared.row.Row.{Row}
 use Rattle.rx_picture.specs.declared.points.Point.{Point}
 use Rattle.rx_picture.specs.declared.drawing.Drawing.{Drawing}
 use Rattle.rx_picture.specs.Rows.{lane_of}
+use Rattle.rx_picture.specs.Leaks.{is_leaking_row}
 use Rattle.rx_svg.specs.Parts.{Part, words, number, text_of}
 use Rattle.rx_svg.specs.Label.{event_text}
 use Rattle.rx_svg.specs.Stroke.{Look, mark_text, code_text, line_text, leak_text, bar_text, bar_shape, cross_shape, ring_shape, diamond_shape, tick_shape}
 use Rattle.rx_svg.specs.Lane.{x_of, y_of, stretch_of, has_lane, steps_of, label_front, label_text, ending_text, life_text, stretch_text}
-use Rattle.rx_svg.specs.Lane.{owned_text, loan_text, wait_text, release_text, shape_text, name_text, row_text, use_text, tick_text, told_text}
+use Rattle.rx_svg.specs.Lane.{owned_look, loan_look, wait_look, owned_text, loan_text, wait_text, release_text, shape_text, name_text, row_text, use_text, tick_text, told_text}
 use Rattle.rx_svg.specs.WellFormed.{IsContent, nothing}
 use Rattle.rx_svg.proofs.Characters.{event_is_plain}
 use Rattle.rx_svg.proofs.Markup.{are_plain}
@@ -61,39 +61,52 @@ stretch_is_content : (d : Drawing) (look : Look) (y after until end : ℕ) → a
 stretch_is_content d look y after until end plain =
     content_if (nat_lt after until) (bar_text look (stretch_of d y after until end)) [] (bar_is_content look (stretch_of d y after until end) plain) nothing
 
-owned_is_content : (d : Drawing) (y after until end : ℕ) → IsContent (owned_text d y after until end)
-owned_is_content d y after until end = stretch_is_content d _ y after until end refl
+owned_is_plain : (leaking : Bool) → are_plain (words_of (owned_look leaking)) ≡ true
+owned_is_plain true = refl
+owned_is_plain false = refl
 
-loan_is_content : (d : Drawing) (y after until end : ℕ) → IsContent (loan_text d y after until end)
-loan_is_content d y after until end = stretch_is_content d _ y after until end refl
+loan_is_plain : (leaking : Bool) → are_plain (words_of (loan_look leaking)) ≡ true
+loan_is_plain true = refl
+loan_is_plain false = refl
 
-wait_is_content : (d : Drawing) (y after until end : ℕ) → IsContent (wait_text d y after until end)
-wait_is_content d y after until end = stretch_is_content d _ y after until end refl
+wait_is_plain : (leaking : Bool) → are_plain (words_of (wait_look leaking)) ≡ true
+wait_is_plain true = refl
+wait_is_plain false = refl
 
-release_is_content : (d : Drawing) (y taken end : ℕ) → IsContent (release_text d y taken end)
-release_is_content d y taken end =
-    content_if (taken == end) (leak_text (x_of d end) y) (mark_text (codes "mark") diamond_shape (codes "released") (x_of d taken) y taken)
-    (leak_is_content (x_of d end) y) (mark_is_content (codes "mark") diamond_shape (codes "released") (x_of d taken) y taken refl)
+owned_is_content : (d : Drawing) (leaking : Bool) (y after until end : ℕ) → IsContent (owned_text d leaking y after until end)
+owned_is_content d leaking y after until end = stretch_is_content d (owned_look leaking) y after until end (owned_is_plain leaking)
 
-shape_is_content : (d : Drawing) (y n end : ℕ) (shape : Shape) → IsContent (shape_text d y n end shape)
-shape_is_content d y n end (Node until ending) = life_is_content d y n until end ending
-shape_is_content d y n end Hub = line_is_content (codes "hub") (codes "a hub") (stretch_of d y n end end) refl
-shape_is_content d y n end (Resource after until taken) =
-    let waits = wait_text d y n after end in
-    let waits_again = wait_text d y until taken end in
-    let owned = owned_text d y after until end in
-    content_append (waits ++ waits_again ++ owned) (release_text d y taken end)
+loan_is_content : (d : Drawing) (leaking : Bool) (y after until end : ℕ) → IsContent (loan_text d leaking y after until end)
+loan_is_content d leaking y after until end = stretch_is_content d (loan_look leaking) y after until end (loan_is_plain leaking)
+
+wait_is_content : (d : Drawing) (leaking : Bool) (y after until end : ℕ) → IsContent (wait_text d leaking y after until end)
+wait_is_content d leaking y after until end = stretch_is_content d (wait_look leaking) y after until end (wait_is_plain leaking)
+
+release_is_content : (d : Drawing) (leaking : Bool) (y taken : ℕ) → IsContent (release_text d leaking y taken)
+release_is_content d leaking y taken =
+    content_if leaking (leak_text (x_of d taken) y) (mark_text (codes "mark") diamond_shape (codes "released") (x_of d taken) y taken)
+    (leak_is_content (x_of d taken) y) (mark_is_content (codes "mark") diamond_shape (codes "released") (x_of d taken) y taken refl)
+
+shape_is_content : (d : Drawing) (leaking : Bool) (y n end : ℕ) (shape : Shape) → IsContent (shape_text d leaking y n end shape)
+shape_is_content d leaking y n end (Node until ending) = life_is_content d y n until end ending
+shape_is_content d leaking y n end Hub = line_is_content (codes "hub") (codes "a hub") (stretch_of d y n end end) refl
+shape_is_content d leaking y n end (Resource after until taken) =
+    let waits = wait_text d leaking y n after end in
+    let waits_again = wait_text d leaking y until taken end in
+    let owned = owned_text d leaking y after until end in
+    content_append (waits ++ waits_again ++ owned) (release_text d leaking y taken)
     (content_append (waits ++ waits_again) owned
-    (content_append waits waits_again (wait_is_content d y n after end) (wait_is_content d y until taken end))
-    (owned_is_content d y after until end)) (release_is_content d y taken end)
-shape_is_content d y n end (Loan resource until) = loan_is_content d y n until end
+    (content_append waits waits_again (wait_is_content d leaking y n after end) (wait_is_content d leaking y until taken end))
+    (owned_is_content d leaking y after until end)) (release_is_content d leaking y taken)
+shape_is_content d leaking y n end (Loan resource until) = loan_is_content d leaking y n until end
 
 pub row_is_content : (d : Drawing) (end : ℕ) (row : Row) → IsContent (row_text d end row)
 unfolding row_text
 row_is_content d end row =
     let y = y_of d (lane_of row.number row.made) in
-    content_append (name_text d row.number row.made) (shape_text d y row.number end row.shape)
-    (name_is_content d row.number row.made) (shape_is_content d y row.number end row.shape)
+    let leaking = is_leaking_row end row in
+    content_append (name_text d row.number row.made) (shape_text d leaking y row.number end row.shape)
+    (name_is_content d row.number row.made) (shape_is_content d leaking y row.number end row.shape)
 
 use_is_content : (d : Drawing) (place : ℕ) (event : Event) → IsContent (use_text d place event)
 use_is_content d place (Use r) =

@@ -1,5 +1,5 @@
 -- What stands in the lanes of a picture.
-use Rattle.std.specs.Prelude.{ℕ, ◌+◌, ◌*◌, ◌==◌, Bool, ◌&&◌, min, nat_lt, if◌then◌else◌, List, [], ◌∷◌, ◌++◌, codes, length, slice_index_or}
+use Rattle.std.specs.Prelude.{ℕ, ◌+◌, ◌*◌, Bool, ◌&&◌, min, nat_lt, if◌then◌else◌, List, [], ◌∷◌, ◌++◌, codes, length, slice_index_or}
 use Rattle.rx_note.specs.declared.note.Terminal.TheVariants.{Completed, Error}
 use Rattle.rx_event.specs.declared.event.Event.{Event}
 use Rattle.rx_event.specs.declared.event.Event.TheVariants.{Accept, Lease, Use}
@@ -12,6 +12,7 @@ use Rattle.rx_picture.specs.declared.row.Row.{Row}
 use Rattle.rx_picture.specs.declared.points.Point.{Point}
 use Rattle.rx_picture.specs.declared.drawing.Drawing.{Drawing}
 use Rattle.rx_picture.specs.Rows.{lane_of}
+use Rattle.rx_picture.specs.Leaks.{is_leaking_row}
 use Rattle.rx_svg.specs.Parts.{words, number, text_of}
 use Rattle.rx_svg.specs.Label.{event_text}
 use Rattle.rx_svg.specs.Stroke.{Stretch, Look, line_text, bar_text, mark_text, code_text, leak_text}
@@ -68,27 +69,44 @@ life_text d y n until end ending =
 abbrev pub stretch_text : Drawing → Look → ℕ → ℕ → ℕ → ℕ → List ℕ
 stretch_text d look y after until end = if nat_lt after until then bar_text look (stretch_of d y after until end) else []
 
-abbrev pub owned_text : Drawing → ℕ → ℕ → ℕ → ℕ → List ℕ
-owned_text d = stretch_text d (record { class = codes "held"; title = codes "held by its node"; above = codes "5"; height = codes "10" })
+-- what leaks has a colour of its own
+abbrev pub held_class : Bool → List ℕ
+held_class leaking = if leaking then codes "held leak" else codes "held"
 
-abbrev pub loan_text : Drawing → ℕ → ℕ → ℕ → ℕ → List ℕ
-loan_text d = stretch_text d (record { class = codes "held"; title = codes "held by a lease"; above = codes "3"; height = codes "6" })
+abbrev pub wait_class : Bool → List ℕ
+wait_class leaking = if leaking then codes "waiting leak" else codes "waiting"
 
-abbrev pub wait_text : Drawing → ℕ → ℕ → ℕ → ℕ → List ℕ
-wait_text d =
-    stretch_text d (record { class = codes "waiting"; title = codes "waits, but where a lease holds it,"; above = codes "5"; height = codes "10" })
+abbrev pub owned_look : Bool → Look
+owned_look leaking = record { class = held_class leaking; title = codes "held by its node"; above = codes "5"; height = codes "10" }
 
--- a diamond where it is released, an arrow where it never was
-abbrev pub release_text : Drawing → ℕ → ℕ → ℕ → List ℕ
-release_text d y taken end =
-    if taken == end then leak_text (x_of d end) y else mark_text (codes "mark") diamond_shape (codes "released") (x_of d taken) y taken
+abbrev pub loan_look : Bool → Look
+loan_look leaking = record { class = held_class leaking; title = codes "held by a lease"; above = codes "3"; height = codes "6" }
 
-abbrev pub shape_text : Drawing → ℕ → ℕ → ℕ → Shape → List ℕ
-shape_text d y n end (Node until ending) = life_text d y n until end ending
-shape_text d y n end Hub = line_text (codes "hub") (codes "a hub") (stretch_of d y n end end)
-shape_text d y n end (Resource after until taken) =
-    wait_text d y n after end ++ wait_text d y until taken end ++ owned_text d y after until end ++ release_text d y taken end
-shape_text d y n end (Loan resource until) = loan_text d y n until end
+abbrev pub wait_look : Bool → Look
+wait_look leaking =
+    record { class = wait_class leaking; title = codes "waits, but where a lease holds it,"; above = codes "5"; height = codes "10" }
+
+abbrev pub owned_text : Drawing → Bool → ℕ → ℕ → ℕ → ℕ → List ℕ
+owned_text d leaking = stretch_text d (owned_look leaking)
+
+abbrev pub loan_text : Drawing → Bool → ℕ → ℕ → ℕ → ℕ → List ℕ
+loan_text d leaking = stretch_text d (loan_look leaking)
+
+abbrev pub wait_text : Drawing → Bool → ℕ → ℕ → ℕ → ℕ → List ℕ
+wait_text d leaking = stretch_text d (wait_look leaking)
+
+-- a diamond where it is released, an arrow and words where it never was
+abbrev pub release_text : Drawing → Bool → ℕ → ℕ → List ℕ
+release_text d leaking y taken =
+    if leaking then leak_text (x_of d taken) y else mark_text (codes "mark") diamond_shape (codes "released") (x_of d taken) y taken
+
+abbrev pub shape_text : Drawing → Bool → ℕ → ℕ → ℕ → Shape → List ℕ
+shape_text d leaking y n end (Node until ending) = life_text d y n until end ending
+shape_text d leaking y n end Hub = line_text (codes "hub") (codes "a hub") (stretch_of d y n end end)
+shape_text d leaking y n end (Resource after until taken) =
+    wait_text d leaking y n after end ++ wait_text d leaking y until taken end ++ owned_text d leaking y after until end
+    ++ release_text d leaking y taken
+shape_text d leaking y n end (Loan resource until) = loan_text d leaking y n until end
 
 -- a lease has no label, and lies in the lane of its resource
 abbrev pub name_text : Drawing → ℕ → Event → List ℕ
@@ -96,7 +114,9 @@ name_text d n (Lease r) = []
 name_text d n made = label_text (10 * steps_of d n made) (y_of d n) n made
 
 unfoldable pub row_text : Drawing → ℕ → Row → List ℕ
-row_text d end row = name_text d row.number row.made ++ shape_text d (y_of d (lane_of row.number row.made)) row.number end row.shape
+row_text d end row =
+    name_text d row.number row.made
+    ++ shape_text d (is_leaking_row end row) (y_of d (lane_of row.number row.made)) row.number end row.shape
 
 -- marks -------------------------------------------------------------------------------------------
 

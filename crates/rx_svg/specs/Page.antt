@@ -1,5 +1,5 @@
 -- The SVG document of a drawing, with the verdict of the audit.
-use Rattle.std.specs.Prelude.{◌≡◌, ℕ, ◌+◌, ◌*◌, min, List, [], ◌∷◌, ◌++◌, codes, flat_map, length, slice_index_or}
+use Rattle.std.specs.Prelude.{◌≡◌, ℕ, ◌+◌, ◌*◌, ◌==◌, min, if◌then◌else◌, List, [], ◌∷◌, ◌++◌, codes, flat_map, length, slice_index_or}
 use Rattle.rx_event.specs.declared.event.Event.{Event}
 use Rattle.rx_audit.specs.declared.verdict.Verdict.{Verdict}
 use Rattle.rx_audit.specs.declared.verdict.Verdict.TheVariants.{Lawful, Unlawful, Unsettled}
@@ -28,10 +28,12 @@ style_text =
     codes "<style>text{font:12px monospace;fill:#222}.axis{font-size:8px;text-anchor:middle}"
     ++ codes ".value{font-size:10px;text-anchor:middle}path{stroke:#222;stroke-width:2;fill:none}"
     ++ codes ".place{stroke:#ddd;stroke-width:1;pointer-events:all}.hub{stroke-dasharray:2 4}"
-    ++ codes ".held,.leak{fill:#222}.waiting{fill:#fff;stroke-dasharray:3 3}.ring,.marble{fill:#fff}"
+    ++ codes ".held{fill:#222}.waiting{fill:#fff;stroke-dasharray:3 3}.ring,.marble{fill:#fff}"
+    ++ codes "path.leak{stroke:#c22}text.leak,.held.leak,.arrow{fill:#c22}"
     ++ codes ".tick{stroke:#fff}.broken{stroke-width:5;stroke-dasharray:9 5}"
     ++ codes "@media(prefers-color-scheme:dark){svg{background:#111}text{fill:#eee}path{stroke:#eee}"
-    ++ codes ".place{stroke:#333}.held,.leak{fill:#eee}.waiting,.ring,.marble{fill:#111}.tick{stroke:#111}}</style>\n"
+    ++ codes ".place{stroke:#333}.held{fill:#eee}.waiting,.ring,.marble{fill:#111}.tick{stroke:#111}"
+    ++ codes "path.leak{stroke:#f66}text.leak,.held.leak,.arrow{fill:#f66}}</style>\n"
 
 unfoldable pub head_text : ℕ → ℕ → List ℕ
 head_text width height =
@@ -43,9 +45,10 @@ point_text d height point = column_text (x_of d point.place) height point.place 
 
 -- what stands under the picture -------------------------------------------------------------------
 
--- the line of this number under the lanes, up to its words
-unfoldable pub below_text : ℕ → List ℕ
-below_text y = text_of (words (codes "<text x=\"10\" y=\"") ∷ number y ∷ words (codes "\">") ∷ [])
+-- a line of text of this class under the lanes, up to its words
+unfoldable pub below_text : List ℕ → ℕ → List ℕ
+below_text class y =
+    text_of (words (codes "<text class=\"") ∷ words class ∷ words (codes "\" x=\"10\" y=\"") ∷ number y ∷ words (codes "\">") ∷ [])
 
 unfoldable pub listed_text : ℕ → List ℕ
 listed_text n = text_of (words (codes " ") ∷ number n ∷ [])
@@ -71,6 +74,23 @@ verdict_text (Lawful live held waiting) = lawful_text live.items held.items wait
 verdict_text (Unlawful place) = unlawful_text place
 verdict_text Unsettled = unsettled_text
 
+-- how many resources leak, and which
+abbrev pub leak_words : ℕ → List ℕ
+leak_words n = if n == 1 then codes " resource leaks:" else codes " resources leak:"
+
+unfoldable pub count_text : ℕ → List ℕ → List ℕ
+count_text n ending = text_of (number n ∷ words ending ∷ [])
+
+unfoldable pub leaking_text : List ℕ → List ℕ
+leaking_text leaks = count_text (length leaks) (leak_words (length leaks)) ++ flat_map listed_text leaks
+
+abbrev pub leaks_text : List ℕ → List ℕ
+leaks_text leaks = if length leaks == 0 then codes "no resource leaks" else leaking_text leaks
+
+-- a line about leaks has their colour
+abbrev pub leaks_class : List ℕ → List ℕ
+leaks_class leaks = if length leaks == 0 then codes "under" else codes "leak"
+
 abbrev pub break_text : Drawing → ℕ → Verdict → List ℕ
 break_text d height (Unlawful place) = broken_text (x_of d place) height place
 break_text d height _ = []
@@ -80,9 +100,18 @@ shares_text d end =
     text_of (number (lanes_shown d end) ∷ words (codes " of ") ∷ number d.all ∷ words (codes " lanes and ") ∷ number (places_shown d end)
     ∷ words (codes " of ") ∷ number end ∷ words (codes " places are drawn") ∷ [])
 
+-- three lines under lanes that are so high
+unfoldable pub verdict_line : ℕ → Verdict → List ℕ
+verdict_line height verdict = below_text (codes "under") (height + 48) ++ verdict_text verdict ++ codes "</text>\n"
+
+unfoldable pub leaks_line : ℕ → List ℕ → List ℕ
+leaks_line height leaks = below_text (leaks_class leaks) (height + 72) ++ leaks_text leaks ++ codes "</text>\n"
+
+unfoldable pub shares_line : Drawing → ℕ → ℕ → List ℕ
+shares_line d end height = below_text (codes "under") (height + 96) ++ shares_text d end ++ codes "</text>\n"
+
 unfoldable pub under_text : Drawing → ℕ → ℕ → Verdict → List ℕ
-under_text d end height verdict =
-    below_text (height + 48) ++ verdict_text verdict ++ codes "</text>\n" ++ below_text (height + 72) ++ shares_text d end ++ codes "</text>\n"
+under_text d end height verdict = verdict_line height verdict ++ leaks_line height d.leaks.items ++ shares_line d end height
 
 -- the whole ---------------------------------------------------------------------------------------
 
@@ -94,7 +123,7 @@ lanes_text d end height verdict =
 -- the document of a drawing of so many events
 unfoldable pub svg_text : Drawing → ℕ → Verdict → List ℕ
 svg_text d end verdict =
-    head_text (x_of d end + 50) (height_of d end + 84) ++ lanes_text d end (height_of d end) verdict
+    head_text (x_of d end + 130) (height_of d end + 108) ++ lanes_text d end (height_of d end) verdict
     ++ under_text d end (height_of d end) verdict ++ codes "</svg>\n"
 
 -- the text is the document of the drawing of these events, with the verdict on them, and a well-formed one

@@ -85,10 +85,19 @@ code_text x y code =
     ∷ words (codes "</text>\n") ∷ [])
 
 -- the arrow of a resource that was never released
+unfoldable pub arrow_text : ℕ → ℕ → List ℕ
+arrow_text x y =
+    text_of (words (codes "<path class=\"arrow leak\" d=\"M") ∷ number x ∷ words (codes " ") ∷ number y
+    ∷ words (codes "m0 -9l15 9l-15 9z\"><title>not released</title></path>\n") ∷ [])
+
+-- the words behind it
+unfoldable pub unreleased_text : ℕ → ℕ → List ℕ
+unreleased_text x y =
+    text_of (words (codes "<text class=\"leak\" x=\"") ∷ number x ∷ words (codes "\" y=\"") ∷ number y
+    ∷ words (codes "\" dx=\"20\" dy=\"4\">not released</text>\n") ∷ [])
+
 unfoldable pub leak_text : ℕ → ℕ → List ℕ
-leak_text x y =
-    text_of (words (codes "<path class=\"leak\" d=\"M") ∷ number x ∷ words (codes " ") ∷ number y
-    ∷ words (codes "m0 -9l15 9l-15 9z\"><title>never released</title></path>\n") ∷ [])
+leak_text x y = arrow_text x y ++ unreleased_text x y
 
 -- marbles -----------------------------------------------------------------------------------------
 

@@ -2,8 +2,9 @@
 
 ghost use Rattle.std.specs.Prelude.{◌≡◌, ◌++◌, ◌≤◌, ◌*◌, string_bytes, OnOk, slice_index_or};
 ghost use Rattle.rx_picture.specs.Rows.{lane_of};
+ghost use Rattle.rx_picture.specs.Leaks.{is_leaking};
 ghost use Rattle.rx_svg.specs.Lane.{x_of, y_of, has_lane, steps_of, label_front, label_text, ending_text, life_text, stretch_text};
-ghost use Rattle.rx_svg.specs.Lane.{owned_text, loan_text, wait_text, release_text, shape_text, name_text, row_text, use_text, tick_text, told_text};
+ghost use Rattle.rx_svg.specs.Lane.{held_class, wait_class, owned_text, loan_text, wait_text, release_text, shape_text, name_text, row_text, use_text, tick_text, told_text};
 
 use crate::labels::push_event;
 use crate::pieces::{Piece, push_pieces};
@@ -152,84 +153,83 @@ fn push_stretch(
     )
 }
 
+/// The class of a full bar.
+fn held_class(leaking: bool) -> &'static str
+    ensures { result.now ≡ held_class leaking }
+{
+    if leaking { "held leak" } else { "held" }
+}
+
+/// The class of a hollow bar.
+fn wait_class(leaking: bool) -> &'static str
+    ensures { result.now ≡ wait_class leaking }
+{
+    if leaking { "waiting leak" } else { "waiting" }
+}
+
 /// The bar of a resource while its node owns it.
 fn push_owned(
     text: &mut String,
     drawing: &Drawing,
+    leaking: bool,
     y: u64,
     after: u64,
     until: u64,
     end: u64,
 ) -> Result<(), AllocError>
-    ensures { OnOk result (string_bytes text.new ≡ string_bytes text.old ++ owned_text drawing.now y after until end) }
+    ensures { OnOk result (string_bytes text.new ≡ string_bytes text.old ++ owned_text drawing.now leaking y after until end) }
 {
-    push_stretch(
-        text,
-        drawing,
-        "held",
-        "held by its node",
-        "5",
-        "10",
-        y,
-        after,
-        until,
-        end,
-    )
+    let class = held_class(leaking);
+    let title = "held by its node";
+    push_stretch(text, drawing, class, title, "5", "10", y, after, until, end)
 }
 
 /// The bar of a resource while a lease of it is out.
 fn push_loan(
     text: &mut String,
     drawing: &Drawing,
+    leaking: bool,
     y: u64,
     after: u64,
     until: u64,
     end: u64,
 ) -> Result<(), AllocError>
-    ensures { OnOk result (string_bytes text.new ≡ string_bytes text.old ++ loan_text drawing.now y after until end) }
+    ensures { OnOk result (string_bytes text.new ≡ string_bytes text.old ++ loan_text drawing.now leaking y after until end) }
 {
-    push_stretch(
-        text,
-        drawing,
-        "held",
-        "held by a lease",
-        "3",
-        "6",
-        y,
-        after,
-        until,
-        end,
-    )
+    let class = held_class(leaking);
+    let title = "held by a lease";
+    push_stretch(text, drawing, class, title, "3", "6", y, after, until, end)
 }
 
 /// The bar of a resource while its node does not own it.
 fn push_wait(
     text: &mut String,
     drawing: &Drawing,
+    leaking: bool,
     y: u64,
     after: u64,
     until: u64,
     end: u64,
 ) -> Result<(), AllocError>
-    ensures { OnOk result (string_bytes text.new ≡ string_bytes text.old ++ wait_text drawing.now y after until end) }
+    ensures { OnOk result (string_bytes text.new ≡ string_bytes text.old ++ wait_text drawing.now leaking y after until end) }
 {
-    let class = "waiting";
+    let class = wait_class(leaking);
     let title = "waits, but where a lease holds it,";
     push_stretch(text, drawing, class, title, "5", "10", y, after, until, end)
 }
 
-/// Where a resource was released, or the arrow of one that never was.
+/// Where a resource was released, or the arrow and the words of one that never was.
 fn push_release(
     text: &mut String,
     drawing: &Drawing,
+    leaking: bool,
     y: u64,
     taken: u64,
-    end: u64,
 ) -> Result<(), AllocError>
-    ensures { OnOk result (string_bytes text.new ≡ string_bytes text.old ++ release_text drawing.now y taken end) }
+    ensures { OnOk result (string_bytes text.new ≡ string_bytes text.old ++ release_text drawing.now leaking y taken) }
 {
     let x = x_of(drawing, taken);
-    if taken == end {
+    if leaking {
         return push_leak(text, x, y);
     }
     push_mark(
@@ -243,16 +243,30 @@ fn push_release(
     )
 }
 
+/// Whether what is drawn is a resource that none of so many events hands out, or a lease that none
+/// returns.
+fn is_leaking(end: u64, shape: Shape) -> bool
+    ensures { result ≡ is_leaking end shape }
+{
+    match shape {
+        Shape::Node { .. } => false,
+        Shape::Hub => false,
+        Shape::Resource { taken, .. } => taken == end,
+        Shape::Loan { until, .. } => until == end,
+    }
+}
+
 /// What is drawn in a lane.
 fn push_shape(
     text: &mut String,
     drawing: &Drawing,
+    leaking: bool,
     y: u64,
     n: u64,
     end: u64,
     shape: Shape,
 ) -> Result<(), AllocError>
-    ensures { OnOk result (string_bytes text.new ≡ string_bytes text.old ++ shape_text drawing.now y n end shape) }
+    ensures { OnOk result (string_bytes text.new ≡ string_bytes text.old ++ shape_text drawing.now leaking y n end shape) }
 {
     match shape {
         Shape::Node { until, ending } => push_life(text, drawing, y, n, until, end, ending),
@@ -266,12 +280,12 @@ fn push_shape(
             owned_until,
             taken,
         } => {
-            push_wait(text, drawing, y, n, owned_after, end)?;
-            push_wait(text, drawing, y, owned_until, taken, end)?;
-            push_owned(text, drawing, y, owned_after, owned_until, end)?;
-            push_release(text, drawing, y, taken, end)
+            push_wait(text, drawing, leaking, y, n, owned_after, end)?;
+            push_wait(text, drawing, leaking, y, owned_until, taken, end)?;
+            push_owned(text, drawing, leaking, y, owned_after, owned_until, end)?;
+            push_release(text, drawing, leaking, y, taken)
         }
-        Shape::Loan { until, .. } => push_loan(text, drawing, y, n, until, end),
+        Shape::Loan { until, .. } => push_loan(text, drawing, leaking, y, n, until, end),
     }
 }
 
@@ -305,7 +319,8 @@ pub fn push_row(text: &mut String, drawing: &Drawing, end: u64, row: Row) -> Res
 {
     push_name(text, drawing, row.number, row.made)?;
     let y = y_of(drawing, lane_of(row.number, row.made));
-    push_shape(text, drawing, y, row.number, end, row.shape)
+    let leaking = is_leaking(end, row.shape);
+    push_shape(text, drawing, leaking, y, row.number, end, row.shape)
 }
 
 /// A tick where a resource is used that has a lane.

@@ -2,7 +2,7 @@
 
 ghost use Rattle.std.specs.Prelude.{◌≡◌, ◌++◌, string_bytes, OnOk};
 ghost use Rattle.rx_svg.specs.Stroke.{until_text, stretch_end, line_front, line_text, bar_front, bar_text};
-ghost use Rattle.rx_svg.specs.Stroke.{mark_text, code_text, leak_text, marble_shape, above_text, value_text};
+ghost use Rattle.rx_svg.specs.Stroke.{mark_text, code_text, arrow_text, unreleased_text, leak_text, marble_shape, above_text, value_text};
 ghost use Rattle.rx_svg.specs.Stroke.{marble_front, by_text, marble_text, column_front, axis_text, column_text, broken_text};
 
 use crate::labels::{push_event, push_note};
@@ -204,21 +204,47 @@ pub fn push_code(text: &mut String, x: u64, y: u64, code: u64) -> Result<(), All
 }
 
 /// The arrow of a resource that was never released.
-#[tactic(auto, unfolding(crate::specs::Stroke::leak_text, crate::specs::Parts::text_of))]
-pub fn push_leak(text: &mut String, x: u64, y: u64) -> Result<(), AllocError>
-    ensures { OnOk result (string_bytes text.new ≡ string_bytes text.old
-        ++ leak_text x y) }
+#[tactic(auto, unfolding(crate::specs::Stroke::arrow_text, crate::specs::Parts::text_of))]
+fn push_arrow(text: &mut String, x: u64, y: u64) -> Result<(), AllocError>
+    ensures { OnOk result (string_bytes text.new ≡ string_bytes text.old ++ arrow_text x y) }
 {
     push_pieces(
         text,
         &[
-            Piece::Words("<path class=\"leak\" d=\"M"),
+            Piece::Words("<path class=\"arrow leak\" d=\"M"),
             Piece::Number(x),
             Piece::Words(" "),
             Piece::Number(y),
-            Piece::Words("m0 -9l15 9l-15 9z\"><title>never released</title></path>\n"),
+            Piece::Words("m0 -9l15 9l-15 9z\"><title>not released</title></path>\n"),
         ],
     )
+}
+
+/// The words behind the arrow.
+#[tactic(auto, unfolding(crate::specs::Stroke::unreleased_text, crate::specs::Parts::text_of))]
+fn push_unreleased(text: &mut String, x: u64, y: u64) -> Result<(), AllocError>
+    ensures { OnOk result (string_bytes text.new ≡ string_bytes text.old ++ unreleased_text x y) }
+{
+    push_pieces(
+        text,
+        &[
+            Piece::Words("<text class=\"leak\" x=\""),
+            Piece::Number(x),
+            Piece::Words("\" y=\""),
+            Piece::Number(y),
+            Piece::Words("\" dx=\"20\" dy=\"4\">not released</text>\n"),
+        ],
+    )
+}
+
+/// The arrow of a resource that was never released, and its words.
+#[tactic(auto, unfolding(crate::specs::Stroke::leak_text))]
+pub fn push_leak(text: &mut String, x: u64, y: u64) -> Result<(), AllocError>
+    ensures { OnOk result (string_bytes text.new ≡ string_bytes text.old
+        ++ leak_text x y) }
+{
+    push_arrow(text, x, y)?;
+    push_unreleased(text, x, y)
 }
 
 /// A circle for an item, a diamond for one that is to be projected, a flag for an end.

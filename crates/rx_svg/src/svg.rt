@@ -3,7 +3,8 @@
 ghost use Rattle.std.specs.Prelude.{◌≡◌, ◌+◌, ◌++◌, ◌≤◌, string_bytes, OnOk, IfOk, flat_map};
 ghost use Rattle.rx_svg.specs.Lane.{row_text, tick_text, told_text};
 ghost use Rattle.rx_svg.specs.Page.{lanes_shown, places_shown, head_text, point_text, below_text, listed_text, list_text, untaken_text, lawful_text};
-ghost use Rattle.rx_svg.specs.Page.{unlawful_text, unsettled_text, verdict_text, break_text, shares_text, under_text, lanes_text, svg_text, IsPicture};
+ghost use Rattle.rx_svg.specs.Page.{unlawful_text, unsettled_text, verdict_text, leak_words, count_text, leaking_text, leaks_text, leaks_class};
+ghost use Rattle.rx_svg.specs.Page.{break_text, shares_text, verdict_line, leaks_line, shares_line, under_text, lanes_text, svg_text, IsPicture};
 
 use crate::lanes::{push_row, push_tick, push_told, value_at, x_of};
 use crate::pieces::{Piece, push_pieces};
@@ -18,10 +19,12 @@ const STYLE: &str =
     "<style>text{font:12px monospace;fill:#222}.axis{font-size:8px;text-anchor:middle}\
     .value{font-size:10px;text-anchor:middle}path{stroke:#222;stroke-width:2;fill:none}\
     .place{stroke:#ddd;stroke-width:1;pointer-events:all}.hub{stroke-dasharray:2 4}\
-    .held,.leak{fill:#222}.waiting{fill:#fff;stroke-dasharray:3 3}.ring,.marble{fill:#fff}\
+    .held{fill:#222}.waiting{fill:#fff;stroke-dasharray:3 3}.ring,.marble{fill:#fff}\
+    path.leak{stroke:#c22}text.leak,.held.leak,.arrow{fill:#c22}\
     .tick{stroke:#fff}.broken{stroke-width:5;stroke-dasharray:9 5}\
     @media(prefers-color-scheme:dark){svg{background:#111}text{fill:#eee}path{stroke:#eee}\
-    .place{stroke:#333}.held,.leak{fill:#eee}.waiting,.ring,.marble{fill:#111}.tick{stroke:#111}}</style>\n";
+    .place{stroke:#333}.held{fill:#eee}.waiting,.ring,.marble{fill:#111}.tick{stroke:#111}\
+    path.leak{stroke:#f66}text.leak,.held.leak,.arrow{fill:#f66}}</style>\n";
 
 /// How many lanes are shown, of so many events.
 fn lanes_shown(drawing: &Drawing, end: u64) -> u64
@@ -119,15 +122,17 @@ fn push_marbles(text: &mut String, drawing: &Drawing, marbles: &[Mail]) -> Resul
     Ok(())
 }
 
-/// The front of a line of text under the lanes.
+/// The front of a line of text of this class under the lanes.
 #[tactic(auto, unfolding(crate::specs::Page::below_text, crate::specs::Parts::text_of))]
-fn push_below(text: &mut String, y: u64) -> Result<(), AllocError>
-    ensures { OnOk result (string_bytes text.new ≡ string_bytes text.old ++ below_text y) }
+fn push_below(text: &mut String, class: &'static str, y: u64) -> Result<(), AllocError>
+    ensures { OnOk result (string_bytes text.new ≡ string_bytes text.old ++ below_text class.now y) }
 {
     push_pieces(
         text,
         &[
-            Piece::Words("<text x=\"10\" y=\""),
+            Piece::Words("<text class=\""),
+            Piece::Words(class),
+            Piece::Words("\" x=\"10\" y=\""),
             Piece::Number(y),
             Piece::Words("\">"),
         ],
@@ -223,6 +228,52 @@ fn push_verdict(text: &mut String, verdict: &Verdict) -> Result<(), AllocError>
     }
 }
 
+/// What stands behind the number of resources that leak.
+fn leak_words(n: u64) -> &'static str
+    ensures { result.now ≡ leak_words n }
+{
+    if n == 1 {
+        " resource leaks:"
+    } else {
+        " resources leak:"
+    }
+}
+
+/// The number of resources that leak, and these words.
+#[tactic(auto, unfolding(crate::specs::Page::count_text, crate::specs::Parts::text_of))]
+fn push_count(text: &mut String, n: u64, ending: &'static str) -> Result<(), AllocError>
+    ensures { OnOk result (string_bytes text.new ≡ string_bytes text.old ++ count_text n ending.now) }
+{
+    push_pieces(text, &[Piece::Number(n), Piece::Words(ending)])
+}
+
+/// How many resources leak, and which.
+#[tactic(auto, unfolding(crate::specs::Page::leaking_text))]
+fn push_leaking(text: &mut String, leaks: &[u64]) -> Result<(), AllocError>
+    ensures { OnOk result (string_bytes text.new ≡ string_bytes text.old ++ leaking_text leaks.now) }
+{
+    let count = leaks.len() as u64;
+    push_count(text, count, leak_words(count))?;
+    push_listed(text, leaks)
+}
+
+/// How many resources leak, and which, if any does.
+fn push_leaks(text: &mut String, leaks: &[u64]) -> Result<(), AllocError>
+    ensures { OnOk result (string_bytes text.new ≡ string_bytes text.old ++ leaks_text leaks.now) }
+{
+    if leaks.len() == 0 {
+        return text.push_str("no resource leaks");
+    }
+    push_leaking(text, leaks)
+}
+
+/// The class of the line about leaks.
+fn leaks_class(leaks: &[u64]) -> &'static str
+    ensures { result.now ≡ leaks_class leaks.now }
+{
+    if leaks.len() == 0 { "under" } else { "leak" }
+}
+
 /// The line through all lanes, where an event may not stand where it does.
 fn push_break(
     text: &mut String,
@@ -260,6 +311,44 @@ fn push_shares(text: &mut String, drawing: &Drawing, end: u64) -> Result<(), All
     )
 }
 
+/// The line of the verdict under the lanes, which are so high.
+#[tactic(auto, unfolding(crate::specs::Page::verdict_line))]
+fn push_verdict_line(text: &mut String, height: u64, verdict: &Verdict) -> Result<(), AllocError>
+    requires { height ≤ 10000 }
+    ensures { OnOk result (string_bytes text.new ≡ string_bytes text.old ++ verdict_line height verdict.now) }
+{
+    push_below(text, "under", height + 48)?;
+    push_verdict(text, verdict)?;
+    text.push_str("</text>\n")
+}
+
+/// The line of the resources that leak.
+#[tactic(auto, unfolding(crate::specs::Page::leaks_line))]
+fn push_leaks_line(text: &mut String, height: u64, leaks: &[u64]) -> Result<(), AllocError>
+    requires { height ≤ 10000 }
+    ensures { OnOk result (string_bytes text.new ≡ string_bytes text.old ++ leaks_line height leaks.now) }
+{
+    push_below(text, leaks_class(leaks), height + 72)?;
+    push_leaks(text, leaks)?;
+    text.push_str("</text>\n")
+}
+
+/// The line about how much is drawn.
+#[tactic(auto, unfolding(crate::specs::Page::shares_line))]
+fn push_shares_line(
+    text: &mut String,
+    drawing: &Drawing,
+    end: u64,
+    height: u64,
+) -> Result<(), AllocError>
+    requires { height ≤ 10000 }
+    ensures { OnOk result (string_bytes text.new ≡ string_bytes text.old ++ shares_line drawing.now end height) }
+{
+    push_below(text, "under", height + 96)?;
+    push_shares(text, drawing, end)?;
+    text.push_str("</text>\n")
+}
+
 /// What stands under the lanes, which are so high.
 #[tactic(auto, unfolding(crate::specs::Page::under_text))]
 fn push_under(
@@ -272,12 +361,9 @@ fn push_under(
     requires { height ≤ 10000 }
     ensures { OnOk result (string_bytes text.new ≡ string_bytes text.old ++ under_text drawing.now end height verdict.now) }
 {
-    push_below(text, height + 48)?;
-    push_verdict(text, verdict)?;
-    text.push_str("</text>\n")?;
-    push_below(text, height + 72)?;
-    push_shares(text, drawing, end)?;
-    text.push_str("</text>\n")
+    push_verdict_line(text, height, verdict)?;
+    push_leaks_line(text, height, drawing.leaks.as_slice())?;
+    push_shares_line(text, drawing, end, height)
 }
 
 /// What stands in the lanes, which are so high.
@@ -308,9 +394,9 @@ pub fn push_svg(
 ) -> Result<(), AllocError>
     ensures { OnOk result (string_bytes text.new ≡ string_bytes text.old ++ svg_text drawing.now end verdict.now) }
 {
-    let width = x_of(drawing, end) + 50;
+    let width = x_of(drawing, end) + 130;
     let height = 32 + 24 * lanes_shown(drawing, end);
-    push_head(text, width, height + 84)?;
+    push_head(text, width, height + 108)?;
     push_lanes(text, drawing, end, height, verdict)?;
     push_under(text, drawing, end, height, verdict)?;
     text.push_str("</svg>\n")

@@ -11,6 +11,7 @@ returns c =
     }) (record {
       rows = rw c.deref-4.ensures.value at c.in_ok-rows.ensures;
       all = rw c.deref-11.ensures.value at c.count_marks-all.ensures;
+      leaking = c.in_ok-leaks.ensures;
       marbles = rw (c.deref-6.ensures.value, c.deref-7.ensures.value) at c.in_ok-marbles.ensures;
       points = rw c.deref-8.ensures.value at c.in_ok-points.ensures;
       lanes = rw c.deref-9.ensures.value at c.in_ok-lanes.ensures;

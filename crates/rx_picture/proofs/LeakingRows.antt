@@ -1,0 +1,118 @@
+-- Which rows last beyond the last event, and what leaks of a lawful history.
+use Rattle.std.proofs.Common.{◌≡◌, ℕ, ◌<◌, ◌≤◌, Bool, true, false, List, [], ◌∷◌, length}
+use Rattle.std.proofs.Common.{Option, Some, None, refl, sym, ap, ◌∙◌, arith, inl, inr, ◌⊎◌, ◌==◌, nat_lt, slice_get}
+use Rattle.std.proofs.Math.Bool.{not, ◌&&◌, ◌||◌}
+use Rattle.std.proofs.Math.Seq.{take-length}
+use Rattle.std.specs.List.{AllByRecursion, list_any}
+use Rattle.std.specs.Option.{option_map_or}
+use Rattle.std.proofs.lemmas.Bool.{cases_Bool, cases_lt, lt-ltb, le-ltb, false≢true, eq-eqb, eqb-true}
+use Rattle.rx_event.specs.declared.event.Event.{Event}
+use Rattle.rx_event.specs.declared.event.Event.TheVariants.{Accept, Lease}
+use Rattle.rx_event.specs.Events.{makes_node, makes_hub, makes_resource, makes_lease, is_return_of}
+use Rattle.rx_event.specs.Kept.{nothing_kept}
+use Rattle.rx_event.specs.Tree.{at}
+use Rattle.rx_event.specs.Resources.{is_out, is_taken, is_held, is_waiting}
+use Rattle.rx_event.proofs.Laws.Places.{at_within}
+use Rattle.rx_event.proofs.Laws.Resources.{held_resource, held_not_taken}
+use Rattle.rx_picture.specs.declared.row.Row.{Row}
+use Rattle.rx_picture.specs.declared.row.Shape.{Shape}
+use Rattle.rx_picture.specs.declared.row.Shape.TheVariants.{Node, Hub, Resource, Loan}
+use Rattle.rx_picture.specs.Rows.{IsRow, IsShape, leaks}
+use Rattle.rx_picture.specs.Leaks.{is_leaking, is_leaking_row, LeaksAreDrawn, LeaksAreLeft}
+
+-- what an event makes ------------------------------------------------------------------------------
+
+-- one that makes a node or a hub makes neither a resource nor a lease, and one that makes either makes not the other
+node_alone : (o : Option Event) → option_map_or makes_node o false ≡ true → (option_map_or makes_resource o false || option_map_or makes_lease o false) ≡ false
+node_alone None made = refl
+node_alone (Some e) made = by_event e made where
+  by_event : (e : Event) → makes_node e ≡ true → (makes_resource e || makes_lease e) ≡ false
+  by_event (Accept node tag) fails = absurd (false≢true fails)
+  by_event (Lease r) fails = absurd (false≢true fails)
+  by_event _ made = refl
+
+hub_alone : (o : Option Event) → option_map_or makes_hub o false ≡ true → (option_map_or makes_resource o false || option_map_or makes_lease o false) ≡ false
+hub_alone None made = refl
+hub_alone (Some e) made = by_event e made where
+  by_event : (e : Event) → makes_hub e ≡ true → (makes_resource e || makes_lease e) ≡ false
+  by_event (Accept node tag) fails = absurd (false≢true fails)
+  by_event (Lease r) fails = absurd (false≢true fails)
+  by_event _ made = refl
+
+resource_alone : (o : Option Event) → option_map_or makes_resource o false ≡ true → option_map_or makes_lease o false ≡ false
+resource_alone None made = refl
+resource_alone (Some e) made = by_event e made where
+  by_event : (e : Event) → makes_resource e ≡ true → makes_lease e ≡ false
+  by_event (Lease r) fails = absurd (false≢true fails)
+  by_event _ made = refl
+
+-- what lasts ---------------------------------------------------------------------------------------
+
+lasts_shape : (made taken out returned : Bool) → (made || out) ≡ false → ((made && not taken) || (out && not returned)) ≡ false
+lasts_shape false taken false returned none = refl
+lasts_shape false taken true returned none = absurd (false≢true (sym none))
+lasts_shape true taken out returned none = absurd (false≢true (sym none))
+
+neither_lasts : (h : List Event) (n : ℕ) → (at makes_resource h n || at makes_lease h n) ≡ false → (leaks h n || is_out h n) ≡ false
+unfolding is_out
+neither_lasts h n none = lasts_shape (at makes_resource h n) (is_taken h n) (at makes_lease h n) (list_any (is_return_of n) h) none
+
+not_out : (h : List Event) (n : ℕ) → at makes_lease h n ≡ false → is_out h n ≡ false
+unfolding is_out
+not_out h n none = ap (λ (x : Bool). x && not (list_any (is_return_of n) h)) none
+
+not_before : (m n : ℕ) → m ≤ n → not (nat_lt m n) ≡ (m == n)
+not_before m n l = by_order (cases_lt m n) where
+  by_order : (m < n) ⊎ (n ≤ m) → not (nat_lt m n) ≡ (m == n)
+  by_order (inl less) = ap not (lt-ltb m n less) ∙ sym (apart (cases_Bool (m == n))) where
+    apart : ((m == n) ≡ true) ⊎ ((m == n) ≡ false) → (m == n) ≡ false
+    apart (inl same) = absurd (let is = eqb-true m n same in omega arith)
+    apart (inr other) = other
+  by_order (inr more) = ap not (le-ltb m n more) ∙ sym (eq-eqb m n (omega arith))
+
+or_false : (b : Bool) → (b || false) ≡ b
+or_false true = refl
+or_false false = refl
+
+module _ (h : List Event) (n : ℕ) where
+  pub lasting : (shape : Shape) → IsShape h n shape → is_leaking (length h) shape ≡ (leaks h n || is_out h n)
+  lasting (Node until ending) is = sym (neither_lasts h n (node_alone (slice_get h n) is.0))
+  lasting Hub is = sym (neither_lasts h n (hub_alone (slice_get h n) is))
+  lasting (Resource after until taken) is =
+      let bar = is.1 in
+      let untaken : is_taken h n ≡ nat_lt taken (length h) =
+      ap (λ (k : List Event). is_taken k n) (sym (take-length h)) ∙ bar.takes (length h) (omega arith) in
+      sym (ap (λ (x : Bool). leaks h n || x) (not_out h n (resource_alone (slice_get h n) is.0)) ∙ or_false (leaks h n)
+      ∙ ap (λ (x : Bool). x && not (is_taken h n)) is.0 ∙ ap not untaken ∙ not_before taken (length h) bar.taken_within)
+  lasting (Loan resource until) is =
+      let loan = is.1 in
+      let unmade : at makes_resource h n ≡ false = ap (λ (o : Option Event). option_map_or makes_resource o false) is.0 in
+      let made : at makes_lease h n ≡ true = ap (λ (o : Option Event). option_map_or makes_lease o false) is.0 in
+      let out : is_out h n ≡ (nat_lt n (length h) && not (nat_lt until (length h))) =
+      ap (λ (k : List Event). is_out k n) (sym (take-length h)) ∙ loan.out (length h) (omega arith) in
+      sym (ap (λ (x : Bool). (x && not (is_taken h n)) || is_out h n) unmade ∙ out
+      ∙ ap (λ (x : Bool). x && not (nat_lt until (length h))) (lt-ltb n (length h) (at_within makes_lease h n made))
+      ∙ not_before until (length h) loan.within)
+
+each_row : (h : List Event) (rows : List Row) → AllByRecursion (IsRow h) rows
+    → AllByRecursion (λ row. is_leaking_row (length h) row ≡ (leaks h row.number || is_out h row.number)) rows
+each_row h [] each = tt
+each_row h (row ∷ rows) each = (lasting h row.number row.shape each.0.shape, each_row h rows each.1)
+
+pub leaks_are_drawn : LeaksAreDrawn
+leaks_are_drawn h d is = each_row h d.rows.items is.rows.each
+
+-- what is left of a lawful history -----------------------------------------------------------------
+
+left_shape : (made held taken : Bool) → (held ≡ true → made ≡ true) → (held ≡ true → taken ≡ false)
+    → (made && not taken) ≡ (held || (made && not held && not taken))
+left_shape made false taken has keeps = by_made made where
+  by_made : (b : Bool) → (b && not taken) ≡ (b && not false && not taken)
+  by_made true = refl
+  by_made false = refl
+left_shape made true taken has keeps = ap (λ (x : Bool). x && not taken) (has refl) ∙ ap not (keeps refl)
+
+pub leaks_are_left : LeaksAreLeft
+unfolding is_waiting
+leaks_are_left h law r =
+    left_shape (at makes_resource h r) (is_held h r) (is_taken h r) (held_resource h r) (held_not_taken nothing_kept h law r)

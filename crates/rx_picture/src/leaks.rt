@@ -1,0 +1,42 @@
+//! Which resources leak.
+
+ghost use Rattle.std.specs.Prelude.{◌≡◌, IfOk, filter, length};
+ghost use Rattle.rx_event.specs.Events.{makes_resource};
+ghost use Rattle.rx_event.specs.Tree.{at, places};
+ghost use Rattle.rx_picture.specs.Rows.{leaks};
+ghost use Rattle.rx_picture.specs.Tables.{AreTurns, was_taken};
+
+use crate::firsts::value_at;
+use rx_event::Event;
+use std::alloc::{AllocError, Global};
+
+/// Whether the event at the place makes a resource.
+fn is_resource_at(events: &[Event], n: usize) -> bool
+    ensures { result ≡ at makes_resource events.now n }
+{
+    match events.get(n).copied() {
+        Some(event) => event.makes_resource(),
+        None => false,
+    }
+}
+
+/// Whether number `n` is a resource that was never handed out.
+pub fn is_leak(events: &[Event], taken: &[usize], n: usize) -> bool
+    requires { AreTurns events.now was_taken (length events.now) taken.now }
+    ensures { result ≡ leaks events.now n }
+{
+    if value_at(taken, n as u64) < events.len() {
+        return false;
+    }
+    is_resource_at(events, n)
+}
+
+/// The resources that were never handed out, by rising number.
+pub fn leaks_of(alloc: Global, events: &[Event], taken: &[usize]) -> Result<Vec<u64>, AllocError>
+    requires { AreTurns events.now was_taken (length events.now) taken.now }
+    ensures { IfOk result (λ v. v.items ≡ filter (leaks events.now) (places events.now)) }
+{
+    (0..events.len() as u64)
+        .filter(|r| is_leak(events, taken, *r as usize))
+        .collect(alloc)
+}
