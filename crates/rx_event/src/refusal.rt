@@ -26,8 +26,8 @@ pub enum Refusal {
     /// No projected item waits for its inner observable.
     #[error("no projected item waits for an inner observable")]
     NothingOwed,
-    /// The node is no root, or is a connection.
-    #[error("the node is no root")]
+    /// The node is not a root, or it is a connection.
+    #[error("the node is not a root")]
     NotRoot,
     /// No hub has that number.
     #[error("no hub has this number")]
