@@ -1,3 +1,4 @@
 pub mod Device
 pub mod Input
 pub mod Gives
+pub mod Part

@@ -21,14 +21,18 @@
 //! - How `serde_json` reads a text is its own promise. How fast a device is, nothing says.
 #![tactic(auto)]
 
+mod document;
 mod fault;
+mod part;
 mod reading;
 mod shape;
 mod value;
 mod watched;
 mod writing;
 
+pub use document::parse_in_place;
 pub use fault::ScriptError;
+pub use part::Part;
 pub use reading::{MOST_BYTES, MOST_TURNS, read_all};
 pub use shape::ShapeError;
 pub use value::{read_value, value_of};

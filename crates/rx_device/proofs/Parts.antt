@@ -1,0 +1,166 @@
+-- A value that is read in place, and the value of serde_json that it stands for.
+use Rattle.std.proofs.Common.{◌≡◌, ℕ, List, Option, Some, None, Bool, true, false, cond, option_map, option_and_then, refl, ap, sym, ◌∙◌, subst}
+use Rattle.std.specs.Str.{bytes_eq}
+use Rattle.std.specs.Ordering.{is_eq, nat_cmp, match_ordering}
+use Rattle.std.specs.Cmp.Lexicographic.{slice_cmp, nat_list_eq_equiv}
+use Rattle.std.specs.declared.cmp.Ordering.{Ordering}
+use Rattle.std.specs.declared.cmp.Ordering.TheVariants.{Less, Equal, Greater}
+use Rattle.std.proofs.lemmas.Map.Text.{is_eq-slice_cmp}
+use Rattle.std.proofs.lemmas.Map.Lookups.{exact_bytes}
+use Rattle.std.proofs.lemmas.Slice.Eq.{bytes_eq-Decides}
+use Rattle.std.proofs.lemmas.Bool.{false≢true}
+use Rattle.std.specs.Borrow.{Bor}
+use Rattle.std.specs.declared.alloc.Global.{Global}
+use Rattle.json.specs.Json as text
+use Rattle.json.specs.Value.{value_view}
+use Rattle.json.specs.declared.value.Value.{Value}
+use Rattle.json.specs.Find as find
+use Rattle.serde_json.specs.Data.{Num, Data, Members, no_members, member, put}
+use Rattle.serde_json.specs.Find.{get, get_member, as_str, as_number, as_array, as_object}
+use Rattle.serde_json.specs.Read.{number_of}
+use Rattle.rx_device.specs.Part.{data_of, items_data, members_data, number_or_null}
+
+-- members -----------------------------------------------------------------------------------------
+
+by_order : {A : Type 0} (o : Ordering) (other here : A) → match_ordering o other here other ≡ cond (is_eq o) here other
+by_order Less other here = refl
+by_order Equal other here = refl
+by_order Greater other here = refl
+
+get_first : (k l : List ℕ) (e : Data) (ms : Members) → get_member k (member l e ms) ≡ cond (bytes_eq k l) (Some e) (get_member k ms)
+get_first k l e ms =
+    by_order (slice_cmp nat_cmp k l) (get_member k ms) (Some e) ∙ ap (λ b. cond b (Some e) (get_member k ms)) (is_eq-slice_cmp k l)
+
+twice : {A : Type 0} (b : Bool) (x y z : A) → cond b x z ≡ cond b x (cond b y z)
+twice true x y z = refl
+twice false x y z = refl
+
+-- two orders are not one
+greater_apart : (j l : List ℕ) → slice_cmp nat_cmp j l ≡ Greater → j ≡ l → ⊥
+greater_apart j l is same =
+    false≢true (sym (ap is_eq is) ∙ is_eq-slice_cmp j l ∙ (bytes_eq-Decides j l).1 same)
+
+bytes_eq-sym : (k l : List ℕ) → bytes_eq k l ≡ bytes_eq l k
+bytes_eq-sym k l = nat_list_eq_equiv.symm k l
+
+in_turn : {A : Type 0} (a b : Bool) (x y z : A) → (a ≡ true → b ≡ true → ⊥) → cond a x (cond b y z) ≡ cond b y (cond a x z)
+in_turn true true x y z apart = absurd (apart refl refl)
+in_turn true false x y z apart = refl
+in_turn false b x y z apart = refl
+
+-- a member that is put under a key is found there, and every other one as before
+placed : (k j l : List ℕ) (d e : Data) (ms : Members) (o : Ordering) → slice_cmp nat_cmp j l ≡ o
+    → get_member k (put j d ms) ≡ cond (bytes_eq k j) (Some d) (get_member k ms)
+    → get_member k (match_ordering o (member j d (member l e ms)) (member l d ms) (member l e (put j d ms)))
+    ≡ cond (bytes_eq k j) (Some d) (get_member k (member l e ms))
+placed k j l d e ms Less is rest = get_first k j d (member l e ms)
+placed k j l d e ms Equal is rest =
+    let same : j ≡ l = exact_bytes j l is in
+    let here : get_member k (member l d ms) ≡ cond (bytes_eq k l) (Some d) (get_member k ms) = get_first k l d ms in
+    let before : cond (bytes_eq k l) (Some e) (get_member k ms) ≡ get_member k (member l e ms) = sym (get_first k l e ms) in
+    here ∙ twice (bytes_eq k l) (Some d) (Some e) (get_member k ms) ∙ ap (cond (bytes_eq k l) (Some d)) before
+    ∙ ap (λ (name : List ℕ). cond (bytes_eq k name) (Some d) (get_member k (member l e ms))) (sym same)
+placed k j l d e ms Greater is rest =
+    let apart : bytes_eq k l ≡ true → bytes_eq k j ≡ true → ⊥ =
+    λ at_l at_j. greater_apart j l is (sym ((bytes_eq-Decides k j).0 at_j) ∙ (bytes_eq-Decides k l).0 at_l) in
+    get_first k l e (put j d ms) ∙ ap (cond (bytes_eq k l) (Some e)) rest ∙ in_turn (bytes_eq k l) (bytes_eq k j) (Some e) (Some d) (get_member k ms) apart
+    ∙ ap (cond (bytes_eq k j) (Some d)) (sym (get_first k l e ms))
+
+get_put : (k j : List ℕ) (d : Data) (ms : Members) → get_member k (put j d ms) ≡ cond (bytes_eq k j) (Some d) (get_member k ms)
+get_put k j d no_members = get_first k j d no_members
+get_put k j d (member l e ms) = placed k j l d e ms (slice_cmp nat_cmp j l) refl (get_put k j d ms)
+
+-- the last one of two
+abbrev last_of : Option Data → Option Data → Option Data
+last_of None earlier = earlier
+last_of (Some d) earlier = Some d
+
+one_more : (o : Option text.Json) (b : Bool) (j : text.Json) (earlier : Option Data)
+    → last_of (option_map data_of o) (cond b (Some (data_of j)) earlier) ≡ last_of (option_map data_of (find.later_or o (cond b (Some j) None))) earlier
+one_more None true j earlier = refl
+one_more None false j earlier = refl
+one_more (Some i) b j earlier = refl
+
+get_data : (k : List ℕ) (ms : text.Members) (found : Members)
+    → get_member k (members_data ms found) ≡ last_of (option_map data_of (find.get_member k ms)) (get_member k found)
+get_data k text.no_members found = refl
+get_data k (text.member l j ms) found =
+    let rest = get_data k ms (put l (data_of j) found) in
+    let here : get_member k (put l (data_of j) found) ≡ cond (bytes_eq l k) (Some (data_of j)) (get_member k found) =
+    get_put k l (data_of j) found ∙ ap (λ b. cond b (Some (data_of j)) (get_member k found)) (bytes_eq-sym k l) in
+    rest ∙ ap (last_of (option_map data_of (find.get_member k ms))) here ∙ one_more (find.get_member k ms) (bytes_eq l k) j (get_member k found)
+
+last_or_none : (o : Option Data) → last_of o None ≡ o
+last_or_none None = refl
+last_or_none (Some d) = refl
+
+-- values ------------------------------------------------------------------------------------------
+
+get_number : (k : List ℕ) (o : Option Num) → get k (number_or_null o) ≡ None
+get_number k None = refl
+get_number k (Some n) = refl
+
+pub get_found : (k : List ℕ) (j : text.Json) → get k (data_of j) ≡ option_map data_of (find.get k j)
+get_found k text.null = refl
+get_found k (text.boolean b) = refl
+get_found k (text.number s) = get_number k (number_of s)
+get_found k (text.string s) = refl
+get_found k (text.array js) = refl
+get_found k (text.object ms) = get_data k ms no_members ∙ last_or_none (option_map data_of (find.get_member k ms))
+
+word_of_number : (o : Option Num) → as_str (number_or_null o) ≡ None
+word_of_number None = refl
+word_of_number (Some n) = refl
+
+pub word_found : (j : text.Json) → as_str (data_of j) ≡ find.as_str j
+word_found text.null = refl
+word_found (text.boolean b) = refl
+word_found (text.number s) = word_of_number (number_of s)
+word_found (text.string s) = refl
+word_found (text.array js) = refl
+word_found (text.object ms) = refl
+
+number_itself : (o : Option Num) → as_number (number_or_null o) ≡ o
+number_itself None = refl
+number_itself (Some n) = refl
+
+pub number_found : (j : text.Json) → as_number (data_of j) ≡ option_and_then number_of (find.as_number j)
+number_found text.null = refl
+number_found (text.boolean b) = refl
+number_found (text.number s) = number_itself (number_of s)
+number_found (text.string s) = refl
+number_found (text.array js) = refl
+number_found (text.object ms) = refl
+
+array_of_number : (o : Option Num) → as_array (number_or_null o) ≡ None
+array_of_number None = refl
+array_of_number (Some n) = refl
+
+pub array_found : (j : text.Json) → as_array (data_of j) ≡ option_map items_data (find.as_array j)
+array_found text.null = refl
+array_found (text.boolean b) = refl
+array_found (text.number s) = array_of_number (number_of s)
+array_found (text.string s) = refl
+array_found (text.array js) = refl
+array_found (text.object ms) = refl
+
+object_of_number : (o : Option Num) → as_object (number_or_null o) ≡ None
+object_of_number None = refl
+object_of_number (Some n) = refl
+
+pub object_found : (j : text.Json) → as_object (data_of j) ≡ option_map (λ ms. members_data ms no_members) (find.as_object j)
+object_found text.null = refl
+object_found (text.boolean b) = refl
+object_found (text.number s) = object_of_number (number_of s)
+object_found (text.string s) = refl
+object_found (text.array js) = refl
+object_found (text.object ms) = refl
+
+-- what was found in the text stands for what is found in the value
+pub get_part : (k : List ℕ) (j : text.Json) (r : Option (Bor (Value Global))) → option_map (λ v. value_view v.now) r ≡ find.get k j
+    → option_map (λ v. data_of (value_view v.now)) r ≡ get k (data_of j)
+get_part k j r is = mapped r ∙ ap (option_map data_of) is ∙ sym (get_found k j)
+  where
+    mapped : (r : Option (Bor (Value Global))) → option_map (λ v. data_of (value_view v.now)) r ≡ option_map data_of (option_map (λ v. value_view v.now) r)
+    mapped None = refl
+    mapped (Some v) = refl
