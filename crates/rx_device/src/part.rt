@@ -6,7 +6,7 @@ ghost use Rattle.serde_json.specs.Data.{no_members};
 ghost use Rattle.fast_float.specs.Text.{scan, minus};
 ghost use Rattle.serde_json.specs.Read.{number_of, number_from};
 ghost use Rattle.serde_json.specs.Find.{get, as_str, as_number, as_u64, as_i64, as_array, as_object};
-ghost use Rattle.rx_device.specs.Part.{part_data, items_data, members_data};
+ghost use Rattle.rx_device.specs.Part.{part_data, data_of, items_data, members_data};
 
 use fast_float::Numeral;
 use json::Value;
@@ -21,7 +21,7 @@ pub struct Part<'v, 'a> {
 impl<'v, 'a> Part<'v, 'a> {
     /// The value.
     pub fn new(value: &'v Value<'a>) -> Self
-        ensures { result.value.now ≡ value.now }
+        ensures { part_data result ≡ data_of (value_view value.now) }
     {
         Part { value }
     }

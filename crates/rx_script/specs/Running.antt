@@ -3,7 +3,7 @@ use Rattle.std.specs.Prelude.{◌≡◌, ℕ, ◌≤◌, Some, None, Option, Lis
 use Rattle.serde_json.specs.Data.{Data}
 use Rattle.rx_event.specs.Kept.{nothing_kept}
 use Rattle.rx_event.specs.Totals.{accepted_count}
-use Rattle.rx_device.specs.Input.{GivesJson}
+use Rattle.rx_device.specs.Input.{IsJsonOf, GivesJson}
 use Rattle.rx_scenario.specs.Scenario.{steps_of, Script}
 use Rattle.rx_scenario.specs.Reading.{scenario_of}
 use Rattle.rx_script.specs.declared.Form.{Form}
@@ -34,6 +34,12 @@ pub record IsOutputOf (value : Data) (stock : List Ware) (form : Form) (text : L
   -- where no step was refused because the history was full
   pub canonical : HasNoFull course.answers → IsReportedCanonically script stock form course text faults
 
+-- the input is the text of such a value
+pub record IsOutputOfInput (input : List ℕ) (stock : List Ware) (form : Form) (text : List ℕ) : Type 0 where
+  pub value : Data
+  pub json : IsJsonOf input value
+  pub output : IsOutputOf value stock form text
+
 -- the reader gave a scenario, and what is to be written of it was written in this way: whole, or a front of it
 pub record Runs (stock : List Ware) (form : Form) (given left : Option (List ℕ)) (Writes : List ℕ → Type 0) : Type 0 where
   pub value : Data
@@ -46,6 +52,12 @@ pub record Runs (stock : List Ware) (form : Form) (given left : Option (List ℕ
 pub data GivesNoOutput (value : Data) (form : Form) : Type 0 where
   no_scenario : scenario_of value ≡ None → GivesNoOutput value form
   no_form : {script : Script} → scenario_of value ≡ Some script → lacks_form form (steps_of script.steps) ≡ true → GivesNoOutput value form
+
+-- the input is the text of a value of which nothing is to be written in this form
+pub record HasNoOutput (input : List ℕ) (form : Form) : Type 0 where
+  pub value : Data
+  pub json : IsJsonOf input value
+  pub none : GivesNoOutput value form
 
 -- the reader gave JSON of which nothing is to be written in this form
 pub record LacksOutput (form : Form) (old new : Option (List ℕ)) : Type 0 where

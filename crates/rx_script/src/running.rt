@@ -4,10 +4,11 @@ ghost use Rattle.rx_event.specs.declared.event.Event.{Event as Happening};
 ghost use Rattle.rx_event.specs.Kept.{nothing_kept};
 ghost use Rattle.std.specs.Prelude.{◌≡◌, ◌≢◌, ◌≤◌, ◌⊎◌, ◌++◌, ℕ, List, false, true, map, string_bytes, IfOk, IfErr, OnOk, IsErrOf};
 ghost use Rattle.std.specs.Io.KnownBytes.{Appends};
-ghost use Rattle.serde_json.specs.View.{view};
+ghost use Rattle.serde_json.specs.Data.{Data};
 ghost use Rattle.rx_event.specs.Totals.{accepted_count};
 ghost use Rattle.rx_device.specs.Device.{device_of, KeepsDevice, has_failed, has_stopped, HasReadFault, HasWriteFault, IsFresh, AppendsPrefix};
-ghost use Rattle.rx_device.specs.Input.{GivesTooMuch, GivesNoJson};
+ghost use Rattle.rx_device.specs.Input.{IsJsonOf, GivesTooMuch, GivesNoJson};
+ghost use Rattle.rx_device.specs.Part.{part_data};
 ghost use Rattle.rx_scenario.specs.Scenario.{step_of, steps_of, script_of};
 ghost use Rattle.rx_scenario.specs.Reading.{scenario_of};
 ghost use Rattle.rx_script.specs.Stage.{ware_of};
@@ -17,7 +18,7 @@ ghost use Rattle.rx_script.specs.Report.{unclosed_report, output, lacks_form};
 ghost use Rattle.rx_dump.specs.Dump.{dump};
 ghost use Rattle.rx_script.specs.Engine.{stage_of, IsHistoryOf, IsSound};
 ghost use Rattle.rx_script.specs.Outputs.{unclosed_output, closing, IsCarriedOut};
-ghost use Rattle.rx_script.specs.Running.{IsReportedCanonically, IsOutputOf, Runs, GivesNoOutput, LacksOutput};
+ghost use Rattle.rx_script.specs.Running.{IsReportedCanonically, IsOutputOf, IsOutputOfInput, HasNoOutput, Runs, GivesNoOutput, LacksOutput};
 
 use crate::Form;
 use crate::closing::close;
@@ -25,7 +26,10 @@ use crate::course::run_course;
 use crate::engine::{Engine, begin};
 use rx_agenda::Answer;
 use rx_book::Book;
-use rx_device::{ScriptError, ShapeError, Watched, read_value, write_text};
+use json::Scratch;
+use rx_device::{
+    Part, ScriptError, ShapeError, Watched, parse_in_place, read_all, write_text,
+};
 use rx_dump::push_dump;
 use rx_report::{
     events_of, gather, push_all_refused, push_closed, push_nodes, push_resources, push_totals,
@@ -33,7 +37,6 @@ use rx_report::{
 };
 use rx_resource::Resource;
 use rx_scenario::{Scenario, Step, has_checkpoint, scenario_of};
-use serde_json::Value;
 use std::alloc::{AllocError, Global};
 use std::io::{Read, Write};
 
@@ -173,12 +176,12 @@ fn lacks_form(form: Form, steps: &[Step]) -> bool
 // What is written of the scenario that the value is.
 fn output_of<S: Resource>(
     alloc: Global,
-    value: &Value,
+    value: Part<'_, '_>,
     stock: Vec<S>,
     form: Form,
 ) -> Result<String, ShapeError>
-    ensures ok { IfOk result (λ s. IsOutputOf (view value.now) (map (ware_of S.Resource) stock.items) form (string_bytes s)) }
-    ensures shape { IsErrOf result ShapeError.Shape → GivesNoOutput (view value.now) form }
+    ensures ok { IfOk result (λ s. IsOutputOf (part_data value.entry) (map (ware_of S.Resource) stock.items) form (string_bytes s)) }
+    ensures shape { IsErrOf result ShapeError.Shape → GivesNoOutput (part_data value.entry) form }
 {
     let scenario = scenario_of(alloc, value)?;
     if lacks_form(form, scenario.steps.as_slice()) {
@@ -187,6 +190,27 @@ fn output_of<S: Resource>(
     match text_of(alloc, scenario, stock, form) {
         Ok(text) => Ok(text),
         Err(AllocError) => Err(ShapeError::Memory),
+    }
+}
+
+// What is written of the scenario whose text the input is.
+fn output_of_input<S: Resource>(
+    alloc: Global,
+    input: &[u8],
+    stock: Vec<S>,
+    form: Form,
+) -> Result<String, ScriptError>
+    ensures ok { IfOk result (λ s. IsOutputOfInput input.now (map (ware_of S.Resource) stock.items) form (string_bytes s)) }
+    ensures syntax { IsErrOf result ScriptError.Syntax → (d : Data) → ¬ IsJsonOf input.now d }
+    ensures shape { IsErrOf result ScriptError.Shape → HasNoOutput input.now form }
+    ensures never { IfErr result (λ e. (e ≢ ScriptError.Read) × (e ≢ ScriptError.Write)) }
+{
+    let mut scratch = Scratch::new(alloc);
+    let value = parse_in_place(alloc, input, &mut scratch)?;
+    match output_of(alloc, Part::new(&value), stock, form) {
+        Ok(text) => Ok(text),
+        Err(ShapeError::Shape) => Err(ScriptError::Shape),
+        Err(ShapeError::Memory) => Err(ScriptError::Memory),
     }
 }
 
@@ -231,12 +255,8 @@ pub fn run<R: Read, W: Write, S: Resource>(
     ensures same_reader { KeepsDevice reader.old reader.new }
     ensures same_writer { KeepsDevice writer.old writer.new }
 {
-    let value = read_value(alloc, reader)?;
-    let text = match output_of(alloc, &value, stock, form) {
-        Ok(text) => text,
-        Err(ShapeError::Shape) => return Err(ScriptError::Shape),
-        Err(ShapeError::Memory) => return Err(ScriptError::Memory),
-    };
+    let input = read_all(alloc, reader)?;
+    let text = output_of_input(alloc, input.as_slice(), stock, form)?;
     match write_text(writer, text.as_str().as_bytes()) {
         Ok(()) => Ok(()),
         Err(_) => Err(ScriptError::Write),

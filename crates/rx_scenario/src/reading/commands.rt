@@ -1,6 +1,6 @@
 //! What a step does, by its member `do`.
 
-ghost use Rattle.serde_json.specs.View.{view};
+ghost use Rattle.rx_device.specs.Part.{part_data};
 ghost use Rattle.rx_scenario.specs.Scenario.{command_of as command_meant, action_of as action_meant};
 ghost use Rattle.rx_device.specs.Gives.{Gives};
 ghost use Rattle.rx_scenario.specs.Reading.{using_of, open_of, hold_of, apply_of, remove_of, lease_of, return_of};
@@ -12,13 +12,12 @@ use super::members::{
     value_in, word_in,
 };
 use crate::scenario::{Action, Command};
-use rx_device::ShapeError;
-use serde_json::Value;
+use rx_device::{Part, ShapeError};
 use std::alloc::Global;
 
 #[tactic(auto, unfolding(crate::specs::Reading::using_of))]
-fn using_of(alloc: Global, object: &Value) -> Result<Command, ShapeError>
-    ensures { Gives command_meant result (using_of (view object.now)) }
+fn using_of(alloc: Global, object: Part<'_, '_>) -> Result<Command, ShapeError>
+    ensures { Gives command_meant result (using_of (part_data object.entry)) }
 {
     if !is_step_of(object, &["name", "place", "of", "res"]) {
         return Err(ShapeError::Shape);
@@ -30,8 +29,8 @@ fn using_of(alloc: Global, object: &Value) -> Result<Command, ShapeError>
 }
 
 #[tactic(auto, unfolding(crate::specs::Reading::open_of))]
-fn open_of(alloc: Global, object: &Value) -> Result<Command, ShapeError>
-    ensures { Gives command_meant result (open_of (view object.now)) }
+fn open_of(alloc: Global, object: Part<'_, '_>) -> Result<Command, ShapeError>
+    ensures { Gives command_meant result (open_of (part_data object.entry)) }
 {
     if !is_step_of(
         object,
@@ -46,8 +45,8 @@ fn open_of(alloc: Global, object: &Value) -> Result<Command, ShapeError>
 }
 
 #[tactic(auto, unfolding(crate::specs::Reading::hold_of))]
-fn hold_of(alloc: Global, object: &Value) -> Result<Command, ShapeError>
-    ensures { Gives command_meant result (hold_of (view object.now)) }
+fn hold_of(alloc: Global, object: Part<'_, '_>) -> Result<Command, ShapeError>
+    ensures { Gives command_meant result (hold_of (part_data object.entry)) }
 {
     if !is_step_of(object, &["node", "res"]) {
         return Err(ShapeError::Shape);
@@ -58,8 +57,8 @@ fn hold_of(alloc: Global, object: &Value) -> Result<Command, ShapeError>
 }
 
 #[tactic(auto, unfolding(crate::specs::Reading::apply_of))]
-fn apply_of(alloc: Global, object: &Value) -> Result<Command, ShapeError>
-    ensures { Gives command_meant result (apply_of (view object.now)) }
+fn apply_of(alloc: Global, object: Part<'_, '_>) -> Result<Command, ShapeError>
+    ensures { Gives command_meant result (apply_of (part_data object.entry)) }
 {
     if !is_step_of(object, &["res", "word"]) {
         return Err(ShapeError::Shape);
@@ -70,8 +69,8 @@ fn apply_of(alloc: Global, object: &Value) -> Result<Command, ShapeError>
 }
 
 #[tactic(auto, unfolding(crate::specs::Reading::remove_of))]
-fn remove_of(alloc: Global, object: &Value) -> Result<Command, ShapeError>
-    ensures { Gives command_meant result (remove_of (view object.now)) }
+fn remove_of(alloc: Global, object: Part<'_, '_>) -> Result<Command, ShapeError>
+    ensures { Gives command_meant result (remove_of (part_data object.entry)) }
 {
     if !is_step_of(object, &["res"]) {
         return Err(ShapeError::Shape);
@@ -81,8 +80,8 @@ fn remove_of(alloc: Global, object: &Value) -> Result<Command, ShapeError>
 }
 
 #[tactic(auto, unfolding(crate::specs::Reading::lease_of))]
-fn lease_of(alloc: Global, object: &Value) -> Result<Command, ShapeError>
-    ensures { Gives command_meant result (lease_of (view object.now)) }
+fn lease_of(alloc: Global, object: Part<'_, '_>) -> Result<Command, ShapeError>
+    ensures { Gives command_meant result (lease_of (part_data object.entry)) }
 {
     if !is_step_of(object, &["res", "name"]) {
         return Err(ShapeError::Shape);
@@ -93,8 +92,8 @@ fn lease_of(alloc: Global, object: &Value) -> Result<Command, ShapeError>
 }
 
 #[tactic(auto, unfolding(crate::specs::Reading::return_of))]
-fn return_of(alloc: Global, object: &Value) -> Result<Command, ShapeError>
-    ensures { Gives command_meant result (return_of (view object.now)) }
+fn return_of(alloc: Global, object: Part<'_, '_>) -> Result<Command, ShapeError>
+    ensures { Gives command_meant result (return_of (part_data object.entry)) }
 {
     if !is_step_of(object, &["lease"]) {
         return Err(ShapeError::Shape);
@@ -104,8 +103,8 @@ fn return_of(alloc: Global, object: &Value) -> Result<Command, ShapeError>
 }
 
 #[tactic(auto, unfolding(crate::specs::Reading::next_of))]
-fn next_of(alloc: Global, object: &Value) -> Result<Command, ShapeError>
-    ensures { Gives command_meant result (next_of (view object.now)) }
+fn next_of(alloc: Global, object: Part<'_, '_>) -> Result<Command, ShapeError>
+    ensures { Gives command_meant result (next_of (part_data object.entry)) }
 {
     if !is_step_of(object, &["node", "value"]) {
         return Err(ShapeError::Shape);
@@ -116,8 +115,8 @@ fn next_of(alloc: Global, object: &Value) -> Result<Command, ShapeError>
 }
 
 #[tactic(auto, unfolding(crate::specs::Reading::end_of))]
-fn end_of(alloc: Global, object: &Value) -> Result<Command, ShapeError>
-    ensures { Gives command_meant result (end_of (view object.now)) }
+fn end_of(alloc: Global, object: Part<'_, '_>) -> Result<Command, ShapeError>
+    ensures { Gives command_meant result (end_of (part_data object.entry)) }
 {
     if !is_step_of(object, &["node", "error"]) {
         return Err(ShapeError::Shape);
@@ -128,8 +127,8 @@ fn end_of(alloc: Global, object: &Value) -> Result<Command, ShapeError>
 }
 
 #[tactic(auto, unfolding(crate::specs::Reading::abort_of))]
-fn abort_of(alloc: Global, object: &Value) -> Result<Command, ShapeError>
-    ensures { Gives command_meant result (abort_of (view object.now)) }
+fn abort_of(alloc: Global, object: Part<'_, '_>) -> Result<Command, ShapeError>
+    ensures { Gives command_meant result (abort_of (part_data object.entry)) }
 {
     if !is_step_of(object, &["node", "error"]) {
         return Err(ShapeError::Shape);
@@ -140,8 +139,8 @@ fn abort_of(alloc: Global, object: &Value) -> Result<Command, ShapeError>
 }
 
 #[tactic(auto, unfolding(crate::specs::Reading::decline_of))]
-fn decline_of(alloc: Global, object: &Value) -> Result<Command, ShapeError>
-    ensures { Gives command_meant result (decline_of (view object.now)) }
+fn decline_of(alloc: Global, object: Part<'_, '_>) -> Result<Command, ShapeError>
+    ensures { Gives command_meant result (decline_of (part_data object.entry)) }
 {
     if !is_step_of(object, &["node"]) {
         return Err(ShapeError::Shape);
@@ -151,8 +150,8 @@ fn decline_of(alloc: Global, object: &Value) -> Result<Command, ShapeError>
 }
 
 #[tactic(auto, unfolding(crate::specs::Reading::fail_of))]
-fn fail_of(alloc: Global, object: &Value) -> Result<Command, ShapeError>
-    ensures { Gives command_meant result (fail_of (view object.now)) }
+fn fail_of(alloc: Global, object: Part<'_, '_>) -> Result<Command, ShapeError>
+    ensures { Gives command_meant result (fail_of (part_data object.entry)) }
 {
     if !is_step_of(object, &["node", "error"]) {
         return Err(ShapeError::Shape);
@@ -163,8 +162,8 @@ fn fail_of(alloc: Global, object: &Value) -> Result<Command, ShapeError>
 }
 
 #[tactic(auto, unfolding(crate::specs::Reading::dispose_of))]
-fn dispose_of(alloc: Global, object: &Value) -> Result<Command, ShapeError>
-    ensures { Gives command_meant result (dispose_of (view object.now)) }
+fn dispose_of(alloc: Global, object: Part<'_, '_>) -> Result<Command, ShapeError>
+    ensures { Gives command_meant result (dispose_of (part_data object.entry)) }
 {
     if !is_step_of(object, &["node"]) {
         return Err(ShapeError::Shape);
@@ -174,8 +173,8 @@ fn dispose_of(alloc: Global, object: &Value) -> Result<Command, ShapeError>
 }
 
 #[tactic(auto, unfolding(crate::specs::Reading::hub_of))]
-fn hub_of(alloc: Global, object: &Value) -> Result<Command, ShapeError>
-    ensures { Gives command_meant result (hub_of (view object.now)) }
+fn hub_of(alloc: Global, object: Part<'_, '_>) -> Result<Command, ShapeError>
+    ensures { Gives command_meant result (hub_of (part_data object.entry)) }
 {
     if !is_step_of(object, &["name", "mode"]) {
         return Err(ShapeError::Shape);
@@ -186,8 +185,8 @@ fn hub_of(alloc: Global, object: &Value) -> Result<Command, ShapeError>
 }
 
 #[tactic(auto, unfolding(crate::specs::Reading::connect_of))]
-fn connect_of(alloc: Global, object: &Value) -> Result<Command, ShapeError>
-    ensures { Gives command_meant result (connect_of (view object.now)) }
+fn connect_of(alloc: Global, object: Part<'_, '_>) -> Result<Command, ShapeError>
+    ensures { Gives command_meant result (connect_of (part_data object.entry)) }
 {
     if !is_step_of(object, &["hub", "name"]) {
         return Err(ShapeError::Shape);
@@ -198,8 +197,8 @@ fn connect_of(alloc: Global, object: &Value) -> Result<Command, ShapeError>
 }
 
 #[tactic(auto, unfolding(crate::specs::Reading::disconnect_of))]
-fn disconnect_of(alloc: Global, object: &Value) -> Result<Command, ShapeError>
-    ensures { Gives command_meant result (disconnect_of (view object.now)) }
+fn disconnect_of(alloc: Global, object: Part<'_, '_>) -> Result<Command, ShapeError>
+    ensures { Gives command_meant result (disconnect_of (part_data object.entry)) }
 {
     if !is_step_of(object, &["hub"]) {
         return Err(ShapeError::Shape);
@@ -209,8 +208,8 @@ fn disconnect_of(alloc: Global, object: &Value) -> Result<Command, ShapeError>
 }
 
 #[tactic(auto, unfolding(crate::specs::Reading::drain_of))]
-fn drain_of(object: &Value) -> Result<Command, ShapeError>
-    ensures { Gives command_meant result (drain_of (view object.now)) }
+fn drain_of(object: Part<'_, '_>) -> Result<Command, ShapeError>
+    ensures { Gives command_meant result (drain_of (part_data object.entry)) }
 {
     if !is_step_of(object, &[]) {
         return Err(ShapeError::Shape);
@@ -219,8 +218,8 @@ fn drain_of(object: &Value) -> Result<Command, ShapeError>
 }
 
 #[tactic(auto, unfolding(crate::specs::Reading::checkpoint_of))]
-fn checkpoint_of(object: &Value) -> Result<Command, ShapeError>
-    ensures { Gives command_meant result (checkpoint_of (view object.now)) }
+fn checkpoint_of(object: Part<'_, '_>) -> Result<Command, ShapeError>
+    ensures { Gives command_meant result (checkpoint_of (part_data object.entry)) }
 {
     if !is_step_of(object, &[]) {
         return Err(ShapeError::Shape);
@@ -229,8 +228,8 @@ fn checkpoint_of(object: &Value) -> Result<Command, ShapeError>
 }
 
 #[tactic(auto, unfolding(crate::specs::Reading::command_by))]
-fn command_by(alloc: Global, what: &str, object: &Value) -> Result<Command, ShapeError>
-    ensures { Gives command_meant result (command_by what.now (view object.now)) }
+fn command_by(alloc: Global, what: &str, object: Part<'_, '_>) -> Result<Command, ShapeError>
+    ensures { Gives command_meant result (command_by what.now (part_data object.entry)) }
 {
     match what {
         "using" => using_of(alloc, object),
@@ -256,8 +255,8 @@ fn command_by(alloc: Global, what: &str, object: &Value) -> Result<Command, Shap
 }
 
 #[tactic(auto, unfolding(crate::specs::Reading::cancel_of))]
-fn cancel_of(alloc: Global, object: &Value) -> Result<Action, ShapeError>
-    ensures { Gives action_meant result (cancel_of (view object.now)) }
+fn cancel_of(alloc: Global, object: Part<'_, '_>) -> Result<Action, ShapeError>
+    ensures { Gives action_meant result (cancel_of (part_data object.entry)) }
 {
     if !is_step_of(object, &["step"]) {
         return Err(ShapeError::Shape);
@@ -266,8 +265,8 @@ fn cancel_of(alloc: Global, object: &Value) -> Result<Action, ShapeError>
 }
 
 #[tactic(auto, unfolding(crate::specs::Reading::action_by))]
-fn action_by(alloc: Global, what: &str, object: &Value) -> Result<Action, ShapeError>
-    ensures { Gives action_meant result (action_by what.now (view object.now)) }
+fn action_by(alloc: Global, what: &str, object: Part<'_, '_>) -> Result<Action, ShapeError>
+    ensures { Gives action_meant result (action_by what.now (part_data object.entry)) }
 {
     match what {
         "cancel" => cancel_of(alloc, object),
@@ -282,10 +281,10 @@ fn action_by(alloc: Global, what: &str, object: &Value) -> Result<Action, ShapeE
 ///
 /// `Shape` where the value is no such object, exactly; `Memory` where memory for a name is refused.
 #[tactic(auto, unfolding(crate::specs::Reading::action_in))]
-pub fn action_in(alloc: Global, object: &Value) -> Result<Action, ShapeError>
-    ensures { Gives action_meant result (action_in (view object.now)) }
+pub fn action_in(alloc: Global, object: Part<'_, '_>) -> Result<Action, ShapeError>
+    ensures { Gives action_meant result (action_in (part_data object.entry)) }
 {
-    let Some(what) = object.get("do").and_then(Value::as_str) else {
+    let Some(what) = object.get("do").and_then(Part::as_str) else {
         return Err(ShapeError::Shape);
     };
     action_by(alloc, what, object)

@@ -2,8 +2,9 @@
 
 ghost use Rattle.std.specs.Prelude.{◌≡◌, ◌≤◌, ◌||◌, map, option_map, string_bytes, IfOk};
 ghost use Rattle.std.specs.List.{list_all};
-ghost use Rattle.std.specs.Map.{keys_of};
-ghost use Rattle.serde_json.specs.View.{view, members_view};
+ghost use Rattle.json.specs.Value.{members_view};
+ghost use Rattle.serde_json.specs.Data.{no_members};
+ghost use Rattle.rx_device.specs.Part.{part_data, members_data};
 ghost use Rattle.rx_scenario.specs.Scenario.{site_of, sort_of};
 ghost use Rattle.rx_device.specs.Gives.{Gives};
 ghost use Rattle.rx_scenario.specs.Reading.{is_one_of, has_only, is_object_of, is_of_steps, has_only_steps, is_step_of, is_name_byte};
@@ -11,9 +12,9 @@ ghost use Rattle.rx_scenario.specs.Reading.{is_name, name_in, optional_name_in, 
 ghost use Rattle.rx_scenario.specs.Reading.{site_in, plain_by, sub_in, kind_by, kind_in, mode_by, mode_in, events_in, until_in, time_in, delay_in};
 
 use crate::scenario::{Site, Sort, Ticks};
-use rx_device::ShapeError;
+use json::Value;
+use rx_device::{Part, ShapeError};
 use rx_event::{Mode, Terminal};
-use serde_json::{Map, Value};
 use std::alloc::Global;
 
 fn is_one_of(key: &str, names: &[&str]) -> bool
@@ -22,26 +23,26 @@ fn is_one_of(key: &str, names: &[&str]) -> bool
     names.contains(&key)
 }
 
-fn are_all_of(members: &Map<String, Value>, names: &[&str]) -> bool
-    ensures { result ≡ list_all (λ k. is_one_of (map (λ s. s.now) names.now) (string_bytes k)) (keys_of members.now.entries) }
+fn are_all_of(members: &Vec<(&str, Value<'_>)>, names: &[&str]) -> bool
+    ensures { result ≡ list_all (λ m. is_one_of (map (λ s. s.now) names.now) m.0.now) members.now.items }
 {
-    members.keys().all(|key| is_one_of(key.as_str(), names))
+    members.iter().all(|member| is_one_of(member.0, names))
 }
 
 #[tactic(auto, unfolding(crate::specs::Reading::has_only))]
-fn has_only(members: &Map<String, Value>, names: &[&str]) -> bool
-    ensures { result ≡ has_only (map (λ s. s.now) names.now) (members_view members.now.entries) }
+fn has_only(members: &Vec<(&str, Value<'_>)>, names: &[&str]) -> bool
+    ensures { result ≡ has_only (map (λ s. s.now) names.now) (members_data (members_view members.now.items) no_members) }
 {
     are_all_of(members, names)
 }
 
 /// Whether a value is an object with no member of another name.
-pub fn is_object_of(value: &Value, names: &[&str]) -> bool
-    ensures { result ≡ is_object_of (map (λ s. s.now) names.now) (view value.now) }
+pub fn is_object_of(value: Part<'_, '_>, names: &[&str]) -> bool
+    ensures { result ≡ is_object_of (map (λ s. s.now) names.now) (part_data value.entry) }
 {
-    match value {
-        Value::Object(members) => has_only(members, names),
-        _ => false,
+    match value.as_object() {
+        Some(members) => has_only(members, names),
+        None => false,
     }
 }
 
@@ -51,26 +52,26 @@ fn is_of_steps(key: &str) -> bool
     matches!(key, "do" | "label" | "at" | "after" | "then")
 }
 
-fn are_all_of_steps(members: &Map<String, Value>, names: &[&str]) -> bool
-    ensures { result ≡ list_all (λ k. is_of_steps (string_bytes k) || is_one_of (map (λ s. s.now) names.now) (string_bytes k)) (keys_of members.now.entries) }
+fn are_all_of_steps(members: &Vec<(&str, Value<'_>)>, names: &[&str]) -> bool
+    ensures { result ≡ list_all (λ m. is_of_steps m.0.now || is_one_of (map (λ s. s.now) names.now) m.0.now) members.now.items }
 {
-    members.keys().all(|key| is_of_steps(key.as_str()) || is_one_of(key.as_str(), names))
+    members.iter().all(|member| is_of_steps(member.0) || is_one_of(member.0, names))
 }
 
 #[tactic(auto, unfolding(crate::specs::Reading::has_only_steps))]
-fn has_only_steps(members: &Map<String, Value>, names: &[&str]) -> bool
-    ensures { result ≡ has_only_steps (map (λ s. s.now) names.now) (members_view members.now.entries) }
+fn has_only_steps(members: &Vec<(&str, Value<'_>)>, names: &[&str]) -> bool
+    ensures { result ≡ has_only_steps (map (λ s. s.now) names.now) (members_data (members_view members.now.items) no_members) }
 {
     are_all_of_steps(members, names)
 }
 
 /// Whether a value is an object with no members but these and those that every step may have.
-pub fn is_step_of(value: &Value, names: &[&str]) -> bool
-    ensures { result ≡ is_step_of (map (λ s. s.now) names.now) (view value.now) }
+pub fn is_step_of(value: Part<'_, '_>, names: &[&str]) -> bool
+    ensures { result ≡ is_step_of (map (λ s. s.now) names.now) (part_data value.entry) }
 {
-    match value {
-        Value::Object(members) => has_only_steps(members, names),
-        _ => false,
+    match value.as_object() {
+        Some(members) => has_only_steps(members, names),
+        None => false,
     }
 }
 
@@ -97,10 +98,10 @@ fn is_name(text: &str) -> bool
 
 /// The name at a key: 1 to 32 ASCII letters, digits, dashes and underscores.
 #[tactic(auto, unfolding(crate::specs::Reading::name_in))]
-pub fn name_in(alloc: Global, object: &Value, key: &str) -> Result<String, ShapeError>
-    ensures { Gives string_bytes result (name_in key.now (view object.now)) }
+pub fn name_in(alloc: Global, object: Part<'_, '_>, key: &str) -> Result<String, ShapeError>
+    ensures { Gives string_bytes result (name_in key.now (part_data object.entry)) }
 {
-    let Some(text) = object.get(key).and_then(Value::as_str) else {
+    let Some(text) = object.get(key).and_then(Part::as_str) else {
         return Err(ShapeError::Shape);
     };
     if !is_name(text) {
@@ -113,10 +114,10 @@ pub fn name_in(alloc: Global, object: &Value, key: &str) -> Result<String, Shape
 #[tactic(auto, unfolding(crate::specs::Reading::optional_name_in))]
 pub fn optional_name_in(
     alloc: Global,
-    object: &Value,
+    object: Part<'_, '_>,
     key: &str,
 ) -> Result<Option<String>, ShapeError>
-    ensures { Gives (option_map string_bytes) result (optional_name_in key.now (view object.now)) }
+    ensures { Gives (option_map string_bytes) result (optional_name_in key.now (part_data object.entry)) }
 {
     let Some(member) = object.get(key) else {
         return Ok(None);
@@ -132,10 +133,10 @@ pub fn optional_name_in(
 
 /// The member `value`, an item.
 #[tactic(auto, unfolding(crate::specs::Reading::value_in))]
-pub fn value_in(object: &Value) -> Result<i64, ShapeError>
-    ensures { Gives (λ v. v) result (value_in (view object.now)) }
+pub fn value_in(object: Part<'_, '_>) -> Result<i64, ShapeError>
+    ensures { Gives (λ v. v) result (value_in (part_data object.entry)) }
 {
-    match object.get("value").and_then(Value::as_i64) {
+    match object.get("value").and_then(Part::as_i64) {
         Some(number) => Ok(number),
         None => Err(ShapeError::Shape),
     }
@@ -143,10 +144,10 @@ pub fn value_in(object: &Value) -> Result<i64, ShapeError>
 
 /// The member `word`, what a resource is used on.
 #[tactic(auto, unfolding(crate::specs::Reading::word_in))]
-pub fn word_in(object: &Value) -> Result<u64, ShapeError>
-    ensures { Gives (λ w. w) result (word_in (view object.now)) }
+pub fn word_in(object: Part<'_, '_>) -> Result<u64, ShapeError>
+    ensures { Gives (λ w. w) result (word_in (part_data object.entry)) }
 {
-    match object.get("word").and_then(Value::as_u64) {
+    match object.get("word").and_then(Part::as_u64) {
         Some(word) => Ok(word),
         None => Err(ShapeError::Shape),
     }
@@ -154,10 +155,10 @@ pub fn word_in(object: &Value) -> Result<u64, ShapeError>
 
 /// The member `error`, an error's code.
 #[tactic(auto, unfolding(crate::specs::Reading::code_in))]
-pub fn code_in(object: &Value) -> Result<u32, ShapeError>
-    ensures { Gives (λ c. c) result (code_in (view object.now)) }
+pub fn code_in(object: Part<'_, '_>) -> Result<u32, ShapeError>
+    ensures { Gives (λ c. c) result (code_in (part_data object.entry)) }
 {
-    match object.get("error").and_then(Value::as_u64) {
+    match object.get("error").and_then(Part::as_u64) {
         Some(number) if number <= 4_294_967_295 => Ok(number as u32),
         _ => Err(ShapeError::Shape),
     }
@@ -165,8 +166,8 @@ pub fn code_in(object: &Value) -> Result<u32, ShapeError>
 
 /// The member `error`, an error's code, or a completion where there is no such member.
 #[tactic(auto, unfolding(crate::specs::Reading::terminal_in))]
-pub fn terminal_in(object: &Value) -> Result<Terminal, ShapeError>
-    ensures { Gives (λ t. t) result (terminal_in (view object.now)) }
+pub fn terminal_in(object: Part<'_, '_>) -> Result<Terminal, ShapeError>
+    ensures { Gives (λ t. t) result (terminal_in (part_data object.entry)) }
 {
     let Some(error) = object.get("error") else {
         return Ok(Terminal::Completed);
@@ -178,8 +179,8 @@ pub fn terminal_in(object: &Value) -> Result<Terminal, ShapeError>
 }
 
 #[tactic(auto, unfolding(crate::specs::Reading::site_by))]
-fn site_by(alloc: Global, place: &str, object: &Value) -> Result<Site, ShapeError>
-    ensures { Gives site_of result (site_by place.now (view object.now)) }
+fn site_by(alloc: Global, place: &str, object: Part<'_, '_>) -> Result<Site, ShapeError>
+    ensures { Gives site_of result (site_by place.now (part_data object.entry)) }
 {
     match place {
         "root" => match object.get("of") {
@@ -195,10 +196,10 @@ fn site_by(alloc: Global, place: &str, object: &Value) -> Result<Site, ShapeErro
 
 /// The members `place` and `of`: a root, or the source, an inner or the notifier of a node.
 #[tactic(auto, unfolding(crate::specs::Reading::site_in))]
-pub fn site_in(alloc: Global, object: &Value) -> Result<Site, ShapeError>
-    ensures { Gives site_of result (site_in (view object.now)) }
+pub fn site_in(alloc: Global, object: Part<'_, '_>) -> Result<Site, ShapeError>
+    ensures { Gives site_of result (site_in (part_data object.entry)) }
 {
-    let Some(place) = object.get("place").and_then(Value::as_str) else {
+    let Some(place) = object.get("place").and_then(Part::as_str) else {
         return Err(ShapeError::Shape);
     };
     site_by(alloc, place, object)
@@ -220,8 +221,8 @@ fn plain_by(kind: &str) -> Result<Sort, ShapeError>
 
 // The members `hub` and `connection` of a subscriber, which need not have the second.
 #[tactic(auto, unfolding(crate::specs::Reading::sub_in))]
-fn sub_in(alloc: Global, object: &Value) -> Result<Sort, ShapeError>
-    ensures { Gives sort_of result (sub_in (view object.now)) }
+fn sub_in(alloc: Global, object: Part<'_, '_>) -> Result<Sort, ShapeError>
+    ensures { Gives sort_of result (sub_in (part_data object.entry)) }
 {
     let hub = name_in(alloc, object, "hub")?;
     let connection = optional_name_in(alloc, object, "connection")?;
@@ -229,8 +230,8 @@ fn sub_in(alloc: Global, object: &Value) -> Result<Sort, ShapeError>
 }
 
 #[tactic(auto, unfolding(crate::specs::Reading::kind_by))]
-fn kind_by(alloc: Global, kind: &str, object: &Value) -> Result<Sort, ShapeError>
-    ensures { Gives sort_of result (kind_by kind.now (view object.now)) }
+fn kind_by(alloc: Global, kind: &str, object: Part<'_, '_>) -> Result<Sort, ShapeError>
+    ensures { Gives sort_of result (kind_by kind.now (part_data object.entry)) }
 {
     if kind == "sub" {
         return sub_in(alloc, object);
@@ -244,10 +245,10 @@ fn kind_by(alloc: Global, kind: &str, object: &Value) -> Result<Sort, ShapeError
 /// The member `kind`: a leaf, a node that mirrors its source, a FlatMap, a Switch or a TakeUntil; or a
 /// subscriber, which alone has the members `hub` and `connection`.
 #[tactic(auto, unfolding(crate::specs::Reading::kind_in))]
-pub fn kind_in(alloc: Global, object: &Value) -> Result<Sort, ShapeError>
-    ensures { Gives sort_of result (kind_in (view object.now)) }
+pub fn kind_in(alloc: Global, object: Part<'_, '_>) -> Result<Sort, ShapeError>
+    ensures { Gives sort_of result (kind_in (part_data object.entry)) }
 {
-    let Some(kind) = object.get("kind").and_then(Value::as_str) else {
+    let Some(kind) = object.get("kind").and_then(Part::as_str) else {
         return Err(ShapeError::Shape);
     };
     kind_by(alloc, kind, object)
@@ -266,10 +267,10 @@ fn mode_by(mode: &str) -> Result<Mode, ShapeError>
 
 /// The member `mode`, how a hub is connected: by RefCount, or by hand.
 #[tactic(auto, unfolding(crate::specs::Reading::mode_in))]
-pub fn mode_in(object: &Value) -> Result<Mode, ShapeError>
-    ensures { Gives (λ m. m) result (mode_in (view object.now)) }
+pub fn mode_in(object: Part<'_, '_>) -> Result<Mode, ShapeError>
+    ensures { Gives (λ m. m) result (mode_in (part_data object.entry)) }
 {
-    let Some(mode) = object.get("mode").and_then(Value::as_str) else {
+    let Some(mode) = object.get("mode").and_then(Part::as_str) else {
         return Err(ShapeError::Shape);
     };
     mode_by(mode)
@@ -277,8 +278,8 @@ pub fn mode_in(object: &Value) -> Result<Mode, ShapeError>
 
 /// The member `events`, a limit from 1 to 4,294,967,295, which is 1,048,576 where there is none.
 #[tactic(auto, unfolding(crate::specs::Reading::events_in))]
-pub fn events_in(object: &Value) -> Result<u64, ShapeError>
-    ensures value { Gives (λ n. n) result (events_in (view object.now)) }
+pub fn events_in(object: Part<'_, '_>) -> Result<u64, ShapeError>
+    ensures value { Gives (λ n. n) result (events_in (part_data object.entry)) }
     ensures limited { IfOk result (λ n. n ≤ 4294967295) }
 {
     let Some(events) = object.get("events") else {
@@ -292,8 +293,8 @@ pub fn events_in(object: &Value) -> Result<u64, ShapeError>
 
 /// The member `until`, a time to 1,000,000,000,000,000, which it is where there is none.
 #[tactic(auto, unfolding(crate::specs::Reading::until_in))]
-pub fn until_in(object: &Value) -> Result<u64, ShapeError>
-    ensures value { Gives (λ n. n) result (until_in (view object.now)) }
+pub fn until_in(object: Part<'_, '_>) -> Result<u64, ShapeError>
+    ensures value { Gives (λ n. n) result (until_in (part_data object.entry)) }
     ensures limited { IfOk result (λ n. n ≤ 1000000000000000) }
 {
     let Some(until) = object.get("until") else {
@@ -307,8 +308,8 @@ pub fn until_in(object: &Value) -> Result<u64, ShapeError>
 
 // The time at a key, or the other where there is no such member.
 #[tactic(auto, unfolding(crate::specs::Reading::time_in))]
-fn time_in(object: &Value, key: &str, absent: Option<Ticks>) -> Result<Option<Ticks>, ShapeError>
-    ensures { Gives (λ t. t) result (time_in absent key.now (view object.now)) }
+fn time_in(object: Part<'_, '_>, key: &str, absent: Option<Ticks>) -> Result<Option<Ticks>, ShapeError>
+    ensures { Gives (λ t. t) result (time_in absent key.now (part_data object.entry)) }
 {
     let Some(time) = object.get(key) else {
         return Ok(absent);
@@ -322,8 +323,8 @@ fn time_in(object: &Value, key: &str, absent: Option<Ticks>) -> Result<Option<Ti
 /// How long a step waits: the member `after` of a step that follows another, and else the member `at`,
 /// which is 0 where there is none.
 #[tactic(auto, unfolding(crate::specs::Reading::delay_in))]
-pub fn delay_in(object: &Value, follows: bool) -> Result<Option<Ticks>, ShapeError>
-    ensures { Gives (λ t. t) result (delay_in follows (view object.now)) }
+pub fn delay_in(object: Part<'_, '_>, follows: bool) -> Result<Option<Ticks>, ShapeError>
+    ensures { Gives (λ t. t) result (delay_in follows (part_data object.entry)) }
 {
     let (key, other, absent) = if follows {
         ("after", "at", None)

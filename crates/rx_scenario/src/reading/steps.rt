@@ -1,7 +1,8 @@
 //! Steps with those that follow them, and the scenario that they make.
 
 ghost use Rattle.std.specs.Prelude.{◌≡◌, ◌≤◌, ◌++◌, ◌∷◌, [], map, option_map, string_bytes, IfOk, OnOk};
-ghost use Rattle.serde_json.specs.View.{view, items_view};
+ghost use Rattle.json.specs.Value.{items_view};
+ghost use Rattle.rx_device.specs.Part.{part_data, items_data};
 ghost use Rattle.rx_device.specs.Gives.{Gives};
 ghost use Rattle.rx_scenario.specs.Scenario.{steps_of, labels_in, labels_of, labels_meant, step_of as step_meant, script_of};
 ghost use Rattle.rx_scenario.specs.Reading.{head_in, step_in, each_step, then_in, if_fitting, steps_in, scenario_of};
@@ -10,8 +11,8 @@ use super::commands::action_in;
 use super::labels::are_distinct;
 use super::members::{delay_in, events_in, is_object_of, optional_name_in, until_in};
 use crate::scenario::{Scenario, Step};
-use rx_device::ShapeError;
-use serde_json::Value;
+use json::Value;
+use rx_device::{Part, ShapeError};
 use std::alloc::{AllocError, Global};
 
 /// The most steps of a scenario.
@@ -22,8 +23,8 @@ const MOST_LEVELS: u32 = 16;
 
 // A step without those that follow it.
 #[tactic(auto, unfolding(crate::specs::Reading::head_in))]
-fn head_in(alloc: Global, object: &Value, follows: bool) -> Result<Step, ShapeError>
-    ensures { Gives step_meant result (head_in follows (view object.now)) }
+fn head_in(alloc: Global, object: Part<'_, '_>, follows: bool) -> Result<Step, ShapeError>
+    ensures { Gives step_meant result (head_in follows (part_data object.entry)) }
 {
     let label = optional_name_in(alloc, object, "label")?;
     let delay = delay_in(object, follows)?;
@@ -54,12 +55,12 @@ fn note_label(labels: &mut Vec<Option<String>>, label: &Option<String>) -> Resul
 #[tactic(auto, unfolding(crate::specs::Reading::step_with))]
 fn step_in(
     alloc: Global,
-    object: &Value,
+    object: Part<'_, '_>,
     follows: bool,
     depth: u32,
     labels: &mut Vec<Option<String>>,
 ) -> Result<Step, ShapeError>
-    ensures value { Gives step_meant result (step_in follows depth (view object.now)) }
+    ensures value { Gives step_meant result (step_in follows depth (part_data object.entry)) }
     ensures labels { IfOk result (λ s. labels_meant labels.new.items
         ≡ labels_meant labels.old.items ++ labels_of (step_meant s)) }
 {
@@ -74,11 +75,11 @@ fn step_in(
 #[tactic(auto, unfolding(crate::specs::Reading::then_in))]
 fn then_in(
     alloc: Global,
-    object: &Value,
+    object: Part<'_, '_>,
     depth: u32,
     labels: &mut Vec<Option<String>>,
 ) -> Result<Vec<Step>, ShapeError>
-    ensures value { Gives (λ v. map step_meant v.items) result (then_in depth (view object.now)) }
+    ensures value { Gives (λ v. map step_meant v.items) result (then_in depth (part_data object.entry)) }
     ensures labels { IfOk result (λ v. labels_meant labels.new.items
         ≡ labels_meant labels.old.items ++ labels_in (steps_of (map step_meant v.items))) }
 {
@@ -98,28 +99,28 @@ fn then_in(
 #[cycle(steps)]
 fn each_step(
     alloc: Global,
-    values: &Vec<Value>,
+    values: &Vec<Value<'_>>,
     follows: bool,
     depth: u32,
     labels: &mut Vec<Option<String>>,
 ) -> Result<Vec<Step>, ShapeError>
-    ensures value { Gives (λ v. map step_meant v.items) result (each_step (step_in follows depth) (items_view values.now.items)) }
+    ensures value { Gives (λ v. map step_meant v.items) result (each_step (step_in follows depth) (items_data (items_view values.now.items))) }
     ensures labels { IfOk result (λ v. labels_meant labels.new.items
         ≡ labels_meant labels.old.items ++ labels_in (steps_of (map step_meant v.items))) }
 {
     let mut steps = Vec::new(alloc);
     steps.reserve(values.len())?;
     for value in values {
-        steps.push(step_in(alloc, value, follows, depth, labels)?)?;
+        steps.push(step_in(alloc, Part::new(value), follows, depth, labels)?)?;
     }
     Ok(steps)
 }
 
 #[tactic(auto, unfolding(crate::specs::Reading::steps_in, crate::specs::Reading::if_fitting))]
-fn steps_in(alloc: Global, object: &Value) -> Result<Vec<Step>, ShapeError>
-    ensures { Gives (λ v. map step_meant v.items) result (steps_in (view object.now)) }
+fn steps_in(alloc: Global, object: Part<'_, '_>) -> Result<Vec<Step>, ShapeError>
+    ensures { Gives (λ v. map step_meant v.items) result (steps_in (part_data object.entry)) }
 {
-    let Some(values) = object.get("steps").and_then(Value::as_array) else {
+    let Some(values) = object.get("steps").and_then(Part::as_array) else {
         return Err(ShapeError::Shape);
     };
     let mut labels = Vec::new(alloc);
@@ -132,8 +133,8 @@ fn steps_in(alloc: Global, object: &Value) -> Result<Vec<Step>, ShapeError>
 
 /// The scenario that a JSON value is.
 #[tactic(auto, unfolding(crate::specs::Reading::scenario_of))]
-pub fn scenario_of(alloc: Global, object: &Value) -> Result<Scenario, ShapeError>
-    ensures value { Gives script_of result (scenario_of (view object.now)) }
+pub fn scenario_of(alloc: Global, object: Part<'_, '_>) -> Result<Scenario, ShapeError>
+    ensures value { Gives script_of result (scenario_of (part_data object.entry)) }
     ensures limited { IfOk result (λ s. s.events ≤ 4294967295) }
     ensures ends { IfOk result (λ s. s.until ≤ 1000000000000000) }
 {
