@@ -8,6 +8,8 @@
 //! - [`read_all`] reads a device to its end, [`value_of`] gives the JSON value of which bytes are the text,
 //!   and [`read_value`] does both; what a device gave is said in `specs/Input.antt`. [`write_text`] writes
 //!   a whole text.
+//! - [`parse_in_place`] reads a JSON text without a copy of what stands in it, and a [`Part`] looks into that;
+//!   `specs/Part.antt` says for which JSON value it stands.
 //! - A [`ScriptError`] says why a text was not read or written, a [`ShapeError`] why a JSON value is not
 //!   what was asked for (`specs/Gives.antt`).
 //!

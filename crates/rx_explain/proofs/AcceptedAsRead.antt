@@ -1,5 +1,5 @@
 -- What is accepted, by what was read.
-use Rattle.std.proofs.Common.{◌≡◌, ℕ, ◌<◌, ◌≤◌, ◌⊎◌, inl, inr, List, length, take, Option, Some, None, true, false, refl, sym, subst, ◌∙◌, arith, slice_get}
+use Rattle.std.proofs.Common.{◌≡◌, ℕ, ◌<◌, ◌≤◌, ◌⊎◌, inl, inr, List, length, take, Option, Some, None, Bool, true, false, refl, ap, sym, subst, ◌∙◌, arith, slice_get}
 use Rattle.std.specs.Prelude.{is_some, is_none, Result, Ok, Err, IfOk, IsUtf8}
 use Rattle.std.proofs.lemmas.Bool.{false≢true}
 use Rattle.std.proofs.lemmas.Option.{same_Some, none-some}
@@ -16,6 +16,7 @@ use Rattle.rx_audit.specs.declared.verdict.Verdict.{Verdict}
 use Rattle.rx_audit.specs.declared.verdict.Verdict.TheVariants.{Lawful, Unlawful, Unsettled}
 use Rattle.rx_audit.specs.Verdict.{IsVerdict}
 use Rattle.rx_device.specs.Input.{IsJsonOf, most_bytes}
+use Rattle.rx_scenario.specs.Scenario.{Script}
 use Rattle.rx_scenario.specs.Reading.{scenario_of}
 use Rattle.rx_dump.specs.History.{history_of}
 use Rattle.rx_dump.specs.Verdict.{is_lawful}
@@ -46,6 +47,21 @@ no_dump d e is = none-some is.is_verdict.history (sym e ∙ is.is_verdict.readin
 
 pub no_scenario : (d : Data) → scenario_of d ≡ None → ¬ IsScenario d
 no_scenario d e is = none-some is.script (sym e ∙ is.reading)
+
+-- a text that is read in place
+pub scenario_in_place : (input : List ℕ) (d : Data) (r : Option Script) (is : Bool) → IsJsonOf input d → r ≡ scenario_of d → is ≡ is_some r
+    → (e : Data) → IsJsonOf input e → is ≡ is_some (scenario_of e)
+scenario_in_place input d r is json reading same e other =
+    same ∙ ap is_some reading ∙ ap (λ (v : Data). is_some (scenario_of v)) (same_Some _ _ (sym json.value ∙ other.value))
+
+-- nothing is said of a scenario
+pub scenario_told : {X : Type 0} (d : Data) (told : Option X) → is_none told ≡ is_some (scenario_of d) → SaysNothingWhere (IsScenario d) told
+scenario_told d None is = scenario_some (scenario_of d) is refl
+  where
+    scenario_some : (r : Option Script) → true ≡ is_some r → scenario_of d ≡ r → IsScenario d
+    scenario_some None is reading = absurd (false≢true (sym is))
+    scenario_some (Some script) is reading = record { script = script; reading = reading }
+scenario_told d (Some told) is = λ other. false≢true (is ∙ ap is_some other.reading)
 
 -- nothing is said of a dump where the verdict on its history is `lawful`
 dump_told : {X : Type 0} (d : Data) (h : List Event) (v : Verdict) (told : Option X) → history_of d ≡ Some h → IsVerdict h v → is_none told ≡ is_lawful v →

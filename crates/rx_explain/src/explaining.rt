@@ -1,7 +1,10 @@
 //! What is wrong with an input, or nothing.
 
-ghost use Rattle.std.specs.Prelude.{◌≡◌, is_none, IfOk};
+ghost use Rattle.std.specs.Prelude.{◌≡◌, is_some, is_none, IfOk};
+ghost use Rattle.serde_json.specs.Data.{Data};
 ghost use Rattle.serde_json.specs.View.{view};
+ghost use Rattle.rx_device.specs.Input.{IsJsonOf};
+ghost use Rattle.rx_scenario.specs.Reading.{scenario_of};
 ghost use Rattle.rx_dump.specs.Verdict.{is_lawful};
 ghost use Rattle.rx_explain.specs.Accepted.{IsScenario, IsLawfulDump, IsTaken, IsAccepted, SaysNothingWhere};
 
@@ -12,7 +15,8 @@ use crate::rules::broken_rule;
 use crate::scenario::scenario_fault;
 use crate::walk::{Walk, told_by};
 use rx_audit::{Verdict, audit};
-use rx_device::{MOST_BYTES, ShapeError};
+use json::Scratch;
+use rx_device::{MOST_BYTES, Part, ScriptError, ShapeError, parse_in_place};
 use rx_dump::{history_of, push_dump};
 use rx_event::Event;
 use rx_scenario::scenario_of;
@@ -136,28 +140,44 @@ fn explain_dump(alloc: Global, value: &Value) -> Told
     }
 }
 
-// What is wrong with a value that is to be a scenario.
-fn explain_scenario(alloc: Global, value: &Value) -> Told
-    ensures { IfOk result (SaysNothingWhere (IsScenario (view value.now))) }
+// Whether a JSON text is that of a scenario.
+fn is_scenario(alloc: Global, input: &[u8]) -> Result<bool, AllocError>
+    ensures { IfOk result (λ is. (d : Data) → IsJsonOf input.now d → is ≡ is_some (scenario_of d)) }
 {
-    match scenario_of(alloc, value) {
-        Ok(_scenario) => Ok(None),
+    let mut scratch = Scratch::new(alloc);
+    let value = match parse_in_place(alloc, input, &mut scratch) {
+        Ok(value) => value,
+        Err(ScriptError::Memory) => return Err(AllocError),
+        Err(_) => return Ok(false),
+    };
+    match scenario_of(alloc, Part::new(&value)) {
+        Ok(_scenario) => Ok(true),
+        Err(ShapeError::Shape) => Ok(false),
         Err(ShapeError::Memory) => Err(AllocError),
-        Err(ShapeError::Shape) => {
-            let walk = scenario_fault(alloc, value);
-            Ok(Some(or_else(alloc, walk, "the input is not a scenario")?))
-        }
     }
 }
 
-// What is wrong with a value.
-fn explain_value(alloc: Global, value: &Value) -> Told
+// What is wrong with the value of a JSON text that is to be a scenario.
+fn explain_scenario(alloc: Global, input: &[u8], value: &Value) -> Told
+    requires json { IsJsonOf input.now (view value.now) }
+    ensures { IfOk result (SaysNothingWhere (IsScenario (view value.now))) }
+{
+    if is_scenario(alloc, input)? {
+        return Ok(None);
+    }
+    let walk = scenario_fault(alloc, value);
+    Ok(Some(or_else(alloc, walk, "the input is not a scenario")?))
+}
+
+// What is wrong with the value of a JSON text.
+fn explain_value(alloc: Global, input: &[u8], value: &Value) -> Told
+    requires json { IsJsonOf input.now (view value.now) }
     ensures { IfOk result (SaysNothingWhere (IsTaken (view value.now))) }
 {
     if value.is_array() {
         explain_dump(alloc, value)
     } else {
-        explain_scenario(alloc, value)
+        explain_scenario(alloc, input, value)
     }
 }
 
@@ -178,7 +198,7 @@ pub fn explain(alloc: Global, input: &[u8]) -> Told
         return Ok(Some(too_long(alloc)?));
     }
     match Value::from_slice(alloc, input) {
-        Ok(value) => explain_value(alloc, &value),
+        Ok(value) => explain_value(alloc, input, &value),
         Err(error) if error.is_memory() => Err(AllocError),
         Err(error) => Ok(Some(no_json(alloc, &error)?)),
     }

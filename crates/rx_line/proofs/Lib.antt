@@ -1,3 +1,4 @@
 pub mod NamesStayPaired
 pub mod NamesWithMoreRoom
 pub mod BoundAfterChange
+pub mod LinesRead

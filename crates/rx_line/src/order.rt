@@ -1,19 +1,15 @@
 //! What a line says.
 
-ghost use Rattle.std.specs.Prelude.{◌≡◌, map, option_map, string_bytes, IfOk, IfErr, None, Some};
-ghost use Rattle.std.specs.List.{list_all};
-ghost use Rattle.std.specs.Map.{keys_of};
+ghost use Rattle.std.specs.Prelude.{◌≡◌, option_map, IfOk, IfErr};
 ghost use Rattle.rx_scenario.specs.Scenario.{command_of};
-ghost use Rattle.rx_scenario.specs.Reading.{is_one_of, has_only, is_object_of};
-ghost use Rattle.serde_json.specs.View.{view, members_view};
-ghost use Rattle.serde_json.specs.Data.{Data};
-ghost use Rattle.rx_device.specs.Input.{IsJsonOf};
+ghost use Rattle.rx_device.specs.Part.{part_data};
 ghost use Rattle.rx_line.specs.Orders.{is_word, is_timed, command_in, order_in, order_of, IsOrderOf, IsFaulty, IsUnread};
 
 use crate::wanted::fault_of;
-use rx_device::ShapeError;
-use rx_scenario::{Action, Command, action_in};
-use serde_json::{Error, Map, Value};
+use json::Scratch;
+use rx_device::{Part, ScriptError, ShapeError, parse_in_place};
+use rx_scenario::{Action, Command, action_in, is_object_of};
+use serde_json::{Error, Value};
 use std::alloc::{AllocError, Global};
 
 /// What a line asks for.
@@ -55,62 +51,27 @@ fn no_json(alloc: Global, error: &Error) -> Result<String, AllocError> {
     format!(in alloc; "column {column}: no JSON text; look here and just before")
 }
 
-// The JSON value whose text the line is.
-fn value_of(alloc: Global, line: &[u8]) -> Result<Value, Unread>
-    ensures ok { IfOk result (λ v. IsJsonOf line.now (view v)) }
-    ensures err { IfErr result (IsUnread ((d : Data) → ¬ IsJsonOf line.now d)) }
-{
+// What is said of a line that asks for nothing.
+fn fault_in(alloc: Global, line: &[u8]) -> Result<String, AllocError> {
     match Value::from_slice(alloc, line) {
-        Ok(value) => Ok(value),
-        Err(error) => Err(if error.is_memory() {
-            Unread::Memory
-        } else {
-            Unread::Faulty(no_json(alloc, &error)?)
-        }),
-    }
-}
-
-fn is_one_of(key: &str, names: &[&str]) -> bool
-    ensures { result ≡ is_one_of (map (λ s. s.now) names.now) key.now }
-{
-    names.contains(&key)
-}
-
-fn are_all_of(members: &Map<String, Value>, names: &[&str]) -> bool
-    ensures { result ≡ list_all (λ k. is_one_of (map (λ s. s.now) names.now) (string_bytes k)) (keys_of members.now.entries) }
-{
-    members.keys().all(|key| is_one_of(key.as_str(), names))
-}
-
-#[tactic(auto, unfolding(rx_scenario::specs::Reading::has_only))]
-fn has_only(members: &Map<String, Value>, names: &[&str]) -> bool
-    ensures { result ≡ has_only (map (λ s. s.now) names.now) (members_view members.now.entries) }
-{
-    are_all_of(members, names)
-}
-
-// Whether a value is an object with no member of another name.
-fn is_object_of(value: &Value, names: &[&str]) -> bool
-    ensures { result ≡ is_object_of (map (λ s. s.now) names.now) (view value.now) }
-{
-    match value {
-        Value::Object(members) => has_only(members, names),
-        _ => false,
+        Ok(value) => fault_of(alloc, &value),
+        Err(error) if error.is_memory() => Err(AllocError),
+        Err(error) => no_json(alloc, &error),
     }
 }
 
 // Whether a value is an object that has `do` alone, with this word.
 #[tactic(auto, unfolding(crate::specs::Orders::is_word))]
-fn is_word(value: &Value, word: &str) -> bool
-    ensures { result ≡ is_word word.now (view value.now) }
+fn is_word(value: Part<'_, '_>, word: &str) -> bool
+    ensures { result ≡ is_word word.now (part_data value.entry) }
 {
-    is_object_of(value, &["do"]) && value.get("do").and_then(Value::as_str) == Some(word)
+    is_object_of(value, &["do"]) && value.get("do").and_then(Part::as_str) == Some(word)
 }
 
 // Whether a member is one of a step, and of no line.
 #[tactic(auto, unfolding(crate::specs::Orders::is_timed))]
-fn is_timed(value: &Value) -> bool
-    ensures { result ≡ is_timed (view value.now) }
+fn is_timed(value: Part<'_, '_>) -> bool
+    ensures { result ≡ is_timed (part_data value.entry) }
 {
     value.get("label").is_some()
         || value.get("at").is_some()
@@ -120,8 +81,8 @@ fn is_timed(value: &Value) -> bool
 
 // The command that a value is.
 #[tactic(auto, unfolding(crate::specs::Orders::command_in))]
-fn command_in(alloc: Global, value: &Value) -> Result<Option<Command>, AllocError>
-    ensures { IfOk result (λ c. option_map command_of c ≡ command_in (view value.now)) }
+fn command_in(alloc: Global, value: Part<'_, '_>) -> Result<Option<Command>, AllocError>
+    ensures { IfOk result (λ c. option_map command_of c ≡ command_in (part_data value.entry)) }
 {
     if is_timed(value) {
         return Ok(None);
@@ -136,19 +97,18 @@ fn command_in(alloc: Global, value: &Value) -> Result<Option<Command>, AllocErro
 
 // What a value asks for.
 #[tactic(auto, unfolding(crate::specs::Orders::order_in))]
-fn order_in(alloc: Global, value: &Value) -> Result<Order, Unread>
-    ensures ok { IfOk result (λ o. order_in (view value.now) ≡ Some (order_of o)) }
-    ensures err { IfErr result (IsUnread (order_in (view value.now) ≡ None)) }
+fn order_in(alloc: Global, value: Part<'_, '_>) -> Result<Option<Order>, AllocError>
+    ensures { IfOk result (λ o. option_map order_of o ≡ order_in (part_data value.entry)) }
 {
     if is_word(value, "list") {
-        return Ok(Order::List);
+        return Ok(Some(Order::List));
     }
     if is_word(value, "dump") {
-        return Ok(Order::Dump);
+        return Ok(Some(Order::Dump));
     }
     match command_in(alloc, value)? {
-        Some(command) => Ok(Order::Command(command)),
-        None => Err(Unread::Faulty(fault_of(alloc, value)?)),
+        Some(command) => Ok(Some(Order::Command(command))),
+        None => Ok(None),
     }
 }
 
@@ -161,6 +121,14 @@ pub fn order_of(alloc: Global, line: &[u8]) -> Result<Order, Unread>
     ensures ok { IfOk result (λ o. IsOrderOf line.now (order_of o)) }
     ensures err { IfErr result (IsUnread (IsFaulty line.now)) }
 {
-    let value = value_of(alloc, line)?;
-    order_in(alloc, &value)
+    let mut scratch = Scratch::new(alloc);
+    let value = match parse_in_place(alloc, line, &mut scratch) {
+        Ok(value) => value,
+        Err(ScriptError::Memory) => return Err(Unread::Memory),
+        Err(_) => return Err(Unread::Faulty(fault_in(alloc, line)?)),
+    };
+    match order_in(alloc, Part::new(&value))? {
+        Some(order) => Ok(order),
+        None => Err(Unread::Faulty(fault_in(alloc, line)?)),
+    }
 }

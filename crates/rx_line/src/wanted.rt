@@ -1,5 +1,6 @@
 //! What is wrong with a line that is JSON and no command. Nothing is proved of what it says.
 
+use rx_scenario::is_name;
 use serde_json::Value;
 use std::alloc::{AllocError, Global};
 
@@ -32,16 +33,11 @@ fn is_among(member: &str, members: &str) -> bool {
     members.split(", ").any(|known| known == member)
 }
 
-fn is_name_byte(byte: u8) -> bool {
-    matches!(byte, b'0'..=b'9' | b'A'..=b'Z' | b'a'..=b'z' | b'-' | b'_')
-}
-
-fn is_name(value: &Value) -> bool {
-    let Some(text) = value.as_str() else {
-        return false;
-    };
-    let bytes = text.as_bytes();
-    1 <= bytes.len() && bytes.len() <= 32 && bytes.iter().all(|byte| is_name_byte(*byte))
+fn has_name(value: &Value) -> bool {
+    match value.as_str() {
+        Some(text) => is_name(text),
+        None => false,
+    }
 }
 
 fn is_code(value: &Value) -> bool {
@@ -67,7 +63,7 @@ fn is_one_of(object: &Value, member: &str, words: &str) -> bool {
 // Whether a name, or with `may` none, stands there.
 fn name_fault(object: &Value, member: &str, may: bool) -> Option<&'static str> {
     match object.get(member) {
-        Some(value) if is_name(value) => None,
+        Some(value) if has_name(value) => None,
         None if may => None,
         _ => Some(NAME),
     }

@@ -27,5 +27,5 @@ mod reading;
 mod scenario;
 
 pub use checkpoints::has_checkpoint;
-pub use reading::{action_in, scenario_of};
+pub use reading::{action_in, is_name, is_object_of, scenario_of};
 pub use scenario::{Action, Command, Scenario, Site, Sort, Step, Ticks};

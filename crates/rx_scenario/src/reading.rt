@@ -6,4 +6,5 @@ mod members;
 mod steps;
 
 pub use commands::action_in;
+pub use members::{is_name, is_object_of};
 pub use steps::scenario_of;

@@ -88,8 +88,9 @@ fn are_name_bytes(bytes: &[u8]) -> bool
     bytes.iter().all(|byte| is_name_byte(*byte))
 }
 
+/// Whether a text is a name: 1 to 32 ASCII letters, digits, dashes and underscores.
 #[tactic(auto, unfolding(crate::specs::Reading::is_name))]
-fn is_name(text: &str) -> bool
+pub fn is_name(text: &str) -> bool
     ensures { result ≡ is_name text.now }
 {
     let bytes = text.as_bytes();
