@@ -54,7 +54,7 @@ pub signed_read : (p : Parts) (r : Option ℤ) → SomeIff r (IsInteger p × Fit
     → r ≡ option_and_then as_i64 (number_from false p)
 signed_read p r h =
     let reads : option_and_then as_i64 (number_from false p)
-        ≡ (if (is_integer p && nat_lt (digits_of p) (2 ^ 64)) && nat_lt (digits_of p) (2 ^ 63) then Some (pos (digits_of p)) else None) =
+    ≡ (if (is_integer p && nat_lt (digits_of p) (2 ^ 64)) && nat_lt (digits_of p) (2 ^ 63) then Some (pos (digits_of p)) else None) =
     pos_by_test (is_integer p && nat_lt (digits_of p) (2 ^ 64)) (digits_of p) (float_of false p) (no_signed_float (float_is_finite (nearest binary64 false p)) _) in
     pos_is r h ∙ sym reads
   where

@@ -24,12 +24,10 @@ use crate::Form;
 use crate::closing::close;
 use crate::course::run_course;
 use crate::engine::{Engine, begin};
+use json::Scratch;
 use rx_agenda::Answer;
 use rx_book::Book;
-use json::Scratch;
-use rx_device::{
-    Part, ScriptError, ShapeError, Watched, parse_in_place, read_all, write_text,
-};
+use rx_device::{Part, ScriptError, ShapeError, Watched, parse_in_place, read_all, write_text};
 use rx_dump::push_dump;
 use rx_report::{
     events_of, gather, push_all_refused, push_closed, push_nodes, push_resources, push_totals,

@@ -309,7 +309,11 @@ pub fn until_in(object: Part<'_, '_>) -> Result<u64, ShapeError>
 
 // The time at a key, or the other where there is no such member.
 #[tactic(auto, unfolding(crate::specs::Reading::time_in))]
-fn time_in(object: Part<'_, '_>, key: &str, absent: Option<Ticks>) -> Result<Option<Ticks>, ShapeError>
+fn time_in(
+    object: Part<'_, '_>,
+    key: &str,
+    absent: Option<Ticks>,
+) -> Result<Option<Ticks>, ShapeError>
     ensures { Gives (λ t. t) result (time_in absent key.now (part_data object.entry)) }
 {
     let Some(time) = object.get(key) else {
