@@ -1,9 +1,8 @@
 -- The whole number of a numeral is that of the number which serde_json reads there.
-use Rattle.std.proofs.Common.{◌≡◌, ℕ, ◌^◌, ◌<◌, ◌≤◌, ℤ, pos, ◌<ℤ◌, List, drop, Option, Some, None, Bool, true, false, Float, refl, sym, ap, ◌∙◌, arith, length, lt-ltb, le-leb}
-use Rattle.std.specs.Prelude.{◌&&◌, ◌⊎◌, ◌==◌, slice_index, not, nat_lt, nat_le, if◌then◌else◌, option_and_then, SomeIff, FitsSigned}
+use Rattle.std.proofs.Common.{◌≡◌, ℕ, ◌^◌, ◌<◌, ℤ, pos, ◌<ℤ◌, List, drop, Option, Some, None, Bool, true, false, Float, refl, sym, ◌∙◌, arith}
+use Rattle.std.specs.Prelude.{◌&&◌, ◌⊎◌, ◌==◌, slice_index, nat_lt, nat_le, if◌then◌else◌, option_and_then, SomeIff, FitsSigned}
 use Rattle.std.specs.Int.{w64}
 use Rattle.std.specs.Float.{binary64, float_is_finite}
-use Rattle.std.proofs.lemmas.Bool.{and_parts, false≢true}
 use Rattle.fast_float.specs.Text.{Parts, scan, minus, digits_of, nearest, with_sign, IsInteger}
 use Rattle.serde_json.specs.Data.{Num, unsigned, negative, float}
 use Rattle.serde_json.specs.Find.{as_u64, as_i64}

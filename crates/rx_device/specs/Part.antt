@@ -1,8 +1,7 @@
 -- The JSON value that a value read in place stands for: one whose names and words stand in its text, and whose numbers are text.
-use Rattle.std.specs.Prelude.{◌&&◌, Bool, true, List, Option, Some, None, is_some}
+use Rattle.std.specs.Prelude.{◌&&◌, Bool, true, Option, Some, None, is_some}
 use Rattle.json.specs.Json as text
 use Rattle.json.specs.Value.{value_view}
-use Rattle.json.specs.declared.value.Value.{Value}
 use Rattle.serde_json.specs.Data.{Num, Data, null, boolean, number, string, array, object, Items, no_items, item, Members, no_members, put}
 use Rattle.serde_json.specs.Read.{number_of}
 use Rattle.rx_device.specs.declared.part.Part.{Part}

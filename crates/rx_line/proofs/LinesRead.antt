@@ -1,9 +1,9 @@
 -- What a line asks for, by the value whose text it is.
-use Rattle.std.proofs.Common.{◌≡◌, ℕ, List, Option, Some, None, sym, ◌∙◌, subst, ap}
+use Rattle.std.proofs.Common.{◌≡◌, ℕ, List, None, sym, ◌∙◌, ap}
 use Rattle.std.proofs.lemmas.Option.{same_Some, none-some}
 use Rattle.serde_json.specs.Data.{Data}
 use Rattle.rx_device.specs.Input.{IsJsonOf}
-use Rattle.rx_line.specs.Orders.{Order, order_in, IsOrderOf, IsFaulty}
+use Rattle.rx_line.specs.Orders.{order_in, IsFaulty}
 
 pub no_order : (line : List ℕ) (d : Data) → IsJsonOf line d → order_in d ≡ None → IsFaulty line
 no_order line d json none o is =

@@ -1,5 +1,4 @@
-use Rattle.std.proofs.Common.{◌≡◌, Some, sym, ◌∙◌, subst, ap}
-use Rattle.json.specs.Lex.{tokens}
+use Rattle.std.proofs.Common.{sym, ◌∙◌}
 use Rattle.json.specs.Json.{value}
 use Rattle.json.specs.Value.{value_view}
 use Rattle.rx_device.proofs.Documents.{read_whole, read_other}

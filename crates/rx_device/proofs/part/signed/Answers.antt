@@ -1,5 +1,4 @@
-use Rattle.std.proofs.Common.{sym, ◌∙◌, ap, option_and_then, arith}
-use Rattle.serde_json.specs.Find.{as_i64}
+use Rattle.std.proofs.Common.{sym, ◌∙◌, arith}
 use Rattle.rx_device.proofs.WholeNumbers.{signed_of_text, negative_of_text}
 use Rattle.rx_device.proofs.part.signed.Goals as goal
 

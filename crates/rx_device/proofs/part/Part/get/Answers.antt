@@ -1,4 +1,3 @@
-use Rattle.std.proofs.Common.{sym}
 use Rattle.json.specs.Value.{value_view}
 use Rattle.rx_device.proofs.Parts.{get_part}
 use Rattle.rx_device.proofs.part.Part.get.Goals as goal
