@@ -15,7 +15,7 @@ use Rattle.rx_event.specs.declared.event.Event.{Event}
 use Rattle.rx_event.specs.declared.event.Event.TheVariants.{Open, Connect}
 use Rattle.rx_event.specs.declared.event.Place.{Place}
 use Rattle.rx_event.specs.declared.event.Kind.{Kind}
-use Rattle.rx_event.specs.declared.event.Kind.TheVariants.{Leaf, Pass, Flat, Switch, Until, Sub}
+use Rattle.rx_event.specs.declared.event.Kind.TheVariants.{Sub}
 use Rattle.rx_event.specs.Events.{makes_hub, hub_connected, hub_subscribed, is_connect_of, is_subscriber_of}
 use Rattle.rx_event.specs.Tree.{at, is_open, places}
 use Rattle.rx_event.specs.Lawful.{IsLawful}

@@ -7,8 +7,8 @@ use Rattle.std.proofs.lemmas.Bool.{false≢true, both_ways, eq-eqb, false_from_n
 use Rattle.std.proofs.lemmas.Option.{none-some, same_Some}
 use Rattle.rx_event.specs.Kept.{Kept}
 use Rattle.rx_event.specs.declared.event.Place.{Place}
-use Rattle.rx_event.specs.declared.event.Place.TheVariants.{Root, Source, Inner, Notifier}
-use Rattle.rx_event.specs.declared.event.Kind.TheVariants.{Switch, Until}
+use Rattle.rx_event.specs.declared.event.Place.TheVariants.{Source, Inner, Notifier}
+use Rattle.rx_event.specs.declared.event.Kind.TheVariants.{Switch}
 use Rattle.rx_event.specs.declared.event.Event.{Event}
 use Rattle.rx_event.specs.declared.event.Event.TheVariants.{Open}
 use Rattle.rx_event.specs.Events.{is_switch, is_until, is_source_of, is_inner_of, inner_named, named_by, parent_named}

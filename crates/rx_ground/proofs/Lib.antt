@@ -11,6 +11,7 @@ pub mod HeldKept
 pub mod Newest
 pub mod NodeEnds
 pub mod TiedWhileSettling
+pub mod MarksMakeNothingDue
 pub mod Inners
 pub mod ReadyToOpen
 pub mod HubsBesideTree

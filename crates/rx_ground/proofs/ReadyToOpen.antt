@@ -1,5 +1,5 @@
 -- What an opening leaves of the tie, where it takes the place of an open inner and where it does not.
-use Rattle.std.proofs.Common.{◌≡◌, ◌≢◌, ℕ, suc, ◌+◌, ◌<◌, ◌≤◌, Bool, true, false, List, [], ◌∷◌, ◌++◌, length, Option, Some}
+use Rattle.std.proofs.Common.{◌≡◌, ◌≢◌, ℕ, suc, ◌+◌, ◌<◌, Bool, true, false, List, [], ◌∷◌, ◌++◌, length, Option, Some}
 use Rattle.std.proofs.Common.{None, is_some, IsSome, IfSome, option_map, refl, sym, ap, subst, ◌∙◌, arith, inl, inr, ◌⊎◌}
 use Rattle.std.specs.Prelude.{IfNone}
 use Rattle.std.proofs.Math.Bool.{not, ◌&&◌}
@@ -18,7 +18,7 @@ use Rattle.rx_event.specs.declared.event.Event.TheVariants.{Open}
 use Rattle.rx_event.specs.Events.{named_by, is_switch, is_inner_of}
 use Rattle.rx_event.specs.Tree.{at, is_open, places, is_open_child_of, is_within}
 use Rattle.rx_event.specs.Moments.{owed}
-use Rattle.rx_event.specs.Marks.{marks_of, touches, open_children, after_source, after_notifier, after_inner}
+use Rattle.rx_event.specs.Marks.{terminal_due, marks_of, touches, open_children, after_source, after_notifier, after_inner}
 use Rattle.rx_event.specs.Lawful.{MayFollow, IsLawful}
 use Rattle.rx_event.specs.Claims.Nodes.{IsOpenInner}
 use Rattle.rx_event.proofs.Laws.Openness.{is_open_kept, is_open_cut, is_cut_inner, is_open_within}
@@ -28,13 +28,14 @@ use Rattle.rx_event.proofs.Laws.MarksTouched.{marks-source_at, marks-notifier_at
 use Rattle.rx_slots.specs.declared.Key.{Key}
 use Rattle.rx_slots.specs.Slots.{find, entry_at, KeepsOthers}
 use Rattle.rx_tree.specs.declared.node.Node.{Node}
-use Rattle.rx_tree.specs.Tree.{Tree, IsSound, AreApart, IsNewest, IsPlaced, blank_node}
+use Rattle.rx_tree.specs.Tree.{Tree, IsSound, AreApart, IsNewest, IsPlaced, is_on, blank_node}
 use Rattle.rx_tree.proofs.Laws.Keys.{some_of}
 use Rattle.rx_tree.proofs.Laws.Newest.{newest_fewer}
 use Rattle.rx_hub.specs.Hubs.{Hubs}
 use Rattle.rx_flow.specs.Records.{IsRecordOf}
-use Rattle.rx_ground.specs.Ties.{IsTied, AreTied, Remarks, IsNewNode, opened_marks}
+use Rattle.rx_ground.specs.Ties.{IsTied, AreTied, IsUndue, Remarks, IsNewNode, opened_marks}
 use Rattle.rx_ground.specs.Inners.{ReplacesNone, Exchanges, MakesWay, ClearsHubs}
+use Rattle.rx_ground.proofs.MarksMakeNothingDue.{no_terminal}
 use Rattle.rx_ground.proofs.Newest.{newest}
 use Rattle.rx_ground.proofs.Records.{AreLeft, all_left, cut_left}
 use Rattle.rx_ground.proofs.StaysTied.{IsOpenedIn, found_still, still_there, rewritten_there, tied_root, tied_below}
@@ -67,13 +68,6 @@ above_open base h (Inner f) kind p next named =
 
 same_inner : (f q : ℕ) → Inner f ≡ Inner q → f ≡ q
 same_inner f q same = same_Some f q (ap named_by same)
-
--- an opening leaves no more owed
-pub opened_owes : (replaces : Bool) (place : Place) (m : Marks) → (opened_marks replaces place m).owed ≤ m.owed
-opened_owes replaces Root m = omega arith
-opened_owes replaces (Source f) m = omega arith
-opened_owes replaces (Inner f) m = omega arith
-opened_owes replaces (Notifier f) m = omega arith
 
 -- what is ready for an opening -----------------------------------------------------------------------
 
@@ -206,6 +200,17 @@ module _ {base : Kept} {T : Type 0} {g : Ghosts T} {h : List Event} {place : Pla
       IfSome above (λ k. IsSome (find mid.nodes k))
   above_there_still None b = tt
   above_there_still (Some p) b = let here = above_there (Some p) b.named b.there in ap is_some (left_still b p here) ∙ here
+
+  -- and off the chain it has not to end
+  pub quiet_above : {mid : Tree T} {key : Key} (above : Option Key) → IsOpenedBelow h place kind above old left mid key →
+      IfSome above (λ k. is_on k mid.chain ≡ false → IsUndue mid.nodes k)
+  quiet_above None b = tt
+  quiet_above (Some p) b = λ off.
+      let x = some_of (find old.nodes p) b.there in
+      let here = above_found p x.0 b.named x.1 in
+      let quiet = ready.tied.of_tree.records.quiet p x.0 x.1 (way_left.off p x.0 here (ap (is_on p) (sym b.opened.chain) ∙ off)) in
+      subst (λ (o : Option Node). IfSome o (λ n. terminal_due n.made n.marks ≡ None)) (sym (left_still b p (ap is_some here) ∙ here))
+      (no_terminal p.number (terminal_due x.0.made x.0.marks) quiet)
 
   module _ {mid : Tree T} {key : Key} {above : Option Key} (below : IsOpenedBelow h place kind above old left mid key) where
     -- it has few children

@@ -2,6 +2,7 @@
 use Rattle.std.proofs.Common.{◌≡◌, ℕ, ◌<◌, Bool, true, false, List, [], ◌∷◌, ◌++◌, length, Option, Some, None, is_some, IsSome, IfSome}
 use Rattle.std.proofs.Common.{option_map, slice_get, refl, sym, ap, subst, ◌∙◌, ◌≤◌, ◌+◌, arith, length-append}
 use Rattle.std.specs.List.{AllByRecursion}
+use Rattle.std.specs.Option.{option_and_then}
 use Rattle.std.proofs.Math.Bool.{◌||◌}
 use Rattle.std.proofs.lemmas.Bool.{false≢true}
 use Rattle.std.proofs.lemmas.Option.{none-some, same_Some}
@@ -13,7 +14,7 @@ use Rattle.rx_event.specs.declared.event.Event.{Event}
 use Rattle.rx_event.specs.declared.event.Event.TheVariants.{Connect, End}
 use Rattle.rx_event.specs.Events.{is_merging}
 use Rattle.rx_event.specs.Tree.{is_open}
-use Rattle.rx_event.specs.Marks.{after_child, after_decline}
+use Rattle.rx_event.specs.Marks.{due_at, after_child, after_decline}
 use Rattle.rx_event.specs.Notes.{mail_of}
 use Rattle.rx_event.specs.Forced.{IsConnectDue, IsForced, IsSettled, connecting, due}
 use Rattle.rx_event.specs.Lawful.{IsLawful, IsForcedOn, forced, stays, more}
@@ -32,7 +33,7 @@ use Rattle.rx_flow.specs.declared.forcing.Due.{Due}
 use Rattle.rx_flow.specs.Due.{IsChained, IsDueAt, IsQuiet as IsQuietTree}
 use Rattle.rx_flow.specs.Records.{AreRecordsOf}
 use Rattle.rx_flow.proofs.Laws.Dues.{due_at_in, due_forced}
-use Rattle.rx_ground.specs.Ties.{AreLeased, AreTied, IsReady, WithChain, IsNext, KeepsOlder, Remarks, HasRoomToConnect, is_there, key_due}
+use Rattle.rx_ground.specs.Ties.{AreLeased, AreRecords, AreTied, IsReady, WithChain, IsNext, KeepsOlder, Remarks, HasRoomToConnect, is_there, key_due}
 use Rattle.rx_ground.specs.Memory.{TakesNoMemory}
 use Rattle.rx_ground.proofs.Memory.{memory_on}
 use Rattle.rx_ground.specs.Shown.{Ground}
@@ -73,6 +74,18 @@ module _ (base : Kept) {T : Type 0} (g : Ghosts T) (h : List Event) (tree : Tree
   -- and where nothing is either, nothing is forced
   pub quiet_settled : IsQuietTree tree.nodes → IsSettled base h
   quiet_settled all = quiet_settles base h tree.nodes hubs.hubs records tied.published all quiet
+
+-- where there is no hub nothing is due at any
+pub quiet_hubs : (hubs : List Hub) → length hubs ≡ 0 → IsQuiet hubs
+quiet_hubs [] none = record { connected = λ i hub got. absurd (none-some hub got); quiet = λ i hub got. absurd (none-some hub got) }
+quiet_hubs (x ∷ hubs) none = absurd (omega arith)
+
+-- where nothing stands on the chain nothing is due at any record
+pub quiet_chain : {base : Kept} {h : List Event} {nodes : Slots Node} {chain : List Key} → AreRecords base h nodes chain → chain ≡ [] → IsQuietTree nodes
+quiet_chain {nodes} {chain} records none key = by_value (find nodes key) refl where
+  by_value : (o : Option Node) → find nodes key ≡ o → option_and_then (λ (node : Node). due_at node.made node.marks key.number) o ≡ None
+  by_value None e = refl
+  by_value (Some node) e = records.quiet key node e (ap (is_on key) none)
 
 module _ {T : Type 0} (g : Ghosts T) (b : Ground T) (tied : AreTied b.register.base g b.register.history b.tree b.hubs) where
   -- what is due at a hub comes next

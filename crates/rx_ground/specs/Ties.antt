@@ -15,7 +15,7 @@ use Rattle.rx_event.specs.Events.{makes_resource, is_take_of}
 use Rattle.rx_event.specs.Kept.{Kept}
 use Rattle.rx_event.specs.Tree.{at, is_open}
 use Rattle.rx_event.specs.Resources.{accepted_by, is_owned, is_out, leases_of, uses}
-use Rattle.rx_event.specs.Marks.{due_at, after_source, after_notifier, after_inner}
+use Rattle.rx_event.specs.Marks.{due_at, terminal_due, after_source, after_notifier, after_inner}
 use Rattle.rx_event.specs.Notes.{mail_of}
 use Rattle.rx_event.specs.Totals.{debt, open_count}
 use Rattle.rx_event.specs.Lawful.{MayFollow}
@@ -52,6 +52,10 @@ opened_marks replaces (Source p) m = after_source m
 opened_marks replaces (Inner f) m = after_inner replaces m
 opened_marks replaces (Notifier u) m = after_notifier m
 opened_marks replaces Root m = m
+
+-- the node that a key finds has not to end, by its marks
+abbrev pub IsUndue : Slots Node → Key → Type 0
+IsUndue nodes key = IfSome (find nodes key) (λ node. terminal_due node.made node.marks ≡ None)
 
 -- some slot has a value under this number
 pub record HasKey {X : Type 0} (slots : Slots X) (number : ℕ) : Type 0 where

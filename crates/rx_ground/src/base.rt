@@ -1,7 +1,7 @@
 //! What a book stands on: the register of what happened, the tree of what is open, held and waiting, the
 //! hubs that were made, and the leases that are out.
 
-ghost use Rattle.std.specs.Prelude.{◌≡◌, ◌+◌, ◌-◌, ◌<◌, ◌≤◌, length, vec_capacity, option_map, IfSome, IsSome, OnOk};
+ghost use Rattle.std.specs.Prelude.{◌≡◌, ◌+◌, ◌-◌, ◌<◌, ◌≤◌, [], length, vec_capacity, option_map, IfSome, IsSome, OnOk};
 ghost use Rattle.rx_register.specs.State.{IsPromised as IsRegisterPromised};
 ghost use Rattle.rx_tree.specs.Tree.{AreApart, IsPromised as IsTreePromised, parent_number};
 ghost use Rattle.rx_hub.specs.Hubs.{IsPromised as IsHubsPromised};
@@ -94,6 +94,31 @@ pub(crate) fn parent<R: Resource>(tree: &Tree<R>, key: Key) -> Option<Key>
     }
 }
 
+// Twice the room that there was, no less than is wanted, and 4 at least.
+fn grown(room: usize, wanted: usize) -> usize
+    ensures { wanted ≤ result }
+{
+    let twice = room.saturating_mul(2);
+    let least = if wanted < 4 { 4 } else { wanted };
+    if twice < least { least } else { twice }
+}
+
+// Room for closing so many. Nothing is on the list, so it is made anew and nothing is copied.
+#[cold]
+#[inline(never)]
+fn grow_closed(closed: &mut Vec<Closed>, space: usize) -> Result<(), AllocError>
+    requires empty { closed.old.items ≡ [] }
+    requires less { vec_capacity closed.old < space }
+    ensures ok { OnOk result (space ≤ vec_capacity closed.new) }
+    ensures closed { closed.new.items ≡ [] }
+    ensures capacity { vec_capacity closed.old ≤ vec_capacity closed.new }
+{
+    let alloc = *closed.allocator();
+    let fresh = Vec::with_capacity(alloc, grown(closed.capacity(), space))?;
+    *closed = fresh;
+    Ok(())
+}
+
 // Room for so many nodes more, and for closing all there are then. Where none is wanted, none is asked for.
 #[inline(always)]
 fn reserve_nodes<R: Resource>(
@@ -101,11 +126,12 @@ fn reserve_nodes<R: Resource>(
     closed: &mut Vec<Closed>,
     additional: usize,
 ) -> Result<(), AllocError>
+    requires empty { closed.old.items ≡ [] }
     ensures ok { OnOk result (additional ≤ tree.new.nodes.room) }
     ensures kept { tree.new ≡ record tree.old { nodes = record tree.old.nodes { room = tree.new.nodes.room } } }
     ensures room { tree.old.nodes.room ≤ tree.new.nodes.room }
     ensures space { OnOk result (additional ≤ vec_capacity closed.new - tree.new.nodes.count) }
-    ensures closed { closed.new.items ≡ closed.old.items }
+    ensures closed { closed.new.items ≡ [] }
     ensures capacity { vec_capacity closed.old ≤ vec_capacity closed.new }
 {
     if additional == 0 {
@@ -114,7 +140,9 @@ fn reserve_nodes<R: Resource>(
     let Some(space) = tree.len().checked_add(additional) else {
         return Err(AllocError);
     };
-    closed.reserve(space)?;
+    if closed.capacity() < space {
+        grow_closed(closed, space)?;
+    }
     tree.reserve(additional)
 }
 
@@ -194,6 +222,7 @@ impl<R: Resource> Ground<R> {
     ///
     /// An error comes where memory is refused, and where the count of nodes or of hubs would pass `usize`; then
     /// some of the room may have been gotten, and nothing else changed.
+    #[inline(always)]
     pub fn reserve(&mut self, wanted: Wanted) -> Result<(), AllocError>
         requires { length self.old.register.history + wanted.events ≤ self.old.register.base.at_length +
             self.old.register.limit }

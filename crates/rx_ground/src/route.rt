@@ -1,7 +1,7 @@
 //! Where an item goes, and what it does on its way: up from its leaf, and from a connection on to each
 //! subscriber of its hub (Publish), the first one's climb before the second's.
 
-ghost use Rattle.std.specs.Prelude.{◌≡◌, ◌+◌, ◌<◌, ◌≤◌, ◌++◌, [], ◌∷◌, length, option_map, Some, None, is_some, nat_lt, IsSome, IfSome};
+ghost use Rattle.std.specs.Prelude.{◌≡◌, ◌+◌, ◌<◌, ◌≤◌, ◌++◌, [], ◌∷◌, length, option_map, Some, None, false, is_some, nat_lt, IsSome, IfSome};
 ghost use Rattle.std.specs.Prelude.{IfOk, IfErr, OnOk, if◌then◌else◌};
 ghost use Rattle.std.specs.Option.{option_to_list};
 ghost use Rattle.std.proofs.Math.Bool.{not};
@@ -13,11 +13,11 @@ ghost use Rattle.rx_event.specs.Marks.{after_projection, after_firing};
 ghost use Rattle.rx_event.specs.Notes.{mail_of};
 ghost use Rattle.rx_slots.specs.Slots.{find};
 ghost use Rattle.rx_tree.specs.Owed.{owed_in};
-ghost use Rattle.rx_tree.specs.Tree.{is_key};
+ghost use Rattle.rx_tree.specs.Tree.{is_key, is_on};
 ghost use Rattle.rx_hub.specs.Route.{IsOrdered};
 ghost use Rattle.rx_hub.specs.Walk.{IsWalk, climb_over, stops_over};
 ghost use Rattle.rx_ground.specs.FirstCause.{first_at};
-ghost use Rattle.rx_ground.specs.Ties.{AreRecords, IsStanding, Remarks};
+ghost use Rattle.rx_ground.specs.Ties.{AreRecords, IsStanding, IsUndue, Remarks};
 ghost use Rattle.rx_ground.specs.Passing.{owed_at, told_at, mail_at, IsThere, IsMarkedAt, IsArrived, IsMeasured, IsPassing};
 ghost use Rattle.rx_ground.specs.Reached.{IsReach};
 
@@ -211,17 +211,15 @@ fn tell_at(register: &mut Register, stop: Stop, value: i64)
     }
 }
 
-/// Marks a FlatMap or a Switch as one to which an item was projected.
+/// Marks a FlatMap or a Switch as one to which an item was projected. By that it has not to end.
 #[inline(always)]
 fn mark_projection<R: Resource>(tree: &mut Tree<R>, merging: Key)
     requires open { IsSome (find tree.old.nodes merging) }
     requires countable { owed_in tree.old.nodes < 9223372036854775808 }
+    requires quiet { is_on merging tree.old.chain ≡ false → IsUndue tree.old.nodes merging }
     ensures { Remarks tree.old tree.new merging after_projection }
 {
-    let Some(marks) = tree.marks(merging) else {
-        unreachable!()
-    };
-    tree.set_marks(merging, marks.after_projection());
+    tree.mark_projection(merging);
 }
 
 /// Marks a TakeUntil as one that an item fired.
@@ -242,6 +240,7 @@ fn mark_firing<R: Resource>(tree: &mut Tree<R>, until: Key)
 fn mark_at<R: Resource>(tree: &mut Tree<R>, stop: Stop)
     requires there { IsThere tree.old.nodes stop }
     requires countable { owed_in tree.old.nodes < 9223372036854775808 }
+    requires quiet { (key : _) → is_on key tree.old.chain ≡ false → IsUndue tree.old.nodes key }
     ensures { IsMarkedAt stop tree.old tree.new }
 {
     match stop {

@@ -17,10 +17,41 @@ use rx_hub::HubDue;
 use rx_resource::Resource;
 
 impl<R: Resource> Ground<R> {
-    /// What is forced next; None where nothing is. What is due at a hub comes first, since nothing else
-    /// is forced while one waits for its connection.
+    /// Whether there is no hub, and no node was changed so that it may have to end: then nothing is forced.
+    #[inline(always)]
+    fn is_calm(&self) -> bool
+        requires tied { AreTied self.now.register.base R.Resource self.now.register.history self.now.tree
+            self.now.hubs }
+        ensures { result ≡ true → IsSettled self.now.register.base self.now.register.history }
+    {
+        if self.hubs.len() > 0 {
+            return false;
+        }
+        self.tree.is_calm()
+    }
+
+    /// What is forced next; None where nothing is. Where nothing was changed so that it may force anything,
+    /// nothing is looked at.
     #[inline(always)]
     fn next_forced(&mut self) -> Option<HubDue>
+        requires tied { AreTied self.old.register.base R.Resource self.old.register.history self.old.tree
+            self.old.hubs }
+        ensures tied { AreTied self.new.register.base R.Resource self.new.register.history self.new.tree self.new.hubs }
+        ensures next { MatchOption result (IsSettled self.new.register.base self.new.register.history)
+            (IsNext self.new) }
+        ensures kept { WithChain self.old self.new }
+    {
+        if self.is_calm() {
+            return None;
+        }
+        self.find_forced()
+    }
+
+    /// The same, looked for. What is due at a hub comes first, since nothing else is forced while one waits
+    /// for its connection.
+    #[cold]
+    #[inline(never)]
+    fn find_forced(&mut self) -> Option<HubDue>
         requires tied { AreTied self.old.register.base R.Resource self.old.register.history self.old.tree
             self.old.hubs }
         ensures tied { AreTied self.new.register.base R.Resource self.new.register.history self.new.tree self.new.hubs }

@@ -2,6 +2,7 @@ use Rattle.std.proofs.Common.{ap, w64}
 use Rattle.std.proofs.lemmas.Int.{to_z-of_z}
 use Rattle.rx_hub.specs.Route.{Route}
 use Rattle.rx_ground.proofs.Passage.{going_starts, going_on, going_fewer, stop_room}
+use Rattle.rx_ground.proofs.MarksMakeNothingDue.{off_undue}
 use Rattle.rx_ground.proofs.route.pass_on.Goals as goal
 
 pub loop-stop-init : goal.loop-stop-init
@@ -28,3 +29,6 @@ loop-stop-preserved g c =
     going_on c.args.register.now c.args.tree.now c.args.hubs.now.hubs c.args.route.now.room c.args.leaf _ c.loop-stop.register
     c.loop-stop.tree c.mark_at.new.tree c.loop-stop.route c.next.new.self c.in-Some.stop c.loop-stop.invariant c.in-Some.ensures c.mark_at.ensures
     c.tell_at.new.register c.tell_at.ensures.same c.tell_at.ensures.told c.tell_at.ensures.mail_room
+
+pub mark_at-requires-clause-quiet : goal.mark_at-requires-clause-quiet
+mark_at-requires-clause-quiet g c κs within = off_undue c.loop-stop.tree.nodes c.loop-stop.tree.chain c.loop-stop.invariant.passing.records.quiet

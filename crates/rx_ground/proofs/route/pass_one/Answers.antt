@@ -1,6 +1,7 @@
 use Rattle.std.proofs.Common.{w64}
 use Rattle.std.proofs.lemmas.Int.{to_z-of_z}
 use Rattle.rx_ground.proofs.Passage.{one_there, one_room, one_passed}
+use Rattle.rx_ground.proofs.MarksMakeNothingDue.{off_undue}
 use Rattle.rx_ground.proofs.route.pass_one.Goals as goal
 
 pub tell_at-requires : goal.tell_at-requires
@@ -20,3 +21,6 @@ returns g c =
     one_passed c.args.register.now c.args.tree.now c.args.hubs.now.hubs c.args.leaf c.args.value c.requires.lawful c.requires.walk c.requires.records
     c.requires.open c.args.only c.requires.only c.tell_at.new.register c.mark_at.new.tree c.mark_at.ensures c.requires.pending
     c.tell_at.ensures.same told c.tell_at.ensures.mail_room
+
+pub mark_at-requires-clause-quiet : goal.mark_at-requires-clause-quiet
+mark_at-requires-clause-quiet g c κs within = off_undue c.args.tree.now.nodes c.args.tree.now.chain c.requires.records.quiet

@@ -1,58 +1,8 @@
-use Rattle.std.proofs.Common.{◌≡◌, Option, None, MatchOption, is_some, sym, ap, subst, ◌∙◌}
-use Rattle.rx_slots.specs.Slots.{find}
-use Rattle.rx_tree.specs.Tree.{Tree}
-use Rattle.rx_hub.specs.declared.hub.HubDue.{HubDue}
-use Rattle.rx_hub.specs.Due.{IsDueIn, ConcernsHub}
-use Rattle.rx_hub.specs.Hubs.{Hubs}
-use Rattle.rx_ground.specs.Ties.{AreTied, IsNext}
-use Rattle.rx_ground.proofs.TiedWhileSettling.{hub_next, node_forced, quiet_settled, tied_rechained}
+use Rattle.std.proofs.Common.{refl}
 use Rattle.rx_ground.proofs.base.Ground.next_forced.Goals as goal
 
-pub returns-in-Some-clause-next : goal.returns-in-Some-clause-next
-returns-in-Some-clause-next g c =
-    let h = c.self.inside.register.history in
-    let was : AreTied c.self.inside.register.base g.R.Resource h c.self.inside.tree c.self.inside.hubs = rw (← c.self.view_is) at c.requires.tied in
-    let same = sym c.in-Some.ensures.kept in
-    hub_next g.R.Resource _ (subst (λ (hs : Hubs). AreTied c.self.inside.register.base g.R.Resource h c.self.inside.tree hs) same was) c.in-Some.due
-    (subst (λ (hs : Hubs). IsDueIn hs.hubs c.in-Some.due) same c.in-Some.ensures.due)
-    (subst (λ (hs : Hubs). ConcernsHub hs.hubs c.in-Some.due) same c.in-Some.ensures.concerns)
+pub returns-then-is_calm-clause-next : goal.returns-then-is_calm-clause-next
+returns-then-is_calm-clause-next g c = c.is_calm.ensures c.if-is_calm.true
 
--- nothing was found
-not_found : {A : Type 0} (P : HubDue → Type 0) (o : Option HubDue) → o ≡ None → A → MatchOption o A P
-not_found {A = A} P o none a = subst (λ (x : Option HubDue). MatchOption x A P) (sym none) a
-
-pub returns-in_err-node-clause-tied : goal.returns-in_err-node-clause-tied
-returns-in_err-node-clause-tied g c =
-    let base = c.self.inside.register.base in
-    let h = c.self.inside.register.history in
-    let was : AreTied base g.R.Resource h c.self.inside.tree c.self.inside.hubs = rw (← c.self.view_is) at c.requires.tied in
-    tied_rechained c.next_due.new.tree c.self.inside.hubs c.next_forced.new.self _ was
-    c.in_default.ensures.kept c.next_due.ensures.kept c.next_due.ensures.chained
-
-pub returns-in_err-node-clause-next : goal.returns-in_err-node-clause-next
-returns-in_err-node-clause-next g c =
-    let base = c.self.inside.register.base in
-    let h = c.self.inside.register.history in
-    let was : AreTied base g.R.Resource h c.self.inside.tree c.self.inside.hubs = rw (← c.self.view_is) at c.requires.tied in
-    not_found (IsNext _) c.from_residual.result c.from_residual.ensures
-    (quiet_settled base g.R.Resource h c.self.inside.tree c.self.inside.hubs was c.in_default.ensures.none c.in_err-node.ensures.none)
-
-pub returns-clause-tied : goal.returns-clause-tied
-returns-clause-tied g c =
-    let base = c.self.inside.register.base in
-    let h = c.self.inside.register.history in
-    let was : AreTied base g.R.Resource h c.self.inside.tree c.self.inside.hubs = rw (← c.self.view_is) at c.requires.tied in
-    tied_rechained c.next_due.new.tree c.self.inside.hubs c.next_forced.new.self _ was
-    c.in_default.ensures.kept c.next_due.ensures.kept c.next_due.ensures.chained
-
-pub returns-clause-next : goal.returns-clause-next
-returns-clause-next g c =
-    let base = c.self.inside.register.base in
-    let h = c.self.inside.register.history in
-    let was : AreTied base g.R.Resource h c.self.inside.tree c.self.inside.hubs = rw (← c.self.view_is) at c.requires.tied in
-    let next = c.in_ok-node.field-0 in
-    let due = c.in_ok-node.ensures.due in
-    record {
-      forced = node_forced base g.R.Resource h c.self.inside.tree c.self.inside.hubs was c.in_default.ensures.none next due;
-      there = ap (λ (t : Tree g.row.R.Denot). is_some (find t.nodes next.node)) c.next_due.ensures.kept ∙ ap is_some due.found;
-    }
+pub returns-then-is_calm-clause-kept : goal.returns-then-is_calm-clause-kept
+returns-then-is_calm-clause-kept g c = record { same = refl }

@@ -6,7 +6,7 @@ use Rattle.rx_tree.specs.declared.node.Node.{Node}
 use Rattle.rx_hub.specs.Hubs.{Hubs}
 use Rattle.rx_ground.specs.Ties.{AreLeased}
 use Rattle.rx_ground.proofs.RegisterAfterWrite.{writes_silent}
-use Rattle.rx_ground.proofs.ReadyToOpen.{IsOpenedBelow, stands_below, opened_new, owes_above, above_there_still, newest_left, placed_left, way_resources}
+use Rattle.rx_ground.proofs.ReadyToOpen.{IsOpenedBelow, stands_below, opened_new, owes_above, above_there_still, quiet_above, newest_left, placed_left, way_resources}
 use Rattle.rx_ground.proofs.HubsAtOpening.{rest_same, joined_left, ready_left, older_left, all_opened, as_many_opened}
 use Rattle.rx_ground.proofs.RoomAtOpening.{IsWayMade, way_made, few_owed, few_children, hubs_told, slot_within, left_memory}
 use Rattle.rx_ground.proofs.HubsAfterEvent.{tied_written}
@@ -86,6 +86,10 @@ mark_opened-requires-clause-countable g c =
     let few = few_owed (way g (goal.at.mark_opened-requires-clause-countable g c).After-open.before) c.promise.ensures in
     let same = c.in-Ok.ensures.owed in
     omega arith
+
+pub mark_opened-requires-clause-quiet : goal.mark_opened-requires-clause-quiet
+mark_opened-requires-clause-quiet g c κs within = let at = goal.at.mark_opened-requires-clause-quiet g c in
+    quiet_above (way g at.After-open.before).ready c.args.above (below g at.After-join)
 
 -- what the call leaves
 abbrev at_opening : (g : Over) (c : goal.After-write g) → goal.After-open-arg-1 g

@@ -1,0 +1,128 @@
+-- A node at whose place a node is opened, or to which an item is projected, has not to end by that, so its key need not go
+-- on the chain.
+use Rattle.std.proofs.Common.{◌≡◌, ℕ, ◌+◌, ◌==◌, ◌&&◌, ◌++◌, cond, Bool, true, false, List, [], ◌∷◌, Option, Some, None, is_some, option_map, IsSome, IfSome}
+use Rattle.std.proofs.Common.{refl, sym, ap, subst, ◌∙◌, arith, true≢false}
+use Rattle.std.specs.Option.{option_map_or, option_or}
+use Rattle.std.proofs.lemmas.Bool.Decides.{nat_tests}
+use Rattle.std.proofs.lemmas.Option.{none-some}
+use Rattle.rx_note.specs.declared.note.Terminal.{Terminal}
+use Rattle.rx_event.specs.declared.marks.Marks.{Marks}
+use Rattle.rx_event.specs.declared.event.Event.{Event}
+use Rattle.rx_event.specs.declared.event.Event.TheVariants.{Open, Connect, End}
+use Rattle.rx_event.specs.declared.event.Kind.TheVariants.{Pass, Flat, Switch, Until}
+use Rattle.rx_event.specs.Marks.{terminal_due, completed_if, is_over, due_at, after_source, after_notifier, after_projection}
+use Rattle.rx_slots.specs.declared.Key.{Key}
+use Rattle.rx_slots.specs.Slots.{Slots, find}
+use Rattle.rx_tree.specs.declared.node.Node.{Node}
+use Rattle.rx_tree.specs.Tree.{Tree, Rewrites, is_on, is_due, with_due, with_marks}
+use Rattle.rx_tree.proofs.Laws.Keys.{some_of}
+use Rattle.rx_ground.specs.Ties.{IsUndue, Remarks}
+use Rattle.rx_ground.proofs.TiedWhileSettling.{SetsMarks, set_remarks}
+
+-- marks -------------------------------------------------------------------------------------------
+
+-- a FlatMap or a Switch does not complete while a child is open
+busy : (c : Option Terminal) (over a d : Bool) (n : ℕ) → option_or c (completed_if over) ≡ None → option_or c (completed_if (a && (n + 1 == 0) && d)) ≡ None
+busy (Some t) over a d n none = none
+busy None over a d n none = shape a (n + 1 == 0) d (grind (arith, nat_tests)) where
+  shape : (a b d : Bool) → b ≡ false → completed_if (a && b && d) ≡ None
+  shape false b d some = refl
+  shape true true d some = absurd (true≢false some)
+  shape true false d some = refl
+
+-- what had not to end has not to with a child more
+pub source_undue : (made : Event) (m : Marks) → terminal_due made m ≡ None → terminal_due made (after_source m) ≡ None
+source_undue (Open place Pass) m none = none
+source_undue (Open place Until) m none = none
+source_undue (Open place Flat) m none = busy m.child_terminal (is_over m) m.source_completed (m.owed == 0) m.open_children none
+source_undue (Open place Switch) m none = busy m.child_terminal (is_over m) m.source_completed (m.owed == 0) m.open_children none
+source_undue (Connect g) m none = none
+source_undue _ m none = refl
+
+pub notifier_undue : (made : Event) (m : Marks) → terminal_due made m ≡ None → terminal_due made (after_notifier m) ≡ None
+notifier_undue (Open place Pass) m none = none
+notifier_undue (Open place Until) m none = none
+notifier_undue (Open place Flat) m none = busy m.child_terminal (is_over m) m.source_completed (m.owed == 0) m.open_children none
+notifier_undue (Open place Switch) m none = busy m.child_terminal (is_over m) m.source_completed (m.owed == 0) m.open_children none
+notifier_undue (Connect g) m none = none
+notifier_undue _ m none = refl
+
+-- nor with an item more that it owes an inner
+owing : (c : Option Terminal) (over a b : Bool) (n : ℕ) → option_or c (completed_if over) ≡ None → option_or c (completed_if (a && b && (n + 1 == 0))) ≡ None
+owing (Some t) over a b n none = none
+owing None over a b n none = shape a b (n + 1 == 0) (grind (arith, nat_tests)) where
+  shape : (a b d : Bool) → d ≡ false → completed_if (a && b && d) ≡ None
+  shape false b d some = refl
+  shape true false d some = refl
+  shape true true true some = absurd (true≢false some)
+  shape true true false some = refl
+
+pub projection_undue : (made : Event) (m : Marks) → terminal_due made m ≡ None → terminal_due made (after_projection m) ≡ None
+projection_undue (Open place Pass) m none = none
+projection_undue (Open place Until) m none = none
+projection_undue (Open place Flat) m none = owing m.child_terminal (is_over m) m.source_completed (m.open_children == 0) m.owed none
+projection_undue (Open place Switch) m none = owing m.child_terminal (is_over m) m.source_completed (m.open_children == 0) m.owed none
+projection_undue (Connect g) m none = none
+projection_undue _ m none = refl
+
+-- no event is forced just where no terminal is
+pub no_terminal : (n : ℕ) (o : Option Terminal) → option_map (λ (t : Terminal). End n t) o ≡ None → o ≡ None
+no_terminal n None none = refl
+no_terminal n (Some t) none = absurd (none-some (End n t) (sym none))
+
+-- off a chain no node has to end
+pub off_undue : (nodes : Slots Node) (chain : List Key) →
+    ((key : Key) (node : Node) → find nodes key ≡ Some node → is_on key chain ≡ false → due_at node.made node.marks key.number ≡ None) →
+    (key : Key) → is_on key chain ≡ false → IsUndue nodes key
+off_undue nodes chain quiet key off = by_value (find nodes key) refl where
+  by_value : (o : Option Node) → find nodes key ≡ o → IfSome o (λ node. terminal_due node.made node.marks ≡ None)
+  by_value None found = tt
+  by_value (Some node) found = no_terminal key.number (terminal_due node.made node.marks) (quiet key node found off)
+
+-- the chain ---------------------------------------------------------------------------------------
+
+-- it stays where a node off it has not to end
+same_chain : (nodes : Slots Node) (key : Key) (chain : List Key) → (is_on key chain ≡ false → is_due nodes key ≡ false) → with_due nodes key chain ≡ chain
+same_chain nodes key chain off = by_test (is_due nodes key) (is_on key chain) off where
+  by_test : (d b : Bool) → (b ≡ false → d ≡ false) → cond d (cond b chain (chain ++ key ∷ [])) chain ≡ chain
+  by_test false b off = refl
+  by_test true true off = refl
+  by_test true false off = absurd (true≢false (off refl))
+
+-- marks that change so, by which the node has not to end
+pub remarks_undue : {T : Type 0} {old new : Tree T} {key : Key} (change : Marks → Marks) →
+    ((made : Event) (m : Marks) → terminal_due made m ≡ None → terminal_due made (change m) ≡ None) → IsSome (find old.nodes key) →
+    (is_on key old.chain ≡ false → IsUndue old.nodes key) →
+    ((node : Node) → find old.nodes key ≡ Some node → Rewrites old.nodes new.nodes key (with_marks (change node.marks))) →
+    new.chain ≡ old.chain → new.resources ≡ old.resources → Remarks old new key change
+remarks_undue {T = T} {old} {new} {key} change undue there quiet nodes chain stored =
+    let x = some_of (find old.nodes key) there in
+    let node = x.0 in
+    let sets = nodes node x.1 in
+    let found : find new.nodes key ≡ Some (with_marks (change node.marks) node) =
+    sets.changed ∙ ap (option_map (with_marks (change node.marks))) x.1 in
+    let at_marks : option_map (λ (n : Node). n.marks) (find old.nodes key) ≡ Some node.marks = ap (option_map (λ (n : Node). n.marks)) x.1 in
+    let not_due : is_on key old.chain ≡ false → is_due new.nodes key ≡ false =
+    λ off. ap (λ (o : Option Node). option_map_or (λ (n : Node). is_some (terminal_due n.made n.marks)) o false) found ∙
+    ap is_some (undue node.made node.marks (subst (λ (o : Option Node). IfSome o (λ n. terminal_due n.made n.marks ≡ None)) x.1 (quiet off))) in
+    let all : SetsMarks old new key (change node.marks) =
+    record { nodes = sets; chain = chain ∙ sym (same_chain new.nodes key old.chain not_due); stored = stored } in
+    set_remarks change at_marks refl all
+
+-- and marks that stay
+pub remarks_none : {T : Type 0} (tree : Tree T) (key : Key) → IsSome (find tree.nodes key) → (is_on key tree.chain ≡ false → IsUndue tree.nodes key) →
+    Remarks tree tree key (λ m. m)
+remarks_none {T = T} tree key there quiet =
+    let x = some_of (find tree.nodes key) there in
+    let off : is_on key tree.chain ≡ false → is_due tree.nodes key ≡ false =
+    λ off. ap (λ (o : Option Node). option_map_or (λ (n : Node). is_some (terminal_due n.made n.marks)) o false) x.1 ∙
+    ap is_some (subst (λ (o : Option Node). IfSome o (λ n. terminal_due n.made n.marks ≡ None)) x.1 (quiet off)) in
+    record {
+      nodes = record { changed = same (find tree.nodes key); others = λ other differs. refl; rest = refl };
+      chain = sym (same_chain tree.nodes key tree.chain off);
+      resources = refl;
+    }
+  where
+    same : (o : Option Node) → o ≡ option_map (λ (node : Node). with_marks node.marks node) o
+    same None = refl
+    same (Some node) = refl
