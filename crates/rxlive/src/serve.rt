@@ -131,7 +131,7 @@ fn answer_input<R: Read, W: Write>(
         }
     }
     if !line.is_empty() {
-        let told = "the input ends in this line, which was not carried out";
+        let told = "the input ends before this line does, so it was not carried out";
         write_line(output, faulty(alloc, told))?;
     }
     Ok(())
