@@ -1,18 +1,18 @@
 //! Streams that count how often they were asked: a failure is the stream's own, and none is made up.
 
 use super::same::same;
-use rx_device::{
-    MOST_BYTES, MOST_TURNS, ScriptError, Watched, WriteFault, read_all, read_value, write_text,
-};
-use std::alloc::Global;
+use rx_device::{MOST_BYTES, MOST_TURNS, ScriptError, Watched, WriteFault, read_value, write_text};
+use std::alloc::{AllocError, Global};
 use std::io::{Error, ErrorKind, Read, Write};
+use std::test::Fail;
 
 const TEXT: &[u8] = b"[1,2,3,4]";
 
-// Gives its bytes three at a time, and fails when it is asked for the time of this number, from 0.
+// Gives so many bytes at a time, and fails when it is asked for the time of this number, from 0.
 #[derive(Drop)]
 struct Source<'a> {
     bytes: &'a [u8],
+    piece: usize,
     asked: u64,
     fails_at: u64,
 }
@@ -24,12 +24,70 @@ impl Read for Source<'_> {
         if asked == self.fails_at {
             return Err(Error::from(ErrorKind::Other));
         }
-        let end = self.bytes.len().min(buf.len()).min(3);
+        let end = self.bytes.len().min(buf.len()).min(self.piece);
         let (piece, rest) = self.bytes.split_at(end);
         buf[..end].copy_from_slice(piece);
         self.bytes = rest;
         Ok(end)
     }
+}
+
+// The fault of reading it, if there was one, and how often it was asked.
+fn read_once(
+    alloc: Global,
+    bytes: &[u8],
+    piece: usize,
+    fails_at: u64,
+) -> (Option<ScriptError>, u64) {
+    let mut source = Source {
+        bytes,
+        piece,
+        asked: 0,
+        fails_at,
+    };
+    let fault = read_value(alloc, &mut Watched::new(&mut source)).err();
+    (fault, source.asked)
+}
+
+#[test]
+fn a_reader_fails_where_it_was_asked_and_failed(rt: HostRuntime) {
+    let (fault, asked) = read_once(rt.alloc(), TEXT, 3, u64::MAX);
+    assert!(rt; fault.is_none());
+    same(&rt, asked, 4);
+    for fails_at in 0..4 {
+        let (fault, asked) = read_once(rt.alloc(), TEXT, 3, fails_at);
+        assert!(rt; matches!(fault, Some(ScriptError::Read)));
+        same(&rt, asked, fails_at + 1);
+    }
+}
+
+// An empty array, and spaces behind it up to this length.
+fn padded(alloc: Global, length: usize) -> Result<Vec<u8>, AllocError> {
+    let mut text = b"[]".to_vec(alloc)?;
+    for _ in 2..length {
+        text.push(b' ')?;
+    }
+    Ok(text)
+}
+
+// No reader takes more turns for as many bytes than one that gives them one by one. That of the longest input is
+// done in half of the turns that there are, and a longer input is too long before they are over: so no reader
+// meets their bound that goes on giving bytes, and all meet its end.
+#[test]
+fn the_slowest_reader_is_read_within_the_bound_on_turns(rt: HostRuntime) -> Result<(), Fail> {
+    let longest = padded(rt.alloc(), MOST_BYTES)?;
+    let (fault, asked) = read_once(rt.alloc(), longest.as_slice(), 1, u64::MAX);
+    assert!(rt; fault.is_none());
+    let longer = padded(rt.alloc(), MOST_BYTES + 1)?;
+    let (too_long, asked_of_longer) = read_once(rt.alloc(), longer.as_slice(), 1, u64::MAX);
+    assert!(rt; matches!(too_long, Some(ScriptError::Syntax)));
+    let most = MOST_BYTES as u64;
+    same(
+        &rt,
+        [asked, asked_of_longer, u64::from(MOST_TURNS)],
+        [most + 1, most + 1, 2 * most],
+    );
+    Ok(())
 }
 
 // Takes three bytes at a time; when it is asked for the time of this number, from 0, it fails, or takes none.
@@ -59,29 +117,6 @@ impl Write for Sink {
 
     fn flush(&mut self) -> std::io::Result<()> {
         Ok(())
-    }
-}
-
-// The fault of reading a source, if there was one, and how often the source was asked.
-fn read_once(alloc: Global, fails_at: u64) -> (Option<ScriptError>, u64) {
-    let mut source = Source {
-        bytes: TEXT,
-        asked: 0,
-        fails_at,
-    };
-    let fault = read_value(alloc, &mut Watched::new(&mut source)).err();
-    (fault, source.asked)
-}
-
-#[test]
-fn a_reader_fails_where_it_was_asked_and_failed(rt: HostRuntime) {
-    let (fault, asked) = read_once(rt.alloc(), u64::MAX);
-    assert!(rt; fault.is_none());
-    same(&rt, asked, 4);
-    for fails_at in 0..4 {
-        let (fault, asked) = read_once(rt.alloc(), fails_at);
-        assert!(rt; matches!(fault, Some(ScriptError::Read)));
-        same(&rt, asked, fails_at + 1);
     }
 }
 
@@ -117,49 +152,4 @@ fn a_writer_fails_where_it_was_asked_and_failed_or_took_none(rt: HostRuntime) {
             (Err(WriteFault), 3, 6),
         );
     }
-}
-
-// Gives so many spaces, one each time that it is asked: no reader takes more turns for as many bytes.
-#[derive(Drop)]
-struct Slow {
-    left: u64,
-    asked: u64,
-}
-
-impl Read for Slow {
-    fn read(&mut self, buf: &mut [u8]) -> std::io::Result<usize> {
-        self.asked = self.asked.saturating_add(1);
-        if self.left == 0 || buf.is_empty() {
-            return Ok(0);
-        }
-        self.left = self.left.saturating_sub(1);
-        buf[0] = b' ';
-        Ok(1)
-    }
-}
-
-// What comes of reading it to its end, how many bytes that were, and how often it was asked.
-fn read_slowly(alloc: Global, bytes: u64) -> (Option<ScriptError>, usize, u64) {
-    let mut slow = Slow {
-        left: bytes,
-        asked: 0,
-    };
-    match read_all(alloc, &mut Watched::new(&mut slow)) {
-        Ok(text) => (None, text.len(), slow.asked),
-        Err(fault) => (Some(fault), 0, slow.asked),
-    }
-}
-
-// The slowest reader of the longest input is done in half of the turns that there are, and a longer input is too
-// long before they are over: so no reader meets their bound that goes on giving bytes, and all meet its end.
-#[test]
-fn the_slowest_reader_is_read_within_the_bound_on_turns(rt: HostRuntime) {
-    let most = MOST_BYTES as u64;
-    let (fault, len, asked) = read_slowly(rt.alloc(), most);
-    assert!(rt; fault.is_none());
-    same(&rt, (len, asked), (MOST_BYTES, most + 1));
-    let (fault, len, asked) = read_slowly(rt.alloc(), most + 1);
-    assert!(rt; matches!(fault, Some(ScriptError::Syntax)));
-    same(&rt, (len, asked), (0, most + 1));
-    same(&rt, u64::from(MOST_TURNS), 2 * most);
 }

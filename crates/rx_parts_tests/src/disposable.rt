@@ -1,9 +1,7 @@
 //! Worked examples, and calls in want of memory.
 use super::same::same;
 use super::uses::{moved_out, there_and_back};
-use rx_disposable::{
-    Back, Counted, Denied, Group, INLINE_LEN, Members, NoLease, Serial, Single, Why,
-};
+use rx_disposable::{Back, Counted, Denied, Group, Members, NoLease, Serial, Single, Why};
 use rx_scarce::{MOST_BLOCKS, Scarce};
 use std::alloc::{AllocError, Global};
 use std::process::Abort;
@@ -23,54 +21,38 @@ fn told<U, T>(answer: Result<U, Back<T>>) -> Result<U, (Why, T)> {
 #[test]
 fn a_single_takes_one_value(rt: HostRuntime) {
     let mut single = Single::new();
-    same(&rt, told(single.set(1)), Ok(()));
-    same(&rt, told(single.set(2)), Err((Why::Already, 2)));
-    same(&rt, single.dispose(), Some(1));
-    same(&rt, single.dispose(), None);
-    same(&rt, told(single.set(3)), Err((Why::Disposed, 3)));
-    same(&rt, single.into_inner(), None);
+    let answers = [told(single.set(1)), told(single.set(2))];
+    let given = [single.dispose(), single.dispose()];
+    same(&rt, answers, [Ok(()), Err((Why::Already, 2))]);
+    same(
+        &rt,
+        (given, told(single.set(3))),
+        ([Some(1), None], Err((Why::Disposed, 3))),
+    );
 }
 
 #[test]
 fn a_serial_gives_the_previous_value(rt: HostRuntime) {
     let mut serial = Serial::new();
-    same(&rt, serial.replace(1), Ok(None));
-    same(&rt, serial.replace(2), Ok(Some(1)));
-    same(&rt, serial.dispose(), Some(2));
-    same(&rt, serial.replace(3), Err(3));
-    same(&rt, serial.dispose(), None);
-    same(&rt, serial.into_inner(), None);
-}
-
-// What comes out first, and then.
-fn two_of(mut members: Members<char>) -> [Option<(u64, char)>; 2] {
-    [members.next(), members.next()]
-}
-
-#[test]
-fn a_group_gives_its_values_by_ticket_and_together(rt: HostRuntime) {
-    let mut group = Group::new(rt.alloc());
-    same(&rt, told(group.add('x')), Ok(0));
-    same(&rt, told(group.add('y')), Ok(1));
-    same(&rt, group.remove(0), Some('x'));
-    same(&rt, group.remove(0), None);
-    same(&rt, two_of(group.clear()), [Some((1, 'y')), None]);
-    same(&rt, told(group.add('z')), Ok(2));
-    same(&rt, two_of(group.dispose()), [Some((2, 'z')), None]);
-    same(&rt, told(group.add('w')), Err((Why::Disposed, 'w')));
-    same(&rt, group.dispose().len(), 0);
+    let answers = [serial.replace(1), serial.replace(2)];
+    let given = [serial.dispose(), serial.dispose()];
+    same(&rt, answers, [Ok(None), Ok(Some(1))]);
+    same(&rt, (given, serial.replace(3)), ([Some(2), None], Err(3)));
 }
 
 #[test]
 fn a_counted_value_comes_out_at_the_last_lease(rt: HostRuntime) {
     let mut counted = Counted::new(9);
-    same(&rt, counted.lease(), Ok(()));
-    same(&rt, counted.dispose(), None);
-    same(&rt, counted.lease(), Err(Denied::Disposed));
-    same(&rt, counted.give_back(), Ok(Some(9)));
-    same(&rt, counted.give_back(), Err(NoLease));
-    same(&rt, counted.dispose(), None);
-    same(&rt, counted.into_inner().ok(), Some(None));
+    let leased = counted.lease();
+    let disposed = counted.dispose();
+    let denied = counted.lease();
+    same(
+        &rt,
+        (leased, disposed, denied),
+        (Ok(()), None, Err(Denied::Disposed)),
+    );
+    let returned = [counted.give_back(), counted.give_back()];
+    same(&rt, returned, [Ok(Some(9)), Err(NoLease)]);
 }
 
 // Adds three values, of which the first is taken out again, and moves the others to a list.
@@ -93,37 +75,17 @@ fn a_group_serves_generic_callers(rt: HostRuntime) {
     same(&rt, list.as_slice(), [(1, 'y'), (2, 'z')].as_slice());
 }
 
-// The value under a ticket, where one is inside.
-fn value_of(group: &mut Group<u64>, ticket: u64) -> Option<u64> {
-    match group.get_mut(ticket) {
-        Some(value) => Some(*value),
-        None => None,
-    }
-}
-
-// Whether the number is added. Where memory is refused, it comes back and nothing changes.
-fn is_added(rt: &impl Abort, group: &mut Group<u64>, number: u64) -> bool {
-    let answer = told(group.add(number));
-    if answer == Ok(number) {
-        return true;
-    }
-    same(rt, answer, Err((Why::NoMemory, number)));
-    assert!(rt; group.len() >= INLINE_LEN);
-    for ticket in 0..number {
-        same(rt, value_of(group, ticket), Some(ticket));
-    }
-    same(rt, value_of(group, number), None);
-    false
-}
-
-// Adds the numbers up to 40, and gives a block back at each refusal. How often memory was refused.
+// Adds the numbers up to 40 in want of memory: each refusal hands the number back, and then one block is given
+// back. How often memory was refused.
 fn add_in_the_end(rt: &impl Abort, group: &mut Group<u64>, scarce: &mut Scarce) -> u32 {
     let mut refusals = 0u32;
     for number in 0..40 {
         for _ in 0..MOST_BLOCKS {
-            if is_added(rt, group, number) {
+            let answer = told(group.add(number));
+            if answer == Ok(number) {
                 break;
             }
+            same(rt, answer, Err((Why::NoMemory, number)));
             refusals = refusals.wrapping_add(1);
             assert!(rt; scarce.give_back_one());
         }
@@ -155,20 +117,25 @@ fn is_had(alloc: Global, bytes: usize) -> bool {
     block.is_ok()
 }
 
+// The value under a ticket, where one is inside.
+fn value_of(group: &mut Group<u64>, ticket: u64) -> Option<u64> {
+    match group.get_mut(ticket) {
+        Some(value) => Some(*value),
+        None => None,
+    }
+}
+
 // Calls each but `add`, and compares what they answer. What came out is dropped by the caller.
 fn call_all_but_add(
     rt: &impl Abort,
     group: &mut Group<u64>,
     numbers: u64,
 ) -> (Members<u64>, Members<u64>) {
-    same(rt, group.len() as u64, numbers);
-    assert!(rt; !group.is_empty());
-    same(rt, value_of(group, 1), Some(1));
-    same(rt, value_of(group, numbers), None);
-    same(rt, group.remove(1), Some(1));
-    same(rt, group.remove(1), None);
+    let counted = (group.len() as u64, group.is_empty());
+    let given = [value_of(group, 1), group.remove(1), group.remove(1)];
     let cleared = group.clear();
-    same(rt, cleared.len() as u64, numbers.saturating_sub(1));
+    same(rt, counted, (numbers, false));
+    same(rt, given, [Some(1), Some(1), None]);
     (cleared, group.dispose())
 }
 

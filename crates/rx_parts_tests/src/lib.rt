@@ -1,16 +1,13 @@
-//! What no clause says of the crates that users meet below the book: that each call can succeed, memory that is
-//! refused or just enough, slots that are used again, and the worked examples of disposables and of virtual time.
-//! A test sees of a crate what its users see. What lies between them and the book is tested through a book.
+//! What no clause says of the crates that users meet below the book: that a call is refused memory only where
+//! there is none, which calls ask for none, when a stream failed, and what a resource answers; and the callers
+//! that the pages of those crates show. What their clauses say in full is not tested again, and what lies between
+//! them and the book is tested through a book.
 #![tactic(auto)]
 
 #[cfg(test)]
 mod device;
 #[cfg(test)]
 mod disposable;
-#[cfg(test)]
-mod history;
-#[cfg(test)]
-mod ledger;
 #[cfg(test)]
 mod note;
 #[cfg(test)]
