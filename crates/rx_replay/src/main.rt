@@ -1,53 +1,59 @@
 //! Runs each scenario of some folders and audits each dump there, and tells whether what is stored beside
 //! it is what the program `rxbook` writes.
 //!
-//! Of `NAME.json` the report is `NAME.report` and, where it is there, the dump `NAME.dump`; of `NAME.dump`
-//! the verdict is `NAME.verdict`; of `NAME.input` what is said of it, which is faulty, is `NAME.told`.
-//! `NAME.svg` is the picture of the history of `NAME.dump`. The folders are the current one, with the
-//! examples, and below it `cases`, `histories` and `mistakes`, and for pictures alone `pictures`. What is stored
-//! and is not written, or differs, is a line with `DIFFERS`.
+//! Of `NAME.json` the report is `NAME.report` and, where it is there, the dump `NAME.dump`; where `NAME.no-dump`
+//! is there, which is empty, it has none. Of `NAME.dump` the verdict is `NAME.verdict`, and the picture of its history
+//! `NAME.svg`. Of `NAME.input` what is said of it, which is faulty, is `NAME.told`. The folders are the current one,
+//! with the examples, and below it `cases`, `histories`, `mistakes` and `pictures`. What is stored and is not
+//! written, or differs, is a line with `DIFFERS`.
 //!
-//! Then the JSON Schemas of scenarios and dumps are compared with what the program takes.
+//! Then the program takes each line of the texts in `schemas` that end in `taken.txt`, and refuses each of those that
+//! end in `refused.txt`, as the JSON Schemas there do: `tools/check-schemas` compares those.
 #![tactic(auto)]
 
-mod judging;
 mod program;
-mod schemas;
-mod words;
 
 use program::{Asked, answer};
 use rx_cli::Form;
-use schemas::compare_schemas;
 use std::fs::DirEntry;
 use std::rt::Files;
 use std::{fs, io};
 
-// Whether what the program writes for the one file is stored in the other.
-fn is_stored<R: Files + AllocGlobal>(
-    rt: &R,
-    asked: Asked,
-    from: &str,
-    to: &str,
-) -> io::Result<bool> {
-    let input = fs::read(rt, from)?;
-    let stored = fs::read(rt, to)?;
-    let mut output = Vec::new(rt.alloc());
-    let _is_taken = answer(rt.alloc(), asked, input.as_slice(), &mut output)?;
-    Ok(output.as_slice() == stored.as_slice())
-}
+/// How the name of a file ends in which something is stored, what is asked of the program, and how the name of the
+/// file ends that it is asked of.
+static STORED: [(&str, Asked, &str); 6] = [
+    (".report", Asked::Of(Form::Report), ".json"),
+    (".dump", Asked::Of(Form::Dump), ".json"),
+    (".no-dump", Asked::Of(Form::Dump), ".json"),
+    (".verdict", Asked::Verdict, ".dump"),
+    (".told", Asked::Fault, ".input"),
+    (".svg", Asked::Picture, ".dump"),
+];
 
-// Tells whether that is stored; a dump need not be there.
+/// Texts, a line each, what is asked of the program with them, and whether it takes them.
+static TEXTS: [(&str, Asked, bool); 4] = [
+    ("schemas/scenarios-taken.txt", Asked::Of(Form::Report), true),
+    (
+        "schemas/scenarios-refused.txt",
+        Asked::Of(Form::Report),
+        false,
+    ),
+    ("schemas/dumps-taken.txt", Asked::Verdict, true),
+    ("schemas/dumps-refused.txt", Asked::Verdict, false),
+];
+
+// Tells whether what the program writes for the one file is stored in the other.
 fn compare<R: Files + AllocGlobal + Print>(
     rt: &R,
     asked: Asked,
     from: &str,
-    to: &String,
-    paths: &[String],
+    to: &str,
 ) -> io::Result<()> {
-    if matches!(asked, Asked::Of(Form::Dump)) && !paths.contains(to) {
-        return Ok(());
-    }
-    let outcome = if is_stored(rt, asked, from, to.as_str())? {
+    let input = fs::read(rt, from)?;
+    let stored = fs::read(rt, to)?;
+    let mut output = Vec::new(rt.alloc());
+    let _is_taken = answer(rt.alloc(), asked, input.as_slice(), &mut output)?;
+    let outcome = if output.as_slice() == stored.as_slice() {
         "as stored"
     } else {
         "DIFFERS"
@@ -55,54 +61,36 @@ fn compare<R: Files + AllocGlobal + Print>(
     println!(rt; "{to} {outcome}")
 }
 
-// Compares what is stored of this file, if it has the one ending, in that of the other.
-fn replay<R: Files + AllocGlobal + Print>(
+// Compares what is stored in this file, where one of these is the file that it is stored of.
+fn replay<R: Files + AllocGlobal + Print>(rt: &R, path: &str, paths: &[String]) -> io::Result<()> {
+    for &(ending, asked, of) in &STORED {
+        if let Some(stem) = path.strip_suffix(ending) {
+            let from = format!(in rt.alloc(); "{stem}{of}")?;
+            if paths.contains(&from) {
+                compare(rt, asked, from.as_str(), path)?;
+            }
+        }
+    }
+    Ok(())
+}
+
+// Tells how many lines a text has, and each that the program takes, or refuses, where it is not to.
+fn try_lines<R: Files + AllocGlobal + Print>(
     rt: &R,
-    asked: Asked,
     path: &str,
-    (from, to): (&str, &str),
-    paths: &[String],
+    asked: Asked,
+    is_taken: bool,
 ) -> io::Result<()> {
-    let Some(stem) = path.strip_suffix(from) else {
-        return Ok(());
-    };
-    let stored = format!(in rt.alloc(); "{stem}{to}")?;
-    compare(rt, asked, path, &stored, paths)
-}
-
-// Compares the picture that is stored in this file, if it is one.
-fn replay_picture<R: Files + AllocGlobal + Print>(rt: &R, path: &String) -> io::Result<()> {
-    let Some(stem) = path.as_str().strip_suffix(".svg") else {
-        return Ok(());
-    };
-    let dump = format!(in rt.alloc(); "{stem}.dump")?;
-    compare(rt, Asked::Picture, dump.as_str(), path, &[])
-}
-
-// Compares all pictures among these files.
-fn replay_pictures<R: Files + AllocGlobal + Print>(rt: &R, paths: &[String]) -> io::Result<()> {
-    for path in paths {
-        replay_picture(rt, path)?;
+    let text = fs::read_to_string(rt, path)?;
+    let mut count = 0u64;
+    for line in text.as_str().lines() {
+        count = count.wrapping_add(1);
+        let mut output = Vec::new(rt.alloc());
+        if answer(rt.alloc(), asked, line.as_bytes(), &mut output)? != is_taken {
+            println!(rt; "DIFFERS: {line}")?;
+        }
     }
-    Ok(())
-}
-
-// Compares all that is stored of these files but pictures.
-fn replay_all<R: Files + AllocGlobal + Print>(rt: &R, paths: &[String]) -> io::Result<()> {
-    for path in paths {
-        let path = path.as_str();
-        replay(
-            rt,
-            Asked::Of(Form::Report),
-            path,
-            (".json", ".report"),
-            paths,
-        )?;
-        replay(rt, Asked::Of(Form::Dump), path, (".json", ".dump"), paths)?;
-        replay(rt, Asked::Verdict, path, (".dump", ".verdict"), paths)?;
-        replay(rt, Asked::Fault, path, (".input", ".told"), paths)?;
-    }
-    Ok(())
+    println!(rt; "{path}: {count} texts")
 }
 
 // Adds the path of a file of the folder.
@@ -131,13 +119,15 @@ fn list<R: Files + AllocGlobal + Clone + Drop>(
 
 fn main(rt: HostRuntime) -> io::Result<()> {
     let mut paths = Vec::new(rt.alloc());
-    for folder in [".", "cases", "histories", "mistakes"] {
+    for folder in [".", "cases", "histories", "mistakes", "pictures"] {
         list(&rt, folder, &mut paths)?;
     }
     paths.sort()?;
-    replay_all(&rt, paths.as_slice())?;
-    list(&rt, "pictures", &mut paths)?;
-    paths.sort()?;
-    replay_pictures(&rt, paths.as_slice())?;
-    compare_schemas(&rt)
+    for path in paths.as_slice() {
+        replay(&rt, path.as_str(), paths.as_slice())?;
+    }
+    for &(path, asked, is_taken) in &TEXTS {
+        try_lines(&rt, path, asked, is_taken)?;
+    }
+    Ok(())
 }
