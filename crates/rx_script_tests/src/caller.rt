@@ -5,8 +5,7 @@ ghost use Rattle.std.specs.Io.KnownBytes.{Appends, Keeps};
 ghost use Rattle.rx_script.specs.Running.{Runs};
 ghost use Rattle.rx_script.specs.Stage.{ware_of};
 
-use super::sights::stock_of;
-use rx_resource::{Resource, Tracker};
+use rx_resource::{Resource, Sample};
 use rx_script::{Form, ScriptError, Watched, run};
 use std::alloc::Global;
 use std::io::{Read, Write};
@@ -30,16 +29,11 @@ fn serve<R: Read, W: Write, S: Resource>(
 
 #[test]
 fn a_report_is_written_behind_what_stands_there(rt: HostRuntime) -> Result<(), Fail> {
-    let tracker = Tracker::new(rt.alloc())?;
     let mut input: &[u8] =
         b"{\"steps\":[{\"do\":\"using\",\"name\":\"a\",\"place\":\"root\",\"res\":\"r\"}]}";
     let mut output = b"before\n".to_vec(rt.alloc())?;
-    serve(
-        rt.alloc(),
-        &mut input,
-        &mut output,
-        stock_of(rt.alloc(), &tracker, &[6])?,
-    )?;
+    let stock = vec![in rt.alloc(); Sample::new(6)]?;
+    serve(rt.alloc(), &mut input, &mut output, stock)?;
     assert!(rt; input.is_empty());
     let written = b"before
 node a open:
@@ -48,6 +42,5 @@ totals nodes=1 open=1 accepted=1 held=1 waiting=0 taken=0
 closed 1 faults 0
 ";
     assert_eq!(rt; output.as_slice(), written.as_slice());
-    assert_eq!(rt; tracker.released(), 1);
     Ok(())
 }

@@ -1,10 +1,8 @@
 //! Streams that fail: the fault is named, and everything accepted is released once.
 
 use super::same::same;
-use super::sights::{
-    Failing, Narrow, are_released_once, report_of, run_over, stock_by, stock_of, trackers,
-};
-use rx_resource::{Resource as _, Tracked, Tracker};
+use super::sights::{Failing, Narrow, are_released_once, run_over, stock_by, trackers};
+use rx_resource::{Resource, Tracked, Tracker};
 use rx_script::{Form, ScriptError};
 use std::alloc::{AllocError, Global};
 use std::process::Abort;
@@ -27,56 +25,92 @@ totals nodes=1 open=1 accepted=4 held=3 waiting=1 taken=0
 closed 4 faults 1
 ";
 
-// A run into a writer that has so much room: its outcome, what was written, and whether each of the
-// four resources that it accepts was released once.
-#[derive(Drop)]
-struct Narrowed {
-    outcome: Result<(), ScriptError>,
-    taken: Vec<u8>,
-    is_closed: bool,
+// What streams do: the reader fails at the read of this number, and the writer fails once it has no more room, or
+// takes no more.
+#[derive(Clone, Copy)]
+struct Streams {
+    fails_at: u64,
+    room: usize,
+    fails: bool,
 }
 
-fn run_into(alloc: Global, room: usize, fails: bool) -> Result<Narrowed, Fail> {
+const WHOLE: Streams = Streams {
+    fails_at: u64::MAX,
+    room: 1000,
+    fails: true,
+};
+
+// A run over such streams: its outcome, how often it was read, what was written, whether the first so many resources
+// were released once and no other, and which word the second of them heard.
+#[derive(Drop)]
+struct Run {
+    outcome: Result<(), ScriptError>,
+    reads: u64,
+    taken: Vec<u8>,
+    is_closed: bool,
+    heard: u64,
+}
+
+// The word that the resource of this tag heard last, or 0.
+fn heard_by(trackers: &[Tracker], tag: usize) -> u64 {
+    match trackers.get(tag) {
+        Some(tracker) => tracker.heard(),
+        None => 0,
+    }
+}
+
+fn run_with(alloc: Global, streams: Streams, accepted: usize) -> Result<Run, Fail> {
     let trackers = trackers(alloc, 5)?;
-    let mut input = SCENARIO.as_bytes();
+    let stock = stock_by(alloc, &trackers)?;
+    let mut input = Failing {
+        bytes: SCENARIO.as_bytes(),
+        reads: 0,
+        fails_at: streams.fails_at,
+    };
     let mut output = Narrow {
         taken: Vec::new(alloc),
-        room,
-        fails,
+        room: streams.room,
+        fails: streams.fails,
     };
-    let stock = stock_by(alloc, &trackers)?;
     let outcome = run_over(alloc, &mut input, &mut output, stock, Form::Report);
-    Ok(Narrowed {
+    Ok(Run {
         outcome,
+        reads: input.reads,
         taken: output.taken,
-        is_closed: are_released_once(&trackers, 4),
+        is_closed: are_released_once(&trackers, accepted),
+        heard: heard_by(&trackers, 1),
     })
 }
 
 #[test]
 fn a_writer_that_takes_a_few_bytes_at_a_time_gets_all(rt: HostRuntime) -> Result<(), Fail> {
-    for fails in [true, false] {
-        let whole = run_into(rt.alloc(), 1000, fails)?;
-        assert!(rt; whole.outcome.is_ok() && whole.is_closed);
-        same(&rt, whole.taken.as_slice(), REPORT.as_bytes());
-    }
+    let run = run_with(rt.alloc(), WHOLE, 4)?;
+    assert!(rt; run.outcome.is_ok() && run.is_closed);
+    same(
+        &rt,
+        (run.taken.as_slice(), run.heard),
+        (REPORT.as_bytes(), 9),
+    );
     Ok(())
 }
 
 // A run into a writer that stops after so many bytes, which are a front of the report.
 fn assert_stopped(rt: &impl Abort, alloc: Global, room: usize, fails: bool) -> Result<(), Fail> {
-    let stopped = run_into(alloc, room, fails)?;
-    assert!(rt; matches!(stopped.outcome, Err(ScriptError::Write)));
+    let streams = Streams {
+        room,
+        fails,
+        ..WHOLE
+    };
+    let run = run_with(alloc, streams, 4)?;
+    assert!(rt; matches!(run.outcome, Err(ScriptError::Write)) && run.is_closed);
     let report = REPORT.as_bytes();
     let end = report.len().min(room);
-    same(rt, stopped.taken.as_slice(), &report[..end]);
-    assert!(rt; stopped.is_closed);
+    same(rt, run.taken.as_slice(), &report[..end]);
     Ok(())
 }
 
 #[test]
 fn a_writer_that_stops_has_a_front_of_the_report(rt: HostRuntime) -> Result<(), Fail> {
-    assert!(rt; REPORT.starts_with("node a ope"));
     for room in [0, 10, 100] {
         assert_stopped(&rt, rt.alloc(), room, true)?;
         assert_stopped(&rt, rt.alloc(), room, false)?;
@@ -84,45 +118,13 @@ fn a_writer_that_stops_has_a_front_of_the_report(rt: HostRuntime) -> Result<(), 
     Ok(())
 }
 
-// A run of a reader that fails at the read of this number: its outcome, how often it was read before, and
-// whether nothing was written or accepted.
-fn run_failing(alloc: Global, fails_at: u64) -> Result<(Result<(), ScriptError>, u64, bool), Fail> {
-    let trackers = trackers(alloc, 5)?;
-    let mut input = Failing {
-        bytes: SCENARIO.as_bytes(),
-        reads: 0,
-        fails_at,
-    };
-    let mut output: Vec<u8> = Vec::new(alloc);
-    let stock = stock_by(alloc, &trackers)?;
-    let outcome = run_over(alloc, &mut input, &mut output, stock, Form::Report);
-    let is_silent = output.is_empty() && are_released_once(&trackers, 0);
-    Ok((outcome, input.reads, is_silent))
-}
-
 #[test]
 fn a_reader_that_fails_is_a_read_fault(rt: HostRuntime) -> Result<(), Fail> {
     for fails_at in [0, 1, 5] {
-        let (outcome, reads, is_silent) = run_failing(rt.alloc(), fails_at)?;
-        assert!(rt; matches!(outcome, Err(ScriptError::Read)));
-        same(&rt, (reads, is_silent), (fails_at, true));
+        let run = run_with(rt.alloc(), Streams { fails_at, ..WHOLE }, 0)?;
+        assert!(rt; matches!(run.outcome, Err(ScriptError::Read)) && run.is_closed);
+        same(&rt, (run.reads, run.taken.len()), (fails_at, 0));
     }
-    Ok(())
-}
-
-#[test]
-fn a_reader_of_small_pieces_is_read_to_its_end(rt: HostRuntime) -> Result<(), Fail> {
-    let tracker = Tracker::new(rt.alloc())?;
-    let mut input = Failing {
-        bytes: SCENARIO.as_bytes(),
-        reads: 0,
-        fails_at: u64::MAX,
-    };
-    let mut output: Vec<u8> = Vec::new(rt.alloc());
-    let stock = stock_of(rt.alloc(), &tracker, &[0, 1, 2, 3, 4])?;
-    run_over(rt.alloc(), &mut input, &mut output, stock, Form::Report)?;
-    same(&rt, output.as_slice(), REPORT.as_bytes());
-    same(&rt, (input.bytes.len(), tracker.released()), (0, 4));
     Ok(())
 }
 
@@ -141,7 +143,7 @@ closed 0 faults 0
 // Two resources, of which the first was used.
 fn used_stock(alloc: Global, tracker: &Tracker) -> Result<Vec<Tracked>, AllocError> {
     let mut used = tracker.resource(5, None)?;
-    used.apply(9);
+    Resource::apply(&mut used, 9);
     let mut stock = Vec::new(alloc);
     stock.push(used)?;
     stock.push(tracker.resource(6, None)?)?;
@@ -152,7 +154,9 @@ fn used_stock(alloc: Global, tracker: &Tracker) -> Result<Vec<Tracked>, AllocErr
 fn a_used_resource_is_refused_and_stays_in_front(rt: HostRuntime) -> Result<(), Fail> {
     let tracker = Tracker::new(rt.alloc())?;
     let stock = used_stock(rt.alloc(), &tracker)?;
-    let output = report_of(rt.alloc(), HANDED_IN, stock)?;
+    let mut input = HANDED_IN.as_bytes();
+    let mut output: Vec<u8> = Vec::new(rt.alloc());
+    run_over(rt.alloc(), &mut input, &mut output, stock, Form::Report)?;
     same(&rt, output.as_slice(), NOT_FRESH.as_bytes());
     same(&rt, (tracker.heard(), tracker.released()), (9, 0));
     Ok(())

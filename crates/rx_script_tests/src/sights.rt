@@ -1,28 +1,13 @@
 //! Resources of the tests, streams that fail, and how a scenario is run over memory.
 
-use rx_resource::{Resource, Sample, Tracked, Tracker};
+use rx_resource::{Resource, Tracked, Tracker};
 use rx_script::{Form, ScriptError, Watched, run};
 use std::alloc::{AllocError, Global};
 use std::io::{Error, ErrorKind, Read, Write};
-use std::process::Abort;
 
 // The fault that the release of a resource of this tag meets.
 fn fault_of(tag: u64) -> Option<u32> {
     if tag % 8 == 3 { Some(2) } else { None }
-}
-
-/// Resources of these tags, in order, which are tracked. Each tag that is 3 modulo 8 is that of one
-/// whose release meets the fault 2.
-pub fn stock_of(
-    alloc: Global,
-    tracker: &Tracker,
-    tags: &[u64],
-) -> Result<Vec<Tracked>, AllocError> {
-    let mut stock = Vec::new(alloc);
-    for tag in tags {
-        stock.push(tracker.resource(*tag, fault_of(*tag))?)?;
-    }
-    Ok(stock)
 }
 
 /// So many trackers, each for one resource.
@@ -34,7 +19,8 @@ pub fn trackers(alloc: Global, count: u64) -> Result<Vec<Tracker>, AllocError> {
     Ok(trackers)
 }
 
-/// The same resources, of the tags from 0 on, each with a tracker of its own.
+/// Resources of the tags from 0 on, each with a tracker of its own. Each tag that is 3 modulo 8 is that of one
+/// whose release meets the fault 2.
 pub fn stock_by(alloc: Global, trackers: &[Tracker]) -> Result<Vec<Tracked>, AllocError> {
     let mut stock = Vec::new(alloc);
     for tag in 0..trackers.len() {
@@ -82,28 +68,6 @@ pub fn run_over<R: Read, W: Write, S: Resource>(
         stock,
         form,
     )
-}
-
-/// The report of a scenario, which has these resources.
-pub fn report_of<S: Resource>(
-    alloc: Global,
-    scenario: &str,
-    stock: Vec<S>,
-) -> Result<Vec<u8>, ScriptError> {
-    let mut output: Vec<u8> = Vec::new(alloc);
-    let mut input = scenario.as_bytes();
-    run_over(alloc, &mut input, &mut output, stock, Form::Report)?;
-    Ok(output)
-}
-
-/// The error of a run over memory of no resources, which has to write nothing.
-pub fn error_of(rt: &impl Abort, alloc: Global, scenario: &[u8]) -> Option<ScriptError> {
-    let stock: Vec<Sample> = Vec::new(alloc);
-    let mut input = scenario;
-    let mut output: Vec<u8> = Vec::new(alloc);
-    let outcome = run_over(alloc, &mut input, &mut output, stock, Form::Report);
-    assert!(rt; output.is_empty() || outcome.is_ok());
-    outcome.err()
 }
 
 /// Gives its bytes in pieces of seven, and fails at the read of this number, counted from 0.

@@ -1,13 +1,11 @@
 //! Memory refused, at many of the places where a run asks for some, before and after its resources are
-//! accepted; and a closing that takes none.
+//! accepted: its closing takes none.
 
 use super::same::same;
 use super::sights::{are_released_once, heard_count, run_over, stock_by, trackers};
-use rx_book::{At, Book};
-use rx_event::Kind;
 use rx_resource::{Tracked, Tracker};
 use rx_scarce::Scarce;
-use rx_script::{Closed, Form, ScriptError, close};
+use rx_script::{Form, ScriptError};
 use std::alloc::{AllocError, Global};
 use std::process::Abort;
 use std::test::Fail;
@@ -190,53 +188,4 @@ fn a_dump_without_memory_is_not_begun_and_what_was_accepted_is_released(
     rt: HostRuntime,
 ) -> Result<(), Fail> {
     assert_written(&rt, rt.alloc(), Form::Dump, DUMP)
-}
-
-// A book with two roots, one of which holds a resource and one of which is closed and held one.
-fn open_book(alloc: Global, tracker: &Tracker) -> Result<Book<Tracked>, Fail> {
-    let mut book = Book::new(alloc, 1000);
-    for (tag, fault) in [(1, None), (3, Some(2))] {
-        if book
-            .open_using(At::Root, tracker.resource(tag, fault)?)
-            .is_err()
-        {
-            return Err(Fail::from("a using node is refused"));
-        }
-    }
-    let below = book.open(At::Root, Kind::Leaf)?.key;
-    if book.hold(below, tracker.resource(4, None)?).is_err() {
-        return Err(Fail::from("a resource is refused"));
-    }
-    let _place = book.dispose(below)?;
-    Ok(book)
-}
-
-// How many resources a book holds, and how many wait and were taken, and how many of its nodes are open.
-fn sums(book: &Book<Tracked>) -> [u64; 4] {
-    [book.held(), book.waiting(), book.taken(), book.open_count()]
-}
-
-// Closes a book with no memory left, and closes it again.
-fn close_twice(alloc: Global, book: &mut Book<Tracked>) -> Result<[Closed; 2], AllocError> {
-    let _scarce = Scarce::new(alloc)?;
-    Ok([close(book), close(book)])
-}
-
-#[test]
-fn a_closing_takes_no_memory(rt: HostRuntime) -> Result<(), Fail> {
-    let tracker = Tracker::new(rt.alloc())?;
-    let mut book = open_book(rt.alloc(), &tracker)?;
-    same(&rt, sums(&book), [2, 1, 0, 2]);
-    let closed = close_twice(rt.alloc(), &mut book)?;
-    let first = Closed {
-        released: 3,
-        faults: 1,
-    };
-    let second = Closed {
-        released: 0,
-        faults: 0,
-    };
-    same(&rt, closed, [first, second]);
-    same(&rt, (sums(&book), tracker.released()), ([0, 0, 3, 0], 3));
-    Ok(())
 }

@@ -1,0 +1,30 @@
+//! The greatest number of steps. That one more is refused stands among the mistakes of `rx_replay`.
+
+use super::sights::run_over;
+use rx_resource::Sample;
+use rx_script::Form;
+use std::alloc::{AllocError, Global};
+use std::test::Fail;
+
+const MOST: u32 = 65_536;
+
+// A scenario of so many steps, each of which drains.
+fn drains(alloc: Global, steps: u32) -> Result<String, AllocError> {
+    let mut text = String::new(alloc);
+    text.push_str("{\"steps\":[{\"do\":\"drain\"}")?;
+    for _ in 1..steps {
+        text.push_str(",{\"do\":\"drain\"}")?;
+    }
+    text.push_str("]}")?;
+    Ok(text)
+}
+
+#[test]
+fn a_scenario_has_at_most_65_536_steps(rt: HostRuntime) -> Result<(), Fail> {
+    let text = drains(rt.alloc(), MOST)?;
+    let mut input = text.as_str().as_bytes();
+    let mut output: Vec<u8> = Vec::new(rt.alloc());
+    let stock: Vec<Sample> = Vec::new(rt.alloc());
+    run_over(rt.alloc(), &mut input, &mut output, stock, Form::Report)?;
+    Ok(())
+}
