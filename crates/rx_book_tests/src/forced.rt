@@ -63,20 +63,6 @@ fn the_last_subscriber_leaves(alloc: Global) -> Result<Seen, Fail> {
     Ok(seen(&book, answer, [6, 7, 8]))
 }
 
-// A book of six events that is full: its only root, which holds a resource, is disposed of.
-fn a_full_book_is_closed(alloc: Global) -> Result<Seen, Fail> {
-    let mut book = Probe::new(alloc, 6);
-    let root = book.open_using(At::Root, Sample::new(1))?.key;
-    let _scarce = Scarce::new(alloc)?;
-    let refused = book.open(At::Root, Kind::Leaf).is_err();
-    let answer = book.dispose(root);
-    let taken = book.take().is_some();
-    if !(refused && taken) {
-        return Err(Fail::from("a full book took a root, or kept its resource"));
-    }
-    Ok(seen(&book, answer, [2, 3, 4]))
-}
-
 // A source ends that a TakeUntil and its notifier share through a hub.
 fn a_shared_source_ends(alloc: Global) -> Result<Seen, Fail> {
     let mut book = Probe::new(alloc, 1000);
@@ -104,8 +90,6 @@ fn what_a_closing_forces_comes_with_no_memory_left(rt: HostRuntime) -> Result<()
         Some(Event::Close(5)),
     ];
     same(&rt, the_last_subscriber_leaves(alloc)?, (Ok(6), left, 0, 0));
-    let closed = [Some(Event::Close(0)), Some(Event::Take(1)), None];
-    same(&rt, a_full_book_is_closed(alloc)?, (Ok(2), closed, 0, 0));
     Ok(())
 }
 

@@ -9,6 +9,7 @@ use rx_ground::{Ground, Wanted};
 use rx_resource::Sample;
 use rx_scarce::Scarce;
 use std::alloc::{AllocError, Global};
+use std::process::Abort;
 use std::test::Fail;
 
 // For how much there is room in the memory that is left.
@@ -131,54 +132,52 @@ fn is_done_with(alloc: Global, full: Full, room: Room) -> Result<bool, Fail> {
     }
 }
 
+// Of each list that is full, room that is one too little, and just enough.
+fn are_met_by_just<T: Abort>(
+    rt: &T,
+    alloc: Global,
+    needs: &[(Full, Room, Room)],
+) -> Result<(), Fail> {
+    for (full, short, just) in needs {
+        assert!(rt; !is_done_with(alloc, *full, *short)?);
+        assert!(rt; is_done_with(alloc, *full, *just)?);
+    }
+    Ok(())
+}
+
+fn for_events(events: u32) -> Room {
+    Room { events, ..NONE }
+}
+
+fn for_notes(notes: u32) -> Room {
+    Room { notes, ..NONE }
+}
+
+fn for_others(nodes: usize, resources: usize) -> Room {
+    Room {
+        nodes,
+        resources,
+        ..NONE
+    }
+}
+
 #[test]
 fn a_use_or_an_item_takes_just_the_memory_that_it_needs(rt: HostRuntime) -> Result<(), Fail> {
-    let alloc = rt.alloc();
-    let short = Room {
-        events: 639,
-        ..NONE
-    };
-    let just = Room {
-        events: 640,
-        ..NONE
-    };
-    assert!(rt; !is_done_with(alloc, Full::Events, short)?);
-    assert!(rt; is_done_with(alloc, Full::Events, just)?);
-    let short = Room { notes: 127, ..NONE };
-    let just = Room { notes: 128, ..NONE };
-    assert!(rt; !is_done_with(alloc, Full::Notes, short)?);
-    assert!(rt; is_done_with(alloc, Full::Notes, just)?);
-    Ok(())
+    let needs = [
+        (Full::Events, for_events(639), for_events(640)),
+        (Full::Notes, for_notes(127), for_notes(128)),
+    ];
+    are_met_by_just(&rt, rt.alloc(), &needs)
 }
 
 #[test]
 fn an_opening_or_a_resource_beside_64_others_takes_room_for_64_more(
     rt: HostRuntime,
 ) -> Result<(), Fail> {
-    let alloc = rt.alloc();
-    let short = Room { nodes: 127, ..NONE };
-    let just = Room { nodes: 128, ..NONE };
-    assert!(rt; !is_done_with(alloc, Full::Nodes, short)?);
-    assert!(rt; is_done_with(alloc, Full::Nodes, just)?);
-    let short = Room {
-        resources: 4,
-        ..short
-    };
-    let just = Room {
-        resources: 4,
-        ..just
-    };
-    assert!(rt; !is_done_with(alloc, Full::NodesUsing, short)?);
-    assert!(rt; is_done_with(alloc, Full::NodesUsing, just)?);
-    let short = Room {
-        resources: 127,
-        ..NONE
-    };
-    let just = Room {
-        resources: 128,
-        ..NONE
-    };
-    assert!(rt; !is_done_with(alloc, Full::Resources, short)?);
-    assert!(rt; is_done_with(alloc, Full::Resources, just)?);
-    Ok(())
+    let needs = [
+        (Full::Nodes, for_others(127, 0), for_others(128, 0)),
+        (Full::NodesUsing, for_others(127, 4), for_others(128, 4)),
+        (Full::Resources, for_others(0, 127), for_others(0, 128)),
+    ];
+    are_met_by_just(&rt, rt.alloc(), &needs)
 }

@@ -1,8 +1,7 @@
-//! What no clause says and no scenario shows: memory that is refused, just the memory that a call needs,
-//! closings where none is left, keys that are nobody's, resources that are handed in used or released, boxes
-//! of two kinds, many items, checkpoints, and what becomes of a book that is closed or dropped. What operators
-//! do over checkpoints too, and which calls are refused, stands in the scenarios that `rx_replay` compares, and
-//! worked examples with their events in `rx_crew_tests`.
+//! What no clause says of a book and no scenario shows: memory that is refused, just the memory that a call needs,
+//! closings where none is left, keys that are nobody's, boxes of two kinds, many items, and what becomes of a book
+//! that is dropped. What operators do, over checkpoints too, and which calls are refused, stands in the scenarios
+//! that `rx_replay` compares, and worked examples with their events in `rx_crew_tests`.
 #![tactic(auto)]
 
 #[cfg(test)]
@@ -12,15 +11,9 @@ mod boxed;
 #[cfg(test)]
 mod caller;
 #[cfg(test)]
-mod checkpoints;
-#[cfg(test)]
-mod closings;
-#[cfg(test)]
 mod fates;
 #[cfg(test)]
 mod forced;
-#[cfg(test)]
-mod fresh;
 #[cfg(test)]
 mod just;
 #[cfg(test)]

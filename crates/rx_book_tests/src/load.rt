@@ -1,13 +1,13 @@
 //! Many items, nodes and resources: none of the calls searches the history.
 
-use super::probe::{Given, Probe};
+use super::probe::Probe;
 use super::same::same;
 use rx_book::{At, Key, Mail};
 use rx_event::{Event, Kind, Refusal, Terminal};
 use rx_note::Note;
 use rx_resource::Sample;
 use rx_scarce::Scarce;
-use std::alloc::{AllocError, Global};
+use std::alloc::Global;
 use std::test::Fail;
 
 const ITEMS: u32 = 4096;
@@ -95,46 +95,13 @@ fn hold_many(book: &mut Probe<Sample>, node: Key, count: u64) -> Result<(), Fail
     Ok(())
 }
 
-// Whether a resource was not given before, and is marked as given now.
-fn is_new(given: Given, marks: &mut [bool]) -> bool {
-    match marks.get_mut(given.tag as usize) {
-        Some(mark) => {
-            let was_given = *mark;
-            *mark = true;
-            !was_given && given.uses == 0
-        }
-        None => false,
-    }
-}
-
-// Takes all that waits, and answers how many there were; None where one was given twice.
-fn take_all(book: &mut Probe<Sample>, marks: &mut [bool]) -> Option<u64> {
-    for count in 0..1_000_000 {
-        match book.take() {
-            Some(given) => {
-                if !is_new(given, marks) {
-                    return None;
-                }
-            }
-            None => return Some(count),
-        }
-    }
-    None
-}
-
-// So many marks that are not set.
-fn marks_of(alloc: Global, count: usize) -> Result<Vec<bool>, AllocError> {
-    Ok(vec![in alloc; false; count]?)
-}
-
 #[test]
-fn ten_thousand_resources_are_taken_once_each(rt: HostRuntime) -> Result<(), Fail> {
-    let mut marks = marks_of(rt.alloc(), 10_000)?;
+fn ten_thousand_resources_are_taken_and_released(rt: HostRuntime) -> Result<(), Fail> {
     let mut book = Probe::new(rt.alloc(), 100_000);
     let root = book.open(At::Root, Kind::Pass)?.key;
     hold_many(&mut book, root, 10_000)?;
     same(&rt, book.totals().waiting, 5_000);
     dispose_without(rt.alloc(), &mut book, root)?;
-    same(&rt, take_all(&mut book, marks.as_mut_slice()), Some(10_000));
+    same(&rt, book.release_waiting().released, 10_000);
     Ok(())
 }

@@ -93,10 +93,6 @@ impl<R: Resource> Probe<R> {
         self.book.leases()
     }
 
-    pub(super) fn open_lease(&self) -> Option<LeaseKey> {
-        self.book.open_lease()
-    }
-
     pub(super) fn next(&mut self, leaf: Key, value: i64) -> Result<u64, Refusal> {
         self.book.next(leaf, value)
     }

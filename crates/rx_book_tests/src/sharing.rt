@@ -50,28 +50,20 @@ fn told(book: &mut Probe<Sample>) -> Option<u64> {
 }
 
 #[test]
-fn an_item_reaches_all_that_share_it(rt: HostRuntime) -> Result<(), Fail> {
-    let mut book = Probe::new(rt.alloc(), 1000);
-    let leaf = chained(&mut book, 18)?;
-    assert_eq!(rt; told(&mut book), Some(34), "what was projected on the way");
-    same(&rt, book.next(leaf, 5), Ok(140));
-    same(&rt, told(&mut book), Some(131_072));
-    Ok(())
-}
-
-#[test]
 fn an_item_visits_so_many_nodes_and_no_more(rt: HostRuntime) -> Result<(), Fail> {
     let mut book = Probe::new(rt.alloc(), 1000);
     let leaf = chained(&mut book, 18)?;
+    let projected = told(&mut book);
+    let first = book.next(leaf, 5);
+    same(&rt, (projected, told(&mut book)), (Some(34), Some(131_072)));
     book.open(At::Root, Kind::Sub(17))?;
     book.open(At::Root, Kind::Sub(2))?;
     let within = book.next(leaf, 5);
     book.open(At::Root, Kind::Sub(0))?;
     same(
         &rt,
-        [within, book.next(leaf, 5)],
-        [Ok(142), Err(Refusal::TooMany)],
+        [first, within, book.next(leaf, 5)],
+        [Ok(140), Ok(143), Err(Refusal::TooMany)],
     );
-    same(&rt, book.totals().len, 144);
     Ok(())
 }

@@ -135,36 +135,41 @@ fn done_of(alloc: Global, book: &mut Probe<Sample>, closings: [Closing; CLOSINGS
     done
 }
 
+// Fills a book with items, with no memory left or up to its limit, and makes the calls: why an item was refused,
+// how many calls were done, and how many nodes are open then and resources were accepted and taken.
+fn closed_full(
+    alloc: Global,
+    book: &mut Probe<Sample>,
+    is_scarce: bool,
+) -> Result<(Option<Refusal>, u32, [u64; 3]), Fail> {
+    let (leaf, closings) = new_closings(book)?;
+    let why = if is_scarce {
+        let _scarce = Scarce::new(alloc)?;
+        fill(book, leaf)
+    } else {
+        fill(book, leaf)
+    };
+    let done = done_of(alloc, book, closings);
+    let totals = book.totals();
+    Ok((
+        why,
+        done,
+        [book.open_count(), totals.accepted, totals.taken],
+    ))
+}
+
 #[test]
 fn closings_and_handing_out_take_no_memory(rt: HostRuntime) -> Result<(), Fail> {
     let mut book = Probe::new(rt.alloc(), 1000);
-    let (leaf, closings) = new_closings(&mut book)?;
-    let why = {
-        let _scarce = Scarce::new(rt.alloc())?;
-        fill(&mut book, leaf)
-    };
-    same(&rt, why, Some(Refusal::NoMemory));
-    same(&rt, done_of(rt.alloc(), &mut book, closings), 12);
-    let totals = book.totals();
-    same(
-        &rt,
-        (book.open_count(), totals.accepted, totals.taken),
-        (0, 6, 6),
-    );
+    let closed = closed_full(rt.alloc(), &mut book, true)?;
+    same(&rt, closed, (Some(Refusal::NoMemory), 12, [0, 6, 6]));
     Ok(())
 }
 
 #[test]
 fn a_full_book_closes_and_hands_out_with_no_memory_left(rt: HostRuntime) -> Result<(), Fail> {
     let mut book = Probe::new(rt.alloc(), 64);
-    let (leaf, closings) = new_closings(&mut book)?;
-    same(&rt, fill(&mut book, leaf), Some(Refusal::Full));
-    same(&rt, done_of(rt.alloc(), &mut book, closings), 12);
-    let totals = book.totals();
-    same(
-        &rt,
-        (book.open_count(), totals.accepted, totals.taken),
-        (0, 6, 6),
-    );
+    let closed = closed_full(rt.alloc(), &mut book, false)?;
+    same(&rt, closed, (Some(Refusal::Full), 12, [0, 6, 6]));
     Ok(())
 }

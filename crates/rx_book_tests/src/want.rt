@@ -16,7 +16,7 @@ const CALLS: usize = 20;
 
 // Makes a call again and again, each time with one more block of memory, until it is done; answers what came
 // of it, and how often it was refused before. None where a refusal changed what is seen.
-pub(super) fn done_in_the_end(
+fn done_in_the_end(
     book: &mut Probe<Sample>,
     asking: Asking,
     scarce: &mut Scarce,
@@ -312,4 +312,28 @@ fn an_item_or_a_hub_that_is_refused_memory_changes_nothing(rt: HostRuntime) -> R
 #[test]
 fn a_connection_that_is_refused_memory_changes_nothing(rt: HostRuntime) -> Result<(), Fail> {
     are_refused_first(&rt, rt.alloc(), &[Made::Connect, Made::Subscribe])
+}
+
+// Takes all notes, and makes a checkpoint with no memory at first: what came of it, and how often it was refused.
+fn pause_in_the_end(alloc: Global, book: &mut Probe<Sample>) -> Result<(Outcome, usize), Fail> {
+    for _ in 0..1_000 {
+        if book.take_mail().is_none() {
+            break;
+        }
+    }
+    let mut scarce = Scarce::new(alloc)?;
+    match done_in_the_end(book, Asking::Checkpoint, &mut scarce) {
+        Some(paused) => Ok(paused),
+        None => Err(Fail::from("a refused checkpoint changed the book")),
+    }
+}
+
+#[test]
+fn a_checkpoint_that_is_refused_memory_changes_nothing(rt: HostRuntime) -> Result<(), Fail> {
+    let mut book = Probe::new(rt.alloc(), 1000);
+    make_scene(&mut book)?;
+    let len = book.totals().len;
+    let (outcome, refusals) = pause_in_the_end(rt.alloc(), &mut book)?;
+    assert!(rt; outcome == Outcome::Done(len) && refusals > 0 && book.event(0).is_none());
+    Ok(())
 }
