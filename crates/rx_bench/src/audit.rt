@@ -2,21 +2,10 @@
 
 ghost use Rattle.std.specs.Prelude.{◌≡◌, IfOk};
 
-use crate::case::Case;
 use crate::done::{Done, Halt};
-use crate::shapes::history;
-use crate::words::Request;
 use rx_audit::{Verdict, audit};
 use rx_event::Event;
-use std::alloc::{AllocError, Global};
-
-/// The history that is audited where this is asked for; it has no events but for an audit.
-pub fn events_of(alloc: Global, request: Request) -> Result<Vec<Event>, AllocError> {
-    match request.case {
-        Case::Audit(shape) => history(alloc, shape, request.size),
-        _ => Ok(Vec::new(alloc)),
-    }
-}
+use std::alloc::Global;
 
 /// The verdict on a history of so many events, which is to be lawful: an operation for each event, and a mark
 /// of how many nodes are open, how many resources held, and how many wait.

@@ -1,21 +1,26 @@
 //! The case `crowd`: subscriptions that come and go among others.
 
-ghost use Rattle.std.specs.Prelude.{◌≡◌, ◌≤◌, IfOk};
-
 use crate::calls::{check_done, complete, dispose, open_and_emit, told};
-use crate::done::{Done, Halt};
-use crate::turns::{Work, open_roots, take_turns};
+use crate::done::Halt;
+use crate::turns::{Work, open_roots};
 use rx_book::{At, Book, Key};
 use rx_event::Kind;
 use rx_note::{Note, Terminal};
 use rx_resource::Sample;
 use std::alloc::Global;
 
-/// Subscriptions that come and go, each a leaf without an observable below it.
+/// Subscriptions that stay, as many as come and go among them.
 #[derive(Drop)]
-struct Passing;
+pub struct Crowd {
+    staying: Vec<Key>,
+}
 
-impl Work for Passing {
+impl Work for Crowd {
+    fn begin(alloc: Global, book: &mut Book<Sample>, turns: u64) -> Result<Self, Halt> {
+        let staying = open_roots(alloc, book, Kind::Leaf, turns)?;
+        Ok(Crowd { staying })
+    }
+
     /// Opens a subscription, emits an item at it and ends it, and takes what it tells.
     fn turn(&mut self, book: &mut Book<Sample>, number: u64) -> Result<u64, Halt> {
         let item = number as i64;
@@ -25,26 +30,12 @@ impl Work for Passing {
         told(book, Note::End(Terminal::Completed))?;
         Ok(number)
     }
-}
 
-/// Disposes of all subscriptions that stayed.
-fn disperse(book: &mut Book<Sample>, crowd: Vec<Key>) -> Result<(), Halt> {
-    for root in crowd.as_slice() {
-        dispose(book, *root)?;
+    /// Disposes of all subscriptions that stayed.
+    fn end(self, book: &mut Book<Sample>, turns: u64) -> Result<(), Halt> {
+        for root in self.staying.as_slice() {
+            dispose(book, *root)?;
+        }
+        check_done(book, turns.saturating_mul(5))
     }
-    Ok(())
-}
-
-/// So many subscriptions that come and go one after another, while as many others stay open: an
-/// operation each.
-pub fn run_crowd(alloc: Global, book: &mut Book<Sample>, count: u64) -> Result<Done, Halt>
-    requires { count ≤ 10000000 }
-    ensures { IfOk result (λ done. done.operations ≡ count) }
-{
-    let mut crowd = Vec::new(alloc);
-    open_roots(book, Kind::Leaf, count, &mut crowd)?;
-    let done = take_turns(&mut Passing, book, count, Done::NOTHING)?;
-    disperse(book, crowd)?;
-    check_done(book, 5 * count)?;
-    Ok(done)
 }

@@ -1,10 +1,8 @@
 //! The case `hold`: many resources at one node.
 
-ghost use Rattle.std.specs.Prelude.{◌≡◌, ◌≤◌, IfOk};
-
 use crate::calls::{check_done, dispose, hold, open, release, remove};
-use crate::done::{Done, Halt};
-use crate::turns::{Work, take_turns};
+use crate::done::Halt;
+use crate::turns::Work;
 use rx_book::{At, Book, Key, ResKey};
 use rx_event::Kind;
 use rx_resource::Sample;
@@ -37,29 +35,29 @@ fn remove_all(book: &mut Book<Sample>, resources: Vec<ResKey>) -> Result<(), Hal
 
 /// Resources that wait.
 #[derive(Drop)]
-struct Waiting;
+pub struct Waiting;
 
 impl Work for Waiting {
+    /// Holds as many resources at a root as there are turns, of which every second one is removed, and disposes
+    /// of the root.
+    fn begin(alloc: Global, book: &mut Book<Sample>, turns: u64) -> Result<Self, Halt> {
+        let root = open(book, At::Root, Kind::Pass)?.key;
+        let odd = hold_all(alloc, book, root, turns)?;
+        remove_all(book, odd)?;
+        if book.waiting() != turns / 2 {
+            return Err(Halt::Refused);
+        }
+        dispose(book, root)?;
+        Ok(Waiting)
+    }
+
     /// Takes the next resource and releases it, and answers its tag.
     fn turn(&mut self, book: &mut Book<Sample>, _number: u64) -> Result<u64, Halt> {
         release(book)
     }
-}
 
-/// So many resources that are held at a root, of which every second one is removed; the root is
-/// disposed of, and each resource taken and released: an operation each.
-pub fn run_hold(alloc: Global, book: &mut Book<Sample>, count: u64) -> Result<Done, Halt>
-    requires { count ≤ 10000000 }
-    ensures { IfOk result (λ done. done.operations ≡ count) }
-{
-    let root = open(book, At::Root, Kind::Pass)?.key;
-    let odd = hold_all(alloc, book, root, count)?;
-    remove_all(book, odd)?;
-    if book.waiting() != count / 2 {
-        return Err(Halt::Refused);
+    fn end(self, book: &mut Book<Sample>, turns: u64) -> Result<(), Halt> {
+        let held = turns.saturating_mul(2).saturating_add(turns / 2);
+        check_done(book, held.saturating_add(2))
     }
-    dispose(book, root)?;
-    let done = take_turns(&mut Waiting, book, count, Done::NOTHING)?;
-    check_done(book, 2 + 2 * count + count / 2)?;
-    Ok(done)
 }

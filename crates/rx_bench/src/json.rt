@@ -2,21 +2,17 @@
 
 ghost use Rattle.std.specs.Prelude.{◌≡◌, IfOk};
 
-use crate::case::Case;
 use crate::done::{Done, Halt};
-use crate::shapes::history;
-use crate::words::Request;
+use crate::shapes::{Shape, history};
 use rx_dump::push_dump;
 use serde_json::Value;
 use std::alloc::{AllocError, Global};
 
-/// The dump that is read where this is asked for; it is empty but for such a reading.
-pub fn dump_of(alloc: Global, request: Request) -> Result<String, AllocError> {
+/// The dump that is read: that of a history of this shape and of so many events.
+pub fn dump_of(alloc: Global, shape: Shape, size: u64) -> Result<String, AllocError> {
+    let events = history(alloc, shape, size)?;
     let mut dump = String::new(alloc);
-    if let Case::Json(shape) = request.case {
-        let events = history(alloc, shape, request.size)?;
-        push_dump(&mut dump, events.as_slice())?;
-    }
+    push_dump(&mut dump, events.as_slice())?;
     Ok(dump)
 }
 

@@ -1,58 +1,73 @@
 //! What is made before the time of a run begins.
 
-use crate::audit::events_of;
-use crate::checkpoint::book_of;
-use crate::done::Halt;
-use crate::json::dump_of;
-use crate::scenario::Scenario;
+ghost use Rattle.std.specs.Prelude.{◌≡◌, IfOk};
+
+use crate::audit::run_audit;
+use crate::case::Case;
+use crate::checkpoint::{crowded, run_checkpoint};
+use crate::done::{Done, Halt};
+use crate::json::{dump_of, run_json};
+use crate::scenario::{Scenario, run_scenario};
+use crate::shapes::history;
 use crate::words::Request;
 use rx_book::Book;
 use rx_event::Event;
 use rx_resource::Sample;
 use std::alloc::Global;
 
-/// What a run is given: of these the one that its case takes, and the others empty.
-pub struct Material {
+/// What a run is given.
+pub enum Material {
+    /// Nothing is made before.
+    Nothing,
     /// The scenario that is run.
-    scenario: Scenario,
+    Scenario(Scenario),
     /// The history that is audited.
-    events: Vec<Event>,
+    History(Vec<Event>),
     /// The dump that is read.
-    dump: String,
+    Dump(String),
     /// The book that makes a checkpoint.
-    book: Book<Sample>,
+    Crowd(Book<Sample>),
 }
 
 impl Drop for Material {
     fn drop(self) {
-        let Material {
-            scenario: _scenario,
-            events: _events,
-            dump: _dump,
-            book: _book,
-        } = self;
+        match self {
+            Material::Nothing => {}
+            Material::Scenario(_scenario) => {}
+            Material::History(_events) => {}
+            Material::Dump(_dump) => {}
+            Material::Crowd(_book) => {}
+        }
     }
 }
 
 impl Material {
     /// What is made for what is asked for.
     pub fn of(alloc: Global, request: Request) -> Result<Material, Halt> {
-        Ok(Material {
-            scenario: Scenario::of(alloc, request)?,
-            events: events_of(alloc, request)?,
-            dump: dump_of(alloc, request)?,
-            book: book_of(alloc, request)?,
-        })
+        let size = request.size;
+        match request.case {
+            Case::Scenario => Ok(Material::Scenario(Scenario::of(alloc, size)?)),
+            Case::Audit(shape) => Ok(Material::History(history(alloc, shape, size)?)),
+            Case::Json(shape) => Ok(Material::Dump(dump_of(alloc, shape, size)?)),
+            Case::Checkpoint => Ok(Material::Crowd(crowded(alloc, size, 99 * size)?)),
+            Case::CheckpointShort => Ok(Material::Crowd(crowded(alloc, size, 0)?)),
+            _ => Ok(Material::Nothing),
+        }
     }
 
-    /// The scenario, the history, the dump and the book.
-    pub fn into_parts(self) -> (Scenario, Vec<Event>, String, Book<Sample>) {
-        let Material {
-            scenario,
-            events,
-            dump,
-            book,
-        } = self;
-        (scenario, events, dump, book)
+    /// Runs what was made, of this size: an operation for each step, event or node.
+    pub fn run(self, alloc: Global, size: u64) -> Result<Done, Halt>
+        ensures { IfOk result (λ done. done.operations ≡ size) }
+    {
+        match self {
+            Material::Nothing => Err(Halt::Refused),
+            Material::Scenario(scenario) => run_scenario(alloc, scenario, size),
+            Material::History(events) => run_audit(alloc, events.as_slice(), size),
+            Material::Dump(dump) => run_json(alloc, dump.as_str(), size),
+            Material::Crowd(book) => {
+                let mut book = book;
+                run_checkpoint(&mut book, size)
+            }
+        }
     }
 }

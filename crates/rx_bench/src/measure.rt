@@ -5,24 +5,21 @@ ghost use Rattle.std.specs.Duration.{as_nanos};
 ghost use Rattle.rx_bench.specs.Cases.{operations_of};
 
 use crate::agenda::run_orders;
-use crate::audit::run_audit;
 use crate::case::Case;
-use crate::chain::run_chain;
-use crate::checkpoint::run_checkpoint;
-use crate::crowd::run_crowd;
-use crate::cycle::run_cycles;
+use crate::chain::Chain;
+use crate::crowd::Crowd;
+use crate::cycle::Cycles;
 use crate::done::{Done, Halt};
-use crate::hold::run_hold;
-use crate::inner::run_inner;
-use crate::items::run_items;
-use crate::json::run_json;
-use crate::lease::run_lease;
+use crate::hold::Waiting;
+use crate::inner::Merging;
+use crate::items::Emitter;
+use crate::lease::Held;
 use crate::material::Material;
-use crate::scenario::run_scenario;
-use crate::share::run_share;
+use crate::share::Sharing;
 use crate::sorted::SortedList;
-use crate::storm::{run_batches, run_storm};
+use crate::storm::run_storm;
 use crate::times::{RUNS, Summary, summarize};
+use crate::turns::run_work;
 use crate::words::Request;
 use rx_book::Book;
 use rx_resource::Sample;
@@ -32,24 +29,30 @@ use std::sync::Wait;
 use std::thread::Threads;
 use std::time::{Clock, Duration, Instant};
 
-/// Runs a case once that is run on a book.
-fn run_on_book(alloc: Global, request: Request) -> Result<Done, Halt>
+/// Runs a case once on this book.
+fn run_on(alloc: Global, book: &mut Book<Sample>, request: Request) -> Result<Done, Halt>
     ensures { IfOk result (λ done. done.operations ≡ operations_of request.case request.size) }
 {
     let size = request.size;
-    // Room for each case: none asks for more than six events for each of its size, and a few beside.
-    let mut book: Book<Sample> = Book::new(alloc, 6 * size + 16);
     match request.case {
-        Case::Cycle => run_cycles(alloc, &mut book, size),
-        Case::Crowd => run_crowd(alloc, &mut book, size),
-        Case::Items => run_items(&mut book, size),
-        Case::Chain => run_chain(&mut book, size),
-        Case::Inner => run_inner(&mut book, size),
-        Case::Share => run_share(alloc, &mut book, size),
-        Case::Hold => run_hold(alloc, &mut book, size),
-        Case::Lease => run_lease(alloc, &mut book, size),
+        Case::Cycle => run_work::<Cycles>(alloc, book, size),
+        Case::Crowd => run_work::<Crowd>(alloc, book, size),
+        Case::Items => run_work::<Emitter>(alloc, book, size),
+        Case::Chain => run_work::<Chain>(alloc, book, size),
+        Case::Inner => run_work::<Merging>(alloc, book, size),
+        Case::Share => run_work::<Sharing>(alloc, book, 2 * size),
+        Case::Hold => run_work::<Waiting>(alloc, book, size),
+        Case::Lease => run_work::<Held>(alloc, book, size),
         _ => Err(Halt::Refused),
     }
+}
+
+/// Runs a case once that is run on a book, which has room for each of them: none asks for more than six events for
+/// each of its size, and a few beside.
+fn run_on_book(alloc: Global, request: Request) -> Result<Done, Halt>
+    ensures { IfOk result (λ done. done.operations ≡ operations_of request.case request.size) }
+{
+    run_on(alloc, &mut Book::new(alloc, 6 * request.size + 16), request)
 }
 
 /// Runs a case once, over what is made before.
@@ -61,17 +64,17 @@ pub fn run<T: Threads + Wait + Sync>(
 ) -> Result<Done, Halt>
     ensures { IfOk result (λ done. done.operations ≡ operations_of request.case request.size) }
 {
-    let (scenario, events, dump, mut book) = material.into_parts();
     match request.case {
         Case::Timeline => run_orders::<Timeline<u64>>(alloc, request.size),
         Case::Trampoline => run_orders::<Trampoline<u64>>(alloc, request.size),
         Case::Sorted => run_orders::<SortedList>(alloc, request.size),
-        Case::Scenario => run_scenario(alloc, scenario, request.size),
-        Case::Audit(_) => run_audit(alloc, events.as_slice(), request.size),
-        Case::Json(_) => run_json(alloc, dump.as_str(), request.size),
-        Case::Storm => run_storm(rt, alloc, request.size),
-        Case::StormBatches => run_batches(rt, alloc, request.size),
-        Case::Checkpoint | Case::CheckpointShort => run_checkpoint(&mut book, request.size),
+        Case::Scenario => material.run(alloc, request.size),
+        Case::Audit(_) => material.run(alloc, request.size),
+        Case::Json(_) => material.run(alloc, request.size),
+        Case::Checkpoint => material.run(alloc, request.size),
+        Case::CheckpointShort => material.run(alloc, request.size),
+        Case::Storm => run_storm(rt, alloc, request.size, false),
+        Case::StormBatches => run_storm(rt, alloc, request.size, true),
         _ => run_on_book(alloc, request),
     }
 }

@@ -2,10 +2,8 @@
 
 ghost use Rattle.std.specs.Prelude.{◌≡◌, IfOk};
 
-use crate::case::Case;
 use crate::done::{Done, Halt, mark_of};
 use crate::samples::samples;
-use crate::words::Request;
 use rx_resource::Sample;
 use rx_script::{Form, ScriptError, Watched, run};
 use std::alloc::{AllocError, Global};
@@ -63,16 +61,11 @@ fn text_of(alloc: Global, steps: u64) -> Result<String, AllocError> {
 }
 
 impl Scenario {
-    /// The scenario that is run where this is asked for, with a resource for each cycle that its steps
-    /// begin. It has no steps but for a run of a scenario.
-    pub fn of(alloc: Global, request: Request) -> Result<Scenario, AllocError> {
-        let steps = match request.case {
-            Case::Scenario => request.size,
-            _ => 0,
-        };
+    /// The scenario of so many steps, with a resource for each cycle that they begin.
+    pub fn of(alloc: Global, steps: u64) -> Result<Scenario, AllocError> {
         Ok(Scenario {
             text: text_of(alloc, steps)?,
-            stock: samples(alloc, (steps + 5) / 6)?,
+            stock: samples(alloc, steps.saturating_add(5) / 6)?,
         })
     }
 

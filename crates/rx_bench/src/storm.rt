@@ -41,32 +41,12 @@ fn done(answer: Result<bool, StormFault>, items: u64, text: &[u8]) -> Result<Don
     }
 }
 
-/// A storm with so many items of each source, each under a lock of its own: an operation each.
-pub fn run_storm<T: Threads + Wait + Sync>(rt: &T, alloc: Global, items: u64) -> Result<Done, Halt>
-    requires { items ≤ 10000 }
-    ensures { IfOk result (λ done. done.operations ≡ 64 * items) }
-{
-    let stock = samples(alloc, SOURCES)?;
-    let mut text = Vec::new(alloc);
-    let mut writer = Watched::new(&mut text);
-    let answer = storm(
-        rt,
-        alloc,
-        SOURCES,
-        WORKERS,
-        items,
-        stock,
-        &Open,
-        &mut writer,
-    );
-    done(answer, items, &text)
-}
-
-/// The same with 16 items under one lock.
-pub fn run_batches<T: Threads + Wait + Sync>(
+/// A storm with so many items of each source, each under a lock of its own, or 16 under one lock: an operation each.
+pub fn run_storm<T: Threads + Wait + Sync>(
     rt: &T,
     alloc: Global,
     items: u64,
+    in_batches: bool,
 ) -> Result<Done, Halt>
     requires { items ≤ 10000 }
     ensures { IfOk result (λ done. done.operations ≡ 64 * items) }
@@ -74,15 +54,28 @@ pub fn run_batches<T: Threads + Wait + Sync>(
     let stock = samples(alloc, SOURCES)?;
     let mut text = Vec::new(alloc);
     let mut writer = Watched::new(&mut text);
-    let answer = storm_in_batches(
-        rt,
-        alloc,
-        SOURCES,
-        WORKERS,
-        items,
-        stock,
-        &Open,
-        &mut writer,
-    );
-    done(answer, items, &text)
+    let run = if in_batches {
+        storm_in_batches(
+            rt,
+            alloc,
+            SOURCES,
+            WORKERS,
+            items,
+            stock,
+            &Open,
+            &mut writer,
+        )
+    } else {
+        storm(
+            rt,
+            alloc,
+            SOURCES,
+            WORKERS,
+            items,
+            stock,
+            &Open,
+            &mut writer,
+        )
+    };
+    done(run, items, &text)
 }
