@@ -31,6 +31,7 @@ pub record Ran {I O : Type 0} (remaining : I → Bytes) (contents : O → Bytes)
       (Appends (contents (device_of output)) (contents (device_of output'))))
   pub stopped : OnOk outcome (has_stopped input' ≡ true)
   pub unhurt : OnOk outcome ((has_failed input' ≡ false) × (has_failed output' ≡ false))
+  pub moved : OnOk outcome (has_stopped output' ≡ false)
   pub front : IsErrOf outcome Write → Runs stock form (remaining (device_of input)) (remaining (device_of input'))
       (AppendsPrefix (contents (device_of output)) (contents (device_of output')))
   pub silent : IfErr outcome (λ e. e ≢ Write → output' ≡ output)
@@ -58,6 +59,7 @@ pub record Audited {I O : Type 0} (remaining : I → Bytes) (contents : O → By
       (Appends (contents (device_of output)) (contents (device_of output'))))
   pub stopped : OnOk outcome (has_stopped input' ≡ true)
   pub unhurt : OnOk outcome ((has_failed input' ≡ false) × (has_failed output' ≡ false))
+  pub moved : OnOk outcome (has_stopped output' ≡ false)
   pub front : IsErrOf outcome Write → (v : Verdict)
       × Judges v (remaining (device_of input)) (remaining (device_of input'))
       (AppendsPrefix (contents (device_of output)) (contents (device_of output')))
@@ -82,6 +84,7 @@ pub record Stormed {O : Type 0} (contents : O → Bytes)
     (output output' : Watched O) (outcome : Result Bool StormFault) : Type 0 where
   pub told : IfOk outcome (λ agrees. TellsFigures agrees (contents (device_of output)) (contents (device_of output')))
   pub unhurt : OnOk outcome (has_failed output' ≡ false)
+  pub moved : OnOk outcome (has_stopped output' ≡ false)
   pub front : IsErrOf outcome NoWrite → TellsFront (contents (device_of output)) (contents (device_of output'))
   pub memory : IsErrOf outcome NoMemory → output' ≡ output
   pub thread : IsErrOf outcome NoThread → output' ≡ output
@@ -119,6 +122,8 @@ module _ {O E : Type 0} (output_of : O → Bytes) (errors_of : E → Bytes)
   pub record ShowsHelp : Type 0 where
     pub says : status ≡ 0
     pub shown : (text : List ℕ) × Appends (output_of (device_of output)) (output_of (device_of output')) text
+    pub unhurt : has_failed output' ≡ has_failed output
+    pub moved : has_stopped output' ≡ has_stopped output
     pub silent : errors' ≡ errors
 
   -- the words ask for help, and the output refused its text

@@ -218,7 +218,8 @@ fn output_of_input<S: Resource>(
 ///
 /// The book is closed in every outcome, and before the first byte is written: each resource that it
 /// accepted was released once. Those that it never accepted are dropped unreleased. Only with
-/// [`ScriptError::Write`] is anything but the whole written: a front of it.
+/// [`ScriptError::Write`] is anything but the whole written: a front of it. A write that takes no byte is such a
+/// fault.
 pub fn run<R: Read, W: Write, S: Resource>(
     alloc: Global,
     reader: &mut Watched<'_, R>,
@@ -234,6 +235,7 @@ pub fn run<R: Read, W: Write, S: Resource>(
         (Appends (W.contents (device_of writer.old)) (W.contents (device_of writer.new)))) }
     ensures stopped { OnOk result (has_stopped reader.new ≡ true) }
     ensures unhurt { OnOk result ((has_failed reader.new ≡ false) × (has_failed writer.new ≡ false)) }
+    ensures moved { OnOk result (has_stopped writer.new ≡ false) }
 
     ensures read { IsErrOf result ScriptError.Read → HasReadFault reader.new }
     ensures write { IsErrOf result ScriptError.Write → HasWriteFault writer.new }
