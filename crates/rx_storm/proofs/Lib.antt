@@ -1,3 +1,4 @@
 mod CountUp
+mod Emission
 mod Mail
 mod OutcomeTellsFigures

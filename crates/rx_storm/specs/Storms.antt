@@ -1,18 +1,22 @@
 -- What a storm gives, and what it tells.
-use Rattle.std.specs.Prelude.{◌≡◌, Option, Some, None, Result, Ok, Err, is_ok, ℕ, zero, suc, pos, ◌+◌, ◌-◌, min, Bool, List, [], ◌∷◌, ◌++◌, codes, length}
+use Rattle.std.specs.Prelude.{◌≡◌, Option, Some, None, Result, Ok, Err, is_ok, ℕ, zero, suc, pos, ◌+◌, ◌-◌, min, Bool, List, [], ◌∷◌, ◌++◌, codes, length, map}
 use Rattle.std.specs.Fmt.{decimal}
 use Rattle.std.specs.Io.KnownBytes.{Appends}
 use Rattle.rx_note.specs.declared.note.Terminal.TheVariants.{Completed}
+use Rattle.rx_event.specs.declared.event.Event.{Event}
+use Rattle.rx_event.specs.declared.event.Event.TheVariants.{Item as ItemAt}
 use Rattle.rx_event.specs.Notes.{notes}
 use Rattle.rx_event.specs.Totals.{accepted_count, taken_count, held_count, waiting_count}
 use Rattle.rx_book.specs.State.{State, IsPromised}
 use Rattle.rx_ledger.specs.declared.ledgers.Sums.{Sums}
 use Rattle.rx_ledger.specs.declared.receipt.Receipt.{Receipt}
+use Rattle.rx_ledger.specs.Shares.{Shares}
 use Rattle.rx_device.specs.Device.{AppendsPrefix}
 use Rattle.rx_crew.specs.declared.feeding.Pull.{Pull}
 use Rattle.rx_crew.specs.declared.feeding.Pull.TheVariants.{Item, Done}
 use Rattle.rx_crew.specs.declared.finishing.Totals.{Totals}
 use Rattle.rx_crew.specs.declared.finishing.Mismatch.{Mismatch}
+use Rattle.rx_crew.specs.Feeds.{event_of}
 use Rattle.rx_crew.specs.Verdicts.{IsVerdict}
 use Rattle.rx_storm.specs.declared.outcome.Lack.{Lack}
 use Rattle.rx_storm.specs.declared.figures.Figures.{Figures}
@@ -21,6 +25,26 @@ use Rattle.rx_storm.specs.declared.figures.Figures.{Figures}
 abbrev pub count_up : (from left : ℕ) → List Pull
 count_up from zero = Done Completed ∷ []
 count_up from (suc left) = Item (pos from) ∷ count_up (suc from) left
+
+-- so many numbers, from the one given on, that a leaf emits
+abbrev pub items_at : (leaf from count : ℕ) → List Event
+items_at leaf from zero = []
+items_at leaf from (suc count) = ItemAt leaf (pos from) ∷ items_at leaf (suc from) count
+
+-- the events of which these are the receipts
+abbrev pub events_of : List Receipt → List Event
+events_of receipts = map (λ r. r.event) receipts
+
+-- the receipt of an event at its place
+abbrev pub receipt_at : (place : ℕ) → Event → Receipt
+receipt_at place event = record { place = place; event = event }
+
+-- a thread emitted so many numbers at a leaf, from 0 on, and completed it: it has a receipt for each of these events, in
+-- order, and its seat counts the items and one resource that was accepted
+pub record HasEmitted (count : ℕ) (first seat : Shares) (receipts : List Receipt) : Type 0 where
+  pub leaf : ℕ
+  pub events : events_of receipts ≡ map (event_of leaf) (count_up 0 count)
+  pub counted : seat ≡ record first { items = first.items + count; accepted = first.accepted + 1 }
 
 -- one figure a line, after its name
 unfoldable pub first_lines : Figures → List ℕ

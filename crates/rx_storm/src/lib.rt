@@ -21,7 +21,9 @@
 //!   book was closed. Where the threads lacked something, that is the answer.
 //! - [`storm`] and [`storm_in_batches`] promise the same for some seats and receipts.
 //! - With `Memory` or `Thread` nothing was written; with `Write` a front of the text may have been.
-//! - A feeding thread's source gives the numbers from 0 up to its count, in order, and then completes.
+//! - A feeding thread that is done has emitted the numbers from 0 up to its count, in order, and completed its
+//!   leaf; it has a receipt for each of these events, and its seat counts the items and one resource. In batches it
+//!   is the same.
 //! - That threads are started and nothing that they gave back is left out, that as many resources were
 //!   released as were taken, that seats and receipts agree with the book, that releases run side by side,
 //!   and that the book is closed also where an error is answered is tested and not proved; so it is that
@@ -42,6 +44,7 @@ mod batches;
 mod ending;
 mod figures;
 mod numbers;
+mod opening;
 mod outcome;
 mod threads;
 
@@ -239,6 +242,7 @@ pub fn storm_in_batches<R: Resource, G: Gate, T: Threads + Wait + Sync, W: Write
     ensures front { IsErrOf result StormFault.Write
         → TellsFront (W.contents (device_of writer.old)) (W.contents (device_of writer.new)) }
     ensures unhurt { OnOk result (has_failed writer.new ≡ has_failed writer.old) }
+    ensures moved { OnOk result (has_stopped writer.new ≡ has_stopped writer.old) }
     ensures failed { IsErrOf result StormFault.Write → HasWriteFault writer.new }
     ensures same_device { KeepsDevice writer.old writer.new }
 {

@@ -4,13 +4,13 @@ ghost use Rattle.std.specs.Prelude.{◌≡◌, ◌≢◌, ◌+◌, ◌++◌, ◌
 ghost use Rattle.std.specs.Thread.{IsSend, IsSync};
 ghost use Rattle.rx_crew.specs.declared.working.Stop.{Stop};
 ghost use Rattle.rx_storm.specs.declared.outcome.Lack.{Lack};
+ghost use Rattle.rx_storm.specs.Storms.{HasEmitted};
 
 use crate::batches::emit_batches;
 use crate::numbers::Numbers;
+use crate::opening::open_leaf;
 use crate::outcome::Lack;
-use rx_book::At;
 use rx_crew::{Desk, Fed, Gate, Stop, Worked, feed, worker};
-use rx_event::Kind;
 use rx_ledger::{Receipt, Seat};
 use rx_resource::Resource;
 use std::alloc::Global;
@@ -36,7 +36,13 @@ pub struct Gathered<I: Ledger, A: Ledger, K: Ledger> {
 
 impl<I: Ledger, A: Ledger, K: Ledger> Gathered<I, A, K> {
     /// Nothing yet.
-    fn new(alloc: Global) -> Gathered<I, A, K> {
+    fn new(alloc: Global) -> Gathered<I, A, K>
+        ensures seats { result.seats.items ≡ [] }
+        ensures receipts { result.receipts.items ≡ [] }
+        ensures released { result.released ≡ 0 }
+        ensures faults { result.faults ≡ 0 }
+        ensures fault { result.fault ≡ None }
+    {
         Gathered {
             seats: Vec::new(alloc),
             receipts: Vec::new(alloc),
@@ -51,6 +57,17 @@ impl<I: Ledger, A: Ledger, K: Ledger> Gathered<I, A, K> {
         ensures { self.new ≡ record self.old { fault = Some Lack.Memory } }
     {
         self.fault = Some(Lack::Memory);
+    }
+
+    /// Notes what kept a thread from being started, if something did. What was lacked before stays.
+    fn note_lack(&mut self, lack: Option<Lack>)
+        ensures first { IsSome self.old.fault → self.new ≡ self.old }
+        ensures noted { self.old.fault ≡ None → self.new ≡ record self.old { fault = lack } }
+    {
+        match self.fault {
+            None => self.fault = lack,
+            Some(_) => {}
+        }
     }
 
     /// Keeps a seat, or notes that there was no memory for it.
@@ -139,12 +156,12 @@ fn emit_all<R: Resource, I: Ledger, A: Ledger, K: Ledger>(
     seat: Seat<I, A, K>,
     resource: R,
     items: u32,
-) -> Option<Fed<I, A, K>> {
+) -> Option<Fed<I, A, K>>
+    ensures done { IfSome result (λ fed. fed.stop ≡ Stop.Done → HasEmitted items seat fed.seat fed.receipts.items) }
+    ensures turns { IfSome result (λ fed. fed.stop ≢ Stop.Turns) }
+{
     let mut seat = seat;
-    let mut floor = desk.floor.lock(rt);
-    let root = floor.open_using(&mut seat, At::Root, resource).ok()?.key;
-    let leaf = floor.open(At::Source(root), Kind::Leaf).ok()?.key;
-    drop(floor);
+    let leaf = open_leaf(rt, desk, &mut seat, resource)?;
     let mut numbers = Numbers::below(items);
     let turns = u64::from(items) + 1;
     Some(feed(rt, alloc, desk, seat, leaf, &mut numbers, turns))
@@ -159,7 +176,10 @@ fn emit<R: Resource, I: Ledger, A: Ledger, K: Ledger>(
     resource: R,
     items: u32,
     in_batches: bool,
-) -> Option<Fed<I, A, K>> {
+) -> Option<Fed<I, A, K>>
+    ensures done { IfSome result (λ fed. fed.stop ≡ Stop.Done → HasEmitted items seat fed.seat fed.receipts.items) }
+    ensures turns { IfSome result (λ fed. fed.stop ≢ Stop.Turns) }
+{
     if in_batches {
         emit_batches(rt, alloc, desk, seat, resource, items)
     } else {
@@ -245,7 +265,7 @@ pub fn run_feeding<
                 let started = scope.spawn(move || emit(
                     rt, alloc, desk, seat, resource, items, in_batches,
                 ));
-                gathered.fault = keep_thread(&mut feeds, started);
+                gathered.note_lack(keep_thread(&mut feeds, started));
                 if gathered.fault.is_some() {
                     break;
                 }
@@ -258,7 +278,7 @@ pub fn run_feeding<
                     break;
                 };
                 let started = scope.spawn(move || worker(rt, desk, seat, gate, turns));
-                gathered.fault = keep_thread(&mut works, started);
+                gathered.note_lack(keep_thread(&mut works, started));
             }
             gathered.join_all(rt, desk, feeds, works);
             gathered.keep(first);
