@@ -1,4 +1,4 @@
-use Rattle.std.proofs.Common.{◌-◌, arith}
+use Rattle.std.proofs.Common.{◌-◌, pos, arith}
 use Rattle.rx_storm.specs.Storms.{events_of}
 use Rattle.rx_storm.proofs.Emission.{items_at-none, none_counted, items_at-more, one_counted}
 use Rattle.rx_storm.proofs.batches.emit_some.Goals as goal
@@ -13,6 +13,6 @@ pub loop-number-preserved : goal.loop-number-preserved
 loop-number-preserved g c = record {
   emitted = items_at-more c.args.leaf.number c.args.first c.loop-number.number _ c.loop-number.receipts.items _ _
       c.loop-number.auto.number c.loop-number.invariant.emitted c.in_ok-keep_receipt.ensures c.item_at.ensures;
-  counted = one_counted c.args.leaf.number _ c.args.first c.loop-number.number c.args.seat.now c.loop-number.seat _
+  counted = one_counted c.args.leaf.number (pos c.loop-number.number) c.args.first c.loop-number.number c.args.seat.now c.loop-number.seat _
       c.loop-number.auto.number c.loop-number.invariant.counted c.in_ok-place.ensures.counts.counted;
 }
