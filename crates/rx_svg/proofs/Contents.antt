@@ -1,12 +1,17 @@
 -- What may stand inside an element: one after the other, and where something is left out.
-use Rattle.std.proofs.Common.{ℕ, Bool, true, false, List, [], ◌∷◌, ◌++◌, flat_map, sym, subst, append_assoc}
+use Rattle.std.proofs.Common.{◌≡◌, ℕ, Bool, true, false, List, [], ◌∷◌, ◌++◌, flat_map, sym, subst, append_assoc, append-nil}
 use Rattle.std.specs.Prelude.{if◌then◌else◌}
-use Rattle.rx_svg.specs.WellFormed.{element_text, IsContent, nothing, text_first, element_first}
+use Rattle.rx_svg.specs.WellFormed.{is_plain, element_text, reference_text, IsContent, nothing, text_first, reference_first, element_first}
+
+pub plain_content : (text : List ℕ) → is_plain text ≡ true → IsContent text
+plain_content text plain = subst IsContent (append-nil text) (text_first text [] plain nothing)
 
 pub content_append : (a b : List ℕ) → IsContent a → IsContent b → IsContent (a ++ b)
 content_append a b nothing q = q
 content_append a b (text_first text rest plain p) q =
     subst IsContent (sym (append_assoc text rest b)) (text_first text (rest ++ b) plain (content_append rest b p q))
+content_append a b (reference_first name rest known p) q =
+    subst IsContent (sym (append_assoc (reference_text name) rest b)) (reference_first name (rest ++ b) known (content_append rest b p q))
 content_append a b (element_first name attributes inside rest tag within p) q =
     subst IsContent (sym (append_assoc (element_text name attributes inside) rest b))
     (element_first name attributes inside (rest ++ b) tag within (content_append rest b p q))

@@ -1,5 +1,5 @@
 -- The document of a drawing is well formed, whatever the drawing and the verdict are.
-use Rattle.std.proofs.Common.{◌≡◌, ℕ, ◌+◌, ◌-◌, true, List, [], ◌∷◌, ◌++◌, map, codes, flat_map}
+use Rattle.std.proofs.Common.{◌≡◌, ℕ, ◌+◌, ◌-◌, true, Option, List, [], ◌∷◌, ◌++◌, map, codes, flat_map}
 use Rattle.std.proofs.Common.{length, take, drop, refl, sym, ap, subst, ◌∙◌, append_assoc, append-nil}
 use Rattle.std.specs.Prelude.{◌==◌}
 use Rattle.std.proofs.lemmas.Bool.{and_from}
@@ -8,16 +8,18 @@ use Rattle.rx_audit.specs.declared.verdict.Verdict.TheVariants.{Lawful, Unlawful
 use Rattle.rx_picture.specs.declared.points.Point.{Point}
 use Rattle.rx_picture.specs.declared.drawing.Drawing.{Drawing}
 use Rattle.rx_svg.specs.Parts.{Part, words, number, text_of}
+use Rattle.rx_svg.specs.Name.{named_text}
 use Rattle.rx_svg.specs.Lane.{x_of, row_text, tick_text, told_text}
 use Rattle.rx_svg.specs.Page.{lanes_shown, places_shown, height_of, style_text, head_text, point_text, below_text, listed_text, list_text}
-use Rattle.rx_svg.specs.Page.{untaken_text, lawful_text, unlawful_text, unsettled_text, verdict_text, leak_words, count_text, leaking_text, leaks_text, leaks_class}
+use Rattle.rx_svg.specs.Page.{untaken_text, lawful_text, unlawful_text, unsettled_text, verdict_text, leak_words, count_text, entry_text, leaking_text, leaks_text, leaks_class}
 use Rattle.rx_svg.specs.Page.{break_text, shares_text, verdict_line, leaks_line, shares_line, under_text, lanes_text, svg_text}
 use Rattle.rx_svg.specs.WellFormed.{is_plain, IsContent, nothing, IsWellFormed}
 use Rattle.rx_svg.proofs.Characters.{both_are_plain, plain_append, plain_flat_map}
-use Rattle.rx_svg.proofs.Contents.{content_append, contents}
+use Rattle.rx_svg.proofs.ShownNames.{named_is_content}
+use Rattle.rx_svg.proofs.Contents.{plain_content, content_append, contents, content_if}
 use Rattle.rx_svg.proofs.Markup.{Valued, text_from, text_from-append, attribute_of, element_parts, element_reads}
 use Rattle.rx_svg.proofs.Markup.{tag_of, element_then, words_then, content_then, parts_are_plain, plain_parts, newline}
-use Rattle.rx_svg.proofs.Elements.{valued, text_content, between, broken_is_content, column_is_content}
+use Rattle.rx_svg.proofs.Elements.{valued, text_around, between, broken_is_content, column_is_content}
 use Rattle.rx_svg.proofs.Rows.{row_is_content, tick_is_content, told_is_content}
 
 -- under the lanes ---------------------------------------------------------------------------------
@@ -68,46 +70,57 @@ count_is_plain : (n : ℕ) (ending : List ℕ) → is_plain ending ≡ true → 
 unfolding count_text text_of
 count_is_plain n ending plain = parts_are_plain (number n ∷ words ending ∷ []) (and_from _ _ plain refl)
 
-leaking_is_plain : (leaks : List ℕ) → is_plain (leaking_text leaks) ≡ true
+entry_is_content : (names : ℕ → Option (List ℕ)) (n : ℕ) → IsContent (entry_text names n)
+unfolding entry_text
+entry_is_content names n =
+    content_append (listed_text n) (named_text (names n)) (plain_content (listed_text n) (listed_is_plain n)) (named_is_content (names n))
+
+leaking_is_content : (names : ℕ → Option (List ℕ)) (leaks : List ℕ) → IsContent (leaking_text names leaks)
 unfolding leaking_text
-leaking_is_plain leaks =
-    plain_append (count_text (length leaks) (leak_words (length leaks))) (flat_map listed_text leaks)
-    (count_is_plain (length leaks) (leak_words (length leaks)) (both_are_plain (length leaks == 1) _ _ refl refl))
-    (plain_flat_map listed_text listed_is_plain leaks)
+leaking_is_content names leaks =
+    content_append (count_text (length leaks) (leak_words (length leaks))) (flat_map (entry_text names) leaks)
+    (plain_content (count_text (length leaks) (leak_words (length leaks)))
+    (count_is_plain (length leaks) (leak_words (length leaks)) (both_are_plain (length leaks == 1) _ _ refl refl)))
+    (contents (entry_text names) (entry_is_content names) leaks)
 
-leaks_are_plain : (leaks : List ℕ) → is_plain (leaks_text leaks) ≡ true
-leaks_are_plain leaks = both_are_plain (length leaks == 0) _ _ refl (leaking_is_plain leaks)
+leaks_read : (names : ℕ → Option (List ℕ)) (leaks : List ℕ) → IsContent (leaks_text names leaks)
+leaks_read names leaks = content_if (length leaks == 0) _ _ (plain_content (codes "no resource leaks") refl) (leaking_is_content names leaks)
 
-below_is_content : (class : List ℕ) (y : ℕ) (text : List ℕ) → is_plain class ≡ true → is_plain text ≡ true
+below_is_content : (class : List ℕ) (y : ℕ) (text : List ℕ) → is_plain class ≡ true → IsContent text
     → IsContent (below_text class y ++ text ++ codes "</text>\n")
 unfolding below_text text_of
-below_is_content class y text of_class plain =
+below_is_content class y text of_class content =
     let front : List Part =
     words (codes "<text class=\"") ∷ words class ∷ words (codes "\" x=\"10\" y=\"") ∷ number y ∷ words (codes "\">") ∷ [] in
     let attributes : List Valued =
     valued (codes "class") (words class ∷ []) ∷ valued (codes "x") (words (codes "10") ∷ []) ∷ valued (codes "y") (number y ∷ []) ∷ [] in
     subst IsContent (between front (words (codes "</text>\n") ∷ []) text)
-    (text_content attributes (words text ∷ []) (and_from _ _ (and_from _ _ of_class refl) refl) refl (and_from _ _ plain refl))
+    (text_around attributes (words text ∷ []) (and_from _ _ (and_from _ _ of_class refl) refl) refl (content_then text [] content nothing))
 
 verdict_is_content : (height : ℕ) (verdict : Verdict) → IsContent (verdict_line height verdict)
 unfolding verdict_line
-verdict_is_content height verdict = below_is_content (codes "under") (height + 48) (verdict_text verdict) refl (verdict_is_plain verdict)
+verdict_is_content height verdict = below_is_content (codes "under") (height + 48) (verdict_text verdict) refl
+    (plain_content (verdict_text verdict) (verdict_is_plain verdict))
 
-leaks_are_content : (height : ℕ) (leaks : List ℕ) → IsContent (leaks_line height leaks)
+leaks_are_content : (names : ℕ → Option (List ℕ)) (height : ℕ) (leaks : List ℕ) → IsContent (leaks_line names height leaks)
 unfolding leaks_line
-leaks_are_content height leaks =
-    below_is_content (leaks_class leaks) (height + 72) (leaks_text leaks) (both_are_plain (length leaks == 0) _ _ refl refl) (leaks_are_plain leaks)
+leaks_are_content names height leaks =
+    below_is_content (leaks_class leaks) (height + 72) (leaks_text names leaks) (both_are_plain (length leaks == 0) _ _ refl refl)
+    (leaks_read names leaks)
 
 shares_are_content : (d : Drawing) (end height : ℕ) → IsContent (shares_line d end height)
 unfolding shares_line
-shares_are_content d end height = below_is_content (codes "under") (height + 96) (shares_text d end) refl (shares_is_plain d end)
+shares_are_content d end height = below_is_content (codes "under") (height + 96) (shares_text d end) refl
+    (plain_content (shares_text d end) (shares_is_plain d end))
 
-under_is_content : (d : Drawing) (end height : ℕ) (verdict : Verdict) → IsContent (under_text d end height verdict)
+under_is_content : (d : Drawing) (names : ℕ → Option (List ℕ)) (end height : ℕ) (verdict : Verdict)
+    → IsContent (under_text d names end height verdict)
 unfolding under_text
-under_is_content d end height verdict =
+under_is_content d names end height verdict =
     let leaks = d.leaks.items in
-    content_append (verdict_line height verdict ++ leaks_line height leaks) (shares_line d end height)
-    (content_append (verdict_line height verdict) (leaks_line height leaks) (verdict_is_content height verdict) (leaks_are_content height leaks))
+    content_append (verdict_line height verdict ++ leaks_line names height leaks) (shares_line d end height)
+    (content_append (verdict_line height verdict) (leaks_line names height leaks) (verdict_is_content height verdict)
+    (leaks_are_content names height leaks))
     (shares_are_content d end height)
 
 -- the lanes ---------------------------------------------------------------------------------------
@@ -121,15 +134,16 @@ break_is_content d height (Lawful live held waiting) = nothing
 break_is_content d height (Unlawful place) = broken_is_content (x_of d place) height place
 break_is_content d height Unsettled = nothing
 
-lanes_are_content : (d : Drawing) (end height : ℕ) (verdict : Verdict) → IsContent (lanes_text d end height verdict)
+lanes_are_content : (d : Drawing) (names : ℕ → Option (List ℕ)) (end height : ℕ) (verdict : Verdict)
+    → IsContent (lanes_text d names end height verdict)
 unfolding lanes_text
-lanes_are_content d end height verdict =
+lanes_are_content d names end height verdict =
     let points = flat_map (point_text d height) d.points.items in
-    let rows = flat_map (row_text d end) d.rows.items in
+    let rows = flat_map (row_text d names end) d.rows.items in
     let ticks = flat_map (tick_text d) d.points.items in
     let marbles = flat_map (told_text d) d.marbles.items in
     let points_are = contents (point_text d height) (point_is_content d height) d.points.items in
-    let rows_are = contents (row_text d end) (row_is_content d end) d.rows.items in
+    let rows_are = contents (row_text d names end) (row_is_content d names end) d.rows.items in
     let ticks_are = contents (tick_text d) (tick_is_content d) d.points.items in
     let marbles_are = contents (told_text d) (told_is_content d) d.marbles.items in
     let with_rows = content_append points rows points_are rows_are in
@@ -194,9 +208,9 @@ document_is_well_formed width height lanes under p q =
           ∙ ap (λ t. t ++ codes "\n") (element_reads (codes "svg") (svg_attributes width height) (svg_inside lanes under));
     }
 
-pub svg_is_well_formed : (d : Drawing) (end : ℕ) (verdict : Verdict) → IsWellFormed (svg_text d end verdict)
+pub svg_is_well_formed : (d : Drawing) (names : ℕ → Option (List ℕ)) (end : ℕ) (verdict : Verdict) → IsWellFormed (svg_text d names end verdict)
 unfolding svg_text
-svg_is_well_formed d end verdict =
+svg_is_well_formed d names end verdict =
     let height = height_of d end in
-    document_is_well_formed (x_of d end + 130) (height + 108) (lanes_text d end height verdict) (under_text d end height verdict)
-    (lanes_are_content d end height verdict) (under_is_content d end height verdict)
+    document_is_well_formed (x_of d end + 130) (height + 108) (lanes_text d names end height verdict) (under_text d names end height verdict)
+    (lanes_are_content d names end height verdict) (under_is_content d names end height verdict)

@@ -35,12 +35,18 @@ path_then class drawn title rest c d t after =
     element_then (codes "path") attributes (element_parts (codes "title") [] title ++ []) rest
     (tag_of (codes "path") attributes refl (and_from _ _ (and_from _ _ c refl) (and_from _ _ d refl)) refl) titled after
 
--- a text of plain parts, at the end of a line
+-- a text of parts that are content, at the end of a line
+pub text_around : (attributes : List Valued) (inside : List Part) → list_all is_valued attributes ≡ true
+    → are_distinct (map (λ a. a.name) (map attribute_of attributes)) ≡ true → IsContent (text_from inside)
+    → IsContent (text_from (element_parts (codes "text") attributes inside ++ words (codes "\n") ∷ []))
+text_around attributes inside each once content =
+    element_then (codes "text") attributes inside (words (codes "\n") ∷ []) (tag_of (codes "text") attributes refl each once) content newline
+
+-- a text of plain parts
 pub text_content : (attributes : List Valued) (inside : List Part) → list_all is_valued attributes ≡ true
     → are_distinct (map (λ a. a.name) (map attribute_of attributes)) ≡ true → are_plain inside ≡ true
     → IsContent (text_from (element_parts (codes "text") attributes inside ++ words (codes "\n") ∷ []))
-text_content attributes inside each once plain =
-    element_then (codes "text") attributes inside (words (codes "\n") ∷ []) (tag_of (codes "text") attributes refl each once) (plain_parts inside plain) newline
+text_content attributes inside each once plain = text_around attributes inside each once (plain_parts inside plain)
 
 -- stretches ---------------------------------------------------------------------------------------
 

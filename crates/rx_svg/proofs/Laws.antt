@@ -1,5 +1,5 @@
 -- What is proved of pictures as texts.
-use Rattle.std.proofs.Common.{◌≡◌, ℕ, List, length, sym, subst}
+use Rattle.std.proofs.Common.{◌≡◌, ℕ, Option, List, length, sym, subst}
 use Rattle.rx_event.specs.declared.event.Event.{Event}
 use Rattle.rx_audit.specs.declared.verdict.Verdict.{Verdict}
 use Rattle.rx_audit.specs.Verdict.{IsVerdict}
@@ -9,13 +9,13 @@ use Rattle.rx_svg.specs.Page.{svg_text, IsPicture}
 use Rattle.rx_svg.specs.WellFormed.{IsWellFormed}
 use Rattle.rx_svg.proofs.Documents.{svg_is_well_formed}
 
--- the document of any drawing, of any history and with any verdict, is well formed
-pub the_text_is_well_formed : (d : Drawing) (end : ℕ) (verdict : Verdict) → IsWellFormed (svg_text d end verdict)
+-- the document of any drawing, of any history and with any names and verdict, is well formed
+pub the_text_is_well_formed : (d : Drawing) (names : ℕ → Option (List ℕ)) (end : ℕ) (verdict : Verdict) → IsWellFormed (svg_text d names end verdict)
 the_text_is_well_formed = svg_is_well_formed
 
-pub picture_of : (h : List Event) (d : Drawing) (verdict : Verdict) (text : List ℕ)
-    → IsDrawing h d → IsVerdict h verdict → text ≡ svg_text d (length h) verdict → IsPicture h text
-picture_of h d verdict text is judges reads =
+pub picture_of : (h : List Event) (names : ℕ → Option (List ℕ)) (d : Drawing) (verdict : Verdict) (text : List ℕ)
+    → IsDrawing h d → IsVerdict h verdict → text ≡ svg_text d names (length h) verdict → IsPicture h names text
+picture_of h names d verdict text is judges reads =
     record {
       drawing = d;
       is = is;
@@ -23,5 +23,5 @@ picture_of h d verdict text is judges reads =
       judges = judges;
       reads = reads;
       well_formed =
-          subst IsWellFormed (sym reads) (the_text_is_well_formed d (length h) verdict);
+          subst IsWellFormed (sym reads) (the_text_is_well_formed d names (length h) verdict);
     }

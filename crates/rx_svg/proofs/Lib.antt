@@ -1,5 +1,6 @@
 mod Characters
 mod Contents
+mod ShownNames
 mod Markup
 mod Elements
 mod Rows

@@ -45,3 +45,9 @@ a_bracket_in_a_text = refutes (codes "<a>1 < 2</a>") refl
 
 pub an_ampersand_in_a_text : IsWellFormed (codes "<a>b & c</a>") → ⊥
 an_ampersand_in_a_text = refutes (codes "<a>b & c</a>") refl
+
+pub an_entity_that_nothing_declares : IsWellFormed (codes "<a>b &nbsp; c</a>") → ⊥
+an_entity_that_nothing_declares = refutes (codes "<a>b &nbsp; c</a>") refl
+
+pub a_reference_with_no_end : IsWellFormed (codes "<a>b &lt c</a>") → ⊥
+a_reference_with_no_end = refutes (codes "<a>b &lt c</a>") refl

@@ -1,13 +1,13 @@
 -- A reader that goes over a text once, from left to right. Every well-formed text passes: so what it refuses is not well formed.
 use Rattle.std.proofs.Common.{◌≡◌, ℕ, Bool, true, false, ◌&&◌, not, nat_lt, List, [], ◌∷◌, ◌++◌, map}
-use Rattle.std.proofs.Common.{flat_map, fold, length, codes, bytes_eq, refl, sym, ap, ◌∙◌, append_assoc, append-nil}
+use Rattle.std.proofs.Common.{flat_map, fold, length, codes, bytes_eq, refl, sym, ap, ◌∙◌, append_assoc, append-nil, inl, inr, ◌⊎◌}
 use Rattle.std.specs.Prelude.{◌==◌, if◌then◌else◌}
 use Rattle.std.specs.List.{list_all, list_any}
-use Rattle.std.proofs.lemmas.Bool.{and_parts, and_from, or_parts, or_from, not-true, not_from_false, both_ways, false≢true, false_from_ne_true, cond-true}
+use Rattle.std.proofs.lemmas.Bool.{and_parts, and_from, or_parts, or_from, not-true, not_from_false, both_ways, false≢true, false_from_ne_true, cond-true, or_cases}
 use Rattle.std.proofs.lemmas.List.Sums.{fold-append}
 use Rattle.std.proofs.lemmas.Slice.Eq.{bytes_eq-Decides}
-use Rattle.rx_svg.specs.WellFormed.{Attribute, IsTag, IsContent, nothing, text_first, element_first, IsWellFormed}
-use Rattle.rx_svg.specs.WellFormed.{is_plain_character, is_plain, is_letter, is_name, is_space, is_attribute, are_distinct, attribute_text, element_text}
+use Rattle.rx_svg.specs.WellFormed.{Attribute, IsTag, IsContent, nothing, text_first, reference_first, element_first, IsWellFormed}
+use Rattle.rx_svg.specs.WellFormed.{is_plain_character, is_plain, is_letter, is_name, is_space, is_attribute, are_distinct, is_predefined, reference_text, attribute_text, element_text}
 
 -- a start tag so far: the elements that are open around it, innermost first, its name, and the attributes that were seen
 pub record Tag : Type 0 where
@@ -19,6 +19,7 @@ pub record Tag : Type 0 where
 pub data Standing : Type 0 where
   before : Standing
   content : List (List ℕ) → Standing
+  in_reference : List (List ℕ) → List ℕ → Standing
   bracket : List (List ℕ) → Standing
   in_name : List (List ℕ) → List ℕ → Standing
   in_attribute : Tag → List ℕ → Standing
@@ -47,10 +48,15 @@ with_seen t name = record { around = t.around; name = t.name; seen = name ∷ t.
 abbrev pub bare : List (List ℕ) → List ℕ → Tag
 bare around name = record { around = around; name = name; seen = [] }
 
--- one character more: 60 is `<`, 62 `>`, 47 `/`, 61 `=`, 34 the quotation mark, 32 a space
+-- one character more: 60 is `<`, 62 `>`, 38 `&`, 59 `;`, 47 `/`, 61 `=`, 34 the quotation mark, 32 a space
 abbrev pub step : Standing → ℕ → Standing
 step before c = if c == 60 then bracket [] else refused
-step (content around) c = if is_plain_character c then content around else (if c == 60 then bracket around else refused)
+step (content around) c =
+    if is_plain_character c then content around
+    else (if c == 60 then bracket around else (if c == 38 then in_reference around [] else refused))
+step (in_reference around name) c =
+    if is_letter c then in_reference around (name ++ c ∷ [])
+    else (if c == 59 && is_predefined name then content around else refused)
 step (bracket around) c = if is_letter c then in_name around (c ∷ []) else (if c == 47 then in_end around [] else refused)
 step (in_name around name) c =
     if is_letter c then in_name around (name ++ c ∷ [])
@@ -87,6 +93,18 @@ letters_read s takes name (c ∷ rest) p =
     let both = and_parts (is_letter c) (list_all is_letter rest) p in
     ap (λ (r : Standing). fold step r rest) (takes name c both.0) ∙ letters_read s takes (name ++ c ∷ []) rest both.1
     ∙ ap s (append_assoc name (c ∷ []) rest)
+
+-- a name that is one of some names of letters has letters only
+letters_of : (name : List ℕ) (names : List (List ℕ)) → list_any (bytes_eq name) names ≡ true → list_all (list_all is_letter) names ≡ true
+    → list_all is_letter name ≡ true
+letters_of name [] found all = absurd (false≢true found)
+letters_of name (m ∷ names) found all = by_first (or_cases (bytes_eq name m) (list_any (bytes_eq name) names) found) (letters_of name names) where
+  by_first : (bytes_eq name m ≡ true) ⊎ (list_any (bytes_eq name) names ≡ true)
+      → (list_any (bytes_eq name) names ≡ true → list_all (list_all is_letter) names ≡ true → list_all is_letter name ≡ true)
+      → list_all is_letter name ≡ true
+  by_first (inl same) rest =
+      ap (list_all is_letter) ((bytes_eq-Decides name m).0 same) ∙ (and_parts (list_all is_letter m) (list_all (list_all is_letter) names) all).0
+  by_first (inr later) rest = rest later (and_parts (list_all is_letter m) (list_all (list_all is_letter) names) all).1
 
 name_read : (around : List (List ℕ)) (name : List ℕ) → is_name name ≡ true → fold step (bracket around) name ≡ in_name around name
 name_read around [] p = absurd (false≢true p)
@@ -188,12 +206,26 @@ element_shape : (name : List ℕ) (attributes : List Attribute) (inside : List �
 element_shape name attributes inside =
     bracketed_element (codes "<") name (flat_map attribute_text attributes) (codes ">") inside (codes "</") name (codes ">")
 
+reference_read : (around : List (List ℕ)) (name : List ℕ) → is_predefined name ≡ true
+    → fold step (content around) (reference_text name) ≡ content around
+reference_read around name known =
+    fold-append step (content around) (codes "&" ++ name) (codes ";")
+    ∙ ap (λ (r : Standing). fold step r (codes ";"))
+    (fold-append step (content around) (codes "&") name
+    ∙ letters_read (in_reference around) (λ so_far c letter. cond-true _ _ _ letter) [] name
+    (letters_of name (codes "lt" ∷ codes "gt" ∷ codes "amp" ∷ codes "apos" ∷ codes "quot" ∷ []) known refl))
+    ∙ cond-true _ (content around) refused (and_from _ _ refl known)
+
 content_read : (text : List ℕ) → IsContent text → (top : List ℕ) (around : List (List ℕ))
     → fold step (content (top ∷ around)) text ≡ content (top ∷ around)
 content_read text nothing = λ top around. refl
 content_read text (text_first plain rest p more) = λ top around.
     fold-append step (content (top ∷ around)) plain rest
     ∙ ap (λ (r : Standing). fold step r rest) (kept is_plain_character (content (top ∷ around)) (λ c one. cond-true _ _ _ one) plain p)
+    ∙ content_read rest more top around
+content_read text (reference_first name rest known more) = λ top around.
+    fold-append step (content (top ∷ around)) (reference_text name) rest
+    ∙ ap (λ (r : Standing). fold step r rest) (reference_read (top ∷ around) name known)
     ∙ content_read rest more top around
 content_read text (element_first name attributes inside rest tag within more) = λ top around.
     fold-append step (content (top ∷ around)) (element_text name attributes inside) rest

@@ -1,6 +1,5 @@
 -- What stands in the lanes of a picture is content, whatever the drawing is.
-use Rattle.std.proofs.Common.{◌≡◌, ℕ, ◌*◌, Bool, true, false, List, [], ◌∷◌, ◌++◌, codes, nat_lt, refl, subst}
-use Rattle.std.proofs.lemmas.Bool.{and_from}
+use Rattle.std.proofs.Common.{◌≡◌, ℕ, ◌*◌, Bool, true, false, Option, List, [], ◌∷◌, ◌++◌, codes, nat_lt, decimal, refl, sym, ap, subst, ◌∙◌, append_assoc}
 use Rattle.rx_note.specs.declared.note.Terminal.TheVariants.{Completed, Error}
 use Rattle.rx_event.specs.declared.event.Event.{Event}
 use Rattle.rx_event.specs.declared.event.Event.TheVariants.{Lease, Use}
@@ -16,29 +15,37 @@ use Rattle.rx_picture.specs.Rows.{lane_of}
 use Rattle.rx_picture.specs.Leaks.{is_leaking_row}
 use Rattle.rx_svg.specs.Parts.{Part, words, number, text_of}
 use Rattle.rx_svg.specs.Label.{event_text}
+use Rattle.rx_svg.specs.Name.{named_text}
 use Rattle.rx_svg.specs.Stroke.{Look, mark_text, code_text, line_text, leak_text, bar_text, bar_shape, cross_shape, ring_shape, diamond_shape, tick_shape}
 use Rattle.rx_svg.specs.Lane.{x_of, y_of, stretch_of, has_lane, steps_of, label_front, label_text, ending_text, life_text, stretch_text}
 use Rattle.rx_svg.specs.Lane.{owned_look, loan_look, wait_look, owned_text, loan_text, wait_text, release_text, shape_text, name_text, row_text, use_text, tick_text, told_text}
 use Rattle.rx_svg.specs.WellFormed.{IsContent, nothing}
-use Rattle.rx_svg.proofs.Characters.{event_is_plain}
-use Rattle.rx_svg.proofs.Markup.{are_plain}
-use Rattle.rx_svg.proofs.Contents.{content_append, content_if}
-use Rattle.rx_svg.proofs.Elements.{valued, text_content, between, words_of, line_is_content, bar_is_content}
+use Rattle.rx_svg.proofs.Characters.{decimal_is_plain, event_is_plain}
+use Rattle.rx_svg.proofs.ShownNames.{named_is_content}
+use Rattle.rx_svg.proofs.Markup.{are_plain, text_from, words_then, content_then}
+use Rattle.rx_svg.proofs.Contents.{plain_content, content_append, content_if}
+use Rattle.rx_svg.proofs.Elements.{valued, text_around, between, words_of, line_is_content, bar_is_content}
 use Rattle.rx_svg.proofs.Elements.{mark_is_content, code_is_content, leak_is_content, marble_is_content}
 
-label_is_content : (x y n : ℕ) (made : Event) → IsContent (label_text x y n made)
+label_is_content : (x y n : ℕ) (name : Option (List ℕ)) (made : Event) → IsContent (label_text x y n name made)
 unfolding label_text label_front text_of
-label_is_content x y n made =
+label_is_content x y n name made =
     let front : List Part =
     words (codes "<text x=\"") ∷ number x ∷ words (codes "\" y=\"") ∷ number y ∷ words (codes "\" dy=\"4\">") ∷ number n ∷ [] in
-    subst IsContent (between front (words (codes "</text>\n") ∷ []) (event_text made))
-    (text_content
+    let told = named_text name ++ event_text made in
+    let content =
+    content_append (named_text name) (event_text made) (named_is_content name) (plain_content (event_text made) (event_is_plain made)) in
+    subst IsContent
+    (between front (words (codes "</text>\n") ∷ []) told
+    ∙ ap (λ (t : List ℕ). t ++ codes "</text>\n") (sym (append_assoc (text_from front) (named_text name) (event_text made))))
+    (text_around
     (valued (codes "x") (number x ∷ []) ∷ valued (codes "y") (number y ∷ []) ∷ valued (codes "dy") (words (codes "4") ∷ []) ∷ [])
-    (number n ∷ words (event_text made) ∷ []) refl refl (and_from _ _ (event_is_plain made) refl))
+    (number n ∷ words told ∷ []) refl refl
+    (words_then (decimal n) (words told ∷ []) (decimal_is_plain n) (content_then told [] content nothing)))
 
-name_is_content : (d : Drawing) (n : ℕ) (made : Event) → IsContent (name_text d n made)
-name_is_content d n (Lease r) = nothing
-name_is_content d n made = label_is_content (10 * steps_of d n made) (y_of d n) n made
+name_is_content : (d : Drawing) (n : ℕ) (name : Option (List ℕ)) (made : Event) → IsContent (name_text d n name made)
+name_is_content d n name (Lease r) = nothing
+name_is_content d n name made = label_is_content (10 * steps_of d n made) (y_of d n) n name made
 
 ending_is_content : (x y at : ℕ) (ending : Ending) → IsContent (ending_text x y at ending)
 ending_is_content x y at Lasting = nothing
@@ -100,13 +107,14 @@ shape_is_content d leaking y n end (Resource after until taken) =
     (owned_is_content d leaking y after until end)) (release_is_content d leaking y taken)
 shape_is_content d leaking y n end (Loan resource until) = loan_is_content d leaking y n until end
 
-pub row_is_content : (d : Drawing) (end : ℕ) (row : Row) → IsContent (row_text d end row)
+pub row_is_content : (d : Drawing) (names : ℕ → Option (List ℕ)) (end : ℕ) (row : Row) → IsContent (row_text d names end row)
 unfolding row_text
-row_is_content d end row =
+row_is_content d names end row =
     let y = y_of d (lane_of row.number row.made) in
     let leaking = is_leaking_row end row in
-    content_append (name_text d row.number row.made) (shape_text d leaking y row.number end row.shape)
-    (name_is_content d row.number row.made) (shape_is_content d leaking y row.number end row.shape)
+    let name = names row.number in
+    content_append (name_text d row.number name row.made) (shape_text d leaking y row.number end row.shape)
+    (name_is_content d row.number name row.made) (shape_is_content d leaking y row.number end row.shape)
 
 use_is_content : (d : Drawing) (place : ℕ) (event : Event) → IsContent (use_text d place event)
 use_is_content d place (Use r) =

@@ -1,5 +1,5 @@
 -- What stands in the lanes of a picture.
-use Rattle.std.specs.Prelude.{ℕ, ◌+◌, ◌*◌, Bool, ◌&&◌, min, nat_lt, if◌then◌else◌, List, [], ◌∷◌, ◌++◌, codes, length, slice_index_or}
+use Rattle.std.specs.Prelude.{ℕ, ◌+◌, ◌*◌, Option, Bool, ◌&&◌, min, nat_lt, if◌then◌else◌, List, [], ◌∷◌, ◌++◌, codes, length, slice_index_or}
 use Rattle.rx_note.specs.declared.note.Terminal.TheVariants.{Completed, Error}
 use Rattle.rx_event.specs.declared.event.Event.{Event}
 use Rattle.rx_event.specs.declared.event.Event.TheVariants.{Accept, Lease, Use}
@@ -15,6 +15,7 @@ use Rattle.rx_picture.specs.Rows.{lane_of}
 use Rattle.rx_picture.specs.Leaks.{is_leaking_row}
 use Rattle.rx_svg.specs.Parts.{words, number, text_of}
 use Rattle.rx_svg.specs.Label.{event_text}
+use Rattle.rx_svg.specs.Name.{named_text}
 use Rattle.rx_svg.specs.Stroke.{Stretch, Look, line_text, bar_text, mark_text, code_text, leak_text}
 use Rattle.rx_svg.specs.Stroke.{marble_text, bar_shape, cross_shape, ring_shape, diamond_shape, tick_shape}
 
@@ -48,8 +49,8 @@ unfoldable pub label_front : ℕ → ℕ → ℕ → List ℕ
 label_front x y n =
     text_of (words (codes "<text x=\"") ∷ number x ∷ words (codes "\" y=\"") ∷ number y ∷ words (codes "\" dy=\"4\">") ∷ number n ∷ [])
 
-unfoldable pub label_text : ℕ → ℕ → ℕ → Event → List ℕ
-label_text x y n made = label_front x y n ++ event_text made ++ codes "</text>\n"
+unfoldable pub label_text : ℕ → ℕ → ℕ → Option (List ℕ) → Event → List ℕ
+label_text x y n name made = label_front x y n ++ named_text name ++ event_text made ++ codes "</text>\n"
 
 -- a bar for completed, a cross for an error with its code, an open ring for a disposal, nothing where it is still open
 abbrev pub ending_text : ℕ → ℕ → ℕ → Ending → List ℕ
@@ -109,13 +110,13 @@ shape_text d leaking y n end (Resource after until taken) =
 shape_text d leaking y n end (Loan resource until) = loan_text d leaking y n until end
 
 -- a lease has no label, and lies in the lane of its resource
-abbrev pub name_text : Drawing → ℕ → Event → List ℕ
-name_text d n (Lease r) = []
-name_text d n made = label_text (10 * steps_of d n made) (y_of d n) n made
+abbrev pub name_text : Drawing → ℕ → Option (List ℕ) → Event → List ℕ
+name_text d n name (Lease r) = []
+name_text d n name made = label_text (10 * steps_of d n made) (y_of d n) n name made
 
-unfoldable pub row_text : Drawing → ℕ → Row → List ℕ
-row_text d end row =
-    name_text d row.number row.made
+unfoldable pub row_text : Drawing → (ℕ → Option (List ℕ)) → ℕ → Row → List ℕ
+row_text d names end row =
+    name_text d row.number (names row.number) row.made
     ++ shape_text d (is_leaking_row end row) (y_of d (lane_of row.number row.made)) row.number end row.shape
 
 -- marks -------------------------------------------------------------------------------------------

@@ -1,5 +1,5 @@
 -- The SVG document of a drawing, with the verdict of the audit.
-use Rattle.std.specs.Prelude.{◌≡◌, ℕ, ◌+◌, ◌*◌, ◌==◌, min, if◌then◌else◌, List, [], ◌∷◌, ◌++◌, codes, flat_map, length, slice_index_or}
+use Rattle.std.specs.Prelude.{◌≡◌, ℕ, ◌+◌, ◌*◌, ◌==◌, min, if◌then◌else◌, Option, List, [], ◌∷◌, ◌++◌, codes, flat_map, length, slice_index_or}
 use Rattle.rx_event.specs.declared.event.Event.{Event}
 use Rattle.rx_audit.specs.declared.verdict.Verdict.{Verdict}
 use Rattle.rx_audit.specs.declared.verdict.Verdict.TheVariants.{Lawful, Unlawful, Unsettled}
@@ -8,6 +8,7 @@ use Rattle.rx_picture.specs.declared.points.Point.{Point}
 use Rattle.rx_picture.specs.declared.drawing.Drawing.{Drawing}
 use Rattle.rx_picture.specs.Drawn.{IsDrawing}
 use Rattle.rx_svg.specs.Parts.{words, number, text_of}
+use Rattle.rx_svg.specs.Name.{named_text}
 use Rattle.rx_svg.specs.Stroke.{column_text, broken_text}
 use Rattle.rx_svg.specs.Lane.{x_of, row_text, tick_text, told_text}
 use Rattle.rx_svg.specs.WellFormed.{IsWellFormed}
@@ -81,11 +82,14 @@ leak_words n = if n == 1 then codes " resource leaks:" else codes " resources le
 unfoldable pub count_text : ℕ → List ℕ → List ℕ
 count_text n ending = text_of (number n ∷ words ending ∷ [])
 
-unfoldable pub leaking_text : List ℕ → List ℕ
-leaking_text leaks = count_text (length leaks) (leak_words (length leaks)) ++ flat_map listed_text leaks
+unfoldable pub entry_text : (ℕ → Option (List ℕ)) → ℕ → List ℕ
+entry_text names n = listed_text n ++ named_text (names n)
 
-abbrev pub leaks_text : List ℕ → List ℕ
-leaks_text leaks = if length leaks == 0 then codes "no resource leaks" else leaking_text leaks
+unfoldable pub leaking_text : (ℕ → Option (List ℕ)) → List ℕ → List ℕ
+leaking_text names leaks = count_text (length leaks) (leak_words (length leaks)) ++ flat_map (entry_text names) leaks
+
+abbrev pub leaks_text : (ℕ → Option (List ℕ)) → List ℕ → List ℕ
+leaks_text names leaks = if length leaks == 0 then codes "no resource leaks" else leaking_text names leaks
 
 -- a line about leaks has their colour
 abbrev pub leaks_class : List ℕ → List ℕ
@@ -104,33 +108,34 @@ shares_text d end =
 unfoldable pub verdict_line : ℕ → Verdict → List ℕ
 verdict_line height verdict = below_text (codes "under") (height + 48) ++ verdict_text verdict ++ codes "</text>\n"
 
-unfoldable pub leaks_line : ℕ → List ℕ → List ℕ
-leaks_line height leaks = below_text (leaks_class leaks) (height + 72) ++ leaks_text leaks ++ codes "</text>\n"
+unfoldable pub leaks_line : (ℕ → Option (List ℕ)) → ℕ → List ℕ → List ℕ
+leaks_line names height leaks = below_text (leaks_class leaks) (height + 72) ++ leaks_text names leaks ++ codes "</text>\n"
 
 unfoldable pub shares_line : Drawing → ℕ → ℕ → List ℕ
 shares_line d end height = below_text (codes "under") (height + 96) ++ shares_text d end ++ codes "</text>\n"
 
-unfoldable pub under_text : Drawing → ℕ → ℕ → Verdict → List ℕ
-under_text d end height verdict = verdict_line height verdict ++ leaks_line height d.leaks.items ++ shares_line d end height
+unfoldable pub under_text : Drawing → (ℕ → Option (List ℕ)) → ℕ → ℕ → Verdict → List ℕ
+under_text d names end height verdict =
+    verdict_line height verdict ++ leaks_line names height d.leaks.items ++ shares_line d end height
 
 -- the whole ---------------------------------------------------------------------------------------
 
-unfoldable pub lanes_text : Drawing → ℕ → ℕ → Verdict → List ℕ
-lanes_text d end height verdict =
-    flat_map (point_text d height) d.points.items ++ flat_map (row_text d end) d.rows.items ++ flat_map (tick_text d) d.points.items
+unfoldable pub lanes_text : Drawing → (ℕ → Option (List ℕ)) → ℕ → ℕ → Verdict → List ℕ
+lanes_text d names end height verdict =
+    flat_map (point_text d height) d.points.items ++ flat_map (row_text d names end) d.rows.items ++ flat_map (tick_text d) d.points.items
     ++ flat_map (told_text d) d.marbles.items ++ break_text d height verdict
 
--- the document of a drawing of so many events
-unfoldable pub svg_text : Drawing → ℕ → Verdict → List ℕ
-svg_text d end verdict =
-    head_text (x_of d end + 130) (height_of d end + 108) ++ lanes_text d end (height_of d end) verdict
-    ++ under_text d end (height_of d end) verdict ++ codes "</svg>\n"
+-- the document of a drawing of so many events, with the names of numbers
+unfoldable pub svg_text : Drawing → (ℕ → Option (List ℕ)) → ℕ → Verdict → List ℕ
+svg_text d names end verdict =
+    head_text (x_of d end + 130) (height_of d end + 108) ++ lanes_text d names end (height_of d end) verdict
+    ++ under_text d names end (height_of d end) verdict ++ codes "</svg>\n"
 
--- the text is the document of the drawing of these events, with the verdict on them, and a well-formed one
-pub record IsPicture (h : List Event) (text : List ℕ) : Type 0 where
+-- the text is the document of the drawing of these events, with the names of numbers and the verdict, and a well-formed one
+pub record IsPicture (h : List Event) (names : ℕ → Option (List ℕ)) (text : List ℕ) : Type 0 where
   pub drawing : Drawing
   pub is : IsDrawing h drawing
   pub verdict : Verdict
   pub judges : IsVerdict h verdict
-  pub reads : text ≡ svg_text drawing (length h) verdict
+  pub reads : text ≡ svg_text drawing names (length h) verdict
   pub well_formed : IsWellFormed text

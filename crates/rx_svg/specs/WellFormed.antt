@@ -1,7 +1,7 @@
 -- When a text is a well-formed document, by the grammar of XML: World Wide Web Consortium, "Extensible Markup Language
--- (XML) 1.0", https://www.w3.org/TR/xml/, sections 2.1 to 2.4, 3 and 3.1. Only elements, attributes and plain characters
--- are admitted here. Entities, comments, declarations, instructions and elements with no end tag are not, so that each
--- text which is well formed here is so there.
+-- (XML) 1.0", https://www.w3.org/TR/xml/, sections 2.1 to 2.4, 3, 3.1, 4.1 and 4.6. Only elements, attributes, plain
+-- characters and references to the entities that need no declaration are admitted here. Comments, declarations,
+-- instructions and elements with no end tag are not, so that each text which is well formed here is so there.
 use Rattle.std.specs.Prelude.{◌≡◌, ℕ, Bool, true, not, ◌&&◌, ◌||◌, ◌==◌, nat_le, nat_lt, IsTrue, List, [], ◌∷◌, ◌++◌, codes, length, map, flat_map, bytes_eq}
 use Rattle.std.specs.List.{list_all, list_any}
 
@@ -24,6 +24,15 @@ is_name name = nat_lt 0 (length name) && list_all is_letter name
 -- a space or the end of a line
 abbrev pub is_space : ℕ → Bool
 is_space c = c == 32 || c == 10
+
+-- references --------------------------------------------------------------------------------------
+
+-- the entities that need no declaration: each is one character of markup, or the apostrophe
+abbrev pub is_predefined : List ℕ → Bool
+is_predefined name = list_any (bytes_eq name) (codes "lt" ∷ codes "gt" ∷ codes "amp" ∷ codes "apos" ∷ codes "quot" ∷ [])
+
+abbrev pub reference_text : List ℕ → List ℕ
+reference_text name = codes "&" ++ name ++ codes ";"
 
 -- tags --------------------------------------------------------------------------------------------
 
@@ -60,10 +69,11 @@ pub record IsTag (name : List ℕ) (attributes : List Attribute) : Type 0 where
 abbrev pub element_text : List ℕ → List Attribute → List ℕ → List ℕ
 element_text name attributes inside = start_tag name attributes ++ inside ++ end_tag name
 
--- what may stand inside an element: plain characters and elements, one after the other
+-- what may stand inside an element: plain characters, references and elements, one after the other
 pub data IsContent : List ℕ → Type 0 where
   nothing : IsContent []
   text_first : (text rest : List ℕ) → IsTrue (is_plain text) → IsContent rest → IsContent (text ++ rest)
+  reference_first : (name rest : List ℕ) → IsTrue (is_predefined name) → IsContent rest → IsContent (reference_text name ++ rest)
   element_first : (name : List ℕ) (attributes : List Attribute) (inside rest : List ℕ)
       → IsTag name attributes → IsContent inside → IsContent rest
       → IsContent (element_text name attributes inside ++ rest)

@@ -3,10 +3,13 @@
 ghost use Rattle.std.specs.Prelude.{◌≡◌, ◌++◌, ◌≤◌, ◌*◌, string_bytes, OnOk, slice_index_or};
 ghost use Rattle.rx_picture.specs.Rows.{lane_of};
 ghost use Rattle.rx_picture.specs.Leaks.{is_leaking};
+ghost use Rattle.serde_json.specs.View.{view};
+ghost use Rattle.rx_svg.specs.Name.{name_of};
 ghost use Rattle.rx_svg.specs.Lane.{x_of, y_of, has_lane, steps_of, label_front, label_text, ending_text, life_text, stretch_text};
 ghost use Rattle.rx_svg.specs.Lane.{held_class, wait_class, owned_text, loan_text, wait_text, release_text, shape_text, name_text, row_text, use_text, tick_text, told_text};
 
 use crate::labels::push_event;
+use crate::names::{Names, push_named};
 use crate::pieces::{Piece, push_pieces};
 use crate::strokes::{push_bar, push_code, push_leak, push_line, push_marble, push_mark};
 use rx_event::{Event, Mail, Terminal};
@@ -75,10 +78,19 @@ fn push_label_front(text: &mut String, x: u64, y: u64, n: u64) -> Result<(), All
 
 /// What a lane shows.
 #[tactic(auto, unfolding(crate::specs::Lane::label_text))]
-fn push_label(text: &mut String, x: u64, y: u64, n: u64, made: Event) -> Result<(), AllocError>
-    ensures { OnOk result (string_bytes text.new ≡ string_bytes text.old ++ label_text x y n made) }
+fn push_label(
+    text: &mut String,
+    names: Names<'_>,
+    x: u64,
+    y: u64,
+    n: u64,
+    made: Event,
+) -> Result<(), AllocError>
+    ensures { OnOk result (string_bytes text.new ≡ string_bytes text.old
+        ++ label_text x y n (name_of (view names.entry.object.now) n) made) }
 {
     push_label_front(text, x, y, n)?;
+    push_named(text, names, n)?;
     push_event(text, made)?;
     text.push_str("</text>\n")
 }
@@ -290,14 +302,21 @@ fn push_shape(
 }
 
 /// The label of a row that has a lane of its own.
-fn push_name(text: &mut String, drawing: &Drawing, n: u64, made: Event) -> Result<(), AllocError>
-    ensures { OnOk result (string_bytes text.new ≡ string_bytes text.old ++ name_text drawing.now n made) }
+fn push_name(
+    text: &mut String,
+    names: Names<'_>,
+    drawing: &Drawing,
+    n: u64,
+    made: Event,
+) -> Result<(), AllocError>
+    ensures { OnOk result (string_bytes text.new ≡ string_bytes text.old
+        ++ name_text drawing.now n (name_of (view names.entry.object.now) n) made) }
 {
     match made {
         Event::Lease(_) => Ok(()),
         _ => {
             let x = 10 * steps_of(drawing, n, made);
-            push_label(text, x, y_of(drawing, n), n, made)
+            push_label(text, names, x, y_of(drawing, n), n, made)
         }
     }
 }
@@ -314,10 +333,17 @@ fn lane_of(n: u64, made: Event) -> u64
 
 /// One row.
 #[tactic(auto, unfolding(crate::specs::Lane::row_text))]
-pub fn push_row(text: &mut String, drawing: &Drawing, end: u64, row: Row) -> Result<(), AllocError>
-    ensures { OnOk result (string_bytes text.new ≡ string_bytes text.old ++ row_text drawing.now end row) }
+pub fn push_row(
+    text: &mut String,
+    names: Names<'_>,
+    drawing: &Drawing,
+    end: u64,
+    row: Row,
+) -> Result<(), AllocError>
+    ensures { OnOk result (string_bytes text.new ≡ string_bytes text.old
+        ++ row_text drawing.now (name_of (view names.entry.object.now)) end row) }
 {
-    push_name(text, drawing, row.number, row.made)?;
+    push_name(text, names, drawing, row.number, row.made)?;
     let y = y_of(drawing, lane_of(row.number, row.made));
     let leaking = is_leaking(end, row.shape);
     push_shape(text, drawing, leaking, y, row.number, end, row.shape)

@@ -6,8 +6,9 @@
 //! Promised: the text of [`picture`] is the document that `specs` tells of the drawing of the events
 //! and of the verdict that the audit gives on them. It is well formed: one element, in which each
 //! element is closed in order by a tag of its own name, no tag has an attribute twice, and no text and
-//! no value has a character of markup. Nothing is asked of the events, and all that the text takes
-//! from them are numbers.
+//! no value has a character of markup. Nothing is asked of the events, of which the text takes numbers
+//! alone, nor of the names of numbers: markup in a name is written as references, and each byte of a control
+//! character or of a letter beyond ASCII as a question mark.
 //!
 //! Not promised: what a browser makes of it.
 //!
@@ -16,8 +17,9 @@
 
 mod labels;
 mod lanes;
+mod names;
 mod pieces;
 mod strokes;
 mod svg;
 
-pub use svg::picture;
+pub use svg::{named_picture, picture};

@@ -1,17 +1,22 @@
 //! A drawing as an SVG document, with the verdict of the audit.
 
 ghost use Rattle.std.specs.Prelude.{◌≡◌, ◌+◌, ◌++◌, ◌≤◌, string_bytes, OnOk, IfOk, flat_map};
+ghost use Rattle.serde_json.specs.Data.{null};
+ghost use Rattle.serde_json.specs.View.{view};
+ghost use Rattle.rx_svg.specs.Name.{name_of};
 ghost use Rattle.rx_svg.specs.Lane.{row_text, tick_text, told_text};
 ghost use Rattle.rx_svg.specs.Page.{lanes_shown, places_shown, head_text, point_text, below_text, listed_text, list_text, untaken_text, lawful_text};
-ghost use Rattle.rx_svg.specs.Page.{unlawful_text, unsettled_text, verdict_text, leak_words, count_text, leaking_text, leaks_text, leaks_class};
+ghost use Rattle.rx_svg.specs.Page.{unlawful_text, unsettled_text, verdict_text, leak_words, count_text, entry_text, leaking_text, leaks_text, leaks_class};
 ghost use Rattle.rx_svg.specs.Page.{break_text, shares_text, verdict_line, leaks_line, shares_line, under_text, lanes_text, svg_text, IsPicture};
 
 use crate::lanes::{push_row, push_tick, push_told, value_at, x_of};
+use crate::names::{Names, push_named};
 use crate::pieces::{Piece, push_pieces};
 use crate::strokes::{push_broken, push_column};
 use rx_audit::{Verdict, audit};
 use rx_event::{Event, Mail};
 use rx_picture::{Drawing, Point, Row, draw};
+use serde_json::Value;
 use std::alloc::{AllocError, Global};
 
 /// How the marks look, on a bright page and on a dark one.
@@ -93,11 +98,18 @@ fn push_points(
 }
 
 /// All rows.
-fn push_rows(text: &mut String, drawing: &Drawing, end: u64, rows: &[Row]) -> Result<(), AllocError>
-    ensures { OnOk result (string_bytes text.new ≡ string_bytes text.old ++ flat_map (row_text drawing.now end) rows.now) }
+fn push_rows(
+    text: &mut String,
+    names: Names<'_>,
+    drawing: &Drawing,
+    end: u64,
+    rows: &[Row],
+) -> Result<(), AllocError>
+    ensures { OnOk result (string_bytes text.new ≡ string_bytes text.old
+        ++ flat_map (row_text drawing.now (name_of (view names.entry.object.now)) end) rows.now) }
 {
     for row in rows {
-        push_row(text, drawing, end, *row)?;
+        push_row(text, names, drawing, end, *row)?;
     }
     Ok(())
 }
@@ -247,24 +259,46 @@ fn push_count(text: &mut String, n: u64, ending: &'static str) -> Result<(), All
     push_pieces(text, &[Piece::Number(n), Piece::Words(ending)])
 }
 
+/// One number after a space, and its name.
+#[tactic(auto, unfolding(crate::specs::Page::entry_text))]
+fn push_entry(text: &mut String, names: Names<'_>, n: u64) -> Result<(), AllocError>
+    ensures { OnOk result (string_bytes text.new ≡ string_bytes text.old ++ entry_text (name_of (view names.entry.object.now)) n) }
+{
+    push_one(text, n)?;
+    push_named(text, names, n)
+}
+
+/// Each number after a space, and its name.
+fn push_entries(text: &mut String, names: Names<'_>, numbers: &[u64]) -> Result<(), AllocError>
+    ensures { OnOk result (string_bytes text.new ≡ string_bytes text.old
+        ++ flat_map (entry_text (name_of (view names.entry.object.now))) numbers.now) }
+{
+    for n in numbers {
+        push_entry(text, names, *n)?;
+    }
+    Ok(())
+}
+
 /// How many resources leak, and which.
 #[tactic(auto, unfolding(crate::specs::Page::leaking_text))]
-fn push_leaking(text: &mut String, leaks: &[u64]) -> Result<(), AllocError>
-    ensures { OnOk result (string_bytes text.new ≡ string_bytes text.old ++ leaking_text leaks.now) }
+fn push_leaking(text: &mut String, names: Names<'_>, leaks: &[u64]) -> Result<(), AllocError>
+    ensures { OnOk result (string_bytes text.new ≡ string_bytes text.old
+        ++ leaking_text (name_of (view names.entry.object.now)) leaks.now) }
 {
     let count = leaks.len() as u64;
     push_count(text, count, leak_words(count))?;
-    push_listed(text, leaks)
+    push_entries(text, names, leaks)
 }
 
 /// How many resources leak, and which, if any does.
-fn push_leaks(text: &mut String, leaks: &[u64]) -> Result<(), AllocError>
-    ensures { OnOk result (string_bytes text.new ≡ string_bytes text.old ++ leaks_text leaks.now) }
+fn push_leaks(text: &mut String, names: Names<'_>, leaks: &[u64]) -> Result<(), AllocError>
+    ensures { OnOk result (string_bytes text.new ≡ string_bytes text.old
+        ++ leaks_text (name_of (view names.entry.object.now)) leaks.now) }
 {
     if leaks.len() == 0 {
         return text.push_str("no resource leaks");
     }
-    push_leaking(text, leaks)
+    push_leaking(text, names, leaks)
 }
 
 /// The class of the line about leaks.
@@ -324,12 +358,18 @@ fn push_verdict_line(text: &mut String, height: u64, verdict: &Verdict) -> Resul
 
 /// The line of the resources that leak.
 #[tactic(auto, unfolding(crate::specs::Page::leaks_line))]
-fn push_leaks_line(text: &mut String, height: u64, leaks: &[u64]) -> Result<(), AllocError>
+fn push_leaks_line(
+    text: &mut String,
+    names: Names<'_>,
+    height: u64,
+    leaks: &[u64],
+) -> Result<(), AllocError>
     requires { height ≤ 10000 }
-    ensures { OnOk result (string_bytes text.new ≡ string_bytes text.old ++ leaks_line height leaks.now) }
+    ensures { OnOk result (string_bytes text.new ≡ string_bytes text.old
+        ++ leaks_line (name_of (view names.entry.object.now)) height leaks.now) }
 {
     push_below(text, leaks_class(leaks), height + 72)?;
-    push_leaks(text, leaks)?;
+    push_leaks(text, names, leaks)?;
     text.push_str("</text>\n")
 }
 
@@ -353,16 +393,18 @@ fn push_shares_line(
 #[tactic(auto, unfolding(crate::specs::Page::under_text))]
 fn push_under(
     text: &mut String,
+    names: Names<'_>,
     drawing: &Drawing,
     end: u64,
     height: u64,
     verdict: &Verdict,
 ) -> Result<(), AllocError>
     requires { height ≤ 10000 }
-    ensures { OnOk result (string_bytes text.new ≡ string_bytes text.old ++ under_text drawing.now end height verdict.now) }
+    ensures { OnOk result (string_bytes text.new ≡ string_bytes text.old
+        ++ under_text drawing.now (name_of (view names.entry.object.now)) end height verdict.now) }
 {
     push_verdict_line(text, height, verdict)?;
-    push_leaks_line(text, height, drawing.leaks.as_slice())?;
+    push_leaks_line(text, names, height, drawing.leaks.as_slice())?;
     push_shares_line(text, drawing, end, height)
 }
 
@@ -370,15 +412,17 @@ fn push_under(
 #[tactic(auto, unfolding(crate::specs::Page::lanes_text))]
 fn push_lanes(
     text: &mut String,
+    names: Names<'_>,
     drawing: &Drawing,
     end: u64,
     height: u64,
     verdict: &Verdict,
 ) -> Result<(), AllocError>
-    ensures { OnOk result (string_bytes text.new ≡ string_bytes text.old ++ lanes_text drawing.now end height verdict.now) }
+    ensures { OnOk result (string_bytes text.new ≡ string_bytes text.old
+        ++ lanes_text drawing.now (name_of (view names.entry.object.now)) end height verdict.now) }
 {
     push_points(text, drawing, height, drawing.points.as_slice())?;
-    push_rows(text, drawing, end, drawing.rows.as_slice())?;
+    push_rows(text, names, drawing, end, drawing.rows.as_slice())?;
     push_ticks(text, drawing, drawing.points.as_slice())?;
     push_marbles(text, drawing, drawing.marbles.as_slice())?;
     push_break(text, drawing, height, verdict)
@@ -386,32 +430,48 @@ fn push_lanes(
 
 /// The document of the drawing of so many events, with the verdict on them.
 #[tactic(auto, unfolding(crate::specs::Page::svg_text))]
-pub fn push_svg(
+fn push_svg(
     text: &mut String,
+    names: Names<'_>,
     drawing: &Drawing,
     end: u64,
     verdict: &Verdict,
 ) -> Result<(), AllocError>
-    ensures { OnOk result (string_bytes text.new ≡ string_bytes text.old ++ svg_text drawing.now end verdict.now) }
+    ensures { OnOk result (string_bytes text.new ≡ string_bytes text.old
+        ++ svg_text drawing.now (name_of (view names.entry.object.now)) end verdict.now) }
 {
     let width = x_of(drawing, end) + 130;
     let height = 32 + 24 * lanes_shown(drawing, end);
     push_head(text, width, height + 108)?;
-    push_lanes(text, drawing, end, height, verdict)?;
-    push_under(text, drawing, end, height, verdict)?;
+    push_lanes(text, names, drawing, end, height, verdict)?;
+    push_under(text, names, drawing, end, height, verdict)?;
     text.push_str("</svg>\n")
 }
 
 /// The picture of the events, which need not be lawful, with the verdict of the audit, as a well-formed
-/// SVG document. The error comes where memory is refused, and for more events than `rx_audit` judges.
-pub fn picture(alloc: Global, events: &[Event]) -> Result<String, AllocError>
-    ensures { IfOk result (λ s. IsPicture events.now (string_bytes s)) }
+/// SVG document. Behind a number that has a lane, and behind one that leaks, stands its name, if the
+/// object `names` leads to a text from the number, written as a decimal; any other value has no names.
+/// The error comes where memory is refused, and for more events than `rx_audit` judges.
+pub fn named_picture(alloc: Global, events: &[Event], names: &Value) -> Result<String, AllocError>
+    ensures { IfOk result (λ s. IsPicture events.now (name_of (view names.now)) (string_bytes s)) }
 {
     let drawing = draw(alloc, events)?;
     let Ok(verdict) = audit(alloc, events) else {
         return Err(AllocError);
     };
+    let called = Names {
+        alloc,
+        object: names,
+    };
     let mut text = String::new(alloc);
-    push_svg(&mut text, &drawing, events.len() as u64, &verdict)?;
+    push_svg(&mut text, called, &drawing, events.len() as u64, &verdict)?;
     Ok(text)
+}
+
+/// [`named_picture`] with no names.
+pub fn picture(alloc: Global, events: &[Event]) -> Result<String, AllocError>
+    ensures { IfOk result (λ s. IsPicture events.now (name_of null) (string_bytes s)) }
+{
+    let none = Value::Null;
+    named_picture(alloc, events, &none)
 }

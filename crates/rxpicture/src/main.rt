@@ -1,42 +1,65 @@
 //! The program `rxpicture`: the picture of a history, whose dump is on standard input, as an SVG
-//! document.
+//! document. The input may also be an object with the dump as its member `dump`, and with names of
+//! numbers as its member `names`.
 //!
-//! Its exit status is 0 where the picture is written, 1 where a stream failed, 3 where the input is no dump,
-//! and 4 where memory was refused.
+//! Its exit status is 0 where the picture is written, 1 where a stream failed, 3 where the input has no
+//! dump, and 4 where memory was refused.
 #![tactic(auto)]
 
 ghost use Rattle.std.specs.Prelude.{◌≡◌, ◌≢◌, ◌⊎◌, None, IfOk, IfErr, OnOk, IsErrOf, string_bytes};
 ghost use Rattle.std.specs.Io.KnownBytes.{Appends};
+ghost use Rattle.serde_json.specs.Data.{null};
 ghost use Rattle.serde_json.specs.View.{view};
 ghost use Rattle.rx_device.specs.declared.fault.ScriptError.{ScriptError};
 ghost use Rattle.rx_device.specs.Device.{device_of, HasReadFault, HasWriteFault, IsFresh, AppendsPrefix};
 ghost use Rattle.rx_device.specs.Input.{GivesTooMuch, GivesNoJson};
-ghost use Rattle.rx_dump.specs.Checking.{GivesNoDump};
 ghost use Rattle.rx_dump.specs.History.{history_of};
-ghost use Rattle.rxpicture.specs.Pictured.{IsPictureOn, Draws};
+ghost use Rattle.rxpicture.specs.Pictured.{dump_in, names_in, IsPictureOn, Draws, GivesNoHistory};
 ghost use Rattle.rxpicture.specs.Status.{status_of};
 
 use rx_device::{ScriptError, ShapeError, Watched, read_value, write_text};
 use rx_dump::history_of;
-use rx_svg::picture;
+use rx_svg::named_picture;
 use serde_json::Value;
 use std::alloc::Global;
 use std::io;
 use std::io::{Read, Write};
 use std::process::ExitCode;
 
-// The picture of the history of which the value is a dump.
+// The dump in the value: its member `dump`, or the value itself where it has no such member.
+fn dump_in(value: &Value) -> &Value
+    ensures { view result.now ≡ dump_in (view value.now) }
+{
+    match value.get("dump") {
+        Some(dump) => dump,
+        None => value,
+    }
+}
+
+// The names in the value: its member `names`, or this value where it has no such member.
+fn names_or<'a>(value: &'a Value, none: &'a Value) -> &'a Value
+    requires { view none.now ≡ null }
+    ensures { view result.now ≡ names_in (view value.now) }
+{
+    match value.get("names") {
+        Some(names) => names,
+        None => none,
+    }
+}
+
+// The picture of the history whose dump is in the value, with the names in it.
 fn picture_on(alloc: Global, value: &Value) -> Result<String, ScriptError>
     ensures ok { IfOk result (λ s. IsPictureOn (view value.now) (string_bytes s)) }
-    ensures shape { IsErrOf result ScriptError.Shape → history_of (view value.now) ≡ None }
+    ensures shape { IsErrOf result ScriptError.Shape → history_of (dump_in (view value.now)) ≡ None }
     ensures never { IfErr result (λ e. (e ≢ ScriptError.Read) × (e ≢ ScriptError.Write) × (e ≢ ScriptError.Syntax)) }
 {
-    let history = match history_of(alloc, value) {
+    let history = match history_of(alloc, dump_in(value)) {
         Ok(history) => history,
         Err(ShapeError::Shape) => return Err(ScriptError::Shape),
         Err(ShapeError::Memory) => return Err(ScriptError::Memory),
     };
-    match picture(alloc, history.as_slice()) {
+    let none = Value::Null;
+    match named_picture(alloc, history.as_slice(), names_or(value, &none)) {
         Ok(text) => Ok(text),
         Err(_) => Err(ScriptError::Memory),
     }
@@ -62,7 +85,7 @@ fn draw<R: Read, W: Write>(
         → GivesTooMuch (R.remaining (device_of reader.old)) (R.remaining (device_of reader.new))
         ⊎ GivesNoJson (R.remaining (device_of reader.old)) (R.remaining (device_of reader.new)) }
     ensures shape { IsErrOf result ScriptError.Shape
-        → GivesNoDump (R.remaining (device_of reader.old)) (R.remaining (device_of reader.new)) }
+        → GivesNoHistory (R.remaining (device_of reader.old)) (R.remaining (device_of reader.new)) }
 {
     let value = read_value(alloc, reader)?;
     let text = picture_on(alloc, &value)?;

@@ -1,0 +1,121 @@
+//! The names of numbers, each written behind a text.
+
+ghost use Rattle.std.specs.Prelude.{◌≡◌, ◌<◌, ◌==◌, ◌∷◌, [], ◌++◌, codes, string_bytes, OnOk, flat_map, option_map, option_and_then};
+ghost use Rattle.std.specs.List.{list_any};
+ghost use Rattle.serde_json.specs.Find.{get, as_str};
+ghost use Rattle.serde_json.specs.View.{view};
+ghost use Rattle.rx_svg.specs.WellFormed.{is_plain_character};
+ghost use Rattle.rx_svg.specs.Name.{name_of, escape, byte_text, shown_name, named_text};
+
+use serde_json::Value;
+use std::alloc::{AllocError, Global};
+
+/// The names of numbers.
+#[derive(Clone, Copy)]
+pub struct Names<'a> {
+    /// Where a number's text gets its memory.
+    pub alloc: Global,
+    /// An object that leads from numbers to names. Any other value has no names.
+    pub object: &'a Value,
+}
+
+/// Whether markup is made of the byte.
+#[tactic(auto, using(crate::proofs::ShownNames::markup_by_or))]
+fn is_markup(byte: u8) -> bool
+    ensures { result ≡ list_any (λ m. byte == m) (codes "<>&\"") }
+{
+    byte == b'<' || byte == b'>' || byte == b'&' || byte == b'"'
+}
+
+/// Whether the byte is a plain character.
+fn is_plain(byte: u8) -> bool
+    ensures { result ≡ is_plain_character byte }
+{
+    (byte == 10 || (32 <= byte && byte <= 126)) && !is_markup(byte)
+}
+
+/// What stands for a byte that is not plain.
+fn escape(byte: u8) -> &'static str
+    ensures { result.now ≡ escape byte }
+{
+    if byte == b'<' {
+        "&lt;"
+    } else if byte == b'>' {
+        "&gt;"
+    } else if byte == b'&' {
+        "&amp;"
+    } else if byte == b'"' {
+        "&quot;"
+    } else {
+        "?"
+    }
+}
+
+/// A character of ASCII.
+fn push_ascii(text: &mut String, byte: u8) -> Result<(), AllocError>
+    requires { byte < 128 }
+    ensures { OnOk result (string_bytes text.new ≡ string_bytes text.old ++ byte ∷ []) }
+{
+    text.push(char::from(byte))
+}
+
+/// One byte of a name.
+#[tactic(auto, using(crate::proofs::ShownNames::plain_is_ascii))]
+fn push_byte(text: &mut String, byte: u8) -> Result<(), AllocError>
+    ensures { OnOk result (string_bytes text.new ≡ string_bytes text.old ++ byte_text byte) }
+{
+    if is_plain(byte) {
+        return push_ascii(text, byte);
+    }
+    text.push_str(escape(byte))
+}
+
+/// The bytes of a name.
+fn push_bytes(text: &mut String, bytes: &[u8]) -> Result<(), AllocError>
+    ensures { OnOk result (string_bytes text.new ≡ string_bytes text.old ++ flat_map byte_text bytes.now) }
+{
+    for byte in bytes {
+        push_byte(text, *byte)?;
+    }
+    Ok(())
+}
+
+/// A name, in brackets.
+#[tactic(auto, unfolding(crate::specs::Name::shown_name))]
+fn push_shown(text: &mut String, name: &str) -> Result<(), AllocError>
+    ensures { OnOk result (string_bytes text.new ≡ string_bytes text.old ++ shown_name name.now) }
+{
+    text.push_str(" (")?;
+    push_bytes(text, name.as_bytes())?;
+    text.push_str(")")
+}
+
+/// A name, if there is one.
+fn push_if_named(text: &mut String, name: Option<&str>) -> Result<(), AllocError>
+    ensures { OnOk result (string_bytes text.new ≡ string_bytes text.old
+        ++ named_text (option_map (λ s. s.now) name.entry)) }
+{
+    match name {
+        Some(name) => push_shown(text, name),
+        None => Ok(()),
+    }
+}
+
+/// The text that an object has at a member.
+fn text_at<'a>(object: &'a Value, member: &str) -> Option<&'a str>
+    ensures { option_map (λ s. s.now) result
+        ≡ option_and_then as_str (get member.now (view object.now)) }
+{
+    object.get(member).and_then(Value::as_str)
+}
+
+/// The name of the number, if it has one.
+pub fn push_named(text: &mut String, names: Names<'_>, n: u64) -> Result<(), AllocError>
+    ensures { OnOk result (string_bytes text.new ≡ string_bytes text.old
+        ++ named_text (name_of (view names.entry.object.now) n)) }
+{
+    let alloc = names.alloc;
+    let number = format!(in alloc; "{n}")?;
+    let name = text_at(names.object, number.as_str());
+    push_if_named(text, name)
+}
