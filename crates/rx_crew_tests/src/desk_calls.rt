@@ -1,20 +1,15 @@
 //! Calls of a desk as values, and what each is answered as a line of a text.
 
-ghost use Rattle.rx_ledger.specs.Shares.{Opens};
-
-use super::parts::blanks;
-use rx_book::{At, Book, Key, LeaseKey, Opened, ResKey};
-use rx_crew::{Desk, Floor};
+use super::parts::{number_of, tell};
+use super::ticks::Ticks;
+use rx_book::{At, Key, LeaseKey, Opened, ResKey};
+use rx_crew::{Desk, Floor, feed};
 use rx_event::{Kind, Mode, Place, Refusal, Terminal};
 use rx_ledger::Seat;
 use rx_resource::{Resource as _, Sample};
 use std::alloc::Global;
-use std::fmt::Debug;
-use std::marker::Brand;
-use std::process::Abort;
 use std::sync::Wait;
-use std::sync::ledger::{Blank, Ledger};
-use std::test::Fail;
+use std::sync::ledger::Ledger;
 
 // A call, which names nodes, resources and leases by their numbers. A resource is named by its tag where it
 // is handed in.
@@ -29,6 +24,8 @@ pub(super) enum Call {
     Ask(Ask),
     // What is seen of the first resource that waits: its number, its tag and its uses.
     Take,
+    // A feed at a node, of a source of so many items and then this end, of so many turns.
+    Feed(u64, u32, Terminal, u64),
 }
 
 // What is done at a node.
@@ -75,30 +72,30 @@ pub(super) enum Ask {
     Sums,
 }
 
-// The slots of all that has a key, by number.
-type Slots = Vec<(u64, u64)>;
+// The slots of all that has a key, each at its number.
+pub(super) type Slots = [u64; 32];
+
+pub(super) const NO_SLOTS: Slots = [u64::MAX; 32];
 
 // The slot of this number, which is that of no key where there is none.
-fn slot_of(slots: &[(u64, u64)], number: u64) -> u64 {
-    for (named, slot) in slots.iter() {
-        if *named == number {
-            return *slot;
-        }
+fn slot_of(slots: &Slots, number: u64) -> u64 {
+    match slots.get(number as usize) {
+        Some(slot) => *slot,
+        None => u64::MAX,
     }
-    u64::MAX
 }
 
-fn key_of(slots: &[(u64, u64)], number: u64) -> Key {
+pub(super) fn key_of(slots: &Slots, number: u64) -> Key {
     let slot = slot_of(slots, number);
     Key { slot, number }
 }
 
-fn res_of(slots: &[(u64, u64)], number: u64) -> ResKey {
+fn res_of(slots: &Slots, number: u64) -> ResKey {
     let slot = slot_of(slots, number);
     ResKey { slot, number }
 }
 
-fn at_of(slots: &[(u64, u64)], place: Place) -> At {
+fn at_of(slots: &Slots, place: Place) -> At {
     match place {
         Place::Root => At::Root,
         Place::Source(number) => At::Source(key_of(slots, number)),
@@ -107,24 +104,20 @@ fn at_of(slots: &[(u64, u64)], place: Place) -> At {
     }
 }
 
-// Puts an answer behind what was told.
-fn tell<T: Debug + Drop>(told: &mut String, answer: T) -> Result<(), Fail> {
-    write!(told, "{answer:?}\n")?;
-    Ok(())
-}
-
 // The number of a key that was given out, of which the slot is kept.
-fn keep(slots: &mut Slots, number: u64, slot: u64) -> Result<u64, Fail> {
-    slots.push((number, slot))?;
-    Ok(number)
+fn keep(slots: &mut Slots, number: u64, slot: u64) -> u64 {
+    if let Some(place) = slots.get_mut(number as usize) {
+        *place = slot;
+    }
+    number
 }
 
 // A node that was opened: its number, and that of the connection that came with it.
-fn keep_both(slots: &mut Slots, opened: Opened) -> Result<(u64, Option<u64>), Fail> {
-    let number = keep(slots, opened.key.number, opened.key.slot)?;
+fn keep_both(slots: &mut Slots, opened: Opened) -> (u64, Option<u64>) {
+    let number = keep(slots, opened.key.number, opened.key.slot);
     match opened.connected {
-        Some(key) => Ok((number, Some(keep(slots, key.number, key.slot)?))),
-        None => Ok((number, None)),
+        Some(key) => (number, Some(keep(slots, key.number, key.slot))),
+        None => (number, None),
     }
 }
 
@@ -134,10 +127,18 @@ fn open_node<I: Ledger, A: Ledger, K: Ledger>(
     place: Place,
     kind: Kind,
     told: &mut String,
-) -> Result<(), Fail> {
-    match floor.open(at_of(slots.as_slice(), place), kind) {
-        Ok(node) => tell(told, keep_both(slots, node)?),
+) {
+    match floor.open(at_of(slots, place), kind) {
+        Ok(opened) => tell(told, keep_both(slots, opened)),
         Err(why) => tell(told, why),
+    }
+}
+
+// The release of that of the tag 3 meets a fault.
+fn sample_of(tag: u64) -> Sample {
+    match tag {
+        3 => Sample::faulty(3, 2),
+        _ => Sample::new(tag),
     }
 }
 
@@ -145,15 +146,15 @@ fn open_with<I: Ledger, A: Ledger, K: Ledger>(
     floor: &mut Floor<Sample, I, A, K>,
     seat: &mut Seat<I, A, K>,
     slots: &mut Slots,
-    place: Place,
+    at: At,
     tag: u64,
-) -> Result<Result<u64, Refusal>, Fail> {
-    match floor.open_using(seat, at_of(slots.as_slice(), place), Sample::new(tag)) {
-        Ok(node) => {
-            keep(slots, node.res.number, node.res.slot)?;
-            Ok(Ok(keep(slots, node.key.number, node.key.slot)?))
+) -> Result<u64, Refusal> {
+    match floor.open_using(seat, at, sample_of(tag)) {
+        Ok(opened) => {
+            keep(slots, opened.res.number, opened.res.slot);
+            Ok(keep(slots, opened.key.number, opened.key.slot))
         }
-        Err(refused) => Ok(Err(refused.why)),
+        Err(refused) => Err(refused.why),
     }
 }
 
@@ -161,12 +162,12 @@ fn hold_at<I: Ledger, A: Ledger, K: Ledger>(
     floor: &mut Floor<Sample, I, A, K>,
     seat: &mut Seat<I, A, K>,
     slots: &mut Slots,
-    node: u64,
+    node: Key,
     tag: u64,
-) -> Result<Result<u64, Refusal>, Fail> {
-    match floor.hold(seat, key_of(slots.as_slice(), node), Sample::new(tag)) {
-        Ok(res) => Ok(Ok(keep(slots, res.number, res.slot)?)),
-        Err(refused) => Ok(Err(refused.why)),
+) -> Result<u64, Refusal> {
+    match floor.hold(seat, node, sample_of(tag)) {
+        Ok(res) => Ok(keep(slots, res.number, res.slot)),
+        Err(refused) => Err(refused.why),
     }
 }
 
@@ -191,16 +192,16 @@ fn do_on<I: Ledger, A: Ledger, K: Ledger>(
     slots: &mut Slots,
     number: u64,
     deed: Use,
-) -> Result<Result<u64, Refusal>, Fail> {
-    let slot = slot_of(slots.as_slice(), number);
+) -> Result<u64, Refusal> {
+    let slot = slot_of(slots, number);
     let res = ResKey { slot, number };
     match deed {
-        Use::Apply(word) => Ok(floor.apply(res, word)),
-        Use::Remove => Ok(floor.remove(res)),
-        Use::GiveBack => Ok(floor.give_back(LeaseKey { slot, number })),
+        Use::Apply(word) => floor.apply(res, word),
+        Use::Remove => floor.remove(res),
+        Use::GiveBack => floor.give_back(LeaseKey { slot, number }),
         Use::Lease => match floor.lease(res) {
-            Ok(lease) => Ok(Ok(keep(slots, lease.number, lease.slot)?)),
-            Err(why) => Ok(Err(why)),
+            Ok(lease) => Ok(keep(slots, lease.number, lease.slot)),
+            Err(why) => Err(why),
         },
     }
 }
@@ -209,27 +210,19 @@ fn do_hub<I: Ledger, A: Ledger, K: Ledger>(
     floor: &mut Floor<Sample, I, A, K>,
     slots: &mut Slots,
     deed: Hub,
-) -> Result<Result<u64, Refusal>, Fail> {
+) -> Result<u64, Refusal> {
     match deed {
-        Hub::Make(mode) => Ok(floor.hub(mode)),
+        Hub::Make(mode) => floor.hub(mode),
         Hub::Connect(hub) => match floor.connect(hub) {
-            Ok(key) => Ok(Ok(keep(slots, key.number, key.slot)?)),
-            Err(why) => Ok(Err(why)),
+            Ok(key) => Ok(keep(slots, key.number, key.slot)),
+            Err(why) => Err(why),
         },
-        Hub::Disconnect(hub) => Ok(floor.disconnect(hub)),
-        Hub::Checkpoint => Ok(floor.checkpoint()),
+        Hub::Disconnect(hub) => floor.disconnect(hub),
+        Hub::Checkpoint => floor.checkpoint(),
         Hub::Shut => {
             floor.shut();
-            Ok(Ok(u64::from(floor.is_shut())))
+            Ok(u64::from(floor.is_shut()))
         }
-    }
-}
-
-// The number of a key.
-fn number_of(key: Option<Key>) -> Option<u64> {
-    match key {
-        Some(key) => Some(key.number),
-        None => None,
     }
 }
 
@@ -243,10 +236,10 @@ fn lease_of(key: Option<LeaseKey>) -> Option<u64> {
 
 fn ask_floor<I: Ledger, A: Ledger, K: Ledger>(
     floor: &mut Floor<Sample, I, A, K>,
-    slots: &[(u64, u64)],
+    slots: &Slots,
     asked: Ask,
     told: &mut String,
-) -> Result<(), Fail> {
+) {
     match asked {
         Ask::Mail => tell(told, floor.take_mail()),
         Ask::Event(place) => tell(told, floor.event(place)),
@@ -277,13 +270,8 @@ fn take_one<I: Ledger, A: Ledger, K: Ledger>(
     floor: &mut Floor<Sample, I, A, K>,
     seat: &mut Seat<I, A, K>,
 ) -> Option<(u64, u64, u64)> {
-    match floor.take(seat) {
-        Some(handed) => {
-            let released = handed.release();
-            Some((released.number, released.tag, released.spent.uses()))
-        }
-        None => None,
-    }
+    let released = floor.take(seat)?.release();
+    Some((released.number, released.tag, released.spent.uses()))
 }
 
 // Makes a call, and tells its answer.
@@ -293,65 +281,77 @@ fn make_call<I: Ledger, A: Ledger, K: Ledger>(
     slots: &mut Slots,
     call: Call,
     told: &mut String,
-) -> Result<(), Fail> {
+) {
     match call {
         Call::Open(place, kind) => open_node(floor, slots, place, kind, told),
-        Call::Using(place, tag) => tell(told, open_with(floor, seat, slots, place, tag)?),
-        Call::Hold(node, tag) => tell(told, hold_at(floor, seat, slots, node, tag)?),
-        Call::At(node, deed) => tell(
-            told,
-            do_at(floor, seat, key_of(slots.as_slice(), node), deed),
-        ),
-        Call::On(number, deed) => tell(told, do_on(floor, slots, number, deed)?),
-        Call::Hub(deed) => tell(told, do_hub(floor, slots, deed)?),
-        Call::Ask(asked) => ask_floor(floor, slots.as_slice(), asked, told),
+        Call::Using(place, tag) => {
+            let at = at_of(slots, place);
+            tell(told, open_with(floor, seat, slots, at, tag));
+        }
+        Call::Hold(node, tag) => {
+            let node = key_of(slots, node);
+            tell(told, hold_at(floor, seat, slots, node, tag));
+        }
+        Call::At(node, deed) => {
+            let node = key_of(slots, node);
+            tell(told, do_at(floor, seat, node, deed));
+        }
+        Call::On(number, deed) => tell(told, do_on(floor, slots, number, deed)),
+        Call::Hub(deed) => tell(told, do_hub(floor, slots, deed)),
+        Call::Ask(asked) => ask_floor(floor, slots, asked, told),
         Call::Take => tell(told, take_one(floor, seat)),
+        Call::Feed(..) => {}
     }
+}
+
+// Feeds a leaf, and tells why that stops and which receipts it gives.
+fn feed_once<I: Ledger, A: Ledger, K: Ledger>(
+    rt: &impl Wait,
+    alloc: Global,
+    desk: &Desk<Sample, I, A, K>,
+    seat: Seat<I, A, K>,
+    leaf: Key,
+    (items, terminal, turns): (u32, Terminal, u64),
+    told: &mut String,
+) -> Seat<I, A, K> {
+    let mut source = Ticks::of(items, terminal);
+    let fed = feed(rt, alloc, desk, seat, leaf, &mut source, turns);
+    tell(told, (fed.stop, fed.receipts.as_slice()));
+    fed.seat
+}
+
+// Makes a call, and tells its answer: a feed without the lock, and any other one under it.
+fn make_step<I: Ledger, A: Ledger, K: Ledger>(
+    rt: &impl Wait,
+    alloc: Global,
+    desk: &Desk<Sample, I, A, K>,
+    seat: Seat<I, A, K>,
+    slots: &mut Slots,
+    call: Call,
+    told: &mut String,
+) -> Seat<I, A, K> {
+    let mut seat = seat;
+    if let Call::Feed(node, items, terminal, turns) = call {
+        let leaf = key_of(slots, node);
+        return feed_once(rt, alloc, desk, seat, leaf, (items, terminal, turns), told);
+    }
+    make_call(&mut desk.floor.lock(rt), &mut seat, slots, call, told);
+    seat
 }
 
 // Makes the calls, in order.
-fn make_all<I: Ledger, A: Ledger, K: Ledger>(
-    floor: &mut Floor<Sample, I, A, K>,
-    seat: &mut Seat<I, A, K>,
+pub(super) fn make_all<I: Ledger, A: Ledger, K: Ledger>(
+    rt: &impl Wait,
+    alloc: Global,
+    desk: &Desk<Sample, I, A, K>,
+    seat: Seat<I, A, K>,
     slots: &mut Slots,
     calls: &[Call],
     told: &mut String,
-) -> Result<(), Fail> {
+) -> Seat<I, A, K> {
+    let mut seat = seat;
     for call in calls {
-        make_call(floor, seat, slots, *call, told)?;
+        seat = make_step(rt, alloc, desk, seat, slots, *call, told);
     }
-    Ok(())
-}
-
-// Makes the desk for them.
-fn at_desk<I: Ledger, A: Ledger, K: Ledger>(
-    rt: &impl Wait,
-    alloc: Global,
-    blanks: (Blank, Blank, Blank),
-    limit: u32,
-    calls: &[Call],
-    told: &mut String,
-) -> Result<(), Fail>
-    requires items { Opens I.name I.parts blanks.0.name blanks.0.parts }
-    requires accepted { Opens A.name A.parts blanks.1.name blanks.1.parts }
-    requires taken { Opens K.name K.parts blanks.2.name blanks.2.parts }
-{
-    let book = Book::new(alloc, u64::from(limit));
-    let (desk, mut seat) = Desk::<Sample, I, A, K>::new(book, blanks.0, blanks.1, blanks.2);
-    let mut floor = desk.floor.lock(rt);
-    make_all(&mut floor, &mut seat, &mut Vec::new(alloc), calls, told)
-}
-
-/// Makes the calls at a desk with this limit of events, and compares what they are answered, a line each.
-pub(super) fn assert_told<T: Wait + Abort>(
-    rt: &T,
-    alloc: Global,
-    limit: u32,
-    calls: &[Call],
-    lines: &str,
-) -> Result<(), Fail> {
-    let mut told = String::new(alloc);
-    at_desk::<Brand, Brand, Brand>(rt, alloc, blanks(), limit, calls, &mut told)?;
-    assert_eq!(rt; told.as_str(), lines);
-    Ok(())
+    seat
 }

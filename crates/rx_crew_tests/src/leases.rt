@@ -1,55 +1,42 @@
 //! A lease on a desk, which any thread may give back.
 
-ghost use Rattle.rx_ledger.specs.Shares.{Opens};
-
-use super::parts::blanks;
-use rx_book::{At, Book};
+use super::desk_calls::{Call, Deed, NO_SLOTS, Slots, Use, make_all};
+use super::trials::{Trial, assert_all};
 use rx_crew::Desk;
+use rx_event::Place;
 use rx_ledger::Seat;
 use rx_resource::Sample;
 use std::alloc::Global;
-use std::marker::Brand;
 use std::sync::Wait;
-use std::sync::ledger::{Blank, Ledger};
-use std::test::Fail;
+use std::sync::ledger::Ledger;
 use std::thread;
 use std::thread::Threads;
 
-// Leases a resource and closes its node: the number of the lease.
-fn leases_and_leaves<I: Ledger, A: Ledger, K: Ledger>(
+// Leases a resource and closes its node.
+const LEASES: [Call; 3] = [
+    Call::Using(Place::Root, 7),
+    Call::On(1, Use::Lease),
+    Call::At(0, Deed::Dispose),
+];
+
+// Gives the lease back, and releases what waits then.
+const RETURNS: [Call; 2] = [Call::On(2, Use::GiveBack), Call::Take];
+
+// Does that, and answers what is told of it.
+fn give_back<I: Ledger, A: Ledger, K: Ledger>(
     rt: &impl Wait,
+    alloc: Global,
     desk: &Desk<Sample, I, A, K>,
-    mut seat: Seat<I, A, K>,
-) -> Option<u64> {
-    let mut floor = desk.floor.lock(rt);
-    let opened = floor.open_using(&mut seat, At::Root, Sample::new(7)).ok()?;
-    let lease = floor.lease(opened.res).ok()?;
-    floor.dispose(opened.key).ok()?;
-    Some(lease.number)
+    seat: Seat<I, A, K>,
+    slots: Slots,
+) -> (Seat<I, A, K>, String) {
+    let (mut slots, mut told) = (slots, String::new(alloc));
+    let seat = make_all(rt, alloc, desk, seat, &mut slots, &RETURNS, &mut told);
+    (seat, told)
 }
 
-// Gives the first lease back that it sees, and releases what waits then: the place of the return, and the
-// tag. It gives up after a million looks.
-fn returns_and_releases<I: Ledger, A: Ledger, K: Ledger>(
-    rt: &impl Wait,
-    desk: &Desk<Sample, I, A, K>,
-    mut seat: Seat<I, A, K>,
-) -> Option<(u64, u64)> {
-    for _ in 0..1_000_000u32 {
-        let mut floor = desk.floor.lock(rt);
-        if let Some(lease) = floor.open_lease() {
-            let place = floor.give_back(lease).ok()?;
-            let handed = floor.take(&mut seat)?;
-            return Some((place, handed.release().tag));
-        }
-        drop(floor);
-        thread::yield_now();
-    }
-    None
-}
-
-// One thread leases, the other gives back: what each tells.
-fn passed_on<
+// This thread leases, another one gives back.
+pub(super) fn passed_on<
     I: Ledger + Send + Sync,
     A: Ledger + Send + Sync,
     K: Ledger + Send + Sync,
@@ -57,27 +44,38 @@ fn passed_on<
 >(
     rt: &T,
     alloc: Global,
-    blanks: (Blank, Blank, Blank),
-) -> Result<(Option<u64>, Option<(u64, u64)>), Fail>
-    requires items { Opens I.name I.parts blanks.0.name blanks.0.parts }
-    requires accepted { Opens A.name A.parts blanks.1.name blanks.1.parts }
-    requires taken { Opens K.name K.parts blanks.2.name blanks.2.parts }
-{
-    let book = Book::new(alloc, 1000);
-    let (desk, mut first) = Desk::<Sample, I, A, K>::new(book, blanks.0, blanks.1, blanks.2);
-    let second = first.split().ok_or("no second seat")?;
-    let at = &desk;
-    let told = thread::join(
+    desk: &Desk<Sample, I, A, K>,
+    mut first: Seat<I, A, K>,
+    told: &mut String,
+) -> Option<Seat<I, A, K>> {
+    let second = first.split()?;
+    let mut slots = NO_SLOTS;
+    let mut first = make_all(rt, alloc, desk, first, &mut slots, &LEASES, told);
+    let ((second, lines), ()) = thread::join(
         rt,
-        || leases_and_leaves(rt, at, first),
-        || returns_and_releases(rt, at, second),
+        || give_back(rt, alloc, desk, second, slots),
+        || (),
     );
-    Ok(told)
+    told.push_str(lines.as_str()).ok()?;
+    first.merge(second);
+    Some(first)
 }
 
+const PASSED_ON: [(Trial, &str); 1] = [(
+    Trial::Lease,
+    "\
+Ok(0)
+Ok(2)
+Ok(3)
+Ok(4)
+Some((1, 7, 0))
+Ok(Totals { items: 0, accepted: 1, taken: 1, held: 0, waiting: 0, len: 6 })
+None
+Closed { released: 0, faults: 0 }
+",
+)];
+
 #[test]
-fn a_lease_of_one_thread_is_given_back_by_another(rt: HostRuntime) -> Result<(), Fail> {
-    let told = passed_on::<Brand, Brand, Brand, _>(&rt, rt.alloc(), blanks())?;
-    assert_eq!(rt; told, (Some(2), Some((4, 7))));
-    Ok(())
+fn a_lease_of_one_thread_is_given_back_by_another(rt: HostRuntime) {
+    assert_all(&rt, rt.alloc(), &PASSED_ON);
 }

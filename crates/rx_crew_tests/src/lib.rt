@@ -1,14 +1,14 @@
 //! What no clause says: the worked examples on a desk, that each call can succeed, and threads.
+//!
+//! What is tried at a desk is a [`trials::Trial`]; a test is a table of them, with the lines that each has to tell.
 #![tactic(auto)]
 
 #[cfg(test)]
 mod caller;
 #[cfg(test)]
-mod checkpoints;
-#[cfg(test)]
 mod closed;
 #[cfg(test)]
-mod day;
+mod days;
 #[cfg(test)]
 mod desk_calls;
 #[cfg(test)]
@@ -25,6 +25,8 @@ mod parts;
 mod rows;
 #[cfg(test)]
 mod ticks;
+#[cfg(test)]
+mod trials;
 #[cfg(test)]
 mod want;
 #[cfg(test)]

@@ -4,11 +4,13 @@
 ghost use Rattle.rx_resource.specs.declared.Life.{Life};
 ghost use Rattle.rx_ledger.specs.Shares.{Opens};
 
-use super::feeds::Single;
-use super::parts::{Open, blanks};
-use rx_book::{At, Book};
+use super::desk_calls::{Call, Deed, NO_SLOTS, key_of, make_all};
+use super::parts::{Open, blanks, tell};
+use super::ticks::Ticks;
+use super::trials::{Trial, assert_all};
+use rx_book::{At, Book, Key};
 use rx_crew::{Desk, Gate, feed, worker};
-use rx_event::{Kind, Refusal};
+use rx_event::{Kind, Place, Refusal, Terminal};
 use rx_ledger::Seat;
 use rx_resource::{Life, Resource, Sample};
 use std::alloc::Global;
@@ -16,7 +18,6 @@ use std::marker::Brand;
 use std::sync::atomic::{AtomicU64, Ordering};
 use std::sync::ledger::{Blank, Ledger};
 use std::sync::{Arc, Wait};
-use std::test::Fail;
 use std::thread;
 use std::thread::Threads;
 
@@ -74,22 +75,6 @@ impl Resource for Actor {
     }
 }
 
-// Opens a root with the resource and unsubscribes it.
-fn lay_out<R: Resource, I: Ledger, A: Ledger, K: Ledger>(
-    rt: &impl Wait,
-    desk: &Desk<R, I, A, K>,
-    seat: &mut Seat<I, A, K>,
-    resource: R,
-) -> Result<(), Fail> {
-    let mut floor = desk.floor.lock(rt);
-    let opened = match floor.open_using(seat, At::Root, resource) {
-        Ok(opened) => opened,
-        Err(_) => return Err(Fail::from("nothing was opened")),
-    };
-    floor.dispose(opened.key)?;
-    Ok(())
-}
-
 // One thread releases an actor; the other waits until that release runs, disposes of another root at the
 // same desk, and only then lets it end. Answers the faults of the release, and where that root was closed.
 fn disposes_meanwhile<
@@ -97,21 +82,26 @@ fn disposes_meanwhile<
     A: Ledger + Send + Sync,
     K: Ledger + Send + Sync,
     T: Threads + Wait + Sync,
->(rt: &T, alloc: Global, blanks: (Blank, Blank, Blank)) -> Result<(u64, Result<u64, Refusal>), Fail>
+>(rt: &T, alloc: Global, blanks: (Blank, Blank, Blank)) -> Option<(u64, Result<u64, Refusal>)>
     requires items { Opens I.name I.parts blanks.0.name blanks.0.parts }
     requires accepted { Opens A.name A.parts blanks.1.name blanks.1.parts }
     requires taken { Opens K.name K.parts blanks.2.name blanks.2.parts }
 {
     let book = Book::new(alloc, 1000);
     let (desk, mut seat) = Desk::<Actor, I, A, K>::new(book, blanks.0, blanks.1, blanks.2);
-    let stage = Arc::new(alloc, AtomicU64::new(0))?;
+    let stage = Arc::new(alloc, AtomicU64::new(0)).ok()?;
     let actor = Actor {
         life: Life::Live,
         uses: 0,
-        stage: Arc::try_clone(&stage)?,
+        stage: Arc::try_clone(&stage).ok()?,
     };
-    let other = desk.floor.lock(rt).open(At::Root, Kind::Pass)?.key;
-    lay_out(rt, &desk, &mut seat, actor)?;
+    let other = desk.floor.lock(rt).open(At::Root, Kind::Pass).ok()?.key;
+    let opened = desk
+        .floor
+        .lock(rt)
+        .open_using(&mut seat, At::Root, actor)
+        .ok()?;
+    desk.floor.lock(rt).dispose(opened.key).ok()?;
     let at = &desk;
     let (worked, disposed) = thread::join(
         rt,
@@ -123,14 +113,13 @@ fn disposes_meanwhile<
             disposed
         },
     );
-    Ok((worked.faults, disposed))
+    Some((worked.faults, disposed))
 }
 
 #[test]
-fn a_release_runs_while_the_desk_answers_another(rt: HostRuntime) -> Result<(), Fail> {
-    let told = disposes_meanwhile::<Brand, Brand, Brand, _>(&rt, rt.alloc(), blanks())?;
-    assert_eq!(rt; told, (0, Ok(5)));
-    Ok(())
+fn a_release_runs_while_the_desk_answers_another(rt: HostRuntime) {
+    let told = disposes_meanwhile::<Brand, Brand, Brand, _>(&rt, rt.alloc(), blanks());
+    assert_eq!(rt; told, Some((0, Ok(5))));
 }
 
 // Holds the first release until the call after another one.
@@ -153,92 +142,140 @@ impl Gate for Pair {
     }
 }
 
-// Two workers release one resource each, the first of which waits for the second. Whether they met.
-fn both_release<
+// Two resources of roots that are closed.
+const LAID_OUT: [Call; 4] = [
+    Call::Using(Place::Root, 1),
+    Call::At(0, Deed::Dispose),
+    Call::Using(Place::Root, 2),
+    Call::At(3, Deed::Dispose),
+];
+
+// Two workers release one resource each, the first of which waits for the second. Tells whether they met.
+pub(super) fn both_release<
     I: Ledger + Send + Sync,
     A: Ledger + Send + Sync,
     K: Ledger + Send + Sync,
     T: Threads + Wait + Sync,
->(rt: &T, alloc: Global, blanks: (Blank, Blank, Blank)) -> Result<u64, Fail>
-    requires items { Opens I.name I.parts blanks.0.name blanks.0.parts }
-    requires accepted { Opens A.name A.parts blanks.1.name blanks.1.parts }
-    requires taken { Opens K.name K.parts blanks.2.name blanks.2.parts }
-{
-    let book = Book::new(alloc, 1000);
-    let (desk, mut first) = Desk::<Sample, I, A, K>::new(book, blanks.0, blanks.1, blanks.2);
-    lay_out(rt, &desk, &mut first, Sample::new(1))?;
-    lay_out(rt, &desk, &mut first, Sample::new(2))?;
-    let second = first.split().ok_or("no second seat")?;
+>(
+    rt: &T,
+    alloc: Global,
+    desk: &Desk<Sample, I, A, K>,
+    first: Seat<I, A, K>,
+    told: &mut String,
+) -> Option<Seat<I, A, K>> {
+    let mut first = make_all(rt, alloc, desk, first, &mut NO_SLOTS, &LAID_OUT, told);
+    let second = first.split()?;
     let gate = Pair {
         entered: AtomicU64::new(0),
         left: AtomicU64::new(0),
         has_met: AtomicU64::new(0),
     };
-    let (at, by) = (&desk, &gate);
-    let (_one, _other) = thread::join(
+    let by = &gate;
+    let (one, other) = thread::join(
         rt,
-        || worker(rt, at, first, by, 1),
-        || worker(rt, at, second, by, 1),
+        || worker(rt, desk, first, by, 1),
+        || worker(rt, desk, second, by, 1),
     );
-    Ok(gate.has_met.load(Ordering::SeqCst))
+    tell(told, gate.has_met.load(Ordering::SeqCst));
+    let mut both = one.seat;
+    both.merge(other.seat);
+    Some(both)
 }
+
+const MET: [(Trial, &str); 1] = [(
+    Trial::Meeting,
+    "\
+Ok(0)
+Ok(2)
+Ok(3)
+Ok(5)
+1
+Ok(Totals { items: 0, accepted: 2, taken: 2, held: 0, waiting: 0, len: 8 })
+None
+Closed { released: 0, faults: 0 }
+",
+)];
 
 #[test]
-fn two_workers_release_at_the_same_time(rt: HostRuntime) -> Result<(), Fail> {
-    let met = both_release::<Brand, Brand, Brand, _>(&rt, rt.alloc(), blanks())?;
-    assert_eq!(rt; met, 1);
-    Ok(())
+fn two_workers_release_at_the_same_time(rt: HostRuntime) {
+    assert_all(&rt, rt.alloc(), &MET);
 }
 
-// One thread waits for the bell until something waits, and then sets the word to 2; it has the lock until
-// it waits. The other ends a leaf that holds a resource by a feed meanwhile. Whether the first was woken
-// before the second rings too.
-fn wakes<
+// Waits for the bell until something waits, and then sets the stage to 2; it has the lock until it waits.
+fn wait_for_bell<I: Ledger, A: Ledger, K: Ledger>(
+    rt: &impl Wait,
+    desk: &Desk<Sample, I, A, K>,
+    stage: &AtomicU64,
+) {
+    let floor = desk.floor.lock(rt);
+    stage.store(1, Ordering::SeqCst);
+    let floor = desk
+        .bell
+        .wait_while(rt, floor, |floor| floor.waiting() == 0);
+    stage.store(2, Ordering::SeqCst);
+    drop(floor);
+}
+
+// Ends a leaf by a feed meanwhile. Whether the other was woken before this one rings too.
+fn feed_meanwhile<I: Ledger, A: Ledger, K: Ledger>(
+    rt: &impl Wait,
+    alloc: Global,
+    desk: &Desk<Sample, I, A, K>,
+    seat: Seat<I, A, K>,
+    leaf: Key,
+    stage: &AtomicU64,
+) -> (Seat<I, A, K>, bool) {
+    came_to(stage, 1);
+    let mut source = Ticks::of(1, Terminal::Completed);
+    let fed = feed(rt, alloc, desk, seat, leaf, &mut source, 9);
+    let is_woken = came_to(stage, 2);
+    desk.bell.notify_all();
+    (fed.seat, is_woken)
+}
+
+// A root that is a leaf, and holds a resource.
+const HOLDS: [Call; 2] = [Call::Open(Place::Root, Kind::Leaf), Call::Hold(0, 1)];
+
+// One thread waits for the bell, the other feeds a leaf that holds a resource. Tells whether the first was woken.
+pub(super) fn wakes<
     I: Ledger + Send + Sync,
     A: Ledger + Send + Sync,
     K: Ledger + Send + Sync,
     T: Threads + Wait + Sync,
->(rt: &T, alloc: Global, blanks: (Blank, Blank, Blank)) -> Result<bool, Fail>
-    requires items { Opens I.name I.parts blanks.0.name blanks.0.parts }
-    requires accepted { Opens A.name A.parts blanks.1.name blanks.1.parts }
-    requires taken { Opens K.name K.parts blanks.2.name blanks.2.parts }
-{
-    let book = Book::new(alloc, 1000);
-    let (desk, mut seat) = Desk::<Sample, I, A, K>::new(book, blanks.0, blanks.1, blanks.2);
-    let leaf = desk.floor.lock(rt).open(At::Root, Kind::Leaf)?.key;
-    if desk
-        .floor
-        .lock(rt)
-        .hold(&mut seat, leaf, Sample::new(1))
-        .is_err()
-    {
-        return Err(Fail::from("nothing was held"));
-    }
+>(
+    rt: &T,
+    alloc: Global,
+    desk: &Desk<Sample, I, A, K>,
+    seat: Seat<I, A, K>,
+    told: &mut String,
+) -> Option<Seat<I, A, K>> {
+    let mut slots = NO_SLOTS;
+    let seat = make_all(rt, alloc, desk, seat, &mut slots, &HOLDS, told);
+    let leaf = key_of(&slots, 0);
     let word = AtomicU64::new(0);
-    let (at, stage) = (&desk, &word);
-    let (_waited, woken) = thread::join(
+    let stage = &word;
+    let (_waited, (seat, is_woken)) = thread::join(
         rt,
-        || {
-            let floor = at.floor.lock(rt);
-            stage.store(1, Ordering::SeqCst);
-            let floor = at.bell.wait_while(rt, floor, |floor| floor.waiting() == 0);
-            stage.store(2, Ordering::SeqCst);
-            drop(floor);
-        },
-        || -> bool {
-            came_to(stage, 1);
-            let mut source = Single::completing();
-            let _fed = feed(rt, alloc, at, seat, leaf, &mut source, 9);
-            let woken = came_to(stage, 2);
-            at.bell.notify_all();
-            woken
-        },
+        || wait_for_bell(rt, desk, stage),
+        || feed_meanwhile(rt, alloc, desk, seat, leaf, stage),
     );
-    Ok(woken)
+    tell(told, is_woken);
+    Some(seat)
 }
 
+const WOKEN: [(Trial, &str); 1] = [(
+    Trial::Bell,
+    "\
+(0, None)
+Ok(1)
+true
+Ok(Totals { items: 1, accepted: 1, taken: 0, held: 0, waiting: 1, len: 4 })
+None
+Closed { released: 1, faults: 0 }
+",
+)];
+
 #[test]
-fn a_feed_rings_the_bell_where_a_resource_waits_then(rt: HostRuntime) -> Result<(), Fail> {
-    assert!(rt; wakes::<Brand, Brand, Brand, _>(&rt, rt.alloc(), blanks())?);
-    Ok(())
+fn a_feed_rings_the_bell_where_a_resource_waits_then(rt: HostRuntime) {
+    assert_all(&rt, rt.alloc(), &WOKEN);
 }

@@ -1,10 +1,12 @@
-//! What the tests share: a gate that does nothing, and the blanks of a desk.
+//! What the tests share: a gate that does nothing, the blanks of a desk, and what is told, line by line.
 
 ghost use Rattle.std.specs.Prelude.{◌≡◌};
 ghost use Rattle.rx_ledger.specs.Shares.{all_parts};
 
+use rx_book::Key;
 use rx_crew::Gate;
 use rx_ledger::PARTS;
+use std::fmt::Debug;
 use std::sync::ledger::Blank;
 
 // A gate that does nothing.
@@ -21,4 +23,17 @@ pub(super) fn blanks() -> (Blank, Blank, Blank)
     ensures { (result.0.parts ≡ all_parts) × (result.1.parts ≡ all_parts) × (result.2.parts ≡ all_parts) }
 {
     (Blank::new(PARTS), Blank::new(PARTS), Blank::new(PARTS))
+}
+
+// Puts a line behind what was told. Without memory for it the line is missing.
+pub(super) fn tell<T: Debug + Drop>(told: &mut String, line: T) {
+    let _ = write!(told, "{line:?}\n");
+}
+
+// The number of a key.
+pub(super) fn number_of(key: Option<Key>) -> Option<u64> {
+    match key {
+        Some(key) => Some(key.number),
+        None => None,
+    }
 }

@@ -1,11 +1,13 @@
-//! Worked examples on a desk, as tables: what is called in turn, and what each call is answered.
+//! Worked examples on a desk, as tables: what is called in turn, and what each call is answered. Behind that stands
+//! what a desk tells at its end.
 
-use super::desk_calls::{Ask, Call, Deed, Hub, Use, assert_told};
+use super::desk_calls::{Ask, Call, Deed, Hub, Use};
+use super::trials::{Trial, assert_all};
 use rx_event::{Kind, Mode, Place, Terminal};
-use std::test::Fail;
 
 const DONE: Terminal = Terminal::Completed;
 
+// An item and an end reach the root.
 const MIRRORED: [Call; 11] = [
     Call::Open(Place::Root, Kind::Pass),
     Call::Open(Place::Source(0), Kind::Leaf),
@@ -20,9 +22,7 @@ const MIRRORED: [Call; 11] = [
     Call::Ask(Ask::Sums),
 ];
 
-#[test]
-fn an_item_and_an_end_reach_the_root(rt: HostRuntime) -> Result<(), Fail> {
-    let lines = "\
+const MIRRORED_TOLD: &str = "\
 (0, None)
 (1, None)
 Ok(2)
@@ -34,10 +34,12 @@ Some(Mail { place: 5, to: 0, note: End(Completed) })
 None
 Some(End(0, Completed))
 [6, 1, 1, 0, 1, 0]
+Ok(Totals { items: 1, accepted: 1, taken: 0, held: 0, waiting: 1, len: 6 })
+None
+Closed { released: 1, faults: 0 }
 ";
-    assert_told(&rt, rt.alloc(), 1000, &MIRRORED, lines)
-}
 
+// A resource is used, removed and taken once.
 const USED: [Call; 9] = [
     Call::Using(Place::Root, 7),
     Call::On(1, Use::Apply(1)),
@@ -50,9 +52,7 @@ const USED: [Call; 9] = [
     Call::Take,
 ];
 
-#[test]
-fn a_resource_is_used_removed_and_taken_once(rt: HostRuntime) -> Result<(), Fail> {
-    let lines = "\
+const USED_TOLD: &str = "\
 Ok(0)
 Ok(1)
 Ok(3)
@@ -62,10 +62,12 @@ Some((1, 7, 3))
 Err(NotHeld)
 Ok(7)
 None
+Ok(Totals { items: 0, accepted: 1, taken: 1, held: 0, waiting: 0, len: 8 })
+None
+Closed { released: 0, faults: 0 }
 ";
-    assert_told(&rt, rt.alloc(), 1000, &USED, lines)
-}
 
+// A floor tells what its book has.
 const ASKED: [Call; 12] = [
     Call::Open(Place::Root, Kind::Pass),
     Call::At(0, Deed::Abort(9)),
@@ -81,9 +83,7 @@ const ASKED: [Call; 12] = [
     Call::Hub(Hub::Shut),
 ];
 
-#[test]
-fn a_floor_tells_what_its_book_has(rt: HostRuntime) -> Result<(), Fail> {
-    let lines = "\
+const ASKED_TOLD: &str = "\
 (0, None)
 Ok(1)
 (2, None)
@@ -96,10 +96,12 @@ true
 Some(End(0, Error(9)))
 None
 Ok(1)
+Ok(Totals { items: 0, accepted: 1, taken: 0, held: 1, waiting: 0, len: 4 })
+Some(2)
+Closed { released: 1, faults: 0 }
 ";
-    assert_told(&rt, rt.alloc(), 1000, &ASKED, lines)
-}
 
+// A projected item is declined, and another fails.
 const PROJECTED: [Call; 11] = [
     Call::Open(Place::Root, Kind::Flat),
     Call::Open(Place::Source(0), Kind::Leaf),
@@ -114,9 +116,7 @@ const PROJECTED: [Call; 11] = [
     Call::At(0, Deed::Fail(7)),
 ];
 
-#[test]
-fn a_projected_item_is_declined_and_another_failed(rt: HostRuntime) -> Result<(), Fail> {
-    let lines = "\
+const PROJECTED_TOLD: &str = "\
 (0, None)
 (1, None)
 Ok(2)
@@ -128,10 +128,12 @@ Ok(5)
 None
 Err(Gone)
 Err(Gone)
+Ok(Totals { items: 2, accepted: 0, taken: 0, held: 0, waiting: 0, len: 6 })
+None
+Closed { released: 0, faults: 0 }
 ";
-    assert_told(&rt, rt.alloc(), 1000, &PROJECTED, lines)
-}
 
+// A shared hub is connected while it has subscribers.
 const SHARED: [Call; 11] = [
     Call::Hub(Hub::Make(Mode::Auto)),
     Call::Open(Place::Root, Kind::Sub(0)),
@@ -146,9 +148,7 @@ const SHARED: [Call; 11] = [
     Call::Ask(Ask::Root),
 ];
 
-#[test]
-fn a_shared_hub_is_connected_while_it_has_subscribers(rt: HostRuntime) -> Result<(), Fail> {
-    let lines = "\
+const SHARED_TOLD: &str = "\
 Ok(0)
 (1, Some(2))
 (3, None)
@@ -160,10 +160,12 @@ Ok(4)
 (2, Some(3))
 Ok(5)
 (0, None)
+Ok(Totals { items: 0, accepted: 0, taken: 0, held: 0, waiting: 0, len: 7 })
+None
+Closed { released: 0, faults: 0 }
 ";
-    assert_told(&rt, rt.alloc(), 1000, &SHARED, lines)
-}
 
+// A hub is connected and disconnected by hand.
 const BY_HAND: [Call; 12] = [
     Call::Hub(Hub::Make(Mode::Manual)),
     Call::Open(Place::Root, Kind::Sub(0)),
@@ -179,9 +181,7 @@ const BY_HAND: [Call; 12] = [
     Call::Ask(Ask::Manual),
 ];
 
-#[test]
-fn a_hub_is_connected_and_disconnected_by_hand(rt: HostRuntime) -> Result<(), Fail> {
-    let lines = "\
+const BY_HAND_TOLD: &str = "\
 Ok(0)
 (1, None)
 None
@@ -194,10 +194,12 @@ Some(Close(2))
 true
 Err(NotConnected)
 None
+Ok(Totals { items: 0, accepted: 0, taken: 0, held: 0, waiting: 0, len: 4 })
+Some(1)
+Closed { released: 0, faults: 0 }
 ";
-    assert_told(&rt, rt.alloc(), 1000, &BY_HAND, lines)
-}
 
+// The least hub that is connected by hand is told.
 const TWO_BY_HAND: [Call; 15] = [
     Call::Open(Place::Root, Kind::Sub(5)),
     Call::Hub(Hub::Connect(0)),
@@ -216,9 +218,7 @@ const TWO_BY_HAND: [Call; 15] = [
     Call::Ask(Ask::Manual),
 ];
 
-#[test]
-fn the_least_hub_that_is_connected_by_hand_is_told(rt: HostRuntime) -> Result<(), Fail> {
-    let lines = "\
+const TWO_BY_HAND_TOLD: &str = "\
 NoHub
 Err(NoHub)
 Err(NoHub)
@@ -234,10 +234,12 @@ true
 Some(1)
 Ok(5)
 None
+Ok(Totals { items: 0, accepted: 0, taken: 0, held: 0, waiting: 0, len: 6 })
+None
+Closed { released: 0, faults: 0 }
 ";
-    assert_told(&rt, rt.alloc(), 1000, &TWO_BY_HAND, lines)
-}
 
+// A leased resource stays until its lease comes back.
 const LEASED: [Call; 13] = [
     Call::Using(Place::Root, 7),
     Call::On(1, Use::Lease),
@@ -254,9 +256,7 @@ const LEASED: [Call; 13] = [
     Call::On(1, Use::Apply(4)),
 ];
 
-#[test]
-fn a_leased_resource_stays_until_its_lease_comes_back(rt: HostRuntime) -> Result<(), Fail> {
-    let lines = "\
+const LEASED_TOLD: &str = "\
 Ok(0)
 Ok(2)
 Ok(3)
@@ -270,10 +270,12 @@ Ok(5)
 Some((1, 7, 1))
 Err(NoLease)
 Err(NotHeld)
+Ok(Totals { items: 0, accepted: 1, taken: 1, held: 0, waiting: 0, len: 7 })
+None
+Closed { released: 0, faults: 0 }
 ";
-    assert_told(&rt, rt.alloc(), 1000, &LEASED, lines)
-}
 
+// A lease is counted into what closing may need.
 const LEASED_IN_EIGHT: [Call; 7] = [
     Call::Using(Place::Root, 7),
     Call::On(1, Use::Lease),
@@ -284,9 +286,7 @@ const LEASED_IN_EIGHT: [Call; 7] = [
     Call::Ask(Ask::Sums),
 ];
 
-#[test]
-fn a_lease_is_counted_into_what_closing_may_need(rt: HostRuntime) -> Result<(), Fail> {
-    let lines = "\
+const LEASED_IN_EIGHT_TOLD: &str = "\
 Ok(0)
 Ok(2)
 Err(Full)
@@ -294,10 +294,12 @@ Ok(3)
 Ok(4)
 Some((1, 7, 0))
 [6, 0, 1, 0, 0, 1]
+Ok(Totals { items: 0, accepted: 1, taken: 1, held: 0, waiting: 0, len: 6 })
+None
+Closed { released: 0, faults: 0 }
 ";
-    assert_told(&rt, rt.alloc(), 8, &LEASED_IN_EIGHT, lines)
-}
 
+// The least lease comes first.
 const LEASED_OFTEN: [Call; 11] = [
     Call::Using(Place::Root, 7),
     Call::On(1, Use::Lease),
@@ -312,9 +314,7 @@ const LEASED_OFTEN: [Call; 11] = [
     Call::On(6, Use::GiveBack),
 ];
 
-#[test]
-fn the_least_lease_comes_first(rt: HostRuntime) -> Result<(), Fail> {
-    let lines = "\
+const LEASED_OFTEN_TOLD: &str = "\
 Ok(0)
 Ok(2)
 Ok(3)
@@ -326,10 +326,13 @@ Err(NoLease)
 Ok(7)
 (2, Some(4))
 Ok(8)
+Ok(Totals { items: 0, accepted: 1, taken: 0, held: 1, waiting: 0, len: 9 })
+Some(0)
+Closed { released: 1, faults: 0 }
 ";
-    assert_told(&rt, rt.alloc(), 1000, &LEASED_OFTEN, lines)
-}
 
+// A checkpoint makes room where a desk was full. A sample answers all the words that it was used on, one bit each: so it
+// stays the same over a checkpoint, and was not used where the book was full.
 const REFILLED: [Call; 15] = [
     Call::Using(Place::Root, 1),
     Call::On(1, Use::Apply(1)),
@@ -348,11 +351,7 @@ const REFILLED: [Call; 15] = [
     Call::Ask(Ask::Sums),
 ];
 
-// A sample answers all the words that it was used on, one bit each: so it stays the same over a checkpoint, and
-// was not used where the book was full.
-#[test]
-fn a_checkpoint_makes_room_where_a_desk_was_full(rt: HostRuntime) -> Result<(), Fail> {
-    let lines = "\
+const REFILLED_TOLD: &str = "\
 Ok(0)
 Ok(1)
 Err(Full)
@@ -368,10 +367,12 @@ Some((1, 1, 4))
 Some(Take(1))
 Ok(8)
 [9, 0, 1, 0, 0, 1]
+Ok(Totals { items: 0, accepted: 1, taken: 1, held: 0, waiting: 0, len: 9 })
+None
+Closed { released: 0, faults: 0 }
 ";
-    assert_told(&rt, rt.alloc(), 6, &REFILLED, lines)
-}
 
+// A checkpoint keeps what a FlatMap owes.
 const OWED: [Call; 11] = [
     Call::Open(Place::Root, Kind::Flat),
     Call::Open(Place::Source(0), Kind::Leaf),
@@ -386,9 +387,7 @@ const OWED: [Call; 11] = [
     Call::Ask(Ask::Event(6)),
 ];
 
-#[test]
-fn a_checkpoint_keeps_what_a_flat_map_owes(rt: HostRuntime) -> Result<(), Fail> {
-    let lines = "\
+const OWED_TOLD: &str = "\
 (0, None)
 (1, None)
 Ok(2)
@@ -400,6 +399,27 @@ PlaceTaken
 (4, None)
 Ok(5)
 Some(End(0, Completed))
+Ok(Totals { items: 1, accepted: 0, taken: 0, held: 0, waiting: 0, len: 7 })
+None
+Closed { released: 0, faults: 0 }
 ";
-    assert_told(&rt, rt.alloc(), 1000, &OWED, lines)
+
+const EXAMPLES: [(Trial, &str); 12] = [
+    (Trial::Calls(1000, &MIRRORED, &[]), MIRRORED_TOLD),
+    (Trial::Calls(1000, &USED, &[]), USED_TOLD),
+    (Trial::Calls(1000, &ASKED, &[]), ASKED_TOLD),
+    (Trial::Calls(1000, &PROJECTED, &[]), PROJECTED_TOLD),
+    (Trial::Calls(1000, &SHARED, &[]), SHARED_TOLD),
+    (Trial::Calls(1000, &BY_HAND, &[]), BY_HAND_TOLD),
+    (Trial::Calls(1000, &TWO_BY_HAND, &[]), TWO_BY_HAND_TOLD),
+    (Trial::Calls(1000, &LEASED, &[]), LEASED_TOLD),
+    (Trial::Calls(8, &LEASED_IN_EIGHT, &[]), LEASED_IN_EIGHT_TOLD),
+    (Trial::Calls(1000, &LEASED_OFTEN, &[]), LEASED_OFTEN_TOLD),
+    (Trial::Calls(6, &REFILLED, &[]), REFILLED_TOLD),
+    (Trial::Calls(1000, &OWED, &[]), OWED_TOLD),
+];
+
+#[test]
+fn each_worked_example_is_answered_on_a_desk(rt: HostRuntime) {
+    assert_all(&rt, rt.alloc(), &EXAMPLES);
 }

@@ -1,21 +1,19 @@
 //! That a feed whose pull is refused memory keeps the receipts before it, and writes nothing of that pull; and
 //! that the same pull is then written by the call itself.
 
-ghost use Rattle.rx_ledger.specs.Shares.{Opens};
-
-use super::feeds::Single;
-use super::parts::blanks;
-use rx_book::{At, Book, Key};
+use super::desk_calls::{Call, NO_SLOTS, key_of, make_all};
+use super::parts::tell;
+use super::ticks::Ticks;
+use super::trials::{Trial, assert_all};
+use rx_book::Key;
 use rx_crew::{Desk, Stop, feed};
-use rx_event::{Kind, Refusal};
+use rx_event::{Kind, Place, Refusal, Terminal};
 use rx_ledger::Seat;
 use rx_resource::Sample;
 use rx_scarce::{MOST_BLOCKS, Scarce};
 use std::alloc::Global;
-use std::marker::Brand;
 use std::sync::Wait;
-use std::sync::ledger::{Blank, Ledger};
-use std::test::Fail;
+use std::sync::ledger::Ledger;
 
 // Makes the call of the item that was refused, with a block more after each refusal. Answers its place.
 fn write_refused<I: Ledger, A: Ledger, K: Ledger>(
@@ -39,67 +37,113 @@ fn write_refused<I: Ledger, A: Ledger, K: Ledger>(
     None
 }
 
-// Feeds a leaf an item and an end, anew after each refusal, whose pull it writes itself: the item. Answers how
-// often a feed was refused memory; None where a feed wrote other than what it has receipts of, or the item that
-// was refused has another place than the next.
-fn feed_in_the_end<I: Ledger, A: Ledger, K: Ledger>(
+// How many events there are.
+fn len_of<I: Ledger, A: Ledger, K: Ledger>(rt: &impl Wait, desk: &Desk<Sample, I, A, K>) -> u64 {
+    desk.floor.lock(rt).len()
+}
+
+// Why a feed stopped. None where it wrote other than what it has receipts of, or the item and not the end.
+fn agreed(stop: Stop, receipts: usize, written: u64) -> Option<Stop> {
+    if receipts as u64 == written && written != 1 {
+        Some(stop)
+    } else {
+        None
+    }
+}
+
+// Feeds a leaf an item and an end, and says so.
+fn feed_once<I: Ledger, A: Ledger, K: Ledger>(
     rt: &impl Wait,
     alloc: Global,
     desk: &Desk<Sample, I, A, K>,
-    mut seat: Seat<I, A, K>,
+    seat: Seat<I, A, K>,
     leaf: Key,
-) -> Option<u64> {
-    let mut scarce = Scarce::new(alloc).ok()?;
-    for refused in 0..1_000u64 {
-        let before = desk.floor.lock(rt).len();
-        let mut source = Single::completing();
-        let fed = feed(rt, alloc, desk, seat, leaf, &mut source, 9);
-        let len = desk.floor.lock(rt).len();
-        let written = fed.receipts.len() as u64;
-        seat = fed.seat;
-        if len.saturating_sub(before) != written {
-            return None;
-        }
-        match fed.stop {
-            Stop::Done => return Some(refused),
-            Stop::Refused(Refusal::NoMemory) => {}
-            _ => return None,
-        }
-        let place = write_refused(rt, desk, &mut seat, leaf, &mut scarce)?;
-        if written != 0 || place != len {
-            return None;
-        }
-    }
-    None
+) -> (Seat<I, A, K>, Option<Stop>) {
+    let before = len_of(rt, desk);
+    let mut source = Ticks::of(1, Terminal::Completed);
+    let fed = feed(rt, alloc, desk, seat, leaf, &mut source, 9);
+    let written = len_of(rt, desk).saturating_sub(before);
+    let stop = agreed(fed.stop, fed.receipts.len(), written);
+    (fed.seat, stop)
 }
 
-// Makes the desk for it. Answers too how many items and events the history has.
-fn fed_in_the_end<I: Ledger, A: Ledger, K: Ledger>(
+// Feeds a leaf so, anew after each refusal, whose pull it writes itself: the item, at the next place. Answers how
+// often a feed was refused memory, or None where something else came of it.
+fn refusals<I: Ledger, A: Ledger, K: Ledger>(
     rt: &impl Wait,
     alloc: Global,
-    blanks: (Blank, Blank, Blank),
-) -> Result<(Option<u64>, u64, u64), Fail>
-    requires items { Opens I.name I.parts blanks.0.name blanks.0.parts }
-    requires accepted { Opens A.name A.parts blanks.1.name blanks.1.parts }
-    requires taken { Opens K.name K.parts blanks.2.name blanks.2.parts }
-{
-    let book = Book::new(alloc, 1_000_000);
-    let (desk, seat) = Desk::<Sample, I, A, K>::new(book, blanks.0, blanks.1, blanks.2);
-    let leaf = desk.floor.lock(rt).open(At::Root, Kind::Leaf)?.key;
-    let refused = feed_in_the_end(rt, alloc, &desk, seat, leaf);
-    let floor = desk.floor.lock(rt);
-    Ok((refused, floor.items(), floor.len()))
+    desk: &Desk<Sample, I, A, K>,
+    seat: Seat<I, A, K>,
+    leaf: Key,
+    scarce: &mut Scarce,
+) -> (Seat<I, A, K>, Option<u64>) {
+    let mut seat = seat;
+    for refused in 0..1_000u64 {
+        let (next, stop) = feed_once(rt, alloc, desk, seat, leaf);
+        seat = next;
+        match stop {
+            Some(Stop::Done) => return (seat, Some(refused)),
+            Some(Stop::Refused(Refusal::NoMemory)) => {}
+            _ => break,
+        }
+        let place = len_of(rt, desk);
+        if write_refused(rt, desk, &mut seat, leaf, scarce) != Some(place) {
+            break;
+        }
+    }
+    (seat, None)
 }
 
-// The history is an opening, an item for each refusal and one more, and the end.
+// Two roots that are leaves.
+const ROOTS: [Call; 2] = [
+    Call::Open(Place::Root, Kind::Leaf),
+    Call::Open(Place::Root, Kind::Leaf),
+];
+
+// Feeds a root as many items as make two thousand.
+fn fill_up<I: Ledger, A: Ledger, K: Ledger>(
+    rt: &impl Wait,
+    alloc: Global,
+    desk: &Desk<Sample, I, A, K>,
+    seat: Seat<I, A, K>,
+    root: Key,
+) -> Seat<I, A, K> {
+    let left = 2_000u64.saturating_sub(desk.floor.lock(rt).items());
+    let mut source = Ticks::of(2_000, Terminal::Completed);
+    feed(rt, alloc, desk, seat, root, &mut source, left).seat
+}
+
+// Does so at one root, and then fills up at the other. Tells whether memory was refused.
+pub(super) fn feed_in_the_end<I: Ledger, A: Ledger, K: Ledger>(
+    rt: &impl Wait,
+    alloc: Global,
+    desk: &Desk<Sample, I, A, K>,
+    seat: Seat<I, A, K>,
+    told: &mut String,
+) -> Option<Seat<I, A, K>> {
+    let mut slots = NO_SLOTS;
+    let seat = make_all(rt, alloc, desk, seat, &mut slots, &ROOTS, told);
+    let mut scarce = Scarce::new(alloc).ok()?;
+    let (seat, refused) = refusals(rt, alloc, desk, seat, key_of(&slots, 0), &mut scarce);
+    drop(scarce);
+    tell(told, refused > Some(0));
+    Some(fill_up(rt, alloc, desk, seat, key_of(&slots, 1)))
+}
+
+// Two openings, the items and an end.
+const WANTED: [(Trial, &str); 1] = [(
+    Trial::Want,
+    "\
+(0, None)
+(1, None)
+true
+Ok(Totals { items: 2000, accepted: 0, taken: 0, held: 0, waiting: 0, len: 2003 })
+Some(1)
+Closed { released: 0, faults: 0 }
+",
+)];
+
 #[test]
-fn a_feed_that_is_refused_memory_has_receipts_of_what_it_wrote(
-    rt: HostRuntime,
-) -> Result<(), Fail> {
-    let (refused, items, len) = fed_in_the_end::<Brand, Brand, Brand>(&rt, rt.alloc(), blanks())?;
-    let refused = refused.ok_or("a feed wrote other than it says")?;
-    assert!(rt; refused > 0);
-    assert_eq!(rt; items, refused.saturating_add(1));
-    assert_eq!(rt; len, items.saturating_add(2));
-    Ok(())
+fn a_feed_that_is_refused_memory_has_receipts_of_what_it_wrote(rt: HostRuntime) {
+    assert_all(&rt, rt.alloc(), &WANTED);
 }

@@ -1,17 +1,16 @@
 //! A worker by itself: why it stops, and what it counts.
 
-ghost use Rattle.rx_ledger.specs.Shares.{Opens};
-
-use super::parts::blanks;
-use rx_book::{At, Book};
-use rx_crew::{Desk, Gate, Stop, worker};
+use super::desk_calls::{Call, Deed, NO_SLOTS, make_all};
+use super::parts::tell;
+use super::trials::{Trial, assert_all};
+use rx_crew::{Desk, Gate, worker};
+use rx_event::Place;
+use rx_ledger::Seat;
 use rx_resource::Sample;
 use std::alloc::Global;
-use std::marker::Brand;
 use std::sync::Wait;
 use std::sync::atomic::{AtomicU64, Ordering};
-use std::sync::ledger::{Blank, Ledger};
-use std::test::Fail;
+use std::sync::ledger::Ledger;
 
 // The sums of the numbers with which it was called before releases and after them.
 #[derive(Drop)]
@@ -30,62 +29,76 @@ impl Gate for Numbers {
     }
 }
 
-// What three workers do where three resources wait, one of them faulty: one of no turn, one of one
-// turn, and one of many at the desk that is shut then. Released, faults and why each stopped.
-fn worked<I: Ledger, A: Ledger, K: Ledger>(
+// A worker of so many turns: tells why it stopped, and how many it released. Answers its faults too.
+fn work_once<I: Ledger, A: Ledger, K: Ledger>(
     rt: &impl Wait,
-    alloc: Global,
-    blanks: (Blank, Blank, Blank),
+    desk: &Desk<Sample, I, A, K>,
+    seat: Seat<I, A, K>,
     gate: &Numbers,
-) -> Result<([u64; 3], u64, [Stop; 3]), Fail>
-    requires items { Opens I.name I.parts blanks.0.name blanks.0.parts }
-    requires accepted { Opens A.name A.parts blanks.1.name blanks.1.parts }
-    requires taken { Opens K.name K.parts blanks.2.name blanks.2.parts }
-{
-    let book = Book::new(alloc, 1000);
-    let (desk, mut seat) = Desk::<Sample, I, A, K>::new(book, blanks.0, blanks.1, blanks.2);
-    for resource in [Sample::new(2), Sample::faulty(3, 2), Sample::new(4)] {
-        let opened = match desk
-            .floor
-            .lock(rt)
-            .open_using(&mut seat, At::Root, resource)
-        {
-            Ok(opened) => opened,
-            Err(_) => return Err(Fail::from("nothing was opened")),
-        };
-        desk.floor.lock(rt).dispose(opened.key)?;
-    }
-    let none = worker(rt, &desk, seat, gate, 0);
-    let one = worker(rt, &desk, none.seat, gate, 1);
-    desk.floor.lock(rt).shut();
-    let rest = worker(rt, &desk, one.seat, gate, 9);
-    let faults = none
-        .faults
-        .saturating_add(one.faults)
-        .saturating_add(rest.faults);
-    let released = [none.released, one.released, rest.released];
-    Ok((released, faults, [none.stop, one.stop, rest.stop]))
+    turns: u64,
+    told: &mut String,
+) -> (Seat<I, A, K>, u64) {
+    let worked = worker(rt, desk, seat, gate, turns);
+    tell(told, (worked.stop, worked.released));
+    (worked.seat, worked.faults)
 }
 
-// The resources have the numbers 1, 4 and 7, and come out in any order.
-#[test]
-fn a_worker_stops_at_its_turns_and_at_a_shut_desk(rt: HostRuntime) -> Result<(), Fail> {
+// Three resources, one of them faulty, of roots that are closed.
+const LAID_OUT: [Call; 6] = [
+    Call::Using(Place::Root, 2),
+    Call::At(0, Deed::Dispose),
+    Call::Using(Place::Root, 3),
+    Call::At(3, Deed::Dispose),
+    Call::Using(Place::Root, 4),
+    Call::At(6, Deed::Dispose),
+];
+
+// Three workers where three resources wait, one of them faulty: one of no turn, one of one turn, and one of many
+// at the desk that is shut then. Tells the faults of all, and what the gate has added up.
+pub(super) fn work_thrice<I: Ledger, A: Ledger, K: Ledger>(
+    rt: &impl Wait,
+    alloc: Global,
+    desk: &Desk<Sample, I, A, K>,
+    seat: Seat<I, A, K>,
+    told: &mut String,
+) -> Option<Seat<I, A, K>> {
+    let seat = make_all(rt, alloc, desk, seat, &mut NO_SLOTS, &LAID_OUT, told);
     let gate = Numbers {
         before: AtomicU64::new(0),
         after: AtomicU64::new(0),
     };
-    let (released, faults, stops) = worked::<Brand, Brand, Brand>(
-        &rt,
-        rt.alloc(),
-        blanks(),
-        &gate,
-    )?;
-    let told = (
-        gate.before.load(Ordering::SeqCst),
-        gate.after.load(Ordering::SeqCst),
-    );
-    assert_eq!(rt; told, (12, 12));
-    assert_eq!(rt; (released, faults), ([0, 1, 2], 1));
-    assert_eq!(rt; stops, [Stop::Turns, Stop::Turns, Stop::Done]);
-    Ok(())
+    let (seat, none) = work_once(rt, desk, seat, &gate, 0, told);
+    let (seat, one) = work_once(rt, desk, seat, &gate, 1, told);
+    desk.floor.lock(rt).shut();
+    let (seat, rest) = work_once(rt, desk, seat, &gate, 9, told);
+    tell(told, none.saturating_add(one).saturating_add(rest));
+    let before = gate.before.load(Ordering::SeqCst);
+    tell(told, (before, gate.after.load(Ordering::SeqCst)));
+    Some(seat)
+}
+
+// The resources have the numbers 1, 4 and 7, and come out in any order.
+const WORKED: [(Trial, &str); 1] = [(
+    Trial::Workers,
+    "\
+Ok(0)
+Ok(2)
+Ok(3)
+Ok(5)
+Ok(6)
+Ok(8)
+(Turns, 0)
+(Turns, 1)
+(Done, 2)
+1
+(12, 12)
+Ok(Totals { items: 0, accepted: 3, taken: 3, held: 0, waiting: 0, len: 12 })
+None
+Closed { released: 0, faults: 0 }
+",
+)];
+
+#[test]
+fn a_worker_stops_at_its_turns_and_at_a_shut_desk(rt: HostRuntime) {
+    assert_all(&rt, rt.alloc(), &WORKED);
 }

@@ -3,10 +3,10 @@
 #![tactic(auto)]
 
 #[cfg(test)]
-mod asked;
-#[cfg(test)]
 mod lasting;
 #[cfg(test)]
 mod listed;
+#[cfg(test)]
+mod session;
 #[cfg(test)]
 mod want;

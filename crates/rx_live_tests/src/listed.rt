@@ -1,71 +1,64 @@
 //! What `list` says of each kind of node and each place, word for word.
 
-use crate::asked::expect;
-use rx_live::Live;
-use std::test::Fail;
+use crate::session::{Part, Row, first_other};
 
-// A session that has each kind of node, each place and each mode of a hub, line by line with what it is answered.
-const LINES: [(&str, &str); 15] = [
+// A session that has each kind of node, each place and each mode of a hub.
+const LINES: [Row; 15] = [
     (
-        "{\"do\":\"open\",\"name\":\"f\",\"place\":\"root\",\"kind\":\"flat\"}",
-        "{\"ok\":0}",
+        r#"{"do":"open","name":"f","place":"root","kind":"flat"}"#,
+        r#"{"ok":0}"#,
     ),
     (
-        "{\"do\":\"open\",\"name\":\"g\",\"place\":\"source\",\"of\":\"f\",\"kind\":\"leaf\"}",
-        "{\"ok\":1}",
+        r#"{"do":"open","name":"g","place":"source","of":"f","kind":"leaf"}"#,
+        r#"{"ok":1}"#,
     ),
     (
-        "{\"do\":\"next\",\"node\":\"g\",\"value\":7}",
-        "{\"ok\":2,\"notes\":[{\"to\":\"f\",\"project\":7}]}",
+        r#"{"do":"next","node":"g","value":7}"#,
+        r#"{"ok":2,"notes":[{"to":"f","project":7}]}"#,
     ),
     (
-        "{\"do\":\"open\",\"name\":\"i\",\"place\":\"inner\",\"of\":\"f\",\"kind\":\"leaf\"}",
-        "{\"ok\":3}",
+        r#"{"do":"open","name":"i","place":"inner","of":"f","kind":"leaf"}"#,
+        r#"{"ok":3}"#,
     ),
     (
-        "{\"do\":\"open\",\"name\":\"u\",\"place\":\"root\",\"kind\":\"until\"}",
-        "{\"ok\":4}",
+        r#"{"do":"open","name":"u","place":"root","kind":"until"}"#,
+        r#"{"ok":4}"#,
     ),
     (
-        "{\"do\":\"open\",\"name\":\"n\",\"place\":\"notifier\",\"of\":\"u\",\"kind\":\"leaf\"}",
-        "{\"ok\":5}",
+        r#"{"do":"open","name":"n","place":"notifier","of":"u","kind":"leaf"}"#,
+        r#"{"ok":5}"#,
     ),
     (
-        "{\"do\":\"open\",\"name\":\"s\",\"place\":\"source\",\"of\":\"u\",\"kind\":\"switch\"}",
-        "{\"ok\":6}",
+        r#"{"do":"open","name":"s","place":"source","of":"u","kind":"switch"}"#,
+        r#"{"ok":6}"#,
     ),
+    (r#"{"do":"hub","name":"h","mode":"auto"}"#, r#"{"ok":7}"#),
     (
-        "{\"do\":\"hub\",\"name\":\"h\",\"mode\":\"auto\"}",
-        "{\"ok\":7}",
+        r#"{"do":"open","name":"b","place":"root","kind":"sub","hub":"h","connection":"c"}"#,
+        r#"{"ok":8}"#,
     ),
+    (r#"{"do":"hub","name":"m","mode":"manual"}"#, r#"{"ok":10}"#),
     (
-        "{\"do\":\"open\",\"name\":\"b\",\"place\":\"root\",\"kind\":\"sub\",\"hub\":\"h\",\"connection\":\"c\"}",
-        "{\"ok\":8}",
+        r#"{"do":"using","name":"p","place":"root","res":"r"}"#,
+        r#"{"ok":11}"#,
     ),
+    (r#"{"do":"hold","node":"p","res":"q"}"#, r#"{"ok":13}"#),
+    (r#"{"do":"lease","res":"r","name":"l"}"#, r#"{"ok":14}"#),
+    (r#"{"do":"apply","res":"r","word":1}"#, r#"{"ok":15}"#),
     (
-        "{\"do\":\"hub\",\"name\":\"m\",\"mode\":\"manual\"}",
-        "{\"ok\":10}",
-    ),
-    (
-        "{\"do\":\"using\",\"name\":\"p\",\"place\":\"root\",\"res\":\"r\"}",
-        "{\"ok\":11}",
-    ),
-    (
-        "{\"do\":\"hold\",\"node\":\"p\",\"res\":\"q\"}",
-        "{\"ok\":13}",
-    ),
-    (
-        "{\"do\":\"lease\",\"res\":\"r\",\"name\":\"l\"}",
-        "{\"ok\":14}",
-    ),
-    ("{\"do\":\"apply\",\"res\":\"r\",\"word\":1}", "{\"ok\":15}"),
-    (
-        "{\"do\":\"open\",\"name\":\"d\",\"place\":\"root\",\"kind\":\"sub\",\"hub\":\"h\"}",
-        "{\"ok\":16}",
+        r#"{"do":"open","name":"d","place":"root","kind":"sub","hub":"h"}"#,
+        r#"{"ok":16}"#,
     ),
 ];
 
-const LIST: &str = "{\"do\":\"list\"}";
+const LIST: &str = r#"{"do":"list"}"#;
+
+const CHECKPOINT: &str = r#"{"do":"checkpoint"}"#;
+
+const CLOSING: Row = (
+    r#"{"do":"dispose","node":"p"}"#,
+    r#"{"ok":17,"release":["q"]}"#,
+);
 
 // What is listed of it.
 const ALL: &str = "{\"ok\":17,\"nodes\":[{\"name\":\"f\",\"kind\":\"flat\",\"place\":\"root\"},\
@@ -83,7 +76,14 @@ const ALL: &str = "{\"ok\":17,\"nodes\":[{\"name\":\"f\",\"kind\":\"flat\",\"pla
         \"hubs\":[{\"name\":\"h\",\"mode\":\"auto\",\"connected\":true,\"subscribers\":2},\
         {\"name\":\"m\",\"mode\":\"manual\",\"connected\":false,\"subscribers\":0}]}";
 
-// And once the node of both resources is closed, of which one is leased.
+const LISTED: [Part; 2] = [(1, &LINES), (1, &[(LIST, ALL)])];
+
+#[test]
+fn each_kind_and_each_place_is_listed(rt: HostRuntime) {
+    assert_eq!(rt; first_other(rt.alloc(), 100, &LISTED), Ok(None));
+}
+
+// Once the node of both resources is closed, of which one is leased.
 const LEASED: &str = "{\"ok\":19,\"nodes\":[{\"name\":\"f\",\"kind\":\"flat\",\"place\":\"root\"},\
         {\"name\":\"g\",\"kind\":\"leaf\",\"place\":\"source\",\"of\":\"f\"},\
         {\"name\":\"i\",\"kind\":\"leaf\",\"place\":\"inner\",\"of\":\"f\"},\
@@ -97,7 +97,25 @@ const LEASED: &str = "{\"ok\":19,\"nodes\":[{\"name\":\"f\",\"kind\":\"flat\",\"
         \"hubs\":[{\"name\":\"h\",\"mode\":\"auto\",\"connected\":true,\"subscribers\":2},\
         {\"name\":\"m\",\"mode\":\"manual\",\"connected\":false,\"subscribers\":0}]}";
 
-// And once nobody subscribes to the one hub, and the other is connected by hand.
+const CLOSED: [Part; 2] = [
+    (1, &LINES),
+    (
+        1,
+        &[
+            CLOSING,
+            (LIST, LEASED),
+            (CHECKPOINT, r#"{"ok":19}"#),
+            (LIST, LEASED),
+        ],
+    ),
+];
+
+#[test]
+fn what_is_closed_is_not_listed(rt: HostRuntime) {
+    assert_eq!(rt; first_other(rt.alloc(), 100, &CLOSED), Ok(None));
+}
+
+// Once nobody subscribes to the one hub, and the other is connected by hand.
 const CONNECTED: &str =
     "{\"ok\":23,\"nodes\":[{\"name\":\"f\",\"kind\":\"flat\",\"place\":\"root\"},\
         {\"name\":\"g\",\"kind\":\"leaf\",\"place\":\"source\",\"of\":\"f\"},\
@@ -110,51 +128,67 @@ const CONNECTED: &str =
         \"hubs\":[{\"name\":\"h\",\"mode\":\"auto\",\"connected\":false,\"subscribers\":0},\
         {\"name\":\"m\",\"mode\":\"manual\",\"connected\":true,\"subscribers\":0}]}";
 
-fn begin(live: &mut Live) -> Result<(), Fail> {
-    for (line, answer) in LINES.iter() {
-        expect(live, line, answer)?;
-    }
-    Ok(())
-}
+const BY_HAND: [Row; 8] = [
+    (CHECKPOINT, r#"{"ok":17}"#),
+    CLOSING,
+    (r#"{"do":"dispose","node":"b"}"#, r#"{"ok":19}"#),
+    (r#"{"do":"dispose","node":"d"}"#, r#"{"ok":20}"#),
+    (r#"{"do":"connect","hub":"m","name":"e"}"#, r#"{"ok":22}"#),
+    (LIST, CONNECTED),
+    (CHECKPOINT, r#"{"ok":23}"#),
+    (LIST, CONNECTED),
+];
+
+const OF_HUBS: [Part; 2] = [(1, &LINES), (1, &BY_HAND)];
 
 #[test]
-fn each_kind_and_each_place_is_listed(rt: HostRuntime) -> Result<(), Fail> {
-    let mut live = Live::new(rt.alloc(), 100);
-    begin(&mut live)?;
-    expect(&mut live, LIST, ALL)
+fn a_hub_is_listed_as_it_is_connected_now(rt: HostRuntime) {
+    assert_eq!(rt; first_other(rt.alloc(), 100, &OF_HUBS), Ok(None));
 }
 
-#[test]
-fn what_is_closed_is_not_listed(rt: HostRuntime) -> Result<(), Fail> {
-    let mut live = Live::new(rt.alloc(), 100);
-    begin(&mut live)?;
-    let dispose = "{\"do\":\"dispose\",\"node\":\"p\"}";
-    expect(&mut live, dispose, "{\"ok\":17,\"release\":[\"q\"]}")?;
-    expect(&mut live, LIST, LEASED)?;
-    expect(&mut live, "{\"do\":\"checkpoint\"}", "{\"ok\":19}")?;
-    expect(&mut live, LIST, LEASED)
-}
+// A resource that was used and is leased, and a subscriber of a hub that is connected by hand: over checkpoints, and
+// once the resource was used again.
+const USED_ONCE: &str =
+    "{\"ok\":8,\"nodes\":[{\"name\":\"a\",\"kind\":\"pass\",\"place\":\"root\"},\
+        {\"name\":\"b\",\"kind\":\"leaf\",\"place\":\"source\",\"of\":\"a\"},\
+        {\"name\":\"s\",\"kind\":\"sub\",\"hub\":\"h\",\"place\":\"root\"}],\
+        \"resources\":[{\"name\":\"r\",\"node\":\"a\",\"uses\":1}],\"leases\":[{\"name\":\"l\",\"res\":\"r\"}],\
+        \"hubs\":[{\"name\":\"h\",\"mode\":\"manual\",\"connected\":true,\"subscribers\":1}]}";
+
+const USED_TWICE: &str =
+    "{\"ok\":9,\"nodes\":[{\"name\":\"a\",\"kind\":\"pass\",\"place\":\"root\"},\
+        {\"name\":\"b\",\"kind\":\"leaf\",\"place\":\"source\",\"of\":\"a\"},\
+        {\"name\":\"s\",\"kind\":\"sub\",\"hub\":\"h\",\"place\":\"root\"}],\
+        \"resources\":[{\"name\":\"r\",\"node\":\"a\",\"uses\":2}],\"leases\":[{\"name\":\"l\",\"res\":\"r\"}],\
+        \"hubs\":[{\"name\":\"h\",\"mode\":\"manual\",\"connected\":true,\"subscribers\":1}]}";
+
+const OLD: [Row; 14] = [
+    (
+        r#"{"do":"using","name":"a","place":"root","res":"r"}"#,
+        r#"{"ok":0}"#,
+    ),
+    (
+        r#"{"do":"open","name":"b","place":"source","of":"a","kind":"leaf"}"#,
+        r#"{"ok":2}"#,
+    ),
+    (r#"{"do":"apply","res":"r","word":1}"#, r#"{"ok":3}"#),
+    (r#"{"do":"lease","res":"r","name":"l"}"#, r#"{"ok":4}"#),
+    (r#"{"do":"hub","name":"h","mode":"manual"}"#, r#"{"ok":5}"#),
+    (r#"{"do":"connect","hub":"h"}"#, r#"{"ok":6}"#),
+    (
+        r#"{"do":"open","name":"s","place":"root","kind":"sub","hub":"h"}"#,
+        r#"{"ok":7}"#,
+    ),
+    (LIST, USED_ONCE),
+    (CHECKPOINT, r#"{"ok":8}"#),
+    (LIST, USED_ONCE),
+    (CHECKPOINT, r#"{"ok":8}"#),
+    (r#"{"do":"apply","res":"r","word":1}"#, r#"{"ok":8}"#),
+    (LIST, USED_TWICE),
+    (r#"{"do":"dump"}"#, r#"{"ok":9,"since":8}"#),
+];
 
 #[test]
-fn a_hub_is_listed_as_it_is_connected_now(rt: HostRuntime) -> Result<(), Fail> {
-    let mut live = Live::new(rt.alloc(), 100);
-    begin(&mut live)?;
-    expect(&mut live, "{\"do\":\"checkpoint\"}", "{\"ok\":17}")?;
-    let dispose = "{\"do\":\"dispose\",\"node\":\"p\"}";
-    expect(&mut live, dispose, "{\"ok\":17,\"release\":[\"q\"]}")?;
-    expect(
-        &mut live,
-        "{\"do\":\"dispose\",\"node\":\"b\"}",
-        "{\"ok\":19}",
-    )?;
-    expect(
-        &mut live,
-        "{\"do\":\"dispose\",\"node\":\"d\"}",
-        "{\"ok\":20}",
-    )?;
-    let connect = "{\"do\":\"connect\",\"hub\":\"m\",\"name\":\"e\"}";
-    expect(&mut live, connect, "{\"ok\":22}")?;
-    expect(&mut live, LIST, CONNECTED)?;
-    expect(&mut live, "{\"do\":\"checkpoint\"}", "{\"ok\":23}")?;
-    expect(&mut live, LIST, CONNECTED)
+fn what_is_older_than_a_checkpoint_is_listed(rt: HostRuntime) {
+    assert_eq!(rt; first_other(rt.alloc(), 100, &[(1, &OLD)]), Ok(None));
 }

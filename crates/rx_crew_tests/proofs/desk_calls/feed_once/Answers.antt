@@ -1,0 +1,6 @@
+use Rattle.rx_crew_tests.proofs.TicksEnd.{ticks_end}
+use Rattle.rx_crew_tests.proofs.desk_calls.feed_once.Goals as goal
+
+pub feed-fed-requires-after_bounds : goal.feed-fed-requires-after_bounds
+feed-fed-requires-after_bounds g c κs within =
+    rw c.of-source.ensures.2 (ticks_end c.of-source.result.terminal c.of-source.result.left)

@@ -1,0 +1,216 @@
+//! What a desk says at its end of its seats and of the receipts that it is shown.
+
+use super::desk_calls::{Ask, Call, Deed, Hub, NO_SLOTS, make_all};
+use super::trials::{Trial, assert_all};
+use rx_crew::Desk;
+use rx_event::{Event, Kind, Place};
+use rx_ledger::{Receipt, Seat};
+use rx_resource::Sample;
+use std::alloc::Global;
+use std::sync::Wait;
+use std::sync::ledger::Ledger;
+
+// Seat A accepts a resource at root 0 and unsubscribes that.
+const ACCEPTS: [Call; 2] = [Call::Using(Place::Root, 7), Call::At(0, Deed::Dispose)];
+
+// Seat B takes and releases; a leaf stays open.
+const TAKES_IT: [Call; 2] = [Call::Take, Call::Open(Place::Root, Kind::Leaf)];
+
+// Both do so, and those that are to be there at the end are answered, together.
+pub(super) fn work<I: Ledger, A: Ledger, K: Ledger>(
+    rt: &impl Wait,
+    alloc: Global,
+    desk: &Desk<Sample, I, A, K>,
+    mut a: Seat<I, A, K>,
+    named: (bool, bool),
+    told: &mut String,
+) -> Option<Seat<I, A, K>> {
+    let mut slots = NO_SLOTS;
+    let b = a.split()?;
+    let mut a = make_all(rt, alloc, desk, a, &mut slots, &ACCEPTS, told);
+    let b = make_all(rt, alloc, desk, b, &mut slots, &TAKES_IT, told);
+    match named {
+        (true, true) => {
+            a.merge(b);
+            Some(a)
+        }
+        (true, false) => Some(a),
+        (false, true) => Some(b),
+        (false, false) => None,
+    }
+}
+
+const CLOSES_ROOT: Receipt = Receipt {
+    place: 2,
+    event: Event::Close(0),
+};
+
+const CLOSES_ANOTHER: Receipt = Receipt {
+    place: 2,
+    event: Event::Close(5),
+};
+
+const CLOSES_LATER: Receipt = Receipt {
+    place: 9,
+    event: Event::Close(0),
+};
+
+const TAKES: Receipt = Receipt {
+    place: 3,
+    event: Event::Take(1),
+};
+
+const AGREED: [(Trial, &str); 1] = [(
+    Trial::Work(true, true, &[CLOSES_ROOT, TAKES]),
+    "\
+Ok(0)
+Ok(2)
+Some((1, 7, 0))
+(4, None)
+Ok(Totals { items: 0, accepted: 1, taken: 1, held: 0, waiting: 0, len: 5 })
+Some(4)
+Closed { released: 0, faults: 0 }
+",
+)];
+
+#[test]
+fn two_seats_and_a_true_receipt_agree_with_the_book(rt: HostRuntime) {
+    assert_all(&rt, rt.alloc(), &AGREED);
+}
+
+const NONE_ACCEPTED: &str = "\
+Ok(0)
+Ok(2)
+Some((1, 7, 0))
+(4, None)
+Err(Accepted { shares: 0, book: 1 })
+Some(4)
+Closed { released: 0, faults: 0 }
+";
+
+const LEFT_OUT: [(Trial, &str); 3] = [
+    (
+        Trial::Work(true, false, &[]),
+        "\
+Ok(0)
+Ok(2)
+Some((1, 7, 0))
+(4, None)
+Err(Taken { shares: 0, book: 1 })
+Some(4)
+Closed { released: 0, faults: 0 }
+",
+    ),
+    (Trial::Work(false, true, &[]), NONE_ACCEPTED),
+    (Trial::Work(false, false, &[]), NONE_ACCEPTED),
+];
+
+#[test]
+fn a_seat_that_was_left_out_is_missed(rt: HostRuntime) {
+    assert_all(&rt, rt.alloc(), &LEFT_OUT);
+}
+
+const SECOND_IS_FALSE: &str = "\
+Ok(0)
+Ok(2)
+Some((1, 7, 0))
+(4, None)
+Err(Receipt { place: 2 })
+Some(4)
+Closed { released: 0, faults: 0 }
+";
+
+const FALSE: [(Trial, &str); 2] = [
+    (
+        Trial::Work(true, true, &[CLOSES_ANOTHER, CLOSES_LATER]),
+        SECOND_IS_FALSE,
+    ),
+    (
+        Trial::Work(true, true, &[TAKES, CLOSES_ANOTHER]),
+        SECOND_IS_FALSE,
+    ),
+];
+
+#[test]
+fn the_first_false_receipt_is_told(rt: HostRuntime) {
+    assert_all(&rt, rt.alloc(), &FALSE);
+}
+
+// Three items of a leaf, with a checkpoint before the last.
+const ITEMS: [Call; 7] = [
+    Call::Open(Place::Root, Kind::Leaf),
+    Call::At(0, Deed::Next(5)),
+    Call::At(0, Deed::Next(6)),
+    Call::Ask(Ask::Mail),
+    Call::Ask(Ask::Mail),
+    Call::Hub(Hub::Checkpoint),
+    Call::At(0, Deed::Next(7)),
+];
+
+const FIRST: Receipt = Receipt {
+    place: 1,
+    event: Event::Item(0, 5),
+};
+
+const SECOND: Receipt = Receipt {
+    place: 2,
+    event: Event::Item(0, 6),
+};
+
+const THIRD: Receipt = Receipt {
+    place: 3,
+    event: Event::Item(0, 7),
+};
+
+const AROUND: [(Trial, &str); 3] = [
+    (
+        Trial::Calls(1000, &ITEMS, &[THIRD]),
+        "\
+(0, None)
+Ok(1)
+Ok(2)
+Some(Mail { place: 1, to: 0, note: Next(5) })
+Some(Mail { place: 2, to: 0, note: Next(6) })
+Ok(3)
+Ok(3)
+Ok(Totals { items: 3, accepted: 0, taken: 0, held: 0, waiting: 0, len: 4 })
+Some(0)
+Closed { released: 0, faults: 0 }
+",
+    ),
+    (
+        Trial::Calls(1000, &ITEMS, &[THIRD, FIRST]),
+        "\
+(0, None)
+Ok(1)
+Ok(2)
+Some(Mail { place: 1, to: 0, note: Next(5) })
+Some(Mail { place: 2, to: 0, note: Next(6) })
+Ok(3)
+Ok(3)
+Err(Receipt { place: 1 })
+Some(0)
+Closed { released: 0, faults: 0 }
+",
+    ),
+    (
+        Trial::Calls(1000, &ITEMS, &[THIRD, SECOND]),
+        "\
+(0, None)
+Ok(1)
+Ok(2)
+Some(Mail { place: 1, to: 0, note: Next(5) })
+Some(Mail { place: 2, to: 0, note: Next(6) })
+Ok(3)
+Ok(3)
+Err(Receipt { place: 2 })
+Some(0)
+Closed { released: 0, faults: 0 }
+",
+    ),
+];
+
+#[test]
+fn a_receipt_of_what_came_before_a_checkpoint_stands_no_longer(rt: HostRuntime) {
+    assert_all(&rt, rt.alloc(), &AROUND);
+}
