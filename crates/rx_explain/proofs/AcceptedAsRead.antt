@@ -54,14 +54,13 @@ pub scenario_in_place : (input : List ℕ) (d : Data) (r : Option Script) (is : 
 scenario_in_place input d r is json reading same e other =
     same ∙ ap is_some reading ∙ ap (λ (v : Data). is_some (scenario_of v)) (same_Some _ _ (sym json.value ∙ other.value))
 
--- nothing is said of a scenario
-pub scenario_told : {X : Type 0} (d : Data) (told : Option X) → is_none told ≡ is_some (scenario_of d) → SaysNothingWhere (IsScenario d) told
-scenario_told d None is = scenario_some (scenario_of d) is refl
-  where
-    scenario_some : (r : Option Script) → true ≡ is_some r → scenario_of d ≡ r → IsScenario d
-    scenario_some None is reading = absurd (false≢true (sym is))
-    scenario_some (Some script) is reading = record { script = script; reading = reading }
-scenario_told d (Some told) is = λ other. false≢true (is ∙ ap is_some other.reading)
+-- what is read as a script is a scenario
+scenario_some : (d : Data) (r : Option Script) → true ≡ is_some r → scenario_of d ≡ r → IsScenario d
+scenario_some d None is reading = absurd (false≢true (sym is))
+scenario_some d (Some script) is reading = record { script = script; reading = reading }
+
+pub scenario_read : (d : Data) → true ≡ is_some (scenario_of d) → IsScenario d
+scenario_read d is = scenario_some d (scenario_of d) is refl
 
 -- nothing is said of a dump where the verdict on its history is `lawful`
 dump_told : {X : Type 0} (d : Data) (h : List Event) (v : Verdict) (told : Option X) → history_of d ≡ Some h → IsVerdict h v → is_none told ≡ is_lawful v →

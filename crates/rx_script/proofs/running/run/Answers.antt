@@ -11,13 +11,13 @@ returns-in_err-text-clause-syntax g c = λ is.
     inr (record {
       input = c.in_ok-input.input.items;
       whole = c.in_ok-input.ensures.ok;
-      no_json = λ d json. c.in_err-text.ensures.syntax back d (subst (λ s. IsJsonOf s d) (sym c.as_slice.ensures.value) json);
+      no_json = λ d json. c.output_of_input.ensures.syntax back d (subst (λ s. IsJsonOf s d) (sym c.as_slice.ensures.value) json);
     })
 
 pub returns-in_err-text-clause-shape : goal.returns-in_err-text-clause-shape
 returns-in_err-text-clause-shape g c = λ is.
     let back : IsErrOf c.output_of_input.result ScriptError.Shape = grind arith in
-    let none : HasNoOutput c.as_slice.result.now c.args.form = c.in_err-text.ensures.shape back in
+    let none : HasNoOutput c.as_slice.result.now c.args.form = c.output_of_input.ensures.shape back in
     record {
       value = none.value;
       gave = record {
