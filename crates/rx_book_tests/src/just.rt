@@ -73,11 +73,11 @@ fn fill(book: &mut Probe<Sample>, full: Full) -> Result<Asking, Fail> {
     }
 }
 
-// Room for 5 events, then 10, 20 and so on: 320 are the opening and its resource, 315 uses, and what
+// Room for 8 events, then 16, 32 and so on: 256 are the opening and its resource, 251 uses, and what
 // closing both needs.
 fn fill_events(book: &mut Probe<Sample>) -> Result<Asking, Fail> {
     let res = book.open_using(At::Root, Sample::new(1))?.res;
-    for _ in 0..315 {
+    for _ in 0..251 {
         book.apply(res, 1)?;
     }
     Ok(Asking::Apply(res))
@@ -164,7 +164,7 @@ fn for_others(nodes: usize, resources: usize) -> Room {
 #[test]
 fn a_use_or_an_item_takes_just_the_memory_that_it_needs(rt: HostRuntime) -> Result<(), Fail> {
     let needs = [
-        (Full::Events, for_events(639), for_events(640)),
+        (Full::Events, for_events(511), for_events(512)),
         (Full::Notes, for_notes(127), for_notes(128)),
     ];
     are_met_by_just(&rt, rt.alloc(), &needs)
