@@ -1,16 +1,15 @@
 /* The library rx: a book of subscriptions behind a handle, by calls on numbers.
  *
- * A resource stays with the caller: the book holds a tag in its place, which is any number of the caller's (a file
- * descriptor, an index into a table of the caller's), and hands each tag back exactly once, by rx_book_take,
- * rx_book_drain or a call that tells, once the node that held it is closed and no lease of it is out. The caller then
- * releases what it stands for.
+ * A resource stays with the caller. The book holds a tag in its place: any number, such as a file descriptor or an
+ * index into a table. Once the node that held it is closed and no lease of it is out, rx_book_take, rx_book_drain or a
+ * _told call hands the tag back, and the caller releases what it stands for.
  *
- * Each call answers a status, and writes the rest through pointers, all of which are written whatever the status is (with
- * zeros where there is nothing to say). No pointer may be null, none is kept, and no two may overlap.
+ * Each call answers a status, and writes the rest through pointers, whatever the status is (zeros if there is nothing to
+ * say). No pointer may be null, none is kept, and no two may overlap.
  *
  * Of any calls on one handle, from rx_book_new until rx_book_finish answers 0: each tag that rx_book_using or
- * rx_book_hold took in with the status 0 is told exactly once, and no other tag is; and the notes of all events are told in
- * order, each once, but for those that are still left then. */
+ * rx_book_hold took in with the status 0 comes back exactly once, and no other tag does; and the notes of all events come
+ * in order, each once, but for those that are still left then. This is proved. */
 #ifndef RX_BOOK_H
 #define RX_BOOK_H
 
@@ -23,14 +22,14 @@ extern "C" {
 
 /* What crosses --------------------------------------------------------------------------------------------- */
 
-/* A handle, which keeps a book or nothing: `struct rx_book book = {0};`. It is zeros before the first call on it, and the
- * library's from then on. It is never copied, since two copies would own one book; it may be moved while no call runs. One
- * call at a time is made on it, from whatever thread: threads that share one put it behind a mutex of their own. */
+/* A handle, which keeps a book or nothing: `struct rx_book book = {0};`. It is zeros before the first call on it; from then
+ * on only the library reads or writes it. Never copy it, since two copies would own one book; it may be moved while no call
+ * runs. Make one call on it at a time, from any thread: threads that share one put it behind a mutex of their own. */
 struct rx_book {
   void *at; /* neither read nor written by the caller */
 };
 
-/* Keys are plain values, and may be copied, kept, and passed when what they name is gone: the book then answers RX_GONE,
+/* Keys are plain values, and may be copied, kept, and passed after what they name is gone: the answer is then RX_GONE,
  * RX_NOT_HELD or RX_NO_LEASE. `number` is the place of the event that made it, and is never given twice. */
 struct rx_node {
   uint64_t slot, number;
@@ -47,11 +46,11 @@ enum rx_kind { RX_LEAF = 0, RX_PASS = 1, RX_FLAT = 2, RX_SWITCH = 3, RX_UNTIL = 
 enum rx_how { RX_COMPLETED = 0, RX_FAILED = 1 };
 enum rx_mode { RX_AUTO = 0, RX_MANUAL = 1 };
 
-/* A node, and where its opening connected a hub (RefCount) that connection. */
+/* A node and, if its opening connected a hub (RefCount), that connection. */
 struct rx_opened {
   struct rx_node node;
   struct rx_node connection;
-  uint8_t is_connected; /* 1 where there is one */
+  uint8_t is_connected; /* 1 if there is one */
 };
 
 /* A node that was opened with a resource. */
@@ -62,9 +61,9 @@ struct rx_using {
 
 enum rx_note { RX_NEXT = 0, RX_PROJECT = 1, RX_ON_COMPLETED = 2, RX_ON_ERROR = 3 };
 
-/* What an observer is told. */
+/* What an observer receives. */
 struct rx_mail {
-  uint64_t place; /* of the event that told it */
+  uint64_t place; /* of the event that brought it */
   uint64_t to;    /* the number of the root, or of the FlatMap or Switch that is to project the item */
   int64_t value;  /* the item, or the code of the error */
   uint8_t kind;   /* enum rx_note */
@@ -76,7 +75,7 @@ enum rx_book_status {
   RX_NOTHING_WAITS = 2, /* there is none: no resource, no note, no such node (rx_book_owed) or event (rx_book_event) */
   RX_HELD = 3,          /* rx_book_new: the handle keeps a book already */
   RX_NO_MEMORY = 4,     /* memory was refused: nothing changed */
-  RX_NO_SUCH_CODE = 5,  /* a number of the call is none of its enum: nothing changed */
+  RX_NO_SUCH_CODE = 5,  /* a number is not a value of its enum: nothing changed */
   RX_UNTAKEN = 6,       /* rx_book_finish: a resource was not taken yet; nothing changed */
   RX_SMALL = 7,         /* rx_book_dump: the buffer is too small; nothing was written */
   RX_CUT = 8,           /* rx_book_dump: a checkpoint took events away; nothing was written */
@@ -102,17 +101,16 @@ enum rx_book_status {
 
 /* The book ------------------------------------------------------------------------------------------------- */
 
-/* Makes a book in a handle that keeps nothing: 0, 3 or 4. Its history may have `max_events` since its last checkpoint, those that
- * closing everything may need counted in. Where it is full by its age a call is refused RX_FULL: take the notes, call
- * rx_book_checkpoint, and call again. */
+/* Makes a book in a handle that keeps nothing: 0, 3 or 4. Its history may have `max_events` since its last checkpoint, counting
+ * those that closing everything may need. When it is full a call is refused RX_FULL: take the notes, call rx_book_checkpoint,
+ * and call again. */
 uint8_t rx_book_new(struct rx_book *book, uint32_t max_events);
 
-/* Ends a book and gives back its memory, if each resource that it ever accepted was taken: 0, 1 or 6. A program that ends its
- * books by rx_book_close, rx_book_take until none waits, and this has lost no tag. Notes that were not taken are lost. */
+/* Ends a book and frees it, if each resource that it ever accepted was taken: 0, 1 or 6. To lose no tag, call rx_book_close,
+ * rx_book_take until none waits, and then this. Notes that were not taken are lost. */
 uint8_t rx_book_finish(struct rx_book *book);
 
-/* Gives back the memory of what the handle keeps, whatever that is, and leaves it keeping nothing; it cannot fail. Tags that
- * were not taken are lost. */
+/* Frees whatever the handle keeps, so that it keeps nothing; it cannot fail. Tags that were not taken are lost. */
 void rx_book_drop(struct rx_book *book);
 
 /* Opening -------------------------------------------------------------------------------------------------- */
@@ -131,14 +129,14 @@ uint8_t rx_book_hold(struct rx_book *book, struct rx_node node, uint64_t tag, st
 
 uint8_t rx_book_next(struct rx_book *book, struct rx_node leaf, int64_t value, uint64_t *place);
 
-/* Emits several items, one after another, up to the first that is refused: `count` gets how many were emitted, and the status is
- * that refusal's, or 0. It is as so many calls of rx_book_next. `values` is not null even where there are none. */
+/* Emits several items, as so many calls of rx_book_next, up to the first that is refused: `count` gets how many were emitted,
+ * and the status is that refusal's, or 0. `values` is not null even if there are none. */
 uint8_t rx_book_next_all(struct rx_book *book, struct rx_node leaf, const int64_t *values, size_t length, size_t *count);
 
 /* A leaf ends: RX_COMPLETED, or RX_FAILED with the code `error`. */
 uint8_t rx_book_end(struct rx_book *book, struct rx_node leaf, uint8_t how, uint32_t error, uint64_t *place);
 
-/* A node that is no leaf fails; a FlatMap or a Switch fails in the place of an inner that it owes; it declines one. */
+/* A node that is not a leaf fails; a FlatMap or a Switch fails in place of an inner that it owes, or declines one. */
 uint8_t rx_book_abort(struct rx_book *book, struct rx_node node, uint32_t error, uint64_t *place);
 uint8_t rx_book_fail(struct rx_book *book, struct rx_node merging, uint32_t error, uint64_t *place);
 uint8_t rx_book_decline(struct rx_book *book, struct rx_node merging, uint64_t *place);
@@ -156,31 +154,31 @@ uint8_t rx_book_remove(struct rx_book *book, struct rx_res res, uint64_t *place)
 uint8_t rx_book_lease(struct rx_book *book, struct rx_res res, struct rx_lease *lease);
 uint8_t rx_book_give_back(struct rx_book *book, struct rx_lease lease, uint64_t *place);
 
-/* What is told, and what is to be released ------------------------------------------------------------------ */
+/* Notes, and resources to release --------------------------------------------------------------------------- */
 
-/* The next note: 0, or 2 where none is left. */
+/* The next note: 0, or 2 if none is left. */
 uint8_t rx_book_take_mail(struct rx_book *book, struct rx_mail *mail);
 
-/* A resource that is to be released now: its number, which its key has, and the caller's tag. */
+/* A resource to release now: its number, which its key has, and its tag. */
 struct rx_taken {
   uint64_t number, tag;
 };
 
-/* One of them: 0, or 2 where none waits. */
+/* One of them: 0, or 2 if none waits. */
 uint8_t rx_book_take(struct rx_book *book, struct rx_taken *taken);
 
 struct rx_drained {
   uint64_t mails, resources; /* how many */
 };
 
-/* Both at once, to the front of two arrays, as many as fit: where fewer were drained than an array has room for, none is left.
- * The arrays are initialized memory, and not null even where their room is 0. */
+/* Both at once, to the front of two arrays, as many as fit: if fewer were drained than an array has room for, none is left.
+ * The arrays are initialized memory, and not null even if their room is 0. */
 uint8_t rx_book_drain(struct rx_book *book, struct rx_mail *mails, size_t room_for_mails, struct rx_taken *resources,
                       size_t room_for_resources, struct rx_drained *drained);
 
-/* Calls that tell at once: as the calls above, and then what rx_book_drain would hand out, as many as there is room for. Where
- * `mails` or `resources` is RX_ROOM more may be left, for rx_book_drain or the next of these. They tell what waits whatever the
- * status is; only with 1 and 5 nothing is told, and the arrays stay as they are. */
+/* Calls as above that then store what rx_book_drain would, as many as there is room for. If `mails` or `resources` is RX_ROOM,
+ * more may be left, for rx_book_drain or the next of these. They store what waits whatever the status is; only with 1 and 5
+ * they store nothing, and the arrays stay as they are. */
 enum { RX_ROOM = 4 };
 
 struct rx_told {
@@ -213,7 +211,7 @@ struct rx_counts {
 uint8_t rx_book_is_open(struct rx_book *book, struct rx_node node, uint8_t *is_open);
 uint8_t rx_book_is_held(struct rx_book *book, struct rx_res res, uint8_t *is_held);
 
-/* How many items that were projected to an open FlatMap or Switch are owed an inner; 2 where the key is of no such node. */
+/* How many items that were projected to an open FlatMap or Switch are owed an inner; 2 if the key is of no such node. */
 uint8_t rx_book_owed(struct rx_book *book, struct rx_node merging, uint64_t *count);
 
 uint8_t rx_book_counts(struct rx_book *book, struct rx_counts *counts);
@@ -242,17 +240,17 @@ struct rx_event {
   int64_t value;
 };
 
-/* The event at this place: 0, or 2 where there is none since the last checkpoint. */
+/* The event at this place: 0, or 2 if there is none since the last checkpoint. */
 uint8_t rx_book_event(struct rx_book *book, uint64_t place, struct rx_event *event);
 
-/* Writes the history so far as a dump, which rx_audit of rx.h judges, to the front of the buffer; `told` gets its length. 7 where
- * the buffer is too small, and `told` is then what it needs; 8 where a checkpoint took events away; 4. */
+/* Writes the history so far as a dump, which rx_audit of rx.h judges, to the front of the buffer; `told` gets its length. 7 if
+ * the buffer is too small, and `told` is then what it needs; 8 if a checkpoint took events away; 4. */
 uint8_t rx_book_dump(struct rx_book *book, uint8_t *buffer, size_t size, size_t *told);
 
-/* Puts what the history leaves in the place of its events, and gives their memory back; RX_MAIL_LEFT while a note is left. */
+/* Replaces the events by what they left, and frees them; RX_MAIL_LEFT while a note is left. */
 uint8_t rx_book_checkpoint(struct rx_book *book, uint64_t *place);
 
-/* Gives back all leases, unsubscribes all roots and disconnects all hubs: nothing is open, held or leased afterwards, and each
+/* Returns all leases, unsubscribes all roots and disconnects all hubs: nothing is open, held or leased afterwards, and each
  * resource waits to be taken. It takes no memory and cannot be refused: 0 or 1. */
 uint8_t rx_book_close(struct rx_book *book);
 

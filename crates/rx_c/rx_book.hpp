@@ -97,24 +97,24 @@ class ending {
   std::uint32_t error_;
 };
 
-// What a call told, and its status. Notes and resources are to be dealt with whatever the status is.
+// What a call brought, and its status. Deal with notes and resources whatever the status is.
 struct [[nodiscard]] told {
   status why = done;
   rx_told all{};
 
   explicit operator bool() const noexcept { return why == done; }
 
-  // Hands each note to the one function and each resource that is to be released to the other.
+  // Hands each note to the one function and each resource to release to the other.
   template <class Note, class Release>
   void each(Note &&note, Release &&release) const {
     for (std::uint64_t i = 0; i < all.mails; i++) note(all.mail[i]);
     for (std::uint64_t i = 0; i < all.resources; i++) release(all.resource[i]);
   }
-  // More may be left, for `drain` or the next call that tells.
+  // More may be left, for `drain` or the next _told call.
   bool is_full() const noexcept { return all.mails == RX_ROOM || all.resources == RX_ROOM; }
 };
 
-// The calls on a handle. One at a time is made on it, from whatever thread.
+// The calls on a handle. Make one at a time, from any thread.
 class calls {
  public:
   status make(std::uint32_t max_events) noexcept { return status{rx_book_new(&book_, max_events)}; }
@@ -187,7 +187,7 @@ class calls {
     return placed([&](std::uint64_t *place) { return rx_book_give_back(&book_, given, place); });
   }
 
-  // The same, and what waits is told.
+  // The same, and then what waits.
   std::pair<result<rx_opened>, told> open_told(at where, kind what) noexcept {
     rx_opened opened{};
     told out;
