@@ -19,11 +19,11 @@
 //! # }
 //! ```
 //!
-//! A `Book<T, R>` has items of the type `T` and resources of the type `R`. Who emits an item reads with [`Book::take_mail`] who is
-//! told it; what was held by a node that closed comes out of [`Book::take`], and is released by dropping it. A refused call changes
-//! nothing, and hands back what it was given. Dropping a book closes it and drops every resource that is left.
+//! A `Book<T, R>` has items of the type `T` and resources of the type `R`. After you emit an item, [`Book::take_mail`] says which
+//! observers receive it. [`Book::take`] hands out what a closed node held; drop it to release it. A refused call changes nothing, and
+//! hands back what it was given. Dropping a book closes it and drops every resource that is left.
 //!
-//! Keys do not mix: one of a resource or a lease is none of a node, and that of another book is refused.
+//! Keys do not mix: the key of a resource or a lease is not one of a node, and a key of another book is refused.
 //!
 //! ```compile_fail
 //! # use cellarcliff::{Book, Refusal, Res};
@@ -32,7 +32,7 @@
 //! }
 //! ```
 //!
-//! Not proved is this crate, which the tests try, and not what a caller does with a resource once it has it.
+//! This crate is tested, not proved; nor is proved what a caller does with a resource once it has it.
 #![deny(missing_docs)]
 
 mod event;
@@ -139,20 +139,20 @@ pub enum Terminal {
 /// What a note says.
 #[derive(Clone, Debug, PartialEq, Eq)]
 pub enum What<T> {
-    /// A root is told the item.
+    /// A root receives the item.
     Next(T),
     /// A FlatMap or a Switch is owed an inner observable for the item.
     Project(T),
-    /// A root is told the end.
+    /// A root receives the end.
     End(Terminal),
 }
 
-/// A note: the number of the root or operator, and what it is told.
+/// A note: the number of the root or operator, and what it receives.
 #[derive(Clone, Debug, PartialEq, Eq)]
 pub struct Mail<T> {
     /// The number of its key.
     pub to: u64,
-    /// What it is told.
+    /// What it receives.
     pub what: What<T>,
 }
 
@@ -184,13 +184,13 @@ pub enum Refusal {
     Full,
     /// The node is closed.
     Gone,
-    /// The node or hub takes no such call, or has no such place.
+    /// The node or hub does not take this call, or has no such place.
     WrongKind,
     /// The place was opened before.
     PlaceTaken,
     /// No item is owed an inner observable.
     NothingOwed,
-    /// The node is no root.
+    /// The node is not a root.
     NotRoot,
     /// There is no such hub.
     NoHub,
@@ -286,8 +286,8 @@ pub struct Counts {
 
 /// A book of subscriptions, with items of the type `T` and resources of the type `R`.
 ///
-/// It may go to another thread where `T` and `R` may. Threads that share one put it into a `Mutex`: a call takes some hundred
-/// nanoseconds, and what it told is read, and resources are dropped, outside the lock.
+/// It may go to another thread if `T` and `R` may. Threads that share one put it into a `Mutex`: a call takes some hundred
+/// nanoseconds; read its notes and drop resources outside the lock.
 pub struct Book<T, R> {
     id: u64, // of which its keys have a copy
     handle: Handle,
@@ -307,12 +307,12 @@ static BOOKS: AtomicU64 = AtomicU64::new(1);
 const FOREIGN: u64 = u64::MAX;
 
 impl<T: Clone, R> Book<T, R> {
-    /// A new book. Its history is bounded by memory alone, since it makes checkpoints by itself.
+    /// A new book. Only memory bounds its history, since it makes checkpoints by itself.
     pub fn new() -> Result<Self, Refusal> {
         Self::with_room(u32::MAX)
     }
 
-    /// A new book whose history has so many events at most, with those that closing everything may need.
+    /// A new book whose history has at most so many events, counting those that closing everything may need.
     pub fn with_room(max_events: u32) -> Result<Self, Refusal> {
         let mut handle = Handle { at: std::ptr::null_mut() };
         // SAFETY: the handle is zeros, and lives.
@@ -462,7 +462,7 @@ impl<T: Clone, R> Book<T, R> {
         Ok(Opened { node: self.made(opened.node), connection })
     }
 
-    /// Opens a mirroring node that holds the resource; refused it hands that back.
+    /// Opens a mirroring node that holds the resource; a refusal hands that back.
     pub fn using(&mut self, at: At, resource: R) -> Result<Using, Refused<R>> {
         let (place, above) = self.place(at);
         let tag = self.tag();
@@ -477,7 +477,7 @@ impl<T: Clone, R> Book<T, R> {
         Ok(Using { node: self.made(used.get().node), res: Res { key: used.get().res, tag, book: self.id } })
     }
 
-    /// Lets a node hold the resource; refused it hands that back.
+    /// Lets a node hold the resource; a refusal hands that back.
     pub fn hold(&mut self, node: Node, resource: R) -> Result<Res, Refused<R>> {
         let tag = self.tag();
         let held = std::cell::Cell::new(ffi::Key::default());
@@ -495,7 +495,7 @@ impl<T: Clone, R> Book<T, R> {
         }
     }
 
-    /// The leaf emits the item; refused it hands that back.
+    /// The leaf emits the item; a refusal hands that back.
     pub fn next(&mut self, leaf: Node, item: T) -> Result<(), Refused<T>> {
         let leaf = self.node(leaf);
         // SAFETY: these live and are apart; so in the calls below.
@@ -513,13 +513,13 @@ impl<T: Clone, R> Book<T, R> {
         self.plainly(|handle, told| unsafe { ffi::rx_book_end_told(handle, leaf, how, error, told) })
     }
 
-    /// A node that is no leaf, and has none below it, fails.
+    /// A node fails that is not a leaf and has nothing open below it.
     pub fn abort(&mut self, node: Node, error: u32) -> Result<(), Refusal> {
         let node = self.node(node);
         self.plainly(|handle, told| unsafe { ffi::rx_book_abort_told(handle, node, error, told) })
     }
 
-    /// A FlatMap or a Switch fails in the place of an inner observable that it owes.
+    /// A FlatMap or a Switch fails instead of an inner observable that it owes.
     pub fn fail(&mut self, merging: Node, error: u32) -> Result<(), Refusal> {
         let merging = self.node(merging);
         self.plainly(|handle, told| unsafe { ffi::rx_book_fail_told(handle, merging, error, told) })
@@ -537,7 +537,7 @@ impl<T: Clone, R> Book<T, R> {
         self.plainly(|handle, told| unsafe { ffi::rx_book_dispose_told(handle, root, told) })
     }
 
-    /// Makes a hub; there are 1,024 at most.
+    /// Makes a hub; a book has at most 1,024.
     pub fn hub(&mut self, mode: Mode) -> Result<Hub, Refusal> {
         let number = std::cell::Cell::new(0);
         match self.call(|handle, _| unsafe { ffi::rx_book_hub(handle, (mode == Mode::Manual) as u8, number.as_ptr()) }) {
@@ -572,13 +572,13 @@ impl<T: Clone, R> Book<T, R> {
         }
     }
 
-    /// Takes a resource from its node.
+    /// Takes a resource off its node.
     pub fn remove(&mut self, res: Res) -> Result<(), Refusal> {
         let held = self.own(res.key, res.book);
         self.plainly(|handle, told| unsafe { ffi::rx_book_remove_told(handle, held, told) })
     }
 
-    /// Gives out a lease, before whose return the resource is not released.
+    /// Gives out a lease; the resource is not released before its return.
     pub fn lease(&mut self, res: Res) -> Result<Lease, Refusal> {
         let key = std::cell::Cell::new(ffi::Key::default());
         let held = self.own(res.key, res.book);
@@ -599,7 +599,7 @@ impl<T: Clone, R> Book<T, R> {
         self.mail.pop_front()
     }
 
-    /// A resource that is to be released now: drop it.
+    /// A resource to release now: drop it.
     pub fn take(&mut self) -> Option<R> {
         self.waiting.pop_front()
     }
@@ -635,8 +635,8 @@ impl<T: Clone, R> Book<T, R> {
         Counts { nodes: it.nodes, held: it.held, waiting, leases: it.leases, accepted: it.accepted, events: it.events }
     }
 
-    /// The event at this place of the history; None where it has not come yet, or a checkpoint took it away. A checkpoint is made
-    /// by `checkpoint`, and by a call for which the history has no room. Where a history is to be whole, read its events before.
+    /// The event at this place of the history; None if it has not come yet, or a checkpoint took it away. `checkpoint` makes one, and
+    /// so does a call for which the history has no room. To keep the whole history, read its events before.
     ///
     /// ```
     /// # use cellarcliff::{At, Book, Kind};
@@ -652,13 +652,13 @@ impl<T: Clone, R> Book<T, R> {
         (unsafe { ffi::rx_book_event(&mut self.handle, place, &mut event) } == 0).then_some(Event(event))
     }
 
-    /// Puts what is open in the place of the events so far, and gives their memory back: whether it could be done.
+    /// Replaces the events so far by what they left, and frees them. Answers whether it could be done.
     pub fn checkpoint(&mut self) -> bool {
         let mut place = 0;
         unsafe { ffi::rx_book_checkpoint(&mut self.handle, &mut place) == 0 }
     }
 
-    /// Closes all and takes leases back: what was held comes out of `take`.
+    /// Closes everything and returns all leases; what was held comes out of `take`.
     pub fn close(&mut self) {
         unsafe { ffi::rx_book_close(&mut self.handle) };
         let mut notes = Vec::new();
