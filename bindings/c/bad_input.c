@@ -113,7 +113,7 @@ static void nothing_kept(void) {
   MUST(rx_book_finish(&book) == want);
 }
 
-/* The whole history, and how many notes there are is told by it. */
+/* The whole history, as a dump. */
 static void write_history(uint8_t *buffer, size_t size, size_t *length) {
   memset(buffer, 0, size);
   MUST(rx_book_dump(&book, buffer, size, length) == RX_BOOK_DONE);

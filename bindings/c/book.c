@@ -7,7 +7,7 @@ static FILE *files[FILES]; /* what a tag stands for */
 
 static void hear(const struct rx_told *told) {
   for (uint64_t i = 0; i < told->mails; i++)
-    printf("node %llu is told %lld\n", (unsigned long long)told->mail[i].to, (long long)told->mail[i].value);
+    printf("node %llu receives %lld\n", (unsigned long long)told->mail[i].to, (long long)told->mail[i].value);
   for (uint64_t i = 0; i < told->resources; i++) {
     fclose(files[told->resource[i].tag]);
     printf("file %llu is closed\n", (unsigned long long)told->resource[i].tag);

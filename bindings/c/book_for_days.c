@@ -1,5 +1,5 @@
 /* A program that runs for days: calls of all kinds on one book, with a checkpoint each 100,000 events. No call is refused, memory
- * does not grow, and each resource is told once. Usage: book_for_days CALLS */
+ * does not grow, and each resource comes back once. Usage: book_for_days CALLS */
 #define _POSIX_C_SOURCE 199309L
 #include <rx_book.h>
 #include <stdio.h>

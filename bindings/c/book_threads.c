@@ -1,5 +1,5 @@
-/* Threads share a book behind a mutex of the program's: what is told and what is to be released comes out with the call, and
- * is dealt with outside the lock. */
+/* Threads share a book behind a mutex of the program. Each call brings its notes and resources to release, which the thread
+ * handles outside the lock. */
 #include <rx_book.h>
 #include <pthread.h>
 #include <stdatomic.h>

@@ -67,7 +67,7 @@ int main(void) {
   MUST(rx_book_new(&book, 1000) == RX_BOOK_DONE);
   MUST(rx_book_new(&book, 1000) == RX_HELD);
 
-  /* A Using is told an item and is disposed of. */
+  /* A Using receives an item and is disposed of. */
   MUST(rx_book_using(&book, RX_ROOT, none, 0, &used) == 0);
   MUST(rx_book_open(&book, RX_SOURCE, used.node, RX_LEAF, 0, &leaf) == 0);
   MUST(rx_book_open(&book, RX_SOURCE, used.node, RX_LEAF, 0, &under) == RX_PLACE_TAKEN && under.node.number == 0);

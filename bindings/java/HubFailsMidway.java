@@ -18,8 +18,8 @@ public class HubFailsMidway {
         var h = Observable.using(() -> { say("made r" + ++made); return "r" + made; }, resource -> s,
             resource -> { released++; say("released " + resource); }).share();
         var g = h.flatMap(HubFailsMidway::checked).share();
-        var a = g.subscribe(v -> say("a is told " + v), e -> say("a is told error " + e.getMessage()));
-        var b = h.switchMap(v -> g).subscribe(v -> {}, e -> say("b is told error " + e.getMessage()));
+        var a = g.subscribe(v -> say("a receives " + v), e -> say("a receives the error " + e.getMessage()));
+        var b = h.switchMap(v -> g).subscribe(v -> {}, e -> say("b receives the error " + e.getMessage()));
         s.onNext(1);
         s.onNext(2);
         a.dispose();

@@ -11,7 +11,7 @@ _HERE = pathlib.Path(__file__).resolve().parent
 
 def load(kind: Type[ctypes.CDLL] = ctypes.CDLL) -> Any:
     """The library that RX_LIBRARY names; else the one beside this package, as in a wheel; else the system's (ldconfig,
-    LD_LIBRARY_PATH). Raises OSError where there is none."""
+    LD_LIBRARY_PATH). Raises OSError if there is none."""
     named = os.environ.get("RX_LIBRARY")
     if named:
         return kind(named)

@@ -27,7 +27,7 @@ DONE, TOO_SMALL, FAULTY_INPUT, OUT_OF_MEMORY, NOT_LAWFUL = 0, 1, 3, 4, 5
 
 
 class FaultyInput(ValueError):
-    """The input is no history, or no scenario; the program rxexplain says where (status 3)."""
+    """The input is not a history, or not a scenario; the program rxexplain says where (status 3)."""
 
 
 class OutOfMemory(MemoryError):
@@ -36,13 +36,13 @@ class OutOfMemory(MemoryError):
 
 @dataclass(frozen=True)
 class Verdict:
-    """What the audit says of a history. One that is not lawful is an answer and no exception (status 5)."""
+    """The audit's verdict on a history. An unlawful history is an answer, not an exception (status 5)."""
 
     #: "lawful", "unlawful" or "unsettled"
     word: str
-    #: where it is unlawful: the place of the first event, from 0, that may not come there
+    #: if it is unlawful: the place of the first event, from 0, that may not come there
     place: Optional[int] = None
-    #: where it is lawful: the subscriptions that are open, and the resources that are held and that wait
+    #: if it is lawful: the subscriptions that are open, and the resources that are held and that wait
     live: Tuple[int, ...] = ()
     held: Tuple[int, ...] = ()
     waiting: Tuple[int, ...] = ()
@@ -109,7 +109,7 @@ def run_dump(scenario: Scenario) -> List[List[Any]]:
 
 def picture(history: History, program: Union[str, Sequence[str]] = "rxpicture") -> str:
     """The history as SVG, drawn by the program rxpicture: its name, or the command that runs it. Raises FaultyInput, and
-    FileNotFoundError where there is no such program."""
+    FileNotFoundError if there is no such program."""
     text = history if isinstance(history, (str, bytes)) else json.dumps(history)
     command = [program] if isinstance(program, str) else list(program)
     done = subprocess.run(command, input=text.encode() if isinstance(text, str) else text, stdout=subprocess.PIPE)

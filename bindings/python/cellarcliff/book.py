@@ -1,18 +1,18 @@
 """A book of subscriptions in this process, by typed calls over librx.
 
     with Book() as book:
-        root, log = book.using(ROOT, None, 7)       # 7 is a tag, which stands for a resource of the caller's
+        root, log = book.using(ROOT, None, 7)       # 7 is a tag, the caller's number for a resource
         leaf, _ = book.open(SOURCE, root, LEAF)
         book.next(leaf, 5)
-        print(book.mail.popleft())                  # Mail(to=0, kind=0, value=5): the root is told the item 5
+        print(book.mail.popleft())                  # Mail(to=0, kind=0, value=5): the root receives the item 5
         book.dispose(root)
-        print(book.tags.popleft())                  # 7: it is to be released now, and by nobody else
+        print(book.tags.popleft())                  # 7: release it now
 
-A resource stays with the caller, and the book holds a tag in its place. Every call adds what is to be told to `mail`, and the
-tags that are to be released to `tags`; the caller takes them from there, oldest first. A refused call raises `Refused` and
+A resource stays with the caller, and the book holds a tag in its place. Every call adds notes to `mail`, and the tags to
+release to `tags`; the caller takes them from there, oldest first. A refused call raises `Refused` and
 changes nothing. Values are whole numbers from -2^63 to 2^63 - 1, errors from 0 to 2^32 - 1, tags from 0 to 2^64 - 1.
 
-One call at a time is made on a book: threads that share one hold a lock around the call and around the taking.
+Make one call at a time on a book: threads that share one hold a lock around the call and around the taking.
 """
 from __future__ import annotations
 
@@ -86,9 +86,9 @@ class Calls(abc.ABC):
 
     #: How many hubs it may have.
     most_hubs: int = 1024
-    #: What is to be told, oldest first. The caller takes it.
+    #: Notes for observers, oldest first. The caller takes them.
     mail: Deque[Tuple[int, int, int]]
-    #: The tags of resources that are to be released. The caller takes them, and each comes once.
+    #: The tags of resources to release. The caller takes them; each comes once.
     tags: Deque[int]
 
     @abc.abstractmethod

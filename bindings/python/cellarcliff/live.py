@@ -4,10 +4,9 @@
         book.using("log", print, open("log.txt").close)
         book.send("dispose", node="log")
 
-Threads may share a book. What observers are to be told, and what is to be released, goes into one queue in the order of the
-answers, and one thread at a time serves it, outside every lock: the one that comes while nobody does. So an observer may call
-the book, and hears of what that did afterwards; each observer is told all in order, and nothing after its end or after the
-release that comes behind it.
+Threads may share a book. Notes and releases go into one queue in the order of the answers, and one thread at a time serves it,
+outside every lock: the one that comes while no other does. So an observer may call the book, and receives what follows from that
+later; each observer receives all its notes in order, and none after its end or after the release that follows it.
 """
 from __future__ import annotations
 
@@ -134,9 +133,9 @@ class _InProcess:
 class Book:
     """A live book. `program` is the command that starts one; without it the book is in this process.
 
-    Leaving `with` closes the book and releases the rest, also where the book can no longer say what that is, as where its
-    process is gone. What an observer or a release raises does not keep another from being called: the first that comes of a
-    thread's own lines is raised by the call of that thread that serves the queue, every other goes to `on_failure`.
+    Leaving `with` closes the book and releases the rest, even if the process of the book is gone. If an observer or a release
+    raises, the others are still called. The first exception from a thread's own lines is raised by the call of that thread that
+    serves the queue; every other goes to `on_failure`.
     """
 
     def __init__(self, program: Optional[Sequence[Any]] = None, max_events: int = 2**32 - 1):
@@ -144,7 +143,7 @@ class Book:
         self._lock = threading.Lock()
         self._asked: Deque[_Asked] = deque()
         self._held: Dict[str, Release] = {}  # by the names of resources, what releases each
-        self._observers: Dict[str, Observer] = {}  # by the names of nodes, who is told
+        self._observers: Dict[str, Observer] = {}  # by the names of nodes
         self._sweep_at = 1024
         self._is_late = False
         self._queue: Deque[_Due] = deque()
@@ -152,14 +151,14 @@ class Book:
         self._server = 0
 
     def on_failure(self, failure: BaseException) -> None:
-        """What an observer or a release raised that no call can raise. It is printed; a subclass may do otherwise."""
+        """Gets the exception of an observer or a release that no call can raise. Prints it; a subclass may do otherwise."""
         traceback.print_exception(type(failure), failure, failure.__traceback__)
 
     def send(self, do: str, *, observer: Optional[Observer] = None, release: Optional[Release] = None,
              **members: Any) -> Dict[str, Any]:
-        """One command, as docs/reference/scenario.md names it, and its answer. `observer` hears what the node that it opens is told: a
-        root, a FlatMap or a Switch. `release` is called once for the resource of a `using` or `hold`, also where that is
-        refused. Raises Refused. A line whose call is cut off by an interrupt is carried out all the same."""
+        """Sends one command of docs/reference/scenario.md, and answers its answer. `observer` receives the notes of the node that it
+        opens: a root, a FlatMap or a Switch. `release` is called once for the resource of a `using` or `hold`, even if that is
+        refused. Raises Refused. If an interrupt cuts the call off, the line is carried out all the same."""
         if do in ("using", "hold") and release is None:
             raise TypeError(f"{do}: release= is missing, which releases the resource")
         return self._ask(_Asked({"do": do, **members}, observer, release))

@@ -66,16 +66,16 @@ ScheduledPeriodicAction = Callable[[Any], Any]
 
 
 class Observer(Protocol):
-    """What is told the items of an observable, and then at most one end."""
+    """Receives the items of an observable, and then at most one end."""
 
     def on_next(self, value: Any) -> None:
-        """It is told an item."""
+        """Receives an item."""
 
     def on_error(self, error: Exception) -> None:
-        """It is told that the observable failed."""
+        """The observable failed."""
 
     def on_completed(self) -> None:
-        """It is told that the observable completed."""
+        """The observable completed."""
 
 
 class Observable(Protocol):

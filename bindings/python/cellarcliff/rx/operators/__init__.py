@@ -179,7 +179,7 @@ def _indexed(function: Callable[[Any, int], Any]) -> Callable[[], Callable[[Any]
 
 
 def map(mapper: Optional[Callable[[Any], Any]] = None) -> Operator:
-    """Each item through a function; where that raises, the observable fails."""
+    """Each item through a function; if that raises, the observable fails."""
     function = mapper or (lambda value: value)
     return lambda source: Fn(source, lambda down: _Map(down, function), PLAIN)
 
@@ -245,7 +245,7 @@ def start_with(*args: Any) -> Operator:
 
 def do_action(on_next: Optional[Callable[[Any], Any]] = None, on_error: Optional[Callable[[Exception], Any]] = None,
               on_completed: Optional[Callable[[], Any]] = None) -> Operator:
-    """Calls these for each note, before the observer is told; where one raises, the observable fails."""
+    """Calls these for each note, before the observer receives it; if one raises, the observable fails."""
     manner = PLAIN if on_error is None and on_completed is None else HEARING
     return lambda source: Fn(source, lambda down: _Do(down, on_next, on_error, on_completed), manner)
 
@@ -263,7 +263,7 @@ def concat(*sources: Any) -> Operator:
 
 
 def finally_action(action: Callable[[], Any]) -> Operator:
-    """Calls the action once: after the observer was told the end, or when the subscription is disposed of. What it raises is
+    """Calls the action once: after the observer received the end, or when the subscription is disposed of. What it raises is
     raised by the call that emitted or disposed, once all else is released."""
     return lambda source: Finally(source, action)
 
@@ -274,8 +274,8 @@ def _mapper(mapper: Any) -> Callable[[Any], Any]:
 
 
 def flat_map(mapper: Any = None) -> Operator:
-    """The items of the observables that the items are mapped to: of all of them at once. A mapper may answer an iterable; where it
-    raises, or answers what is no observable, the observable fails with that."""
+    """The items of all observables that the items are mapped to. A mapper may answer an iterable; if it raises, or answers no
+    observable, the observable fails with that."""
     return lambda source: Merging(source, _mapper(mapper), False)
 
 
@@ -313,8 +313,8 @@ def switch_latest() -> Operator:
 
 
 def take_until(other: Any) -> Operator:
-    """The items up to the first of the other observable, with which it completes; it fails where that one does. Raises TypeError
-    where the other is no observable."""
+    """The items up to the first of the other observable, with which it completes; it fails if that one does. Raises TypeError
+    if the other is not an observable."""
     return lambda source: Until(source, other)
 
 
@@ -335,7 +335,7 @@ def multicast(subject: Any = None, subject_factory: Any = None, mapper: Any = No
 
 
 def ref_count() -> Operator:
-    """Of a connectable observable: connected while it has a subscriber. Where no hub is left for it a subscriber is told a
+    """Of a connectable observable: connected while it has a subscriber. If no hub is left for it, a subscriber receives a
     RuntimeError."""
     def operate(source: Any) -> Observable:
         return RefCount(source.source) if isinstance(source, Published) else counted(source)

@@ -29,10 +29,9 @@ def _tell(up: Any, kind: int, value: Any) -> None:
 
 
 class Subject(_Source, Observer):
-    """An observable and an observer: what it is told, each that subscribed is told, in the order in which they did.
+    """An observable and an observer: it hands what it receives to each subscriber, in the order of their subscriptions.
 
-    Threads may tell it at once: what one tells while another is at it is told by that one, behind it, so that no item
-    overtakes another.
+    Several threads may call it: if one is at work, it delivers the other's note after its own, so that no item overtakes another.
     """
 
     def __init__(self) -> None:
@@ -89,12 +88,12 @@ class Subject(_Source, Observer):
         self._emit(_NEXT, value)
 
     def on_error(self, error: Exception) -> None:
-        """Tells the error; whoever subscribes later is told it too."""
+        """Hands on the error; later subscribers receive it too."""
         self.check_disposed()
         self._end(_ERROR, error)
 
     def on_completed(self) -> None:
-        """Tells the completion; whoever subscribes later is told it too."""
+        """Hands on the completion; later subscribers receive it too."""
         self.check_disposed()
         self._end(_COMPLETED, None)
 
@@ -173,7 +172,7 @@ class Subject(_Source, Observer):
             engine.serve()
 
     def dispose(self) -> None:
-        """Lets go of all that subscribed, and refuses what it is told."""
+        """Lets go of all subscribers, and refuses further calls."""
         with self._lock:
             self.is_disposed = self.is_stopped = True
             self._ups.clear()

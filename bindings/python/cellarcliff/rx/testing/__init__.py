@@ -123,7 +123,7 @@ class ReactiveTest:
 
 
 class MockObserver:
-    """Records what it is told, and when."""
+    """Records what it receives, and when."""
 
     def __init__(self, scheduler: "VirtualTimeScheduler"):
         self.scheduler, self.messages = scheduler, []  # type: Tuple[VirtualTimeScheduler, List[Recorded]]
@@ -254,7 +254,7 @@ class TestScheduler(VirtualTimeScheduler):
 
     def start(self, create: Optional[Callable[[], Any]] = None, created: Optional[float] = None, subscribed: Optional[float] = None,
               disposed: Optional[float] = None) -> MockObserver:
-        """Calls `create` at 100, subscribes at 200 and unsubscribes at 1000, unless otherwise told. Answers what was told."""
+        """Calls `create` at 100, subscribes at 200 and unsubscribes at 1000, or at the given times. Answers what was received."""
         observer, made = self.create_observer(), []  # type: Tuple[MockObserver, List[Any]]
         self.schedule_absolute(created or ReactiveTest.created, lambda *_: made.append((create or Observable)()))
         self.schedule_absolute(subscribed or ReactiveTest.subscribed,
@@ -264,7 +264,7 @@ class TestScheduler(VirtualTimeScheduler):
         return observer
 
     def create_hot_observable(self, *args: Any) -> HotObservable:
-        """Emits these at their times, whoever is subscribed."""
+        """Emits these at their times, with or without subscribers."""
         return HotObservable(self, args[0] if args and isinstance(args[0], list) else list(args))
 
     def create_cold_observable(self, *args: Any) -> ColdObservable:
