@@ -45,7 +45,7 @@ fn share(rt: &impl Print, book: &mut Book<File>) -> Result<(), Stopped> {
 }
 
 /// Opens a file for the first name that comes and declines the second: what the file gives goes on to the
-/// observer, who is told the end once all of it has ended (FlatMap).
+/// observer, which receives the end once all of it has ended (FlatMap).
 fn merge(rt: &impl Print, book: &mut Book<File>) -> Result<(), Stopped> {
     let merged = book.open(At::Root, Kind::Flat)?.key;
     let names = book.open(At::Source(merged), Kind::Leaf)?.key;
@@ -96,7 +96,7 @@ fn carry(rt: &impl Print, book: &mut Book<File>) -> Result<(), Stopped> {
     book.next(quotes, 0)?;
     while let Some(mail) = book.take_mail() {
         if let Some(text) = text_of(&texts, mail.note) {
-            println!(rt; "observer {} is told {text}", mail.to)?;
+            println!(rt; "observer {} receives {text}", mail.to)?;
         }
     }
     book.dispose(quotes)?;
@@ -140,7 +140,7 @@ fn text_of<'a>(texts: &[&'a str], note: Note) -> Option<&'a str> {
 /// Tells the observers what there is for them, and releases the files that wait.
 fn tell(rt: &impl Print, book: &mut Book<File>) -> Result<(), Stopped> {
     while let Some(mail) = book.take_mail() {
-        println!(rt; "observer {} is told {:?}", mail.to, mail.note)?;
+        println!(rt; "observer {} receives {:?}", mail.to, mail.note)?;
     }
     while let Some(handed) = book.take() {
         println!(rt; "file {} is released", handed.release().tag)?;
