@@ -27,7 +27,7 @@ static uint8_t answer(call *made, struct text input, struct text *output) {
   }
 }
 
-/* The status where a stream failed, as the program rxbook has it. */
+/* The status if a stream failed, as of the program rxbook. */
 enum { STREAM_FAULT = 1 };
 
 /* Says why there is no verdict. */

@@ -73,7 +73,7 @@ static void one_thread() {
   MUST(closed == 4);
 }
 
-// Four threads share a book behind a mutex; what is told is dealt with outside it.
+// Four threads share a book behind a mutex; notes and resources are handled outside it.
 static void many_threads() {
   constexpr std::uint64_t threads = 4, rounds = 300;
   std::vector<int> released(threads * rounds);

@@ -33,7 +33,7 @@ fn read(book: &Mutex<Book<usize, File>>, number: usize) -> Result<usize, Box<dyn
         } else {
             at.dispose(root)?;
         }
-        // what was told, and what is to be released, may be another thread's: whoever comes takes it
+        // notes and resources may come from another thread's calls; the thread that is here takes them
         let (mut files, mut notes) = (Vec::new(), Vec::new());
         while let Some(file) = at.take() {
             files.push(file);

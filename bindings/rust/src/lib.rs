@@ -385,7 +385,7 @@ impl<T: Clone, R> Book<T, R> {
         }
     }
 
-    // A call that was refused as full is made again behind a checkpoint, which makes room where the history is full by its age.
+    // A call that was refused as full is made again after a checkpoint, which makes room if the history is only old.
     fn call(&mut self, call: impl Fn(&mut Handle, &mut Told) -> u8) -> u8 {
         let status = call(&mut self.handle, &mut self.told);
         if status == 16 && self.checkpoint() {
