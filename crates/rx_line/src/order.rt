@@ -48,7 +48,7 @@ fn no_json(alloc: Global, error: &Error) -> Result<String, AllocError> {
     if error.is_eof() {
         return format!(in alloc; "column {column}: the JSON text ends too early");
     }
-    format!(in alloc; "column {column}: no JSON text; look here and just before")
+    format!(in alloc; "column {column}: not a JSON text; look here and just before")
 }
 
 // What is said of a line that asks for nothing.

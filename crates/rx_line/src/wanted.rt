@@ -84,7 +84,7 @@ fn of_fault(object: &Value) -> Option<&'static str> {
         return name_fault(object, "of", false);
     }
     match object.get("of") {
-        Some(_) => Some("not to be given: a root stands below no node"),
+        Some(_) => Some("not allowed here: a root has no node above it"),
         None => None,
     }
 }
@@ -95,7 +95,7 @@ fn sub_fault(object: &Value, member: &str, may: bool) -> Option<&'static str> {
         return name_fault(object, member, may);
     }
     match object.get(member) {
-        Some(_) => Some("not to be given: the kind is not sub"),
+        Some(_) => Some("not allowed here: the kind is not sub"),
         None => None,
     }
 }
@@ -176,7 +176,7 @@ fn command_fault(
             return format!(in alloc; "{member}: {told}");
         }
     }
-    format!(in alloc; "{command}: this is no such command")
+    format!(in alloc; "{command}: not a valid command")
 }
 
 /// What is wrong with a value that is no command: which member, and why.
