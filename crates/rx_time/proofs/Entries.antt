@@ -1,5 +1,5 @@
 -- Lists of entries under numbers that rise.
-use Rattle.std.proofs.Common.{◌≡◌, ℕ, ◌<◌, Bool, true, false, cond, nat_eq, get_or, List, [], ◌∷◌, ◌++◌, Some, None, All, refl, sym, arith}
+use Rattle.std.proofs.Common.{◌≡◌, ℕ, ◌+◌, ◌<◌, Bool, true, false, cond, nat_eq, get_or, List, [], ◌∷◌, ◌++◌, length, Some, None, All, refl, sym, ap, ◌∙◌, arith}
 use Rattle.std.proofs.lemmas.Bool.{cond_both}
 use Rattle.std.proofs.lemmas.Bool.Decides.{nat_tests}
 use Rattle.std.proofs.lemmas.Cmp.{nat_cmp_total, eq_by_cmp_equiv}
@@ -7,13 +7,14 @@ use Rattle.std.proofs.lemmas.List.Elements.{All-head, All-tail, All-cons}
 use Rattle.std.proofs.lemmas.List.Sorted.{IsPermutation-cons, IsPermutation-insert, IsPermutation-refl, IsPermutation-sym, IsPermutation-trans}
 use Rattle.std.proofs.lemmas.Map.{lookup-remove_entry}
 use Rattle.std.proofs.lemmas.Map.Entries.{lookup_from_place}
-use Rattle.std.proofs.lemmas.Map.Keys.{IsDistinct-from_sorted}
+use Rattle.std.proofs.lemmas.Map.Keys.{IsDistinct-from_sorted, sorted_head, sorted_tail}
 use Rattle.std.proofs.lemmas.Option.{slice_get-get_or}
 use Rattle.std.specs.BTreeMap.{insert_entry}
 use Rattle.std.specs.Cmp.{nat_cmp_is}
 use Rattle.std.specs.List.{AllByRecursion}
 use Rattle.std.specs.List.Sorted.{IsPermutation, IsStrictlySortedBy}
 use Rattle.std.specs.Map.{lookup, remove_entry, keys_of}
+use Rattle.std.specs.Option.{option_or}
 use Rattle.std.specs.Ordering.{is_eq, nat_cmp}
 use Rattle.std.specs.declared.cmp.Ordering.TheVariants.{Less, Greater}
 use Rattle.rx_time.specs.declared.work.Work.{Work}
@@ -85,6 +86,80 @@ module _ {X : Type 0} where
       rw (lookup-nat_cmp e.0 es) at
       (lookup_from_place (eq_by_cmp_equiv nat_cmp_total) es i e.0 e.1
       (IsDistinct-from_sorted nat_cmp (keys_of es) ascending) (slice_get-get_or es i d within))
+
+  -- the entries in front are searched first
+  pub lookup-append : (test : ℕ → Bool) (es fs : List (ℕ × X)) → lookup test (es ++ fs) ≡ option_or (lookup test es) (lookup test fs)
+  lookup-append test [] fs = refl
+  lookup-append test (e ∷ es) fs =
+      elim (test e.0) as (λ b. cond b (Some e.1) (lookup test (es ++ fs)) ≡ option_or (cond b (Some e.1) (lookup test es)) (lookup test fs))
+      [ true ↦ refl | false ↦ lookup-append test es fs ]
+
+  pub remove_entry-front : (test : ℕ → Bool) (es fs : List (ℕ × X)) (v : X) → lookup test es ≡ Some v
+      → remove_entry test (es ++ fs) ≡ remove_entry test es ++ fs
+  remove_entry-front test [] fs v found = cc
+  remove_entry-front test (e ∷ es) fs v found =
+      elim (test e.0) as (λ b. cond b (Some e.1) (lookup test es) ≡ Some v
+      → cond b (es ++ fs) (e ∷ remove_entry test (es ++ fs)) ≡ cond b es (e ∷ remove_entry test es) ++ fs)
+      [ true ↦ λ here. refl | false ↦ λ later. ap (λ (l : List (ℕ × X)). e ∷ l) (remove_entry-front test es fs v later) ] found
+
+  pub remove_entry-back : (test : ℕ → Bool) (es fs : List (ℕ × X)) → lookup test es ≡ None
+      → remove_entry test (es ++ fs) ≡ es ++ remove_entry test fs
+  remove_entry-back test [] fs absent = refl
+  remove_entry-back test (e ∷ es) fs absent =
+      elim (test e.0) as (λ b. cond b (Some e.1) (lookup test es) ≡ None
+      → cond b (es ++ fs) (e ∷ remove_entry test (es ++ fs)) ≡ e ∷ es ++ remove_entry test fs)
+      [ true ↦ λ here. cc | false ↦ λ rest. ap (λ (l : List (ℕ × X)). e ∷ l) (remove_entry-back test es fs rest) ] absent
+
+  pub remove_entry-absent : (test : ℕ → Bool) (es : List (ℕ × X)) → lookup test es ≡ None → remove_entry test es ≡ es
+  remove_entry-absent test [] absent = refl
+  remove_entry-absent test (e ∷ es) absent =
+      elim (test e.0) as (λ b. cond b (Some e.1) (lookup test es) ≡ None → cond b es (e ∷ remove_entry test es) ≡ e ∷ es)
+      [ true ↦ λ here. cc | false ↦ λ rest. ap (λ (l : List (ℕ × X)). e ∷ l) (remove_entry-absent test es rest) ] absent
+
+  -- one entry less
+  pub length-remove_entry : (test : ℕ → Bool) (es : List (ℕ × X)) (v : X) → lookup test es ≡ Some v → length (remove_entry test es) + 1 ≡ length es
+  length-remove_entry test [] v found = cc
+  length-remove_entry test (e ∷ es) v found =
+      elim (test e.0) as (λ b. cond b (Some e.1) (lookup test es) ≡ Some v → length (cond b es (e ∷ remove_entry test es)) + 1 ≡ length (e ∷ es))
+      [ true ↦ λ here. omega arith | false ↦ λ later. omega (arith, length-remove_entry test es v later) ] found
+
+  -- numbers that rise still do with one less, and with one more that is above all
+  below-remove_entry : (n : ℕ) (test : ℕ → Bool) (es : List (ℕ × X)) → AllByRecursion (λ k. nat_cmp n k ≡ Less) (keys_of es)
+      → AllByRecursion (λ k. nat_cmp n k ≡ Less) (keys_of (remove_entry test es))
+  below-remove_entry n test [] below = below
+  below-remove_entry n test (e ∷ es) below =
+      cond_both (test e.0) es (e ∷ remove_entry test es) (λ l. AllByRecursion (λ k. nat_cmp n k ≡ Less) (keys_of l)) (λ _. below.1)
+      (λ _. (below.0, below-remove_entry n test es below.1))
+
+  pub sorted-remove_entry : (test : ℕ → Bool) (es : List (ℕ × X)) → IsStrictlySortedBy nat_cmp (keys_of es)
+      → IsStrictlySortedBy nat_cmp (keys_of (remove_entry test es))
+  unfolding IsStrictlySortedBy
+  sorted-remove_entry test [] ascending = ascending
+  sorted-remove_entry test (e ∷ es) ascending =
+      cond_both (test e.0) es (e ∷ remove_entry test es) (λ l. IsStrictlySortedBy nat_cmp (keys_of l)) (λ _. ascending.1)
+      (λ _. (below-remove_entry e.0 test es ascending.0, sorted-remove_entry test es ascending.1))
+
+  below-push : (n k : ℕ) (v : X) (es : List (ℕ × X)) → AllByRecursion (λ k. nat_cmp n k ≡ Less) (keys_of es) → n < k
+      → AllByRecursion (λ k. nat_cmp n k ≡ Less) (keys_of (es ++ (k, v) ∷ []))
+  below-push n k v [] below less = (sym (nat_cmp_is n k Less less), below)
+  below-push n k v (e ∷ es) below less = (below.0, below-push n k v es below.1 less)
+
+  pub sorted-push : (es : List (ℕ × X)) (k : ℕ) (v : X) → IsStrictlySortedBy nat_cmp (keys_of es) → All (λ e. e.0 < k) es
+      → IsStrictlySortedBy nat_cmp (keys_of (es ++ (k, v) ∷ []))
+  unfolding IsStrictlySortedBy
+  sorted-push [] k v ascending above = (tt, tt)
+  sorted-push (e ∷ es) k v ascending above =
+      (below-push e.0 k v es ascending.0 (All-head (λ e. e.0 < k) e es above), sorted-push es k v ascending.1 (All-tail (λ e. e.0 < k) e es above))
+
+  -- among numbers that rise, what is found behind is not found in front
+  pub lookup-not_in_front : (q : ℕ) (v : X) (es fs : List (ℕ × X)) → IsStrictlySortedBy nat_cmp (keys_of (es ++ fs))
+      → lookup (nat_eq q) fs ≡ Some v → lookup (nat_eq q) es ≡ None
+  lookup-not_in_front q v [] fs ascending found = refl
+  lookup-not_in_front q v (e ∷ es) fs ascending found =
+      let rest = lookup-not_in_front q v es fs (sorted_tail nat_cmp e.0 (keys_of (es ++ fs)) ascending) found in
+      let behind : lookup (nat_eq q) (es ++ fs) ≡ Some v = rw (lookup-append (nat_eq q) es fs, rest) found in
+      let above : e.0 < q = above_from_lookup e.0 q v (es ++ fs) (sorted_head nat_cmp e.0 (keys_of (es ++ fs)) ascending) behind in
+      grind (arith, nat_tests)
 
 -- the item of an entry, and those of the others, are all items
 pub items_of-without : {T : Type 0} (t : ℕ) (w : Work T) (es : List (ℕ × Work T))

@@ -1,12 +1,12 @@
--- The inside of a timeline, which no caller sees: beside its entries it has an agenda, a set of the due times
+-- The inside of a priority queue, which no caller sees: beside its entries it has an agenda, a set of the due times
 -- and tickets, in the order in which the entries come out.
 use Rattle.std.specs.Prelude.{◌≡◌, ℕ, ◌==◌, Bool, false, List, Option, Some, None, IsSomeAnd, nat_eq}
 use Rattle.std.specs.Ordering.{nat_cmp, ordering_then}
 use Rattle.std.specs.declared.cmp.Ordering.{Ordering}
-use Rattle.std.specs.Map.{lookup}
+use Rattle.std.specs.List.Sorted.{IsStrictlySortedBy}
+use Rattle.std.specs.Map.{lookup, keys_of}
 use Rattle.std.specs.BTreeSet.{BTreeSet, contains}
 use Rattle.rx_time.specs.declared.work.Work.{Work}
-use Rattle.rx_time.specs.Schedule.{Schedule, IsSound}
 
 -- the order of the agenda: by due time, then by ticket
 abbrev pub place_cmp : ℕ × ℕ → ℕ × ℕ → Ordering
@@ -19,10 +19,10 @@ module _ {T : Type 0} where
   is_due_at due (Some w) = w.due == due
 
   -- the agenda has the due time and ticket of each entry, and nothing else
-  pub record IsKept (s : Schedule T) (agenda : BTreeSet (ℕ × ℕ)) : Type 0 where
-    pub sound : IsSound s
+  pub record IsKept (work : List (ℕ × Work T)) (agenda : BTreeSet (ℕ × ℕ)) : Type 0 where
+    pub ascending : IsStrictlySortedBy nat_cmp (keys_of work)
     pub same : (due ticket : ℕ) → contains place_cmp agenda (due, ticket)
-        ≡ is_due_at due (lookup (nat_eq ticket) s.work)
+        ≡ is_due_at due (lookup (nat_eq ticket) work)
 
   -- the place is the due time and the ticket of this entry of the work, and there is none where there is no entry
   abbrev pub PointsAt : List (ℕ × Work T) → Option (ℕ × Work T) → Option (ℕ × ℕ) → Type 0

@@ -1,2 +1,4 @@
 pub mod Schedule
 pub mod Agenda
+pub mod Runs
+pub mod Places

@@ -18,17 +18,22 @@
 //! A timeline is seen as its virtual time, the number of tickets that were given, and the list of
 //! its entries in the order of scheduling; a trampoline as the list of its items. Each call says
 //! what it makes of that value, so each item that goes in comes out once: by `next_until` or
-//! `next`, by `cancel`, or with the refusal. `schedule` and `push` are the only calls that ask for
-//! memory; where it is refused, nothing has changed and the item is handed back.
+//! `next`, by `cancel`, or with the refusal. `schedule`, `push` and `reserve` are the only calls that
+//! ask for memory; where it is refused, nothing has changed and the item is handed back.
 //!
 //! # What is not promised
 //!
-//! That there is memory. How long a call takes is no clause either: with `n` entries `schedule`,
-//! `next_until` and `cancel` take a number of steps that grows as the logarithm of `n`, since the
-//! entries lie in an ordered map by ticket and their places in an ordered set by due time. A call
-//! of a trampoline takes constant time, but for the moves when its buffer grows.
+//! That there is memory. How long a call takes is no clause either. Entries that are scheduled in
+//! the order in which they come out lie in a queue: `schedule` and `next_until` take constant time
+//! there, but for the moves when it grows, and `cancel` halves it until it finds its entry. One that
+//! comes out before some of them, and those that are scheduled after it while it waits, lie in an
+//! ordered map by ticket and their places in an ordered set by due time: with `n` entries there
+//! each of the three calls takes a number of steps that grows as the logarithm of `n`. A call of a
+//! trampoline takes constant time, but for the moves when its buffer grows.
 #![tactic(auto)]
 
+mod priority_queue;
+mod run;
 mod ticket;
 mod timeline;
 mod trampoline;

@@ -2,12 +2,15 @@ ghost use Rattle.std.specs.Prelude.{◌≡◌, ◌+◌, ◌<◌, ◌≤◌, ◌�
 ghost use Rattle.std.specs.Prelude.{IfOk, IfErr, OnOk, OnErr, OnSome, IfSome, IfNone};
 ghost use Rattle.std.specs.Map.{lookup};
 ghost use Rattle.std.specs.List.Sorted.{IsPermutation};
+ghost use Rattle.rx_time.specs.Places.{earlier_place};
+ghost use Rattle.rx_time.specs.Schedule.{without};
 
+use crate::priority_queue::PriorityQueue;
+use crate::run::Run;
 use crate::ticket::{MAX_TICKETS, Ticket};
 use crate::work::Work;
 use rx_disposable::{Back, Why};
-use std::alloc::Global;
-use std::collections::{BTreeMap, BTreeSet};
+use std::alloc::{AllocError, Global};
 use std::marker::Model;
 
 /// Work in virtual time: System.Reactive's `VirtualTimeScheduler`, of which `HistoricalScheduler`
@@ -30,20 +33,19 @@ use std::marker::Model;
 pub struct Timeline<T> {
     clock: u64,
     tickets: u32,
-    entries: BTreeMap<u32, Work<T>>,
-    agenda: BTreeSet<(u64, u32)>,
+    in_order: Run<T>,
+    others: PriorityQueue<T>,
 }
 
 impl<T> Model for Timeline<T> {
-    ghost use Rattle.rx_time.specs.Schedule.{Schedule, schedule};
+    ghost use Rattle.std.specs.Prelude.{◌++◌};
+    ghost use Rattle.rx_time.specs.Schedule.{Schedule, schedule, IsSound};
 
     ghost Value = { Schedule T };
 
-    ghost use Rattle.rx_time.specs.Agenda.{IsKept};
+    ghost view = { λ a. schedule a.clock a.tickets (a.in_order ++ a.others) };
 
-    ghost view = { λ a. schedule a.clock a.tickets a.entries.entries };
-
-    ghost invariant = { λ a. IsKept (schedule a.clock a.tickets a.entries.entries) a.agenda };
+    ghost invariant = { λ a. IsSound (schedule a.clock a.tickets (a.in_order ++ a.others)) };
 }
 
 impl<T> Timeline<T> {
@@ -58,8 +60,8 @@ impl<T> Timeline<T> {
         Timeline {
             clock: 0,
             tickets: 0,
-            entries: BTreeMap::new(alloc),
-            agenda: BTreeSet::new(alloc),
+            in_order: Run::new(alloc),
+            others: PriorityQueue::new(alloc),
         }
     }
 
@@ -78,7 +80,7 @@ impl<T> Timeline<T> {
     pub fn is_empty(&self) -> bool
         ensures { IsTrue result ↔ (self.now.work ≡ []) }
     {
-        self.entries.is_empty()
+        self.in_order.is_empty() && self.others.is_empty()
     }
 
     /// Puts the item in, due at this time, or now where that time is past, and gives the ticket
@@ -111,6 +113,14 @@ impl<T> Timeline<T> {
                 value: item,
             }),
         }
+    }
+
+    /// Makes room for so many more items that are due in the order in which they are scheduled: as
+    /// long as no other is inside, scheduling those asks for no memory. Err where memory is refused.
+    pub fn reserve(&mut self, additional: usize) -> Result<(), AllocError>
+        ensures { self.new ≡ self.old }
+    {
+        self.in_order.reserve(additional)
     }
 
     /// Takes the item of this ticket out, or gives `None` and changes nothing where there is no
@@ -173,11 +183,11 @@ impl<T> Timeline<T> {
         let Timeline {
             clock: _,
             tickets: _,
-            entries,
-            agenda,
+            in_order,
+            others,
         } = self;
-        entries.destroy_empty();
-        drop(agenda);
+        in_order.destroy_empty();
+        others.destroy_empty();
     }
 
     // Puts work last, or gives it back where memory is refused.
@@ -191,25 +201,16 @@ impl<T> Timeline<T> {
         ensures kept { OnErr result (self.new ≡ self.old) }
     {
         let number = self.tickets;
-        let due = work.due;
-        let Ok(_) = self.agenda.insert((due, number)) else {
-            return Err(work);
-        };
-        match self.entries.insert(number, work) {
-            Ok(None) => {
+        match put_last(&mut self.in_order, &mut self.others, number, work) {
+            Ok(()) => {
                 self.tickets += 1;
                 Ok(Ticket { number })
             }
-            Ok(Some(_before)) => unreachable!(),
-            Err(failed) => {
-                self.agenda.remove(&(due, number));
-                let (_, work) = failed.value;
-                Err(work)
-            }
+            Err(work) => Err(work),
         }
     }
 
-    // Takes the work of a ticket out, and its place off the agenda.
+    // Takes the work of a ticket out.
     fn take(&mut self, number: u32) -> Option<Work<T>>
         ensures value { result ≡ lookup (nat_eq number) self.old.work }
         ensures others { self.new ≡ record self.old { work = without number self.old.work } }
@@ -218,13 +219,7 @@ impl<T> Timeline<T> {
         ensures fewer { OnSome result (length self.new.work + 1 ≡ length self.old.work) }
         ensures kept { IfNone result (self.new ≡ self.old) }
     {
-        match self.entries.remove(&number) {
-            Some(work) => {
-                self.agenda.remove(&(work.due, number));
-                Some(work)
-            }
-            None => None,
-        }
+        take_from(&mut self.in_order, &mut self.others, number)
     }
 
     // The due time and the ticket of what comes next.
@@ -232,10 +227,9 @@ impl<T> Timeline<T> {
         ensures next { PointsAt self.now.work (next_of self.now.work) result }
         ensures ahead { IfSome result (λ place. self.now.clock ≤ place.0) }
     {
-        match self.agenda.first() {
-            Some(place) => Some(*place),
-            None => None,
-        }
+        let first = self.in_order.first();
+        let other = self.others.first();
+        earlier_place(first, other)
     }
 
     // The same, where that is due at or before this time. No work is due before it, or before this
@@ -258,5 +252,53 @@ impl<T> Timeline<T> {
         ensures { self.new ≡ record self.old { clock = max self.old.clock to } }
     {
         self.clock = self.clock.max(to);
+    }
+}
+
+// Puts work last: behind those that are in order, where it belongs there and there are no others, or among the others.
+#[tactic(auto, using(crate::proofs::TwoLists::put_between, crate::proofs::TwoLists::put_behind, crate::proofs::TwoLists::put_refused))]
+fn put_last<T>(
+    in_order: &mut Run<T>,
+    others: &mut PriorityQueue<T>,
+    number: u32,
+    work: Work<T>,
+) -> Result<(), Work<T>>
+    requires { All (λ e. e.0 < number) (in_order.old ++ others.old) }
+    ensures ok { OnOk result (in_order.new ++ others.new ≡ (in_order.old ++ others.old) ++ (number, work) ∷ []) }
+    ensures back { IfErr result (λ back. back ≡ work) }
+    ensures kept { OnErr result (in_order.new ++ others.new ≡ in_order.old ++ others.old) }
+{
+    if !others.is_empty() {
+        return others.insert(number, work);
+    }
+    match in_order.push(number, work) {
+        Ok(()) => Ok(()),
+        Err(work) => others.insert(number, work),
+    }
+}
+
+// Takes the work of a ticket out, wherever it is.
+fn take_from<T>(
+    in_order: &mut Run<T>,
+    others: &mut PriorityQueue<T>,
+    number: u32,
+) -> Option<Work<T>>
+    ensures value { result ≡ lookup (nat_eq number) (in_order.old ++ others.old) }
+    ensures others { in_order.new ++ others.new ≡ without number (in_order.old ++ others.old) }
+{
+    match in_order.remove(number) {
+        Some(work) => Some(work),
+        None => others.remove(number),
+    }
+}
+
+// Of two places the one that is due first, and at a tie the first one.
+fn earlier_place(first: Option<(u64, u32)>, other: Option<(u64, u32)>) -> Option<(u64, u32)>
+    ensures { result ≡ earlier_place first other }
+{
+    match (first, other) {
+        (Some(a), Some(b)) => { if a.0 <= b.0 { Some(a) } else { Some(b) } }
+        (Some(a), None) => Some(a),
+        (None, other) => other,
     }
 }

@@ -1,20 +1,32 @@
-use Rattle.std.proofs.Common.{sym, ◌∙◌}
+use Rattle.std.proofs.Common.{◌++◌, refl}
 use Rattle.rx_time.specs.Schedule.{schedule}
-use Rattle.rx_time.proofs.Entries.{items_of-without, lookup-nat_cmp, remove_entry-nat_cmp}
-use Rattle.rx_time.proofs.AgendaMatchesEntries.{IsKept-without}
+use Rattle.rx_time.proofs.SoundSchedule.{IsSound-without}
+use Rattle.rx_time.proofs.TwoLists.{fewer_taken, kept_taken, once_taken}
 use Rattle.rx_time.proofs.timeline.Timeline.take.Goals as goal
 
 pub invariant_of-self : goal.invariant_of-self
 invariant_of-self g c =
-    let s = schedule c.self.inside.clock c.self.inside.tickets c.self.inside.entries.entries in
-    let others = c.in-Some.ensures.entries ∙ remove_entry-nat_cmp c.args.number s.work in
-    let found = sym (lookup-nat_cmp c.args.number s.work) ∙ sym c.in-Some.ensures.value in
-    rw others (IsKept-without c.args.number c.in-Some.work c.self.inside.agenda c.remove-in-Some.new.self
-    c.self.invariant found c.remove-in-Some.ensures.updates (rw others at c.in-Some.ensures.ordered))
+    let s = schedule c.self.inside.clock c.self.inside.tickets (c.self.inside.in_order ++ c.self.inside.others) in
+    rw c.take_from.ensures.others (IsSound-without s c.args.number c.self.invariant)
 
-pub returns-in-Some-clause-once : goal.returns-in-Some-clause-once
-returns-in-Some-clause-once g c =
-    let work = c.self.inside.entries.entries in
-    let others = c.in-Some.ensures.entries ∙ remove_entry-nat_cmp c.args.number work in
-    let found = sym (lookup-nat_cmp c.args.number work) ∙ sym c.in-Some.ensures.value in
-    rw (← c.self.view_is, others) (items_of-without c.args.number c.in-Some.work work found)
+pub returns-clause-value : goal.returns-clause-value
+returns-clause-value g c = rw (← c.self.view_is) c.take_from.ensures.value
+
+pub returns-clause-others : goal.returns-clause-others
+returns-clause-others g c = rw (← c.self.view_is, c.take_from.ensures.others) refl
+
+pub returns-clause-once : goal.returns-clause-once
+returns-clause-once g c =
+    rw (← c.self.view_is, c.take_from.ensures.others)
+    (once_taken c.args.number (c.self.inside.in_order ++ c.self.inside.others) c.take_from.result c.take_from.ensures.value)
+
+pub returns-clause-fewer : goal.returns-clause-fewer
+returns-clause-fewer g c =
+    rw (← c.self.view_is, c.take_from.ensures.others)
+    (fewer_taken c.args.number (c.self.inside.in_order ++ c.self.inside.others) c.take_from.result c.take_from.ensures.value)
+
+pub returns-clause-kept : goal.returns-clause-kept
+returns-clause-kept g c =
+    rw (← c.self.view_is, c.take_from.ensures.others)
+    (kept_taken (schedule c.self.inside.clock c.self.inside.tickets) c.args.number (c.self.inside.in_order ++ c.self.inside.others)
+    c.take_from.result c.take_from.ensures.value)
