@@ -111,8 +111,8 @@ pub fn add(agenda: &mut Agenda, step: Step) -> Result<(), AllocError>
     }
 }
 
-/// These steps are to come, one after the other.
-pub fn add_all(agenda: &mut Agenda, steps: Vec<Step>) -> Result<(), AllocError>
+// The same as `add_all`, with no room made first.
+fn add_each(agenda: &mut Agenda, steps: Vec<Step>) -> Result<(), AllocError>
     requires { agenda.old.timeline.clock ≤ 1000000000000000 }
     ensures ok { OnOk result (agenda_of agenda.new ≡ with_steps (map step_of steps.items) (agenda_of agenda.old)) }
     ensures size { OnOk result (size_left agenda.new ≡ size_left agenda.old + sum_by size_of steps.items) }
@@ -122,6 +122,17 @@ pub fn add_all(agenda: &mut Agenda, steps: Vec<Step>) -> Result<(), AllocError>
         add(agenda, step)?;
     }
     Ok(())
+}
+
+/// These steps are to come, one after the other.
+pub fn add_all(agenda: &mut Agenda, steps: Vec<Step>) -> Result<(), AllocError>
+    requires { agenda.old.timeline.clock ≤ 1000000000000000 }
+    ensures ok { OnOk result (agenda_of agenda.new ≡ with_steps (map step_of steps.items) (agenda_of agenda.old)) }
+    ensures size { OnOk result (size_left agenda.new ≡ size_left agenda.old + sum_by size_of steps.items) }
+    ensures clock { OnOk result (agenda.new.timeline.clock ≡ agenda.old.timeline.clock) }
+{
+    agenda.timeline.reserve(steps.len())?;
+    add_each(agenda, steps)
 }
 
 /// These steps follow one that was answered so: after an accepted step they are to come, and after a

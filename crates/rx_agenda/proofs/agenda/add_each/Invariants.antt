@@ -4,7 +4,7 @@ use Rattle.std.specs.Prelude.{sum_by}
 use Rattle.rx_scenario.specs.Scenario.{step_of}
 use Rattle.rx_agenda.specs.Agenda.{with_steps}
 use Rattle.rx_agenda.specs.Shown.{agenda_of, size_of, size_left}
-use Rattle.rx_agenda.proofs.agenda.add_all.Given as goal
+use Rattle.rx_agenda.proofs.agenda.add_each.Given as goal
 
 abbrev pub invariant-loop-step : goal.invariant-loop-step
 invariant-loop-step l = record {
