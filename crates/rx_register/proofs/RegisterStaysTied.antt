@@ -60,6 +60,9 @@ pub record IsWritten (a b : Inside) (e : Event) : Type 0 where
   pub items : b.item_total ≡ a.item_total + cond (is_item e) 1 0
   pub accepted : b.accepted_total ≡ a.accepted_total + cond (makes_resource e) 1 0
   pub taken : b.taken_total ≡ a.taken_total + cond (is_take e) 1 0
+  pub room : b.history.room + 1 ≡ a.history.room
+  pub spare : b.spare ≡ a.spare
+  pub set_aside : a.spare < a.history.room
   pub mail : b.mail.items ≡ a.mail.items
   pub all_told : b.told ≡ length a.mail.items
 
@@ -76,6 +79,7 @@ written a b e r w = record {
   placed = rw w.base r.placed;
   closing = rw (w.base, w.limit) r.closing;
   within = w.within;
+  spare = let one = w.room in let same = w.spare in let l = w.set_aside in omega arith;
   item_total = rw (w.base, w.events) (w.items ∙ ap (λ (n : ℕ). n + cond (is_item e) 1 0) r.item_total ∙ sym (item_count-push a.history.base h e));
   accepted_total = rw (w.base, w.events) (w.accepted ∙ ap (λ (n : ℕ). n + cond (makes_resource e) 1 0) r.accepted_total ∙
       sym (accepted_count-push a.history.base h e));
@@ -171,6 +175,7 @@ popped_inside a mail r p some = record {
   closing = r.closing;
   within = r.within;
   limit = r.limit;
+  spare = r.spare;
   item_total = r.item_total;
   accepted_total = r.accepted_total;
   taken_total = r.taken_total;
@@ -187,13 +192,14 @@ debt_nothing : debt nothing_kept (shown nothing_kept) ≡ 0
 debt_nothing = ap (debt nothing_kept) shown_nothing ∙ debt_empty nothing_kept
 
 pub tied_empty : {a : Inside} → a.history.limit ≤ 4294967295 → a.limit ≡ a.history.limit → a.history.base ≡ nothing_kept → a.history.events ≡ [] →
-    a.item_total ≡ 0 → a.accepted_total ≡ 0 → a.taken_total ≡ 0 → a.told ≡ 0 → IsTied a
+    a.item_total ≡ 0 → a.accepted_total ≡ 0 → a.taken_total ≡ 0 → a.spare ≡ 0 → a.told ≡ 0 → IsTied a
 unfolding shown
-tied_empty {a} few own base events i r t told = record {
+tied_empty {a} few own base events i r t spare told = record {
   lawful = rw (base, events) IsLawful_nothing;
   limited = few;
   within = rw events (omega arith);
   limit = own;
+  spare = omega (arith, spare);
   begun = rw base (omega arith);
   placed = rw base (omega arith);
   closing = rw base (let d = debt_nothing in omega arith);
@@ -247,6 +253,7 @@ pub record IsRebased (a b : Inside) (reserved : ℕ) : Type 0 where
   pub items : b.item_total ≡ a.item_total
   pub accepted : b.accepted_total ≡ a.accepted_total
   pub taken : b.taken_total ≡ a.taken_total
+  pub spare : b.spare ≡ 0
   pub told : b.told ≡ a.told
   pub mail : b.mail ≡ a.mail
 
@@ -259,6 +266,7 @@ rebased a b room r w = record {
   closing = rw (over, w.limit) (let c = w.may.closing in let l = w.may.within in let d = same_debts in omega arith);
   within = rw (over, events) (let a = as_long in let s = shown_long in omega arith);
   limit = w.own_limit ∙ r.limit ∙ sym w.limit;
+  spare = let none = w.spare in omega arith;
   item_total = rw (over, events) (w.items ∙ r.item_total ∙ same.item_total);
   accepted_total = rw (over, events) (w.accepted ∙ r.accepted_total ∙ same.accepted_total);
   taken_total = rw (over, events) (w.taken ∙ r.taken_total ∙ same.taken_total);
@@ -304,7 +312,7 @@ rebases a b room r w = record {
   base = w.may.base_is;
   history = w.events;
   limit = w.limit;
-  room = w.room;
+  room = let all = w.room in let none = w.spare in omega arith;
   given = rw (w.events, w.may.base_is, base_untold a.history.base a.history.events r.lawful w.may.settled) (omega arith);
   pending = rw (w.told, w.mail) w.may.pending;
   mail_room = ap (λ q. deque_capacity q - deque_len q) w.mail;

@@ -10,7 +10,7 @@ use Rattle.rx_event.specs.Lawful.{IsLawful}
 use Rattle.rx_register.specs.declared.load.Load.{Load}
 
 -- what a checkpoint kept of the events before it; all that happened, as one list with that, and how much may since; for how many
--- more events memory is there; how many notes were handed out; the notes of the event that comes next, as far as they were told;
+-- more events memory is set aside; how many notes were handed out; the notes of the event that comes next, as far as they were told;
 -- and for how many more notes memory is there
 pub record State : Type 0 where
   pub base : Kept

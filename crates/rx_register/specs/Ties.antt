@@ -14,7 +14,7 @@ state_of a = record {
   base = a.history.base;
   history = a.history.events;
   limit = a.history.limit;
-  room = a.history.room;
+  room = a.history.room - a.spare;
   given = length (notes a.history.events) - a.told;
   pending = drop a.told a.mail.items;
   mail_room = deque_capacity a.mail - deque_len a.mail;
@@ -31,6 +31,8 @@ pub record IsTied (a : Inside) : Type 0 where
   pub item_total : a.item_total ≡ item_count a.history.base a.history.events
   pub accepted_total : a.accepted_total ≡ accepted_count a.history.base a.history.events
   pub taken_total : a.taken_total ≡ taken_count a.history.base a.history.events
+  -- what is spare is a part of the room
+  pub spare : a.spare ≤ a.history.room
   -- no more than there were events
   pub few_items : item_count a.history.base a.history.events ≤ length a.history.events
   pub few_accepted : accepted_count a.history.base a.history.events ≤ length a.history.events

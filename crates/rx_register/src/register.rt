@@ -3,6 +3,7 @@
 mod checkpoint;
 mod limits;
 mod mail;
+mod spare;
 mod write;
 
 ghost use Rattle.std.specs.Prelude.{◌≡◌, ◌+◌, ◌<◌, ◌≤◌, [], length, OnOk, OnErr};
@@ -23,6 +24,8 @@ pub struct Register {
     item_total: u64,
     accepted_total: u64,
     taken_total: u64,
+    // How much of the history's room nothing was set aside for. What callers see as room is the rest.
+    spare: u64,
     mail: VecDeque<Mail>,
     // How many notes at the front are of written events; those behind are of the next event.
     told: usize,
@@ -58,6 +61,7 @@ impl Register {
             item_total: 0,
             accepted_total: 0,
             taken_total: 0,
+            spare: 0,
             mail: VecDeque::new(alloc),
             told: 0,
         }
@@ -83,8 +87,14 @@ impl Register {
         ensures room { self.old.room ≤ self.new.room }
         ensures refused { OnErr result (self.new ≡ self.old) }
     {
+        if events <= self.history.room() - self.spare {
+            return Ok(());
+        }
         match self.history.reserve(events) {
-            Ok(()) => Ok(()),
+            Ok(()) => {
+                self.spare = self.spare.min(self.history.room() - events);
+                Ok(())
+            }
             Err(_) => Err(AllocError),
         }
     }

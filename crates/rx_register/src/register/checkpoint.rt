@@ -46,6 +46,7 @@ impl Register {
         ensures refused { OnErr result (self.new ≡ self.old) }
     {
         self.history.rebase(base, room)?;
+        self.spare = 0;
         Ok(())
     }
 }

@@ -10,7 +10,7 @@ pub rebase-requires-clause-placed : goal.rebase-requires-clause-placed
 rebase-requires-clause-placed c = placed_base c.self.inside _ _ c.self.view_is c.requires.base c.requires.placed
 
 -- the register over that base
-made : (c : goal.In_ok-rebase) → IsRebased c.self.inside (record c.self.inside { history = c.rebase.new.self }) c.args.room
+made : (c : goal.After-self-1) → IsRebased c.self.inside (record c.self.inside { history = c.rebase.new.self; spare = 0 }) c.args.room
 made c = record {
   may = may_rebase c.self.view_is (c.in_ok-rebase.ensures.base ∙ c.requires.base) c.requires.settled c.requires.handed c.requires.pending c.requires.placed
       c.requires.closing c.requires.within;
@@ -21,6 +21,7 @@ made c = record {
   items = refl;
   accepted = refl;
   taken = refl;
+  spare = refl;
   told = refl;
   mail = refl;
 }

@@ -1,4 +1,4 @@
-use Rattle.std.proofs.Common.{◌≡◌, ◌+◌, ℕ, Bool, cond, refl, ap, ◌∙◌, length, drop}
+use Rattle.std.proofs.Common.{◌≡◌, ◌+◌, ◌-◌, ◌<◌, ℕ, Bool, cond, refl, ap, ◌∙◌, length, drop, arith}
 use Rattle.rx_event.specs.Notes.{notes, mail_of}
 use Rattle.rx_event.specs.Lawful.{MayFollow}
 use Rattle.rx_event.proofs.Laws.Counts.{notes-push}
@@ -6,6 +6,10 @@ use Rattle.rx_register.specs.State.{State}
 use Rattle.rx_register.specs.Ties.{state_of}
 use Rattle.rx_register.proofs.RegisterStaysTied.{written, given_after, told_length}
 use Rattle.rx_register.proofs.register.Register.write.Goals as goal
+
+-- an event takes a place of what was set aside
+set_aside : (room spare : ℕ) → 0 < room - spare → spare < room
+set_aside room spare some = omega arith
 
 pub invariant_of-self : goal.invariant_of-self
 invariant_of-self c =
@@ -23,6 +27,9 @@ invariant_of-self c =
       items = ap (λ (n : ℕ). c.self.inside.item_total + n) (c.one_if.ensures ∙ ap (λ (b : Bool). cond b 1 0) c.is_item.ensures);
       accepted = ap (λ (n : ℕ). c.self.inside.accepted_total + n) (c.one_if-2.ensures ∙ ap (λ (b : Bool). cond b 1 0) c.makes_resource.ensures);
       taken = ap (λ (n : ℕ). c.self.inside.taken_total + n) (c.one_if-3.ensures ∙ ap (λ (b : Bool). cond b 1 0) c.is_take.ensures);
+      room = c.push_reserved.ensures.room;
+      spare = refl;
+      set_aside = set_aside c.self.inside.history.room c.self.inside.spare (rw (← c.self.view_is) at c.requires.room);
       mail = refl;
       all_told = c.len-self-inside.ensures ∙ c.self.inside.mail.ok.0;
     })
