@@ -24,6 +24,7 @@ pub(crate) struct Link {
 
 impl Link {
     // The link of a place that is a ring of its own.
+    #[inline(always)]
     pub(crate) fn alone(place: Place) -> Self
         ensures { result ≡ record { next = place; previous = place } }
     {
@@ -43,6 +44,7 @@ pub(crate) struct Links {
 
 impl Links {
     // What comes after a place and before it: itself where there is no such place.
+    #[inline(always)]
     pub(crate) fn link(&self, place: Place) -> Link
         ensures { result ≡ link_at self.now place }
     {
@@ -57,6 +59,7 @@ impl Links {
     }
 
     // Writes what comes after a place and before it.
+    #[inline(always)]
     fn set_link(&mut self, place: Place, link: Link)
         requires there { IsTrue (is_there self.old place) }
         ensures linked { (q : _) → link_at self.new q ≡ set_link_at place link self.old q }
@@ -85,6 +88,7 @@ impl Links {
     }
 
     // Lets one place come directly before another.
+    #[inline(always)]
     fn tie(&mut self, one: Place, other: Place)
         requires one { IsTrue (is_there self.old one) }
         requires other { IsTrue (is_there self.old other) }
@@ -111,6 +115,7 @@ impl Links {
     }
 
     // Puts a place last on a ring.
+    #[inline(always)]
     pub(crate) fn join(&mut self, end: Place, place: Place)
         requires end { IsTrue (is_there self.old end) }
         requires place { IsTrue (is_there self.old place) }
@@ -125,6 +130,7 @@ impl Links {
     }
 
     // Takes a place off its ring.
+    #[inline(always)]
     pub(crate) fn leave(&mut self, place: Place)
         requires place { IsTrue (is_there self.old place) }
         requires before { IsTrue (is_there self.old (previous_of self.old place)) }

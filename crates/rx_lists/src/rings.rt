@@ -44,6 +44,7 @@ impl Rings {
     }
 
     /// What holds of all such lists.
+    #[inline(always)]
     pub fn promise(&self)
         ensures { IsPlain self.now }
     {
@@ -61,6 +62,7 @@ impl Rings {
     }
 
     /// Whether there is no list.
+    #[inline(always)]
     pub fn is_empty(&self) -> bool
         ensures { result ≡ (length self.now.lists == 0) }
     {
@@ -68,6 +70,7 @@ impl Rings {
     }
 
     /// How many numbers may stand on lists: all below this one.
+    #[inline(always)]
     pub fn members(&self) -> usize
         ensures { result ≡ self.now.members }
     {
@@ -104,6 +107,7 @@ impl Rings {
     }
 
     /// The first number on a list.
+    #[inline(always)]
     pub fn first(&self, list: usize) -> Option<usize>
         ensures { result ≡ head_of (list_at self.now list) }
     {
@@ -114,6 +118,7 @@ impl Rings {
     }
 
     /// The last number on a list.
+    #[inline(always)]
     pub fn last(&self, list: usize) -> Option<usize>
         ensures { result ≡ last_of (list_at self.now list) }
     {
@@ -124,6 +129,7 @@ impl Rings {
     }
 
     /// The number that follows one on its list.
+    #[inline(always)]
     pub fn next(&self, member: usize) -> Option<usize>
         ensures { (e : _) → is_in member (list_at self.now e) ≡ true → result ≡ after member (list_at self.now e) }
     {
@@ -134,6 +140,7 @@ impl Rings {
     }
 
     /// Whether a number stands on no list.
+    #[inline(always)]
     pub fn is_free(&self, member: usize) -> bool
         ensures free { result ≡ true → (e : _) → is_in member (list_at self.now e) ≡ false }
         ensures stands { result ≡ false → (e : ℕ) × (is_in member (list_at self.now e) ≡ true) }
@@ -146,6 +153,7 @@ impl Rings {
     }
 
     /// Puts a number last on a list.
+    #[inline(always)]
     pub fn join(&mut self, list: usize, member: usize)
         requires list { list < length self.old.lists }
         requires member { member < self.old.members }
@@ -160,6 +168,7 @@ impl Rings {
     }
 
     /// Takes a number off its list.
+    #[inline(always)]
     pub fn leave(&mut self, member: usize)
         requires member { member < self.old.members }
         ensures lists { (e : _) → list_at self.new e ≡ take_out member (list_at self.old e) }
