@@ -41,6 +41,7 @@ impl Model for Leases {
 }
 
 // Lets one list be there.
+#[inline(always)]
 fn begin(order: &mut Rings) -> Result<(), AllocError>
     requires { length order.old.lists ≤ 1 }
     ensures ok { OnOk result (length order.new.lists ≡ 1) }
@@ -76,6 +77,7 @@ impl Leases {
     }
 
     /// What holds of all leases: no two have one number.
+    #[inline(always)]
     pub fn promise(&self)
         ensures { AreApart self.now }
     {
@@ -85,6 +87,7 @@ impl Leases {
     /// Makes room for `additional` leases more, so that giving out as many takes no memory.
     ///
     /// Refused only where there was less room and memory was refused. No lease changes either way.
+    #[inline(always)]
     pub fn reserve(&mut self, additional: usize) -> Result<(), AllocError>
         ensures ok { OnOk result (additional ≤ self.new.room) }
         ensures kept { self.new ≡ record self.old { room = self.new.room } }
@@ -96,6 +99,7 @@ impl Leases {
 
     /// Lets a lease of this resource be out under this number, which is greater than any before, and
     /// gives its key. It takes no memory.
+    #[inline(always)]
     pub fn lease(&mut self, number: u64, res: ResKey) -> LeaseKey
         requires newest { IsPast self.old number }
         requires room { 0 < self.old.room }
@@ -120,6 +124,7 @@ impl Leases {
     }
 
     /// The key of the resource of a lease; None where no such lease is out.
+    #[inline(always)]
     pub fn get(&self, lease: LeaseKey) -> Option<ResKey>
         ensures { result ≡ find self.now (lease_key lease) }
     {
@@ -133,6 +138,7 @@ impl Leases {
 
     /// Lets the lease be out no more, and gives the key of its resource; None where no such lease is
     /// out. It takes no memory.
+    #[inline(always)]
     pub fn give_back(&mut self, lease: LeaseKey) -> Option<ResKey>
         ensures value { result ≡ find self.old (lease_key lease) }
         ensures gone { find self.new (lease_key lease) ≡ None }
@@ -165,6 +171,7 @@ impl Leases {
     }
 
     /// How many leases are out.
+    #[inline(always)]
     pub fn len(&self) -> usize
         ensures value { result ≡ self.now.count }
         ensures counted { result ≡ count_by is_some self.now.entries }
