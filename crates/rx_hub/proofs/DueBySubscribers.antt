@@ -16,7 +16,7 @@ use Rattle.rx_hub.specs.declared.hub.Published.{Published}
 use Rattle.rx_hub.specs.declared.forcing.Rule.{Rule}
 use Rattle.rx_hub.specs.declared.forcing.Rule.TheVariants.{Connect, Other}
 use Rattle.rx_hub.specs.Chains.{IsCalm, IsChain, IsAt}
-use Rattle.rx_hub.specs.Due.{IsDueIn, NoneWaits, connects, acts, is_auto, is_cut, connect_of, due_of, cut_of, left_of}
+use Rattle.rx_hub.specs.Due.{IsDueIn, IsQuiet, NoneWaits, connects, acts, is_auto, is_cut, connect_of, due_of, cut_of, left_of}
 use Rattle.rx_hub.specs.Hubs.{Hub, Hubs, IsPromised, AreAbove, Rises, published_of, last_from}
 use Rattle.rx_lists.specs.Lists.{Lists, list_at, is_in, take_out, head_of}
 use Rattle.rx_hub.specs.Rules.{connect_by, cut_by, due_by, given_by}
@@ -140,6 +140,23 @@ found_if due hubs index (Some d) e = found_at due hubs index d (sym e)
 pub none_of : {X : Type 0} (o : Option X) (b : Bool) → b ≡ is_some o → b ≡ false → o ≡ None
 none_of None b e f = refl
 none_of (Some x) b e f = absurd (true≢false (sym e ∙ f))
+
+-- where there is no hub nothing is due at any
+pub quiet_none : (hubs : List Hub) → length hubs ≡ 0 → IsQuiet hubs
+quiet_none [] none = record { connected = λ i hub got. absurd (none-some hub got); quiet = λ i hub got. absurd (none-some hub got) }
+quiet_none (x ∷ hubs) none = absurd (omega arith)
+
+-- nor where nothing stands on the chains
+off_chain : (indices : List ℕ) → head_of indices ≡ None → (i : ℕ) → is_in i indices ≡ false
+off_chain [] none i = refl
+off_chain (x ∷ indices) none i = absurd (none-some x (sym none))
+
+pub quiet_chains : (hubs : List Hub) (waiting due : Lists) → IsCalm connect_of hubs waiting → IsCalm due_of hubs due →
+    head_of (list_at waiting 0) ≡ None → head_of (list_at due 0) ≡ None → IsQuiet hubs
+quiet_chains hubs waiting due no_wait no_act none_waits none_due = record {
+  connected = λ i hub at_i. no_wait i hub at_i (off_chain (list_at waiting 0) none_waits i);
+  quiet = λ i hub at_i. no_act i hub at_i (off_chain (list_at due 0) none_due i);
+}
 
 pub chain_left : (old new : Lists) → length new.lists ≡ length old.lists → new.members ≡ old.members → IsChain old → IsChain new
 chain_left old new count members chain =

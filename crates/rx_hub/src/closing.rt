@@ -19,15 +19,18 @@ impl Hubs {
         requires closing { AreClosing self.old.hubs closed.now }
         ensures { self.new ≡ record self.old { hubs = map (after_closing closed.now ended) self.old.hubs } }
     {
+        if self.len() == 0 {
+            return;
+        }
         for one in closed {
-            self.leave_one(*one, ended);
+            self.leave_one(one, ended);
         }
     }
 
     // Lets one closed node leave the hub that it subscribed to, or connected.
-    fn leave_one(&mut self, closed: Closed, ended: Option<LastEnd>)
-        requires known { IsKnown self.old.hubs closed }
-        ensures { self.new ≡ record self.old { hubs = map (after_closing (closed ∷ []) ended) self.old.hubs } }
+    fn leave_one(&mut self, closed: &Closed, ended: Option<LastEnd>)
+        requires known { IsKnown self.old.hubs closed.now }
+        ensures { self.new ≡ record self.old { hubs = map (after_closing (closed.now ∷ []) ended) self.old.hubs } }
     {
         if let Some(hub) = closed.node.made.subscribes_to() {
             self.leave(hub, closed.key);

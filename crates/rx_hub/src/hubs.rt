@@ -1,7 +1,7 @@
 //! Hubs with what may be due at them.
 
 ghost use Rattle.std.specs.Prelude.{◌≡◌, ◌+◌, ◌<◌, ◌≤◌, ◌++◌, ◌∷◌, [], length, option_map, max, slice_get};
-ghost use Rattle.std.specs.Prelude.{OnOk, OnErr, IsOk, IsTrue, IfSome, IfNone, IsSome, Some, None};
+ghost use Rattle.std.specs.Prelude.{OnOk, OnErr, IsOk, IsTrue, IfSome, IfNone, IsSome, Some, None, true};
 ghost use Rattle.std.specs.Option.{option_and_then};
 ghost use Rattle.rx_hub.specs.Chains.{IsChain, Notes, Puts};
 ghost use Rattle.rx_hub.specs.Rules.{given_by};
@@ -260,6 +260,20 @@ impl Hubs {
         self.store.disconnect(index, ended);
         note(&self.store, &mut self.waiting, Rule::Connect, index);
         note(&self.store, &mut self.due, Rule::Other, index);
+    }
+
+    /// Whether no hub was changed so that something may be due there: then nothing is due at any.
+    #[inline(always)]
+    pub fn is_calm(&self) -> bool
+        ensures { result ≡ true → IsQuiet self.now.hubs }
+    {
+        if self.store.len() == 0 {
+            return true;
+        }
+        if self.waiting.first(0).is_some() {
+            return false;
+        }
+        self.due.first(0).is_none()
     }
 
     /// What a hub has to do next: connect, before anything else, where a hub with RefCount has a

@@ -1,7 +1,19 @@
-use Rattle.std.proofs.Common.{List, ap, arith}
+use Rattle.std.proofs.Common.{◌≡◌, List, [], ◌∷◌, length, map, refl, ap, arith}
+use Rattle.rx_hub.specs.Closing.{after_closing}
 use Rattle.rx_hub.specs.Hubs.{Hub, Hubs}
 use Rattle.rx_hub.proofs.ClosedLemmas.{closed_first, closed_step, known_at}
 use Rattle.rx_hub.proofs.hubs.Hubs.leave_closed.Goals as goal
+
+-- where there is no hub none changes
+none_changed : (f : Hub → Hub) (hubs : List Hub) → length hubs ≡ 0 → hubs ≡ map f hubs
+none_changed f [] none = refl
+none_changed f (hub ∷ hubs) none = absurd (omega arith)
+
+pub returns-then-len-eq0 : goal.returns-then-len-eq0
+returns-then-len-eq0 c =
+    let count = c.len.ensures in
+    let is_none = c.if-len-eq0.true in
+    ap (λ (hs : List Hub). record c.args.self.now { hubs = hs }) (none_changed (after_closing c.args.closed.now c.args.ended) c.args.self.now.hubs (omega arith))
 
 pub loop-one-init : goal.loop-one-init
 loop-one-init c = ap (λ (hs : List Hub). record c.args.self.now { hubs = hs }) (closed_first c.args.ended c.args.self.now.hubs)
