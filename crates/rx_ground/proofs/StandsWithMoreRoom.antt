@@ -1,5 +1,6 @@
 -- A ground that has just been made stands, and one that stands does so with more room.
-use Rattle.std.proofs.Common.{◌≡◌, ℕ, List, [], get_or, slice_get, Option, None, sym, ap, subst, ◌∙◌, arith, is_some}
+use Rattle.std.proofs.Common.{◌≡◌, ℕ, ◌+◌, ◌≤◌, List, [], get_or, slice_get, Option, None, refl, sym, ap, subst, ◌∙◌, arith, is_some}
+use Rattle.std.specs.Prelude.{Result, Ok, Err, OnOk, OnErr}
 use Rattle.std.proofs.lemmas.Bool.{both_ways, false≢true}
 use Rattle.std.proofs.lemmas.Option.{none-some}
 use Rattle.rx_event.specs.Kept.{Kept}
@@ -7,7 +8,8 @@ use Rattle.rx_resource.specs.declared.Resource.{Ghosts}
 use Rattle.rx_event.specs.declared.event.Event.{Event}
 use Rattle.rx_event.specs.Tree.{is_open}
 use Rattle.rx_event.specs.Totals.{debt, open_count}
-use Rattle.rx_event.specs.Forced.{IsSettled, MayWait}
+use Rattle.rx_event.specs.declared.event.Event.TheVariants.{Connect}
+use Rattle.rx_event.specs.Forced.{IsSettled, MayWait, none_waits, connecting}
 use Rattle.rx_event.proofs.Laws.Openness.{is_open_past}
 use Rattle.rx_slots.specs.declared.Entry.{Entry}
 use Rattle.rx_slots.specs.declared.Key.{Key}
@@ -21,7 +23,8 @@ use Rattle.rx_register.specs.State.{State as Register}
 use Rattle.rx_register.proofs.Laws.Empty.{settled_empty, paid_empty}
 use Rattle.rx_ground.specs.Shown.{Ground}
 use Rattle.rx_hub.specs.Hubs.{Hub, Hubs}
-use Rattle.rx_ground.specs.Ties.{HasKey, AreRecords, IsStored, IsTied, AreTied, AreLeased, IsStanding, IsRoomier}
+use Rattle.rx_ground.specs.Ties.{HasKey, AreRecords, IsStored, IsTied, AreTied, AreLeased, IsStanding, IsRoomier, SetsAside, HasRoom, HasRoomBeside}
+use Rattle.rx_ground.specs.declared.base.Wanted.{Wanted}
 use Rattle.rx_ground.proofs.Leases.{leased_empty, leased_same}
 use Rattle.rx_ground.proofs.HubsAfterEvent.{tied_beside}
 
@@ -115,16 +118,17 @@ module _ {T : Type 0} (g : Ghosts T) where
         uses = is.uses;
       }
 
-  -- a ground with more room
-  pub standing_roomier : (old new : Ground T) → IsRoomier old new → IsStanding g old → IsStanding g new
-  standing_roomier old new more s = record {
+  -- a ground with more room, of which enough is set aside for closing everything
+  pub standing_roomier : (old new : Ground T) → IsRoomier old new → debt old.register.base old.register.history ≤ new.register.room →
+      IsStanding g old → IsStanding g new
+  standing_roomier old new more enough s = record {
     tied = subst (λ (r : Register). AreTied r.base g r.history new.tree new.hubs) (sym more.register) tied;
     leased = subst (λ (h : List Event). AreLeased h new.tree.resources new.leases) (sym history) leased;
     settled = subst (λ (r : Register). IsSettled r.base r.history) (sym more.register) s.settled;
     paid = record {
-      waits = s.paid.waits;
-      may_wait = subst (λ (h : List Event). MayWait h s.paid.waits) (sym history) s.paid.may_wait;
-      events = let d = ap (λ (r : Register). debt r.base r.history) more.register in let e = s.paid.events in let m = more.room in omega arith;
+      waits = 0;
+      may_wait = subst (λ (h : List Event). MayWait h 0) (sym history) (none_waits (λ k due. s.settled.none (Connect k) (connecting due)));
+      events = let d = ap (λ (r : Register). debt r.base r.history) more.register in omega arith;
       notes = let o = ap (λ (h : List Event). open_count h) history in let n = s.paid.notes in let m = more.mail_room in omega arith;
       pending = ap (λ (r : Register). r.pending) more.register ∙ s.paid.pending;
     };
@@ -152,3 +156,82 @@ module _ {T : Type 0} (g : Ghosts T) where
           tied_beside g old.register.base (ap (λ (hubs : Hubs). hubs.hubs) more.hubs)
           (λ key some. ap is_some (same_finds old.tree.nodes new.tree.nodes nodes key) ∙ some) s.tied
           (tied_same_entries old.register.base old.register.history old.tree new.tree nodes resources more.chain s.tied.of_tree)
+
+-- other room set aside ------------------------------------------------------------------------------
+
+-- by what the register answers that sets it aside
+on_ok : {A E : Type 0} {P Q : Type 0} (answer : Result A E) → (P → Q) → OnOk answer P → OnOk answer Q
+on_ok (Ok x) f p = f p
+on_ok (Err e) f p = tt
+
+pub aside_wanted : {A E : Type 0} (answer : Result A E) (room owing load events : ℕ) → load ≡ owing → OnOk answer (room ≡ load + events) →
+    OnOk answer (owing + events ≤ room)
+aside_wanted answer room owing load events same = on_ok answer (λ is. omega arith)
+
+pub aside_enough : {A E : Type 0} (answer : Result A E) (old new : Register) (owing load events : ℕ) → load ≡ owing → owing ≤ old.room →
+    OnOk answer (new.room ≡ load + events) → OnErr answer (new ≡ old) → owing ≤ new.room
+aside_enough (Ok x) old new owing load events same paid is kept = omega arith
+aside_enough (Err e) old new owing load events same paid is kept = let room = ap (λ (r : Register). r.room) kept in omega arith
+
+module _ {T : Type 0} where
+  -- another register, in which no more than the room changed
+  pub sets_aside : (old : Ground T) (register : Register) → register ≡ record old.register { room = register.room } →
+      debt old.register.base old.register.history ≤ register.room → SetsAside old (record old { register = register })
+  sets_aside old register kept enough = record { kept = ap (λ (r : Register). record old { register = r }) kept; enough = enough }
+
+  -- where the register stayed so did all
+  pub same_register : (old seen : Ground T) (register : Register) → register ≡ old.register → old ≡ seen → record old { register = register } ≡ seen
+  same_register old seen register same is = ap (λ (r : Register). record old { register = r }) same ∙ is
+
+  aside_roomier : {old new : Ground T} → SetsAside old new → IsRoomier old new
+  aside_roomier {old} {new} aside =
+      subst (IsRoomier old) (sym aside.kept) (record {
+        register = refl;
+        mail_room = omega arith;
+        nodes = refl;
+        resources = refl;
+        chain = refl;
+        hubs = refl;
+        leases = refl;
+      })
+
+  pub standing_aside : (g : Ghosts T) (old new : Ground T) → SetsAside old new → IsStanding g old → IsStanding g new
+  standing_aside g old new aside = standing_roomier g old new (aside_roomier aside) aside.enough
+
+  pub roomier_aside : (old new : Ground T) → SetsAside old new → IsRoomier old new
+  roomier_aside old new aside = aside_roomier aside
+
+  -- and then more room
+  pub roomier_after_aside : (old mid new : Ground T) → SetsAside old mid → IsRoomier mid new → IsRoomier old new
+  roomier_after_aside old mid new aside more =
+      subst (λ (b : Ground T). IsRoomier b new → IsRoomier old new) (sym aside.kept) (λ m. record {
+        register = m.register;
+        mail_room = m.mail_room;
+        nodes = m.nodes;
+        resources = m.resources;
+        chain = m.chain;
+        hubs = m.hubs;
+        leases = m.leases;
+      }) more
+
+  -- room beside what closing everything needs, of which that for the events was set aside before
+  pub has_beside : (old new : Ground T) (wanted : Wanted) {alive : ℕ} → alive ≡ open_count old.register.history → IsRoomier old new →
+      old.register.room ≤ new.register.room → debt old.register.base old.register.history + wanted.events ≤ old.register.room →
+      HasRoom new (record {
+        events = 0;
+        notes = alive + wanted.notes;
+        nodes = wanted.nodes;
+        resources = wanted.resources;
+        hubs = wanted.hubs;
+        leases = wanted.leases;
+      }) → HasRoomBeside new wanted
+  has_beside old new wanted nodes more room events has = record {
+    events = let d = ap (λ (r : Register). debt r.base r.history) more.register in omega arith;
+    notes = let o = ap (λ (r : Register). open_count r.history) more.register in let n = has.notes in omega arith;
+    nodes = has.nodes;
+    space = has.space;
+    resources = has.resources;
+    hubs = has.hubs;
+    slots = has.slots;
+    leases = has.leases;
+  }

@@ -35,6 +35,7 @@ use Rattle.rx_flow.specs.Records.{AreRecordsOf}
 use Rattle.rx_flow.proofs.Laws.Dues.{due_at_in, due_forced}
 use Rattle.rx_ground.specs.Ties.{AreLeased, AreRecords, AreTied, IsReady, WithChain, IsNext, KeepsOlder, Remarks, HasRoomToConnect, is_there, key_due}
 use Rattle.rx_ground.specs.Memory.{TakesNoMemory}
+use Rattle.rx_ground.specs.Settling.{Settles}
 use Rattle.rx_ground.proofs.Memory.{memory_on}
 use Rattle.rx_ground.specs.Shown.{Ground}
 use Rattle.rx_ground.proofs.Records.{as_records, rechained}
@@ -74,11 +75,6 @@ module _ (base : Kept) {T : Type 0} (g : Ghosts T) (h : List Event) (tree : Tree
   -- and where nothing is either, nothing is forced
   pub quiet_settled : IsQuietTree tree.nodes → IsSettled base h
   quiet_settled all = quiet_settles base h tree.nodes hubs.hubs records tied.published all quiet
-
--- where there is no hub nothing is due at any
-pub quiet_hubs : (hubs : List Hub) → length hubs ≡ 0 → IsQuiet hubs
-quiet_hubs [] none = record { connected = λ i hub got. absurd (none-some hub got); quiet = λ i hub got. absurd (none-some hub got) }
-quiet_hubs (x ∷ hubs) none = absurd (omega arith)
 
 -- where nothing stands on the chain nothing is due at any record
 pub quiet_chain : {base : Kept} {h : List Event} {nodes : Slots Node} {chain : List Key} → AreRecords base h nodes chain → chain ≡ [] → IsQuietTree nodes
@@ -172,6 +168,22 @@ way_starts g b tied leased paid room = record {
   limit = refl;
   given = refl;
   memory = record { events = refl; notes = refl; nodes = refl; resources = refl; hubs = refl; slots = refl; closing = refl };
+}
+
+-- where nothing is forced any more the way is at its end
+pub settled : {T : Type 0} {g : Ghosts T} {start now : Ground T} → IsSettled now.register.base now.register.history → IsOnTheWay g start now →
+    Settles g start now
+settled none w = record {
+  standing = record { tied = w.tied; leased = w.leased; settled = none; paid = w.paid };
+  base = w.base;
+  forced = w.forced;
+  nodes = w.nodes;
+  resources = w.resources;
+  limit = w.limit;
+  given = w.given;
+  hubs = w.hubs;
+  leases = w.same_leases;
+  memory = w.memory;
 }
 
 -- another chain is no other way

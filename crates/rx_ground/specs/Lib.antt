@@ -4,6 +4,7 @@ pub mod Passing
 pub mod Memory
 pub mod Shown
 pub mod Ties
+pub mod Settling
 pub mod Inners
 pub mod Told
 pub mod Checkpoints

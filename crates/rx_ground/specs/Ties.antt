@@ -135,16 +135,20 @@ module _ {T : Type 0} where
     pub settled : IsSettled b.register.base b.register.history
     pub paid : IsPaid b.register
 
-  -- there may be more room, and nothing else changed
+  -- there may be more room, and more or less of it set aside for events, and nothing else changed
   pub record IsRoomier (old new : Ground T) : Type 0 where
     pub register : new.register ≡ record old.register { room = new.register.room; mail_room = new.register.mail_room }
-    pub room : old.register.room ≤ new.register.room
     pub mail_room : old.register.mail_room ≤ new.register.mail_room
     pub nodes : new.tree.nodes ≡ record old.tree.nodes { room = new.tree.nodes.room }
     pub resources : new.tree.resources ≡ record old.tree.resources { room = new.tree.resources.room }
     pub chain : new.tree.chain ≡ old.tree.chain
     pub hubs : new.hubs ≡ record old.hubs { room = new.hubs.room; slots = new.hubs.slots }
     pub leases : new.leases ≡ record old.leases { room = new.leases.room }
+
+  -- other room is set aside for events, no less than closing everything needs, and nothing else changed
+  pub record SetsAside (old new : Ground T) : Type 0 where
+    pub kept : new ≡ record old { register = record old.register { room = new.register.room } }
+    pub enough : debt old.register.base old.register.history ≤ new.register.room
 
   -- there is room for what a call wants; where there are hubs, a subscriber may stand at each slot of the tree
   pub record HasRoom (b : Ground T) (wanted : Wanted) : Type 0 where

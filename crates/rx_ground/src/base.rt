@@ -224,10 +224,11 @@ impl<R: Resource> Ground<R> {
     /// some of the room may have been gotten, and nothing else changed.
     #[inline(always)]
     pub fn reserve(&mut self, wanted: Wanted) -> Result<(), AllocError>
-        requires { length self.old.register.history + wanted.events ≤ self.old.register.base.at_length +
+        requires within { length self.old.register.history + wanted.events ≤ self.old.register.base.at_length +
             self.old.register.limit }
         ensures ok { OnOk result (HasRoom self.new wanted) }
         ensures kept { IsRoomier self.old self.new }
+        ensures room { self.old.register.room ≤ self.new.register.room }
     {
         self.register.reserve(wanted.events)?;
         self.register.reserve_mail(wanted.notes as usize)?;

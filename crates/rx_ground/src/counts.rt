@@ -11,7 +11,7 @@ ghost use Rattle.rx_tree.specs.Tree.{IsFirst, IsRoot, HasNone};
 ghost use Rattle.rx_tree.specs.Resources.{is_held_at, is_owned_at};
 ghost use Rattle.rx_lease.specs.Leases.{IsOut, is_out_at, lease_key};
 ghost use Rattle.rx_register.specs.State.{IsLoadOf};
-ghost use Rattle.rx_ground.specs.Ties.{IsStanding, IsRoomier, HasRoomBeside};
+ghost use Rattle.rx_ground.specs.Ties.{IsStanding, IsRoomier, HasRoomBeside, SetsAside};
 ghost use Rattle.rx_ground.specs.Memory.{HasNoRoom};
 
 use crate::base::{Ground, Wanted};
@@ -21,7 +21,7 @@ use rx_lease::{LeaseKey, Leases};
 use rx_register::{Load, Register};
 use rx_resource::Resource;
 use rx_tree::{Key, ResKey, Tree};
-use std::alloc::Global;
+use std::alloc::{AllocError, Global};
 
 impl<R: Resource> Ground<R> {
     /// With no events, and of at most `limit` since the base, which is at most 4,294,967,295. It takes no
@@ -205,20 +205,70 @@ impl<R: Resource> Ground<R> {
         ensures kept { IsRoomier self.old self.new }
         ensures standing { IsStanding R.Resource self.new }
     {
+        match self.set_aside(wanted.events) {
+            Ok(()) => self.make_rest(wanted),
+            Err(_) => Err(Refusal::NoMemory),
+        }
+    }
+
+    // The same where room for the events is set aside.
+    #[inline(always)]
+    fn make_rest(&mut self, wanted: Wanted) -> Result<(), Refusal>
+        requires standing { IsStanding R.Resource self.old }
+        requires events { debt self.old.register.base self.old.register.history + wanted.events ≤ self.old.register.room }
+        requires notes { wanted.notes ≤ 4294967295 }
+        ensures ok { OnOk result (HasRoomBeside self.new wanted) }
+        ensures err { IfErr result (λ why. why ≡ Refusal.NoMemory) }
+        ensures kept { IsRoomier self.old self.new }
+        ensures standing { IsStanding R.Resource self.new }
+    {
         self.promise();
-        let load = self.load();
-        let in_all = Wanted {
-            events: load.debt + wanted.events,
-            notes: load.open + wanted.notes,
+        let open = self.open_count();
+        let rest = Wanted {
+            events: 0,
+            notes: open + wanted.notes,
             nodes: wanted.nodes,
             resources: wanted.resources,
             hubs: wanted.hubs,
             leases: wanted.leases,
         };
-        match self.reserve(in_all) {
+        match self.reserve(rest) {
             Ok(()) => Ok(()),
             Err(_) => Err(Refusal::NoMemory),
         }
+    }
+
+    // Sets room for so many events aside, beside what is kept for closing everything. Where there is spare
+    // room, that is not summed.
+    #[inline(always)]
+    fn set_aside(&mut self, events: u64) -> Result<(), AllocError>
+        requires standing { IsStanding R.Resource self.old }
+        requires within { length self.old.register.history + debt self.old.register.base self.old.register.history + events ≤
+            self.old.register.base.at_length + self.old.register.limit }
+        ensures ok { OnOk result (debt self.old.register.base self.old.register.history + events ≤ self.new.register.room) }
+        ensures aside { SetsAside self.old self.new }
+    {
+        if self.register.take_spare(events) {
+            return Ok(());
+        }
+        self.sum_up(events)
+    }
+
+    // The same by what closing everything needs, summed. Room that was set aside for what came to an end in
+    // another way is spare again.
+    #[cold]
+    #[inline(never)]
+    fn sum_up(&mut self, events: u64) -> Result<(), AllocError>
+        requires standing { IsStanding R.Resource self.old }
+        requires within { length self.old.register.history + debt self.old.register.base self.old.register.history + events ≤
+            self.old.register.base.at_length + self.old.register.limit }
+        ensures ok { OnOk result (debt self.old.register.base self.old.register.history + events ≤ self.new.register.room) }
+        ensures aside { SetsAside self.old self.new }
+    {
+        self.promise();
+        let load = self.load();
+        let wanted = load.debt + events;
+        self.register.set_aside(wanted)
     }
 
     /// The next of the notes, which is then handed out; None where all were. It takes no memory.

@@ -162,9 +162,22 @@ impl<R: Resource> Ground<R> {
     }
 
     /// Whether so many events and reservations more would pass the limit, with what closing everything
-    /// needs counted in.
+    /// needs counted in. Where there is spare room, that is not summed.
     #[inline(always)]
     pub(crate) fn is_over(&self, more: u64) -> bool
+        requires { IsStanding R.Resource self.now }
+        ensures { result ≡ is_over_in self.now.register.base self.now.register.history self.now.register.limit more }
+    {
+        if self.register.has_spare(more) {
+            return false;
+        }
+        self.is_over_in_all(more)
+    }
+
+    // The same by what closing everything needs, summed.
+    #[cold]
+    #[inline(never)]
+    fn is_over_in_all(&self, more: u64) -> bool
         requires { IsStanding R.Resource self.now }
         ensures { result ≡ is_over_in self.now.register.base self.now.register.history self.now.register.limit more }
     {

@@ -388,7 +388,7 @@ impl<R: Resource> Ground<R> {
         let Some(reach) = self.measured(leaf) else {
             return Err(Refusal::TooMany);
         };
-        if self.register.is_over(self.load(), reach.events) {
+        if self.is_over(reach.events) {
             return Err(Refusal::Full);
         }
         Ok(reach)

@@ -10,6 +10,7 @@ ghost use Rattle.rx_hub.specs.Due.{event_of};
 ghost use Rattle.rx_ground.specs.Ties.{AreTied, AreLeased, IsStanding, IsReady, IsNext, KeepsOlder, WithChain};
 ghost use Rattle.rx_ground.specs.Ties.{HasRoomToConnect, is_there, key_due};
 ghost use Rattle.rx_ground.specs.Memory.{TakesNoMemory};
+ghost use Rattle.rx_ground.specs.Settling.{Settles};
 
 use crate::base::Ground;
 use rx_flow::{Due, next_due};
@@ -17,14 +18,14 @@ use rx_hub::HubDue;
 use rx_resource::Resource;
 
 impl<R: Resource> Ground<R> {
-    /// Whether there is no hub, and no node was changed so that it may have to end: then nothing is forced.
+    /// Whether no hub and no node was changed so that something may be due there: then nothing is forced.
     #[inline(always)]
     fn is_calm(&self) -> bool
         requires tied { AreTied self.now.register.base R.Resource self.now.register.history self.now.tree
             self.now.hubs }
         ensures { result ≡ true → IsSettled self.now.register.base self.now.register.history }
     {
-        if self.hubs.len() > 0 {
+        if !self.hubs.is_calm() {
             return false;
         }
         self.tree.is_calm()
@@ -115,6 +116,23 @@ impl<R: Resource> Ground<R> {
         ensures hubs { length self.new.hubs.hubs ≡ length self.old.hubs.hubs }
         ensures leases { self.new.leases ≡ self.old.leases }
         ensures memory { TakesNoMemory self.old self.new }
+    {
+        if self.is_calm() {
+            return;
+        }
+        self.settle_all();
+    }
+
+    // The same where something may be due.
+    #[cold]
+    #[inline(never)]
+    fn settle_all(&mut self)
+        requires tied { AreTied self.old.register.base R.Resource self.old.register.history self.old.tree
+            self.old.hubs }
+        requires leased { AreLeased self.old.register.history self.old.tree.resources self.old.leases }
+        requires paid { IsPaid self.old.register }
+        requires room { HasRoomToConnect self.old.register.history self.old.tree.nodes.room self.old.space }
+        ensures { Settles R.Resource self.old self.new }
     {
         while let Some(due) = self.next_forced() {
             self.promise();

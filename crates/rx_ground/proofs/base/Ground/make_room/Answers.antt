@@ -1,19 +1,17 @@
-use Rattle.std.proofs.Common.{arith}
-use Rattle.rx_ground.proofs.Loads.{open_count_in_debt}
-use Rattle.rx_ground.proofs.StandsWithMoreRoom.{standing_roomier}
+use Rattle.rx_ground.proofs.StandsWithMoreRoom.{standing_aside, roomier_aside, roomier_after_aside}
 use Rattle.rx_ground.proofs.base.Ground.make_room.Goals as goal
 
-pub overflow_add-in_all-2 : goal.overflow_add-in_all-2
-overflow_add-in_all-2 g c =
-    let part = open_count_in_debt c.args.self.now.register.base c.args.self.now.register.history in
-    let bounded = c.load-load.ensures.bound in
-    let nodes = c.load-load.ensures.load.open_count in
-    let debt_is = c.load-load.ensures.load.debt in
-    let few = c.requires.notes in
-    omega arith
+pub make_rest-requires-clause-standing : goal.make_rest-requires-clause-standing
+make_rest-requires-clause-standing g c κs within =
+    standing_aside g.R.Resource c.args.self.now c.set_aside.new.self c.set_aside.ensures.aside c.requires.standing
 
-pub returns-in-Ok-clause-standing : goal.returns-in-Ok-clause-standing
-returns-in-Ok-clause-standing g c = standing_roomier g.R.Resource c.args.self.now c.reserve.new.self c.reserve.ensures.kept c.requires.standing
+pub returns-in-Ok-clause-kept : goal.returns-in-Ok-clause-kept
+returns-in-Ok-clause-kept g c =
+    roomier_after_aside c.args.self.now c.set_aside.new.self c.make_rest.new.self c.set_aside.ensures.aside c.make_rest.ensures.kept
+
+pub returns-in-Err-clause-kept : goal.returns-in-Err-clause-kept
+returns-in-Err-clause-kept g c = roomier_aside c.args.self.now c.set_aside.new.self c.set_aside.ensures.aside
 
 pub returns-in-Err-clause-standing : goal.returns-in-Err-clause-standing
-returns-in-Err-clause-standing g c = standing_roomier g.R.Resource c.args.self.now c.reserve.new.self c.reserve.ensures.kept c.requires.standing
+returns-in-Err-clause-standing g c =
+    standing_aside g.R.Resource c.args.self.now c.set_aside.new.self c.set_aside.ensures.aside c.requires.standing

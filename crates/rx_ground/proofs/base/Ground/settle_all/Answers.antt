@@ -1,7 +1,7 @@
 use Rattle.std.proofs.Common.{ap, arith}
 use Rattle.rx_ground.specs.Shown.{Ground}
-use Rattle.rx_ground.proofs.TiedWhileSettling.{way_starts, way_rechained, way_on, next_ready, next_room}
-use Rattle.rx_ground.proofs.base.Ground.settle.Goals as goal
+use Rattle.rx_ground.proofs.TiedWhileSettling.{settled, way_starts, way_rechained, way_on, next_ready, next_room}
+use Rattle.rx_ground.proofs.base.Ground.settle_all.Goals as goal
 
 pub loop-due-init : goal.loop-due-init
 loop-due-init g c = record { way = way_starts g.R.Resource c.args.self.now c.requires.tied c.requires.leased c.requires.paid c.requires.room }
@@ -47,54 +47,8 @@ loop-due-smaller g c =
     let same = ap (λ (b : Ground g.row.R.Denot). b.register.room) c.in-Some.ensures.kept.same in
     omega arith
 
-pub returns-clause-standing : goal.returns-clause-standing
-returns-clause-standing g c =
-    let w =
-    way_rechained g.R.Resource c.args.self.now c.loop-due.self c.next_forced.new.self c.loop-due.invariant.way c.in_default.ensures.kept
-    c.in_default.ensures.tied in
-    record { tied = w.tied; leased = w.leased; settled = c.in_default.ensures.next; paid = w.paid }
-
-pub returns-clause-base : goal.returns-clause-base
-returns-clause-base g c =
+pub returns : goal.returns
+returns g c =
+    settled c.in_default.ensures.next
     (way_rechained g.R.Resource c.args.self.now c.loop-due.self c.next_forced.new.self c.loop-due.invariant.way c.in_default.ensures.kept
-    c.in_default.ensures.tied).base
-
-pub returns-clause-forced : goal.returns-clause-forced
-returns-clause-forced g c =
-    (way_rechained g.R.Resource c.args.self.now c.loop-due.self c.next_forced.new.self c.loop-due.invariant.way c.in_default.ensures.kept
-    c.in_default.ensures.tied).forced
-
-pub returns-clause-nodes : goal.returns-clause-nodes
-returns-clause-nodes g c =
-    (way_rechained g.R.Resource c.args.self.now c.loop-due.self c.next_forced.new.self c.loop-due.invariant.way c.in_default.ensures.kept
-    c.in_default.ensures.tied).nodes
-
-pub returns-clause-resources : goal.returns-clause-resources
-returns-clause-resources g c =
-    (way_rechained g.R.Resource c.args.self.now c.loop-due.self c.next_forced.new.self c.loop-due.invariant.way c.in_default.ensures.kept
-    c.in_default.ensures.tied).resources
-
-pub returns-clause-hubs : goal.returns-clause-hubs
-returns-clause-hubs g c =
-    (way_rechained g.R.Resource c.args.self.now c.loop-due.self c.next_forced.new.self c.loop-due.invariant.way c.in_default.ensures.kept
-    c.in_default.ensures.tied).hubs
-
-pub returns-clause-limit : goal.returns-clause-limit
-returns-clause-limit g c =
-    (way_rechained g.R.Resource c.args.self.now c.loop-due.self c.next_forced.new.self c.loop-due.invariant.way c.in_default.ensures.kept
-    c.in_default.ensures.tied).limit
-
-pub returns-clause-given : goal.returns-clause-given
-returns-clause-given g c =
-    (way_rechained g.R.Resource c.args.self.now c.loop-due.self c.next_forced.new.self c.loop-due.invariant.way c.in_default.ensures.kept
-    c.in_default.ensures.tied).given
-
-pub returns-clause-memory : goal.returns-clause-memory
-returns-clause-memory g c =
-    (way_rechained g.R.Resource c.args.self.now c.loop-due.self c.next_forced.new.self c.loop-due.invariant.way c.in_default.ensures.kept
-    c.in_default.ensures.tied).memory
-
-pub returns-clause-leases : goal.returns-clause-leases
-returns-clause-leases g c =
-    (way_rechained g.R.Resource c.args.self.now c.loop-due.self c.next_forced.new.self c.loop-due.invariant.way c.in_default.ensures.kept
-    c.in_default.ensures.tied).same_leases
+    c.in_default.ensures.tied)

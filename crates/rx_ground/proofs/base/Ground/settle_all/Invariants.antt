@@ -1,5 +1,5 @@
 use Rattle.rx_ground.proofs.TiedWhileSettling.{IsOnTheWay}
-use Rattle.rx_ground.proofs.base.Ground.settle.Given as goal
+use Rattle.rx_ground.proofs.base.Ground.settle_all.Given as goal
 
 abbrev pub invariant-loop-due : goal.invariant-loop-due
 invariant-loop-due g l = record { way : IsOnTheWay g.R.Resource l.fn.self l.self }
