@@ -58,6 +58,18 @@ impl Links {
         }
     }
 
+    // The same of a place that is there: nothing is asked.
+    #[inline(always)]
+    fn at(&self, place: Place) -> Link
+        requires there { IsTrue (is_there self.now place) }
+        ensures { result ≡ link_at self.now place }
+    {
+        match place {
+            Place::End(end) => self.ends[end],
+            Place::Member(member) => self.members[member],
+        }
+    }
+
     // Writes what comes after a place and before it.
     #[inline(always)]
     fn set_link(&mut self, place: Place, link: Link)
@@ -96,7 +108,7 @@ impl Links {
         ensures previous { (q : _) → previous_of self.new q ≡ set_step places other one (previous_of self.old) q }
         ensures rest { Relinks self.old self.new }
     {
-        let before = self.link(one);
+        let before = self.at(one);
         self.set_link(
             one,
             Link {
@@ -104,7 +116,7 @@ impl Links {
                 previous: before.previous,
             },
         );
-        let after = self.link(other);
+        let after = self.at(other);
         self.set_link(
             other,
             Link {
@@ -124,7 +136,7 @@ impl Links {
             (next_of self.new) (previous_of self.new) end place }
         ensures rest { Relinks self.old self.new }
     {
-        let last = self.link(end).previous;
+        let last = self.at(end).previous;
         self.tie(last, place);
         self.tie(place, end);
     }
@@ -139,7 +151,7 @@ impl Links {
             (next_of self.new) (previous_of self.new) place }
         ensures rest { Relinks self.old self.new }
     {
-        let link = self.link(place);
+        let link = self.at(place);
         self.tie(link.previous, link.next);
         self.tie(place, place);
     }

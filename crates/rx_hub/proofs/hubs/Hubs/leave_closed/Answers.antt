@@ -13,7 +13,8 @@ pub returns-then-len-eq0 : goal.returns-then-len-eq0
 returns-then-len-eq0 c =
     let count = c.len.ensures in
     let is_none = c.if-len-eq0.true in
-    ap (λ (hs : List Hub). record c.args.self.now { hubs = hs }) (none_changed (after_closing c.args.closed.now c.args.ended) c.args.self.now.hubs (omega arith))
+    ap (λ (hs : List Hub). record c.args.self.now { hubs = hs })
+    (none_changed (after_closing c.args.closed.now c.args.ended) c.args.self.now.hubs (omega arith))
 
 pub loop-one-init : goal.loop-one-init
 loop-one-init c = ap (λ (hs : List Hub). record c.args.self.now { hubs = hs }) (closed_first c.args.ended c.args.self.now.hubs)

@@ -8,8 +8,8 @@ use Rattle.rx_lists.proofs.links.Links.leave.Goals as goal
 
 pub returns-clause-leaves : goal.returns-clause-leaves
 returns-clause-leaves c =
-    let before = ap (λ k. k.previous) c.link-link.ensures in
-    let after = ap (λ k. k.next) c.link-link.ensures in
+    let before = ap (λ k. k.previous) c.at-link.ensures in
+    let after = ap (λ k. k.next) c.at-link.ensures in
     leaves_of places {n1 = next_of c.tie.new.self} {p1 = previous_of c.tie.new.self} (record {
       to = λ q. c.tie.ensures.next q ∙ (λ i. set_step places (before i) (after i) (next_of c.args.self.now) q);
       back = λ q. c.tie.ensures.previous q ∙ (λ i. set_step places (after i) (before i) (previous_of c.args.self.now) q);
