@@ -46,7 +46,7 @@ impl<R: Resource> Ground<R> {
     }
 
     /// Takes a lease back that is out.
-    #[inline(always)]
+    #[inline]
     pub fn write_return(&mut self, lease: LeaseKey)
         requires tied { AreTied self.old.register.base R.Resource self.old.register.history self.old.tree
             self.old.hubs }

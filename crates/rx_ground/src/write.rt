@@ -128,7 +128,7 @@ impl<R: Resource> Ground<R> {
     }
 
     /// Removes an owned resource from its node.
-    #[inline(always)]
+    #[inline]
     pub fn write_remove(&mut self, res: ResKey)
         requires tied { AreTied self.old.register.base R.Resource self.old.register.history self.old.tree
             self.old.hubs }
@@ -151,7 +151,7 @@ impl<R: Resource> Ground<R> {
     }
 
     /// Declines an item that was projected to this FlatMap or Switch.
-    #[inline(always)]
+    #[inline]
     pub fn write_decline(&mut self, merging: Key)
         requires tied { AreTied self.old.register.base R.Resource self.old.register.history self.old.tree
             self.old.hubs }
@@ -274,7 +274,7 @@ impl<R: Resource> Ground<R> {
     }
 
     /// Closes an open root, and all below it.
-    #[inline(always)]
+    #[inline]
     pub fn write_close(&mut self, node: Key)
         requires tied { AreTied self.old.register.base R.Resource self.old.register.history self.old.tree
             self.old.hubs }
