@@ -1,26 +1,40 @@
 -- What a line asks for.
-use Rattle.std.specs.Prelude.{◌≡◌, ℕ, ◌&&◌, ◌||◌, List, [], ◌∷◌, codes, Bool, false, Option, Some, None, is_some, option_map, option_and_then, if◌then◌else◌}
+use Rattle.std.specs.Prelude.{◌≡◌, ℕ, ◌&&◌, ◌||◌, List, [], ◌∷◌, codes, string_bytes, Bool, false, Option, Some, None, is_some}
+use Rattle.std.specs.Prelude.{option_map, option_and_then, if◌then◌else◌}
 use Rattle.std.specs.Str.{bytes_eq}
 use Rattle.std.specs.Option.{option_map_or}
 use Rattle.serde_json.specs.Data.{Data}
 use Rattle.serde_json.specs.Find.{get, as_str}
 use Rattle.rx_device.specs.Input.{IsJsonOf}
-use Rattle.rx_scenario.specs.Scenario.{Command, Action, command as command_of_step, cancel, command_of}
-use Rattle.rx_scenario.specs.Reading.{is_object_of, action_in}
+use Rattle.rx_scenario.specs.Scenario.{Name, Command, Action, command as command_of_step, cancel, command_of}
+use Rattle.rx_scenario.specs.Reading.{is_object_of, name_in, action_in}
 use Rattle.rx_line.specs.declared.order.Order.{Order as OrderInCode}
 use Rattle.rx_line.specs.declared.order.Unread.{Unread}
 use Rattle.rx_line.specs.declared.order.Unread.TheVariants.{Faulty, Memory}
-use Rattle.rx_line.specs.declared.order.Order.TheVariants.{Command as CommandThere, List as ListThere, Dump as DumpThere}
+use Rattle.rx_line.specs.declared.order.Order.TheVariants.{Command as CommandThere, Query as QueryThere, List as ListThere, Dump as DumpThere}
 
--- a command of the book; what is open and held; the history so far
+-- a command of the book; whether a node is open; what is open and held; the history so far
 pub data Order : Type 0 where
   command : Command → Order
+  query : (node : Name) → Order
   list : Order
   dump : Order
 
+-- `do` has this word
+unfoldable pub does : (word : List ℕ) → Data → Bool
+does word d = option_map_or (λ w. bytes_eq w word) (option_and_then as_str (get (codes "do") d)) false
+
 -- an object that has `do` alone, with this word
 unfoldable pub is_word : List ℕ → Data → Bool
-is_word word d = is_object_of (codes "do" ∷ []) d && option_map_or (λ w. bytes_eq w word) (option_and_then as_str (get (codes "do") d)) false
+is_word word d = is_object_of (codes "do" ∷ []) d && does word d
+
+-- an object that has `do`, with the word `is`, and `node` alone
+unfoldable pub is_query : Data → Bool
+is_query d = is_object_of (codes "do" ∷ codes "node" ∷ []) d && does (codes "is") d
+
+-- the node that is asked about
+unfoldable pub query_in : Data → Option Name
+query_in d = if is_query d then name_in (codes "node") d else None
 
 -- a member that steps of a scenario may have, and lines have not
 unfoldable pub is_timed : Data → Bool
@@ -34,15 +48,21 @@ only_command (cancel label) = None
 unfoldable pub command_in : Data → Option Command
 command_in d = if is_timed d then None else option_and_then only_command (action_in d)
 
+-- a command, or a question about a node
+abbrev pub command_or_query : Option Command → Option Name → Option Order
+command_or_query (Some c) node = Some (command c)
+command_or_query None node = option_map query node
+
 unfoldable pub order_in : Data → Option Order
 order_in d =
     if is_word (codes "list") d then Some list
     else if is_word (codes "dump") d then Some dump
-    else option_map command (command_in d)
+    else command_or_query (command_in d) (query_in d)
 
 -- what the code's values stand for
 abbrev pub order_of : OrderInCode → Order
 order_of (CommandThere c) = command (command_of c)
+order_of (QueryThere node) = query (string_bytes node)
 order_of ListThere = list
 order_of DumpThere = dump
 

@@ -2,8 +2,8 @@
 //!
 //! # Vocabulary
 //!
-//! - A **line** is the JSON text of one command of a scenario, or of `list` or `dump`; [`order_of`] reads it as
-//!   an [`Order`]. Which texts are orders, and which order, is defined in `specs/Orders.antt`.
+//! - A **line** is the JSON text of one command of a scenario, or of `is`, `list` or `dump`; [`order_of`] reads
+//!   it as an [`Order`]. Which texts are orders, and which order, is defined in `specs/Orders.antt`.
 //! - An **answer** is written of pieces, which are defined in `specs/Pieces.antt`: what was accepted, refused or
 //!   faulty, and a note that an observer is told.
 //! - [`Names`] is a space of names, each of which stands for one number (`specs/Names.antt`).

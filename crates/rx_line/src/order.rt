@@ -1,14 +1,15 @@
 //! What a line says.
 
-ghost use Rattle.std.specs.Prelude.{◌≡◌, option_map, IfOk, IfErr};
+ghost use Rattle.std.specs.Prelude.{◌≡◌, option_map, string_bytes, IfOk, IfErr};
 ghost use Rattle.rx_scenario.specs.Scenario.{command_of};
 ghost use Rattle.rx_device.specs.Part.{part_data};
-ghost use Rattle.rx_line.specs.Orders.{is_word, is_timed, command_in, order_in, order_of, IsOrderOf, IsFaulty, IsUnread};
+ghost use Rattle.rx_line.specs.Orders.{query, does, is_word, is_query, query_in, is_timed, command_in};
+ghost use Rattle.rx_line.specs.Orders.{order_in, order_of, IsOrderOf, IsFaulty, IsUnread};
 
 use crate::wanted::fault_of;
 use json::Scratch;
 use rx_device::{Part, ScriptError, ShapeError, parse_in_place};
-use rx_scenario::{Action, Command, action_in, is_object_of};
+use rx_scenario::{Action, Command, action_in, is_name, is_object_of};
 use serde_json::{Error, Value};
 use std::alloc::{AllocError, Global};
 
@@ -17,6 +18,8 @@ use std::alloc::{AllocError, Global};
 pub enum Order {
     /// A command of the book.
     Command(Command),
+    /// Whether the node of this name is open.
+    Query(String),
     /// What is open and held.
     List,
     /// The history so far.
@@ -60,12 +63,45 @@ fn fault_in(alloc: Global, line: &[u8]) -> Result<String, AllocError> {
     }
 }
 
+// Whether `do` has this word.
+#[tactic(auto, unfolding(crate::specs::Orders::does))]
+fn does(value: Part<'_, '_>, word: &str) -> bool
+    ensures { result ≡ does word.now (part_data value.entry) }
+{
+    value.get("do").and_then(Part::as_str) == Some(word)
+}
+
 // Whether a value is an object that has `do` alone, with this word.
 #[tactic(auto, unfolding(crate::specs::Orders::is_word))]
 fn is_word(value: Part<'_, '_>, word: &str) -> bool
     ensures { result ≡ is_word word.now (part_data value.entry) }
 {
-    is_object_of(value, &["do"]) && value.get("do").and_then(Part::as_str) == Some(word)
+    is_object_of(value, &["do"]) && does(value, word)
+}
+
+// Whether a value is an object that has `do`, with the word `is`, and `node` alone.
+#[tactic(auto, unfolding(crate::specs::Orders::is_query))]
+fn is_query(value: Part<'_, '_>) -> bool
+    ensures { result ≡ is_query (part_data value.entry) }
+{
+    is_object_of(value, &["do", "node"]) && does(value, "is")
+}
+
+// The node that a value asks about.
+#[tactic(auto, unfolding(crate::specs::Orders::query_in, rx_scenario::specs::Reading::name_in))]
+fn query_in(alloc: Global, value: Part<'_, '_>) -> Result<Option<String>, AllocError>
+    ensures { IfOk result (λ n. option_map string_bytes n ≡ query_in (part_data value.entry)) }
+{
+    if !is_query(value) {
+        return Ok(None);
+    }
+    let Some(name) = value.get("node").and_then(Part::as_str) else {
+        return Ok(None);
+    };
+    if !is_name(name) {
+        return Ok(None);
+    }
+    Ok(Some(String::from_str(alloc, name)?))
 }
 
 // Whether a member is one of a step, and of no line.
@@ -95,6 +131,16 @@ fn command_in(alloc: Global, value: Part<'_, '_>) -> Result<Option<Command>, All
     }
 }
 
+// What a value asks for that is no command.
+fn query_order(alloc: Global, value: Part<'_, '_>) -> Result<Option<Order>, AllocError>
+    ensures { IfOk result (λ o. option_map order_of o ≡ option_map query (query_in (part_data value.entry))) }
+{
+    match query_in(alloc, value)? {
+        Some(node) => Ok(Some(Order::Query(node))),
+        None => Ok(None),
+    }
+}
+
 // What a value asks for.
 #[tactic(auto, unfolding(crate::specs::Orders::order_in))]
 fn order_in(alloc: Global, value: Part<'_, '_>) -> Result<Option<Order>, AllocError>
@@ -108,11 +154,12 @@ fn order_in(alloc: Global, value: Part<'_, '_>) -> Result<Option<Order>, AllocEr
     }
     match command_in(alloc, value)? {
         Some(command) => Ok(Some(Order::Command(command))),
-        None => Ok(None),
+        None => query_order(alloc, value),
     }
 }
 
-/// What a line asks for: one JSON object, `do` with the members of its command, or with `list` or `dump` alone.
+/// What a line asks for: one JSON object, `do` with the members of its command, `is` with a `node`, or `list` or
+/// `dump` alone.
 ///
 /// # Errors
 ///

@@ -20,7 +20,7 @@ fn members_of(command: &str) -> Option<&'static str> {
         "return" => Some("lease"),
         "next" => Some("node, value"),
         "end" | "abort" | "fail" => Some("node, error"),
-        "decline" | "dispose" => Some("node"),
+        "decline" | "dispose" | "is" => Some("node"),
         "hub" => Some("name, mode"),
         "connect" => Some("hub, name"),
         "disconnect" => Some("hub"),

@@ -4,7 +4,7 @@ use Rattle.std.proofs.Common.{Ok, Err, refl, ap, ◌∙◌, subst, String, Globa
 use Rattle.std.specs.Prelude.{IfOk, IfSome, IfNone, is_some}
 use Rattle.std.specs.declared.alloc.AllocError.{AllocError}
 use Rattle.rx_scenario.specs.Scenario.{Name, Command}
-use Rattle.rx_line.specs.Orders.{command, list, dump, IsOrderOf, IsFaulty}
+use Rattle.rx_line.specs.Orders.{command, query, list, dump, IsOrderOf, IsFaulty}
 use Rattle.rx_line.specs.Pieces.{ok_text, refused_text, faulty_text, name_text, member_text}
 use Rattle.rx_line.specs.declared.outcome.Cause.{Cause}
 use Rattle.rx_line.specs.declared.outcome.Outcome.TheVariants.{Accepted, Refused}
@@ -13,9 +13,9 @@ use Rattle.rx_live.specs.Promise.{released, no_act}
 use Rattle.rx_live.specs.Answers.{told_text, WritesNotes, late_text}
 use Rattle.rx_live.specs.Listed.{all_names}
 use Rattle.rx_live.specs.Renewals.{Renews, IsFullByOpen}
-use Rattle.rx_live.specs.Dumps.{dump_text}
+use Rattle.rx_live.specs.Dumps.{query_text, dump_text}
 use Rattle.rx_live.specs.Lines.{Runs, handed_by, TellsAll, CarriesOut, refuses, carries, is_faulty, is_refused}
-use Rattle.rx_live.specs.Lines.{as_it_was, renewed, FindsFull, is_carried, is_listed, is_dumped, Sends, Ends, IsClosed}
+use Rattle.rx_live.specs.Lines.{as_it_was, renewed, FindsFull, is_carried, is_queried, is_listed, is_dumped, Sends, Ends, IsClosed}
 use Rattle.rx_live.specs.Taken.{Answered, IsFullByAge}
 use Rattle.rx_live.proofs.Laws.HeldStaysHeld.{leads_same, alike_held, renewed_held}
 use Rattle.rx_live.proofs.AcceptedBindsNames.{alike_same}
@@ -51,6 +51,10 @@ full_command old new line c (Ok None) order full = record { asked = c; order = o
 full_command old new line c (Ok (Some s)) order full = full
 
 -- of the others
+pub answered_queried : (old : Session) (line text : List ℕ) (node : Name) → IsOrderOf line (query node) → text ≡ query_text old node →
+    Answered old line text old
+answered_queried old line text node order is = record { acts = []; answer = is_queried node order is; leads = no_act (λ n. refl) }
+
 pub answered_listed : (old : Session) (line text : List ℕ) → IsOrderOf line list → Answered old line text old
 answered_listed old line text order = record { acts = []; answer = is_listed order; leads = no_act (λ n. refl) }
 

@@ -23,7 +23,8 @@ use Rattle.rx_live.specs.Carried.{Carries, Goes}
 use Rattle.rx_live.specs.Given.{IsAlike, Gives, BindsHub}
 use Rattle.rx_live.specs.Answers.{to_tell, Takes, none_taken, one_taken}
 use Rattle.rx_live.specs.Renewals.{Renews}
-use Rattle.rx_live.specs.Lines.{Runs, IsCarried, IsAnswer, is_faulty, is_refused, is_carried, is_listed, is_dumped, GoesOn, no_line, one_line, IsFresh, IsAged, as_it_was, renewed}
+use Rattle.rx_live.specs.Lines.{Runs, IsCarried, IsAnswer, is_faulty, is_refused, is_carried, is_queried, is_listed, is_dumped}
+use Rattle.rx_live.specs.Lines.{GoesOn, no_line, one_line, IsFresh, IsAged, as_it_was, renewed}
 use Rattle.rx_live.specs.Promise.{Act}
 use Rattle.rx_live.specs.Sessions.{told_by, written_of, written_by, told_in, written_in}
 use Rattle.rx_live.proofs.Acts.{refused_alike}
@@ -211,6 +212,7 @@ answer_balances : (old new : Session) (line text : List â„•) (acts : List Act) â
 answer_balances old new line text acts behind (is_faulty told faulty is) = idle old old refl
 answer_balances old new line text acts behind (is_refused c why order runs by_open is) = idle old new (alike_tells old new (refused_alike old new c why runs))
 answer_balances old new line text acts behind (is_carried c order carried) = carried_balances old new c text acts carried behind
+answer_balances old new line text acts behind (is_queried node order is) = idle old old refl
 answer_balances old new line text acts behind (is_listed order) = idle old old refl
 answer_balances old new line text acts behind (is_dumped order is) = idle old old refl
 

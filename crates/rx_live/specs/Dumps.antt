@@ -1,10 +1,20 @@
--- What `dump` is answered.
-use Rattle.std.specs.Prelude.{ℕ, ◌==◌, List, ◌++◌, codes, length, if◌then◌else◌}
+-- What `is` and `dump` are answered.
+use Rattle.std.specs.Prelude.{ℕ, ◌==◌, Bool, true, false, List, ◌++◌, codes, length, is_some, if◌then◌else◌}
 use Rattle.std.specs.Fmt.{decimal}
 use Rattle.std.specs.Str.{trim}
 use Rattle.rx_dump.specs.Dump.{dump}
+use Rattle.rx_scenario.specs.Scenario.{Name}
 use Rattle.rx_line.specs.Pieces.{ok_text}
-use Rattle.rx_live.specs.Session.{Session}
+use Rattle.rx_live.specs.Session.{Session, node_of}
+
+-- the member that says whether a node is open, and the end of the answer
+abbrev pub open_member : Bool → List ℕ
+open_member true = codes ",\"open\":true}"
+open_member false = codes ",\"open\":false}"
+
+-- whether a node of this name is open
+abbrev pub query_text : Session → (node : Name) → List ℕ
+query_text s node = ok_text (length s.book.history) ++ open_member (is_some (node_of s node))
 
 -- the dump of the history, without the newline at its end
 abbrev pub whole_text : Session → List ℕ

@@ -5,7 +5,7 @@ use Rattle.rx_scenario.specs.Scenario.{Name, Command, using, open_node, hold, ap
 use Rattle.rx_scenario.specs.Scenario.{abort, decline, fail, dispose, make_hub, connect, disconnect, drain, checkpoint}
 use Rattle.rx_book.specs.Requests.{apply_request, remove_request, lease_request, give_back_request, next_request, end_request, abort_request}
 use Rattle.rx_book.specs.Requests.{decline_request, fail_request, dispose_request, hub_request, connect_request, disconnect_request}
-use Rattle.rx_line.specs.Orders.{command, list, dump, IsOrderOf, IsFaulty}
+use Rattle.rx_line.specs.Orders.{command, query, list, dump, IsOrderOf, IsFaulty}
 use Rattle.rx_line.specs.Names.{AreNone}
 use Rattle.rx_line.specs.Pieces.{ok_text, refused_text, faulty_text, name_text, member_text}
 use Rattle.rx_line.specs.declared.outcome.Cause.{Cause}
@@ -19,7 +19,7 @@ use Rattle.rx_event.specs.declared.refusal.Refusal.TheVariants.{Full}
 use Rattle.rx_line.specs.declared.outcome.Cause.TheVariants.{Book}
 use Rattle.rx_live.specs.Renewals.{Renews, Renewing, IsFullByOpen, may_renew}
 use Rattle.rx_live.specs.Promise.{Act, handed_in, released, Leads}
-use Rattle.rx_live.specs.Dumps.{dump_text}
+use Rattle.rx_live.specs.Dumps.{query_text, dump_text}
 use Rattle.rx_live.specs.Answers.{Told, told_text, TellsNotes, IsTold, ReleasesNames, IsReleased, is_late, late_text}
 
 -- a command -------------------------------------------------------------------------------------------
@@ -90,6 +90,7 @@ pub data IsAnswer (old : Session) (line text : List ℕ) : List Act → Session 
   is_refused : {new : Session} (c : Command) (why : Cause) → IsOrderOf line (command c) → Runs old c (Refused why) new → IsFullByOpen old why →
       text ≡ refused_text why → IsAnswer old line text [] new
   is_carried : {new : Session} {acts : List Act} (c : Command) → IsOrderOf line (command c) → IsCarried old c text acts new → IsAnswer old line text acts new
+  is_queried : (node : Name) → IsOrderOf line (query node) → text ≡ query_text old node → IsAnswer old line text [] old
   is_listed : IsOrderOf line list → IsAnswer old line text [] old
   is_dumped : IsOrderOf line dump → text ≡ dump_text old → IsAnswer old line text [] old
 

@@ -2,8 +2,8 @@
 //!
 //! # Vocabulary
 //!
-//! - A **line** is one command as JSON, or `list` or `dump`; what it asks for is defined in `rx_line`. Its
-//!   **answer** is one JSON object.
+//! - A **line** is one command as JSON, or `is`, `list` or `dump`; what it asks for is defined in `rx_line`.
+//!   Its **answer** is one JSON object.
 //! - A **session** is what a [`Live`] is to contracts: its book, which names are bound, and what was taken
 //!   from the book and is still to be told (`specs/Session.antt`).
 //! - A resource's name is **held** from the answer of the `using` or the `hold` that hands it in until it
@@ -21,7 +21,7 @@
 //!   something is late.
 //! - A line that is refused `Full` finds no event in the history since its last checkpoint. After a checkpoint
 //!   each name of a node is that of an open one. `dump` is answered with the dump of the history, or with the
-//!   place of the checkpoint that took events away.
+//!   place of the checkpoint that took events away, and `is` with whether a node of that name is open.
 //! - Of any list of lines up to the last one: each name that is handed in is released exactly once behind that,
 //!   before it is handed in again, and no other name is ([`names_are_released_once`]).
 //! - Of any list of lines: the answers tell the notes of the events that were written, each once and in order
@@ -42,6 +42,7 @@ mod lines;
 mod listing;
 mod live;
 mod opening;
+mod query;
 mod renewing;
 mod running;
 mod sending;

@@ -15,6 +15,7 @@ use crate::closing::{close, push_names};
 use crate::dumping::dump_text;
 use crate::engine::Engine;
 use crate::listing::list_text;
+use crate::query::query_text;
 use crate::renewing::renew;
 use crate::running::run;
 use crate::telling::{ROOM, tell_notes, tell_releases};
@@ -116,6 +117,7 @@ fn answer(engine: &mut Engine, line: &[u8]) -> Result<Option<String>, AllocError
 {
     match order_of(engine.alloc, line) {
         Ok(Order::Command(command)) => carry_out(engine, command),
+        Ok(Order::Query(node)) => Ok(Some(query_text(engine, node.as_str())?)),
         Ok(Order::List) => Ok(Some(list_text(engine)?)),
         Ok(Order::Dump) => Ok(Some(dump_text(engine)?)),
         Err(Unread::Faulty(told)) => Ok(Some(faulty_text(engine.alloc, told)?)),
