@@ -1,17 +1,18 @@
 -- What a line's answer says of the session.
-use Rattle.std.proofs.Common.{◌≡◌, ℕ, List, [], ◌++◌, codes, length, map, Option, Some, None, Result}
+use Rattle.std.proofs.Common.{◌≡◌, ℕ, List, [], ◌++◌, codes, map, Option, Some, None, Result}
 use Rattle.std.proofs.Common.{Ok, Err, refl, ap, ◌∙◌, subst, String, Global, string_bytes}
 use Rattle.std.specs.Prelude.{IfOk, IfSome, IfNone, is_some}
 use Rattle.std.specs.declared.alloc.AllocError.{AllocError}
 use Rattle.rx_scenario.specs.Scenario.{Name, Command}
 use Rattle.rx_line.specs.Orders.{command, query, list, dump, IsOrderOf, IsFaulty}
-use Rattle.rx_line.specs.Pieces.{ok_text, refused_text, faulty_text, name_text, member_text}
+use Rattle.rx_line.specs.Pieces.{refused_text, faulty_text, name_text, member_text}
 use Rattle.rx_line.specs.declared.outcome.Cause.{Cause}
 use Rattle.rx_line.specs.declared.outcome.Outcome.TheVariants.{Accepted, Refused}
 use Rattle.rx_live.specs.Session.{Session, IsSound, has_resource}
 use Rattle.rx_live.specs.Promise.{released, no_act}
 use Rattle.rx_live.specs.Answers.{told_text, WritesNotes, late_text}
 use Rattle.rx_live.specs.Listed.{all_names}
+use Rattle.rx_live.specs.Openings.{front_text}
 use Rattle.rx_live.specs.Renewals.{Renews, IsFullByOpen}
 use Rattle.rx_live.specs.Dumps.{query_text, dump_text}
 use Rattle.rx_live.specs.Lines.{Runs, handed_by, TellsAll, CarriesOut, refuses, carries, is_faulty, is_refused}
@@ -24,9 +25,9 @@ use Rattle.rx_live.proofs.Listings.{leads_all}
 
 -- a command that is carried out
 pub carried_out : {old : Session} (done new : Session) (c : Command) (front text : List ℕ) → Runs old c Accepted done →
-    front ≡ ok_text (length old.book.history) → TellsAll done front new text → CarriesOut old c text new
+    front ≡ front_text old c done → TellsAll done front new text → CarriesOut old c text new
 carried_out {old} done new c front text runs is tells =
-    let all : TellsAll done (ok_text (length old.book.history)) new text = subst (λ (t : List ℕ). TellsAll done t new text) is tells in
+    let all : TellsAll done (front_text old c done) new text = subst (λ (t : List ℕ). TellsAll done t new text) is tells in
     carries (handed_by c ++ map released all.names) (record { done = done; runs = runs; left = new; tells = all; alike = alike_same new; acts_are = refl })
 
 -- the answers of a line

@@ -11,5 +11,6 @@ pub mod Listings
 pub mod Acts
 pub mod AnswersTellNotes
 pub mod ClosedSessionIsSound
+pub mod ConnectionAnswered
 pub mod AnswerToEachLine
 pub mod Ties

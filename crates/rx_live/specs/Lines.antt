@@ -1,5 +1,5 @@
 -- What a line is answered, and what the last line says.
-use Rattle.std.specs.Prelude.{◌≡◌, ℕ, true, false, List, [], ◌∷◌, ◌++◌, codes, map, length, Some, None, is_some, option_map}
+use Rattle.std.specs.Prelude.{◌≡◌, ℕ, true, false, List, [], ◌∷◌, ◌++◌, codes, map, Some, None, is_some, option_map}
 use Rattle.std.specs.Option.{option_map_or}
 use Rattle.rx_scenario.specs.Scenario.{Name, Command, using, open_node, hold, apply, remove, lease, give_back, next, end}
 use Rattle.rx_scenario.specs.Scenario.{abort, decline, fail, dispose, make_hub, connect, disconnect, drain, checkpoint}
@@ -7,7 +7,7 @@ use Rattle.rx_book.specs.Requests.{apply_request, remove_request, lease_request,
 use Rattle.rx_book.specs.Requests.{decline_request, fail_request, dispose_request, hub_request, connect_request, disconnect_request}
 use Rattle.rx_line.specs.Orders.{command, query, list, dump, IsOrderOf, IsFaulty}
 use Rattle.rx_line.specs.Names.{AreNone}
-use Rattle.rx_line.specs.Pieces.{ok_text, refused_text, faulty_text, name_text, member_text}
+use Rattle.rx_line.specs.Pieces.{refused_text, faulty_text, name_text, member_text}
 use Rattle.rx_line.specs.declared.outcome.Cause.{Cause}
 use Rattle.rx_line.specs.declared.outcome.Outcome.{Outcome}
 use Rattle.rx_line.specs.declared.outcome.Outcome.TheVariants.{Accepted, Refused}
@@ -15,6 +15,7 @@ use Rattle.rx_live.specs.Session.{Session, node_of, resource_of, lease_of, hub_o
 use Rattle.rx_live.specs.Carried.{Goes}
 use Rattle.rx_live.specs.Given.{IsAlike, GivesNames, BindsResource, BindsLease, BindsHub, FreesLease, hold_asked}
 use Rattle.rx_live.specs.Openings.{open_asked, using_asked, connection_of, is_node, is_open_taken, is_using_taken, BindsNode, BindsUsing, BindsConnection}
+use Rattle.rx_live.specs.Openings.{front_text}
 use Rattle.rx_event.specs.declared.refusal.Refusal.TheVariants.{Full}
 use Rattle.rx_line.specs.declared.outcome.Cause.TheVariants.{Book}
 use Rattle.rx_live.specs.Renewals.{Renews, Renewing, IsFullByOpen, may_renew}
@@ -75,7 +76,7 @@ pub record IsCarried (old : Session) (c : Command) (text : List ℕ) (acts : Lis
   pub done : Session
   pub runs : Runs old c Accepted done
   pub left : Session
-  pub tells : TellsAll done (ok_text (length old.book.history)) left text
+  pub tells : TellsAll done (front_text old c done) left text
   pub alike : IsAlike left new
   pub acts_are : acts ≡ handed_by c ++ map released tells.names
 

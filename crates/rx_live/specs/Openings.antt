@@ -1,17 +1,20 @@
 -- What a command asks that opens a node or connects a hub, and which names it gives.
-use Rattle.std.specs.Prelude.{◌≡◌, ℕ, ◌+◌, ◌||◌, Bool, false, true, Option, Some, None, length, option_map, option_and_then}
+use Rattle.std.specs.Prelude.{◌≡◌, ℕ, ◌+◌, ◌++◌, ◌||◌, Bool, false, true, List, [], codes, Option, Some, None, length, is_some}
+use Rattle.std.specs.Prelude.{option_map, option_and_then}
 use Rattle.std.specs.Str.{bytes_eq}
 use Rattle.std.specs.Option.{option_map_or}
 use Rattle.rx_event.specs.declared.event.Kind.{Kind}
 use Rattle.rx_event.specs.declared.event.Kind.TheVariants.{Leaf, Pass, Flat, Switch, Until, Sub}
 use Rattle.rx_event.specs.Calls.{OpeningUsing}
 use Rattle.rx_scenario.specs.Scenario.{Name, Site, root, source, inner, notifier, Sort, leaf, pass, flat, switch, until, sub}
+use Rattle.rx_scenario.specs.Scenario.{Command, open_node}
 use Rattle.rx_book.specs.declared.answer.At.{At}
 use Rattle.rx_book.specs.declared.answer.At.TheVariants.{Root as AtRoot, Source as AtSource, Inner as AtInner, Notifier as AtNotifier}
 use Rattle.rx_book.specs.State.{State}
 use Rattle.rx_book.specs.Requests.{Request, open_request, place_of, is_known_place}
 use Rattle.rx_book.specs.Answers.{connection_made}
 use Rattle.rx_line.specs.declared.names.Names.{Names}
+use Rattle.rx_line.specs.Pieces.{ok_text}
 use Rattle.rx_live.specs.Session.{Session, is_node_in, node_of, hub_of, has_resource}
 use Rattle.rx_live.specs.Given.{IsAlike, NamesOne}
 
@@ -92,3 +95,32 @@ pub record BindsConnection (old : Session) (name : Option Name) (new : Session) 
   pub alike : IsAlike old (record old { nodes = nodes })
   pub made : BindsMade nodes name (Some (length old.book.history)) new.nodes
   pub rest : new ≡ record old { book = new.book; nodes = new.nodes }
+
+-- what is answered ------------------------------------------------------------------------------------
+
+-- a connection was made, with the name that it got, if it got one
+abbrev pub connected_text : Option Name → List ℕ
+connected_text None = codes ",\"connected\":true"
+connected_text (Some name) = codes ",\"connected\":true,\"connection\":\"" ++ name ++ codes "\""
+
+abbrev pub connected_as : Sort → List ℕ
+connected_as leaf = []
+connected_as pass = []
+connected_as flat = []
+connected_as switch = []
+connected_as until = []
+connected_as (sub hub connection) = connected_text connection
+
+-- what is answered to the opening of a subscriber that made a connection
+abbrev pub connected_by : Command → List ℕ
+connected_by (open_node name site sort) = connected_as sort
+connected_by _ = []
+
+abbrev pub said_if : Bool → List ℕ → List ℕ
+said_if true text = text
+said_if false text = []
+
+-- the front of the answer to a command that was carried out: its place, and whether its opening made a connection
+abbrev pub front_text : (old : Session) → Command → (new : Session) → List ℕ
+front_text old c new =
+    ok_text (length old.book.history) ++ said_if (is_some (connection_made old.book.history new.book.history)) (connected_by c)

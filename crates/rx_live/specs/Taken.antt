@@ -1,7 +1,11 @@
 -- One attempt at a line. No public clause cites this module.
 use Rattle.std.specs.Prelude.{ℕ, Bool, true, false, List}
+use Rattle.std.specs.Option.{option_map_or}
+use Rattle.rx_event.specs.Kept.{event_since}
 use Rattle.rx_event.specs.declared.refusal.Refusal.TheVariants.{Full}
 use Rattle.rx_scenario.specs.Scenario.{Command}
+use Rattle.rx_book.specs.State.{State}
+use Rattle.rx_book.specs.Answers.{makes_connection}
 use Rattle.rx_line.specs.Orders.{command, IsOrderOf}
 use Rattle.rx_line.specs.declared.outcome.Cause.{Cause}
 use Rattle.rx_line.specs.declared.outcome.Cause.TheVariants.{Book}
@@ -24,3 +28,7 @@ pub record Answered (old : Session) (line text : List ℕ) (new : Session) : Typ
   pub acts : List Act
   pub answer : IsAnswer old line text acts new
   pub leads : Leads (has_resource old) acts (has_resource new)
+
+-- the event at a place is a connection
+abbrev pub connects_at : State → (place : ℕ) → Bool
+connects_at book place = option_map_or makes_connection (event_since book.base book.history place) false

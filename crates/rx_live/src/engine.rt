@@ -1,6 +1,7 @@
 //! A session: its book, and what names stand for.
 
-ghost use Rattle.std.specs.Prelude.{◌≡◌, ◌≤◌};
+ghost use Rattle.std.specs.Prelude.{◌≡◌, ◌+◌, ◌≤◌, length};
+ghost use Rattle.rx_book.specs.State.{IsPromised};
 ghost use Rattle.rx_live.specs.Lines.{IsFresh};
 ghost use Rattle.rx_live.specs.Session.{session_of, node_of, resource_of, lease_of, hub_of, has_resource, IsSound};
 
@@ -48,6 +49,14 @@ impl Engine {
             unnamed: None,
             past: Past::new(alloc),
         }
+    }
+
+    /// The place behind that of the next event.
+    pub fn place_behind(&self) -> u64
+        requires { IsPromised self.now.book }
+        ensures { result ≡ length self.now.book.history + 1 }
+    {
+        self.book.len() + 1
     }
 
     /// The open node that has the name.

@@ -19,6 +19,7 @@
 //!   one is refused by its first cause and changes nothing, and an accepted one tells all notes of the book's
 //!   history that were not told before, in order, and the names of all that was taken from it, or says that
 //!   something is late.
+//! - The answer to the opening of a subscriber says whether that made a connection.
 //! - A line that is refused `Full` finds no event in the history since its last checkpoint. After a checkpoint
 //!   each name of a node is that of an open one. `dump` is answered with the dump of the history, or with the
 //!   place of the checkpoint that took events away, and `is` with whether a node of that name is open.
@@ -34,6 +35,7 @@
 
 mod calls;
 mod closing;
+mod connected;
 mod deeds;
 mod dumping;
 mod engine;

@@ -1,6 +1,6 @@
 //! A line, and its answer.
 
-ghost use Rattle.std.specs.Prelude.{◌≡◌, ◌++◌, ◌&&◌, codes, length, string_bytes, IfOk, IfSome, IfNone, OnOk, OnErr};
+ghost use Rattle.std.specs.Prelude.{◌≡◌, ◌+◌, ◌++◌, ◌&&◌, codes, length, string_bytes, IfOk, IfSome, IfNone, OnOk, OnErr};
 ghost use Rattle.rx_scenario.specs.Scenario.{command_of};
 ghost use Rattle.rx_line.specs.Pieces.{ok_text};
 ghost use Rattle.rx_live.specs.Session.{session_of, IsSound};
@@ -12,6 +12,7 @@ ghost use Rattle.rx_live.specs.Taken.{is_full, IsFullByAge, Answered};
 ghost use Rattle.rx_live.specs.Room.{HasRoom};
 
 use crate::closing::{close, push_names};
+use crate::connected::{connected_by, push_connected};
 use crate::dumping::dump_text;
 use crate::engine::Engine;
 use crate::listing::list_text;
@@ -54,13 +55,13 @@ fn tell(engine: &mut Engine, text: String) -> String
     text
 }
 
-// The front of an answer at this place, with room for what closes it.
-fn front(engine: &Engine) -> Result<String, AllocError>
+// The front of an answer at this place, with room for what may be said behind it and for what closes it.
+fn front(engine: &Engine, said: &str) -> Result<String, AllocError>
     ensures text { IfOk result (λ s. string_bytes s ≡ ok_text (length engine.now.book.history)) }
-    ensures room { IfOk result (λ s. HasRoom 15 s) }
+    ensures room { IfOk result (λ s. HasRoom (length said.now + 15) s) }
 {
     let mut text = ok_text(engine.alloc, engine.book.len())?;
-    text.reserve(ROOM)?;
+    text.reserve(said.len().saturating_add(ROOM))?;
     Ok(text)
 }
 
@@ -94,9 +95,15 @@ fn carry_out(engine: &mut Engine, command: Command) -> Result<Option<String>, Al
     ensures err { OnErr result (IsUnchanged (session_of engine.old) (session_of engine.new)) }
     ensures sound { IsSound (session_of engine.new) }
 {
-    let text = front(engine)?;
+    let connected = connected_by(engine.alloc, &command)?;
+    let said = connected.as_str();
+    let mut text = front(engine, said)?;
+    let behind = engine.place_behind();
     match run(engine, command)? {
-        Outcome::Accepted => Ok(Some(tell(engine, text))),
+        Outcome::Accepted => {
+            push_connected(engine, &mut text, said, behind);
+            Ok(Some(tell(engine, text)))
+        }
         Outcome::Refused(why) => {
             if is_full_by_age(engine, why) {
                 return Ok(None);

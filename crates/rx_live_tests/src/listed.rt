@@ -35,7 +35,7 @@ const LINES: [Row; 15] = [
     (r#"{"do":"hub","name":"h","mode":"auto"}"#, r#"{"ok":7}"#),
     (
         r#"{"do":"open","name":"b","place":"root","kind":"sub","hub":"h","connection":"c"}"#,
-        r#"{"ok":8}"#,
+        r#"{"ok":8,"connected":true,"connection":"c"}"#,
     ),
     (r#"{"do":"hub","name":"m","mode":"manual"}"#, r#"{"ok":10}"#),
     (

@@ -7,6 +7,7 @@ use Rattle.rx_live.specs.Lines.{Runs}
 use Rattle.rx_live.proofs.Acts.{refused_alike}
 use Rattle.rx_live.proofs.OpenedNodesGetNames.{on_err}
 use Rattle.rx_live.proofs.SessionAfterCheckpoint.{full_by_age, full_by_open}
+use Rattle.rx_live.proofs.ConnectionAnswered.{front_said}
 use Rattle.rx_live.proofs.AnswerToEachLine.{carried_out, refused_out}
 use Rattle.rx_live.proofs.sending.carry_out.Goals as goal
 
@@ -34,12 +35,16 @@ returns-in-Accepted-clause-some c =
     let done = session_of c.run.new.engine in
     let runs : Runs old (command_of c.args.command) Accepted done =
     subst (λ (o : Outcome). Runs old (command_of c.args.command) o done) c.in-Accepted.is c.in_ok-run.ensures.ok in
-    carried_out done (session_of c.tell.new.engine) (command_of c.args.command) (string_bytes c.in_ok-text.text) (string_bytes c.tell.result) runs
-    c.in_ok-text.ensures.text
+    let asked = command_of c.args.command in
+    let front = string_bytes c.push_connected.new.text in
+    carried_out done (session_of c.tell.new.engine) asked front (string_bytes c.tell.result) runs
+    (front_said old done asked (string_bytes c.in_ok-text.text) c.as_str-said.result.now front c.place_behind-behind.result c.requires runs
+    c.in_ok-text.ensures.text (c.as_str-said.ensures.value ∙ c.in_ok-connected.ensures) c.place_behind-behind.ensures
+    c.push_connected.ensures.text)
     c.tell.ensures.tells
 
-pub returns-in_ok-refused_text-in-Refused-clause-some : goal.returns-in_ok-refused_text-in-Refused-clause-some
-returns-in_ok-refused_text-in-Refused-clause-some c =
+pub returns-clause-some : goal.returns-clause-some
+returns-clause-some c =
     let old = session_of c.args.engine.now in
     let new = session_of c.run.new.engine in
     let why = c.in-Refused.why in

@@ -1,0 +1,93 @@
+-- What the answer to an opening says of the connection that it made.
+use Rattle.std.proofs.Common.{◌≡◌, ℕ, ◌+◌, ◌==◌, ◌≤◌, ◌++◌, Bool, true, false, List, [], ◌∷◌, length, Option, Some, None}
+use Rattle.std.proofs.Common.{refl, sym, ap, ◌∙◌, arith, inl, inr, ◌⊎◌}
+use Rattle.std.specs.Prelude.{is_some, slice_get, if◌then◌else◌}
+use Rattle.std.specs.Option.{option_map_or}
+use Rattle.std.proofs.lemmas.Bool.{le-ltb, eqb-true}
+use Rattle.std.proofs.lemmas.List.{append-nil}
+use Rattle.rx_event.specs.Tree.{at}
+use Rattle.rx_scenario.specs.Scenario.{Command, using, open_node, hold, apply, remove, lease, give_back, next, end, abort}
+use Rattle.rx_scenario.specs.Scenario.{decline, fail, dispose, make_hub, connect, disconnect, drain, checkpoint}
+use Rattle.rx_book.specs.State.{State}
+use Rattle.rx_book.specs.Requests.{Request}
+use Rattle.rx_book.specs.Answers.{makes_connection, connection_made}
+use Rattle.rx_line.specs.Pieces.{ok_text}
+use Rattle.rx_line.specs.declared.outcome.Outcome.TheVariants.{Accepted}
+use Rattle.rx_live.specs.Session.{Session, IsSound}
+use Rattle.rx_live.specs.Given.{Gives}
+use Rattle.rx_live.specs.Lines.{Runs}
+use Rattle.rx_live.specs.Openings.{connected_by, said_if, front_text}
+use Rattle.rx_live.specs.Taken.{connects_at}
+
+pub nothing_said : (b : Bool) → said_if b [] ≡ []
+nothing_said true = refl
+nothing_said false = refl
+
+none_there : (said : List ℕ) → length said ≡ 0 → said ≡ []
+none_there [] none = refl
+none_there (n ∷ said) none = absurd (omega (arith, none))
+
+pub said_nothing : (begun said : List ℕ) (b : Bool) → (length said == 0) ≡ true → begun ≡ begun ++ said_if b said
+said_nothing begun said b empty =
+    let none : said ≡ [] = none_there said (eqb-true (length said) 0 empty) in
+    sym (append-nil begun) ∙ ap (λ (t : List ℕ). begun ++ t) (sym (nothing_said b) ∙ ap (said_if b) (sym none))
+
+said_alike : (a b : Bool) (said : List ℕ) → said ≡ [] → said_if a said ≡ said_if b said
+said_alike a b said none = ap (said_if a) none ∙ nothing_said a ∙ sym (ap (said_if b) none ∙ nothing_said b)
+
+made_or_not : (b : Bool) (n : ℕ) → b ≡ is_some (if b then Some n else None)
+made_or_not true n = refl
+made_or_not false n = refl
+
+-- the connection of an opening stands behind it, where no checkpoint was between
+made_since : (old new : State) → old.base.at_length ≤ length old.history → new.base ≡ old.base →
+    connects_at new (length old.history + 1) ≡ is_some (connection_made old.history new.history)
+made_since old new begun same =
+    let behind = length old.history + 1 in
+    let start : new.base.at_length ≡ old.base.at_length = ap (λ b. b.at_length) same in
+    ap (λ (gone : Bool). option_map_or makes_connection (if gone then None else slice_get new.history behind) false)
+    (le-ltb behind new.base.at_length (omega (arith, start)))
+    ∙ made_or_not (at makes_connection new.history behind) behind
+
+base_given : (old new : Session) (asked : Option Request) (taken : Bool) (bound : Session → Type 0) → Gives old asked taken bound Accepted new →
+    new.book.base ≡ old.book.base
+base_given old new None taken bound gives = let e = gives.0 in absurd (cc)
+base_given old new (Some call) true bound gives = let e = gives.0 in absurd (cc)
+base_given old new (Some call) false bound gives = gives.0.base
+
+-- a command that opens nothing says nothing of it
+same_said : (old done : Session) (c : Command) → IsSound old → Runs old c Accepted done →
+    (connects_at done.book (length old.book.history + 1) ≡ is_some (connection_made old.book.history done.book.history)) ⊎ (connected_by c ≡ [])
+same_said old done (open_node name site sort) sound runs = inl (made_since old.book done.book sound.kept.begun (base_given old done _ _ _ runs.gives))
+same_said old done (using name site res) sound runs = inr refl
+same_said old done (hold node res) sound runs = inr refl
+same_said old done (apply res word) sound runs = inr refl
+same_said old done (remove res) sound runs = inr refl
+same_said old done (lease res name) sound runs = inr refl
+same_said old done (give_back name) sound runs = inr refl
+same_said old done (next node value) sound runs = inr refl
+same_said old done (end node terminal) sound runs = inr refl
+same_said old done (abort node code) sound runs = inr refl
+same_said old done (decline node) sound runs = inr refl
+same_said old done (fail node code) sound runs = inr refl
+same_said old done (dispose node) sound runs = inr refl
+same_said old done (make_hub name mode) sound runs = inr refl
+same_said old done (connect hub name) sound runs = inr refl
+same_said old done (disconnect hub) sound runs = inr refl
+same_said old done drain sound runs = inr refl
+same_said old done checkpoint sound runs = inr refl
+
+pub front_said : (old done : Session) (c : Command) (begun said text : List ℕ) (behind : ℕ) → IsSound old → Runs old c Accepted done →
+    begun ≡ ok_text (length old.book.history) → said ≡ connected_by c → behind ≡ length old.book.history + 1 →
+    text ≡ begun ++ said_if (connects_at done.book behind) said → text ≡ front_text old c done
+front_said old done c begun said text behind sound runs is of place written =
+    written ∙ (λ i. is i ++ said_if (connects_at done.book (place i)) (of i))
+    ∙ ap (λ (t : List ℕ). ok_text (length old.book.history) ++ t) (by_case (same_said old done c sound runs))
+  where
+    by_case : (connects_at done.book (length old.book.history + 1) ≡ is_some (connection_made old.book.history done.book.history))
+        ⊎ (connected_by c ≡ []) →
+        said_if (connects_at done.book (length old.book.history + 1)) (connected_by c)
+        ≡ said_if (is_some (connection_made old.book.history done.book.history)) (connected_by c)
+    by_case (inl same) = ap (λ (b : Bool). said_if b (connected_by c)) same
+    by_case (inr none) =
+        said_alike (connects_at done.book (length old.book.history + 1)) (is_some (connection_made old.book.history done.book.history)) (connected_by c) none
