@@ -50,22 +50,26 @@ mode_word manual = if manual then codes "manual" else codes "auto"
 
 -- objects --------------------------------------------------------------------------------------------
 
-unfoldable pub front_text : Name → List ℕ
-front_text name = codes "{\"name\":\"" ++ name ++ codes "\""
+unfoldable pub named_text : Name → List ℕ
+named_text name = codes "{\"name\":\"" ++ name ++ codes "\""
 
-unfoldable pub node_text : (nodes hubs : Names) → Name → Option Event → List ℕ
-node_text nodes hubs name made = front_text name ++ made_text nodes hubs made ++ codes "}"
+unfoldable pub front_text : Name → (number : ℕ) → List ℕ
+front_text name number = named_text name ++ codes ",\"number\":" ++ decimal number
 
-unfoldable pub resource_text : Name → (node : Option Name) → (uses : ℕ) → List ℕ
-resource_text name node uses = front_text name ++ member_of (codes "node") node ++ codes ",\"uses\":" ++ decimal uses ++ codes "}"
+unfoldable pub node_text : (nodes hubs : Names) → Name → (number : ℕ) → Option Event → List ℕ
+node_text nodes hubs name number made = front_text name number ++ made_text nodes hubs made ++ codes "}"
 
-unfoldable pub lease_text : Name → (resource : Option Name) → List ℕ
-lease_text name resource = front_text name ++ member_of (codes "res") resource ++ codes "}"
+unfoldable pub resource_text : Name → (number : ℕ) → (node : Option Name) → (uses : ℕ) → List ℕ
+resource_text name number node uses =
+    front_text name number ++ member_of (codes "node") node ++ codes ",\"uses\":" ++ decimal uses ++ codes "}"
+
+unfoldable pub lease_text : Name → (number : ℕ) → (resource : Option Name) → List ℕ
+lease_text name number resource = front_text name number ++ member_of (codes "res") resource ++ codes "}"
 
 unfoldable pub bool_word : Bool → List ℕ
 bool_word b = if b then codes "true" else codes "false"
 
-unfoldable pub hub_text : Name → (manual connected : Bool) → (subscribers : ℕ) → List ℕ
-hub_text name manual connected subscribers =
-    front_text name ++ member_of (codes "mode") (Some (mode_word manual))
+unfoldable pub hub_text : Name → (number : ℕ) → (manual connected : Bool) → (subscribers : ℕ) → List ℕ
+hub_text name number manual connected subscribers =
+    front_text name number ++ member_of (codes "mode") (Some (mode_word manual))
     ++ codes ",\"connected\":" ++ bool_word connected ++ codes ",\"subscribers\":" ++ decimal subscribers ++ codes "}"

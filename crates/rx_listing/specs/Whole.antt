@@ -39,25 +39,25 @@ pub record IsCounted (book : State) (known : Known) (c : Counted) : Type 0 where
 -- what is said of a number that has a name; a node has one as long as it is open
 unfoldable pub node_object : State → Known → ℕ → Option (List ℕ)
 node_object book known n =
-    option_map (λ name. node_text known.nodes.now known.hubs.now name (made_by book known.past.now n)) (open_name book known.nodes.now n)
+    option_map (λ name. node_text known.nodes.now known.hubs.now name n (made_by book known.past.now n)) (open_name book known.nodes.now n)
 
 -- the name of a resource's node, while that is open
 unfoldable pub holder_name : State → Known → ℕ → Option Name
 holder_name book known r = option_and_then (open_name book known.nodes.now) (holder_by book known.past.now r)
 
 unfoldable pub resource_object : State → Known → (uses : ℕ → ℕ) → ℕ → Option (List ℕ)
-resource_object book known uses r = option_map (λ name. resource_text name (holder_name book known r) (uses r)) (name_of known.resources.now r)
+resource_object book known uses r = option_map (λ name. resource_text name r (holder_name book known r) (uses r)) (name_of known.resources.now r)
 
 -- the name of a lease's resource
 unfoldable pub leased_name : State → Known → ℕ → Option Name
 leased_name book known l = option_and_then (name_of known.resources.now) (option_and_then leased_of (made_by book known.past.now l))
 
 unfoldable pub lease_object : State → Known → ℕ → Option (List ℕ)
-lease_object book known l = option_map (λ name. lease_text name (leased_name book known l)) (name_of known.leases.now l)
+lease_object book known l = option_map (λ name. lease_text name l (leased_name book known l)) (name_of known.leases.now l)
 
 unfoldable pub hub_object : State → Known → Counted → ℕ → Option (List ℕ)
 hub_object book known c g =
-    option_map (λ name. hub_text name (option_map_or is_manual_hub (made_by book known.past.now g) false) (c.connected g) (c.subscribers g))
+    option_map (λ name. hub_text name g (option_map_or is_manual_hub (made_by book known.past.now g) false) (c.connected g) (c.subscribers g))
     (name_of known.hubs.now g)
 
 -- the text ---------------------------------------------------------------------------------------------

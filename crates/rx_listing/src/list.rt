@@ -88,7 +88,7 @@ fn node_at<R: Resource>(
         return Ok(None);
     };
     let made = made_at(book, known.past, number);
-    let object = node_object(alloc, name, known.nodes, known.hubs, made)?;
+    let object = node_object(alloc, name, number, known.nodes, known.hubs, made)?;
     Ok(Some(object))
 }
 
@@ -116,7 +116,7 @@ fn resource_at<R: Resource>(
         return Ok(None);
     };
     let node = holder_name(book, known, number);
-    let object = resource_object(alloc, name, node, count_of(&seen.uses, number))?;
+    let object = resource_object(alloc, name, number, node, count_of(&seen.uses, number))?;
     Ok(Some(object))
 }
 
@@ -142,7 +142,7 @@ fn lease_at<R: Resource>(
     let Some(name) = known.leases.name_of(number) else {
         return Ok(None);
     };
-    let object = lease_object(alloc, name, leased_name(book, known, number))?;
+    let object = lease_object(alloc, name, number, leased_name(book, known, number))?;
     Ok(Some(object))
 }
 
@@ -162,7 +162,7 @@ fn hub_at<R: Resource>(
     let is_manual = is_manual(book, known.past, number);
     let is_connected = sight.seen.is_connected(number);
     let subscribers = count_of(&sight.subscribers, number);
-    let object = hub_object(alloc, name, is_manual, is_connected, subscribers)?;
+    let object = hub_object(alloc, name, number, is_manual, is_connected, subscribers)?;
     Ok(Some(object))
 }
 

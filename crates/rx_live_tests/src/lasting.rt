@@ -22,9 +22,9 @@ const ITEM: [Row; 1] = [(
 const ENDED: [Row; 3] = [
     (
         r#"{"do":"list"}"#,
-        "{\"ok\":103,\"nodes\":[{\"name\":\"a\",\"kind\":\"pass\",\"place\":\"root\"},\
-            {\"name\":\"b\",\"kind\":\"leaf\",\"place\":\"source\",\"of\":\"a\"}],\
-            \"resources\":[{\"name\":\"r\",\"node\":\"a\",\"uses\":0}],\"leases\":[],\"hubs\":[]}",
+        "{\"ok\":103,\"nodes\":[{\"name\":\"a\",\"number\":0,\"kind\":\"pass\",\"place\":\"root\"},\
+            {\"name\":\"b\",\"number\":2,\"kind\":\"leaf\",\"place\":\"source\",\"of\":\"a\"}],\
+            \"resources\":[{\"name\":\"r\",\"number\":1,\"node\":\"a\",\"uses\":0}],\"leases\":[],\"hubs\":[]}",
     ),
     (
         r#"{"do":"end","node":"b"}"#,

@@ -61,20 +61,22 @@ const CLOSING: Row = (
 );
 
 // What is listed of it.
-const ALL: &str = "{\"ok\":17,\"nodes\":[{\"name\":\"f\",\"kind\":\"flat\",\"place\":\"root\"},\
-        {\"name\":\"g\",\"kind\":\"leaf\",\"place\":\"source\",\"of\":\"f\"},\
-        {\"name\":\"i\",\"kind\":\"leaf\",\"place\":\"inner\",\"of\":\"f\"},\
-        {\"name\":\"u\",\"kind\":\"until\",\"place\":\"root\"},\
-        {\"name\":\"n\",\"kind\":\"leaf\",\"place\":\"notifier\",\"of\":\"u\"},\
-        {\"name\":\"s\",\"kind\":\"switch\",\"place\":\"source\",\"of\":\"u\"},\
-        {\"name\":\"b\",\"kind\":\"sub\",\"hub\":\"h\",\"place\":\"root\"},\
-        {\"name\":\"c\",\"kind\":\"connection\",\"hub\":\"h\"},\
-        {\"name\":\"p\",\"kind\":\"pass\",\"place\":\"root\"},\
-        {\"name\":\"d\",\"kind\":\"sub\",\"hub\":\"h\",\"place\":\"root\"}],\
-        \"resources\":[{\"name\":\"r\",\"node\":\"p\",\"uses\":1},{\"name\":\"q\",\"node\":\"p\",\"uses\":0}],\
-        \"leases\":[{\"name\":\"l\",\"res\":\"r\"}],\
-        \"hubs\":[{\"name\":\"h\",\"mode\":\"auto\",\"connected\":true,\"subscribers\":2},\
-        {\"name\":\"m\",\"mode\":\"manual\",\"connected\":false,\"subscribers\":0}]}";
+const ALL: &str =
+    "{\"ok\":17,\"nodes\":[{\"name\":\"f\",\"number\":0,\"kind\":\"flat\",\"place\":\"root\"},\
+        {\"name\":\"g\",\"number\":1,\"kind\":\"leaf\",\"place\":\"source\",\"of\":\"f\"},\
+        {\"name\":\"i\",\"number\":3,\"kind\":\"leaf\",\"place\":\"inner\",\"of\":\"f\"},\
+        {\"name\":\"u\",\"number\":4,\"kind\":\"until\",\"place\":\"root\"},\
+        {\"name\":\"n\",\"number\":5,\"kind\":\"leaf\",\"place\":\"notifier\",\"of\":\"u\"},\
+        {\"name\":\"s\",\"number\":6,\"kind\":\"switch\",\"place\":\"source\",\"of\":\"u\"},\
+        {\"name\":\"b\",\"number\":8,\"kind\":\"sub\",\"hub\":\"h\",\"place\":\"root\"},\
+        {\"name\":\"c\",\"number\":9,\"kind\":\"connection\",\"hub\":\"h\"},\
+        {\"name\":\"p\",\"number\":11,\"kind\":\"pass\",\"place\":\"root\"},\
+        {\"name\":\"d\",\"number\":16,\"kind\":\"sub\",\"hub\":\"h\",\"place\":\"root\"}],\
+        \"resources\":[{\"name\":\"r\",\"number\":12,\"node\":\"p\",\"uses\":1},\
+        {\"name\":\"q\",\"number\":13,\"node\":\"p\",\"uses\":0}],\
+        \"leases\":[{\"name\":\"l\",\"number\":14,\"res\":\"r\"}],\
+        \"hubs\":[{\"name\":\"h\",\"number\":7,\"mode\":\"auto\",\"connected\":true,\"subscribers\":2},\
+        {\"name\":\"m\",\"number\":10,\"mode\":\"manual\",\"connected\":false,\"subscribers\":0}]}";
 
 const LISTED: [Part; 2] = [(1, &LINES), (1, &[(LIST, ALL)])];
 
@@ -84,18 +86,20 @@ fn each_kind_and_each_place_is_listed(rt: HostRuntime) {
 }
 
 // Once the node of both resources is closed, of which one is leased.
-const LEASED: &str = "{\"ok\":19,\"nodes\":[{\"name\":\"f\",\"kind\":\"flat\",\"place\":\"root\"},\
-        {\"name\":\"g\",\"kind\":\"leaf\",\"place\":\"source\",\"of\":\"f\"},\
-        {\"name\":\"i\",\"kind\":\"leaf\",\"place\":\"inner\",\"of\":\"f\"},\
-        {\"name\":\"u\",\"kind\":\"until\",\"place\":\"root\"},\
-        {\"name\":\"n\",\"kind\":\"leaf\",\"place\":\"notifier\",\"of\":\"u\"},\
-        {\"name\":\"s\",\"kind\":\"switch\",\"place\":\"source\",\"of\":\"u\"},\
-        {\"name\":\"b\",\"kind\":\"sub\",\"hub\":\"h\",\"place\":\"root\"},\
-        {\"name\":\"c\",\"kind\":\"connection\",\"hub\":\"h\"},\
-        {\"name\":\"d\",\"kind\":\"sub\",\"hub\":\"h\",\"place\":\"root\"}],\
-        \"resources\":[{\"name\":\"r\",\"uses\":1}],\"leases\":[{\"name\":\"l\",\"res\":\"r\"}],\
-        \"hubs\":[{\"name\":\"h\",\"mode\":\"auto\",\"connected\":true,\"subscribers\":2},\
-        {\"name\":\"m\",\"mode\":\"manual\",\"connected\":false,\"subscribers\":0}]}";
+const LEASED: &str =
+    "{\"ok\":19,\"nodes\":[{\"name\":\"f\",\"number\":0,\"kind\":\"flat\",\"place\":\"root\"},\
+        {\"name\":\"g\",\"number\":1,\"kind\":\"leaf\",\"place\":\"source\",\"of\":\"f\"},\
+        {\"name\":\"i\",\"number\":3,\"kind\":\"leaf\",\"place\":\"inner\",\"of\":\"f\"},\
+        {\"name\":\"u\",\"number\":4,\"kind\":\"until\",\"place\":\"root\"},\
+        {\"name\":\"n\",\"number\":5,\"kind\":\"leaf\",\"place\":\"notifier\",\"of\":\"u\"},\
+        {\"name\":\"s\",\"number\":6,\"kind\":\"switch\",\"place\":\"source\",\"of\":\"u\"},\
+        {\"name\":\"b\",\"number\":8,\"kind\":\"sub\",\"hub\":\"h\",\"place\":\"root\"},\
+        {\"name\":\"c\",\"number\":9,\"kind\":\"connection\",\"hub\":\"h\"},\
+        {\"name\":\"d\",\"number\":16,\"kind\":\"sub\",\"hub\":\"h\",\"place\":\"root\"}],\
+        \"resources\":[{\"name\":\"r\",\"number\":12,\"uses\":1}],\
+        \"leases\":[{\"name\":\"l\",\"number\":14,\"res\":\"r\"}],\
+        \"hubs\":[{\"name\":\"h\",\"number\":7,\"mode\":\"auto\",\"connected\":true,\"subscribers\":2},\
+        {\"name\":\"m\",\"number\":10,\"mode\":\"manual\",\"connected\":false,\"subscribers\":0}]}";
 
 const CLOSED: [Part; 2] = [
     (1, &LINES),
@@ -117,16 +121,17 @@ fn what_is_closed_is_not_listed(rt: HostRuntime) {
 
 // Once nobody subscribes to the one hub, and the other is connected by hand.
 const CONNECTED: &str =
-    "{\"ok\":23,\"nodes\":[{\"name\":\"f\",\"kind\":\"flat\",\"place\":\"root\"},\
-        {\"name\":\"g\",\"kind\":\"leaf\",\"place\":\"source\",\"of\":\"f\"},\
-        {\"name\":\"i\",\"kind\":\"leaf\",\"place\":\"inner\",\"of\":\"f\"},\
-        {\"name\":\"u\",\"kind\":\"until\",\"place\":\"root\"},\
-        {\"name\":\"n\",\"kind\":\"leaf\",\"place\":\"notifier\",\"of\":\"u\"},\
-        {\"name\":\"s\",\"kind\":\"switch\",\"place\":\"source\",\"of\":\"u\"},\
-        {\"name\":\"e\",\"kind\":\"connection\",\"hub\":\"m\"}],\"resources\":[{\"name\":\"r\",\"uses\":1}],\
-        \"leases\":[{\"name\":\"l\",\"res\":\"r\"}],\
-        \"hubs\":[{\"name\":\"h\",\"mode\":\"auto\",\"connected\":false,\"subscribers\":0},\
-        {\"name\":\"m\",\"mode\":\"manual\",\"connected\":true,\"subscribers\":0}]}";
+    "{\"ok\":23,\"nodes\":[{\"name\":\"f\",\"number\":0,\"kind\":\"flat\",\"place\":\"root\"},\
+        {\"name\":\"g\",\"number\":1,\"kind\":\"leaf\",\"place\":\"source\",\"of\":\"f\"},\
+        {\"name\":\"i\",\"number\":3,\"kind\":\"leaf\",\"place\":\"inner\",\"of\":\"f\"},\
+        {\"name\":\"u\",\"number\":4,\"kind\":\"until\",\"place\":\"root\"},\
+        {\"name\":\"n\",\"number\":5,\"kind\":\"leaf\",\"place\":\"notifier\",\"of\":\"u\"},\
+        {\"name\":\"s\",\"number\":6,\"kind\":\"switch\",\"place\":\"source\",\"of\":\"u\"},\
+        {\"name\":\"e\",\"number\":22,\"kind\":\"connection\",\"hub\":\"m\"}],\
+        \"resources\":[{\"name\":\"r\",\"number\":12,\"uses\":1}],\
+        \"leases\":[{\"name\":\"l\",\"number\":14,\"res\":\"r\"}],\
+        \"hubs\":[{\"name\":\"h\",\"number\":7,\"mode\":\"auto\",\"connected\":false,\"subscribers\":0},\
+        {\"name\":\"m\",\"number\":10,\"mode\":\"manual\",\"connected\":true,\"subscribers\":0}]}";
 
 const BY_HAND: [Row; 8] = [
     (CHECKPOINT, r#"{"ok":17}"#),
@@ -149,18 +154,20 @@ fn a_hub_is_listed_as_it_is_connected_now(rt: HostRuntime) {
 // A resource that was used and is leased, and a subscriber of a hub that is connected by hand: over checkpoints, and
 // once the resource was used again.
 const USED_ONCE: &str =
-    "{\"ok\":8,\"nodes\":[{\"name\":\"a\",\"kind\":\"pass\",\"place\":\"root\"},\
-        {\"name\":\"b\",\"kind\":\"leaf\",\"place\":\"source\",\"of\":\"a\"},\
-        {\"name\":\"s\",\"kind\":\"sub\",\"hub\":\"h\",\"place\":\"root\"}],\
-        \"resources\":[{\"name\":\"r\",\"node\":\"a\",\"uses\":1}],\"leases\":[{\"name\":\"l\",\"res\":\"r\"}],\
-        \"hubs\":[{\"name\":\"h\",\"mode\":\"manual\",\"connected\":true,\"subscribers\":1}]}";
+    "{\"ok\":8,\"nodes\":[{\"name\":\"a\",\"number\":0,\"kind\":\"pass\",\"place\":\"root\"},\
+        {\"name\":\"b\",\"number\":2,\"kind\":\"leaf\",\"place\":\"source\",\"of\":\"a\"},\
+        {\"name\":\"s\",\"number\":7,\"kind\":\"sub\",\"hub\":\"h\",\"place\":\"root\"}],\
+        \"resources\":[{\"name\":\"r\",\"number\":1,\"node\":\"a\",\"uses\":1}],\
+        \"leases\":[{\"name\":\"l\",\"number\":4,\"res\":\"r\"}],\
+        \"hubs\":[{\"name\":\"h\",\"number\":5,\"mode\":\"manual\",\"connected\":true,\"subscribers\":1}]}";
 
 const USED_TWICE: &str =
-    "{\"ok\":9,\"nodes\":[{\"name\":\"a\",\"kind\":\"pass\",\"place\":\"root\"},\
-        {\"name\":\"b\",\"kind\":\"leaf\",\"place\":\"source\",\"of\":\"a\"},\
-        {\"name\":\"s\",\"kind\":\"sub\",\"hub\":\"h\",\"place\":\"root\"}],\
-        \"resources\":[{\"name\":\"r\",\"node\":\"a\",\"uses\":2}],\"leases\":[{\"name\":\"l\",\"res\":\"r\"}],\
-        \"hubs\":[{\"name\":\"h\",\"mode\":\"manual\",\"connected\":true,\"subscribers\":1}]}";
+    "{\"ok\":9,\"nodes\":[{\"name\":\"a\",\"number\":0,\"kind\":\"pass\",\"place\":\"root\"},\
+        {\"name\":\"b\",\"number\":2,\"kind\":\"leaf\",\"place\":\"source\",\"of\":\"a\"},\
+        {\"name\":\"s\",\"number\":7,\"kind\":\"sub\",\"hub\":\"h\",\"place\":\"root\"}],\
+        \"resources\":[{\"name\":\"r\",\"number\":1,\"node\":\"a\",\"uses\":2}],\
+        \"leases\":[{\"name\":\"l\",\"number\":4,\"res\":\"r\"}],\
+        \"hubs\":[{\"name\":\"h\",\"number\":5,\"mode\":\"manual\",\"connected\":true,\"subscribers\":1}]}";
 
 const OLD: [Row; 14] = [
     (

@@ -19,8 +19,8 @@ const LIST: &[u8] = b"{\"do\":\"list\"}";
 
 const TOLD: &str = "{\"ok\":3,\"notes\":[{\"to\":\"a\",\"next\":5}]}";
 
-const LISTED: &str = "{\"ok\":2,\"nodes\":[{\"name\":\"a\",\"kind\":\"pass\",\"place\":\"root\"}],\
-        \"resources\":[{\"name\":\"r\",\"node\":\"a\",\"uses\":0}],\"leases\":[],\"hubs\":[]}";
+const LISTED: &str = "{\"ok\":2,\"nodes\":[{\"name\":\"a\",\"number\":0,\"kind\":\"pass\",\"place\":\"root\"}],\
+        \"resources\":[{\"name\":\"r\",\"number\":1,\"node\":\"a\",\"uses\":0}],\"leases\":[],\"hubs\":[]}";
 
 const CLOSED: &str = "{\"closed\":true,\"release\":[\"r\"]}";
 

@@ -11,7 +11,7 @@ nested a b c d e f =
 pub returns : goal.returns
 unfolding hub_text
 returns c =
-    let begun : string_bytes c.push_member.new.text ≡ front_text c.args.name.now ++ member_of (codes "mode") (Some (mode_word c.args.is_manual)) =
+    let begun : string_bytes c.push_member.new.text ≡ front_text c.args.name.now c.args.number ++ member_of (codes "mode") (Some (mode_word c.args.is_manual)) =
     c.in_ok-push_member.ensures ∙ (λ i. c.in_ok-text.ensures i ++ member_of (codes "mode") (Some (c.mode_word.ensures i))) in
     let word = c.bool_word-connected.result.now in
     c.in_ok-write.ensures.bytes
