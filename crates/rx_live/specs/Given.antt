@@ -53,9 +53,9 @@ pub record IsUnchanged (old new : Session) : Type 0 where
   pub alike : IsAlike old new
   pub sound : IsSound new
 
--- requests: what the book holds in the place of a resource is fresh, and has the tag 0
+-- requests: what the book holds in the place of a resource is fresh, and its tag is the place of its acceptance
 abbrev pub hold_asked : State → Key → Request
-hold_asked s node = record { call = Holding node.number 0; is_known = has_key s.keys node; is_fresh = true }
+hold_asked s node = record { call = Holding node.number (length s.history); is_known = has_key s.keys node; is_fresh = true }
 
 -- one name more is bound, to this number
 pub record NamesOne (old : Names) (name : Name) (number : ℕ) (new : Names) : Type 0 where

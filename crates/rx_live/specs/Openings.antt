@@ -48,9 +48,10 @@ connection_of (sub hub connection) = connection
 abbrev pub open_asked : Session → Site → Sort → Option Request
 open_asked s site sort = option_and_then (λ at. option_map (open_request s.book at) (kind_of s sort)) (place_at s site)
 
--- what the book holds in the place of a resource is fresh, and has the tag 0
+-- what the book holds in the place of a resource is fresh, and its tag is the place of its acceptance
 abbrev pub using_at : State → At → Request
-using_at book at = record { call = OpeningUsing (place_of at) 0; is_known = is_known_place book.keys at; is_fresh = true }
+using_at book at =
+    record { call = OpeningUsing (place_of at) (length book.history + 1); is_known = is_known_place book.keys at; is_fresh = true }
 
 abbrev pub using_asked : Session → Site → Option Request
 using_asked s site = option_map (using_at s.book) (place_at s site)

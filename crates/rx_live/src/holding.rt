@@ -34,7 +34,8 @@ pub fn hold(engine: &mut Engine, node: &str, res: String) -> Result<Outcome, All
     }
     let res = Twice::new(res)?;
     engine.resources.make_room()?;
-    match engine.book.hold(key, Token::new()) {
+    let token = Token::new(engine.book.len());
+    match engine.book.hold(key, token) {
         Ok(held) => {
             engine.book.promise();
             let spot = Spot {

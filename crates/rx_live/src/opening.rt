@@ -276,7 +276,8 @@ pub fn using(
     let res = Twice::new(res)?;
     engine.nodes.make_room()?;
     engine.resources.make_room()?;
-    match engine.book.open_using(place, Token::new()) {
+    let token = Token::new(engine.place_behind());
+    match engine.book.open_using(place, token) {
         Ok(opened) => {
             engine.book.promise();
             engine.nodes.bind(name, spot_of(opened.key));

@@ -9,17 +9,20 @@ use rx_resource::{Life, Resource};
 /// by its name, and the caller then releases what it stands for.
 #[derive(Drop)]
 pub struct Token {
+    tag: u64,
     life: Life,
     uses: u64,
 }
 
 impl Token {
-    /// A live one that was never used.
-    pub fn new() -> Token
+    /// A live one that was never used, with this tag.
+    pub fn new(tag: u64) -> Token
+        ensures tag { result.tag ≡ tag }
         ensures live { result.life ≡ Life.Live }
         ensures unused { result.uses ≡ 0 }
     {
         Token {
+            tag,
             life: Life::Live,
             uses: 0,
         }
@@ -27,14 +30,14 @@ impl Token {
 }
 
 impl Resource for Token {
-    ghost tag_of = { λ t. 0 };
+    ghost tag_of = { λ t. t.tag };
 
     ghost life_of = { λ t. t.life };
 
     ghost uses_of = { λ t. t.uses };
 
     fn tag(&self) -> u64 {
-        0
+        self.tag
     }
 
     fn life(&self) -> Life {

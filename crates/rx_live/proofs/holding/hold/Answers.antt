@@ -1,5 +1,6 @@
-use Rattle.std.proofs.Common.{◌≡◌, Bool, false, Some, length, sym, ap, ◌∙◌, subst, option_map, string_bytes}
+use Rattle.std.proofs.Common.{◌≡◌, ℕ, Bool, false, Some, length, sym, ap, ◌∙◌, subst, option_map, string_bytes}
 use Rattle.rx_event.specs.Calls.{Holding}
+use Rattle.rx_book.specs.Requests.{Request}
 use Rattle.rx_scenario.specs.Scenario.{Name}
 use Rattle.rx_book.specs.State.{has_key}
 use Rattle.rx_book.specs.Answers.{Accepts}
@@ -29,13 +30,15 @@ returns-in-Ok-clause-ok c =
     let found : node_of s c.args.node.now ≡ Some key = sym c.node.ensures ∙ c.in-Some.is in
     let free : has_resource s name ≡ false = ap (has_resource s) (sym c.as_str.ensures.value) ∙ sym c.has_resource.ensures ∙ c.if-has_resource.false in
     let binds : Binds mid name spot new = subst (λ (n : Name). Binds mid n spot new) c.in_ok-res.ensures c.bind.ensures.binds in
-    let fresh = is_new c.new-2.result.life c.new-2.result.uses c.new-2.ensures.live c.new-2.ensures.unused in
+    let token = c.new-token.result in
+    let fresh = is_new token.life token.uses c.new-token.ensures.live c.new-token.ensures.unused in
+    let tag : token.tag ≡ length s.book.history = c.new-token.ensures.tag ∙ c.len.ensures in
+    let asked : ℕ → Bool → Request = λ n b. record { call = Holding key.number n; is_known = has_key s.book.keys key; is_fresh = b } in
     let accepts : Accepts s.book (hold_asked s.book key) book =
-    subst (λ (b : Bool). Accepts s.book (record { call = Holding key.number 0; is_known = has_key s.book.keys key; is_fresh = b }) book) fresh
-    c.in-Ok.ensures.accepted in
+    subst (λ (r : Request). Accepts s.book r book) (λ i. asked (tag i) (fresh i)) c.in-Ok.ensures.accepted in
     let paired = c.bind.ensures.paired (c.make_room.ensures.paired c.requires.resource_pairs) in
     given_accepted (option_map (hold_asked s.book) (node_of s c.args.node.now)) (has_resource s name) (BindsResource s name)
     (ap (option_map (hold_asked s.book)) found) free accepts
     (held_bound s book name spot mid new c.requires c.promise.ensures paired c.make_room.ensures.same binds number)
-    (held_sound s book name spot mid new c.requires c.promise.ensures paired key.number 0 (has_key s.book.keys key) c.make_room.ensures.same binds number free
-    accepts)
+    (held_sound s book name spot mid new c.requires c.promise.ensures paired key.number (length s.book.history)
+    (has_key s.book.keys key) c.make_room.ensures.same binds number free accepts)

@@ -1,8 +1,10 @@
-use Rattle.std.proofs.Common.{◌≡◌, ◌+◌, Bool, false, Some, length, sym, ap, ◌∙◌, subst, option_map, string_bytes}
+use Rattle.std.proofs.Common.{◌≡◌, ℕ, ◌+◌, Bool, false, Some, length, sym, ap, ◌∙◌, subst, option_map, string_bytes}
 use Rattle.std.proofs.Math.Bool.{◌||◌}
 use Rattle.rx_event.specs.Calls.{OpeningUsing}
 use Rattle.rx_scenario.specs.Scenario.{Name, site_of}
-use Rattle.rx_book.specs.Requests.{place_of, is_known_place}
+use Rattle.rx_book.specs.declared.answer.At.{At}
+use Rattle.rx_book.specs.State.{State}
+use Rattle.rx_book.specs.Requests.{Request, place_of, is_known_place}
 use Rattle.rx_book.specs.Answers.{Accepts, IsCauseOrWant}
 use Rattle.rx_line.specs.declared.names.Spot.{Spot}
 use Rattle.rx_line.specs.Names.{name_of, Binds}
@@ -12,6 +14,9 @@ use Rattle.rx_live.specs.Openings.{place_at, using_asked, using_at, is_node, is_
 use Rattle.rx_live.proofs.AcceptedBindsNames.{is_new, given_accepted, given_refused}
 use Rattle.rx_live.proofs.OpenedNodesGetNames.{unchanged_room, unchanged_rooms, unnamed_used, on_err, with_book, used_bound, used_sound}
 use Rattle.rx_live.proofs.opening.using.Goals as goal
+
+abbrev asked : State → At → (tag : ℕ) → (fresh : Bool) → Request
+asked book at tag fresh = record { call = OpeningUsing (place_of at) tag; is_known = is_known_place book.keys at; is_fresh = fresh }
 
 pub returns-in_err-make_room-clause-err : goal.returns-in_err-make_room-clause-err
 returns-in_err-make_room-clause-err c =
@@ -51,11 +56,11 @@ returns-in-Err-clause-ok c =
     let found : place_at s site ≡ Some place = sym c.place_at.ensures ∙ c.in-Some.is in
     let no_node : is_node s name ≡ false = ap (is_node s) (sym c.as_str-2.ensures.value) ∙ sym c.is_taken.ensures.answer ∙ c.if-is_taken.false in
     let free : has_resource s res ≡ false = ap (has_resource s) (sym c.as_str.ensures.value) ∙ sym c.has_resource.ensures ∙ c.if-has_resource.false in
-    let fresh = is_new c.new-3.result.life c.new-3.result.uses c.new-3.ensures.live c.new-3.ensures.unused in
+    let token = c.new-token.result in
+    let fresh = is_new token.life token.uses c.new-token.ensures.live c.new-token.ensures.unused in
+    let tag : token.tag ≡ length s.book.history + 1 = c.new-token.ensures.tag ∙ c.place_behind.ensures in
     let cause : IsCauseOrWant s.book (using_at s.book place) c.in-Err.unheld.why =
-    subst (λ (b : Bool). IsCauseOrWant s.book (record { call = OpeningUsing (place_of place) 0; is_known = is_known_place s.book.keys place; is_fresh = b })
-    c.in-Err.unheld.why)
-    fresh c.in-Err.ensures.refused.why in
+    subst (λ (r : Request). IsCauseOrWant s.book r c.in-Err.unheld.why) (λ i. asked s.book place (tag i) (fresh i)) c.in-Err.ensures.refused.why in
     given_refused (BindsUsing s name res) c.in-Err.unheld.why c.answered.result
     (ap (option_map (using_at s.book)) found) (λ i. no_node i || free i) cause
     (with_book s c.open_using.new.self c.make_room.new.self c.make_room-2.new.self c.in-Err.ensures.kept
@@ -81,10 +86,11 @@ returns-in-Ok-clause-ok c =
     let found : place_at s site ≡ Some place = sym c.place_at.ensures ∙ c.in-Some.is in
     let no_node : is_node s name ≡ false = ap (is_node s) (sym c.as_str-2.ensures.value) ∙ sym c.is_taken.ensures.answer ∙ c.if-is_taken.false in
     let free : has_resource s res ≡ false = ap (has_resource s) (sym c.as_str.ensures.value) ∙ sym c.has_resource.ensures ∙ c.if-has_resource.false in
-    let fresh = is_new c.new-3.result.life c.new-3.result.uses c.new-3.ensures.live c.new-3.ensures.unused in
+    let token = c.new-token.result in
+    let fresh = is_new token.life token.uses c.new-token.ensures.live c.new-token.ensures.unused in
+    let tag : token.tag ≡ length s.book.history + 1 = c.new-token.ensures.tag ∙ c.place_behind.ensures in
     let accepts : Accepts s.book (using_at s.book place) book =
-    subst (λ (b : Bool). Accepts s.book (record { call = OpeningUsing (place_of place) 0; is_known = is_known_place s.book.keys place; is_fresh = b }) book)
-    fresh c.in-Ok.ensures.accepted in
+    subst (λ (r : Request). Accepts s.book r book) (λ i. asked s.book place (tag i) (fresh i)) c.in-Ok.ensures.accepted in
     let number : spot.number ≡ length s.book.history = ap (λ (p : Spot). p.number) c.spot_of.ensures ∙ c.in-Ok.ensures.ok.key.number in
     let binds : Binds t name spot nodes = subst (λ (n : Name). Binds t n spot nodes) c.in_ok-name.ensures c.bind.ensures.binds in
     let binds_res : Binds more res held resources = subst (λ (n : Name). Binds more n held resources) c.in_ok-res.ensures c.bind-in-Ok.ensures.binds in
