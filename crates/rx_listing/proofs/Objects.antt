@@ -40,6 +40,32 @@ count_named p named (n ∷ ns) all = by_name (named n) refl (count_named p named
       sum_by-cons (λ m. cond (p m) 1 0) n ns ∙ ap (λ (b : Bool). cond b 1 0 + count_by p ns) (all n is) in
       omega arith
 
+-- texts behind one another, as there is one more, or none
+module _ (xs ys : List (List ℕ)) where
+  pub same_texts : ys ≡ xs ++ cons_option None [] → xs ≡ ys
+  same_texts none = sym (none ∙ append-nil xs)
+
+  pub more_nil : (object : List ℕ) → ys ≡ xs ++ cons_option (Some object) [] → false ≡ is_nil ys
+  more_nil object there = not_nil xs ∙ sym (ap is_nil there) where
+    not_nil : (zs : List (List ℕ)) → false ≡ is_nil (zs ++ object ∷ [])
+    not_nil [] = refl
+    not_nil (z ∷ zs) = refl
+
+  pub more_text : (object : List ℕ) (first : Bool) (begun : List ℕ) {text new : List ℕ} → ys ≡ xs ++ cons_option (Some object) [] →
+      first ≡ is_nil xs → text ≡ begun ++ joined xs → new ≡ text ++ led_text first object → new ≡ begun ++ joined ys
+  more_text object first begun {text} there is written next =
+      next ∙ ap (λ (b : Bool). text ++ led_text b object) is ∙ ap (λ (t : List ℕ). t ++ led_text (is_nil xs) object) written
+      ∙ append_assoc begun (joined xs) (led_text (is_nil xs) object) ∙ ap (λ (t : List ℕ). begun ++ t) (led xs)
+      ∙ ap (λ (texts : List (List ℕ)). begun ++ joined texts) (sym there)
+    where
+      led : (zs : List (List ℕ)) → joined zs ++ led_text (is_nil zs) object ≡ joined (zs ++ object ∷ [])
+      led [] = sym (append-nil object)
+      led (z ∷ zs) =
+          let comma = λ (q : List ℕ). codes "," ++ q in
+          append_assoc z (flat_map comma zs) (codes "," ++ object)
+          ∙ ap (λ (t : List ℕ). z ++ t) (ap (λ (t : List ℕ). flat_map comma zs ++ t) (sym (append-nil (codes "," ++ object)))
+          ∙ sym (flat_map-append comma zs (object ∷ [])))
+
 -- objects, one more
 module _ (f : ℕ → Option (List ℕ)) (ns : List ℕ) (i d : ℕ) (within : i < length ns) where
   more : {o : Option (List ℕ)} → f (get_or ns i d) ≡ o → filter_map f (take (i + 1) ns) ≡ filter_map f (take i ns) ++ cons_option o []
@@ -48,31 +74,16 @@ module _ (f : ℕ → Option (List ℕ)) (ns : List ℕ) (i d : ℕ) (within : i
       ∙ ap (λ (o : Option (List ℕ)). filter_map f (take i ns) ++ cons_option o []) there
 
   pub object_same : f (get_or ns i d) ≡ None → filter_map f (take i ns) ≡ filter_map f (take (i + 1) ns)
-  object_same none = sym (more none ∙ append-nil (filter_map f (take i ns)))
-
-  not_nil : (xs : List (List ℕ)) (object : List ℕ) → false ≡ is_nil (xs ++ object ∷ [])
-  not_nil [] object = refl
-  not_nil (x ∷ xs) object = refl
+  object_same none = same_texts (filter_map f (take i ns)) (filter_map f (take (i + 1) ns)) (more none)
 
   pub object_nil : {object : List ℕ} → f (get_or ns i d) ≡ Some object → false ≡ is_nil (filter_map f (take (i + 1) ns))
-  object_nil {object} there = not_nil (filter_map f (take i ns)) object ∙ sym (ap is_nil (more there))
-
-  led : (xs : List (List ℕ)) (object : List ℕ) → joined xs ++ led_text (is_nil xs) object ≡ joined (xs ++ object ∷ [])
-  led [] object = sym (append-nil object)
-  led (x ∷ xs) object =
-      let comma = λ (q : List ℕ). codes "," ++ q in
-      append_assoc x (flat_map comma xs) (codes "," ++ object)
-      ∙ ap (λ (t : List ℕ). x ++ t) (ap (λ (t : List ℕ). flat_map comma xs ++ t) (sym (append-nil (codes "," ++ object)))
-      ∙ sym (flat_map-append comma xs (object ∷ [])))
+  object_nil {object} there = more_nil (filter_map f (take i ns)) (filter_map f (take (i + 1) ns)) object (more there)
 
   pub object_text : {object : List ℕ} (first : Bool) (begun : List ℕ) {text new : List ℕ} → f (get_or ns i d) ≡ Some object →
       first ≡ is_nil (filter_map f (take i ns)) → text ≡ begun ++ joined (filter_map f (take i ns)) → new ≡ text ++ led_text first object →
       new ≡ begun ++ joined (filter_map f (take (i + 1) ns))
-  object_text {object} first begun {text} there is written next =
-      let xs = filter_map f (take i ns) in
-      next ∙ ap (λ (b : Bool). text ++ led_text b object) is ∙ ap (λ (t : List ℕ). t ++ led_text (is_nil xs) object) written
-      ∙ append_assoc begun (joined xs) (led_text (is_nil xs) object) ∙ ap (λ (t : List ℕ). begun ++ t) (led xs object)
-      ∙ ap (λ (objects : List (List ℕ)). begun ++ joined objects) (sym (more there))
+  object_text {object} first begun there is written next =
+      more_text (filter_map f (take i ns)) (filter_map f (take (i + 1) ns)) object first begun (more there) is written next
 
 -- what has no name has no object
 named_alone : (f : ℕ → Option (List ℕ)) (named : ℕ → Bool) (ns : List ℕ) → ((n : ℕ) → named n ≡ false → f n ≡ None) →
