@@ -8,6 +8,7 @@ pub mod OpenedNodesGetNames
 pub mod ClosedNamesForgotten
 pub mod SessionAfterCheckpoint
 pub mod Listings
+pub mod EntriesWritten
 pub mod Acts
 pub mod AnswersTellNotes
 pub mod ClosedSessionIsSound

@@ -60,7 +60,7 @@ names_more s before ns i d within =
     ∙ ap (λ (names : List Name). names_at s (take i ns) ++ names) (one_name (name_of s.resources n)))
     ∙ sym (append_assoc before (names_at s (take i ns)) (option_to_list (name_of s.resources n)))
 
-range_more : (a n : ℕ) → range_with_len a (suc n) ≡ range_with_len a n ++ (a + n) ∷ []
+pub range_more : (a n : ℕ) → range_with_len a (suc n) ≡ range_with_len a n ++ (a + n) ∷ []
 range_more a zero = ap (λ (k : ℕ). k ∷ []) (let e : a ≡ a + 0 = omega arith in e)
 range_more a (suc n) =
     ap (λ (ns : List ℕ). a ∷ ns)

@@ -21,8 +21,9 @@
 //!   something is late.
 //! - The answer to the opening of a subscriber says whether that made a connection.
 //! - A line that is refused `Full` finds no event in the history since its last checkpoint. After a checkpoint
-//!   each name of a node is that of an open one. `dump` is answered with the dump of the history, or with the
-//!   place of the checkpoint that took events away, and `is` with whether a node of that name is open.
+//!   each name of a node is that of an open one. `dump` is answered with the dump of the history and the names of
+//!   its numbers, or with the place of the checkpoint that took events away, and `is` with whether a node of that
+//!   name is open.
 //! - Of any list of lines up to the last one: each name that is handed in is released exactly once behind that,
 //!   before it is handed in again, and no other name is ([`names_are_released_once`]).
 //! - Of any list of lines: the answers tell the notes of the events that were written, each once and in order

@@ -1,0 +1,31 @@
+-- The numbers that have names, written one after another.
+use Rattle.std.proofs.Common.{◌≡◌, ℕ, suc, ◌+◌, Bool, false, List, [], ◌∷◌, ◌++◌, filter_map, Option, Some, None, ap, ◌∙◌, arith}
+use Rattle.std.specs.List.{cons_option, range_with_len}
+use Rattle.std.proofs.lemmas.List.Elements.{filter_map-append}
+use Rattle.rx_line.specs.Pieces.{joined}
+use Rattle.rx_listing.specs.Parts.{is_nil, led_text}
+use Rattle.rx_listing.proofs.Objects.{same_texts, more_nil, more_text}
+use Rattle.rx_live.proofs.Listings.{range_more}
+
+range_next : (k : ℕ) → range_with_len 0 (k + 1) ≡ range_with_len 0 k ++ k ∷ []
+range_next k =
+    ap (range_with_len 0) (let e : k + 1 ≡ suc k = omega arith in e) ∙ range_more 0 k
+    ∙ ap (λ (n : ℕ). range_with_len 0 k ++ n ∷ []) (let e : 0 + k ≡ k = omega arith in e)
+
+module _ (f : ℕ → Option (List ℕ)) (k : ℕ) where
+  longer : {o : Option (List ℕ)} → f k ≡ o → filter_map f (range_with_len 0 (k + 1)) ≡ filter_map f (range_with_len 0 k) ++ cons_option o []
+  longer there =
+      ap (filter_map f) (range_next k) ∙ filter_map-append f (range_with_len 0 k) (k ∷ [])
+      ∙ ap (λ (o : Option (List ℕ)). filter_map f (range_with_len 0 k) ++ cons_option o []) there
+
+  pub entry_same : f k ≡ None → filter_map f (range_with_len 0 k) ≡ filter_map f (range_with_len 0 (k + 1))
+  entry_same none = same_texts (filter_map f (range_with_len 0 k)) (filter_map f (range_with_len 0 (k + 1))) (longer none)
+
+  pub entry_nil : {entry : List ℕ} → f k ≡ Some entry → false ≡ is_nil (filter_map f (range_with_len 0 (k + 1)))
+  entry_nil {entry} there = more_nil (filter_map f (range_with_len 0 k)) (filter_map f (range_with_len 0 (k + 1))) entry (longer there)
+
+  pub entry_written : {entry : List ℕ} (first : Bool) (begun : List ℕ) {text new : List ℕ} → f k ≡ Some entry →
+      first ≡ is_nil (filter_map f (range_with_len 0 k)) → text ≡ begun ++ joined (filter_map f (range_with_len 0 k)) → new ≡ text ++ led_text first entry →
+      new ≡ begun ++ joined (filter_map f (range_with_len 0 (k + 1)))
+  entry_written {entry} first begun there is written next =
+      more_text (filter_map f (range_with_len 0 k)) (filter_map f (range_with_len 0 (k + 1))) entry first begun (longer there) is written next

@@ -1,0 +1,38 @@
+use Rattle.std.proofs.Common.{◌≡◌, ℕ, ◌++◌, List, Option, Some, option_map, length, string_bytes, sym, ap, ◌∙◌, arith}
+use Rattle.rx_line.specs.Pieces.{joined}
+use Rattle.rx_listing.specs.Parts.{is_nil, led_text}
+use Rattle.rx_live.specs.Session.{session_of}
+use Rattle.rx_live.specs.Dumps.{entry_at, entries}
+use Rattle.rx_live.proofs.EntriesWritten.{entry_same, entry_nil, entry_written}
+use Rattle.rx_live.proofs.dumping.push_entries.Goals.{in-Some+in_ok-push_entry, in_default}
+use Rattle.rx_live.proofs.dumping.push_entries.Goals as goal
+
+pub places-preserved : goal.places-preserved
+places-preserved c =
+    let entry : ℕ → Option (List ℕ) = entry_at (session_of c.args.engine.now) in
+    let k = c.places.place in
+    let begun = string_bytes c.args.text.now in
+    elim c.match-branch-2.branch [
+      | in-Some+in_ok-push_entry w ↦
+          let there : entry k ≡ Some (string_bytes w.in-Some.entry) = sym c.in_ok-entry.ensures ∙ ap (option_map string_bytes) w.in-Some.is in
+          record {
+            first = w.is_first-is ∙ entry_nil entry k there;
+            written = ap string_bytes w.text-is ∙ entry_written entry k c.places.is_first begun there
+                c.places.invariant.first c.places.invariant.written
+                (w.in_ok-push_entry.ensures ∙ ap (λ (o : List ℕ). string_bytes c.places.text ++ led_text c.places.is_first o) w.as_str.ensures.value);
+          }
+      | in_default w ↦
+          let same = entry_same entry k (sym c.in_ok-entry.ensures ∙ ap (option_map string_bytes) w.in_default.is) in
+          record {
+            first = w.is_first-is ∙ c.places.invariant.first ∙ ap is_nil same;
+            written = ap string_bytes w.text-is ∙ c.places.invariant.written ∙ ap (λ (texts : List (List ℕ)). begun ++ joined texts) same;
+          }
+    ]
+
+pub returns : goal.returns
+returns c =
+    let len = c.len-place-end.ensures in
+    let over = c.places-test.false in
+    let most = c.places.auto.place-end in
+    let all : c.places.place ≡ length c.args.engine.now.book.history = omega arith in
+    c.places.invariant.written ∙ ap (λ (n : ℕ). string_bytes c.args.text.now ++ joined (entries (session_of c.args.engine.now) n)) all

@@ -1,0 +1,12 @@
+use Rattle.std.proofs.Common.{◌≡◌, ◌++◌, string_bytes}
+use Rattle.rx_line.specs.Pieces.{joined}
+use Rattle.rx_listing.specs.Parts.{is_nil}
+use Rattle.rx_live.specs.Session.{session_of}
+use Rattle.rx_live.specs.Dumps.{entries}
+use Rattle.rx_live.proofs.dumping.push_entries.Given as goal
+
+abbrev pub invariant-places : goal.invariant-places
+invariant-places l = record {
+  first : l.is_first ≡ is_nil (entries (session_of l.engine) l.place);
+  written : string_bytes l.text ≡ string_bytes l.fn.text ++ joined (entries (session_of l.engine) l.place);
+}
