@@ -1,12 +1,14 @@
 -- The whole report of a course.
-use Rattle.std.proofs.Common.{◌≡◌, ◌≤◌, ◌+◌, ◌++◌, ℕ, List, false, min, refl, sym, ap, subst, ◌∙◌, append-nil, count_by, arith}
+use Rattle.std.proofs.Common.{◌≡◌, ◌≤◌, ◌+◌, ◌++◌, ℕ, List, true, false, min, refl, sym, ap, subst, ◌∙◌, append-nil, count_by, arith}
 use Rattle.std.specs.List.{range_with_len}
+use Rattle.std.proofs.lemmas.Bool.{false≢true}
 use Rattle.rx_event.specs.Kept.{nothing_kept}
 use Rattle.rx_event.specs.Bases.{Agree}
 use Rattle.rx_event.specs.Totals.{accepted_count, held_count, waiting_count}
 use Rattle.rx_event.proofs.Laws.Totals.{accepted_count-parts}
 use Rattle.rx_book.specs.State.{IsPromised}
-use Rattle.rx_scenario.specs.Scenario.{steps_of, Script}
+use Rattle.rx_scenario.specs.Scenario.{Steps, steps_of, Script}
+use Rattle.rx_scenario.specs.Checkpoints.{has_checkpoint}
 use Rattle.rx_script.specs.declared.engine.Engine.{Engine}
 use Rattle.rx_script.specs.Stage.{Ware, Stage, start}
 use Rattle.rx_agenda.specs.Agenda.{with_steps, empty_agenda}
@@ -14,9 +16,10 @@ use Rattle.rx_script.specs.Course.{limited, Course, HasNoFull, IsCourseOf, HasOn
 use Rattle.rx_script.specs.Progress.{begin, Ends}
 use Rattle.rx_dump.specs.Dump.{dump}
 use Rattle.rx_script.specs.declared.Form.{Form}
-use Rattle.rx_script.specs.declared.Form.TheVariants.{Report, Dump}
+use Rattle.rx_script.specs.declared.Form.TheVariants.{Report, Dump, NamedDump}
 use Rattle.rx_script.specs.Report.{report, AreReportedAlike, output, lacks_form}
-use Rattle.rx_script.specs.Outputs.{unclosed_output, closing, IsCarriedOut}
+use Rattle.rx_script.specs.NamedDumps.{run_names, named_dump}
+use Rattle.rx_script.specs.Outputs.{has_history, unclosed_output, closing, IsCarriedOut}
 use Rattle.rx_script.specs.Running.{IsReportedCanonically}
 use Rattle.rx_script.proofs.CoursesInOrder.{course_in_order}
 use Rattle.rx_script.proofs.OneCourse.{one_canonical_course}
@@ -29,6 +32,12 @@ outputs_whole : (form : Form) (c : Course) (faults : ℕ)
 unfolding report
 outputs_whole Report c faults = refl
 outputs_whole Dump c faults = append-nil (dump c.last.history)
+outputs_whole NamedDump c faults = append-nil (named_dump c.last.history (run_names c.last))
+
+without_checkpoint : (form : Form) (steps : Steps) → has_history form ≡ true → lacks_form form steps ≡ false → has_checkpoint steps ≡ false
+without_checkpoint Report steps has has_form = absurd (false≢true has)
+without_checkpoint Dump steps has has_form = has_form
+without_checkpoint NamedDump steps has has_form = has_form
 
 -- a course that no full history cut short is reported as the canonical one
 record IsReportedAs (script : Script) (stock : List Ware) (c : Course) : Type 0 where
@@ -90,8 +99,8 @@ module _ {R : Type 0} (form : Form) (script : Script) (stock : List Ware) (limit
 
   lines_whole : whole ≡ output form course faults
   lines_whole =
-      is_whole ∙ ap (λ l. l ++ closing form released faults) (out.lines (λ dumped.
-      unchecked (limited script.events) script stock course possible (ap (λ f. lacks_form f (steps_of script.steps)) (sym dumped) ∙ has_form)))
+      is_whole ∙ ap (λ l. l ++ closing form released faults) (out.lines (λ has.
+      unchecked (limited script.events) script stock course possible (without_checkpoint form (steps_of script.steps) has has_form)))
       ∙ ap (λ n. unclosed_output form out.answers out.last ++ closing form n faults) left ∙ outputs_whole form course faults
 
   -- no more releases met a fault than resources were accepted

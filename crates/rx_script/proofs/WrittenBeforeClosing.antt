@@ -1,11 +1,10 @@
 -- What is written before the closing, of the whole history.
-use Rattle.std.proofs.Common.{◌≡◌, ◌≤◌, ◌++◌, ℕ, List, map, sym, ap, subst, ◌∙◌}
+use Rattle.std.proofs.Common.{◌≡◌, ◌≤◌, ◌++◌, ℕ, true, List, map, sym, ap, subst, ◌∙◌}
 use Rattle.std.specs.Prelude.{Result, Ok, Err, IfOk, OnOk}
 use Rattle.rx_event.specs.declared.event.Event.{Event}
 use Rattle.rx_event.specs.Kept.{nothing_kept}
 use Rattle.rx_event.specs.Bases.{Agree}
 use Rattle.rx_event.specs.Totals.{taken_count}
-use Rattle.rx_dump.specs.Dump.{dump}
 use Rattle.rx_agenda.specs.declared.answer.Answer.{Answer}
 use Rattle.rx_report.specs.declared.tallies.Tallies.{Tallies}
 use Rattle.rx_report.specs.Tallies.{Gathers, IsWhole}
@@ -14,11 +13,10 @@ use Rattle.rx_report.specs.Text.{totals_line}
 use Rattle.rx_report.specs.Lines.{refused_lines, node_lines, res_lines, totals_of}
 use Rattle.rx_script.specs.declared.engine.Engine.{Engine}
 use Rattle.rx_script.specs.declared.Form.{Form}
-use Rattle.rx_script.specs.declared.Form.TheVariants.{Dump}
 use Rattle.rx_script.specs.Course.{Manner}
 use Rattle.rx_script.specs.Progress.{Progress, Ends}
 use Rattle.rx_script.specs.Report.{unclosed_report}
-use Rattle.rx_script.specs.Outputs.{unclosed_output, IsCarriedOut}
+use Rattle.rx_script.specs.Outputs.{has_history, unclosed_output, IsCarriedOut}
 use Rattle.rx_script.specs.Engine.{stage_of, IsHistoryOf, IsSound}
 use Rattle.rx_script.proofs.EngineCarriesOut.{history_lawful, history_agrees}
 use Rattle.rx_script.proofs.CheckpointCarriedOut.{gathered}
@@ -39,9 +37,10 @@ module _ {R : Type 0} (e : Engine R) (sound : IsSound e) (h : List Event) (w : I
       let four : List ℕ = totals_line (totals_of nothing_kept h) in
       totals ∙ ap (λ l. l ++ four) (resources ∙ ap (λ l. l ++ three) (nodes ∙ ap (λ l. l ++ two) refusals))
 
-  -- the dump, where no checkpoint was made
-  pub dump_whole : (text : List ℕ) → e.book.base.at_length ≡ 0 → (e.book.base ≡ nothing_kept → text ≡ dump e.book.history) → text ≡ dump h
-  dump_whole text unchecked dumped = dumped (no_base w unchecked) ∙ ap dump (all_stored w unchecked)
+  -- what has the history in it, where no checkpoint was made
+  pub history_whole : (text_of : List Event → List ℕ) (text : List ℕ) → e.book.base.at_length ≡ 0
+      → (e.book.base ≡ nothing_kept → text ≡ text_of e.book.history) → text ≡ text_of h
+  history_whole text_of text unchecked written = written (no_base w unchecked) ∙ ap text_of (all_stored w unchecked)
 
 -- what holds where a text was written
 pub written_of : {T E P Q S : Type 0} {A B : T → Type 0} (r : Result T E) → OnOk r P → OnOk r Q → OnOk r S → ((x : T) → P → Q → S → A x → B x) → IfOk r A
@@ -53,7 +52,7 @@ written_of (Err e) p q s f a = a
 pub carried_out : {R : Type 0} {m : Manner} {until : ℕ} {first : Progress} {form : Form} {text : List ℕ} {e : Engine R} (new : Engine R)
     {answers : List Answer} {k : List Event}
     → IsSound e → Ends m until first answers (stage_of e k) → IsHistoryOf k e.tallies e.book
-    → ((form ≡ Dump → e.book.base.at_length ≡ 0) → text ≡ unclosed_output form answers (stage_of e k))
+    → ((has_history form ≡ true → e.book.base.at_length ≡ 0) → text ≡ unclosed_output form answers (stage_of e k))
     → new.book.base ≡ e.book.base → new.book.history ≡ e.book.history → new.faults ≡ e.faults → IsCarriedOut m until first form text new
 carried_out {e} new {answers} {k} sound ends w lines same_base same_history same_faults = record {
   answers = answers;

@@ -25,6 +25,7 @@ use Rattle.rx_scenario.specs.declared.scenario.Step.{Step as StepInCode}
 use Rattle.rx_scenario.specs.Scenario.{Name, Site, root, source, inner, notifier, Sort, leaf, pass}
 use Rattle.rx_scenario.specs.Scenario.{flat, switch, until, sub, Command, action_of, list_of, step_of}
 use Rattle.rx_agenda.specs.Names.{key_of}
+use Rattle.rx_agenda.specs.Bindings.{Binding}
 use Rattle.rx_agenda.specs.Shown.{number_binding, agenda_of, size_of, size_left}
 use Rattle.rx_report.specs.declared.tallies.Tallies.{Tallies}
 use Rattle.rx_report.specs.Tallies.{AreTalliesOf}
@@ -95,6 +96,10 @@ stage_of e h =
       leases = map lease_binding e.leases;
       stock = e.stock.wares;
     }
+
+-- the names of its run
+abbrev pub engine_names : {R : Type 0} → Engine R → List Binding
+engine_names e = map node_binding e.nodes ++ map number_binding e.hubs ++ map res_binding e.resources
 
 -- what an engine keeps
 pub record IsSound {R : Type 0} (e : Engine R) : Type 0 where

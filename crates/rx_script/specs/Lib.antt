@@ -1,6 +1,7 @@
 pub mod Stage
 pub mod Course
 pub mod Progress
+pub mod NamedDumps
 pub mod Report
 pub mod Outputs
 pub mod Shelf

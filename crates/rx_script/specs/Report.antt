@@ -1,4 +1,4 @@
--- The report of a course, and its dump.
+-- The report of a course, its dump, and the dump with its names.
 use Rattle.std.specs.Prelude.{◌≡◌, ℕ, ◌+◌, Bool, false, List, ◌++◌}
 use Rattle.rx_event.specs.Kept.{nothing_kept}
 use Rattle.rx_event.specs.Totals.{held_count, waiting_count}
@@ -7,11 +7,12 @@ use Rattle.rx_agenda.specs.declared.answer.Answer.{Answer}
 use Rattle.rx_report.specs.Text.{totals_line, closed_line}
 use Rattle.rx_report.specs.Lines.{refused_lines, node_lines, res_lines, totals_of}
 use Rattle.rx_script.specs.declared.Form.{Form}
-use Rattle.rx_script.specs.declared.Form.TheVariants.{Report, Dump}
+use Rattle.rx_script.specs.declared.Form.TheVariants.{Report, Dump, NamedDump}
 use Rattle.rx_scenario.specs.Scenario.{Steps, Script}
 use Rattle.rx_scenario.specs.Checkpoints.{has_checkpoint}
 use Rattle.rx_script.specs.Stage.{Ware, Stage}
 use Rattle.rx_script.specs.Course.{Course, HasNoFull, IsCourseOf}
+use Rattle.rx_script.specs.NamedDumps.{run_names, named_dump}
 
 -- all lines but the last
 unfoldable pub unclosed_report : List Answer → Stage → List ℕ
@@ -29,12 +30,14 @@ AreReportedAlike =
     (script : Script) (stock : List Ware) (c d : Course) → IsCourseOf script stock c → HasNoFull c.answers → IsCourseOf script stock d → HasNoFull d.answers
     → (faults : ℕ) → report c faults ≡ report d faults
 
--- what is written of a course, in this form: its report, or the dump of its history before the closing
+-- what is written of a course, in this form: its report, or the dump of its history before the closing, alone or with the names of the run
 abbrev pub output : Form → Course → ℕ → List ℕ
 output Report c faults = report c faults
 output Dump c faults = dump c.last.history
+output NamedDump c faults = named_dump c.last.history (run_names c.last)
 
 -- a scenario that may make a checkpoint has no dump, since a book lets its events go there
 abbrev pub lacks_form : Form → Steps → Bool
 lacks_form Report steps = false
 lacks_form Dump steps = has_checkpoint steps
+lacks_form NamedDump steps = has_checkpoint steps

@@ -3,7 +3,8 @@
 //! A scenario (`rx_scenario`) says, step by step, what to do with a book of subscriptions. [`run`] reads
 //! one, carries it out on a new book with the caller's resources, closes the book, and writes a report:
 //! which steps were refused and why, what each node was told, and what became of each resource; or it
-//! writes the dump of the history before the closing (`rx_dump`), which [`check`] judges.
+//! writes the dump of the history before the closing (`rx_dump`), which [`check`] judges, alone or with the
+//! names that the scenario gives to numbers in it.
 //!
 //! # Vocabulary
 //!
@@ -34,7 +35,8 @@
 //!
 //! - Where [`run`] answers Ok, no call of a device failed, the reader was read to its end, and what was
 //!   written is the report of a course of the scenario that its bytes are, or the dump of that course's
-//!   history, and nothing else. A scenario that has a checkpoint anywhere has no dump, which is `Shape`:
+//!   history, alone or with the names of its nodes, hubs and resources (`NamedDumps`), and nothing else. A
+//!   scenario that has a checkpoint anywhere has no dump, which is `Shape`:
 //!   a dump is a history from place 0. Each error comes only for its cause, and a cause of `Syntax` or `Shape`
 //!   is never passed over. With an error nothing was written, but for a front of the text with `Write`.
 //! - Where no step was refused `Full`, that report is, but for the count of faults, the one of the
@@ -59,6 +61,7 @@ mod engine;
 mod execute;
 mod hubs;
 mod laws;
+mod naming;
 mod opening;
 mod running;
 mod stock;
@@ -77,4 +80,7 @@ pub enum Form {
     Report,
     /// The history before the closing, in JSON. A scenario with a checkpoint has none.
     Dump,
+    /// A JSON object with that history as `dump`. Its member `names` leads from the number of each node, hub and
+    /// resource that the scenario names, in decimal, to the name. A scenario with a checkpoint has none.
+    NamedDump,
 }

@@ -17,13 +17,14 @@ ghost use Rattle.rx_agenda.specs.Agenda.{with_steps, empty_agenda};
 ghost use Rattle.rx_script.specs.Report.{unclosed_report, output, lacks_form};
 ghost use Rattle.rx_dump.specs.Dump.{dump};
 ghost use Rattle.rx_script.specs.Engine.{stage_of, IsHistoryOf, IsSound};
-ghost use Rattle.rx_script.specs.Outputs.{unclosed_output, closing, IsCarriedOut};
+ghost use Rattle.rx_script.specs.Outputs.{has_history, unclosed_output, closing, IsCarriedOut};
 ghost use Rattle.rx_script.specs.Running.{IsReportedCanonically, IsOutputOf, IsOutputOfInput, HasNoOutput, Runs, GivesNoOutput, LacksOutput};
 
 use crate::Form;
 use crate::closing::close;
 use crate::course::run_course;
 use crate::engine::{Engine, begin};
+use crate::naming::named_dump;
 use json::Scratch;
 use rx_agenda::Answer;
 use rx_book::Book;
@@ -91,7 +92,7 @@ fn unclosed_output<S: Resource>(
 ) -> Result<String, AllocError>
     requires sound { IsSound engine.old }
     ensures ok { IfOk result (λ s. (h : List Happening) → IsHistoryOf h engine.old.tallies engine.old.book
-        → (form ≡ Form.Dump → engine.old.book.base.at_length ≡ 0)
+        → (has_history form ≡ true → engine.old.book.base.at_length ≡ 0)
         → string_bytes s ≡ unclosed_output form answers.now (stage_of engine.old h)) }
     ensures base { OnOk result (engine.new.book.base ≡ engine.old.book.base) }
     ensures history { OnOk result (engine.new.book.history ≡ engine.old.book.history) }
@@ -100,6 +101,7 @@ fn unclosed_output<S: Resource>(
     match form {
         Form::Report => unclosed_report(alloc, engine, answers),
         Form::Dump => dump_of(alloc, &engine.book),
+        Form::NamedDump => named_dump(alloc, engine),
     }
 }
 
@@ -128,7 +130,7 @@ fn push_closing(text: &mut String, form: Form, released: u64, faults: u64) -> Re
 {
     match form {
         Form::Report => push_closed(text, released, faults),
-        Form::Dump => Ok(()),
+        Form::Dump | Form::NamedDump => Ok(()),
     }
 }
 
@@ -161,13 +163,13 @@ fn text_of<S: Resource>(
     Ok(text)
 }
 
-// Whether the form is that of a dump, and the scenario may make a checkpoint.
+// Whether the form has the history in it, and the scenario may make a checkpoint.
 fn lacks_form(form: Form, steps: &[Step]) -> bool
     ensures { result ≡ lacks_form form (steps_of (map step_of steps.now)) }
 {
     match form {
         Form::Report => false,
-        Form::Dump => has_checkpoint(steps),
+        Form::Dump | Form::NamedDump => has_checkpoint(steps),
     }
 }
 
@@ -213,8 +215,9 @@ fn output_of_input<S: Resource>(
 }
 
 /// Runs the scenario that the reader has left, in JSON, on a new book, with these resources as its
-/// stock, and writes what the form says: its report, or the dump of its history before the closing. A
-/// scenario with a checkpoint has no dump, since the book lets events go there; that is `Shape`.
+/// stock, and writes what the form says: its report, or the dump of its history before the closing, alone
+/// or with the names of the run. A scenario with a checkpoint has no dump, since the book lets events go
+/// there; that is `Shape`.
 ///
 /// The book is closed in every outcome, and before the first byte is written: each resource that it
 /// accepted was released once. Those that it never accepted are dropped unreleased. Only with

@@ -1,0 +1,9 @@
+-- The members of the resources so far.
+use Rattle.std.proofs.Common.{◌≡◌, ◌++◌, take, map, string_bytes}
+use Rattle.rx_report.specs.Keys.{res_binding}
+use Rattle.rx_script.specs.NamedDumps.{binding_text}
+use Rattle.rx_script.proofs.naming.add_resources.Given as goal
+
+abbrev pub invariant-loop-named : goal.invariant-loop-named
+invariant-loop-named l = map string_bytes l.members.items
+    ≡ map string_bytes l.initial.members.items ++ map binding_text (map res_binding (take l.named-index l.resources))
