@@ -3,7 +3,7 @@ use Rattle.std.proofs.Common.{◌≡◌, [], ◌∷◌, map, codes, refl}
 use Rattle.clap.specs.Words.{fault_of}
 use Rattle.clap.specs.declared.error.kind.ErrorKind.TheVariants.{ValueValidation}
 use Rattle.clap.proofs.OnLiterals.{clap_on_literals}
-use Rattle.rx_script.specs.declared.Form.TheVariants.{Report, Dump}
+use Rattle.rx_script.specs.declared.Form.TheVariants.{Report, Dump, NamedDump}
 use Rattle.rx_cli.specs.declared.request.Order.TheVariants.{Run, Audit, Storm}
 use Rattle.rx_cli.specs.Words.{Orders, rxbook, greatest_storm, storms_beyond, questions, answers, file_words, refusals_of_files}
 
@@ -19,6 +19,14 @@ pub with_dump : Orders (codes "rxbook" ∷ codes "run" ∷ codes "--dump" ∷ []
     (Run Dump)
 unfolding clap_on_literals
 with_dump = record { taken = refl; named = refl }
+
+pub with_names : Orders (codes "rxbook" ∷ codes "run" ∷ codes "--names" ∷ []) (Run NamedDump)
+unfolding clap_on_literals
+with_names = record { taken = refl; named = refl }
+
+pub with_both : Orders (codes "rxbook" ∷ codes "run" ∷ codes "--dump" ∷ codes "--names" ∷ []) (Run NamedDump)
+unfolding clap_on_literals
+with_both = record { taken = refl; named = refl }
 
 pub with_audit : Orders (codes "rxbook" ∷ codes "audit" ∷ []) Audit
 unfolding clap_on_literals

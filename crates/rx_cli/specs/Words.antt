@@ -1,5 +1,5 @@
 -- What the words of a command line order. `clap` says which subcommand they name, with which options.
-use Rattle.std.specs.Prelude.{◌≡◌, ◌≤◌, ⊤, ℕ, true, List, [], ◌∷◌, Option, Some, None, codes, if◌then◌else◌}
+use Rattle.std.specs.Prelude.{◌≡◌, ◌≤◌, ⊤, ℕ, Bool, true, false, List, [], ◌∷◌, Option, Some, None, codes, if◌then◌else◌}
 use Rattle.std.specs.Str.{bytes_eq}
 use Rattle.std.specs.Str.Parse.{digits_value, without_leading_plus}
 use Rattle.clap.specs.Words.{App, Row, Rule, Text, new_app, new_rule, with_rule, with_subcommand, subcommand_of, first_of, fault_of}
@@ -12,14 +12,14 @@ use Rattle.clap.specs.declared.error.kind.ErrorKind.TheVariants.{InvalidSubcomma
 use Rattle.rx_cli.specs.declared.request.Order.{Order}
 use Rattle.rx_cli.specs.declared.request.Order.TheVariants.{Run, Audit, Storm}
 use Rattle.rx_script.specs.declared.Form.{Form}
-use Rattle.rx_script.specs.declared.Form.TheVariants.{Report, Dump}
+use Rattle.rx_script.specs.declared.Form.TheVariants.{Report, Dump, NamedDump}
 
--- the flag `--dump`
-abbrev pub dump_rule : Rule
-dump_rule = record (new_rule (codes "dump")) { long = Some (codes "dump"); action = Some SetTrue }
+-- the flag `--NAME`
+abbrev pub flag_rule : Text → Rule
+flag_rule name = record (new_rule name) { long = Some name; action = Some SetTrue }
 
 abbrev pub run_app : App
-run_app = with_rule (new_app (codes "run")) dump_rule
+run_app = with_rule (with_rule (new_app (codes "run")) (flag_rule (codes "dump"))) (flag_rule (codes "names"))
 
 -- the option `--NAME` of a number from the least to the most, which is the usual one where it is left out
 abbrev pub number_rule : (name usual : Text) → (least most : ℕ) → Rule
@@ -45,10 +45,17 @@ rxbook =
     with_subcommand (with_subcommand (with_subcommand (with_version (new_app (codes "rxbook"))) run_app.top)
     (new_app (codes "audit")).top) storm_app.top
 
--- a dump where the flag is set
-abbrev pub form_by : Option Text → Form
-form_by None = Report
-form_by (Some text) = if bytes_eq text (codes "true") then Dump else Report
+-- the value of a flag says that it is set
+abbrev pub is_set : Option Text → Bool
+is_set None = false
+is_set (Some text) = bytes_eq text (codes "true")
+
+-- the dump with its names where the flag for names is set, whether or not that for the dump is; the dump alone where only that is
+abbrev pub form_by : (dump names : Option Text) → Form
+form_by dump names = if is_set names then NamedDump else (if is_set dump then Dump else Report)
+
+abbrev pub form_of : List Row → Form
+form_of rows = form_by (first_of (codes "dump") rows) (first_of (codes "names") rows)
 
 -- the number that the text of an option writes; the least where it writes none from the least to the most,
 -- which `clap` refuses
@@ -68,7 +75,7 @@ abbrev pub order_of : Option (Text × List Row) → Order
 order_of None = Run Report
 order_of (Some p) =
     if bytes_eq p.0 (codes "audit") then Audit
-    else (if bytes_eq p.0 (codes "storm") then storm_by p.1 else Run (form_by (first_of (codes "dump") p.1)))
+    else (if bytes_eq p.0 (codes "storm") then storm_by p.1 else Run (form_of p.1))
 
 -- the numbers of a storm are those that there may be
 abbrev pub IsInRange : Order → Type 0

@@ -40,8 +40,8 @@ impl Gate for Open {
 /// Does what the words order, over these streams and with this stock, and answers the exit status. The
 /// first word is the program's name.
 ///
-/// A run writes to `output` the report of the scenario that `input` has left, or its dump, or a front of
-/// it where `output` fails, or nothing. An audit writes the verdict on the history of which `input` has a dump
+/// A run writes to `output` the report of the scenario that `input` has left, or its dump, alone or with its
+/// names, or a front of it where `output` fails, or nothing. An audit writes the verdict on the history of which `input` has a dump
 /// left, or a front of it, or nothing. A storm writes its figures, or a front of them, or nothing, and reads
 /// nothing. Neither stream was used through its watch before.
 ///

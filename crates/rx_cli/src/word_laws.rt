@@ -9,13 +9,17 @@ ghost use Rattle.rx_cli.specs.Words.{Orders, rxbook, greatest_storm, storms_beyo
 ghost use Rattle.rx_cli.specs.Words.{questions, answers, file_words, refusals_of_files};
 
 /// The program's name alone orders a report, and so it does with the word `run`; with `run --dump` it
-/// orders a dump, and with the word `audit` an audit. With the word `storm` it orders a storm of 4 sources,
-/// 3 workers and 100 items, or of the numbers that its options give; one beyond its range is refused. The
-/// words `--help` and `--version` ask for help and for the version, and the name of a file is refused.
+/// orders a dump, with `run --names` and with both flags the dump with its names, and with the word `audit` an
+/// audit. With the word `storm` it orders a storm of 4 sources, 3 workers and 100 items, or of the numbers that
+/// its options give; one beyond its range is refused. The words `--help` and `--version` ask for help and for the
+/// version, and the name of a file is refused.
 pub fn words_have_their_orders()
     ensures alone { Orders (codes "rxbook" ∷ []) (Order.Run Form.Report) }
     ensures with_run { Orders (codes "rxbook" ∷ codes "run" ∷ []) (Order.Run Form.Report) }
     ensures with_dump { Orders (codes "rxbook" ∷ codes "run" ∷ codes "--dump" ∷ []) (Order.Run Form.Dump) }
+    ensures with_names { Orders (codes "rxbook" ∷ codes "run" ∷ codes "--names" ∷ []) (Order.Run Form.NamedDump) }
+    ensures with_both { Orders (codes "rxbook" ∷ codes "run" ∷ codes "--dump" ∷ codes "--names" ∷ [])
+        (Order.Run Form.NamedDump) }
     ensures with_audit { Orders (codes "rxbook" ∷ codes "audit" ∷ []) Order.Audit }
     ensures with_storm { Orders (codes "rxbook" ∷ codes "storm" ∷ []) (Order.Storm 4 3 100) }
     ensures with_greatest { Orders greatest_storm (Order.Storm 64 16 10000) }

@@ -1,8 +1,8 @@
 //! The reading of the words, by `clap`.
 ghost use Rattle.std.specs.Prelude.{◌≡◌, ◌≤◌, false, map, option_map, codes, IfOk};
-ghost use Rattle.clap.specs.Words.{app_of, new_app, rule_of, subcommand_of, subcommand_rows_of, fault_of, found_of, rows_of, first_of, FailsBy};
-ghost use Rattle.rx_cli.specs.Words.{rxbook, run_app, storm_app, with_version, number_rule, number_by, storm_by};
-ghost use Rattle.rx_cli.specs.Words.{form_by, order_of, IsInRange};
+ghost use Rattle.clap.specs.Words.{app_of, new_app, rule_of, subcommand_of, subcommand_rows_of, fault_of, found_of, rows_of, FailsBy};
+ghost use Rattle.rx_cli.specs.Words.{rxbook, run_app, storm_app, with_version, flag_rule, number_rule, number_by, storm_by};
+ghost use Rattle.rx_cli.specs.Words.{is_set, form_by, form_of, order_of, IsInRange};
 
 use crate::request::Order;
 use clap::builder::ValueParser;
@@ -42,6 +42,7 @@ docs/reference has scenarios, reports, histories, verdicts and statuses in full.
 const RUN_NOTES: &str = "\
 A scenario is one JSON object, with its steps, of at most 16777216 bytes; as in
   rxbook run < first-run.json
+  rxbook run --names < first-run.json | rxpicture > first-run.svg
 
 The exit status is 0 on success, 1 if reading or writing failed, 3 if the input is not a scenario
 (rxexplain says why), 4 if out of memory. docs/reference/scenario.md and report.md have it in full.";
@@ -96,19 +97,29 @@ fn storm_command<'a>(alloc: Global) -> Result<Command<'a>, AllocError>
     second.arg(number_option(alloc, "items", help, "100", 0, 10_000))
 }
 
+// The flag `--NAME`.
+fn flag<'a>(alloc: Global, name: &'a str, help: &'a str) -> Arg<'a>
+    ensures rule { rule_of result ≡ flag_rule name.entry.now }
+    ensures local { result.global ≡ false }
+{
+    Arg::new(alloc, name)
+        .long(name)
+        .action(ArgAction::SetTrue)
+        .help(help)
+}
+
 // The command `run`.
 fn run_command<'a>(alloc: Global) -> Result<Command<'a>, AllocError>
     ensures { IfOk result (λ c. app_of c ≡ run_app) }
 {
-    let dump = Arg::new(alloc, "dump")
-        .long("dump")
-        .action(ArgAction::SetTrue)
-        .help("Write the dump of what happened, in place of the report");
-    Command::new(alloc, "run")
+    let bare = Command::new(alloc, "run")
         .about("Run the scenario on standard input (the default)")
         .override_usage(RUN_USAGE)
-        .after_help(RUN_NOTES)
-        .arg(dump)
+        .after_help(RUN_NOTES);
+    let help = "Write the dump of what happened, in place of the report";
+    let first = bare.arg(flag(alloc, "dump", help))?;
+    let help = "Write that dump with the names of its nodes, hubs and resources, for a picture";
+    first.arg(flag(alloc, "names", help))
 }
 
 // The command `audit`.
@@ -143,21 +154,31 @@ fn program<'a>(alloc: Global) -> Result<Command<'a>, AllocError>
     command.subcommand(storm)
 }
 
-// The form that the value of the flag says.
-fn form_by(text: Option<&str>) -> Form
-    ensures { result ≡ form_by (option_map (λ s. s.now) text.entry) }
+// Whether the value of a flag says that it is set.
+fn is_set(text: Option<&str>) -> bool
+    ensures { result ≡ is_set (option_map (λ s. s.now) text.entry) }
 {
-    match text {
-        Some("true") => Form::Dump,
-        _ => Form::Report,
+    matches!(text, Some("true"))
+}
+
+// The form that the values of the flags say.
+fn form_by(dump: Option<&str>, names: Option<&str>) -> Form
+    ensures { result ≡ form_by (option_map (λ s. s.now) dump.entry) (option_map (λ s. s.now) names.entry) }
+{
+    if is_set(names) {
+        Form::NamedDump
+    } else if is_set(dump) {
+        Form::Dump
+    } else {
+        Form::Report
     }
 }
 
 // The form that a run's options say.
 fn form_in(options: &ArgMatches<'_>) -> Form
-    ensures { result ≡ form_by (first_of (codes "dump") (rows_of (found_of options.now))) }
+    ensures { result ≡ form_of (rows_of (found_of options.now)) }
 {
-    form_by(options.get_str("dump"))
+    form_by(options.get_str("dump"), options.get_str("names"))
 }
 
 // The number that the text writes; `least` where it writes none from `least` to `most`.

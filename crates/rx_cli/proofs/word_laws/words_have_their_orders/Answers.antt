@@ -1,4 +1,4 @@
-use Rattle.rx_cli.proofs.Literals.{alone, with_run, with_dump, with_audit, with_storm, with_greatest, beyond, with_help, with_files}
+use Rattle.rx_cli.proofs.Literals.{alone, with_run, with_dump, with_names, with_both, with_audit, with_storm, with_greatest, beyond, with_help, with_files}
 use Rattle.rx_cli.proofs.word_laws.words_have_their_orders.Goals as goal
 
 pub returns-clause-alone : goal.returns-clause-alone
@@ -9,6 +9,12 @@ returns-clause-with_run c = with_run
 
 pub returns-clause-with_dump : goal.returns-clause-with_dump
 returns-clause-with_dump c = with_dump
+
+pub returns-clause-with_names : goal.returns-clause-with_names
+returns-clause-with_names c = with_names
+
+pub returns-clause-with_both : goal.returns-clause-with_both
+returns-clause-with_both c = with_both
 
 pub returns-clause-with_audit : goal.returns-clause-with_audit
 returns-clause-with_audit c = with_audit

@@ -1,8 +1,12 @@
-use Rattle.std.proofs.Common.{◌∙◌, ap, codes}
+use Rattle.std.proofs.Common.{◌∙◌, ap₂, codes}
 use Rattle.clap.specs.Words.{found_of}
 use Rattle.clap.proofs.WalkLemmas.{first_value-rows}
 use Rattle.rx_cli.specs.Words.{form_by}
 use Rattle.rx_cli.proofs.words.form_in.Goals as goal
 
 pub returns : goal.returns
-returns c = c.form_by.ensures ∙ ap form_by (c.get_str.ensures ∙ first_value-rows (found_of c.args.options.now) (codes "dump"))
+returns c =
+    let found = found_of c.args.options.now in
+    let dump_is = c.get_str.ensures ∙ first_value-rows found (codes "dump") in
+    let names_is = c.get_str-2.ensures ∙ first_value-rows found (codes "names") in
+    c.form_by.ensures ∙ ap₂ form_by dump_is names_is

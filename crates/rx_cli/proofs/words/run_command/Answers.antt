@@ -1,12 +1,12 @@
-use Rattle.std.proofs.Common.{◌≡◌, ◌∙◌, ap₂, false, codes, rules}
+use Rattle.std.proofs.Common.{◌≡◌, ◌∙◌, ap₂, codes, rules}
 use Rattle.std.proofs.lemmas.Result.{IfOk-weaker}
-use Rattle.clap.specs.Words.{app_of, rule_of, new_app, with_rule}
-use Rattle.rx_cli.specs.Words.{dump_rule}
+use Rattle.clap.specs.Words.{app_of, new_app, with_rule}
 use Rattle.rx_cli.proofs.words.run_command.Goals as goal
 
 pub returns : goal.returns
 returns c =
-    let dump_is : rule_of c.help-dump.result ≡ dump_rule = search rules in
-    let dump_local : c.help-dump.result.global ≡ false = search rules in
-    let made : app_of c.after_help.result ≡ new_app (codes "run") = search rules in
-    IfOk-weaker c.arg.result _ _ (λ r h. h.shape dump_local ∙ ap₂ with_rule made dump_is) c.arg.ensures
+    let dump = c.flag.ensures in
+    let names = c.flag-2.ensures in
+    let bare : app_of c.after_help-bare.result ≡ new_app (codes "run") = search rules in
+    let first = c.in_ok-first.ensures.shape dump.local ∙ ap₂ with_rule bare dump.rule in
+    IfOk-weaker c.arg-2.result _ _ (λ r h. h.shape names.local ∙ ap₂ with_rule first names.rule) c.arg-2.ensures
