@@ -101,12 +101,30 @@ const UNREAD: &str = "unread";
 
 const EMPTY: &str = "{\"steps\":[]}";
 
+// A subscriber of a hub, whose connection has a name, and a source that holds a resource.
+const SHARED: &str = "\
+{\"steps\":[{\"do\":\"hub\",\"name\":\"prices\",\"mode\":\"auto\"},\
+{\"do\":\"open\",\"name\":\"screen\",\"place\":\"root\",\"kind\":\"sub\",\"hub\":\"prices\",\"connection\":\"feed\"},\
+{\"do\":\"using\",\"name\":\"line\",\"place\":\"source\",\"of\":\"feed\",\"res\":\"socket\"}]}";
+
+const SHARED_WITH_NAMES: &str = "\
+{\"dump\":[[\"hub\",\"auto\"],[\"open\",\"root\",\"sub\",0],[\"connect\",0],[\"open\",\"source\",2,\"pass\"],[\"accept\",3,0]]
+,\"names\":{\"1\":\"screen\",\"2\":\"feed\",\"3\":\"line\",\"0\":\"prices\",\"4\":\"socket\"}}
+";
+
 const FAULTY: &str = "rxbook: faulty input\n";
 
-const OUTCOMES: [(&[&str], &str, u8, &str, &str); 18] = [
+const OUTCOMES: [(&[&str], &str, u8, &str, &str); 19] = [
     (&["rxbook"], EMPTY, 0, NOTHING_DONE, ""),
     (&["rxbook", "run"], EMPTY, 0, NOTHING_DONE, ""),
     (&["rxbook", "run", "--dump"], EMPTY, 0, "[]\n", ""),
+    (
+        &["rxbook", "run", "--dump", "--names"],
+        SHARED,
+        0,
+        SHARED_WITH_NAMES,
+        "",
+    ),
     (&["rxbook"], "{\"steps\":[", 3, "", FAULTY),
     (&["rxbook"], "[]", 3, "", FAULTY),
     (
@@ -291,11 +309,13 @@ Run the scenario on standard input (the default)
 Usage: rxbook run [OPTIONS] < FILE
 
 Options:
-      --dump  Write the dump of what happened, in place of the report
-  -h, --help  Print help
+      --dump   Write the dump of what happened, in place of the report
+      --names  Write that dump with the names of its nodes, hubs and resources, for a picture
+  -h, --help   Print help
 
 A scenario is one JSON object, with its steps, of at most 16777216 bytes; as in
   rxbook run < first-run.json
+  rxbook run --names < first-run.json | rxpicture > first-run.svg
 
 The exit status is 0 on success, 1 if reading or writing failed, 3 if the input is not a scenario
 (rxexplain says why), 4 if out of memory. docs/reference/scenario.md and report.md have it in full.
