@@ -1,9 +1,10 @@
 //! Runs each scenario of some folders and audits each dump there, and tells whether what is stored beside
 //! it is what the program `rxbook` writes.
 //!
-//! Of `NAME.json` the report is `NAME.report` and, where it is there, the dump `NAME.dump`; where `NAME.no-dump`
-//! is there, which is empty, it has none. Of `NAME.dump` the verdict is `NAME.verdict`, and the picture of its history
-//! `NAME.svg`. Of `NAME.input` what is said of it, which is faulty, is `NAME.told`. The folders are the current one,
+//! Of `NAME.json` the report is `NAME.report` and, where it is there, the dump `NAME.dump`, and the dump with its
+//! names `NAME.named-dump`; where `NAME.no-dump` is there, which is empty, it has none. Of `NAME.dump` the verdict is
+//! `NAME.verdict`, and the picture of its history `NAME.svg`, which is that of `NAME.named-dump` too, with the names.
+//! Of `NAME.input` what is said of it, which is faulty, is `NAME.told`. The folders are the current one,
 //! with the examples, and below it `cases`, `histories`, `mistakes` and `pictures`. What is stored and is not
 //! written, or differs, is a line with `DIFFERS`.
 //!
@@ -21,13 +22,15 @@ use std::{fs, io};
 
 /// How the name of a file ends in which something is stored, what is asked of the program, and how the name of the
 /// file ends that it is asked of.
-static STORED: [(&str, Asked, &str); 6] = [
+static STORED: [(&str, Asked, &str); 8] = [
     (".report", Asked::Of(Form::Report), ".json"),
     (".dump", Asked::Of(Form::Dump), ".json"),
     (".no-dump", Asked::Of(Form::Dump), ".json"),
+    (".named-dump", Asked::Of(Form::NamedDump), ".json"),
     (".verdict", Asked::Verdict, ".dump"),
     (".told", Asked::Fault, ".input"),
     (".svg", Asked::Picture, ".dump"),
+    (".svg", Asked::Picture, ".named-dump"),
 ];
 
 /// Texts, a line each, what is asked of the program with them, and whether it takes them.

@@ -4,7 +4,7 @@ use rx_cli::{Form, ScriptError, Watched, check, run, stock};
 use rx_device::ShapeError;
 use rx_dump::history_of;
 use rx_explain::explain;
-use rx_svg::picture;
+use rx_svg::named_picture;
 use serde_json::Value;
 use std::alloc::{AllocError, Global};
 
@@ -17,7 +17,7 @@ pub enum Asked {
     Verdict,
     /// What is wrong with an input.
     Fault,
-    /// The picture of the history of a dump.
+    /// The picture of the history of a dump, with the names beside it.
     Picture,
 }
 
@@ -30,14 +30,16 @@ fn push_told(alloc: Global, input: &[u8], output: &mut Vec<u8>) -> Result<bool, 
     Ok(true)
 }
 
-// Writes the picture of the history of which the input is the dump, and tells whether it is one.
+// Writes the picture of the history of which the input is the dump, or has it beside names, and tells whether it does.
 fn push_picture(alloc: Global, input: &[u8], output: &mut Vec<u8>) -> Result<bool, AllocError> {
     let Ok(value) = Value::from_slice(alloc, input) else {
         return Ok(false);
     };
-    match history_of(alloc, &value) {
+    let none = Value::Null;
+    let names = value.get("names").unwrap_or(&none);
+    match history_of(alloc, value.get("dump").unwrap_or(&value)) {
         Ok(history) => {
-            let picture = picture(alloc, history.as_slice())?;
+            let picture = named_picture(alloc, history.as_slice(), names)?;
             output.extend_from_slice(picture.as_str().as_bytes())?;
             Ok(true)
         }
