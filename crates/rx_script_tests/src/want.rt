@@ -74,6 +74,11 @@ const DUMP: &str =
     [\"open\",\"root\",\"sub\",23],[\"connect\",23],[\"open\",\"source\",25,\"leaf\"],[\"item\",26,7],\
     [\"hub\",\"manual\"],[\"connect\",28]]\n";
 
+// What follows that dump where the names are written too: of nodes, of hubs, of resources.
+const NAMES: &str =
+    ",\"names\":{\"0\":\"a\",\"5\":\"b\",\"8\":\"l\",\"13\":\"f\",\"14\":\"g\",\"16\":\"i\",\"21\":\"p\",\"24\":\"o\",\
+    \"25\":\"c\",\"26\":\"e\",\"29\":\"d\",\"23\":\"h\",\"28\":\"m\",\"1\":\"r\",\"3\":\"s\",\"6\":\"t\"}}\n";
+
 // Resources for a run, and what tells of each.
 #[derive(Drop)]
 struct Course {
@@ -188,4 +193,12 @@ fn a_dump_without_memory_is_not_begun_and_what_was_accepted_is_released(
     rt: HostRuntime,
 ) -> Result<(), Fail> {
     assert_written(&rt, rt.alloc(), Form::Dump, DUMP)
+}
+
+#[test]
+fn names_without_memory_are_not_begun_and_what_was_accepted_is_released(
+    rt: HostRuntime,
+) -> Result<(), Fail> {
+    let text = format!(in rt.alloc(); "{{\"dump\":{DUMP}{NAMES}")?;
+    assert_written(&rt, rt.alloc(), Form::NamedDump, text.as_str())
 }
