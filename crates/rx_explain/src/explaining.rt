@@ -48,12 +48,8 @@ fn event_text(alloc: Global, event: Event) -> Result<String, AllocError> {
     let mut text = String::new(alloc);
     push_dump(&mut text, &[event])?;
     let shown = text.as_str().trim();
-    let Some(inner) = shown
-        .strip_prefix("[")
-        .and_then(|shown| shown.strip_suffix("]"))
-    else {
-        return Ok(text);
-    };
+    let inner = shown.strip_prefix("[").unwrap_or(shown);
+    let inner = inner.strip_suffix("]").unwrap_or(inner);
     String::from_str(alloc, inner)
 }
 

@@ -32,22 +32,31 @@ struct Seen {
     labels: HashSet<String>,
 }
 
+// What is expected of the members that are no names.
+static WANTED: [(&str, Wanted); 13] = [
+    ("do", Wanted::Word(COMMANDS)),
+    ("place", Wanted::Word(PLACES)),
+    ("kind", Wanted::Word(KINDS)),
+    ("mode", Wanted::Word(MODES)),
+    ("value", Wanted::Item),
+    ("word", Wanted::Number(0, u64::MAX)),
+    ("error", Wanted::Number(0, 4_294_967_295)),
+    ("at", Wanted::Number(0, 1_000_000_000_000)),
+    ("after", Wanted::Number(0, 1_000_000_000_000)),
+    ("events", Wanted::Number(1, 4_294_967_295)),
+    ("until", Wanted::Number(0, 1_000_000_000_000_000)),
+    ("steps", Wanted::Steps),
+    ("then", Wanted::Steps),
+];
+
 // What is expected of a member.
 fn wanted_of(member: &str) -> Wanted {
-    match member {
-        "do" => Wanted::Word(COMMANDS),
-        "place" => Wanted::Word(PLACES),
-        "kind" => Wanted::Word(KINDS),
-        "mode" => Wanted::Word(MODES),
-        "value" => Wanted::Item,
-        "word" => Wanted::Number(0, u64::MAX),
-        "error" => Wanted::Number(0, 4_294_967_295),
-        "at" | "after" => Wanted::Number(0, 1_000_000_000_000),
-        "events" => Wanted::Number(1, 4_294_967_295),
-        "until" => Wanted::Number(0, 1_000_000_000_000_000),
-        "steps" | "then" => Wanted::Steps,
-        _ => Wanted::Name,
+    for &(known, wanted) in &WANTED {
+        if known == member {
+            return wanted;
+        }
     }
+    Wanted::Name
 }
 
 // Whether the member of an object is this word.

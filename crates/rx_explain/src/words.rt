@@ -26,25 +26,37 @@ pub const ENDS: &str = "completed, error";
 pub const EVENTS: &str =
     "open, hub, connect, accept, use, remove, lease, return, item, decline, end, close, take";
 
-/// The members of a command, beside those that every step may have.
+// The commands, and the members of each, beside those that every step may have.
+static MEMBERS: [(&str, &str); 19] = [
+    ("using", "name, place, of, res"),
+    ("open", "name, place, of, kind, hub, connection"),
+    ("hold", "node, res"),
+    ("apply", "res, word"),
+    ("remove", "res"),
+    ("lease", "res, name"),
+    ("return", "lease"),
+    ("next", "node, value"),
+    ("end", "node, error"),
+    ("abort", "node, error"),
+    ("fail", "node, error"),
+    ("decline", "node"),
+    ("dispose", "node"),
+    ("hub", "name, mode"),
+    ("connect", "hub, name"),
+    ("disconnect", "hub"),
+    ("drain", ""),
+    ("checkpoint", ""),
+    ("cancel", "step"),
+];
+
+/// The members of a command, beside those that every step may have; none where it is no command.
 pub fn members_of(command: &str) -> &'static str {
-    match command {
-        "using" => "name, place, of, res",
-        "open" => "name, place, of, kind, hub, connection",
-        "hold" => "node, res",
-        "apply" => "res, word",
-        "remove" => "res",
-        "lease" => "res, name",
-        "return" => "lease",
-        "next" => "node, value",
-        "end" | "abort" | "fail" => "node, error",
-        "decline" | "dispose" => "node",
-        "hub" => "name, mode",
-        "connect" => "hub, name",
-        "disconnect" => "hub",
-        "cancel" => "step",
-        _ => "",
+    for &(known, members) in &MEMBERS {
+        if known == command {
+            return members;
+        }
     }
+    ""
 }
 
 /// Whether the word stands in the list.
