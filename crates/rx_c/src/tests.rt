@@ -7,7 +7,7 @@ mod starved;
 mod telling;
 
 use crate::{rx_audit, rx_run, rx_run_dump};
-use std::test::Fail;
+use std::alloc::Global;
 
 // A subscription with a resource, from its beginning to its end.
 const FIRST_RUN: &str =
@@ -30,78 +30,87 @@ const FAULTY_REPORT: &str =
         res s tag=3 uses=0 held\nres t tag=4 uses=0 held\n\
         totals nodes=1 open=1 accepted=5 held=5 waiting=0 taken=0\nclosed 5 faults 1\n";
 
+const FIRST_DUMP: &str =
+    "[[\"open\",\"root\",\"pass\"],[\"accept\",0,0],[\"open\",\"source\",0,\"leaf\"],\
+        [\"item\",2,5],[\"end\",2,\"completed\"],[\"end\",0,\"completed\"],[\"take\",1]]\n";
+
 const FIRST_VERDICT: &str = "lawful\nlive:\nheld:\nwaiting:\n";
 
 // A subscription that is disposed of twice.
 const DISPOSED_TWICE: &str = "[[\"open\",\"root\",\"leaf\"],[\"close\",0],[\"close\",0]]";
 
-// Whether the text is the front of the buffer that was told.
-pub(super) fn holds(buffer: &[u8], told: usize, text: &str) -> bool {
-    match buffer.get(..told) {
-        Some(front) => front == text.as_bytes(),
-        None => false,
+// What a call hands out beside its status.
+#[derive(Clone, Copy)]
+pub(super) enum Handed {
+    // This text, at the front of the buffer.
+    Text(&'static str),
+    // This length alone.
+    Length(usize),
+}
+
+// What the buffers of the tests are filled with.
+pub(super) const BLANK: [u8; 512] = [7; 512];
+
+impl Handed {
+    // Whether a buffer that was blank has it and nothing else, and its length was told.
+    pub(super) fn is_in(self, buffer: &[u8], told: usize) -> bool {
+        let (text, length) = match self {
+            Handed::Text(text) => (text.as_bytes(), text.len()),
+            Handed::Length(length) => (b"".as_slice(), length),
+        };
+        match buffer.split_at_checked(text.len()) {
+            Some((front, rest)) => {
+                told == length && front == text && rest.iter().all(|byte| *byte == 7)
+            }
+            None => false,
+        }
     }
 }
 
-#[test]
-fn a_scenario_is_run_and_its_dump_is_judged(rt: HostRuntime) -> Result<(), Fail> {
-    let mut buffer = [0u8; 256];
-    let mut told = 0;
-    let status = rx_run(rt.alloc(), FIRST_RUN.as_bytes(), &mut buffer, &mut told);
-    assert_eq!(rt; status, 0);
-    assert!(rt; holds(&buffer, told, FIRST_REPORT));
-    let mut dump = [0u8; 256];
-    let mut dump_length = 0;
-    let status = rx_run_dump(
-        rt.alloc(),
-        FIRST_RUN.as_bytes(),
-        &mut dump,
-        &mut dump_length,
-    );
-    assert_eq!(rt; status, 0);
-    let written = dump.get(..dump_length).ok_or("no dump")?;
-    let status = rx_audit(rt.alloc(), written, &mut buffer, &mut told);
-    assert_eq!(rt; status, 0);
-    assert!(rt; holds(&buffer, told, FIRST_VERDICT));
-    Ok(())
+// What is called.
+#[derive(Clone, Copy)]
+enum Call {
+    Run,
+    Dump,
+    Audit,
 }
 
-#[test]
-fn a_resource_of_the_stock_whose_release_is_a_fault_is_told(rt: HostRuntime) {
-    let mut buffer = [0u8; 512];
+// A call, its input, the room of its buffer, and what it answers: its status, and what it hands out.
+type Step = (Call, &'static str, usize, u8, Handed);
+
+// Whether the call answers so.
+fn is_answered(alloc: Global, step: Step) -> bool {
+    let (call, input, room, wanted, handed) = step;
+    let mut buffer = BLANK;
     let mut told = 0;
-    let status = rx_run(rt.alloc(), FAULTY_RUN.as_bytes(), &mut buffer, &mut told);
-    assert_eq!(rt; status, 0);
-    assert!(rt; holds(&buffer, told, FAULTY_REPORT));
+    let front = &mut buffer[..room.min(512)];
+    let status = match call {
+        Call::Run => rx_run(alloc, input.as_bytes(), front, &mut told),
+        Call::Dump => rx_run_dump(alloc, input.as_bytes(), front, &mut told),
+        Call::Audit => rx_audit(alloc, input.as_bytes(), front, &mut told),
+    };
+    status == wanted && handed.is_in(&buffer, told)
 }
 
-#[test]
-fn another_verdict_has_its_own_status(rt: HostRuntime) {
-    let mut buffer = [0u8; 64];
-    let mut told = 0;
-    let status = rx_audit(
-        rt.alloc(),
-        DISPOSED_TWICE.as_bytes(),
-        &mut buffer,
-        &mut told,
-    );
-    assert_eq!(rt; status, 5);
-    assert!(rt; holds(&buffer, told, "unlawful 2\n"));
-}
+const STEPS: [Step; 7] = [
+    (Call::Run, FIRST_RUN, 256, 0, Handed::Text(FIRST_REPORT)),
+    (Call::Dump, FIRST_RUN, 256, 0, Handed::Text(FIRST_DUMP)),
+    (Call::Audit, FIRST_DUMP, 256, 0, Handed::Text(FIRST_VERDICT)),
+    (Call::Run, FAULTY_RUN, 512, 0, Handed::Text(FAULTY_REPORT)),
+    (
+        Call::Audit,
+        DISPOSED_TWICE,
+        64,
+        5,
+        Handed::Text("unlawful 2\n"),
+    ),
+    (Call::Audit, DISPOSED_TWICE, 10, 1, Handed::Length(11)),
+    (Call::Run, "{}", 10, 3, Handed::Length(0)),
+];
 
 #[test]
-fn a_small_buffer_learns_what_it_needs(rt: HostRuntime) {
-    let mut buffer = [7u8; 10];
-    let mut told = 0;
-    let status = rx_audit(
-        rt.alloc(),
-        DISPOSED_TWICE.as_bytes(),
-        &mut buffer,
-        &mut told,
-    );
-    assert_eq!(rt; (status, told), (1, 11));
-    assert_eq!(rt; buffer, [7u8; 10]);
-    let status = rx_run(rt.alloc(), b"{}", &mut buffer, &mut told);
-    assert_eq!(rt; (status, told), (3, 0));
-    assert_eq!(rt; buffer, [7u8; 10]);
+fn a_text_is_run_and_judged_and_a_small_buffer_learns_what_it_needs(rt: HostRuntime) {
+    for (at, step) in STEPS.iter().enumerate() {
+        assert!(rt; is_answered(rt.alloc(), *step), "at {at}");
+    }
 }

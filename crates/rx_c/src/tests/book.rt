@@ -80,45 +80,45 @@ impl Bench {
         }
     }
 
-    // Calls that open, and keep the key.
+    // Opens a node, and keeps its key.
     fn open(&mut self, step: Step) -> Result<u8, AllocError> {
-        let (call, place, which, number) = step;
+        let (_, place, which, number) = step;
         let above = self.node(which);
-        let (mut opened, mut used) = (no_opened(), no_used());
+        let kind = u8::try_from(number).unwrap_or(255);
+        let mut opened = no_opened();
         self.nodes.reserve(1)?;
-        let status = match call {
-            Call::Using => {
-                rx_book_using(
-                    self.alloc,
-                    &mut self.handle,
-                    place,
-                    above,
-                    number,
-                    &mut used,
-                )
-            }
-            _ => {
-                let kind = u8::try_from(number).unwrap_or(255);
-                rx_book_open(
-                    self.alloc,
-                    &mut self.handle,
-                    place,
-                    above,
-                    kind,
-                    self.hub,
-                    &mut opened,
-                )
-            }
-        };
+        let status = rx_book_open(
+            self.alloc,
+            &mut self.handle,
+            place,
+            above,
+            kind,
+            self.hub,
+            &mut opened,
+        );
         if status == 0 {
-            let node = match call {
-                Call::Using => {
-                    self.res = used.res;
-                    used.node
-                }
-                _ => opened.node,
-            };
-            self.nodes.push(node)?;
+            self.nodes.push(opened.node)?;
+        }
+        Ok(status)
+    }
+
+    // Opens a node that holds a resource, and keeps both keys.
+    fn using(&mut self, step: Step) -> Result<u8, AllocError> {
+        let (_, place, which, number) = step;
+        let above = self.node(which);
+        let mut used = no_used();
+        self.nodes.reserve(1)?;
+        let status = rx_book_using(
+            self.alloc,
+            &mut self.handle,
+            place,
+            above,
+            number,
+            &mut used,
+        );
+        if status == 0 {
+            self.nodes.push(used.node)?;
+            self.res = used.res;
         }
         Ok(status)
     }
@@ -206,7 +206,8 @@ impl Bench {
     // Makes the call.
     pub(super) fn step(&mut self, step: Step) -> Result<u8, AllocError> {
         Ok(match step.0 {
-            Call::Open | Call::Using => self.open(step)?,
+            Call::Open => self.open(step)?,
+            Call::Using => self.using(step)?,
             Call::Hold
             | Call::Next
             | Call::NextAll

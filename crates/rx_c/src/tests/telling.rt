@@ -273,23 +273,12 @@ fn first_other_of(rt: &impl AllocGlobal, steps: &[Told]) -> Result<Option<usize>
     other
 }
 
-#[test]
-fn a_call_that_tells_has_a_status_for_bad_input(rt: HostRuntime) -> Result<(), Fail> {
-    assert_eq!(rt; first_other_of(&rt, &UNASKED)?, None);
-    assert_eq!(rt; first_other_of(&rt, &MADE_UP)?, None);
-    Ok(())
-}
+const TABLES: [&[Told]; 6] = [&UNASKED, &MADE_UP, &OF_NODES, &OF_DEBTS, &OF_HUBS, &OF_ROOM];
 
 #[test]
-fn a_call_that_tells_tells_what_waits_where_it_is_refused(rt: HostRuntime) -> Result<(), Fail> {
-    assert_eq!(rt; first_other_of(&rt, &OF_NODES)?, None);
-    assert_eq!(rt; first_other_of(&rt, &OF_DEBTS)?, None);
-    Ok(())
-}
-
-#[test]
-fn a_call_that_tells_is_refused_by_hubs_and_by_want_of_room(rt: HostRuntime) -> Result<(), Fail> {
-    assert_eq!(rt; first_other_of(&rt, &OF_HUBS)?, None);
-    assert_eq!(rt; first_other_of(&rt, &OF_ROOM)?, None);
+fn each_call_that_tells_has_a_status_for_each_refusal(rt: HostRuntime) -> Result<(), Fail> {
+    for (at, table) in TABLES.iter().enumerate() {
+        assert_eq!(rt; first_other_of(&rt, table)?, None, "in table {at}");
+    }
     Ok(())
 }
