@@ -4,3 +4,4 @@
 mod calls;
 mod same;
 mod storms;
+mod streams;

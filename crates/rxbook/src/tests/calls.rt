@@ -4,13 +4,13 @@ ghost use Rattle.std.specs.Prelude.{◌≡◌};
 ghost use Rattle.rx_resource.specs.declared.Life.{Life};
 
 use super::same::same;
+use super::streams::{Narrow, Source};
 use clap::error::ErrorKind;
 use rx_cli::{Faulty, Form, Order, Plain, ResourceKind, Tally, order, refuse_bytes, serve, stock};
 use rx_device::Watched;
 use rx_resource::Resource;
 use rx_scarce::Scarce;
 use std::alloc::{AllocError, Global};
-use std::io;
 use std::io::{Read, Write};
 use std::process::Abort;
 use std::sync::Wait;
@@ -28,15 +28,6 @@ const HALF_CLOSED: &str =
     "[[\"open\",\"root\",\"pass\"],[\"accept\",0,7],[\"open\",\"root\",\"leaf\"],[\"accept\",2,8],[\"close\",2]]\n";
 
 const HALF_CLOSED_VERDICT: &str = "lawful\nlive: 0\nheld: 1\nwaiting: 3\n";
-
-// What a call of the program left.
-#[derive(Drop)]
-struct Left {
-    status: u8,
-    unread: usize,
-    output: Vec<u8>,
-    errors: Vec<u8>,
-}
 
 // Does what the words order, with the program's stock.
 fn serve_into<T: Threads + Wait + Sync, R: Read, W: Write, E: Write>(
@@ -59,40 +50,67 @@ fn serve_into<T: Threads + Wait + Sync, R: Read, W: Write, E: Write>(
     ))
 }
 
-// A call over memory.
-fn call<T: Threads + Wait + Sync>(
-    rt: &T,
-    alloc: Global,
-    words: &[&str],
-    input: &[u8],
-) -> Result<Left, AllocError> {
-    let mut reader = input;
-    let mut output = Vec::new(alloc);
-    let mut errors = Vec::new(alloc);
-    let status = serve_into(rt, alloc, words, &mut reader, &mut output, &mut errors)?;
-    Ok(Left {
-        status,
-        unread: reader.len(),
-        output,
-        errors,
-    })
+// How the streams of a call fail.
+#[derive(Clone, Copy)]
+enum Flaw {
+    // Not at all.
+    None,
+    // The input, behind its text.
+    Torn,
+    // The output, behind ten bytes.
+    Full,
+    // The output takes no byte behind ten.
+    Stuck,
+    // The errors, behind three bytes.
+    Deaf,
 }
 
-// What a call over memory has to leave: its status, how much is not read, and both texts.
-fn assert_left<T: Threads + Wait + Sync + Abort>(
+// Words, an input, and what the call leaves: its status, its output and its errors.
+type Row = (
+    &'static [&'static str],
+    &'static str,
+    u8,
+    &'static str,
+    &'static str,
+);
+
+// Makes a call over memory, with this flaw. It reads all, or nothing where the words are refused or need no input.
+fn assert_row<T: Threads + Wait + Sync + Abort>(
     rt: &T,
     alloc: Global,
-    words: &[&str],
-    input: &str,
-    (status, output, errors): (u8, &str, &str),
+    flaw: Flaw,
+    row: &Row,
 ) -> Result<(), Fail> {
-    let left = call(rt, alloc, words, input.as_bytes())?;
-    same(rt, left.status, status);
-    same(rt, left.output.as_slice(), output.as_bytes());
-    same(rt, left.errors.as_slice(), errors.as_bytes());
+    let (words, input, status, output, errors) = *row;
+    let mut reader = Source::new(input, matches!(flaw, Flaw::Torn));
+    let is_stuck = matches!(flaw, Flaw::Stuck);
+    let is_full = is_stuck || matches!(flaw, Flaw::Full);
+    let is_deaf = matches!(flaw, Flaw::Deaf);
+    let mut told = Narrow::new(alloc, if is_full { 10 } else { usize::MAX }, is_stuck);
+    let mut faults = Narrow::new(alloc, if is_deaf { 3 } else { usize::MAX }, false);
+    let found = serve_into(rt, alloc, words, &mut reader, &mut told, &mut faults)?;
+    same(rt, found, status);
+    same(rt, told.taken.as_slice(), output.as_bytes());
+    same(rt, faults.taken.as_slice(), errors.as_bytes());
     let is_unread = status == 2 || input == UNREAD;
-    let unread = if is_unread { input.len() } else { 0 };
-    same(rt, left.unread, unread);
+    same(
+        rt,
+        reader.text.len(),
+        if is_unread { input.len() } else { 0 },
+    );
+    Ok(())
+}
+
+// Makes these calls, each with this flaw.
+fn assert_rows<T: Threads + Wait + Sync + Abort>(
+    rt: &T,
+    alloc: Global,
+    flaw: Flaw,
+    rows: &[Row],
+) -> Result<(), Fail> {
+    for row in rows {
+        assert_row(rt, alloc, flaw, row)?;
+    }
     Ok(())
 }
 
@@ -114,7 +132,7 @@ const SHARED_WITH_NAMES: &str = "\
 
 const FAULTY: &str = "rxbook: faulty input\n";
 
-const OUTCOMES: [(&[&str], &str, u8, &str, &str); 19] = [
+const OUTCOMES: [Row; 19] = [
     (&["rxbook"], EMPTY, 0, NOTHING_DONE, ""),
     (&["rxbook", "run"], EMPTY, 0, NOTHING_DONE, ""),
     (&["rxbook", "run", "--dump"], EMPTY, 0, "[]\n", ""),
@@ -204,10 +222,7 @@ const OUTCOMES: [(&[&str], &str, u8, &str, &str); 19] = [
 
 #[test]
 fn each_outcome_has_its_status_and_line(rt: HostRuntime) -> Result<(), Fail> {
-    for (words, input, status, output, errors) in OUTCOMES {
-        assert_left(&rt, rt.alloc(), words, input, (status, output, errors))?;
-    }
-    Ok(())
+    assert_rows(&rt, rt.alloc(), Flaw::None, &OUTCOMES)
 }
 
 #[test]
@@ -228,10 +243,13 @@ fn options_of_a_storm_may_stand_in_any_form(rt: HostRuntime) -> Result<(), Fail>
     Ok(())
 }
 
-const STORMS: [(&[&str], &str); 3] = [
+const STORMS: [Row; 3] = [
     (
         &["rxbook", "storm"],
+        UNREAD,
+        0,
         "accepted 4\ntaken 4\nreleased 4\nfaults 1\nheld 0\nwaiting 0\nnotes 404\nevents 424\n",
+        "",
     ),
     (
         &[
@@ -244,7 +262,10 @@ const STORMS: [(&[&str], &str); 3] = [
             "--items",
             "0",
         ],
+        UNREAD,
+        0,
         "accepted 64\ntaken 64\nreleased 64\nfaults 8\nheld 0\nwaiting 0\nnotes 64\nevents 384\n",
+        "",
     ),
     (
         &[
@@ -257,16 +278,16 @@ const STORMS: [(&[&str], &str); 3] = [
             "--items",
             "10000",
         ],
+        UNREAD,
+        0,
         "accepted 1\ntaken 1\nreleased 1\nfaults 0\nheld 0\nwaiting 0\nnotes 10001\nevents 10006\n",
+        "",
     ),
 ];
 
 #[test]
 fn a_storm_tells_its_figures(rt: HostRuntime) -> Result<(), Fail> {
-    for (words, figures) in STORMS {
-        assert_left(&rt, rt.alloc(), words, UNREAD, (0, figures, ""))?;
-    }
-    Ok(())
+    assert_rows(&rt, rt.alloc(), Flaw::None, &STORMS)
 }
 
 const HELP: &str = "\
@@ -355,152 +376,66 @@ The exit status is 0 if the threads counted what the book says, otherwise 5; 1 i
 thread could not be started, 4 if out of memory. docs/reference/command-line.md explains the figures.
 ";
 
-const HELPS: [(&[&str], &str); 8] = [
-    (&["rxbook", "--help"], HELP),
-    (&["rxbook", "-h"], HELP),
-    (&["rxbook", "help"], HELP),
-    (&["rxbook", "run", "--help"], RUN_HELP),
-    (&["rxbook", "audit", "--help"], AUDIT_HELP),
-    (&["rxbook", "storm", "--help"], STORM_HELP),
-    (&["rxbook", "--version"], "rxbook 0.1.0\n"),
-    (&["rxbook", "-V"], "rxbook 0.1.0\n"),
+const HELPS: [Row; 8] = [
+    (&["rxbook", "--help"], UNREAD, 0, HELP, ""),
+    (&["rxbook", "-h"], UNREAD, 0, HELP, ""),
+    (&["rxbook", "help"], UNREAD, 0, HELP, ""),
+    (&["rxbook", "run", "--help"], UNREAD, 0, RUN_HELP, ""),
+    (&["rxbook", "audit", "--help"], UNREAD, 0, AUDIT_HELP, ""),
+    (&["rxbook", "storm", "--help"], UNREAD, 0, STORM_HELP, ""),
+    (&["rxbook", "--version"], UNREAD, 0, "rxbook 0.1.0\n", ""),
+    (&["rxbook", "-V"], UNREAD, 0, "rxbook 0.1.0\n", ""),
 ];
 
 #[test]
 fn help_and_version_go_to_the_output(rt: HostRuntime) -> Result<(), Fail> {
-    for (words, text) in HELPS {
-        assert_left(&rt, rt.alloc(), words, UNREAD, (0, text, ""))?;
-    }
-    Ok(())
+    assert_rows(&rt, rt.alloc(), Flaw::None, &HELPS)
 }
 
-// A reader of which the second read fails.
-#[derive(Drop)]
-struct Broken {
-    reads: u8,
-}
-
-impl Read for Broken {
-    fn read(&mut self, buf: &mut [u8]) -> io::Result<usize> {
-        if self.reads > 0 || buf.is_empty() {
-            return Err(io::Error::from(io::ErrorKind::Other));
-        }
-        self.reads = 1;
-        buf[0] = b'{';
-        Ok(1)
-    }
-}
-
-// A writer that takes `room` bytes, and then fails, or takes none where it is `stuck`.
-#[derive(Drop)]
-struct Full {
-    room: usize,
-    stuck: bool,
-    taken: Vec<u8>,
-}
-
-impl Write for Full {
-    fn write(&mut self, buf: &[u8]) -> io::Result<usize> {
-        if self.taken.len() >= self.room {
-            if self.stuck {
-                return Ok(0);
-            }
-            return Err(io::Error::from(io::ErrorKind::Other));
-        }
-        let left = self.room - self.taken.len();
-        let count = left.min(buf.len());
-        self.taken.extend_from_slice(&buf[..count])?;
-        Ok(count)
-    }
-
-    fn flush(&mut self) -> io::Result<()> {
-        Ok(())
-    }
-}
-
-fn make_full(alloc: Global, room: usize, stuck: bool) -> Full {
-    Full {
-        room,
-        stuck,
-        taken: Vec::new(alloc),
-    }
-}
-
-// The words over a reader that fails: a read fault, with nothing written.
-fn assert_read_fault<T: Threads + Wait + Sync + Abort>(
-    rt: &T,
-    alloc: Global,
-    words: &[&str],
-) -> Result<(), Fail> {
-    let mut output: Vec<u8> = Vec::new(alloc);
-    let mut errors: Vec<u8> = Vec::new(alloc);
-    let mut reader = Broken { reads: 0 };
-    let status = serve_into(rt, alloc, words, &mut reader, &mut output, &mut errors)?;
-    same(rt, (status, output.len()), (1, 0));
-    same(rt, errors.as_slice(), b"rxbook: read fault\n".as_slice());
-    Ok(())
-}
+const READ_FAULTS: [Row; 2] = [
+    (&["rxbook"], "{", 1, "", "rxbook: read fault\n"),
+    (&["rxbook", "audit"], "{", 1, "", "rxbook: read fault\n"),
+];
 
 #[test]
 fn a_reader_that_fails_is_a_read_fault(rt: HostRuntime) -> Result<(), Fail> {
-    assert_read_fault(&rt, rt.alloc(), &["rxbook"])?;
-    assert_read_fault(&rt, rt.alloc(), &["rxbook", "audit"])
+    assert_rows(&rt, rt.alloc(), Flaw::Torn, &READ_FAULTS)
 }
 
-// The words over a writer that stops after ten bytes: a write fault, with a front of the text.
-fn assert_write_fault<T: Threads + Wait + Sync + Abort>(
-    rt: &T,
-    alloc: Global,
-    words: &[&str],
-    input: &str,
-    (stuck, taken): (bool, &str),
-) -> Result<(), Fail> {
-    let mut output = make_full(alloc, 10, stuck);
-    let mut errors: Vec<u8> = Vec::new(alloc);
-    let mut reader = input.as_bytes();
-    let status = serve_into(rt, alloc, words, &mut reader, &mut output, &mut errors)?;
-    same(rt, status, 1);
-    same(rt, output.taken.as_slice(), taken.as_bytes());
-    same(rt, errors.as_slice(), b"rxbook: write fault\n".as_slice());
-    Ok(())
-}
+const WRITE_FAULT: &str = "rxbook: write fault\n";
 
-const FRONTS: [(&[&str], &str, bool, &str); 6] = [
-    (&["rxbook"], EMPTY, false, "totals nod"),
-    (&["rxbook"], EMPTY, true, "totals nod"),
-    (&["rxbook", "audit"], "[]", false, "lawful\nliv"),
-    (&["rxbook", "audit"], "[[\"take\",0]]", true, "unlawful 0"),
-    (&["rxbook", "storm"], EMPTY, false, "accepted 4"),
-    (&["rxbook", "--help"], EMPTY, false, "Runs scena"),
+const FULL: [Row; 4] = [
+    (&["rxbook"], EMPTY, 1, "totals nod", WRITE_FAULT),
+    (&["rxbook", "audit"], "[]", 1, "lawful\nliv", WRITE_FAULT),
+    (&["rxbook", "storm"], UNREAD, 1, "accepted 4", WRITE_FAULT),
+    (&["rxbook", "--help"], UNREAD, 1, "Runs scena", WRITE_FAULT),
+];
+
+const STUCK: [Row; 2] = [
+    (&["rxbook"], EMPTY, 1, "totals nod", WRITE_FAULT),
+    (
+        &["rxbook", "audit"],
+        "[[\"take\",0]]",
+        1,
+        "unlawful 0",
+        WRITE_FAULT,
+    ),
 ];
 
 #[test]
 fn an_output_that_fails_is_a_write_fault(rt: HostRuntime) -> Result<(), Fail> {
-    for (words, input, stuck, taken) in FRONTS {
-        assert_write_fault(&rt, rt.alloc(), words, input, (stuck, taken))?;
-    }
-    Ok(())
+    assert_rows(&rt, rt.alloc(), Flaw::Full, &FULL)?;
+    assert_rows(&rt, rt.alloc(), Flaw::Stuck, &STUCK)
 }
 
-// The words over errors that are not taken: this status, with nothing written.
-fn assert_status<T: Threads + Wait + Sync + Abort>(
-    rt: &T,
-    alloc: Global,
-    words: &[&str],
-    wanted: u8,
-) -> Result<(), Fail> {
-    let mut output: Vec<u8> = Vec::new(alloc);
-    let mut errors = make_full(alloc, 3, false);
-    let mut reader: &[u8] = b"{";
-    let status = serve_into(rt, alloc, words, &mut reader, &mut output, &mut errors)?;
-    same(rt, (status, output.len()), (wanted, 0));
-    Ok(())
-}
+const UNTOLD: [Row; 2] = [
+    (&["rxbook"], "{", 3, "", "rxb"),
+    (&["rxbook", "bad"], "{", 2, "", "err"),
+];
 
 #[test]
 fn errors_that_are_not_taken_leave_the_status(rt: HostRuntime) -> Result<(), Fail> {
-    assert_status(&rt, rt.alloc(), &["rxbook"], 3)?;
-    assert_status(&rt, rt.alloc(), &["rxbook", "bad"], 2)
+    assert_rows(&rt, rt.alloc(), Flaw::Deaf, &UNTOLD)
 }
 
 // What a resource answers to 12 and then to 10, how often it was used then, and what its release answers.

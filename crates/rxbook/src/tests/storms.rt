@@ -1,5 +1,5 @@
-//! Storms that were run: faults of writer, memory and threads, releases at one time, a
-//! receipt that is false, and that the book is closed in each outcome.
+//! Storms that were run: faults of memory and threads, releases at one time, a receipt that is false, and that the
+//! book is closed in each outcome.
 
 ghost use Rattle.std.specs.Prelude.{◌≡◌, vec_len, IfOk};
 ghost use Rattle.std.specs.List.{All};
@@ -7,6 +7,7 @@ ghost use Rattle.rx_resource.specs.declared.Life.{Life};
 ghost use Rattle.rx_ledger.specs.Shares.{Opens};
 
 use super::same::same;
+use super::streams::Narrow;
 use rx_book::{At, Book};
 use rx_cli::weathered;
 use rx_crew::{Desk, Gate};
@@ -24,11 +25,8 @@ use std::sync::Wait;
 use std::sync::atomic::{AtomicU64, Ordering};
 use std::sync::ledger::{Blank, Ledger};
 use std::test::Fail;
+use std::thread;
 use std::thread::Threads;
-use std::{io, thread};
-
-const FIGURES: &str =
-    "accepted 4\ntaken 4\nreleased 4\nfaults 1\nheld 0\nwaiting 0\nnotes 404\nevents 424\n";
 
 // A resource for each of four sources; the release of the one of tag 3 meets the fault 2.
 fn four_samples(alloc: Global) -> Result<Vec<Sample>, AllocError>
@@ -66,50 +64,18 @@ impl Gate for Open {
     fn after(&self, _number: u64) {}
 }
 
-// Takes so many bytes and fails then.
-#[derive(Drop)]
-struct Narrow {
-    taken: Vec<u8>,
-    room: usize,
-}
-
-impl Write for Narrow {
-    fn write(&mut self, buf: &[u8]) -> io::Result<usize> {
-        let end = buf.len().min(self.room.saturating_sub(self.taken.len()));
-        if end == 0 {
-            return Err(io::Error::from(io::ErrorKind::Other));
-        }
-        self.taken.extend_from_slice(&buf[..end])?;
-        Ok(end)
-    }
-
-    fn flush(&mut self) -> io::Result<()> {
-        Ok(())
-    }
-}
-
-#[test]
-fn a_writer_that_fails_is_a_write_fault(rt: HostRuntime) -> Result<(), Fail> {
-    let mut narrow = Narrow {
-        taken: Vec::new(rt.alloc()),
-        room: 10,
-    };
-    let told = usual(&rt, rt.alloc(), &Open, &mut narrow);
-    same(&rt, told, Err(StormFault::Write));
-    same(&rt, narrow.taken.as_slice(), &FIGURES.as_bytes()[..10]);
-    Ok(())
-}
-
-// A resource for each of four sources.
+// The same resources, which are counted.
 fn four_tracked(alloc: Global, tracker: &Tracker) -> Result<Vec<Tracked>, AllocError> {
     let mut stock = Vec::new(alloc);
     for tag in 0..4 {
-        stock.push(tracker.resource(tag, None)?)?;
+        let fault = if tag == 3 { Some(2) } else { None };
+        stock.push(tracker.resource(tag, fault)?)?;
     }
     Ok(stock)
 }
 
-// What comes of a storm of these resources, and how many of them its book accepted.
+// What comes of a storm of these resources and so many items of each, whose receipts get these ones more; and how
+// many resources its book accepted.
 fn weather<
     I: Ledger + Send + Sync,
     A: Ledger + Send + Sync,
@@ -120,6 +86,8 @@ fn weather<
     alloc: Global,
     blanks: (Blank, Blank, Blank),
     stock: Vec<Tracked>,
+    count: u32,
+    forged: &[Receipt],
     output: &mut Vec<u8>,
 ) -> (Result<bool, StormFault>, u64)
     requires items { Opens I.name I.parts blanks.0.name blanks.0.parts }
@@ -128,7 +96,10 @@ fn weather<
 {
     let book = Book::new(alloc, 1_000_000);
     let (desk, first) = Desk::<Tracked, I, A, K>::new(book, blanks.0, blanks.1, blanks.2);
-    let gathered = run_threads(rt, alloc, &desk, first, stock, 3, 100, &Open);
+    let mut gathered = run_threads(rt, alloc, &desk, first, stock, 3, count, &Open);
+    if gathered.receipts.extend_from_slice(forged).is_err() {
+        gathered.fault = Some(Lack::Memory);
+    }
     let accepted = desk.floor.lock(rt).accepted();
     let ended = end_storm(alloc, desk, gathered, &mut Watched::new(output));
     (ended, accepted)
@@ -139,6 +110,8 @@ fn storm_once<T: Threads + Wait + Sync + Abort>(
     rt: &T,
     alloc: Global,
     tracker: &Tracker,
+    count: u32,
+    forged: &[Receipt],
     output: &mut Vec<u8>,
 ) -> Result<bool, StormFault> {
     let Ok(stock) = four_tracked(alloc, tracker) else {
@@ -146,7 +119,9 @@ fn storm_once<T: Threads + Wait + Sync + Abort>(
     };
     let before = tracker.released();
     let blanks = (Blank::new(PARTS), Blank::new(PARTS), Blank::new(PARTS));
-    let (ended, accepted) = weather::<Brand, Brand, Brand, _>(rt, alloc, blanks, stock, output);
+    let (ended, accepted) = weather::<Brand, Brand, Brand, _>(
+        rt, alloc, blanks, stock, count, forged, output,
+    );
     let released = tracker.released().wrapping_sub(before);
     same(rt, u64::from(released), accepted);
     ended
@@ -165,7 +140,7 @@ fn storm_in_the_end<T: Threads + Wait + Sync + Abort>(
     let mut for_threads = 0u32;
     for _turn in 0..100_000u32 {
         let released = tracker.released();
-        match storm_once(rt, alloc, tracker, output) {
+        match storm_once(rt, alloc, tracker, 100, &[], output) {
             Ok(agrees) => {
                 assert!(rt; agrees);
                 return Ok((for_memory, for_threads, released));
@@ -232,47 +207,23 @@ fn two_releases_of_a_storm_run_at_the_same_time(rt: HostRuntime) -> Result<(), F
     Ok(())
 }
 
-// A storm of twenty items whose receipts get one more, of an event that is not in the history.
-fn end_with_a_false_receipt<
-    I: Ledger + Send + Sync,
-    A: Ledger + Send + Sync,
-    K: Ledger + Send + Sync,
-    T: Threads + Wait + Sync,
->(
-    rt: &T,
-    alloc: Global,
-    blanks: (Blank, Blank, Blank),
-    output: &mut Vec<u8>,
-) -> Result<Result<bool, StormFault>, Fail>
-    requires items { Opens I.name I.parts blanks.0.name blanks.0.parts }
-    requires accepted { Opens A.name A.parts blanks.1.name blanks.1.parts }
-    requires taken { Opens K.name K.parts blanks.2.name blanks.2.parts }
-{
-    let book = Book::new(alloc, 1000);
-    let (desk, first) = Desk::<Sample, I, A, K>::new(book, blanks.0, blanks.1, blanks.2);
-    let stock = four_samples(alloc)?;
-    let mut gathered = run_threads(rt, alloc, &desk, first, stock, 3, 20, &Open);
-    gathered.receipts.push(Receipt {
-        place: 0,
-        event: Event::Take(0),
-    })?;
-    Ok(end_storm(alloc, desk, gathered, &mut Watched::new(output)))
-}
+// What is told of a storm of twenty items of each source.
+const FIGURES: &str =
+    "accepted 4\ntaken 4\nreleased 4\nfaults 1\nheld 0\nwaiting 0\nnotes 84\nevents 104\n";
+
+// The receipt of an event that is not in the history of a storm.
+const FORGED: Receipt = Receipt {
+    place: 0,
+    event: Event::Take(0),
+};
 
 #[test]
 fn a_false_receipt_is_a_mismatch_of_status_5(rt: HostRuntime) -> Result<(), Fail> {
-    let blanks = (Blank::new(PARTS), Blank::new(PARTS), Blank::new(PARTS));
+    let tracker = Tracker::new(rt.alloc())?;
     let mut output = Vec::new(rt.alloc());
-    let outcome = end_with_a_false_receipt::<Brand, Brand, Brand, _>(
-        &rt,
-        rt.alloc(),
-        blanks,
-        &mut output,
-    )?;
+    let outcome = storm_once(&rt, rt.alloc(), &tracker, 20, &[FORGED], &mut output);
     same(&rt, outcome, Ok(false));
-    let figures =
-        "accepted 4\ntaken 4\nreleased 4\nfaults 1\nheld 0\nwaiting 0\nnotes 84\nevents 104\n";
-    same(&rt, output.as_slice(), figures.as_bytes());
+    same(&rt, output.as_slice(), FIGURES.as_bytes());
     let mut errors = Vec::new(rt.alloc());
     let status = weathered(&mut Watched::new(&mut errors), outcome);
     same(&rt, status, 5);
@@ -285,13 +236,13 @@ const ONE_HELD: &str =
     "accepted 1\ntaken 0\nreleased 0\nfaults 0\nheld 1\nwaiting 0\nnotes 0\nevents 2\n";
 
 // The end of a storm in whose book a root is left open, with this resource; its threads lacked this.
-fn end_with_an_open_root<I: Ledger, A: Ledger, K: Ledger, W: Write>(
+fn end_with_an_open_root<I: Ledger, A: Ledger, K: Ledger>(
     rt: &impl Wait,
     alloc: Global,
     blanks: (Blank, Blank, Blank),
     resource: Tracked,
     fault: Option<Lack>,
-    writer: &mut W,
+    writer: &mut Narrow,
 ) -> Result<Result<bool, StormFault>, Fail>
     requires items { Opens I.name I.parts blanks.0.name blanks.0.parts }
     requires accepted { Opens A.name A.parts blanks.1.name blanks.1.parts }
@@ -328,11 +279,8 @@ fn assert_closed<T: Wait + Abort>(
 ) -> Result<(), Fail> {
     let tracker = Tracker::new(alloc)?;
     let blanks = (Blank::new(PARTS), Blank::new(PARTS), Blank::new(PARTS));
-    let mut narrow = Narrow {
-        taken: Vec::new(alloc),
-        room,
-    };
-    let ended = end_with_an_open_root::<Brand, Brand, Brand, _>(
+    let mut narrow = Narrow::new(alloc, room, false);
+    let ended = end_with_an_open_root::<Brand, Brand, Brand>(
         rt,
         alloc,
         blanks,
