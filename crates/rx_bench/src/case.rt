@@ -46,64 +46,34 @@ pub enum Case {
     StormBatches,
 }
 
-/// The word that asks for the audit of a history of this shape.
-fn audit_name(shape: Shape) -> &'static str {
-    match shape {
-        Shape::Roots => "audit-roots",
-        Shape::Items => "audit-items",
-        Shape::Cycle => "audit-cycle",
-        Shape::Chain => "audit-chain",
-        Shape::Resources => "audit-resources",
-        Shape::Flat => "audit-flat",
-        Shape::Switch => "audit-switch",
-        Shape::Until => "audit-until",
-        Shape::Subscribers => "audit-subscribers",
-        Shape::HubEnd => "audit-hub-end",
-        Shape::Hubs => "audit-hubs",
-        Shape::HubItems => "audit-hub-items",
-    }
-}
+/// What the word begins with that asks for the audit of a history.
+const AUDIT: &str = "audit-";
 
-/// The word that asks for the reading of the dump of this history.
-fn json_name(shape: Shape) -> &'static str {
-    match shape {
-        Shape::Roots => "json-roots",
-        Shape::Items => "json-items",
-        Shape::Cycle => "json-cycle",
-        Shape::Chain => "json-chain",
-        Shape::Resources => "json-resources",
-        Shape::Flat => "json-flat",
-        Shape::Switch => "json-switch",
-        Shape::Until => "json-until",
-        Shape::Subscribers => "json-subscribers",
-        Shape::HubEnd => "json-hub-end",
-        Shape::Hubs => "json-hubs",
-        Shape::HubItems => "json-hub-items",
-    }
-}
+/// What the word begins with that asks for the reading of its dump.
+const JSON: &str = "json-";
 
 impl Case {
-    /// The word that asks for the case.
-    pub fn name(self) -> &'static str {
+    /// The word that asks for the case, in two parts.
+    pub fn name(self) -> (&'static str, &'static str) {
         match self {
-            Case::Timeline => "timeline",
-            Case::Trampoline => "trampoline",
-            Case::Sorted => "sorted",
-            Case::Cycle => "cycle",
-            Case::Crowd => "crowd",
-            Case::Items => "items",
-            Case::Chain => "chain",
-            Case::Inner => "inner",
-            Case::Share => "share",
-            Case::Hold => "hold",
-            Case::Lease => "lease",
-            Case::Checkpoint => "checkpoint",
-            Case::CheckpointShort => "checkpoint-short",
-            Case::Scenario => "scenario",
-            Case::Audit(shape) => audit_name(shape),
-            Case::Json(shape) => json_name(shape),
-            Case::Storm => "storm",
-            Case::StormBatches => "storm-batches",
+            Case::Timeline => ("", "timeline"),
+            Case::Trampoline => ("", "trampoline"),
+            Case::Sorted => ("", "sorted"),
+            Case::Cycle => ("", "cycle"),
+            Case::Crowd => ("", "crowd"),
+            Case::Items => ("", "items"),
+            Case::Chain => ("", "chain"),
+            Case::Inner => ("", "inner"),
+            Case::Share => ("", "share"),
+            Case::Hold => ("", "hold"),
+            Case::Lease => ("", "lease"),
+            Case::Checkpoint => ("", "checkpoint"),
+            Case::CheckpointShort => ("", "checkpoint-short"),
+            Case::Scenario => ("", "scenario"),
+            Case::Audit(shape) => (AUDIT, shape.name()),
+            Case::Json(shape) => (JSON, shape.name()),
+            Case::Storm => ("", "storm"),
+            Case::StormBatches => ("", "storm-batches"),
         }
     }
 
@@ -143,19 +113,27 @@ static CASES: [Case; 16] = [
     Case::StormBatches,
 ];
 
-/// The case of this name, or `None` where no case has it.
-pub fn case_named(word: &str) -> Option<Case> {
-    for &case in &CASES {
-        if case.name() == word {
-            return Some(case);
+/// The shape of this name, or `None` where no shape has it.
+fn shape_named(word: &str) -> Option<Shape> {
+    for &shape in &SHAPES {
+        if shape.name() == word {
+            return Some(shape);
         }
     }
-    for &shape in &SHAPES {
-        if audit_name(shape) == word {
-            return Some(Case::Audit(shape));
-        }
-        if json_name(shape) == word {
-            return Some(Case::Json(shape));
+    None
+}
+
+/// The case of this name, or `None` where no case has it.
+pub fn case_named(word: &str) -> Option<Case> {
+    if let Some(shape) = word.strip_prefix(AUDIT) {
+        return Some(Case::Audit(shape_named(shape)?));
+    }
+    if let Some(shape) = word.strip_prefix(JSON) {
+        return Some(Case::Json(shape_named(shape)?));
+    }
+    for &case in &CASES {
+        if case.name().1 == word {
+            return Some(case);
         }
     }
     None

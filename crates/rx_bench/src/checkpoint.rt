@@ -2,7 +2,7 @@
 
 ghost use Rattle.std.specs.Prelude.{◌≡◌, ◌+◌, ◌*◌, ◌≤◌, IfOk};
 
-use crate::calls::{checkpoint, emit, told};
+use crate::calls::{emit, told};
 use crate::done::{Done, Halt};
 use crate::turns::open_roots;
 use rx_book::Book;
@@ -40,7 +40,7 @@ pub fn crowded(alloc: Global, count: u64, items: u64) -> Result<Book<Sample>, Ha
 pub fn run_checkpoint(book: &mut Book<Sample>, count: u64) -> Result<Done, Halt>
     ensures { IfOk result (λ done. done.operations ≡ count) }
 {
-    let at = checkpoint(book)?;
+    let at = book.checkpoint()?;
     if book.open_count() != count {
         return Err(Halt::Refused);
     }

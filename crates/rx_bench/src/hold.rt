@@ -1,34 +1,19 @@
 //! The case `hold`: many resources at one node.
 
-use crate::calls::{check_done, dispose, hold, open, release, remove};
+use crate::calls::{check_done, dispose, open, release};
 use crate::done::Halt;
-use crate::turns::Work;
-use rx_book::{At, Book, Key, ResKey};
+use crate::turns::{Work, hold_each};
+use rx_book::{At, Book, ResKey};
 use rx_event::Kind;
 use rx_resource::Sample;
 use std::alloc::Global;
 
-/// Holds so many resources at a node, with the tags from 0 on, and answers those with odd tags.
-fn hold_all(
-    alloc: Global,
-    book: &mut Book<Sample>,
-    node: Key,
-    count: u64,
-) -> Result<Vec<ResKey>, Halt> {
-    let mut odd = Vec::new(alloc);
-    for tag in 0..count {
-        let res = hold(book, node, tag)?;
-        if tag % 2 == 1 {
-            odd.push(res)?;
+/// Takes every second resource away from its node, which then waits.
+fn remove_half(book: &mut Book<Sample>, resources: Vec<ResKey>) -> Result<(), Halt> {
+    for (place, res) in resources.iter().enumerate() {
+        if place % 2 == 1 {
+            book.remove(*res)?;
         }
-    }
-    Ok(odd)
-}
-
-/// Takes resources away from their node, which then wait.
-fn remove_all(book: &mut Book<Sample>, resources: Vec<ResKey>) -> Result<(), Halt> {
-    for res in resources.as_slice() {
-        remove(book, *res)?;
     }
     Ok(())
 }
@@ -42,8 +27,8 @@ impl Work for Waiting {
     /// of the root.
     fn begin(alloc: Global, book: &mut Book<Sample>, turns: u64) -> Result<Self, Halt> {
         let root = open(book, At::Root, Kind::Pass)?.key;
-        let odd = hold_all(alloc, book, root, turns)?;
-        remove_all(book, odd)?;
+        let resources = hold_each(alloc, book, root, turns)?;
+        remove_half(book, resources)?;
         if book.waiting() != turns / 2 {
             return Err(Halt::Refused);
         }

@@ -1,8 +1,8 @@
 //! The case `lease`: dependents that come and go at resources among many that are held.
 
-use crate::calls::{check_done, dispose, hold, lend, open, release};
+use crate::calls::{check_done, dispose, lend, open, release};
 use crate::done::Halt;
-use crate::turns::Work;
+use crate::turns::{Work, hold_each};
 use rx_book::{At, Book, Key, ResKey};
 use rx_event::Kind;
 use rx_resource::Sample;
@@ -13,20 +13,6 @@ use std::alloc::Global;
 pub struct Held {
     root: Key,
     resources: Vec<ResKey>,
-}
-
-/// Holds so many resources at a node, with the tags from 0 on, and answers their keys.
-fn hold_each(
-    alloc: Global,
-    book: &mut Book<Sample>,
-    node: Key,
-    count: u64,
-) -> Result<Vec<ResKey>, Halt> {
-    let mut resources = Vec::new(alloc);
-    for tag in 0..count {
-        resources.push(hold(book, node, tag)?)?;
-    }
-    Ok(resources)
 }
 
 impl Work for Held {

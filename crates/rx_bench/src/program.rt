@@ -27,13 +27,13 @@ pub const REFUSED: u8 = 2;
 
 /// Writes what a run did.
 fn write_done<O: Write>(output: &mut O, request: Request, done: Done) -> Result<(), Halt> {
-    let name = request.case.name();
+    let (front, name) = request.case.name();
     let size = request.size;
     let operations = done.operations;
     let mark = done.mark;
     let written = writeln!(
         output,
-        "{name} {size}: {operations} operations, mark {mark}"
+        "{front}{name} {size}: {operations} operations, mark {mark}"
     );
     match written {
         Ok(()) => Ok(()),
@@ -43,13 +43,13 @@ fn write_done<O: Write>(output: &mut O, request: Request, done: Done) -> Result<
 
 /// Writes how long the operations took.
 fn write_times<E: Write>(errors: &mut E, request: Request, times: Summary) -> io::Result<()> {
-    let name = request.case.name();
+    let (front, name) = request.case.name();
     let size = request.size;
     let median = times.median;
     let spread = times.spread;
     writeln!(
         errors,
-        "{name} {size}: median {}.{} ns, spread {}.{} ns for each operation, of {RUNS} runs",
+        "{front}{name} {size}: median {}.{} ns, spread {}.{} ns for each operation, of {RUNS} runs",
         median / 10,
         median % 10,
         spread / 10,

@@ -44,6 +44,26 @@ pub enum Shape {
     HubItems,
 }
 
+impl Shape {
+    /// Its word, as it stands in that of a case.
+    pub fn name(self) -> &'static str {
+        match self {
+            Shape::Roots => "roots",
+            Shape::Items => "items",
+            Shape::Cycle => "cycle",
+            Shape::Chain => "chain",
+            Shape::Resources => "resources",
+            Shape::Flat => "flat",
+            Shape::Switch => "switch",
+            Shape::Until => "until",
+            Shape::Subscribers => "subscribers",
+            Shape::HubEnd => "hub-end",
+            Shape::Hubs => "hubs",
+            Shape::HubItems => "hub-items",
+        }
+    }
+}
+
 /// Each shape.
 pub static SHAPES: [Shape; 12] = [
     Shape::Roots,
@@ -81,6 +101,22 @@ fn next_number(events: &Vec<Event>) -> u64 {
     events.len() as u64
 }
 
+/// So many events, each of which is this one.
+fn repeat(events: &mut Vec<Event>, event: Event, count: u64) -> Result<(), AllocError> {
+    for _pushed in 0..count {
+        events.push(event)?;
+    }
+    Ok(())
+}
+
+/// The closings of the nodes with the numbers from `first` up to `end`.
+fn close_each(events: &mut Vec<Event>, first: u64, end: u64) -> Result<(), AllocError> {
+    for number in first..end {
+        events.push(Event::Close(number))?;
+    }
+    Ok(())
+}
+
 /// The shape's own events, in as many turns as there is room for in so many events.
 fn turns(events: &mut Vec<Event>, shape: Shape, size: u64) -> Result<(), AllocError> {
     match shape {
@@ -103,8 +139,7 @@ fn turns(events: &mut Vec<Event>, shape: Shape, size: u64) -> Result<(), AllocEr
 pub fn history(alloc: Global, shape: Shape, size: u64) -> Result<Vec<Event>, AllocError> {
     let mut events = Vec::new(alloc);
     turns(&mut events, shape, size)?;
-    for _filled in next_number(&events)..size {
-        events.push(root(Kind::Leaf))?;
-    }
+    let left = size.saturating_sub(next_number(&events));
+    repeat(&mut events, root(Kind::Leaf), left)?;
     Ok(events)
 }

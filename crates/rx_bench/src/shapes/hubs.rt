@@ -1,6 +1,6 @@
 //! Histories of hubs.
 
-use crate::shapes::{next_number, root, source};
+use crate::shapes::{close_each, next_number, repeat, root, source};
 use rx_event::{Event, Kind, Mode};
 use rx_note::Terminal;
 use std::alloc::AllocError;
@@ -11,14 +11,6 @@ const MOST_HUBS: u64 = 1_000;
 /// How many subscribers the shape of items through a hub has.
 const LISTENERS: u64 = 10;
 
-/// So many subscribers of the first hub.
-fn subscribe(events: &mut Vec<Event>, count: u64) -> Result<(), AllocError> {
-    for _subscribed in 0..count {
-        events.push(root(Kind::Sub(0)))?;
-    }
-    Ok(())
-}
-
 /// A RefCount hub with so many subscribers beside the first, which go, the oldest first, and the connection
 /// with the last of them.
 pub fn subscribers(events: &mut Vec<Event>, count: u64) -> Result<(), AllocError> {
@@ -27,12 +19,10 @@ pub fn subscribers(events: &mut Vec<Event>, count: u64) -> Result<(), AllocError
         root(Kind::Sub(0)),
         Event::Connect(0),
     ])?;
-    subscribe(events, count)?;
+    repeat(events, root(Kind::Sub(0)), count)?;
     let end = next_number(events);
     events.push(Event::Close(1))?;
-    for subscriber in 3..end {
-        events.push(Event::Close(subscriber))?;
-    }
+    close_each(events, 3, end)?;
     events.push(Event::Close(2))?;
     Ok(())
 }
@@ -44,7 +34,7 @@ pub fn hub_end(events: &mut Vec<Event>, count: u64) -> Result<(), AllocError> {
         Event::Connect(0),
         source(1, Kind::Leaf),
     ])?;
-    subscribe(events, count)?;
+    repeat(events, root(Kind::Sub(0)), count)?;
     let end = next_number(events);
     let completed = Terminal::Completed;
     events.extend_from_slice(&[Event::End(2, completed), Event::End(1, completed)])?;
@@ -58,9 +48,7 @@ pub fn hub_end(events: &mut Vec<Event>, count: u64) -> Result<(), AllocError> {
 /// other, with their connections.
 pub fn hubs(events: &mut Vec<Event>, size: u64) -> Result<(), AllocError> {
     let many = (size / 20).clamp(1, MOST_HUBS);
-    for _made in 0..many {
-        events.push(Event::Hub(Mode::Auto))?;
-    }
+    repeat(events, Event::Hub(Mode::Auto), many)?;
     for turn in 0..size.saturating_sub(many) / 4 {
         let hub = turn % many;
         let subscriber = next_number(events);
@@ -74,12 +62,9 @@ pub fn hubs(events: &mut Vec<Event>, size: u64) -> Result<(), AllocError> {
 /// A hub that is connected by hand, with ten subscribers, and so many items of its source.
 pub fn hub_items(events: &mut Vec<Event>, count: u64) -> Result<(), AllocError> {
     events.push(Event::Hub(Mode::Manual))?;
-    subscribe(events, LISTENERS)?;
+    repeat(events, root(Kind::Sub(0)), LISTENERS)?;
     let connection = next_number(events);
     let leaf = connection.saturating_add(1);
     events.extend_from_slice(&[Event::Connect(0), source(connection, Kind::Leaf)])?;
-    for _emitted in 0..count {
-        events.push(Event::Item(leaf, 1))?;
-    }
-    Ok(())
+    repeat(events, Event::Item(leaf, 1), count)
 }

@@ -1,28 +1,20 @@
 //! Histories of roots, mirroring nodes and resources.
 
-use crate::shapes::{next_number, root, source};
+use crate::shapes::{close_each, next_number, repeat, root, source};
 use rx_event::{Event, Kind};
 use rx_note::Terminal;
 use std::alloc::AllocError;
 
 /// So many roots, which are closed again, the oldest first.
 pub fn roots(events: &mut Vec<Event>, count: u64) -> Result<(), AllocError> {
-    for _opened in 0..count {
-        events.push(root(Kind::Leaf))?;
-    }
-    for number in 0..count {
-        events.push(Event::Close(number))?;
-    }
-    Ok(())
+    repeat(events, root(Kind::Leaf), count)?;
+    close_each(events, 0, count)
 }
 
 /// A leaf with so many items.
 pub fn items(events: &mut Vec<Event>, count: u64) -> Result<(), AllocError> {
     events.push(root(Kind::Leaf))?;
-    for _emitted in 0..count {
-        events.push(Event::Item(0, 1))?;
-    }
-    Ok(())
+    repeat(events, Event::Item(0, 1), count)
 }
 
 /// So many roots, each of which emits an item and ends before the next.
