@@ -7,7 +7,7 @@ use Rattle.std.proofs.lemmas.List.Elements.{All-head, All-weaker}
 use Rattle.std.specs.BTreeSet.{BTreeSet, contains, btree_set_len, IsLowerBound, Updates}
 use Rattle.std.specs.List.{list_any}
 use Rattle.std.specs.Map.{lookup, remove_entry}
-use Rattle.std.specs.Ordering.{is_eq, is_gt, nat_cmp}
+use Rattle.std.specs.Ordering.{is_eq, is_gt}
 use Rattle.rx_time.specs.declared.work.Work.{Work}
 use Rattle.rx_time.specs.Agenda.{IsKept, PointsAt, is_due_at, place_cmp}
 use Rattle.rx_time.specs.Schedule.{next_of}

@@ -1,6 +1,6 @@
 -- Slots in the order of their tickets and due times, and the entries that they hold.
-use Rattle.std.proofs.Common.{◌≡◌, ◌≢◌, ℕ, zero, suc, ◌+◌, ◌<◌, ◌≤◌, ◌-◌, ◌↔◌, Bool, true, false, cond, nat_eq, is_none, ◌==◌, List, [], ◌∷◌, ◌++◌, length, drop, set, get_or}
-use Rattle.std.proofs.Common.{Option, Some, None, option_map, Result, Ok, Err, All, IfSome, IfNone, IsSome, refl, sym, ap, ◌∙◌, inl, inr, arith}
+use Rattle.std.proofs.Common.{◌≡◌, ◌≢◌, ℕ, zero, suc, ◌+◌, ◌<◌, ◌≤◌, ◌-◌, ◌↔◌, ◌==◌, Bool, true, false, cond, nat_eq, is_none, List, [], ◌∷◌, ◌++◌}
+use Rattle.std.proofs.Common.{length, set, get_or, Option, Some, None, option_map, Result, Ok, Err, All, IfSome, IfNone, refl, sym, ap, ◌∙◌, inl, inr, arith}
 use Rattle.std.specs.List.{AllPairs, HoldsAt, cons_option}
 use Rattle.std.specs.List.Sorted.{IsBinarySearchResult, IsNonDecreasingBy}
 use Rattle.std.specs.Map.{lookup, remove_entry}

@@ -1,7 +1,7 @@
 //! Entries that were scheduled in the order in which they come out.
 
-ghost use Rattle.std.specs.Prelude.{◌≡◌, ◌≢◌, ◌+◌, ◌<◌, ◌≤◌, ◌++◌, ◌∷◌, [], true, false, length, nat_eq, is_none, slice_set};
-ghost use Rattle.std.specs.Prelude.{All, Some, None, IsSome, IsTrue, ◌↔◌, IfSome, IfNone, OnOk, OnErr, IfErr};
+ghost use Rattle.std.specs.Prelude.{◌≡◌, ◌≢◌, ◌+◌, ◌<◌, ◌≤◌, ◌++◌, ◌∷◌, [], ◌↔◌, true, false, length, nat_eq};
+ghost use Rattle.std.specs.Prelude.{is_none, slice_set, All, Some, None, IsSome, IsTrue, IfSome, IfNone, OnOk, OnErr, IfErr};
 ghost use Rattle.std.specs.List.{AllPairs, HoldsAt};
 ghost use Rattle.std.specs.Map.{lookup};
 ghost use Rattle.rx_time.specs.Runs.{work_of, slot_of, entries_of, is_front_empty, IsBefore, IsRun};
@@ -128,8 +128,8 @@ impl<T> Run<T> {
         self.slots.is_empty()
     }
 
-    // Puts the work last, if its ticket and its due time belong there and not too many slots are empty. Gives it back if
-    // not, and where memory is refused.
+    // Puts the work last, if its ticket and its due time belong there and not too many slots are empty. Gives it
+    // back if not, and where memory is refused.
     pub(crate) fn push(&mut self, ticket: u32, work: Work<T>) -> Result<(), Work<T>>
         ensures ok { OnOk result (self.new ≡ self.old ++ (ticket, work) ∷ []) }
         ensures back { IfErr result (λ back. back ≡ work) }

@@ -256,7 +256,6 @@ impl<T> Timeline<T> {
 }
 
 // Puts work last: behind those that are in order, where it belongs there and there are no others, or among the others.
-#[tactic(auto, using(crate::proofs::TwoLists::put_between, crate::proofs::TwoLists::put_behind, crate::proofs::TwoLists::put_refused))]
 fn put_last<T>(
     in_order: &mut Run<T>,
     others: &mut PriorityQueue<T>,
