@@ -16,7 +16,7 @@ use rx_event::Event;
 use rx_ledger::{PARTS, Receipt};
 use rx_resource::{Sample, Tracked, Tracker};
 use rx_scarce::Scarce;
-use rx_storm::{Gathered, Lack, StormFault, end_storm, run_threads, storm};
+use rx_storm::{Gathered, Lack, StormFault, end_storm, run_threads, storm, storm_in_batches};
 use std::alloc::{AllocError, Global};
 use std::io::Write;
 use std::marker::Brand;
@@ -27,6 +27,10 @@ use std::sync::ledger::{Blank, Ledger};
 use std::test::Fail;
 use std::thread;
 use std::thread::Threads;
+
+// What is told of a storm of twenty items of each source.
+const FIGURES: &str =
+    "accepted 4\ntaken 4\nreleased 4\nfaults 1\nheld 0\nwaiting 0\nnotes 84\nevents 104\n";
 
 // A resource for each of four sources; the release of the one of tag 3 meets the fault 2.
 fn four_samples(alloc: Global) -> Result<Vec<Sample>, AllocError>
@@ -55,6 +59,25 @@ fn usual<G: Gate, T: Threads + Wait + Sync, W: Write>(
     storm(rt, alloc, 4, 3, 100, stock, gate, &mut Watched::new(writer))
 }
 
+// A storm of twenty items, in batches of which the second one is not full.
+fn in_batches<T: Threads + Wait + Sync, W: Write>(
+    rt: &T,
+    alloc: Global,
+    writer: &mut W,
+) -> Result<bool, StormFault> {
+    let Ok(stock) = four_samples(alloc) else {
+        return Err(StormFault::Memory);
+    };
+    storm_in_batches(rt, alloc, 4, 3, 20, stock, &Open, &mut Watched::new(writer))
+}
+
+#[test]
+fn a_storm_in_batches_tells_its_figures(rt: HostRuntime) {
+    let mut output = Vec::new(rt.alloc());
+    same(&rt, in_batches(&rt, rt.alloc(), &mut output), Ok(true));
+    same(&rt, output.as_slice(), FIGURES.as_bytes());
+}
+
 // A gate that does nothing.
 struct Open;
 
@@ -74,8 +97,8 @@ fn four_tracked(alloc: Global, tracker: &Tracker) -> Result<Vec<Tracked>, AllocE
     Ok(stock)
 }
 
-// What comes of a storm of these resources and so many items of each, whose receipts get these ones more; and how
-// many resources its book accepted.
+// What comes of a storm of these resources and so many items of each, whose receipts get these ones more; how many
+// resources its book accepted; and how many seats and receipts its threads gave back.
 fn weather<
     I: Ledger + Send + Sync,
     A: Ledger + Send + Sync,
@@ -89,7 +112,7 @@ fn weather<
     count: u32,
     forged: &[Receipt],
     output: &mut Vec<u8>,
-) -> (Result<bool, StormFault>, u64)
+) -> (Result<bool, StormFault>, u64, (usize, usize))
     requires items { Opens I.name I.parts blanks.0.name blanks.0.parts }
     requires accepted { Opens A.name A.parts blanks.1.name blanks.1.parts }
     requires taken { Opens K.name K.parts blanks.2.name blanks.2.parts }
@@ -97,15 +120,17 @@ fn weather<
     let book = Book::new(alloc, 1_000_000);
     let (desk, first) = Desk::<Tracked, I, A, K>::new(book, blanks.0, blanks.1, blanks.2);
     let mut gathered = run_threads(rt, alloc, &desk, first, stock, 3, count, &Open);
+    let back = (gathered.seats.len(), gathered.receipts.len());
     if gathered.receipts.extend_from_slice(forged).is_err() {
         gathered.fault = Some(Lack::Memory);
     }
     let accepted = desk.floor.lock(rt).accepted();
     let ended = end_storm(alloc, desk, gathered, &mut Watched::new(output));
-    (ended, accepted)
+    (ended, accepted, back)
 }
 
-// What comes of such a storm; each resource that its book accepted is released once.
+// What comes of such a storm; each resource that its book accepted is released once. If it is done, each of its four
+// sources and three workers gave back a seat, as the first thread did, and each source a receipt for each item and its end.
 fn storm_once<T: Threads + Wait + Sync + Abort>(
     rt: &T,
     alloc: Global,
@@ -119,11 +144,15 @@ fn storm_once<T: Threads + Wait + Sync + Abort>(
     };
     let before = tracker.released();
     let blanks = (Blank::new(PARTS), Blank::new(PARTS), Blank::new(PARTS));
-    let (ended, accepted) = weather::<Brand, Brand, Brand, _>(
+    let (ended, accepted, back) = weather::<Brand, Brand, Brand, _>(
         rt, alloc, blanks, stock, count, forged, output,
     );
     let released = tracker.released().wrapping_sub(before);
     same(rt, u64::from(released), accepted);
+    if ended.is_ok() {
+        let receipts = (count as usize).saturating_add(1).saturating_mul(4);
+        same(rt, back, (8, receipts));
+    }
     ended
 }
 
@@ -206,10 +235,6 @@ fn two_releases_of_a_storm_run_at_the_same_time(rt: HostRuntime) -> Result<(), F
     same(&rt, gate.has_met.load(Ordering::SeqCst), 1);
     Ok(())
 }
-
-// What is told of a storm of twenty items of each source.
-const FIGURES: &str =
-    "accepted 4\ntaken 4\nreleased 4\nfaults 1\nheld 0\nwaiting 0\nnotes 84\nevents 104\n";
 
 // The receipt of an event that is not in the history of a storm.
 const FORGED: Receipt = Receipt {
