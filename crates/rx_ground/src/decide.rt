@@ -264,7 +264,7 @@ impl<R: Resource> Ground<R> {
 
     /// What stands first against holding a resource at the node.
     #[tactic(auto, using(crate::proofs::Told::there_open))]
-    #[inline]
+    #[inline(always)]
     pub fn holding_cause(&self, node: Key, tag: u64, is_fresh: bool) -> Option<Refusal>
         requires standing { IsStanding R.Resource self.now }
         ensures { result ≡ first_by_key self.now (has_node self.now node) is_fresh (Holding node.number tag) }
@@ -284,7 +284,7 @@ impl<R: Resource> Ground<R> {
 
     /// What stands first against using the resource.
     #[tactic(auto, using(crate::proofs::Told::held_in_history))]
-    #[inline]
+    #[inline(always)]
     pub fn applying_cause(&self, res: ResKey) -> Option<Refusal>
         requires standing { IsStanding R.Resource self.now }
         ensures { result ≡ first_by_res_key self.now (is_held_at self.now.tree res) (Applying res.number) }
@@ -300,7 +300,7 @@ impl<R: Resource> Ground<R> {
 
     /// What stands first against removing the resource from its node.
     #[tactic(auto, using(crate::proofs::Told::held_in_history, crate::proofs::Told::owned_in_history))]
-    #[inline]
+    #[inline(always)]
     pub fn removing_cause(&self, res: ResKey) -> Option<Refusal>
         requires standing { IsStanding R.Resource self.now }
         ensures { result ≡ first_by_res_key self.now (is_held_at self.now.tree res) (Removing res.number) }
@@ -316,7 +316,7 @@ impl<R: Resource> Ground<R> {
 
     /// What stands first against leasing the resource.
     #[tactic(auto, using(crate::proofs::Told::held_in_history, crate::proofs::Told::owned_in_history))]
-    #[inline]
+    #[inline(always)]
     pub fn leasing_cause(&self, res: ResKey) -> Option<Refusal>
         requires standing { IsStanding R.Resource self.now }
         ensures { result ≡ first_by_res_key self.now (is_held_at self.now.tree res) (Leasing res.number) }
@@ -335,7 +335,7 @@ impl<R: Resource> Ground<R> {
 
     /// What stands first against giving the lease back.
     #[tactic(auto, using(crate::proofs::Told::out_in_history))]
-    #[inline]
+    #[inline(always)]
     pub fn returning_cause(&self, lease: LeaseKey) -> Option<Refusal>
         requires standing { IsStanding R.Resource self.now }
         ensures { result ≡
@@ -348,7 +348,7 @@ impl<R: Resource> Ground<R> {
     }
 
     /// What stands first against the end of the leaf.
-    #[inline]
+    #[inline(always)]
     pub fn ending_cause(&self, leaf: Key, terminal: Terminal) -> Option<Refusal>
         requires standing { IsStanding R.Resource self.now }
         ensures { result ≡ first_at self.now leaf (Ending leaf.number terminal) }
@@ -365,7 +365,7 @@ impl<R: Resource> Ground<R> {
 
     /// What stands first against ending the node with an error.
     #[tactic(auto, using(crate::proofs::Told::child_marked))]
-    #[inline]
+    #[inline(always)]
     pub fn aborting_cause(&self, node: Key, code: u32) -> Option<Refusal>
         requires standing { IsStanding R.Resource self.now }
         ensures { result ≡ first_at self.now node (Aborting node.number code) }
@@ -403,7 +403,7 @@ impl<R: Resource> Ground<R> {
     }
 
     /// What stands first against declining an item that was projected to the node.
-    #[inline]
+    #[inline(always)]
     pub fn declining_cause(&self, merging: Key) -> Option<Refusal>
         requires standing { IsStanding R.Resource self.now }
         ensures { result ≡ first_at self.now merging (Declining merging.number) }
@@ -412,7 +412,7 @@ impl<R: Resource> Ground<R> {
     }
 
     /// What stands first against failing at an item that was projected to the node. `code` is any `u32`.
-    #[inline]
+    #[inline(always)]
     pub fn failing_cause(&self, merging: Key, code: u32) -> Option<Refusal>
         requires standing { IsStanding R.Resource self.now }
         ensures { result ≡ first_at self.now merging (Failing merging.number code) }
@@ -437,7 +437,7 @@ impl<R: Resource> Ground<R> {
     }
 
     /// What stands first against unsubscribing the root.
-    #[inline]
+    #[inline(always)]
     pub fn disposing_cause(&self, root: Key) -> Option<Refusal>
         requires standing { IsStanding R.Resource self.now }
         ensures { result ≡ first_at self.now root (Disposing root.number) }

@@ -371,7 +371,7 @@ impl<R: Resource> Ground<R> {
     /// What an item of this leaf wants, or what stands first against it: `TooMany` counts the visits of its
     /// whole way over all hubs, and `Full` the item's event, and one more for each time that a FlatMap or a
     /// Switch projects it. Nothing changes.
-    #[inline]
+    #[inline(always)]
     pub fn route(&mut self, leaf: Key, value: i64) -> Result<Reach, Refusal>
         requires standing { IsStanding R.Resource self.old }
         ensures kept { self.new ≡ self.old }

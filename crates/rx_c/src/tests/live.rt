@@ -22,7 +22,8 @@ const FIRST: &str = "{\"ok\":0}";
 
 const TOLD: &str = "{\"ok\":3,\"notes\":[{\"to\":\"a\",\"next\":5}]}";
 
-const LISTED: &str = "{\"ok\":2,\"nodes\":[{\"name\":\"a\",\"number\":0,\"kind\":\"pass\",\"place\":\"root\"}],\
+const LISTED: &str =
+    "{\"ok\":2,\"nodes\":[{\"name\":\"a\",\"number\":0,\"kind\":\"pass\",\"place\":\"root\"}],\
         \"resources\":[{\"name\":\"r\",\"number\":1,\"node\":\"a\",\"uses\":0}],\"leases\":[],\"hubs\":[]}";
 
 const FAULTY: &str = "{\"faulty\":\"a command is an object\"}";
