@@ -11,7 +11,7 @@ use rx_tree::{Key as TreeKey, ResKey as TreeResKey};
 /// same key, if there is one.
 #[derive(Clone, Copy, Debug, PartialEq, Eq)]
 pub struct Key {
-    /// Where the node's record lies, which is the book's own affair.
+    /// Where the node's record lies: internal to the book.
     pub slot: u64,
     /// The number of the node: the place of the event that made it, from 0.
     pub number: u64,
@@ -21,7 +21,7 @@ pub struct Key {
 /// afterwards.
 #[derive(Clone, Copy, Debug, PartialEq, Eq)]
 pub struct ResKey {
-    /// Where the resource's record lies, which is the book's own affair.
+    /// Where the resource's record lies: internal to the book.
     pub slot: u64,
     /// The number of the resource: the place of the event that accepted it, from 0.
     pub number: u64,
@@ -30,7 +30,7 @@ pub struct ResKey {
 /// The key of a lease. It stays the lease's key while that is out, and is nobody's afterwards.
 #[derive(Clone, Copy, Debug, PartialEq, Eq)]
 pub struct LeaseKey {
-    /// Where the lease's record lies, which is the book's own affair.
+    /// Where the lease's record lies: internal to the book.
     pub slot: u64,
     /// The number of the lease: the place of the event that gave it out, from 0.
     pub number: u64,

@@ -18,11 +18,11 @@
 //! | Status | Cause | Line on the error stream |
 //! |---|---|---|
 //! | 0 | a run or a storm is done, the verdict on a dump is lawful, or help or the version was shown | none |
-//! | 1 | a stream failed, or no thread was to be had | `rxbook: read fault`, `rxbook: write fault`, `rxbook: thread fault` |
-//! | 2 | the words are no order | the text of `clap` |
-//! | 3 | the input is no scenario, or no dump | `rxbook: faulty input` |
+//! | 1 | a stream failed, or no thread could be started | `rxbook: read fault`, `rxbook: write fault`, `rxbook: thread fault` |
+//! | 2 | the command line is invalid | the text of `clap` |
+//! | 3 | the input is not a scenario, or not a dump | `rxbook: faulty input` |
 //! | 4 | memory was refused | `rxbook: out of memory` |
-//! | 5 | the verdict on a dump is another | none |
+//! | 5 | the history is unlawful or unsettled | none |
 //! | 5 | the threads of a storm do not agree with the book | `rxbook: mismatch` |
 //!
 //! # Promised, and not

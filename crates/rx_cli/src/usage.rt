@@ -1,4 +1,4 @@
-//! What is said where the words are no order.
+//! What is written if the command line is invalid.
 ghost use Rattle.std.specs.Prelude.{◌≡◌, ◌≢◌};
 ghost use Rattle.clap.specs.Words.{kind_of};
 ghost use Rattle.rx_device.specs.Device.{KeepsDevice};
