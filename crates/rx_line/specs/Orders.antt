@@ -50,8 +50,8 @@ command_in d = if is_timed d then None else option_and_then only_command (action
 
 -- a command, or a question about a node
 abbrev pub command_or_query : Option Command → Option Name → Option Order
-command_or_query (Some c) node = Some (command c)
-command_or_query None node = option_map query node
+command_or_query (Some c) asked = Some (command c)
+command_or_query None asked = option_map query asked
 
 unfoldable pub order_in : Data → Option Order
 order_in d =
