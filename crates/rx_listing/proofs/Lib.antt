@@ -2,4 +2,5 @@ pub mod Rises
 pub mod Knowing
 pub mod Keeping
 pub mod Recalling
+pub mod Laws
 pub mod Objects

@@ -1,6 +1,6 @@
 -- Numbers that have names, and the objects of those.
-use Rattle.std.proofs.Common.{◌≡◌, ◌↔◌, ℕ, ◌+◌, ◌<◌, ◌≤◌, Bool, true, false, cond, List, [], ◌∷◌, ◌++◌, codes, length, take, filter, count_by}
-use Rattle.std.proofs.Common.{flat_map, filter_map, get_or, Option, Some, None, HashMap, refl, sym, ap, ◌∙◌, arith, append_assoc, is_some}
+use Rattle.std.proofs.Common.{◌≡◌, ◌↔◌, ℕ, ◌+◌, ◌<◌, ◌≤◌, Bool, true, false, cond, List, [], ◌∷◌, ◌++◌, length, take, filter, count_by}
+use Rattle.std.proofs.Common.{filter_map, get_or, Option, Some, None, HashMap, refl, sym, ap, ◌∙◌, arith, is_some}
 use Rattle.std.specs.Prelude.{IsTrue}
 use Rattle.std.specs.Bool.{nat_eq}
 use Rattle.std.specs.HashMap.{get, values, IsUnique}
@@ -8,10 +8,9 @@ use Rattle.std.specs.List.{list_any, cons_option, range_with_len}
 use Rattle.std.specs.Option.{option_and_then}
 use Rattle.std.proofs.lemmas.Bool.{false≢true}
 use Rattle.std.proofs.lemmas.Cmp.{nat_eq_equiv}
-use Rattle.std.proofs.lemmas.List.{append-nil, take_more, take_all}
+use Rattle.std.proofs.lemmas.List.{take_more, take_all}
 use Rattle.std.proofs.lemmas.List.Elements.{filter_map-append}
 use Rattle.std.proofs.lemmas.List.Sums.{sum_by-cons}
-use Rattle.std.proofs.lemmas.List.Concat.{flat_map-append}
 use Rattle.std.proofs.lemmas.Map.Made.{Contains-from_values_of, Contains-values_of}
 use Rattle.std.proofs.lemmas.Map.Views.{Contains-from_any, list_any-from_Contains, exact_unsigned_eq, hash_map_get_iff}
 use Rattle.rx_event.proofs.Laws.Searches.{list_any_same_at}
@@ -26,6 +25,7 @@ use Rattle.rx_listing.specs.Parts.{is_nil, led_text, names_of, part_object}
 use Rattle.rx_listing.specs.Recalled.{ArePlaced}
 use Rattle.rx_listing.specs.Whole.{Counted, node_object, resource_object, lease_object, hub_object, hub_by, subscribes}
 use Rattle.rx_listing.proofs.Keeping.{turned}
+use Rattle.rx_listing.proofs.Laws.Texts.{same_texts, more_nil, more_text}
 
 -- what passes a test is counted among what has names
 pub count_named : (p named : ℕ → Bool) (ns : List ℕ) → ((n : ℕ) → named n ≡ false → p n ≡ false) → count_by p (filter named ns) ≡ count_by p ns
@@ -39,32 +39,6 @@ count_named p named (n ∷ ns) all = by_name (named n) refl (count_named p named
       let none : count_by p (n ∷ ns) ≡ cond false 1 0 + count_by p ns =
       sum_by-cons (λ m. cond (p m) 1 0) n ns ∙ ap (λ (b : Bool). cond b 1 0 + count_by p ns) (all n is) in
       omega arith
-
--- texts behind one another, as there is one more, or none
-module _ (xs ys : List (List ℕ)) where
-  pub same_texts : ys ≡ xs ++ cons_option None [] → xs ≡ ys
-  same_texts none = sym (none ∙ append-nil xs)
-
-  pub more_nil : (object : List ℕ) → ys ≡ xs ++ cons_option (Some object) [] → false ≡ is_nil ys
-  more_nil object there = not_nil xs ∙ sym (ap is_nil there) where
-    not_nil : (zs : List (List ℕ)) → false ≡ is_nil (zs ++ object ∷ [])
-    not_nil [] = refl
-    not_nil (z ∷ zs) = refl
-
-  pub more_text : (object : List ℕ) (first : Bool) (begun : List ℕ) {text new : List ℕ} → ys ≡ xs ++ cons_option (Some object) [] →
-      first ≡ is_nil xs → text ≡ begun ++ joined xs → new ≡ text ++ led_text first object → new ≡ begun ++ joined ys
-  more_text object first begun {text} there is written next =
-      next ∙ ap (λ (b : Bool). text ++ led_text b object) is ∙ ap (λ (t : List ℕ). t ++ led_text (is_nil xs) object) written
-      ∙ append_assoc begun (joined xs) (led_text (is_nil xs) object) ∙ ap (λ (t : List ℕ). begun ++ t) (led xs)
-      ∙ ap (λ (texts : List (List ℕ)). begun ++ joined texts) (sym there)
-    where
-      led : (zs : List (List ℕ)) → joined zs ++ led_text (is_nil zs) object ≡ joined (zs ++ object ∷ [])
-      led [] = sym (append-nil object)
-      led (z ∷ zs) =
-          let comma = λ (q : List ℕ). codes "," ++ q in
-          append_assoc z (flat_map comma zs) (codes "," ++ object)
-          ∙ ap (λ (t : List ℕ). z ++ t) (ap (λ (t : List ℕ). flat_map comma zs ++ t) (sym (append-nil (codes "," ++ object)))
-          ∙ sym (flat_map-append comma zs (object ∷ [])))
 
 -- objects, one more
 module _ (f : ℕ → Option (List ℕ)) (ns : List ℕ) (i d : ℕ) (within : i < length ns) where

@@ -1,0 +1,33 @@
+-- Texts behind one another, with a comma between them, as one more is written.
+use Rattle.std.proofs.Common.{◌≡◌, ℕ, Bool, false, List, [], ◌∷◌, ◌++◌, codes, flat_map, Some, None, refl, sym, ap, ◌∙◌, append_assoc}
+use Rattle.std.specs.List.{cons_option}
+use Rattle.std.proofs.lemmas.List.{append-nil}
+use Rattle.std.proofs.lemmas.List.Concat.{flat_map-append}
+use Rattle.rx_line.specs.Pieces.{joined}
+use Rattle.rx_listing.specs.Parts.{is_nil, led_text}
+
+-- texts behind one another, as there is one more, or none
+module _ (xs ys : List (List ℕ)) where
+  pub same_texts : ys ≡ xs ++ cons_option None [] → xs ≡ ys
+  same_texts none = sym (none ∙ append-nil xs)
+
+  pub more_nil : (object : List ℕ) → ys ≡ xs ++ cons_option (Some object) [] → false ≡ is_nil ys
+  more_nil object there = not_nil xs ∙ sym (ap is_nil there) where
+    not_nil : (zs : List (List ℕ)) → false ≡ is_nil (zs ++ object ∷ [])
+    not_nil [] = refl
+    not_nil (z ∷ zs) = refl
+
+  pub more_text : (object : List ℕ) (first : Bool) (begun : List ℕ) {text new : List ℕ} → ys ≡ xs ++ cons_option (Some object) [] →
+      first ≡ is_nil xs → text ≡ begun ++ joined xs → new ≡ text ++ led_text first object → new ≡ begun ++ joined ys
+  more_text object first begun {text} there is written next =
+      next ∙ ap (λ (b : Bool). text ++ led_text b object) is ∙ ap (λ (t : List ℕ). t ++ led_text (is_nil xs) object) written
+      ∙ append_assoc begun (joined xs) (led_text (is_nil xs) object) ∙ ap (λ (t : List ℕ). begun ++ t) (led xs)
+      ∙ ap (λ (texts : List (List ℕ)). begun ++ joined texts) (sym there)
+    where
+      led : (zs : List (List ℕ)) → joined zs ++ led_text (is_nil zs) object ≡ joined (zs ++ object ∷ [])
+      led [] = sym (append-nil object)
+      led (z ∷ zs) =
+          let comma = λ (q : List ℕ). codes "," ++ q in
+          append_assoc z (flat_map comma zs) (codes "," ++ object)
+          ∙ ap (λ (t : List ℕ). z ++ t) (ap (λ (t : List ℕ). flat_map comma zs ++ t) (sym (append-nil (codes "," ++ object)))
+          ∙ sym (flat_map-append comma zs (object ∷ [])))
