@@ -20,11 +20,13 @@ pub with_dump : Orders (codes "rxbook" ∷ codes "run" ∷ codes "--dump" ∷ []
 unfolding clap_on_literals
 with_dump = record { taken = refl; named = refl }
 
-pub with_names : Orders (codes "rxbook" ∷ codes "run" ∷ codes "--names" ∷ []) (Run NamedDump)
+pub with_names : Orders (codes "rxbook" ∷ codes "run" ∷ codes "--names" ∷ [])
+    (Run NamedDump)
 unfolding clap_on_literals
 with_names = record { taken = refl; named = refl }
 
-pub with_both : Orders (codes "rxbook" ∷ codes "run" ∷ codes "--dump" ∷ codes "--names" ∷ []) (Run NamedDump)
+pub with_both : Orders (codes "rxbook" ∷ codes "run" ∷ codes "--dump" ∷ codes "--names" ∷ [])
+    (Run NamedDump)
 unfolding clap_on_literals
 with_both = record { taken = refl; named = refl }
 
