@@ -75,23 +75,48 @@ fn end_fault(alloc: Global, event: &Value) -> Walk {
     elements_fault(alloc, event, &[EVENT, NUMBER, END])
 }
 
+// The events whose elements are the same in each, and what is expected behind the word.
+static ELEMENTS: [(&str, Wanted, Option<Wanted>); 11] = [
+    ("hub", MODE, None),
+    ("connect", NUMBER, None),
+    ("accept", NUMBER, Some(NUMBER)),
+    ("use", NUMBER, None),
+    ("remove", NUMBER, None),
+    ("lease", NUMBER, None),
+    ("return", NUMBER, None),
+    ("item", NUMBER, Some(Wanted::Item)),
+    ("decline", NUMBER, None),
+    ("close", NUMBER, None),
+    ("take", NUMBER, None),
+];
+
+// What is wrong with an event of this word that is neither an opening nor an end.
+fn other_fault(alloc: Global, event: &Value, word: &str) -> Walk {
+    for &(known, first, second) in &ELEMENTS {
+        if known == word {
+            return match second {
+                Some(second) => elements_fault(alloc, event, &[EVENT, first, second]),
+                None => elements_fault(alloc, event, &[EVENT, first]),
+            };
+        }
+    }
+    elements_fault(alloc, event, &[EVENT])
+}
+
 // What is wrong with an event.
 fn event_fault(alloc: Global, event: &Value) -> Walk {
     if !event.is_array() {
         let shown = shown(alloc, event)?;
         return tell(format!(in alloc; ": an event is an array, and this is {shown}"));
     }
-    match event.get(0usize).and_then(Value::as_str).unwrap_or("") {
-        "open" => open_fault(alloc, event),
-        "hub" => elements_fault(alloc, event, &[EVENT, MODE]),
-        "accept" => elements_fault(alloc, event, &[EVENT, NUMBER, NUMBER]),
-        "item" => elements_fault(alloc, event, &[EVENT, NUMBER, Wanted::Item]),
-        "end" => end_fault(alloc, event),
-        "connect" | "use" | "remove" | "lease" | "return" | "decline" | "close" | "take" => {
-            elements_fault(alloc, event, &[EVENT, NUMBER])
-        }
-        _ => elements_fault(alloc, event, &[EVENT]),
+    let word = event.get(0usize).and_then(Value::as_str).unwrap_or("");
+    if word == "open" {
+        return open_fault(alloc, event);
     }
+    if word == "end" {
+        return end_fault(alloc, event);
+    }
+    other_fault(alloc, event, word)
 }
 
 /// What is wrong with an array that is not a dump.

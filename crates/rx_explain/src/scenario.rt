@@ -64,17 +64,30 @@ fn is_word(object: &Value, member: &str, word: &str) -> bool {
     object.get(member).and_then(Value::as_str) == Some(word)
 }
 
+// The members that only a subscriber's opening has.
+const OF_SUBSCRIBERS: &str = "hub, connection";
+
+// The commands that have a member which may be left out.
+static LEFT_OUT: [(&str, &str); 3] = [
+    ("connect", "name"),
+    ("end", "error"),
+    ("open", "connection"),
+];
+
 // Whether a member that a command has must be there.
 fn need_of(step: &Value, command: &str, member: &str) -> Need {
-    match (command, member) {
-        ("connect", "name") | ("end", "error") => Need::May,
-        (_, "of") if is_word(step, "place", "root") => Need::Never("a root has no node above it"),
-        ("open", "connection") if is_word(step, "kind", "sub") => Need::May,
-        ("open", "hub" | "connection") if !is_word(step, "kind", "sub") => {
-            Need::Never("the kind is not \"sub\"")
-        }
-        _ => Need::Must,
+    if member == "of" && is_word(step, "place", "root") {
+        return Need::Never("a root has no node above it");
     }
+    if command == "open" && is_among(member, OF_SUBSCRIBERS) && !is_word(step, "kind", "sub") {
+        return Need::Never("the kind is not \"sub\"");
+    }
+    for &(known, left_out) in &LEFT_OUT {
+        if known == command && left_out == member {
+            return Need::May;
+        }
+    }
+    Need::Must
 }
 
 // What is wrong with a member that is there.
