@@ -1,4 +1,4 @@
-//! What no clause says of a book and no scenario shows: memory that is refused, just the memory that a call needs,
+//! What no clause says of a book and its [`parts`], and no scenario shows: memory that is refused, just the memory that a call needs,
 //! closings where none is left, keys that are nobody's, boxes of two kinds, many items, and what becomes of a book
 //! that is dropped. What operators do, over checkpoints too, and which calls are refused, stands in the scenarios
 //! that `rx_replay` compares, and worked examples with their events in `rx_crew_tests`.
@@ -18,6 +18,8 @@ mod forced;
 mod just;
 #[cfg(test)]
 mod load;
+#[cfg(test)]
+mod parts;
 #[cfg(test)]
 mod probe;
 #[cfg(test)]

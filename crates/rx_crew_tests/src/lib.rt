@@ -1,4 +1,4 @@
-//! What no clause says: the worked examples on a desk, that each call can succeed, and threads.
+//! What no clause says: the worked examples on a desk, that each call can succeed, threads, and storms.
 //!
 //! What is tried at a desk is a [`trials::Trial`]; a test is a table of them, with the lines that each has to tell.
 #![tactic(auto)]
@@ -23,6 +23,10 @@ mod meetings;
 mod parts;
 #[cfg(test)]
 mod rows;
+#[cfg(test)]
+mod same;
+#[cfg(test)]
+mod storms;
 #[cfg(test)]
 mod ticks;
 #[cfg(test)]

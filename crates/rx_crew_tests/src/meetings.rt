@@ -21,10 +21,10 @@ use std::sync::{Arc, Wait};
 use std::thread;
 use std::thread::Threads;
 
-// Yields until the word is the number, and answers whether it came to be.
+// Yields until the word is the number or more, and answers whether it came to be.
 fn came_to(word: &AtomicU64, number: u64) -> bool {
     for _ in 0..1_000_000u32 {
-        if word.load(Ordering::SeqCst) == number {
+        if word.load(Ordering::SeqCst) >= number {
             return true;
         }
         thread::yield_now();
@@ -124,10 +124,25 @@ fn a_release_runs_while_the_desk_answers_another(rt: HostRuntime) {
 
 // Holds the first release until the call after another one.
 #[derive(Drop)]
-struct Pair {
+pub(super) struct Pair {
     entered: AtomicU64,
     left: AtomicU64,
     has_met: AtomicU64,
+}
+
+impl Pair {
+    pub(super) fn new() -> Pair {
+        Pair {
+            entered: AtomicU64::new(0),
+            left: AtomicU64::new(0),
+            has_met: AtomicU64::new(0),
+        }
+    }
+
+    // Whether two releases ran at the same time.
+    pub(super) fn has_met(&self) -> bool {
+        self.has_met.load(Ordering::SeqCst) == 1
+    }
 }
 
 impl Gate for Pair {
@@ -165,18 +180,14 @@ pub(super) fn both_release<
 ) -> Option<Seat<I, A, K>> {
     let mut first = make_all(rt, alloc, desk, first, &mut NO_SLOTS, &LAID_OUT, told);
     let second = first.split()?;
-    let gate = Pair {
-        entered: AtomicU64::new(0),
-        left: AtomicU64::new(0),
-        has_met: AtomicU64::new(0),
-    };
+    let gate = Pair::new();
     let by = &gate;
     let (one, other) = thread::join(
         rt,
         || worker(rt, desk, first, by, 1),
         || worker(rt, desk, second, by, 1),
     );
-    tell(told, gate.has_met.load(Ordering::SeqCst));
+    tell(told, gate.has_met());
     let mut both = one.seat;
     both.merge(other.seat);
     Some(both)
@@ -189,7 +200,7 @@ Ok(0)
 Ok(2)
 Ok(3)
 Ok(5)
-1
+true
 Ok(Totals { items: 0, accepted: 2, taken: 2, held: 0, waiting: 0, len: 8 })
 None
 Closed { released: 0, faults: 0 }

@@ -3,9 +3,6 @@
 //! It gathers the words, makes the stock of resources, and leaves the rest to `rx_cli::serve`.
 #![tactic(auto)]
 
-#[cfg(test)]
-mod tests;
-
 use rx_cli::{Watched, out_of_memory, refuse_bytes, serve, stock};
 use std::env::Env;
 use std::process::ExitCode;

@@ -1,0 +1,612 @@
+//! The program `rxbook` over memory: statuses and lines, storms, help, the stock, streams that fail, and refused
+//! memory.
+
+ghost use Rattle.std.specs.Prelude.{◌≡◌};
+ghost use Rattle.rx_resource.specs.declared.Life.{Life};
+
+use super::same::same;
+use super::streams::{Narrow, Source};
+use clap::error::ErrorKind;
+use rx_cli::{
+    Faulty, Form, Order, Plain, ResourceKind, Tally, order, refuse_bytes, serve, stock, weathered,
+};
+use rx_device::Watched;
+use rx_resource::Resource;
+use rx_scarce::Scarce;
+use std::alloc::{AllocError, Global};
+use std::io::{Read, Write};
+use std::process::Abort;
+use std::sync::Wait;
+use std::test::Fail;
+use std::thread::Threads;
+
+const NOTHING_DONE: &str =
+    "totals nodes=0 open=0 accepted=0 held=0 waiting=0 taken=0\nclosed 0 faults 0\n";
+
+// A subscriber of a RefCount hub that is not connected yet.
+const NOT_CONNECTED: &str = "[[\"hub\",\"auto\"],[\"open\",\"root\",\"sub\",0]]";
+
+// Two subscriptions with a resource each, of which the second is closed.
+const HALF_CLOSED: &str =
+    "[[\"open\",\"root\",\"pass\"],[\"accept\",0,7],[\"open\",\"root\",\"leaf\"],[\"accept\",2,8],[\"close\",2]]\n";
+
+const HALF_CLOSED_VERDICT: &str = "lawful\nlive: 0\nheld: 1\nwaiting: 3\n";
+
+// A FlatMap below a hub's connection, with an item projected to it, an inner that pays for that and whose
+// item the hub's subscriber is told, a resource that is held and one that waits; and a root that was
+// opened and closed.
+const A_SHARED_LIFE: &str =
+    "[[\"hub\",\"auto\"],[\"open\",\"root\",\"sub\",0],[\"connect\",0],[\"open\",\"source\",2,\"flat\"],\
+    [\"open\",\"source\",3,\"leaf\"],[\"accept\",2,9],[\"accept\",4,8],[\"item\",4,1],\
+    [\"open\",\"inner\",3,\"leaf\"],[\"item\",8,2],[\"use\",5],[\"remove\",6],[\"open\",\"root\",\"leaf\"],\
+    [\"close\",12]]";
+
+const A_SHARED_LIFE_LEFT: &str = "lawful\nlive: 1 2 3 4 8\nheld: 5\nwaiting: 6\n";
+
+// Does what the words order, with the program's stock.
+fn serve_into<T: Threads + Wait + Sync, R: Read, W: Write, E: Write>(
+    rt: &T,
+    alloc: Global,
+    words: &[&str],
+    reader: &mut R,
+    output: &mut W,
+    errors: &mut E,
+) -> Result<u8, AllocError> {
+    let stock = stock(alloc)?;
+    Ok(serve(
+        rt,
+        alloc,
+        words,
+        stock,
+        &mut Watched::new(reader),
+        &mut Watched::new(output),
+        &mut Watched::new(errors),
+    ))
+}
+
+// How the streams of a call fail.
+#[derive(Clone, Copy)]
+enum Flaw {
+    // Not at all.
+    None,
+    // The input, at the second read.
+    Torn,
+    // The output, behind ten bytes.
+    Full,
+    // The output takes no byte behind ten.
+    Stuck,
+    // The errors, behind three bytes.
+    Deaf,
+}
+
+// Words, an input, and what the call leaves: its status, its output and its errors.
+type Row = (
+    &'static [&'static str],
+    &'static str,
+    u8,
+    &'static str,
+    &'static str,
+);
+
+// More than a stream gives or takes.
+const MUCH: usize = usize::MAX;
+
+// Makes a call over memory, with this flaw. It reads all, or nothing where the words are refused or need no input.
+fn assert_row<T: Threads + Wait + Sync + Abort>(
+    rt: &T,
+    alloc: Global,
+    flaw: Flaw,
+    row: &Row,
+) -> Result<(), Fail> {
+    let (words, input, status, output, errors) = *row;
+    let (fails_at, room, deaf_after, is_stuck) = match flaw {
+        Flaw::None => (u64::MAX, MUCH, MUCH, false),
+        Flaw::Torn => (1, MUCH, MUCH, false),
+        Flaw::Full => (u64::MAX, 10, MUCH, false),
+        Flaw::Stuck => (u64::MAX, 10, MUCH, true),
+        Flaw::Deaf => (u64::MAX, MUCH, 3, false),
+    };
+    let mut reader = Source::new(input.as_bytes(), MUCH, fails_at);
+    let mut told = Narrow::new(alloc, MUCH, room, is_stuck);
+    let mut faults = Narrow::new(alloc, MUCH, deaf_after, false);
+    let found = serve_into(rt, alloc, words, &mut reader, &mut told, &mut faults)?;
+    let is_unread = status == 2 || input == UNREAD;
+    let unread = if is_unread { input.len() } else { 0 };
+    same(
+        rt,
+        (found, told.taken.as_slice(), faults.taken.as_slice()),
+        (status, output.as_bytes(), errors.as_bytes()),
+    );
+    same(rt, reader.bytes.len(), unread);
+    Ok(())
+}
+
+// Makes these calls, each with this flaw.
+fn assert_rows<T: Threads + Wait + Sync + Abort>(
+    rt: &T,
+    alloc: Global,
+    flaw: Flaw,
+    rows: &[Row],
+) -> Result<(), Fail> {
+    for row in rows {
+        assert_row(rt, alloc, flaw, row)?;
+    }
+    Ok(())
+}
+
+// What a call that reads nothing is given.
+const UNREAD: &str = "unread";
+
+const EMPTY: &str = "{\"steps\":[]}";
+
+// A subscriber of a hub, whose connection has a name, and a source that holds a resource.
+const SHARED: &str = "\
+{\"steps\":[{\"do\":\"hub\",\"name\":\"prices\",\"mode\":\"auto\"},\
+{\"do\":\"open\",\"name\":\"screen\",\"place\":\"root\",\"kind\":\"sub\",\"hub\":\"prices\",\"connection\":\"feed\"},\
+{\"do\":\"using\",\"name\":\"line\",\"place\":\"source\",\"of\":\"feed\",\"res\":\"socket\"}]}";
+
+const SHARED_WITH_NAMES: &str = "\
+{\"dump\":[[\"hub\",\"auto\"],[\"open\",\"root\",\"sub\",0],[\"connect\",0],[\"open\",\"source\",2,\"pass\"],[\"accept\",3,0]]
+,\"names\":{\"1\":\"screen\",\"2\":\"feed\",\"3\":\"line\",\"0\":\"prices\",\"4\":\"socket\"}}
+";
+
+const FAULTY: &str = "rxbook: faulty input\n";
+
+const OUTCOMES: [Row; 19] = [
+    (&["rxbook"], EMPTY, 0, NOTHING_DONE, ""),
+    (&["rxbook", "run"], EMPTY, 0, NOTHING_DONE, ""),
+    (&["rxbook", "run", "--dump"], EMPTY, 0, "[]\n", ""),
+    (
+        &["rxbook", "run", "--dump", "--names"],
+        SHARED,
+        0,
+        SHARED_WITH_NAMES,
+        "",
+    ),
+    (&["rxbook"], "{\"steps\":[", 3, "", FAULTY),
+    (&["rxbook"], "[]", 3, "", FAULTY),
+    (
+        &["rxbook", "audit"],
+        HALF_CLOSED,
+        0,
+        HALF_CLOSED_VERDICT,
+        "",
+    ),
+    (
+        &["rxbook", "audit"],
+        "[[\"take\",0]]",
+        5,
+        "unlawful 0\n",
+        "",
+    ),
+    (&["rxbook", "audit"], NOT_CONNECTED, 5, "unsettled\n", ""),
+    (&["rxbook", "audit"], "[[", 3, "", FAULTY),
+    (&["rxbook", "audit"], EMPTY, 3, "", FAULTY),
+    (
+        &["rxbook", "bad"],
+        EMPTY,
+        2,
+        "",
+        "error: unrecognized subcommand 'bad'\n\nUsage: rxbook [COMMAND] < FILE\n\nFor more information, try '--help'.\n",
+    ),
+    (
+        &["rxbook", "audit", "--dump"],
+        EMPTY,
+        2,
+        "",
+        "error: unexpected argument '--dump' found\n\nUsage: rxbook audit < FILE\n\nFor more information, try '--help'.\n",
+    ),
+    (
+        &["rxbook", "audit", "x"],
+        "[]",
+        2,
+        "",
+        "error: unexpected argument 'x' found\n\nUsage: rxbook audit < FILE\n\nFor more information, try '--help'.\n",
+    ),
+    (
+        &["rxbook", "audit", "--run"],
+        "[]",
+        2,
+        "",
+        "error: unexpected argument '--run' found\n\nUsage: rxbook audit < FILE\n\nFor more information, try '--help'.\n",
+    ),
+    (
+        &["rxbook", "retry.json"],
+        EMPTY,
+        2,
+        "",
+        "error: unrecognized subcommand 'retry.json'\n\nUsage: rxbook [COMMAND] < FILE\n\nFor more information, try '--help'.\n",
+    ),
+    (
+        &["rxbook", "run", "first-run.json"],
+        EMPTY,
+        2,
+        "",
+        "error: unexpected argument 'first-run.json' found\n\nUsage: rxbook run [OPTIONS] < FILE\n\nFor more information, try '--help'.\n",
+    ),
+    (
+        &["rxbook", "storm", "--sources", "65"],
+        EMPTY,
+        2,
+        "",
+        "error: invalid value '65' for '--sources <N>': 65 is not in 1..=64\n\nFor more information, try '--help'.\n",
+    ),
+    (
+        &["rxbook", "storm", "--workers", "x"],
+        EMPTY,
+        2,
+        "",
+        "error: invalid value 'x' for '--workers <N>': invalid digit found in string\n\nFor more information, try '--help'.\n",
+    ),
+];
+
+#[test]
+fn each_outcome_has_its_status_and_line(rt: HostRuntime) -> Result<(), Fail> {
+    assert_rows(&rt, rt.alloc(), Flaw::None, &OUTCOMES)
+}
+
+#[test]
+fn options_of_a_storm_may_stand_in_any_form(rt: HostRuntime) -> Result<(), Fail> {
+    let words = ["rxbook", "storm", "--items", "0", "--sources=64"];
+    match order(rt.alloc(), &words) {
+        Ok(found) => same(
+            &rt,
+            found,
+            Order::Storm {
+                sources: 64,
+                workers: 3,
+                items: 0,
+            },
+        ),
+        Err(_) => return Err(Fail::from("the words are refused")),
+    }
+    Ok(())
+}
+
+const STORMS: [Row; 3] = [
+    (
+        &["rxbook", "storm"],
+        UNREAD,
+        0,
+        "accepted 4\ntaken 4\nreleased 4\nfaults 1\nheld 0\nwaiting 0\nnotes 404\nevents 424\n",
+        "",
+    ),
+    (
+        &[
+            "rxbook",
+            "storm",
+            "--sources",
+            "64",
+            "--workers",
+            "16",
+            "--items",
+            "0",
+        ],
+        UNREAD,
+        0,
+        "accepted 64\ntaken 64\nreleased 64\nfaults 8\nheld 0\nwaiting 0\nnotes 64\nevents 384\n",
+        "",
+    ),
+    (
+        &[
+            "rxbook",
+            "storm",
+            "--sources",
+            "1",
+            "--workers",
+            "1",
+            "--items",
+            "10000",
+        ],
+        UNREAD,
+        0,
+        "accepted 1\ntaken 1\nreleased 1\nfaults 0\nheld 0\nwaiting 0\nnotes 10001\nevents 10006\n",
+        "",
+    ),
+];
+
+#[test]
+fn a_storm_tells_its_figures(rt: HostRuntime) -> Result<(), Fail> {
+    assert_rows(&rt, rt.alloc(), Flaw::None, &STORMS)
+}
+
+const HELP: &str = "\
+Runs scenarios of subscriptions and reports what they did
+
+Usage: rxbook [COMMAND] < FILE
+
+Commands:
+  run    Run the scenario on standard input (the default)
+  audit  Judge the dump on standard input
+  storm  Run many threads at one book, and compare what they counted with it
+  help   Print this message or the help of the given subcommand(s)
+
+Options:
+  -h, --help     Print help
+  -V, --version  Print version
+
+Input is standard input, at most 16777216 bytes; a storm reads nothing. No file is opened: hand it in, as in
+  rxbook < first-run.json
+  rxbook run --dump < first-run.json
+  rxbook audit < dispose-twice.dump
+
+The exit status is
+  0  success: for an audit, the history is lawful and settled
+  1  reading or writing failed, or a thread could not be started
+  2  bad command line
+  3  invalid input
+  4  out of memory
+  5  the history is unlawful or unsettled, or the threads of a storm disagree with the book
+
+Another program says what is wrong with an input that ends with 3 or 5:
+  rxexplain < FILE
+
+docs/reference has scenarios, reports, histories, verdicts and statuses in full.
+";
+
+const RUN_HELP: &str = "\
+Run the scenario on standard input (the default)
+
+Usage: rxbook run [OPTIONS] < FILE
+
+Options:
+      --dump   Write the dump of what happened, in place of the report
+      --names  Write that dump with the names of its nodes, hubs and resources, for a picture
+  -h, --help   Print help
+
+A scenario is one JSON object, with its steps, of at most 16777216 bytes; as in
+  rxbook run < first-run.json
+  rxbook run --names < first-run.json | rxpicture > first-run.svg
+
+The exit status is 0 on success, 1 if reading or writing failed, 3 if the input is not a scenario
+(rxexplain says why), 4 if out of memory. docs/reference/scenario.md and report.md have it in full.
+";
+
+const AUDIT_HELP: &str = "\
+Judge the dump on standard input
+
+Usage: rxbook audit < FILE
+
+Options:
+  -h, --help  Print help
+
+A dump is one JSON array of events, oldest first, of at most 16777216 bytes; as in
+  rxbook audit < dispose-twice.dump
+
+The exit status is 0 if the history is lawful and settled, otherwise 5; 1 if reading or writing failed,
+3 if the input is not a dump (rxexplain says why), 4 if out of memory. docs/reference/history.md and
+verdict.md have it in full.
+";
+
+const STORM_HELP: &str = "\
+Run many threads at one book, and compare what they counted with it
+
+Usage: rxbook storm [OPTIONS]
+
+Options:
+      --sources <N>  How many threads subscribe and emit, 1 to 64 [default: 4]
+      --workers <N>  How many threads release, 1 to 16 [default: 3]
+      --items <N>    How many items each source emits, up to 10000 [default: 100]
+  -h, --help         Print help
+
+Nothing is read; as in
+  rxbook storm --items 1000
+
+The exit status is 0 if the threads counted what the book says, otherwise 5; 1 if writing failed or a
+thread could not be started, 4 if out of memory. docs/reference/command-line.md explains the figures.
+";
+
+const HELPS: [Row; 8] = [
+    (&["rxbook", "--help"], UNREAD, 0, HELP, ""),
+    (&["rxbook", "-h"], UNREAD, 0, HELP, ""),
+    (&["rxbook", "help"], UNREAD, 0, HELP, ""),
+    (&["rxbook", "run", "--help"], UNREAD, 0, RUN_HELP, ""),
+    (&["rxbook", "audit", "--help"], UNREAD, 0, AUDIT_HELP, ""),
+    (&["rxbook", "storm", "--help"], UNREAD, 0, STORM_HELP, ""),
+    (&["rxbook", "--version"], UNREAD, 0, "rxbook 0.1.0\n", ""),
+    (&["rxbook", "-V"], UNREAD, 0, "rxbook 0.1.0\n", ""),
+];
+
+#[test]
+fn help_and_version_go_to_the_output(rt: HostRuntime) -> Result<(), Fail> {
+    assert_rows(&rt, rt.alloc(), Flaw::None, &HELPS)
+}
+
+const READ_FAULTS: [Row; 2] = [
+    (&["rxbook"], "{", 1, "", "rxbook: read fault\n"),
+    (&["rxbook", "audit"], "{", 1, "", "rxbook: read fault\n"),
+];
+
+#[test]
+fn a_reader_that_fails_is_a_read_fault(rt: HostRuntime) -> Result<(), Fail> {
+    assert_rows(&rt, rt.alloc(), Flaw::Torn, &READ_FAULTS)
+}
+
+const WRITE_FAULT: &str = "rxbook: write fault\n";
+
+const FULL: [Row; 4] = [
+    (&["rxbook"], EMPTY, 1, "totals nod", WRITE_FAULT),
+    (&["rxbook", "audit"], "[]", 1, "lawful\nliv", WRITE_FAULT),
+    (&["rxbook", "storm"], UNREAD, 1, "accepted 4", WRITE_FAULT),
+    (&["rxbook", "--help"], UNREAD, 1, "Runs scena", WRITE_FAULT),
+];
+
+const STUCK: [Row; 2] = [
+    (&["rxbook"], EMPTY, 1, "totals nod", WRITE_FAULT),
+    (
+        &["rxbook", "audit"],
+        "[[\"take\",0]]",
+        1,
+        "unlawful 0",
+        WRITE_FAULT,
+    ),
+];
+
+#[test]
+fn an_output_that_fails_is_a_write_fault(rt: HostRuntime) -> Result<(), Fail> {
+    assert_rows(&rt, rt.alloc(), Flaw::Full, &FULL)?;
+    assert_rows(&rt, rt.alloc(), Flaw::Stuck, &STUCK)
+}
+
+const UNTOLD: [Row; 2] = [
+    (&["rxbook"], "{", 3, "", "rxb"),
+    (&["rxbook", "bad"], "{", 2, "", "err"),
+];
+
+#[test]
+fn errors_that_are_not_taken_leave_the_status(rt: HostRuntime) -> Result<(), Fail> {
+    assert_rows(&rt, rt.alloc(), Flaw::Deaf, &UNTOLD)
+}
+
+// What a resource answers to 12 and then to 10, how often it was used then, and what its release answers.
+fn course_of<R: Resource>(resource: R) -> ([u64; 2], u64, Result<(), u32>)
+    requires live { R.life_of resource ≡ Life.Live }
+    requires unused { R.uses_of resource ≡ 0 }
+{
+    let mut used = resource;
+    let answers = [used.apply(12), used.apply(10)];
+    let uses = used.uses();
+    (answers, uses, used.release())
+}
+
+const KINDS: [(u64, ResourceKind); 6] = [
+    (2, ResourceKind::Plain),
+    (3, ResourceKind::Faulty),
+    (5, ResourceKind::Tally),
+    (251, ResourceKind::Faulty),
+    (253, ResourceKind::Tally),
+    (255, ResourceKind::Plain),
+];
+
+#[test]
+fn the_stock_has_its_kinds_by_tag(rt: HostRuntime) -> Result<(), Fail> {
+    same(&rt, stock(rt.alloc())?.len(), 256);
+    same(&rt, course_of(Plain::new(0)), ([12, 10], 2, Ok(())));
+    same(&rt, course_of(Tally::new(5)), ([12, 6], 2, Ok(())));
+    same(&rt, course_of(Faulty::new(3)), ([12, 10], 2, Err(2)));
+    for (tag, kind) in KINDS {
+        same(&rt, ResourceKind::by_tag(tag), kind);
+    }
+    Ok(())
+}
+
+#[test]
+fn a_storm_that_disagrees_is_a_mismatch_of_status_5(rt: HostRuntime) {
+    let mut errors = Vec::new(rt.alloc());
+    let status = weathered(&mut Watched::new(&mut errors), Ok(false));
+    same(
+        &rt,
+        (status, errors.as_slice()),
+        (5, b"rxbook: mismatch\n".as_slice()),
+    );
+}
+
+#[test]
+fn a_word_that_is_no_text_is_a_usage_error(rt: HostRuntime) {
+    let mut errors = Vec::new(rt.alloc());
+    let status = refuse_bytes(&mut Watched::new(&mut errors));
+    same(
+        &rt,
+        (status, errors.as_slice()),
+        (
+            2,
+            b"error: invalid UTF-8 was detected in one or more arguments\n\nUsage: rxbook [COMMAND] < FILE\n\nFor more information, try '--help'.\n".as_slice(),
+        ),
+    );
+}
+
+// Whether the words are read; where they are not, for want of memory.
+fn is_ordered(rt: &impl Abort, alloc: Global) -> bool {
+    match order(alloc, &["rxbook", "run"]) {
+        Ok(found) => {
+            same(rt, found, Order::Run(Form::Report));
+            true
+        }
+        Err(error) => {
+            same(rt, error.kind(), ErrorKind::OutOfMemory);
+            false
+        }
+    }
+}
+
+#[test]
+fn refused_memory_is_told_from_refused_words(rt: HostRuntime) -> Result<(), Fail> {
+    let mut scarce = Scarce::new(rt.alloc())?;
+    let mut refused = 0u32;
+    for _turn in 0..100_000 {
+        if is_ordered(&rt, rt.alloc()) {
+            break;
+        }
+        refused = refused.saturating_add(1);
+        assert!(rt; scarce.give_back_one());
+    }
+    assert!(rt; refused > 0);
+    Ok(())
+}
+
+// Does what the words order: whether it is done. Where it is not, it says that memory is wanted, and writes
+// nothing.
+fn is_done<T: Threads + Wait + Sync + Abort>(
+    rt: &T,
+    alloc: Global,
+    words: &[&str],
+    text: &str,
+    output: &mut Vec<u8>,
+    errors: &mut Vec<u8>,
+) -> Result<bool, AllocError> {
+    let mut input = text.as_bytes();
+    let status = serve_into(rt, alloc, words, &mut input, output, errors)?;
+    if status == 0 {
+        return Ok(true);
+    }
+    same(rt, (status, output.len()), (4, 0));
+    same(rt, errors.as_slice(), b"rxbook: out of memory\n".as_slice());
+    errors.clear();
+    Ok(false)
+}
+
+// Does so with more and more memory. How often it was refused.
+fn refusals_of<T: Threads + Wait + Sync + Abort>(
+    rt: &T,
+    alloc: Global,
+    words: &[&str],
+    text: &str,
+    output: &mut Vec<u8>,
+    errors: &mut Vec<u8>,
+) -> Result<Option<u32>, AllocError> {
+    // The memory of the stock, and no more, is free.
+    let spare = stock(alloc)?;
+    let mut scarce = Scarce::new(alloc)?;
+    drop(spare);
+    for refused in 0..100_000 {
+        if is_done(rt, alloc, words, text, output, errors)? {
+            return Ok(Some(refused));
+        }
+        assert!(rt; scarce.give_back_one());
+    }
+    Ok(None)
+}
+
+// Does so, and in the end it writes just this.
+fn assert_silent_without_memory<T: Threads + Wait + Sync + Abort>(
+    rt: &T,
+    alloc: Global,
+    words: &[&str],
+    text: &str,
+    written: &str,
+) -> Result<(), Fail> {
+    let mut output: Vec<u8> = Vec::with_capacity(alloc, 256)?;
+    let mut errors: Vec<u8> = Vec::with_capacity(alloc, 256)?;
+    let refused = refusals_of(rt, alloc, words, text, &mut output, &mut errors)?;
+    assert!(rt; refused > Some(0) && errors.is_empty());
+    same(rt, output.as_slice(), written.as_bytes());
+    Ok(())
+}
+
+#[test]
+fn a_call_without_memory_says_so_and_writes_nothing(rt: HostRuntime) -> Result<(), Fail> {
+    let alloc = rt.alloc();
+    let audit = ["rxbook", "audit"];
+    assert_silent_without_memory(&rt, alloc, &["rxbook"], EMPTY, NOTHING_DONE)?;
+    assert_silent_without_memory(&rt, alloc, &audit, A_SHARED_LIFE, A_SHARED_LIFE_LEFT)
+}

@@ -1,0 +1,6 @@
+//! A live book, line by line.
+
+mod lasting;
+mod listed;
+mod session;
+mod want;

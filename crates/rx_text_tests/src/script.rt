@@ -1,0 +1,7 @@
+//! Runs of scenarios.
+
+mod caller;
+mod faults;
+mod sights;
+mod steps;
+mod want;
