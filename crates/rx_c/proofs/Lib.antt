@@ -2,6 +2,7 @@ pub mod OutcomeIsAnswer
 pub mod StockGrowsInOrder
 mod HeldToTheEnd
 pub mod NoOutput
+mod WhatWaits
 mod AnswersHandedOut
 pub mod Values
 pub mod OwnedMayBeSent

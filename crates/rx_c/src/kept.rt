@@ -1,89 +1,94 @@
 //! What a handle keeps.
 
+ghost use Rattle.std.specs.Prelude.{◌≡◌};
+ghost use Rattle.rx_live.specs.Live.{session};
 ghost use Rattle.rx_c.specs.Calls.{IsSent, IsRead, IsEnded};
-ghost use Rattle.rx_c.specs.Stages.{stage_of, left};
+ghost use Rattle.rx_c.specs.Stages.{stage_of, left, opened, unread_length};
 
 use crate::handing::fits;
 use crate::status::{ANSWER_WAITS, DONE, NOTHING_WAITS, OUT_OF_MEMORY, TOO_SMALL};
 use rx_live::Live;
-use std::alloc::Global;
-use std::mem;
 
-/// A live book, and what is still to be handed out.
+/// What is still to be handed out.
 #[derive(Drop)]
-pub enum Kept {
-    /// Nothing waits.
-    Open(Live),
-    /// An answer waits.
-    Waiting(Live, String),
-    /// The book was ended, and its last answer waits.
-    Ended(String),
+pub enum Unread {
+    Nothing,
+    /// An answer.
+    Answer(String),
+    /// The last answer: the book was ended.
+    Last(String),
+}
+
+impl Unread {
+    // The length of the answer that waits.
+    fn length(&self) -> Option<usize>
+        ensures { result ≡ unread_length self.now }
+    {
+        match self {
+            Unread::Nothing => None,
+            Unread::Answer(text) => Some(text.len()),
+            Unread::Last(text) => Some(text.len()),
+        }
+    }
+}
+
+/// A live book, and what of its answers waits.
+#[derive(Drop)]
+pub struct Kept {
+    live: Live,
+    unread: Unread,
 }
 
 impl Kept {
-    // What stands in the place of one that is taken apart.
-    fn nothing(alloc: Global) -> Kept {
-        Kept::Ended(String::new(alloc))
+    /// A book of which nothing waits.
+    pub fn new(live: Live) -> Kept
+        ensures { stage_of result ≡ opened (session live) }
+    {
+        Kept {
+            live,
+            unread: Unread::Nothing,
+        }
     }
 
     /// Sends a line, unless an answer waits.
-    pub fn send(&mut self, line: &[u8], buffer: &mut [u8], told: &mut usize, alloc: Global) -> u8
+    pub fn send(&mut self, line: &[u8], buffer: &mut [u8], told: &mut usize) -> u8
         ensures { IsSent (stage_of self.old) (stage_of self.new) line.now buffer.old buffer.new told.new result }
     {
         *told = 0;
-        match mem::replace(self, Kept::nothing(alloc)) {
-            Kept::Open(mut live) => match live.send(line) {
-                Ok(text) => {
-                    if fits(text.as_bytes(), buffer, told) {
-                        *self = Kept::Open(live);
-                        DONE
-                    } else {
-                        *self = Kept::Waiting(live, text);
-                        TOO_SMALL
-                    }
+        if let Some(length) = self.unread.length() {
+            *told = length;
+            return ANSWER_WAITS;
+        }
+        match self.live.send(line) {
+            Ok(text) => {
+                if fits(text.as_bytes(), buffer, told) {
+                    return DONE;
                 }
-                Err(_) => {
-                    *self = Kept::Open(live);
-                    OUT_OF_MEMORY
-                }
-            },
-            Kept::Waiting(live, answer) => {
-                *told = answer.len();
-                *self = Kept::Waiting(live, answer);
-                ANSWER_WAITS
+                self.unread = Unread::Answer(text);
+                TOO_SMALL
             }
-            Kept::Ended(last) => {
-                *told = last.len();
-                *self = Kept::Ended(last);
-                ANSWER_WAITS
-            }
+            Err(_) => OUT_OF_MEMORY,
         }
     }
 
     /// Hands out the answer that waits. Says too whether it was the last one.
-    pub fn read(&mut self, buffer: &mut [u8], told: &mut usize, alloc: Global) -> (u8, bool)
+    pub fn read(&mut self, buffer: &mut [u8], told: &mut usize) -> (u8, bool)
         ensures { IsRead (stage_of self.old) (left result.1 self.new) buffer.old buffer.new told.new result.0 }
     {
         *told = 0;
-        match mem::replace(self, Kept::nothing(alloc)) {
-            Kept::Open(live) => {
-                *self = Kept::Open(live);
-                (NOTHING_WAITS, false)
-            }
-            Kept::Waiting(live, answer) => {
-                if fits(answer.as_bytes(), buffer, told) {
-                    *self = Kept::Open(live);
-                    (DONE, false)
-                } else {
-                    *self = Kept::Waiting(live, answer);
-                    (TOO_SMALL, false)
+        match &self.unread {
+            Unread::Nothing => (NOTHING_WAITS, false),
+            Unread::Answer(text) => {
+                if !fits(text.as_bytes(), buffer, told) {
+                    return (TOO_SMALL, false);
                 }
+                self.unread = Unread::Nothing;
+                (DONE, false)
             }
-            Kept::Ended(last) => {
-                if fits(last.as_bytes(), buffer, told) {
+            Unread::Last(text) => {
+                if fits(text.as_bytes(), buffer, told) {
                     (DONE, true)
                 } else {
-                    *self = Kept::Ended(last);
                     (TOO_SMALL, false)
                 }
             }
@@ -91,35 +96,23 @@ impl Kept {
     }
 
     /// Ends the book, unless an answer waits. Says too whether the last answer was handed out.
-    pub fn end(&mut self, buffer: &mut [u8], told: &mut usize, alloc: Global) -> (u8, bool)
+    pub fn end(&mut self, buffer: &mut [u8], told: &mut usize) -> (u8, bool)
         ensures { IsEnded (stage_of self.old) (left result.1 self.new) buffer.old buffer.new told.new result.0 }
     {
         *told = 0;
-        match mem::replace(self, Kept::nothing(alloc)) {
-            Kept::Open(mut live) => match live.end() {
-                Ok(last) => {
-                    if fits(last.as_bytes(), buffer, told) {
-                        (DONE, true)
-                    } else {
-                        *self = Kept::Ended(last);
-                        (TOO_SMALL, false)
-                    }
+        if let Some(length) = self.unread.length() {
+            *told = length;
+            return (ANSWER_WAITS, false);
+        }
+        match self.live.end() {
+            Ok(last) => {
+                if fits(last.as_bytes(), buffer, told) {
+                    return (DONE, true);
                 }
-                Err(_) => {
-                    *self = Kept::Open(live);
-                    (OUT_OF_MEMORY, false)
-                }
-            },
-            Kept::Waiting(live, unread) => {
-                *told = unread.len();
-                *self = Kept::Waiting(live, unread);
-                (ANSWER_WAITS, false)
+                self.unread = Unread::Last(last);
+                (TOO_SMALL, false)
             }
-            Kept::Ended(last) => {
-                *told = last.len();
-                *self = Kept::Ended(last);
-                (ANSWER_WAITS, false)
-            }
+            Err(_) => (OUT_OF_MEMORY, false),
         }
     }
 }

@@ -24,7 +24,7 @@ pub extern "C" fn rx_live_new(alloc: Global, handle: &mut Handle, max_events: u3
         return HELD;
     }
     let live = Live::new(alloc, max_events.into());
-    match Box::new(alloc, Kept::Open(live)) {
+    match Box::new(alloc, Kept::new(live)) {
         Ok(kept) => {
             handle.put(kept, alloc);
             DONE
@@ -53,7 +53,7 @@ pub extern "C" fn rx_live_send(
     let Some(mut kept) = handle.take(alloc) else {
         return NOTHING_KEPT;
     };
-    let status = kept.send(line, buffer, told, alloc);
+    let status = kept.send(line, buffer, told);
     handle.put(kept, alloc);
     status
 }
@@ -76,7 +76,7 @@ pub extern "C" fn rx_live_read(
     let Some(mut kept) = handle.take(alloc) else {
         return NOTHING_KEPT;
     };
-    let (status, is_over) = kept.read(buffer, told, alloc);
+    let (status, is_over) = kept.read(buffer, told);
     if !is_over {
         handle.put(kept, alloc);
     }
@@ -101,7 +101,7 @@ pub extern "C" fn rx_live_end(
     let Some(mut kept) = handle.take(alloc) else {
         return NOTHING_KEPT;
     };
-    let (status, is_over) = kept.end(buffer, told, alloc);
+    let (status, is_over) = kept.end(buffer, told);
     if !is_over {
         handle.put(kept, alloc);
     }

@@ -1,39 +1,35 @@
-use Rattle.std.proofs.Common.{refl, sym, ap, ◌∙◌}
+use Rattle.std.proofs.Common.{refl, sym, ap}
 use Rattle.std.specs.String.{string_bytes}
+use Rattle.rx_live.specs.Session.{Session}
+use Rattle.rx_live.specs.Live.{session}
 use Rattle.rx_c.specs.Answers.{IsGiven, IsTooLong}
 use Rattle.rx_c.specs.Calls.{ends, ends_on, has_mail, is_starved}
-use Rattle.rx_c.specs.Stages.{stage_of, opened, answer_waits, last_waits, Waits}
+use Rattle.rx_c.specs.Stages.{stage_by}
+use Rattle.rx_c.proofs.WhatWaits.{has_unread, none_unread}
 use Rattle.rx_c.proofs.kept.Kept.end.Goals as goal
+
+pub returns-in-Some : goal.returns-in-Some
+returns-in-Some c =
+    let it = has_unread (session c.args.self.now.live) c.args.self.now.unread c.in-Some.length (sym c.in-Some.ensures)
+    in has_mail it.waits refl refl (record { kept = refl; count = it.is })
 
 pub returns-then-fits : goal.returns-then-fits
 returns-then-fits c =
     let text = string_bytes c.in-Ok.last in
     let given : IsGiven text c.args.buffer.now c.fits.new.buffer c.fits.new.told =
     rw (← c.as_bytes.ensures.value) (c.fits.ensures.given c.if-fits.true)
-    in ends (ap stage_of (sym c.in-Open.ensures.value)) c.in-Ok.ensures.ok refl refl given
+    in ends (none_unread (session c.args.self.now.live) c.args.self.now.unread (sym c.in_default.ensures))
+    c.in-Ok.ensures.ok refl refl given
 
-pub returns-in-Ok : goal.returns-in-Ok
-returns-in-Ok c =
+pub returns-else-fits : goal.returns-else-fits
+returns-else-fits c =
     let text = string_bytes c.in-Ok.last in
     let long : IsTooLong text c.args.buffer.now c.fits.new.buffer c.fits.new.told =
     rw (← c.as_bytes.ensures.value) (c.fits.ensures.too_long c.if-fits.false)
-    in ends_on (ap stage_of (sym c.in-Open.ensures.value)) c.in-Ok.ensures.ok refl refl long
+    in ends_on (none_unread (session c.args.self.now.live) c.args.self.now.unread (sym c.in_default.ensures))
+    c.in-Ok.ensures.ok refl refl long
 
-pub returns-in-Open : goal.returns-in-Open
-returns-in-Open c =
-    is_starved (ap stage_of (sym c.in-Open.ensures.value))
-    (ap opened c.in-Err.ensures.err ∙ ap stage_of c.in-Open.ensures.value) refl (record { kept = refl; count = refl })
-
-pub returns-in-Waiting : goal.returns-in-Waiting
-returns-in-Waiting c =
-    let text = string_bytes c.in-Waiting.unread in
-    let waits : Waits text (stage_of c.args.self.now) = rw (← c.in-Waiting.ensures.value) (answer_waits _)
-    in has_mail waits (ap stage_of c.in-Waiting.ensures.value) refl
-    (record { kept = refl; count = c.len.ensures ∙ c.in-Waiting.unread.bytes.ok.0 })
-
-pub returns : goal.returns
-returns c =
-    let text = string_bytes c.in-Ended.last in
-    let waits : Waits text (stage_of c.args.self.now) = rw (← c.in-Ended.ensures.value) last_waits
-    in has_mail waits (ap stage_of c.in-Ended.ensures.value) refl
-    (record { kept = refl; count = c.len-in-Ended.ensures ∙ c.in-Ended.last.bytes.ok.0 })
+pub returns-in-Err : goal.returns-in-Err
+returns-in-Err c =
+    is_starved (none_unread (session c.args.self.now.live) c.args.self.now.unread (sym c.in_default.ensures))
+    (ap (λ (s : Session). stage_by s c.args.self.now.unread) c.in-Err.ensures.err) refl (record { kept = refl; count = refl })
