@@ -30,30 +30,41 @@ fn tells(book: &mut Probe<Sample>, number: u32) -> bool {
     book.take_mail() == Some(note)
 }
 
-#[test]
-fn many_items_are_emitted_and_read_and_leave_room_for_the_end(rt: HostRuntime) -> Result<(), Fail> {
-    let mut book = Probe::new(rt.alloc(), ITEMS + 4);
+// Emits all items, then one too many and the end. What both are answered; None where an item is not read.
+fn emitted(book: &mut Probe<Sample>) -> Result<Option<[Result<u64, Refusal>; 2]>, Fail> {
     let root = book.open(At::Root, Kind::Pass)?.key;
     let leaf = book.open(At::Source(root), Kind::Leaf)?.key;
     for number in 0..ITEMS {
-        assert!(rt; emits(&mut book, leaf, number), "item {number}");
+        if !emits(book, leaf, number) {
+            return Ok(None);
+        }
     }
-    let end = u64::from(ITEMS + 2);
-    let answers = [book.next(leaf, 0), book.end(leaf, Terminal::Completed)];
-    same(&rt, answers, [Err(Refusal::Full), Ok(end)]);
+    let more = book.next(leaf, 0);
+    Ok(Some([more, book.end(leaf, Terminal::Completed)]))
+}
+
+// Hands out the notes of all items. What is handed out behind them; None where one is another.
+fn told(book: &mut Probe<Sample>) -> Option<[Option<Mail>; 2]> {
     for number in 0..ITEMS {
-        assert!(rt; tells(&mut book, number), "note {number}");
+        if !tells(book, number) {
+            return None;
+        }
     }
+    Some([book.take_mail(), book.take_mail()])
+}
+
+#[test]
+fn many_items_are_emitted_and_read_and_leave_room_for_the_end(rt: HostRuntime) -> Result<(), Fail> {
+    let end = u64::from(ITEMS + 2);
+    let mut book = Probe::new(rt.alloc(), ITEMS + 4);
+    let answers = emitted(&mut book)?;
+    same(&rt, answers, Some([Err(Refusal::Full), Ok(end)]));
     let last = Mail {
         place: end + 1,
         to: 0,
         note: Note::End(Terminal::Completed),
     };
-    same(
-        &rt,
-        [book.take_mail(), book.take_mail()],
-        [Some(last), None],
-    );
+    same(&rt, told(&mut book), Some([Some(last), None]));
     Ok(())
 }
 

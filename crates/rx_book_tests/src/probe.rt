@@ -59,6 +59,14 @@ impl<R: Resource> Probe<R> {
         self.book.open(at, kind)
     }
 
+    // Subscribes to a hub to which nobody else does, and answers the key of its connection.
+    pub(super) fn subscribe_first(&mut self, at: At, hub: u64) -> Result<Key, Refusal> {
+        match self.book.open(at, Kind::Sub(hub)) {
+            Ok(opened) => opened.connected.ok_or(Refusal::NotConnected),
+            Err(why) => Err(why),
+        }
+    }
+
     pub(super) fn open_using(&mut self, at: At, resource: R) -> Result<OpenedUsing, Back> {
         match self.book.open_using(at, resource) {
             Ok(opened) => Ok(opened),

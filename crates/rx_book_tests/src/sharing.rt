@@ -7,12 +7,6 @@ use rx_event::{Kind, Mode, Refusal};
 use rx_resource::Sample;
 use std::test::Fail;
 
-// The key of the connection that comes with a subscriber.
-fn connecting(book: &mut Probe<Sample>, at: At, hub: u64) -> Result<Key, Fail> {
-    let opened = book.open(at, Kind::Sub(hub))?;
-    Ok(opened.connected.ok_or(Refusal::NotConnected)?)
-}
-
 // Below a connection two subscribers of the hub before it, as inners of one FlatMap: what comes to that hub
 // goes on from both. The key of its connection.
 fn doubled(book: &mut Probe<Sample>, connection: Key, hub: u64) -> Result<Key, Fail> {
@@ -20,7 +14,7 @@ fn doubled(book: &mut Probe<Sample>, connection: Key, hub: u64) -> Result<Key, F
     let source = book.open(At::Source(flat), Kind::Leaf)?.key;
     book.next(source, 1)?;
     book.next(source, 2)?;
-    let next = connecting(book, At::Inner(flat), hub)?;
+    let next = book.subscribe_first(At::Inner(flat), hub)?;
     book.open(At::Inner(flat), Kind::Sub(hub))?;
     Ok(next)
 }
@@ -32,7 +26,7 @@ fn chained(book: &mut Probe<Sample>, hubs: u64) -> Result<Key, Fail> {
         book.hub(Mode::Auto)?;
     }
     let last = hubs.wrapping_sub(1);
-    let mut connection = connecting(book, At::Root, last)?;
+    let mut connection = book.subscribe_first(At::Root, last)?;
     for below in 1..hubs {
         connection = doubled(book, connection, last.wrapping_sub(below))?;
     }

@@ -46,49 +46,63 @@ fn opened_twice(book: &mut Probe<Sample>) -> Result<(OpenedUsing, OpenedUsing), 
     Ok((old, new))
 }
 
+// No call finds anything by these keys, and none of them changes a count.
+fn find_nothing(book: &mut Probe<Sample>, node: Key, res: ResKey) -> bool {
+    let before = book.totals();
+    finds_no_node(book, node)
+        && finds_no_place(book, node)
+        && finds_no_resource(book, res)
+        && book.totals() == before
+}
+
 #[test]
 fn an_old_key_is_nobodys_once_its_slot_is_used_again(rt: HostRuntime) -> Result<(), Fail> {
     let mut book = Probe::new(rt.alloc(), 1000);
     let (old, new) = opened_twice(&mut book)?;
     same(
         &rt,
-        (new.key.slot, new.res.slot),
-        (old.key.slot, old.res.slot),
+        [new.key.slot, new.res.slot, new.key.number, new.res.number],
+        [old.key.slot, old.res.slot, 4, 5],
     );
-    same(&rt, (new.key.number, new.res.number), (4, 5));
-    let before = book.totals();
-    assert!(rt; finds_no_node(&mut book, old.key));
-    assert!(rt; finds_no_place(&mut book, old.key));
-    assert!(rt; finds_no_resource(&mut book, old.res));
-    same(&rt, book.totals(), before);
-    assert!(rt; book.is_open(new.key) && book.is_held(new.res));
-    same(
-        &rt,
-        [book.apply(new.res, 6), book.dispose(new.key)],
-        [Ok(6), Ok(7)],
-    );
+    assert!(rt; find_nothing(&mut book, old.key, old.res));
+    let answers = [book.apply(new.res, 6), book.dispose(new.key)];
+    same(&rt, answers, [Ok(6), Ok(7)]);
     Ok(())
 }
 
-// Keys like this one, of which none is its own: of another slot, of another number, of the last of both.
-fn made_up(slot: u64, number: u64) -> [(u64, u64); 3] {
-    [
-        (slot.wrapping_add(1), number),
-        (slot, number.wrapping_add(1)),
-        (u64::MAX, u64::MAX),
-    ]
+// Keys like these, of which none is its own: of another slot, of another number, of the last of both.
+fn made_up(key: Key, res: ResKey) -> [(Key, ResKey); 3] {
+    let other_slots = (
+        Key {
+            slot: key.slot.wrapping_add(1),
+            ..key
+        },
+        ResKey {
+            slot: res.slot.wrapping_add(1),
+            ..res
+        },
+    );
+    let other_numbers = (
+        Key {
+            number: key.number.wrapping_add(1),
+            ..key
+        },
+        ResKey {
+            number: res.number.wrapping_add(1),
+            ..res
+        },
+    );
+    let (slot, number) = (u64::MAX, u64::MAX);
+    let last = (Key { slot, number }, ResKey { slot, number });
+    [other_slots, other_numbers, last]
 }
 
 #[test]
 fn a_key_that_was_made_up_finds_nothing(rt: HostRuntime) -> Result<(), Fail> {
     let mut book = Probe::new(rt.alloc(), 1000);
     let OpenedUsing { key, res } = book.open_using(At::Root, Sample::new(1))?;
-    for (slot, number) in made_up(key.slot, key.number) {
-        let other = Key { slot, number };
-        assert!(rt; finds_no_node(&mut book, other) && finds_no_place(&mut book, other));
-    }
-    for (slot, number) in made_up(res.slot, res.number) {
-        assert!(rt; finds_no_resource(&mut book, ResKey { slot, number }));
+    for (node, other) in made_up(key, res) {
+        assert!(rt; find_nothing(&mut book, node, other));
     }
     assert!(rt; book.is_open(key) && book.is_held(res));
     Ok(())

@@ -54,7 +54,7 @@ fn has_memory(alloc: Global) -> bool {
 }
 
 // Whether the call is done with no memory left before it. What it gives back is taken before the next.
-fn is_done_with_none(alloc: Global, book: &mut Probe<Sample>, closing: Closing) -> bool {
+pub(super) fn is_done_with_none(alloc: Global, book: &mut Probe<Sample>, closing: Closing) -> bool {
     let Ok(_scarce) = Scarce::new(alloc) else {
         return false;
     };
