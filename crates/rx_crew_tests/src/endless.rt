@@ -108,21 +108,24 @@ fn keep_all<I: Ledger, A: Ledger, K: Ledger>(
 fn open_leaf<I: Ledger, A: Ledger, K: Ledger>(
     floor: &mut Floor<Sample, I, A, K>,
     seat: &mut Seat<I, A, K>,
-) -> Result<Key, Refusal> {
+) -> Option<Key> {
     match floor.open_using(seat, At::Root, Sample::new(7)) {
-        Ok(opened) => Ok(floor.open(At::Source(opened.key), Kind::Leaf)?.key),
-        Err(refused) => Err(refused.why),
+        Ok(opened) => match floor.open(At::Source(opened.key), Kind::Leaf) {
+            Ok(leaf) => Some(leaf.key),
+            Err(_) => None,
+        },
+        Err(_) => None,
     }
 }
 
-// Feeds a leaf of its own, a round each time no checkpoint is due, and completes it.
+// Feeds a leaf of its own, a round each time no checkpoint is due, and completes it. None where a call is refused.
 fn feed_rounds<I: Ledger, A: Ledger, K: Ledger>(
     rt: &impl Wait,
     alloc: Global,
     desk: &Desk<Sample, I, A, K>,
     mut seat: Seat<I, A, K>,
     begin: &AtomicU64,
-) -> Result<Seat<I, A, K>, Refusal> {
+) -> Option<Seat<I, A, K>> {
     let leaf = open_leaf(&mut desk.floor.lock(rt), &mut seat)?;
     for _ in 0..ROUNDS {
         let floor = desk.floor.lock(rt);
@@ -134,17 +137,17 @@ fn feed_rounds<I: Ledger, A: Ledger, K: Ledger>(
         let fed = feed(rt, alloc, desk, seat, leaf, &mut source, u64::from(ITEMS));
         desk.bell.notify_all();
         seat = fed.seat;
-        if let Stop::Refused(why) = fed.stop {
-            return Err(why);
+        if let Stop::Refused(_) = fed.stop {
+            return None;
         }
     }
-    desk.floor.lock(rt).end(leaf, Terminal::Completed)?;
+    let ended = desk.floor.lock(rt).end(leaf, Terminal::Completed);
     desk.bell.notify_all();
-    Ok(seat)
+    if ended.is_ok() { Some(seat) } else { None }
 }
 
 // What comes of each feed.
-type Fed<I, A, K> = Vec<Result<Seat<I, A, K>, Refusal>>;
+type Fed<I, A, K> = Vec<Option<Seat<I, A, K>>>;
 
 // Has a thread feed for each of these seats, and shuts the desk then.
 fn feed_all<
@@ -193,7 +196,7 @@ pub(super) fn storm<
     tell(told, (kept.refused, kept.notes));
     tell(told, (300 < kept.checkpoints, kept.most < 3_100));
     for seat in fed.ok()? {
-        first.merge(seat.ok()?);
+        first.merge(seat?);
     }
     Some(first)
 }
