@@ -5,7 +5,7 @@ use Rattle.std.proofs.lemmas.Bool.{and_parts, false≢true}
 use Rattle.json.specs.Token.{Token}
 use Rattle.json.specs.Lex.{tokens}
 use Rattle.json.specs.Json as text
-use Rattle.serde_json.specs.Data.{Num, number, array, object, item, Items, Members, no_members, put}
+use Rattle.serde_json.specs.Data.{Num, number, array, object, item, Members, no_members, put}
 use Rattle.serde_json.specs.Read.{number_of, of_json, of_items, of_members, read}
 use Rattle.rx_device.specs.Part.{number_or_null, data_of, items_data, members_data, has_values, items_have_values, members_have_values}
 

@@ -1,5 +1,5 @@
 -- A value that is read in place, and the value of serde_json that it stands for.
-use Rattle.std.proofs.Common.{◌≡◌, ℕ, List, Option, Some, None, Bool, true, false, cond, option_map, option_and_then, refl, ap, sym, ◌∙◌}
+use Rattle.std.proofs.Common.{◌≡◌, ℕ, ◌+◌, ◌<◌, List, [], ◌∷◌, ◌++◌, length, take, get_or, Option, Some, None, Bool, true, false, cond, option_map, option_and_then, refl, ap, sym, ◌∙◌}
 use Rattle.std.specs.Str.{bytes_eq}
 use Rattle.std.specs.Ordering.{is_eq, nat_cmp, match_ordering}
 use Rattle.std.specs.Cmp.Lexicographic.{slice_cmp, nat_list_eq_equiv}
@@ -10,12 +10,13 @@ use Rattle.std.proofs.lemmas.Map.Lookups.{exact_bytes}
 use Rattle.std.proofs.lemmas.Slice.Eq.{bytes_eq-Decides}
 use Rattle.std.proofs.lemmas.Bool.{false≢true}
 use Rattle.std.specs.Borrow.{Bor}
+use Rattle.std.proofs.lemmas.List.{take_more}
 use Rattle.std.specs.declared.alloc.Global.{Global}
 use Rattle.json.specs.Json as text
-use Rattle.json.specs.Value.{value_view}
+use Rattle.json.specs.Value.{value_view, members_view}
 use Rattle.json.specs.declared.value.Value.{Value}
 use Rattle.json.specs.Find as find
-use Rattle.serde_json.specs.Data.{Num, Data, Members, no_members, member, put}
+use Rattle.serde_json.specs.Data.{Num, Data, null, boolean, number, string, array, object, Members, no_members, member, put}
 use Rattle.serde_json.specs.Find.{get, get_member, as_str, as_number, as_array, as_object}
 use Rattle.serde_json.specs.Read.{number_of}
 use Rattle.rx_device.specs.Part.{data_of, items_data, members_data, number_or_null}
@@ -96,18 +97,6 @@ last_or_none (Some d) = refl
 
 -- values ------------------------------------------------------------------------------------------
 
-get_number : (k : List ℕ) (o : Option Num) → get k (number_or_null o) ≡ None
-get_number k None = refl
-get_number k (Some n) = refl
-
-pub get_found : (k : List ℕ) (j : text.Json) → get k (data_of j) ≡ option_map data_of (find.get k j)
-get_found k text.null = refl
-get_found k (text.boolean b) = refl
-get_found k (text.number s) = get_number k (number_of s)
-get_found k (text.string s) = refl
-get_found k (text.array js) = refl
-get_found k (text.object ms) = get_data k ms no_members ∙ last_or_none (option_map data_of (find.get_member k ms))
-
 word_of_number : (o : Option Num) → as_str (number_or_null o) ≡ None
 word_of_number None = refl
 word_of_number (Some n) = refl
@@ -156,11 +145,58 @@ object_found (text.string s) = refl
 object_found (text.array js) = refl
 object_found (text.object ms) = refl
 
+-- a value with members has just those, and any other has none
+get_of_object : (k : List ℕ) (d : Data) (ms : Members) → as_object d ≡ Some ms → get k d ≡ get_member k ms
+get_of_object k null ms is = absurd (cc)
+get_of_object k (boolean b) ms is = absurd (cc)
+get_of_object k (number n) ms is = absurd (cc)
+get_of_object k (string s) ms is = absurd (cc)
+get_of_object k (array ds) ms is = absurd (cc)
+get_of_object k (object there) ms is = let same : there ≡ ms = cc in ap (get_member k) same
+
+pub get_of_other : (k : List ℕ) (d : Data) → as_object d ≡ None → None ≡ get k d
+get_of_other k null is = refl
+get_of_other k (boolean b) is = refl
+get_of_other k (number n) is = refl
+get_of_other k (string s) is = refl
+get_of_other k (array ds) is = refl
+get_of_other k (object there) is = absurd (cc)
+
 -- what was found in the text stands for what is found in the value
-pub get_part : (k : List ℕ) (j : text.Json) (r : Option (Bor (Value Global))) → option_map (λ v. value_view v.now) r ≡ find.get k j
-    → option_map (λ v. data_of (value_view v.now)) r ≡ get k (data_of j)
-get_part k j r is = mapped r ∙ ap (option_map data_of) is ∙ sym (get_found k j)
+pub get_part : (k : List ℕ) (d : Data) (ms : text.Members) (r : Option (Bor (Value Global))) → as_object d ≡ Some (members_data ms no_members)
+    → option_map (λ v. value_view v.now) r ≡ find.get_member k ms → option_map (λ v. data_of (value_view v.now)) r ≡ get k d
+get_part k d ms r there is =
+    mapped r ∙ ap (option_map data_of) is ∙ sym (get_data k ms no_members ∙ last_or_none (option_map data_of (find.get_member k ms)))
+    ∙ sym (get_of_object k d (members_data ms no_members) there)
   where
     mapped : (r : Option (Bor (Value Global))) → option_map (λ v. data_of (value_view v.now)) r ≡ option_map data_of (option_map (λ v. value_view v.now) r)
     mapped None = refl
     mapped (Some v) = refl
+
+-- the last member of a name --------------------------------------------------------------------------
+
+later : (b : Bool) (j : text.Json) (earlier : Option text.Json) (o : Bool) (i : text.Json)
+    → find.later_or (cond b (Some j) earlier) (cond o (Some i) None) ≡ cond b (Some j) (find.later_or earlier (cond o (Some i) None))
+later true j earlier o i = refl
+later false j earlier o i = refl
+
+find_push : (k : List ℕ) (ms : List (Bor (List ℕ) × Value Global)) (m : Bor (List ℕ) × Value Global)
+    → find.get_member k (members_view (ms ++ m ∷ [])) ≡ cond (bytes_eq m.0.now k) (Some (value_view m.1)) (find.get_member k (members_view ms))
+find_push k [] m = refl
+find_push k (n ∷ ms) m =
+    ap (λ o. find.later_or o (cond (bytes_eq n.0.now k) (Some (value_view n.1)) None)) (find_push k ms m)
+    ∙ later (bytes_eq m.0.now k) (value_view m.1) (find.get_member k (members_view ms)) (bytes_eq n.0.now k) (value_view n.1)
+
+module _ (k : List ℕ) (ms : List (Bor (List ℕ) × Value Global)) (i left : ℕ) (m : Bor (List ℕ) × Value Global)
+    (within : i < length ms) (next : left ≡ i + 1) (is : m ≡ get_or ms i m) where
+  front : take left ms ≡ take i ms ++ m ∷ []
+  front = ap (λ n. take n ms) next ∙ take_more ms i m within ∙ ap (λ x. take i ms ++ x ∷ []) (sym is)
+
+  one_more_member : find.get_member k (members_view (take left ms)) ≡ cond (bytes_eq m.0.now k) (Some (value_view m.1)) (find.get_member k (members_view (take i ms)))
+  one_more_member = ap (λ ns. find.get_member k (members_view ns)) front ∙ find_push k (take i ms) m
+
+  pub found_last : bytes_eq m.0.now k ≡ true → find.get_member k (members_view (take left ms)) ≡ Some (value_view m.1)
+  found_last same = one_more_member ∙ ap (λ b. cond b (Some (value_view m.1)) (find.get_member k (members_view (take i ms)))) same
+
+  pub found_before : bytes_eq m.0.now k ≡ false → find.get_member k (members_view (take left ms)) ≡ find.get_member k (members_view (take i ms))
+  found_before other = one_more_member ∙ ap (λ b. cond b (Some (value_view m.1)) (find.get_member k (members_view (take i ms)))) other

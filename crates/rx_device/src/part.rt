@@ -1,7 +1,9 @@
 //! A JSON value that is read in place: its names, words and numbers stand in its text.
 
 ghost use Rattle.std.specs.Prelude.{◌≡◌, ◌==◌, true, drop, slice_index, option_map, option_and_then};
+ghost use Rattle.std.specs.Str.{bytes_eq};
 ghost use Rattle.json.specs.Value.{value_view, items_view, members_view};
+ghost use Rattle.json.specs.Find.{get_member};
 ghost use Rattle.serde_json.specs.Data.{no_members};
 ghost use Rattle.fast_float.specs.Text.{scan, minus};
 ghost use Rattle.serde_json.specs.Read.{number_of, number_from};
@@ -27,10 +29,14 @@ impl<'v, 'a> Part<'v, 'a> {
     }
 
     /// The member of this name, if this is an object that has one.
+    #[inline(always)]
     pub fn get(self, name: &str) -> Option<Part<'v, 'a>>
         ensures { option_map part_data result ≡ get name.now (part_data self.entry) }
     {
-        match self.value.get(name) {
+        let Some(members) = self.as_object() else {
+            return None;
+        };
+        match find(members, name) {
             Some(value) => Some(Part { value }),
             None => None,
         }
@@ -76,6 +82,30 @@ impl<'v, 'a> Part<'v, 'a> {
             _ => None,
         }
     }
+}
+
+// Whether a key is this name. A key of another length is told apart without a look at its bytes.
+#[inline(always)]
+fn is_key(key: &str, name: &str) -> bool
+    ensures { result ≡ bytes_eq key.now name.now }
+{
+    key.len() == name.len() && key == name
+}
+
+// The last member of this name, as `json::Value::get` gives it.
+#[inline(always)]
+fn find<'v, 'a>(members: &'v Vec<(&'a str, Value<'a>)>, name: &str) -> Option<&'v Value<'a>>
+    ensures { option_map (λ v. value_view v.now) result ≡ get_member name.now (members_view members.now.items) }
+{
+    let mut left = members.len();
+    while left > 0 {
+        left -= 1;
+        let member = &members[left];
+        if is_key(member.0, name) {
+            return Some(&member.1);
+        }
+    }
+    None
 }
 
 // Whether a number is written with a minus.

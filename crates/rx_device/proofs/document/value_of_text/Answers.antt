@@ -1,5 +1,4 @@
 use Rattle.std.proofs.Common.{sym, ◌∙◌}
-use Rattle.json.specs.Json.{value}
 use Rattle.json.specs.Value.{value_view}
 use Rattle.rx_device.proofs.Documents.{read_whole, read_other}
 use Rattle.rx_device.proofs.document.value_of_text.Goals as goal

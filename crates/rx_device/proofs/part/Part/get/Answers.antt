@@ -1,13 +1,18 @@
-use Rattle.json.specs.Value.{value_view}
-use Rattle.rx_device.proofs.Parts.{get_part}
+use Rattle.std.proofs.Common.{sym}
+use Rattle.json.specs.Value.{members_view}
+use Rattle.rx_device.specs.Part.{part_data}
+use Rattle.rx_device.proofs.Parts.{get_part, get_of_other}
 use Rattle.rx_device.proofs.part.Part.get.Goals as goal
 
-pub returns-in-Some : goal.returns-in-Some
-returns-in-Some c =
-    let found = get_part c.args.name.now (value_view c.args.self.value.now) c.get.result c.get.ensures in
-    rw c.in-Some.is at found
+pub returns-in_default : goal.returns-in_default
+returns-in_default c = get_of_other c.args.name.now (part_data c.args.self) (sym (rw c.in_default.is at c.as_object.ensures))
+
+pub returns-in-Some-find : goal.returns-in-Some-find
+returns-in-Some-find c =
+    let there = sym (rw c.in-Some.is at c.as_object.ensures) in
+    rw c.in-Some-find.is at (get_part c.args.name.now (part_data c.args.self) (members_view c.in-Some.members.now.items) c.find.result there c.find.ensures)
 
 pub returns-in-None : goal.returns-in-None
 returns-in-None c =
-    let found = get_part c.args.name.now (value_view c.args.self.value.now) c.get.result c.get.ensures in
-    rw c.in-None.is at found
+    let there = sym (rw c.in-Some.is at c.as_object.ensures) in
+    rw c.in-None.is at (get_part c.args.name.now (part_data c.args.self) (members_view c.in-Some.members.now.items) c.find.result there c.find.ensures)
