@@ -1,5 +1,5 @@
 -- Slots in the order of their tickets and due times, and the entries that they hold.
-use Rattle.std.proofs.Common.{◌≡◌, ◌≢◌, ℕ, zero, suc, ◌+◌, ◌<◌, ◌≤◌, ◌-◌, ◌↔◌, ◌==◌, Bool, true, false, cond, nat_eq, is_none, List, [], ◌∷◌, ◌++◌}
+use Rattle.std.proofs.Common.{◌≡◌, ◌≢◌, ℕ, zero, suc, ◌<◌, ◌≤◌, ◌-◌, ◌↔◌, ◌==◌, Bool, true, false, nat_eq, is_none, List, [], ◌∷◌, ◌++◌}
 use Rattle.std.proofs.Common.{length, set, get_or, Option, Some, None, option_map, Result, Ok, Err, All, IfSome, IfNone, refl, sym, ap, ◌∙◌, inl, inr, arith}
 use Rattle.std.specs.List.{AllPairs, HoldsAt, cons_option}
 use Rattle.std.specs.List.Sorted.{IsBinarySearchResult, IsNonDecreasingBy}
@@ -30,6 +30,18 @@ module _ {T : Type 0} where
 
   all_after : (s : Slot T) (ss : List (Slot T)) → AllPairs IsBefore (s ∷ ss) → All (IsBefore s) ss
   all_after s ss pairs i d within = pairs zero (suc i) d (omega arith) (omega arith)
+
+  -- the first slot --------------------------------------------------------------------------------
+
+  pub first_work : (ss rs : List (Slot T)) (s : Slot T) → ss ≡ s ∷ rs → HoldsAt (λ r. work_of s ≡ work_of r) ss 0
+  first_work ss rs s is = rw is (λ d. refl)
+
+  pub first_left : (ss rs : List (Slot T)) (s : Slot T) → ss ≡ s ∷ rs
+      → HoldsAt (λ r. entries_of rs ≡ entries_of (set ss 0 (record r { item = None }))) ss 0
+  first_left ss rs s is = rw is (λ d. refl)
+
+  pub pairs_behind : (ss rs : List (Slot T)) (s : Slot T) → ss ≡ s ∷ rs → AllPairs IsBefore ss → AllPairs IsBefore rs
+  pairs_behind ss rs s is pairs = pairs-tail s rs (rw is at pairs)
 
   -- one slot more ---------------------------------------------------------------------------------
 

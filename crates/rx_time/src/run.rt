@@ -56,6 +56,7 @@ impl<T> Slot<T> {
         }
     }
 
+    #[inline(always)]
     fn into_work(self) -> Work<T>
         requires { IsSome self.item }
         ensures { work_of self ≡ Some result }
@@ -68,6 +69,22 @@ impl<T> Slot<T> {
         Work {
             due,
             item: item.unwrap(),
+        }
+    }
+
+    // The work in it, if it has any.
+    #[inline(always)]
+    fn into_taken(self) -> Option<Work<T>>
+        ensures { result ≡ work_of self }
+    {
+        let Slot {
+            ticket: _,
+            due,
+            item,
+        } = self;
+        match item {
+            Some(item) => Some(Work { due, item }),
+            None => None,
         }
     }
 
@@ -163,6 +180,7 @@ impl<T> Run<T> {
     }
 
     // Takes the work of a ticket out.
+    #[inline(always)]
     pub(crate) fn remove(&mut self, ticket: u32) -> Option<Work<T>>
         ensures value { result ≡ lookup (nat_eq ticket) self.old }
         ensures others { self.new ≡ without ticket self.old }
@@ -233,6 +251,7 @@ fn place_of<T>(slots: &VecDeque<Slot<T>>, ticket: u32) -> Option<usize>
 }
 
 // Takes the work at a place out, and then the slots in front that have none.
+#[inline(always)]
 fn take_at<T>(slots: &mut VecDeque<Slot<T>>, place: usize) -> Option<Work<T>>
     requires in_order { AllPairs IsBefore slots.old.items }
     requires within { place < length slots.old.items }
@@ -242,9 +261,39 @@ fn take_at<T>(slots: &mut VecDeque<Slot<T>>, place: usize) -> Option<Work<T>>
     ensures in_order { AllPairs IsBefore slots.new.items }
     ensures filled { is_front_empty slots.new.items ≡ false }
 {
-    let taken = empty_at(slots, place);
+    let taken = take_slot(slots, place);
     pass_empty(slots);
     taken
+}
+
+// Takes the work at a place out: the first slot leaves with it, and another stays behind with nothing in it.
+#[inline(always)]
+fn take_slot<T>(slots: &mut VecDeque<Slot<T>>, place: usize) -> Option<Work<T>>
+    requires { place < length slots.old.items }
+    ensures value { HoldsAt (λ s. result ≡ work_of s) slots.old.items place }
+    ensures others { HoldsAt (λ s. entries_of slots.new.items
+        ≡ entries_of (slice_set slots.old.items place (record s { item = None }))) slots.old.items place }
+    ensures in_order { AllPairs IsBefore slots.old.items → AllPairs IsBefore slots.new.items }
+{
+    if place == 0 {
+        return pop_first(slots);
+    }
+    empty_at(slots, place)
+}
+
+// Takes the first slot off whole, and gives the work in it.
+#[inline(always)]
+fn pop_first<T>(slots: &mut VecDeque<Slot<T>>) -> Option<Work<T>>
+    requires { 0 < length slots.old.items }
+    ensures value { HoldsAt (λ s. result ≡ work_of s) slots.old.items 0 }
+    ensures others { HoldsAt (λ s. entries_of slots.new.items
+        ≡ entries_of (slice_set slots.old.items 0 (record s { item = None }))) slots.old.items 0 }
+    ensures in_order { AllPairs IsBefore slots.old.items → AllPairs IsBefore slots.new.items }
+{
+    match slots.pop_front() {
+        Some(slot) => slot.into_taken(),
+        None => None,
+    }
 }
 
 // Takes the work at a place out.

@@ -144,6 +144,7 @@ impl<T> Timeline<T> {
     /// Takes out what comes next, with its due time, where that is at or before this time, and
     /// moves the virtual time to it. Where there is no such work, gives `None` and moves the
     /// virtual time to this time if it is later. It takes no memory.
+    #[inline(always)]
     pub fn next_until(&mut self, until: u64) -> Option<(u64, T)>
         ensures value { result
             ≡ option_map (λ e. (e.1.due, e.1.item)) (next_due until self.old.work) }
@@ -211,6 +212,7 @@ impl<T> Timeline<T> {
     }
 
     // Takes the work of a ticket out.
+    #[inline(always)]
     fn take(&mut self, number: u32) -> Option<Work<T>>
         ensures value { result ≡ lookup (nat_eq number) self.old.work }
         ensures others { self.new ≡ record self.old { work = without number self.old.work } }
@@ -277,7 +279,24 @@ fn put_last<T>(
 }
 
 // Takes the work of a ticket out, wherever it is.
+#[inline(always)]
 fn take_from<T>(
+    in_order: &mut Run<T>,
+    others: &mut PriorityQueue<T>,
+    number: u32,
+) -> Option<Work<T>>
+    ensures value { result ≡ lookup (nat_eq number) (in_order.old ++ others.old) }
+    ensures others { in_order.new ++ others.new ≡ without number (in_order.old ++ others.old) }
+{
+    if others.is_empty() {
+        return in_order.remove(number);
+    }
+    take_from_either(in_order, others, number)
+}
+
+// The same, of two lists.
+#[inline(always)]
+fn take_from_either<T>(
     in_order: &mut Run<T>,
     others: &mut PriorityQueue<T>,
     number: u32,
