@@ -106,13 +106,18 @@ terminal_in d = terminal_or (get (codes "error") d)
 abbrev pub root_in : Data → Option Site
 root_in d = if is_some (get (codes "of") d) then None else Some root
 
+-- any other stands below the node of this name
+unfoldable pub site_below : List ℕ → Name → Option Site
+site_below place above =
+    if bytes_eq place (codes "source") then Some (source above)
+    else if bytes_eq place (codes "inner") then Some (inner above)
+    else if bytes_eq place (codes "notifier") then Some (notifier above)
+    else None
+
 unfoldable pub site_by : List ℕ → Data → Option Site
 site_by place d =
     if bytes_eq place (codes "root") then root_in d
-    else if bytes_eq place (codes "source") then option_map source (name_in (codes "of") d)
-    else if bytes_eq place (codes "inner") then option_map inner (name_in (codes "of") d)
-    else if bytes_eq place (codes "notifier") then option_map notifier (name_in (codes "of") d)
-    else None
+    else option_and_then (site_below place) (name_in (codes "of") d)
 
 unfoldable pub site_in : Data → Option Site
 site_in d = option_and_then (λ place. site_by place d) (option_and_then as_str (get (codes "place") d))
@@ -310,8 +315,8 @@ delay_in false d = if is_some (get (codes "after") d) then None else time_in (So
 -- a step without those that follow it; whether it follows one itself
 unfoldable pub head_in : Bool → Data → Option Step
 head_in follows d =
-    option_and_then (λ l. option_and_then (λ t. option_map (λ a. record { label = l; delay = t; action = a; followers = no_steps }) (action_in d))
-    (delay_in follows d)) (optional_name_in (codes "label") d)
+    option_and_then (λ t. option_and_then (λ l. option_map (λ a. record { label = l; delay = t; action = a; followers = no_steps }) (action_in d))
+    (optional_name_in (codes "label") d)) (delay_in follows d)
 
 -- with those, where this reads them
 unfoldable pub step_with : (Data → Option (List Step)) → Bool → Data → Option Step

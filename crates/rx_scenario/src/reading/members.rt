@@ -1,6 +1,7 @@
 //! Members of objects, and the names, numbers and words in them.
 
-ghost use Rattle.std.specs.Prelude.{◌≡◌, ◌≤◌, ◌||◌, map, option_map, string_bytes, IfOk};
+ghost use Rattle.std.specs.Prelude.{◌≡◌, ◌≤◌, ◌||◌, map, option_map, option_and_then, string_bytes, IfOk};
+ghost use Rattle.serde_json.specs.Find.{as_str};
 ghost use Rattle.std.specs.List.{list_all};
 ghost use Rattle.json.specs.Value.{members_view};
 ghost use Rattle.serde_json.specs.Data.{no_members};
@@ -8,7 +9,8 @@ ghost use Rattle.rx_device.specs.Part.{part_data, members_data};
 ghost use Rattle.rx_scenario.specs.Scenario.{site_of, sort_of};
 ghost use Rattle.rx_device.specs.Gives.{Gives};
 ghost use Rattle.rx_scenario.specs.Reading.{is_one_of, has_only, is_object_of, is_of_steps, has_only_steps, is_step_of, is_name_byte};
-ghost use Rattle.rx_scenario.specs.Reading.{is_name, name_in, optional_name_in, value_in, word_in, code_in, terminal_in, site_by};
+ghost use Rattle.rx_scenario.specs.Reading.{is_name, name_in, optional_name_in, value_in, word_in, code_in, terminal_in, if_name};
+ghost use Rattle.rx_scenario.specs.Reading.{root_in, site_below, site_by};
 ghost use Rattle.rx_scenario.specs.Reading.{site_in, plain_by, sub_in, kind_by, kind_in, mode_by, mode_in, events_in, until_in, time_in, delay_in};
 
 use crate::scenario::{Site, Sort, Ticks};
@@ -97,18 +99,28 @@ pub fn is_name(text: &str) -> bool
     1 <= bytes.len() && bytes.len() <= 32 && are_name_bytes(bytes)
 }
 
-/// The name at a key: 1 to 32 ASCII letters, digits, dashes and underscores.
-#[tactic(auto, unfolding(crate::specs::Reading::name_in))]
-pub fn name_in(alloc: Global, object: Part<'_, '_>, key: &str) -> Result<String, ShapeError>
-    ensures { Gives string_bytes result (name_in key.now (part_data object.entry)) }
+// The name that a value is.
+fn name_of(alloc: Global, value: Part<'_, '_>) -> Result<String, ShapeError>
+    ensures { Gives string_bytes result (option_and_then if_name (as_str (part_data value.entry))) }
 {
-    let Some(text) = object.get(key).and_then(Part::as_str) else {
+    let Some(text) = value.as_str() else {
         return Err(ShapeError::Shape);
     };
     if !is_name(text) {
         return Err(ShapeError::Shape);
     }
     Ok(String::from_str(alloc, text)?)
+}
+
+/// The name at a key: 1 to 32 ASCII letters, digits, dashes and underscores.
+#[tactic(auto, unfolding(crate::specs::Reading::name_in))]
+pub fn name_in(alloc: Global, object: Part<'_, '_>, key: &str) -> Result<String, ShapeError>
+    ensures { Gives string_bytes result (name_in key.now (part_data object.entry)) }
+{
+    match object.get(key) {
+        Some(value) => name_of(alloc, value),
+        None => Err(ShapeError::Shape),
+    }
 }
 
 /// The name at a key, or None where there is no such member.
@@ -120,16 +132,10 @@ pub fn optional_name_in(
 ) -> Result<Option<String>, ShapeError>
     ensures { Gives (option_map string_bytes) result (optional_name_in key.now (part_data object.entry)) }
 {
-    let Some(member) = object.get(key) else {
-        return Ok(None);
-    };
-    let Some(text) = member.as_str() else {
-        return Err(ShapeError::Shape);
-    };
-    if !is_name(text) {
-        return Err(ShapeError::Shape);
+    match object.get(key) {
+        Some(value) => Ok(Some(name_of(alloc, value)?)),
+        None => Ok(None),
     }
-    Ok(Some(String::from_str(alloc, text)?))
 }
 
 /// The member `value`, an item.
@@ -179,20 +185,38 @@ pub fn terminal_in(object: Part<'_, '_>) -> Result<Terminal, ShapeError>
     }
 }
 
+// A root, which stands below no node.
+fn root_in(object: Part<'_, '_>) -> Result<Site, ShapeError>
+    ensures { Gives site_of result (root_in (part_data object.entry)) }
+{
+    match object.get("of") {
+        Some(_) => Err(ShapeError::Shape),
+        None => Ok(Site::Root),
+    }
+}
+
+// Where a node stands below the node of this name.
+#[tactic(auto, unfolding(crate::specs::Reading::site_below))]
+fn site_below(place: &str, above: String) -> Result<Site, ShapeError>
+    ensures { Gives site_of result (site_below place.now (string_bytes above)) }
+{
+    match place {
+        "source" => Ok(Site::Source(above)),
+        "inner" => Ok(Site::Inner(above)),
+        "notifier" => Ok(Site::Notifier(above)),
+        _ => Err(ShapeError::Shape),
+    }
+}
+
 #[tactic(auto, unfolding(crate::specs::Reading::site_by))]
 fn site_by(alloc: Global, place: &str, object: Part<'_, '_>) -> Result<Site, ShapeError>
     ensures { Gives site_of result (site_by place.now (part_data object.entry)) }
 {
-    match place {
-        "root" => match object.get("of") {
-            Some(_) => Err(ShapeError::Shape),
-            None => Ok(Site::Root),
-        },
-        "source" => Ok(Site::Source(name_in(alloc, object, "of")?)),
-        "inner" => Ok(Site::Inner(name_in(alloc, object, "of")?)),
-        "notifier" => Ok(Site::Notifier(name_in(alloc, object, "of")?)),
-        _ => Err(ShapeError::Shape),
+    if place == "root" {
+        return root_in(object);
     }
+    let above = name_in(alloc, object, "of")?;
+    site_below(place, above)
 }
 
 /// The members `place` and `of`: a root, or the source, an inner or the notifier of a node.

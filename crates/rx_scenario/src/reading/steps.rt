@@ -26,8 +26,8 @@ const MOST_LEVELS: u32 = 16;
 fn head_in(alloc: Global, object: Part<'_, '_>, follows: bool) -> Result<Step, ShapeError>
     ensures { Gives step_meant result (head_in follows (part_data object.entry)) }
 {
-    let label = optional_name_in(alloc, object, "label")?;
     let delay = delay_in(object, follows)?;
+    let label = optional_name_in(alloc, object, "label")?;
     let action = action_in(alloc, object)?;
     Ok(Step {
         label,
