@@ -9,3 +9,4 @@ pub mod Inners
 pub mod Told
 pub mod Checkpoints
 pub mod Costs
+pub mod OpeningHolding

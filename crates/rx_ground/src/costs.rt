@@ -5,6 +5,7 @@ ghost use Rattle.rx_event.specs.declared.event.Mode.{Mode};
 ghost use Rattle.rx_event.specs.Calls.{Opening, OpeningUsing, Holding, Applying, Leasing, Publishing, Connecting};
 ghost use Rattle.rx_event.specs.Causes.{end_at as end_at_in};
 ghost use Rattle.rx_ground.specs.Costs.{cost_of};
+ghost use Rattle.rx_ground.specs.OpeningHolding.{opening_holding_cost};
 ghost use Rattle.rx_ground.specs.Ties.{IsStanding};
 
 use crate::base::{Ground, Wanted};
@@ -149,6 +150,24 @@ impl<R: Resource> Ground<R> {
             notes: nodes,
             nodes: nodes as usize,
             resources: 0,
+            hubs: 0,
+            leases: 0,
+        }
+    }
+
+    /// Of opening such a node there that holds a resource from then on: what the opening costs, and what the
+    /// holding does.
+    #[inline(always)]
+    pub fn opening_holding_cost(&self, place: Place, kind: Kind) -> Wanted
+        requires standing { IsStanding R.Resource self.now }
+        ensures { result ≡ opening_holding_cost self.now.register.history place kind }
+    {
+        let opening = self.opening_cost(place, kind);
+        Wanted {
+            events: opening.events + Wanted::of_holding().events,
+            notes: opening.notes,
+            nodes: opening.nodes,
+            resources: 1,
             hubs: 0,
             leases: 0,
         }

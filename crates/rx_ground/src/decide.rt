@@ -19,6 +19,7 @@ ghost use Rattle.rx_ground.specs.FirstCause.{first_at, first_by_key, first_by_re
 ghost use Rattle.rx_ground.specs.Ties.{IsStanding, is_there};
 ghost use Rattle.rx_ground.specs.Told.{IsTold, has_place as has_place_in};
 ghost use Rattle.rx_ground.specs.Told.{is_used as is_used_in, is_unowed as is_unowed_in};
+ghost use Rattle.rx_ground.specs.OpeningHolding.{first_holding};
 
 use crate::base::{Ground, Record, Wanted};
 use rx_event::{Event, Kind, Marks, Place, Refusal};
@@ -253,6 +254,51 @@ impl<R: Resource> Ground<R> {
             return Some(Refusal::NotFresh);
         }
         let cost = Wanted::of_using(place);
+        if self.is_crowded(cost.nodes as u64) {
+            return Some(Refusal::TooMany);
+        }
+        if self.is_over(cost.events) {
+            return Some(Refusal::Full);
+        }
+        None
+    }
+
+    /// What stands first against opening a node there that holds a resource from then on.
+    #[tactic(auto, using(crate::proofs::Told::there_open))]
+    #[inline]
+    pub fn opening_holding_cause(
+        &self,
+        place: Place,
+        above: Option<Key>,
+        kind: Kind,
+        is_fresh: bool,
+    ) -> Option<Refusal>
+        requires standing { IsStanding R.Resource self.now }
+        requires named { named_by place ≡ option_map (λ key. key.number) above }
+        ensures { result ≡ first_holding self.now (is_there self.now.tree.nodes above) is_fresh place kind }
+    {
+        if self.is_without_hub(kind) {
+            return Some(Refusal::NoHub);
+        }
+        if !self.is_there(above) {
+            return Some(Refusal::Gone);
+        }
+        if self.is_wrong_place(place, above) {
+            return Some(Refusal::WrongKind);
+        }
+        if self.is_taken_place(place, above) {
+            return Some(Refusal::PlaceTaken);
+        }
+        if self.is_unowed_place(place, above) {
+            return Some(Refusal::NothingOwed);
+        }
+        if self.is_out_of_order(place, above, kind) {
+            return Some(Refusal::HubOrder);
+        }
+        if !is_fresh {
+            return Some(Refusal::NotFresh);
+        }
+        let cost = self.opening_holding_cost(place, kind);
         if self.is_crowded(cost.nodes as u64) {
             return Some(Refusal::TooMany);
         }
