@@ -61,7 +61,7 @@ lawful_in_turn base h [] law next = subst (IsLawful base) (sym (append-nil h)) l
 lawful_in_turn base h (e ∷ es) law next =
     subst (IsLawful base) (append_assoc h (e ∷ []) es) (lawful_in_turn base (h ++ e ∷ []) es (IsLawful-push base h e law next.0) next.1)
 
-lawful_forced : (base : Kept) → {h k : List Event} → IsLawful base h → IsForcedOn base h k → IsLawful base k
+pub lawful_forced : (base : Kept) → {h k : List Event} → IsLawful base h → IsForcedOn base h k → IsLawful base k
 lawful_forced base law stays = law
 lawful_forced base law (more {k = k} {e = e} on f) = IsLawful-push base k e (lawful_forced base law on) (forced f)
 

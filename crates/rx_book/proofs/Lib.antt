@@ -9,6 +9,11 @@ pub mod ShownPromise
 pub mod MadeKeyIsListed
 pub mod Openings
 pub mod Connections
+pub mod SpareRoom
+pub mod HoldingUnstood
+pub mod AdmittedHolding
+pub mod OpeningWritten
+pub mod HoldingWritten
 pub mod OneFewerWaits
 pub mod Closings
 pub mod Laws

@@ -8,3 +8,4 @@ pub mod Places
 pub mod Checkpoints
 pub mod Steps
 pub mod Asked
+pub mod OpensHolding

@@ -38,6 +38,15 @@ pub struct OpenedUsing {
     pub res: ResKey,
 }
 
+/// A node was opened that holds a resource from then on.
+#[derive(Clone, Copy, Debug, PartialEq, Eq)]
+pub struct OpenedHolding {
+    /// The node, and the connection that came with it.
+    pub opened: Opened,
+    /// The resource's key.
+    pub res: ResKey,
+}
+
 /// A resource that was handed in and comes back, with the cause.
 #[derive(Debug, Drop)]
 pub struct Refused<R> {

@@ -76,9 +76,10 @@ mod hubs;
 mod key;
 mod leasing;
 mod opening;
+mod opening_holding;
 mod place;
 
-pub use answer::{At, Opened, OpenedUsing, Refused};
+pub use answer::{At, Opened, OpenedHolding, OpenedUsing, Refused};
 pub use book::Book;
 pub use closing::Closed;
 pub use ending::Emitted;

@@ -1,12 +1,18 @@
 //! Opening nodes.
 
-ghost use Rattle.std.specs.Prelude.{◌≡◌, true, false, None, option_map, IsTrue, IfSome};
+ghost use Rattle.std.specs.Prelude.{◌≡◌, ◌+◌, ◌≤◌, ℕ, true, false, None, option_map, IsTrue, IfSome};
 ghost use Rattle.std.specs.Option.{option_to_list};
 ghost use Rattle.rx_event.specs.declared.event.Kind.{Kind};
+ghost use Rattle.rx_event.specs.Calls.{Opening};
+ghost use Rattle.rx_event.specs.Causes.{added_by};
+ghost use Rattle.rx_event.specs.Totals.{debt};
 ghost use Rattle.rx_event.specs.Tree.{open_connections};
+ghost use Rattle.rx_ground.specs.Ties.{IsStanding};
 ghost use Rattle.rx_book.specs.State.{has_key};
-ghost use Rattle.rx_book.specs.Requests.{open_request, using_request};
-ghost use Rattle.rx_book.specs.Answers.{AnswersOpened, AnswersOpenedUsing};
+ghost use Rattle.rx_book.specs.Requests.{place_of, open_request, using_request};
+ghost use Rattle.rx_book.specs.Answers.{Accepts, IsOpened, AnswersOpened, AnswersOpenedUsing};
+ghost use Rattle.rx_book.specs.Shown.{keys_of, state_of};
+ghost use Rattle.rx_book.specs.Steps.{IsAdmitted};
 
 use crate::Book;
 use crate::admit::{Wish, admit};
@@ -15,7 +21,52 @@ use crate::holding::is_fresh;
 use crate::key::{Key, shown_key, shown_res_key};
 use crate::place::spot_of;
 use rx_event::{Kind, Refusal};
+use rx_ground::Ground;
 use rx_resource::Resource;
+
+/// The key of the connection of the hub that such a node subscribes to, where its opening forced one.
+#[inline(always)]
+fn connection_of<R: Resource>(ground: &Ground<R>, kind: Kind, connects: bool) -> Option<Key>
+    requires standing { IsStanding R.Resource ground.now }
+    ensures forced { (g : _) → kind ≡ Kind.Sub g → connects ≡ true →
+        option_to_list (option_map (λ k. k.number) result) ≡ open_connections ground.now.register.history g }
+    ensures known { IfSome result (λ k. IsTrue (has_key (keys_of ground.now.tree) k)) }
+    ensures quiet { connects ≡ false → result ≡ None }
+{
+    let Kind::Sub(hub) = kind else {
+        return None;
+    };
+    if !connects {
+        return None;
+    }
+    let connection = ground.connection(hub)?;
+    Some(shown_key(connection))
+}
+
+/// Opens a node, for which there is room, and does what that forces. Of the room no more is gone than the
+/// opening costs.
+#[inline(always)]
+pub(crate) fn write_opening<R: Resource>(ground: &mut Ground<R>, at: At, kind: Kind) -> Opened
+    requires admitted { IsAdmitted R.Resource ground.old (open_request (state_of R.Resource ground.old) at kind) }
+    ensures standing { IsStanding R.Resource ground.new }
+    ensures accepted { Accepts (state_of R.Resource ground.old)
+        (open_request (state_of R.Resource ground.old) at kind) (state_of R.Resource ground.new) }
+    ensures opened { IsOpened (state_of R.Resource ground.old) (state_of R.Resource ground.new) result }
+    ensures resources { ground.new.tree.resources ≡ ground.old.tree.resources }
+    ensures spare { (more : ℕ) →
+        debt ground.old.register.base ground.old.register.history +
+        added_by ground.old.register.history (Opening (place_of at) kind) + more ≤ ground.old.register.room →
+        debt ground.new.register.base ground.new.register.history + more ≤ ground.new.register.room }
+{
+    let spot = spot_of(at);
+    let connects = ground.forces_connect(kind);
+    let key = ground.write_open(spot.place, kind, spot.above);
+    ground.settle();
+    Opened {
+        key: shown_key(key),
+        connected: connection_of(ground, kind, connects),
+    }
+}
 
 impl<R: Resource> Book<R> {
     /// Opens a node, as an observer that subscribes does, or an operator that subscribes to its source
@@ -34,31 +85,7 @@ impl<R: Resource> Book<R> {
         ensures { AnswersOpened self.old (open_request self.old at kind) self.new result }
     {
         admit(&mut self.ground, Wish::Open(at, kind))?;
-        let spot = spot_of(at);
-        let connects = self.ground.forces_connect(kind);
-        let key = self.ground.write_open(spot.place, kind, spot.above);
-        self.ground.settle();
-        Ok(Opened {
-            key: shown_key(key),
-            connected: self.connection_of(kind, connects),
-        })
-    }
-
-    /// The key of the connection of the hub that such a node subscribes to, where its opening forced one.
-    fn connection_of(&self, kind: Kind, connects: bool) -> Option<Key>
-        ensures forced { (g : _) → kind ≡ Kind.Sub g → connects ≡ true →
-            option_to_list (option_map (λ k. k.number) result) ≡ open_connections self.now.history g }
-        ensures known { IfSome result (λ k. IsTrue (has_key self.now.keys k)) }
-        ensures quiet { connects ≡ false → result ≡ None }
-    {
-        let Kind::Sub(hub) = kind else {
-            return None;
-        };
-        if !connects {
-            return None;
-        }
-        let connection = self.ground.connection(hub)?;
-        Some(shown_key(connection))
+        Ok(write_opening(&mut self.ground, at, kind))
     }
 
     /// Opens a mirroring node that holds a resource, which waits for its release once the node ends, is

@@ -1,0 +1,103 @@
+-- A fresh resource is held at an open node, for which there is room: it is accepted, and forces nothing.
+use Rattle.std.proofs.Common.{◌≡◌, ◌+◌, ◌≤◌, Bool, true, List, [], ◌∷◌, length, None, is_some, refl, sym, ap, subst, ◌∙◌, arith}
+use Rattle.rx_resource.specs.declared.Resource.{Ghosts}
+use Rattle.rx_event.specs.declared.event.Event.{Event}
+use Rattle.rx_event.specs.declared.event.Event.TheVariants.{Accept}
+use Rattle.rx_event.specs.Kept.{Kept}
+use Rattle.rx_event.specs.Tree.{is_open}
+use Rattle.rx_event.specs.Totals.{debt}
+use Rattle.rx_event.specs.Resources.{accepted_by}
+use Rattle.rx_event.specs.Forced.{IsSettled}
+use Rattle.rx_event.specs.Lawful.{stays}
+use Rattle.rx_event.specs.Refusals.{first_cause}
+use Rattle.rx_event.specs.Causes.{by_key, holding_causes}
+use Rattle.rx_event.proofs.Laws.Calm.{closes_none_kept, settled_on}
+use Rattle.rx_event.proofs.Laws.Resources.{accepted_by_new}
+use Rattle.rx_slots.specs.Slots.{find}
+use Rattle.rx_tree.specs.declared.node.ResKey.{ResKey as TreeResKey}
+use Rattle.rx_tree.specs.Resources.{is_held_at}
+use Rattle.rx_tree.proofs.Laws.Keys.{some_of}
+use Rattle.rx_register.specs.State.{IsPromised, Writes}
+use Rattle.rx_ground.specs.Shown.{Ground}
+use Rattle.rx_ground.specs.Ties.{IsStanding, IsReady, AreTied, AreLeased, KeepsHeld}
+use Rattle.rx_ground.proofs.Laws.KeysKept.{leases_stay}
+use Rattle.rx_book.specs.declared.key.Key.{Key}
+use Rattle.rx_book.specs.declared.key.ResKey.{ResKey}
+use Rattle.rx_book.specs.State.{has_key}
+use Rattle.rx_book.specs.Requests.{Request, stands, is_fresh_in, hold_request}
+use Rattle.rx_book.specs.Answers.{Accepts, IsNewResKey}
+use Rattle.rx_book.specs.Shown.{tree_key_of, res_key_shown, keys_of, state_of}
+use Rattle.rx_book.specs.Steps.{IsLetIn}
+use Rattle.rx_book.proofs.ShownKeys.{has_key_is}
+use Rattle.rx_book.proofs.CallWithoutCause.{SettlesTo, let_in, one_ready, pays, accepts_written, written_held}
+use Rattle.rx_book.proofs.MadeKeyIsListed.{res_key_listed}
+use Rattle.rx_book.proofs.HoldingUnstood.{holding_unstood}
+
+module _ {T : Type 0} (g : Ghosts T) (b : Ground T) (node : Key) (x : T) (standing : IsStanding g b) (promised : IsPromised b.register)
+    (listed : has_key (keys_of b.tree) node ≡ true) (fresh : is_fresh_in g x ≡ true)
+    (events : debt b.register.base b.register.history + 3 ≤ b.register.room) where
+  abbrev h : List Event
+  h = b.register.history
+
+  abbrev asked : Request
+  asked = hold_request g (state_of g b) node x
+
+  pub holding_there : is_some (find b.tree.nodes (tree_key_of node)) ≡ true
+  holding_there = sym (has_key_is b.tree node) ∙ listed
+
+  alive : is_open b.register.history node.number ≡ true
+  alive = let at_key = some_of (find b.tree.nodes (tree_key_of node)) holding_there in
+      (standing.tied.of_tree.records.each (tree_key_of node) at_key.0 at_key.1).alive
+
+  unstood : first_cause (stands (state_of g b) asked) ≡ None
+  unstood =
+      let causes = λ (f : Bool). holding_causes b.register.base b.register.history b.register.limit f node.number (g.tag_of x) in
+      let within = promised.room in
+      ap (λ (k : Bool). first_cause (by_key k (causes (is_fresh_in g x)))) listed ∙ ap (λ (f : Bool). first_cause (by_key true (causes f))) fresh ∙
+      holding_unstood b.register.base h b.register.limit node.number (g.tag_of x) alive (omega arith)
+
+  pub holding_let_in : IsLetIn g b (hold_request g (state_of g b) node x)
+  holding_let_in =
+      let notes = standing.paid.notes in
+      let_in g b asked standing promised unstood tt (record { events = events; notes = omega arith })
+
+  pub holding_ready : IsReady b.register (Accept node.number (g.tag_of x))
+  holding_ready = one_ready g b asked holding_let_in (Accept node.number (g.tag_of x)) refl
+
+  module _ (new : Ground T) (w : Writes b.register (Accept node.number (g.tag_of x) ∷ []) new.register)
+      (tied : AreTied new.register.base g new.register.history new.tree new.hubs)
+      (leased : AreLeased new.register.history new.tree.resources new.leases) where
+    settled : IsSettled new.register.base new.register.history
+    settled =
+        let e = Accept node.number (g.tag_of x) in
+        let rests = settled_on promised.lawful holding_ready.next standing.settled refl (λ n. refl) (closes_none_kept h e refl) refl in
+        subst (λ (k : Kept). IsSettled k new.register.history) (sym w.base) (subst (IsSettled b.register.base) (sym w.history) rests)
+
+    pub holding_standing : IsStanding g new
+    holding_standing = record { tied = tied; leased = leased; settled = settled; paid = pays g b asked holding_let_in new.register w }
+
+    settles : SettlesTo g new new
+    settles = record {
+      standing = holding_standing;
+      base = refl;
+      forced = stays;
+      nodes = record { from = λ key there l. there; still = λ key there o. there };
+      resources = refl;
+      limit = refl;
+      given = refl;
+      leases = refl;
+    }
+
+    pub holding_accepted : new.tree.nodes ≡ b.tree.nodes → KeepsHeld b.tree new.tree (length b.register.history) → new.leases ≡ b.leases →
+        Accepts (state_of g b) (hold_request g (state_of g b) node x) (state_of g new)
+    holding_accepted nodes kept leases =
+        accepts_written g b asked holding_let_in (written_held new asked.call w tied leased nodes kept (leases_stay _ _ _ leases)) settles
+
+    pub held_key : (res : TreeResKey) {k : ResKey} → k ≡ res_key_shown res → res.number ≡ length b.register.history → is_held_at new.tree res ≡ true →
+        IsNewResKey (state_of g new) (length b.register.history) k
+    held_key res shown number held =
+        let e = Accept node.number (g.tag_of x) in
+        let accepted = ap (λ (c : Kept). accepted_by c new.register.history (length h)) w.base ∙
+        ap (λ (k : List Event). accepted_by b.register.base k (length h)) w.history ∙ accepted_by_new b.register.base h e promised.lawful in
+        let still = ap (λ (k : List Event). is_open k node.number) w.history ∙ closes_none_kept h e refl node.number alive in
+        res_key_listed g new new settles.nodes (length h) tied.of_tree res shown refl number held accepted still

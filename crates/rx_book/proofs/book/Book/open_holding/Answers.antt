@@ -1,0 +1,46 @@
+use Rattle.std.proofs.Common.{refl, sym, ap, map, subst, ◌∙◌}
+use Rattle.std.specs.Prelude.{Ok}
+use Rattle.rx_slots.specs.Slots.{Slots}
+use Rattle.rx_tree.specs.declared.node.Node.{Node}
+use Rattle.rx_ground.specs.Shown.{Kept, kept_in}
+use Rattle.rx_book.specs.State.{State}
+use Rattle.rx_book.specs.OpensHolding.{AnswersOpenedHolding}
+use Rattle.rx_book.specs.Shown.{key_shown, state_of}
+use Rattle.rx_book.proofs.HoldingUnstood.{fresh_with}
+use Rattle.rx_book.proofs.book.Book.open_holding.Goals as goal
+
+pub returns-in-Err : goal.returns-in-Err
+returns-in-Err g c =
+    let a = c.in-Err.ensures in
+    let why = rw c.is_fresh-fresh.ensures at a.err in
+    rw (← c.self.view_is) (record { ok = tt; no_cause = tt; refused = why; back = refl; kept = a.same })
+
+pub write_holding-res-requires-clause-fresh : goal.write_holding-res-requires-clause-fresh
+write_holding-res-requires-clause-fresh g c κs within =
+    let a = c.in_default.ensures.ok in
+    sym c.is_fresh-fresh.ensures ∙ fresh_with (state_of g.R.Resource c.admit_holding.new.ground) c.args.at c.args.kind c.is_fresh-fresh.result a.none
+
+pub write_holding-res-requires-clause-known : goal.write_holding-res-requires-clause-known
+write_holding-res-requires-clause-known g c κs within = c.write_opening-opened.ensures.opened.key.listed
+
+pub write_holding-res-requires-clause-events : goal.write_holding-res-requires-clause-events
+write_holding-res-requires-clause-events g c κs within = c.write_opening-opened.ensures.spare 3 c.in_default.ensures.ok.events
+
+pub returns : goal.returns
+returns g c =
+    let R = g.R.Resource in
+    let mid = c.write_opening-opened.new.ground in
+    let new = c.write_holding-res.new.ground in
+    let o = c.write_opening-opened.ensures in
+    let t = c.write_holding-res.ensures in
+    let none = rw c.is_fresh-fresh.ensures at c.in_default.ensures.ok.none in
+    let keys = ap (λ (nodes : Slots Node). map (λ (k : Kept Node). key_shown k.key) (kept_in nodes)) t.nodes in
+    subst (λ (x : State). AnswersOpenedHolding R x c.args.at c.args.kind c.args.resource (state_of R new)
+    (Ok (record { opened = c.write_opening-opened.result; res = c.write_holding-res.result }))) (c.in_default.ensures.same ∙ c.self.view_is)
+    (record {
+      ok = record { middle = state_of R mid; opens = o.accepted; opened = o.opened; holds = t.accepted; res = t.res; keys = keys };
+      no_cause = none;
+      refused = tt;
+      back = tt;
+      kept = tt;
+    })

@@ -1,0 +1,40 @@
+use Rattle.rx_book.proofs.CallWithoutCause.{live_fresh, unused_fresh}
+use Rattle.rx_book.proofs.HoldingWritten.{holding_there, holding_ready, holding_standing, holding_accepted, held_key}
+use Rattle.rx_book.proofs.opening_holding.write_holding.Goals as goal
+
+pub write_accept-res-requires-clause-ready : goal.write_accept-res-requires-clause-ready
+write_accept-res-requires-clause-ready g c κs within =
+    let q = c.requires in
+    rw c.tree_key.ensures (holding_ready g.R.Resource c.args.ground.now c.args.node c.args.resource q.standing c.promise.ensures.register q.known q.fresh q.events)
+
+pub write_accept-res-requires-clause-open : goal.write_accept-res-requires-clause-open
+write_accept-res-requires-clause-open g c κs within =
+    let q = c.requires in
+    rw c.tree_key.ensures (holding_there g.R.Resource c.args.ground.now c.args.node c.args.resource q.standing c.promise.ensures.register q.known q.fresh q.events)
+
+pub write_accept-res-requires-clause-live : goal.write_accept-res-requires-clause-live
+write_accept-res-requires-clause-live g c κs within = live_fresh g.R.Resource c.args.resource c.requires.fresh
+
+pub write_accept-res-requires-clause-unused : goal.write_accept-res-requires-clause-unused
+write_accept-res-requires-clause-unused g c κs within = unused_fresh g.R.Resource c.args.resource c.requires.fresh
+
+pub returns-clause-standing : goal.returns-clause-standing
+returns-clause-standing g c =
+    let q = c.requires in
+    let a = c.write_accept-res.ensures in
+    holding_standing g.R.Resource c.args.ground.now c.args.node c.args.resource q.standing c.promise.ensures.register q.known q.fresh q.events
+    c.write_accept-res.new.self (rw c.tree_key.ensures at a.written) a.tied a.leased
+
+pub returns-clause-accepted : goal.returns-clause-accepted
+returns-clause-accepted g c =
+    let q = c.requires in
+    let a = c.write_accept-res.ensures in
+    holding_accepted g.R.Resource c.args.ground.now c.args.node c.args.resource q.standing c.promise.ensures.register q.known q.fresh q.events
+    c.write_accept-res.new.self (rw c.tree_key.ensures at a.written) a.tied a.leased a.nodes a.kept a.leases
+
+pub returns-clause-res : goal.returns-clause-res
+returns-clause-res g c =
+    let q = c.requires in
+    let a = c.write_accept-res.ensures in
+    held_key g.R.Resource c.args.ground.now c.args.node c.args.resource q.standing c.promise.ensures.register q.known q.fresh q.events
+    c.write_accept-res.new.self (rw c.tree_key.ensures at a.written) a.tied a.leased c.write_accept-res.result c.shown_res_key.ensures a.number a.held

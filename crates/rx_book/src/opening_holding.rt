@@ -1,0 +1,93 @@
+//! Opening a node of any kind that holds a resource from then on, in one call.
+
+ghost use Rattle.std.specs.Prelude.{◌≡◌, ◌+◌, ◌<◌, ◌≤◌, true, length, IfErr, IsTrue, OnOk};
+ghost use Rattle.rx_event.specs.Refusals.{IsRefusal};
+ghost use Rattle.rx_event.specs.Totals.{debt};
+ghost use Rattle.rx_ground.specs.Ties.{IsStanding};
+ghost use Rattle.rx_book.specs.State.{has_key};
+ghost use Rattle.rx_book.specs.Requests.{is_fresh_in, hold_request};
+ghost use Rattle.rx_book.specs.Answers.{Accepts, IsNewResKey};
+ghost use Rattle.rx_book.specs.OpensHolding.{stands_holding, AnswersOpenedHolding, IsAdmittedHolding};
+ghost use Rattle.rx_book.specs.Shown.{keys_of, state_of};
+
+use crate::Book;
+use crate::answer::{At, OpenedHolding, Refused};
+use crate::holding::is_fresh;
+use crate::key::{Key, ResKey, shown_res_key, tree_key};
+use crate::opening::write_opening;
+use crate::place::spot_of;
+use rx_event::{Kind, Refusal};
+use rx_ground::Ground;
+use rx_resource::Resource;
+
+/// Lets such an opening in: gets room for it and for the holding, where nothing stands against it. Refused for
+/// what stands first, else for want of memory; then some of the room may have been gotten, and nothing else
+/// changed.
+#[inline(always)]
+fn admit_holding<R: Resource>(
+    ground: &mut Ground<R>,
+    at: At,
+    kind: Kind,
+    is_fresh: bool,
+) -> Result<(), Refusal>
+    requires standing { IsStanding R.Resource ground.old }
+    ensures ok { OnOk result (IsAdmittedHolding R.Resource ground.new at kind is_fresh) }
+    ensures err { IfErr result (IsRefusal (stands_holding (state_of R.Resource ground.old) at kind is_fresh)) }
+    ensures same { state_of R.Resource ground.new ≡ state_of R.Resource ground.old }
+    ensures standing { IsStanding R.Resource ground.new }
+{
+    let spot = spot_of(at);
+    if let Some(why) = ground.opening_holding_cause(spot.place, spot.above, kind, is_fresh) {
+        return Err(why);
+    }
+    let cost = ground.opening_holding_cost(spot.place, kind);
+    ground.make_room(cost)?;
+    ground.promise();
+    Ok(())
+}
+
+/// Holds a fresh resource at an open node, for which there is room. It forces nothing.
+#[inline(always)]
+fn write_holding<R: Resource>(ground: &mut Ground<R>, node: Key, resource: R) -> ResKey
+    requires standing { IsStanding R.Resource ground.old }
+    requires known { IsTrue (has_key (keys_of ground.old.tree) node) }
+    requires fresh { is_fresh_in R.Resource resource ≡ true }
+    requires events { debt ground.old.register.base ground.old.register.history + 3 ≤ ground.old.register.room }
+    requires room { 0 < ground.old.tree.resources.room }
+    ensures standing { IsStanding R.Resource ground.new }
+    ensures accepted { Accepts (state_of R.Resource ground.old)
+        (hold_request R.Resource (state_of R.Resource ground.old) node resource) (state_of R.Resource ground.new) }
+    ensures res { IsNewResKey (state_of R.Resource ground.new) (length ground.old.register.history) result }
+    ensures nodes { ground.new.tree.nodes ≡ ground.old.tree.nodes }
+{
+    ground.promise();
+    let res = ground.write_accept(tree_key(node), resource);
+    shown_res_key(res)
+}
+
+impl<R: Resource> Book<R> {
+    /// Opens a node that holds a resource from then on: as [`Book::open`] and then [`Book::hold`] at it, in
+    /// one call, so that no call comes between, or neither is done. A connection that the opening forces comes
+    /// before the resource. Refused, in this order: `NoHub`, `Gone`, `WrongKind`, `PlaceTaken`, `NothingOwed`,
+    /// `HubOrder`, `NotFresh` where the resource was released or used, `TooMany`, `Full`, which counts both,
+    /// `NoMemory`. A refusal changes nothing and gives the resource back.
+    pub fn open_holding(
+        &mut self,
+        at: At,
+        kind: Kind,
+        resource: R,
+    ) -> Result<OpenedHolding, Refused<R>>
+        ensures { AnswersOpenedHolding R.Resource self.old at kind resource self.new result }
+    {
+        let fresh = is_fresh(&resource);
+        if let Err(why) = admit_holding(&mut self.ground, at, kind, fresh) {
+            return Err(Refused {
+                why,
+                back: resource,
+            });
+        }
+        let opened = write_opening(&mut self.ground, at, kind);
+        let res = write_holding(&mut self.ground, opened.key, resource);
+        Ok(OpenedHolding { opened, res })
+    }
+}
