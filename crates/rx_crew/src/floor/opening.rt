@@ -1,13 +1,14 @@
 //! Opening nodes.
 
-ghost use Rattle.std.specs.Prelude.{◌≡◌};
-ghost use Rattle.rx_event.specs.Calls.{OpeningUsing};
+ghost use Rattle.std.specs.Prelude.{◌≡◌, length};
+ghost use Rattle.rx_event.specs.Calls.{Holding, OpeningUsing};
 ghost use Rattle.rx_book.specs.Requests.{open_request, using_request, place_of};
 ghost use Rattle.rx_book.specs.Answers.{AnswersOpened, AnswersOpenedUsing};
+ghost use Rattle.rx_book.specs.OpensHolding.{AnswersOpenedHolding};
 ghost use Rattle.rx_crew.specs.Counting.{Counts};
 
 use crate::floor::Floor;
-use rx_book::{At, Opened, OpenedUsing, Refused};
+use rx_book::{At, Opened, OpenedHolding, OpenedUsing, Refused};
 use rx_event::{Kind, Refusal};
 use rx_ledger::Seat;
 use rx_resource::Resource;
@@ -37,5 +38,23 @@ impl<R: Resource, I: Ledger, A: Ledger, K: Ledger> Floor<R, I, A, K> {
         let opened = self.book.open_using(at, resource)?;
         self.ledgers.add_accepted(seat);
         Ok(opened)
+    }
+
+    /// Opens a node that holds a resource from then on, as [`rx_book::Book::open_holding`] says; the resource
+    /// counts as accepted by the seat.
+    pub fn open_holding(
+        &mut self,
+        seat: &mut Seat<I, A, K>,
+        at: At,
+        kind: Kind,
+        resource: R,
+    ) -> Result<OpenedHolding, Refused<R>>
+        ensures book { AnswersOpenedHolding R.Resource self.old.book at kind resource self.new.book result }
+        ensures counts { Counts (Holding (length self.old.book.history) (R.tag_of resource)) seat.old seat.new result }
+        ensures shut { self.new.is_shut ≡ self.old.is_shut }
+    {
+        let holding = self.book.open_holding(at, kind, resource)?;
+        self.ledgers.add_accepted(seat);
+        Ok(holding)
     }
 }
