@@ -62,7 +62,8 @@ module _ {T : Type 0} (g : Ghosts T) (b : Ground T) (at : At) (kind : Kind) (a :
 
     pub opened_key : (k : Key) → k ≡ key_shown key → IsNewKey (state_of g new) (length b.register.history) k
     opened_key k shown =
-        let alive = opened_stays b.register.base h new.register.history (place_of at) kind a.let_in.may.lawful opening_ready.next opening_accepted.step.forced in
+        let law = a.let_in.may.lawful in
+        let alive = opened_stays b.register.base h new.register.history (place_of at) kind law opening_ready.next opening_accepted.step.forced in
         key_listed g mid new s.nodes (length h) key k shown made.numbered made.found alive
 
     pub opened_connection : (connects : Bool) (o : Option Key) → connects ≡ forces_connect b.register.history kind →

@@ -43,7 +43,7 @@ module _ {T : Type 0} where
     pub back : IfErr answer (λ r. r.back ≡ x)
     pub kept : OnErr answer (new ≡ old)
 
-  -- the opening is let in, and there is room for the holding too
+  -- the opening is let in, and there is room for the holding too; no public clause cites this
   pub record IsAdmittedHolding (g : Ghosts T) (b : Ground T) (at : At) (kind : Kind) (is_fresh : Bool) : Type 0 where
     pub opening : IsAdmitted g b (open_request (state_of g b) at kind)
     pub none : first_cause (stands_holding (state_of g b) at kind is_fresh) ≡ None

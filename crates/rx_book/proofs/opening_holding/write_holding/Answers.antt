@@ -5,12 +5,14 @@ use Rattle.rx_book.proofs.opening_holding.write_holding.Goals as goal
 pub write_accept-res-requires-clause-ready : goal.write_accept-res-requires-clause-ready
 write_accept-res-requires-clause-ready g c κs within =
     let q = c.requires in
-    rw c.tree_key.ensures (holding_ready g.R.Resource c.args.ground.now c.args.node c.args.resource q.standing c.promise.ensures.register q.known q.fresh q.events)
+    rw c.tree_key.ensures
+    (holding_ready g.R.Resource c.args.ground.now c.args.node c.args.resource q.standing c.promise.ensures.register q.known q.fresh q.events)
 
 pub write_accept-res-requires-clause-open : goal.write_accept-res-requires-clause-open
 write_accept-res-requires-clause-open g c κs within =
     let q = c.requires in
-    rw c.tree_key.ensures (holding_there g.R.Resource c.args.ground.now c.args.node c.args.resource q.standing c.promise.ensures.register q.known q.fresh q.events)
+    rw c.tree_key.ensures
+    (holding_there g.R.Resource c.args.ground.now c.args.node c.args.resource q.standing c.promise.ensures.register q.known q.fresh q.events)
 
 pub write_accept-res-requires-clause-live : goal.write_accept-res-requires-clause-live
 write_accept-res-requires-clause-live g c κs within = live_fresh g.R.Resource c.args.resource c.requires.fresh
