@@ -14,6 +14,7 @@ pub mod HoldingUnstood
 pub mod AdmittedHolding
 pub mod OpeningWritten
 pub mod HoldingWritten
+pub mod OpenedStaysOpened
 pub mod OneFewerWaits
 pub mod Closings
 pub mod Laws

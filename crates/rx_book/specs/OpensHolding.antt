@@ -1,7 +1,8 @@
 -- What is asked by an opening of a node that holds a resource from then on, and what it answers: it is an opening, and then a holding.
-use Rattle.std.specs.Prelude.{◌≡◌, ◌+◌, ◌≤◌, ◌<◌, Bool, None, Result, IfOk, IfErr, OnErr, length}
+use Rattle.std.specs.Prelude.{◌≡◌, ◌+◌, ◌≤◌, ◌<◌, Bool, None, Result, IfOk, IfErr, OnErr, [], ◌∷◌, ◌++◌, length}
 use Rattle.rx_resource.specs.declared.Resource.{Ghosts}
 use Rattle.rx_event.specs.declared.event.Kind.{Kind}
+use Rattle.rx_event.specs.declared.event.Event.TheVariants.{Accept}
 use Rattle.rx_event.specs.declared.refusal.Refusal.{Refusal}
 use Rattle.rx_event.specs.Causes.{added_by, by_key}
 use Rattle.rx_event.specs.Calls.{Opening}
@@ -24,14 +25,15 @@ stands_holding s at kind is_fresh =
     by_key (is_known_place s.keys at) (opening_holding_causes s.base s.history s.limit is_fresh (place_of at) kind)
 
 module _ {T : Type 0} where
-  -- such a node was opened, with what that forces, and then the resource was held there; of the nodes that are open then none is closed
+  -- such a node was opened, with what that forces, and then the resource was held there, which comes last and closes no node
   pub record IsOpenedHolding (g : Ghosts T) (old : State) (at : At) (kind : Kind) (x : T) (new : State) (o : OpenedHolding) : Type 0 where
     pub middle : State
     pub opens : Accepts old (open_request old at kind) middle
-    pub opened : IsOpened old middle o.opened
     pub holds : Accepts middle (hold_request g middle o.opened.key x) new
-    pub res : IsNewResKey new (length middle.history) o.res
+    pub last : new.history ≡ middle.history ++ Accept o.opened.key.number (g.tag_of x) ∷ []
     pub keys : new.keys ≡ middle.keys
+    pub opened : IsOpened old new o.opened
+    pub res : IsNewResKey new (length middle.history) o.res
 
   -- accepted, where no cause stood; or refused for the first cause, or where none stands for want of memory, with nothing changed: the
   -- resource then comes back as it was

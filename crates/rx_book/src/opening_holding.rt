@@ -1,6 +1,7 @@
 //! Opening a node of any kind that holds a resource from then on, in one call.
 
-ghost use Rattle.std.specs.Prelude.{◌≡◌, ◌+◌, ◌<◌, ◌≤◌, true, length, IfErr, IsTrue, OnOk};
+ghost use Rattle.std.specs.Prelude.{◌≡◌, ◌+◌, ◌<◌, ◌≤◌, [], ◌∷◌, ◌++◌, true, length, IfErr, IsTrue, OnOk};
+ghost use Rattle.rx_event.specs.declared.event.Event.{Event};
 ghost use Rattle.rx_event.specs.Refusals.{IsRefusal};
 ghost use Rattle.rx_event.specs.Totals.{debt};
 ghost use Rattle.rx_ground.specs.Ties.{IsStanding};
@@ -58,6 +59,8 @@ fn write_holding<R: Resource>(ground: &mut Ground<R>, node: Key, resource: R) ->
     ensures accepted { Accepts (state_of R.Resource ground.old)
         (hold_request R.Resource (state_of R.Resource ground.old) node resource) (state_of R.Resource ground.new) }
     ensures res { IsNewResKey (state_of R.Resource ground.new) (length ground.old.register.history) result }
+    ensures history { ground.new.register.history ≡ ground.old.register.history ++
+        Event.Accept node.number (R.tag_of resource) ∷ [] }
     ensures nodes { ground.new.tree.nodes ≡ ground.old.tree.nodes }
 {
     ground.promise();

@@ -34,6 +34,9 @@ returns-clause-accepted g c =
     holding_accepted g.R.Resource c.args.ground.now c.args.node c.args.resource q.standing c.promise.ensures.register q.known q.fresh q.events
     c.write_accept-res.new.self (rw c.tree_key.ensures at a.written) a.tied a.leased a.nodes a.kept a.leases
 
+pub returns-clause-history : goal.returns-clause-history
+returns-clause-history g c = let w = rw c.tree_key.ensures at c.write_accept-res.ensures.written in w.history
+
 pub returns-clause-res : goal.returns-clause-res
 returns-clause-res g c =
     let q = c.requires in

@@ -1,5 +1,6 @@
 use Rattle.std.proofs.Common.{refl, sym, ap, map, subst, ◌∙◌}
 use Rattle.std.specs.Prelude.{Ok}
+use Rattle.rx_event.specs.declared.event.Event.TheVariants.{Accept}
 use Rattle.rx_slots.specs.Slots.{Slots}
 use Rattle.rx_tree.specs.declared.node.Node.{Node}
 use Rattle.rx_ground.specs.Shown.{Kept, kept_in}
@@ -7,6 +8,7 @@ use Rattle.rx_book.specs.State.{State}
 use Rattle.rx_book.specs.OpensHolding.{AnswersOpenedHolding}
 use Rattle.rx_book.specs.Shown.{key_shown, state_of}
 use Rattle.rx_book.proofs.HoldingUnstood.{fresh_with}
+use Rattle.rx_book.proofs.OpenedStaysOpened.{opened_after}
 use Rattle.rx_book.proofs.book.Book.open_holding.Goals as goal
 
 pub returns-in-Err : goal.returns-in-Err
@@ -34,11 +36,20 @@ returns g c =
     let o = c.write_opening-opened.ensures in
     let t = c.write_holding-res.ensures in
     let none = rw c.is_fresh-fresh.ensures at c.in_default.ensures.ok.none in
+    let accept = Accept c.write_opening-opened.result.key.number (R.tag_of c.args.resource) in
     let keys = ap (λ (nodes : Slots Node). map (λ (k : Kept Node). key_shown k.key) (kept_in nodes)) t.nodes in
     subst (λ (x : State). AnswersOpenedHolding R x c.args.at c.args.kind c.args.resource (state_of R new)
     (Ok (record { opened = c.write_opening-opened.result; res = c.write_holding-res.result }))) (c.in_default.ensures.same ∙ c.self.view_is)
     (record {
-      ok = record { middle = state_of R mid; opens = o.accepted; opened = o.opened; holds = t.accepted; res = t.res; keys = keys };
+      ok = record {
+        middle = state_of R mid;
+        opens = o.accepted;
+        holds = t.accepted;
+        last = t.history;
+        keys = keys;
+        opened = opened_after (state_of R c.admit_holding.new.ground) (state_of R mid) (state_of R new) accept refl t.history keys o.opened;
+        res = t.res;
+      };
       no_cause = none;
       refused = tt;
       back = tt;

@@ -1,0 +1,44 @@
+-- What an opening answers holds after one more event too, which makes no connection and closes no node.
+use Rattle.std.proofs.Common.{◌≡◌, ℕ, ◌+◌, ◌<◌, Bool, true, false, List, [], ◌∷◌, ◌++◌, length, Option, Some, None, cond, IsTrue, IfSome}
+use Rattle.std.proofs.Common.{refl, sym, ap, subst, ◌∙◌, inl, inr, ◌⊎◌, arith, length-append}
+use Rattle.std.specs.Option.{option_map_or}
+use Rattle.std.proofs.lemmas.Bool.{cases_order}
+use Rattle.rx_event.specs.declared.event.Event.{Event}
+use Rattle.rx_event.specs.Tree.{at}
+use Rattle.rx_event.proofs.Laws.Places.{at-append, at_within, slice_get_last}
+use Rattle.rx_book.specs.declared.answer.Opened.{Opened}
+use Rattle.rx_book.specs.declared.key.Key.{Key}
+use Rattle.rx_book.specs.State.{State, has_key}
+use Rattle.rx_book.specs.Answers.{IsOpened, connection_made, makes_connection}
+
+-- past the end of a history there is no event
+none_past : (p : Event → Bool) (h : List Event) (n : ℕ) → (n < length h → ⊥) → at p h n ≡ false
+none_past p h n past = by_test (at p h n) refl where
+  by_test : (b : Bool) → at p h n ≡ b → b ≡ false
+  by_test true found = absurd (past (at_within p h n found))
+  by_test false found = refl
+
+made_on : (h m : List Event) (e : Event) → makes_connection e ≡ false → connection_made h m ≡ connection_made h (m ++ e ∷ [])
+made_on h m e none = ap (λ (b : Bool). cond b (Some (length h + 1)) None) (by_place (cases_order (length h + 1) (length m))) where
+  longer : length (m ++ e ∷ []) ≡ length m + 1
+  longer = length-append m (e ∷ [])
+
+  last : at makes_connection (m ++ e ∷ []) (length m) ≡ false
+  last = ap (λ (o : Option Event). option_map_or makes_connection o false) (slice_get_last m e) ∙ none
+
+  by_place : (length h + 1 ≡ length m) ⊎ ((length h + 1 < length m) ⊎ (length m < length h + 1)) →
+      at makes_connection m (length h + 1) ≡ at makes_connection (m ++ e ∷ []) (length h + 1)
+  by_place (inl same) =
+      none_past makes_connection m (length h + 1) (λ l. omega arith) ∙ sym last ∙ ap (at makes_connection (m ++ e ∷ [])) (sym same)
+  by_place (inr (inl l)) = sym (at-append makes_connection m (e ∷ []) (length h + 1) l)
+  by_place (inr (inr past)) =
+      none_past makes_connection m (length h + 1) (λ l. omega arith) ∙
+      sym (none_past makes_connection (m ++ e ∷ []) (length h + 1) (λ l. let n = longer in omega arith))
+
+pub opened_after : (old mid new : State) (e : Event) {o : Opened} → makes_connection e ≡ false → new.history ≡ mid.history ++ e ∷ [] →
+    new.keys ≡ mid.keys → IsOpened old mid o → IsOpened old new o
+opened_after old mid new e {o} none grown same opened = record {
+  key = record { number = opened.key.number; listed = ap (λ (keys : List Key). has_key keys o.key) same ∙ opened.key.listed };
+  connection = opened.connection ∙ made_on old.history mid.history e none ∙ ap (connection_made old.history) (sym grown);
+  connected = subst (λ (keys : List Key). IfSome o.connected (λ k. IsTrue (has_key keys k))) (sym same) opened.connected;
+}
