@@ -12,6 +12,7 @@ const TAG: u64 = 7;
 pub(super) enum Asking {
     Open(At, Kind),
     OpenUsing(At),
+    OpenHolding(At, Kind),
     Hold(Key),
     Apply(ResKey),
     Lease(ResKey),
@@ -40,6 +41,10 @@ pub(super) fn ask(book: &mut Probe<Sample>, asking: Asking) -> Outcome {
         },
         Asking::OpenUsing(at) => match book.open_using(at, Sample::new(TAG)) {
             Ok(opened) => Outcome::Opened(opened.key),
+            Err(back) => given_back(back),
+        },
+        Asking::OpenHolding(at, kind) => match book.open_holding(at, kind, Sample::new(TAG)) {
+            Ok(holding) => Outcome::Opened(holding.opened.key),
             Err(back) => given_back(back),
         },
         Asking::Hold(node) => match book.hold(node, Sample::new(TAG)) {
@@ -116,6 +121,7 @@ fn is_there(book: &Probe<Sample>, asking: Asking) -> Option<bool> {
     match asking {
         Asking::Open(at, _) => is_place(book, at),
         Asking::OpenUsing(at) => is_place(book, at),
+        Asking::OpenHolding(at, _) => is_place(book, at),
         Asking::Hold(node) => Some(book.is_open(node)),
         Asking::Next(leaf) => Some(book.is_open(leaf)),
         Asking::Apply(res) => Some(book.is_held(res)),

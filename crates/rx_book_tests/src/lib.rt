@@ -19,6 +19,8 @@ mod just;
 #[cfg(test)]
 mod load;
 #[cfg(test)]
+mod opening_holding;
+#[cfg(test)]
 mod parts;
 #[cfg(test)]
 mod probe;

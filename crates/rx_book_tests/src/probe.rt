@@ -1,7 +1,9 @@
 //! A book as the tests see it: its calls with answers that can be compared. They have no contract, as
 //! a test compares values when it runs.
 
-use rx_book::{At, Book, Closed, Key, LeaseKey, Mail, Opened, OpenedUsing, Refused, ResKey};
+use rx_book::{
+    At, Book, Closed, Key, LeaseKey, Mail, Opened, OpenedHolding, OpenedUsing, Refused, ResKey,
+};
 use rx_event::{Event, Kind, Mode, Refusal, Terminal};
 use rx_resource::{Life, Resource};
 use std::alloc::Global;
@@ -69,6 +71,18 @@ impl<R: Resource> Probe<R> {
 
     pub(super) fn open_using(&mut self, at: At, resource: R) -> Result<OpenedUsing, Back> {
         match self.book.open_using(at, resource) {
+            Ok(opened) => Ok(opened),
+            Err(refused) => Err(back_of(refused)),
+        }
+    }
+
+    pub(super) fn open_holding(
+        &mut self,
+        at: At,
+        kind: Kind,
+        resource: R,
+    ) -> Result<OpenedHolding, Back> {
+        match self.book.open_holding(at, kind, resource) {
             Ok(opened) => Ok(opened),
             Err(refused) => Err(back_of(refused)),
         }

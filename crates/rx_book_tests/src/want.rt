@@ -39,6 +39,7 @@ fn done_in_the_end(
 enum Made {
     Open(Kind),
     OpenUsing,
+    OpenHolding,
     OpenBelow,
     OpenInner,
     OpenNotifier,
@@ -51,6 +52,7 @@ enum Made {
     Hub,
     Connect,
     Subscribe,
+    SubscribeHolding,
 }
 
 // What a book has for such calls: the first of its hubs that are connected by hand and of those with RefCount,
@@ -122,6 +124,7 @@ fn first_of(scene: Scene, made: Made) -> Asking {
     match made {
         Made::Open(kind) => Asking::Open(At::Root, kind),
         Made::OpenUsing => Asking::OpenUsing(At::Root),
+        Made::OpenHolding => Asking::OpenHolding(At::Root, Kind::Leaf),
         Made::OpenBelow => Asking::Open(At::Source(scene.root), Kind::Pass),
         Made::OpenInner => Asking::Open(At::Inner(scene.flat), Kind::Pass),
         Made::OpenNotifier => Asking::Open(At::Notifier(scene.until), Kind::Until),
@@ -134,6 +137,7 @@ fn first_of(scene: Scene, made: Made) -> Asking {
         Made::Hub => Asking::Hub,
         Made::Connect => Asking::Connect(scene.manual),
         Made::Subscribe => Asking::Open(At::Root, Kind::Sub(scene.auto)),
+        Made::SubscribeHolding => Asking::OpenHolding(At::Root, Kind::Sub(scene.auto)),
     }
 }
 
@@ -148,6 +152,9 @@ fn following(asking: Asking, outcome: Outcome) -> Asking {
         Asking::OpenUsing(At::Source(_)) => Asking::Open(At::Source(key), Kind::Pass),
         Asking::Open(At::Notifier(_), kind) => Asking::Open(At::Notifier(key), kind),
         Asking::Open(at, Kind::Sub(hub)) => Asking::Open(at, Kind::Sub(hub.wrapping_add(1))),
+        Asking::OpenHolding(at, Kind::Sub(hub)) => {
+            Asking::OpenHolding(at, Kind::Sub(hub.wrapping_add(1)))
+        }
         Asking::Connect(hub) => Asking::Connect(hub.wrapping_add(1)),
         _ => asking,
     }
@@ -257,10 +264,11 @@ fn are_refused_first<T: Abort>(rt: &T, alloc: Global, calls: &[Made]) -> Result<
     Ok(())
 }
 
-const WITHOUT_INNERS: [Made; 3] = [
+const WITHOUT_INNERS: [Made; 4] = [
     Made::Open(Kind::Pass),
     Made::Open(Kind::Leaf),
     Made::OpenUsing,
+    Made::OpenHolding,
 ];
 
 #[test]
@@ -309,9 +317,11 @@ fn an_item_or_a_hub_that_is_refused_memory_changes_nothing(rt: HostRuntime) -> R
     are_refused_first(&rt, rt.alloc(), &ITEMS)
 }
 
+const CONNECTED: [Made; 3] = [Made::Connect, Made::Subscribe, Made::SubscribeHolding];
+
 #[test]
 fn a_connection_that_is_refused_memory_changes_nothing(rt: HostRuntime) -> Result<(), Fail> {
-    are_refused_first(&rt, rt.alloc(), &[Made::Connect, Made::Subscribe])
+    are_refused_first(&rt, rt.alloc(), &CONNECTED)
 }
 
 // Takes all notes, and makes a checkpoint with no memory at first: what came of it, and how often it was refused.
