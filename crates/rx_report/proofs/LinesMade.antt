@@ -55,6 +55,12 @@ module _ {A : Type 0} (binding : A → Binding) (xs : List A) (i : ℕ) (x : A) 
       ∙ ap (λ t. node_lines h (map binding (take i xs)) ++ cond t (node_shown h (binding x)) []) (sym untold)
       ∙ sym (ap (node_lines h) bindings_more ∙ node_lines-push h (map binding (take i xs)) (binding x)))
 
+  pub res_line_more : (h : List Event) (old mid new : List ℕ) → mid ≡ old ++ res_lines h (map binding (take i xs)) → new ≡ mid ++ res_shown h (binding x)
+      → new ≡ old ++ res_lines h (map binding (take (i + 1) xs))
+  res_line_more h old mid new before here =
+      here ∙ ap (λ l. l ++ res_shown h (binding x)) before ∙ append_assoc old (res_lines h (map binding (take i xs))) (res_shown h (binding x))
+      ∙ ap (λ l. old ++ l) (sym (ap (res_lines h) bindings_more ∙ res_lines-push h (map binding (take i xs)) (binding x)))
+
 -- a node's line, from what the book and its tallies say
 pub node_line_shown : (h : List Event) (x : Named Key) (name : List ℕ) (open_now : Bool) (told : List Note)
     → name ≡ name_of x → open_now ≡ is_open h x.key.number → told ≡ notes_to h x.key.number
