@@ -1,4 +1,4 @@
-use Rattle.std.proofs.Common.{◌≡◌, ◌++◌, ◌∷◌, [], Some, None, true, false, refl, string_bytes}
+use Rattle.std.proofs.Common.{◌≡◌, ◌++◌, ◌∷◌, [], Some, None, true, false, refl, string_bytes, sym, ◌∙◌}
 use Rattle.std.specs.Prelude.{is_some}
 use Rattle.std.proofs.lemmas.Bool.{or_left, or_right, or_from}
 use Rattle.rx_scenario.specs.Scenario.{site_of}
@@ -11,26 +11,26 @@ use Rattle.rx_script.proofs.engine.using.Goals as goal
 
 pub returns-in_default : goal.returns-in_default
 returns-in_default g c =
-    let none : at_of c.args.engine.now.nodes (site_of c.args.site.now) ≡ None = cc in
+    let none : at_of c.args.engine.now.nodes (site_of c.args.site.now) ≡ None = sym c.place_of.ensures ∙ c.in_default.is in
     using_nameless c.args.engine.now (string_bytes c.args.name) (site_of c.args.site.now) (string_bytes c.args.res) c.requires none
 
 pub returns-then-is_bound : goal.returns-then-is_bound
 returns-then-is_bound g c =
-    let at : at_of c.args.engine.now.nodes (site_of c.args.site.now) ≡ Some c.in-Some.place = cc in
+    let at : at_of c.args.engine.now.nodes (site_of c.args.site.now) ≡ Some c.in-Some.place = sym c.place_of.ensures ∙ c.in-Some.is in
     let node_taken : is_some (key_of c.args.engine.now.nodes (string_bytes c.args.name)) ≡ true = cc in
     using_taken c.args.engine.now (string_bytes c.args.name) (site_of c.args.site.now)
     (string_bytes c.args.res) c.requires c.in-Some.place at (or_left _ _ node_taken)
 
 pub returns-then-is_bound-2 : goal.returns-then-is_bound-2
 returns-then-is_bound-2 g c =
-    let at : at_of c.args.engine.now.nodes (site_of c.args.site.now) ≡ Some c.in-Some.place = cc in
+    let at : at_of c.args.engine.now.nodes (site_of c.args.site.now) ≡ Some c.in-Some.place = sym c.place_of.ensures ∙ c.in-Some.is in
     let res_taken : is_some (key_of c.args.engine.now.resources (string_bytes c.args.res)) ≡ true = cc in
     using_taken c.args.engine.now (string_bytes c.args.name) (site_of c.args.site.now)
     (string_bytes c.args.res) c.requires c.in-Some.place at (or_right _ _ res_taken)
 
 pub returns-in_default-take : goal.returns-in_default-take
 returns-in_default-take g c =
-    let at : at_of c.args.engine.now.nodes (site_of c.args.site.now) ≡ Some c.in-Some.place = cc in
+    let at : at_of c.args.engine.now.nodes (site_of c.args.site.now) ≡ Some c.in-Some.place = sym c.place_of.ensures ∙ c.in-Some.is in
     let node_free : is_some (key_of c.args.engine.now.nodes (string_bytes c.args.name)) ≡ false = cc in
     let res_free : is_some (key_of c.args.engine.now.resources (string_bytes c.args.res)) ≡ false = cc in
     using_stockless c.args.engine.now (string_bytes c.args.name) (site_of c.args.site.now)
@@ -39,7 +39,7 @@ returns-in_default-take g c =
 
 pub returns-in_ok-bind-in-Ok-2 : goal.returns-in_ok-bind-in-Ok-2
 returns-in_ok-bind-in-Ok-2 g c =
-    let at : at_of c.args.engine.now.nodes (site_of c.args.site.now) ≡ Some c.in-Some.place = cc in
+    let at : at_of c.args.engine.now.nodes (site_of c.args.site.now) ≡ Some c.in-Some.place = sym c.place_of.ensures ∙ c.in-Some.is in
     let node_free : is_some (key_of c.args.engine.now.nodes (string_bytes c.args.name)) ≡ false = cc in
     let res_free : is_some (key_of c.args.engine.now.resources (string_bytes c.args.res)) ≡ false = cc in
     let pushed : c.bind.new.self ≡ c.args.engine.now.nodes ++ record { name = c.args.name; key = c.in-Ok.opened.key } ∷ [] = c.in_ok-bind-in-Ok.ensures in
@@ -52,7 +52,7 @@ returns-in_ok-bind-in-Ok-2 g c =
 
 pub returns-in-Err : goal.returns-in-Err
 returns-in-Err g c =
-    let at : at_of c.args.engine.now.nodes (site_of c.args.site.now) ≡ Some c.in-Some.place = cc in
+    let at : at_of c.args.engine.now.nodes (site_of c.args.site.now) ≡ Some c.in-Some.place = sym c.place_of.ensures ∙ c.in-Some.is in
     let node_free : is_some (key_of c.args.engine.now.nodes (string_bytes c.args.name)) ≡ false = cc in
     let res_free : is_some (key_of c.args.engine.now.resources (string_bytes c.args.res)) ≡ false = cc in
     let ware : g.row.R.Denot → Ware = λ r. ware_of g.R.Resource r in

@@ -1,4 +1,4 @@
-use Rattle.std.proofs.Common.{◌≡◌, ◌++◌, ◌∷◌, [], Some, None, true, false, refl, string_bytes}
+use Rattle.std.proofs.Common.{◌≡◌, ◌++◌, ◌∷◌, [], Some, None, true, false, refl, string_bytes, sym, ◌∙◌}
 use Rattle.std.specs.Prelude.{is_some, option_map}
 use Rattle.rx_scenario.specs.Scenario.{site_of, sort_of}
 use Rattle.rx_agenda.specs.Names.{key_of}
@@ -11,27 +11,27 @@ use Rattle.rx_script.proofs.opening.open.Goals as goal
 
 pub returns-in_default : goal.returns-in_default
 returns-in_default g c =
-    let none : at_of c.args.engine.now.nodes (site_of c.args.site.now) ≡ None = cc in
+    let none : at_of c.args.engine.now.nodes (site_of c.args.site.now) ≡ None = sym c.place_of.ensures ∙ c.in_default.is in
     open_nameless c.args.engine.now (string_bytes c.args.name) (site_of c.args.site.now) (sort_of c.args.sort) c.requires none
 
 pub returns-in_default-kind_of : goal.returns-in_default-kind_of
 returns-in_default-kind_of g c =
-    let at : at_of c.args.engine.now.nodes (site_of c.args.site.now) ≡ Some c.in-Some.place = cc in
-    let none : kind_of c.args.engine.now.hubs (sort_of c.args.sort) ≡ None = cc in
+    let at : at_of c.args.engine.now.nodes (site_of c.args.site.now) ≡ Some c.in-Some.place = sym c.place_of.ensures ∙ c.in-Some.is in
+    let none : kind_of c.args.engine.now.hubs (sort_of c.args.sort) ≡ None = sym c.kind_of.ensures ∙ c.in_default-kind_of.is in
     open_hubless c.args.engine.now (string_bytes c.args.name) (site_of c.args.site.now) (sort_of c.args.sort) c.requires c.in-Some.place at none
 
 pub returns-then-is_bound : goal.returns-then-is_bound
 returns-then-is_bound g c =
-    let at : at_of c.args.engine.now.nodes (site_of c.args.site.now) ≡ Some c.in-Some.place = cc in
-    let is : kind_of c.args.engine.now.hubs (sort_of c.args.sort) ≡ Some c.in-Some-kind_of.kind = cc in
+    let at : at_of c.args.engine.now.nodes (site_of c.args.site.now) ≡ Some c.in-Some.place = sym c.place_of.ensures ∙ c.in-Some.is in
+    let is : kind_of c.args.engine.now.hubs (sort_of c.args.sort) ≡ Some c.in-Some-kind_of.kind = sym c.kind_of.ensures ∙ c.in-Some-kind_of.is in
     let taken : is_some (key_of c.args.engine.now.nodes (string_bytes c.args.name)) ≡ true = cc in
     open_taken c.args.engine.now (string_bytes c.args.name) (site_of c.args.site.now)
     (sort_of c.args.sort) c.requires c.in-Some.place at c.in-Some-kind_of.kind is taken
 
 pub returns-then-is_taken_beside : goal.returns-then-is_taken_beside
 returns-then-is_taken_beside g c =
-    let at : at_of c.args.engine.now.nodes (site_of c.args.site.now) ≡ Some c.in-Some.place = cc in
-    let is : kind_of c.args.engine.now.hubs (sort_of c.args.sort) ≡ Some c.in-Some-kind_of.kind = cc in
+    let at : at_of c.args.engine.now.nodes (site_of c.args.site.now) ≡ Some c.in-Some.place = sym c.place_of.ensures ∙ c.in-Some.is in
+    let is : kind_of c.args.engine.now.hubs (sort_of c.args.sort) ≡ Some c.in-Some-kind_of.kind = sym c.kind_of.ensures ∙ c.in-Some-kind_of.is in
     let free : is_some (key_of c.args.engine.now.nodes (string_bytes c.args.name)) ≡ false = cc in
     let taken : is_taken_beside c.args.engine.now.nodes (string_bytes c.args.name) (connection_name (sort_of c.args.sort)) ≡ true = cc in
     open_taken_beside c.args.engine.now (string_bytes c.args.name) (site_of c.args.site.now)
@@ -48,8 +48,8 @@ bind_connection-requires g c =
 
 pub returns-in_ok-bind_connection-in-Ok : goal.returns-in_ok-bind_connection-in-Ok
 returns-in_ok-bind_connection-in-Ok g c =
-    let at : at_of c.args.engine.now.nodes (site_of c.args.site.now) ≡ Some c.in-Some.place = cc in
-    let is : kind_of c.args.engine.now.hubs (sort_of c.args.sort) ≡ Some c.in-Some-kind_of.kind = cc in
+    let at : at_of c.args.engine.now.nodes (site_of c.args.site.now) ≡ Some c.in-Some.place = sym c.place_of.ensures ∙ c.in-Some.is in
+    let is : kind_of c.args.engine.now.hubs (sort_of c.args.sort) ≡ Some c.in-Some-kind_of.kind = sym c.kind_of.ensures ∙ c.in-Some-kind_of.is in
     let free : is_some (key_of c.args.engine.now.nodes (string_bytes c.args.name)) ≡ false = cc in
     let beside : is_taken_beside c.args.engine.now.nodes (string_bytes c.args.name) (connection_name (sort_of c.args.sort)) ≡ false = cc in
     let pushed : c.bind.new.self ≡ c.args.engine.now.nodes ++ record { name = c.args.name; key = c.in-Ok.opened.key } ∷ [] = c.in_ok-bind-in-Ok.ensures in
@@ -62,8 +62,8 @@ returns-in_ok-bind_connection-in-Ok g c =
 
 pub returns-in-Err : goal.returns-in-Err
 returns-in-Err g c =
-    let at : at_of c.args.engine.now.nodes (site_of c.args.site.now) ≡ Some c.in-Some.place = cc in
-    let is : kind_of c.args.engine.now.hubs (sort_of c.args.sort) ≡ Some c.in-Some-kind_of.kind = cc in
+    let at : at_of c.args.engine.now.nodes (site_of c.args.site.now) ≡ Some c.in-Some.place = sym c.place_of.ensures ∙ c.in-Some.is in
+    let is : kind_of c.args.engine.now.hubs (sort_of c.args.sort) ≡ Some c.in-Some-kind_of.kind = sym c.kind_of.ensures ∙ c.in-Some-kind_of.is in
     let free : is_some (key_of c.args.engine.now.nodes (string_bytes c.args.name)) ≡ false = cc in
     let beside : is_taken_beside c.args.engine.now.nodes (string_bytes c.args.name) (connection_name (sort_of c.args.sort)) ≡ false = cc in
     answered _ _ _ c.refused.ensures.ok
