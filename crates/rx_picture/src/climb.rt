@@ -4,10 +4,11 @@ ghost use Rattle.std.specs.Prelude.{◌≡◌, ◌&&◌, ◌++◌, IfOk, OnOk, i
 ghost use Rattle.std.specs.Option.{option_and_then, option_to_list};
 ghost use Rattle.rx_event.specs.Events.{is_merging, is_subscriber_of};
 ghost use Rattle.rx_event.specs.Tree.{at, is_open, open_subscribers, parent};
-ghost use Rattle.rx_event.specs.Climb.{stop_at, onward_from, onward, climb};
+ghost use Rattle.rx_event.specs.Climb.{stop_made, stop_at, onward_from, onward, climb};
 ghost use Rattle.rx_event.specs.Notes.{told};
 ghost use Rattle.rx_picture.specs.Told.{AreEndsOf};
 
+use crate::event_tests::at;
 use crate::firsts::value_at;
 use crate::lines::parent_of;
 use rx_event::{Event, MOST_VISITS, Mail, Place};
@@ -18,10 +19,7 @@ use std::alloc::{AllocError, Global};
 fn is_merging_at(past: &[Event], f: u64) -> bool
     ensures { result ≡ at is_merging past.now f }
 {
-    match past.get(f as usize).copied() {
-        Some(event) => event.is_merging(),
-        None => false,
-    }
+    at(Event::is_merging, past, f)
 }
 
 /// What a leaf emits.
@@ -31,29 +29,25 @@ pub struct Emitted {
     pub value: i64,
 }
 
-/// What an item says that arrives at node `n`, if it stops there and tells somebody.
-pub fn mail_at(past: &[Event], n: u64, item: Emitted) -> Option<Mail>
-    ensures { result ≡ option_and_then (told (length past.now) item.value) (stop_at past.now n) }
+/// What an item says that arrives at node `n`, which the event made.
+fn mail_of(past: &[Event], n: u64, event: Event, item: Emitted) -> Option<Mail>
+    ensures { result ≡ option_and_then (told (length past.now) item.value) (stop_made past.now n event) }
 {
     let value = item.value;
     let place = past.len() as u64;
-    match past.get(n as usize).copied() {
-        Some(
-            Event::Open {
-                place: Place::Root,
-                ..
-            },
-        ) => Some(Mail {
+    match event {
+        Event::Open {
+            place: Place::Root,
+            ..
+        } => Some(Mail {
             place,
             to: n,
             note: Note::Next(value),
         }),
-        Some(
-            Event::Open {
-                place: Place::Source(f),
-                ..
-            },
-        ) => {
+        Event::Open {
+            place: Place::Source(f),
+            ..
+        } => {
             if is_merging_at(past, f) {
                 Some(Mail {
                     place,
@@ -68,17 +62,38 @@ pub fn mail_at(past: &[Event], n: u64, item: Emitted) -> Option<Mail>
     }
 }
 
-/// Whether an item goes no further than node `n`.
-fn stops_at(past: &[Event], n: u64) -> bool
-    ensures { result ≡ is_some (stop_at past.now n) }
+/// What an item says that arrives at node `n`, if it stops there and tells somebody.
+pub fn mail_at(past: &[Event], n: u64, item: Emitted) -> Option<Mail>
+    ensures { result ≡ option_and_then (told (length past.now) item.value) (stop_at past.now n) }
 {
     match past.get(n as usize).copied() {
-        Some(Event::Open { place, .. }) => match place {
+        Some(event) => mail_of(past, n, event, item),
+        None => None,
+    }
+}
+
+/// Whether an item goes no further than node `n`, which the event made.
+fn is_stop(past: &[Event], n: u64, event: Event) -> bool
+    ensures { result ≡ is_some (stop_made past.now n event) }
+{
+    let _ = n;
+    match event {
+        Event::Open { place, .. } => match place {
             Place::Root | Place::Notifier(_) => true,
             Place::Source(f) => is_merging_at(past, f),
             Place::Inner(_) => false,
         },
         _ => false,
+    }
+}
+
+/// Whether an item goes no further than node `n`.
+fn stops_at(past: &[Event], n: u64) -> bool
+    ensures { result ≡ is_some (stop_at past.now n) }
+{
+    match past.get(n as usize).copied() {
+        Some(event) => is_stop(past, n, event),
+        None => false,
     }
 }
 

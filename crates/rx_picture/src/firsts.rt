@@ -40,30 +40,21 @@ pub fn note(table: &mut Vec<usize>, key: Option<u64>, place: usize)
 fn removed_at(events: &[Event], place: usize) -> Option<u64>
     ensures { result ≡ option_and_then removed_of (slice_get events.now place) }
 {
-    match events.get(place).copied() {
-        Some(event) => event.removed(),
-        None => None,
-    }
+    events.get(place)?.removed()
 }
 
 /// The lease that the event at the place returns.
 fn returned_at(events: &[Event], place: usize) -> Option<u64>
     ensures { result ≡ option_and_then returned_of (slice_get events.now place) }
 {
-    match events.get(place).copied() {
-        Some(event) => event.returned(),
-        None => None,
-    }
+    events.get(place)?.returned()
 }
 
 /// The resource that the event at the place hands out.
 fn taken_at(events: &[Event], place: usize) -> Option<u64>
     ensures { result ≡ option_and_then taken_of (slice_get events.now place) }
 {
-    match events.get(place).copied() {
-        Some(event) => event.taken(),
-        None => None,
-    }
+    events.get(place)?.taken()
 }
 
 /// By resource: the place of the first event that removes it, and the number of events where none

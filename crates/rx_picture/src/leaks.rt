@@ -6,6 +6,7 @@ ghost use Rattle.rx_event.specs.Tree.{at, places};
 ghost use Rattle.rx_picture.specs.Rows.{leaks};
 ghost use Rattle.rx_picture.specs.Tables.{AreTurns, was_taken};
 
+use crate::event_tests::at;
 use crate::firsts::value_at;
 use rx_event::Event;
 use std::alloc::{AllocError, Global};
@@ -14,10 +15,7 @@ use std::alloc::{AllocError, Global};
 fn is_resource_at(events: &[Event], n: usize) -> bool
     ensures { result ≡ at makes_resource events.now n }
 {
-    match events.get(n).copied() {
-        Some(event) => event.makes_resource(),
-        None => false,
-    }
+    at(Event::makes_resource, events, n as u64)
 }
 
 /// Whether number `n` is a resource that was never handed out.

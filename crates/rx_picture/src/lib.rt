@@ -24,6 +24,7 @@ mod choice;
 mod climb;
 mod columns;
 mod drawing;
+mod event_tests;
 mod firsts;
 mod lanes;
 mod laws;

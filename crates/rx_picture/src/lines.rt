@@ -6,6 +6,7 @@ ghost use Rattle.rx_event.specs.Tree.{at, is_open, parent};
 ghost use Rattle.rx_picture.specs.Rows.{Spans};
 ghost use Rattle.rx_picture.specs.Tables.{AreTurns, AreLines, was_shut};
 
+use crate::event_tests::at;
 use crate::firsts::value_at;
 use rx_event::Event;
 use std::alloc::{AllocError, Global};
@@ -15,24 +16,15 @@ use std::alloc::{AllocError, Global};
 pub fn parent_of(events: &[Event], n: usize) -> Option<u64>
     ensures { result ≡ parent events.now n }
 {
-    let named = match events.get(n).copied() {
-        Some(event) => event.parent(),
-        None => None,
-    };
-    match named {
-        Some(p) if p < n as u64 => Some(p),
-        _ => None,
-    }
+    let p = events.get(n)?.parent()?;
+    if p < n as u64 { Some(p) } else { None }
 }
 
 /// Whether the event at the place makes a node.
 fn is_node_at(events: &[Event], n: usize) -> bool
     ensures { result ≡ at makes_node events.now n }
 {
-    match events.get(n).copied() {
-        Some(event) => event.makes_node(),
-        None => false,
-    }
+    at(Event::makes_node, events, n as u64)
 }
 
 /// The place at which node `n` is taken away, by itself or with a node above it.

@@ -16,14 +16,29 @@ use crate::tables::Tables;
 use rx_event::Event;
 use std::alloc::{AllocError, Global};
 
+/// How node `n` ends by the event.
+fn ending_by(n: usize, event: Event) -> Ending
+    ensures { result ≡ ending_by n (Some event) }
+{
+    match event {
+        Event::End(m, terminal) => {
+            if m == n as u64 {
+                Ending::Ended(terminal)
+            } else {
+                Ending::Disposed
+            }
+        }
+        _ => Ending::Disposed,
+    }
+}
+
 /// How node `n` ends by the event at the place, if there is one.
 fn ending_at(events: &[Event], n: usize, until: usize) -> Ending
     ensures { result ≡ ending_by n (slice_get events.now until) }
 {
     match events.get(until).copied() {
+        Some(event) => ending_by(n, event),
         None => Ending::Lasting,
-        Some(Event::End(m, terminal)) if m == n as u64 => Ending::Ended(terminal),
-        Some(_) => Ending::Disposed,
     }
 }
 
