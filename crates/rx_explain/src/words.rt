@@ -66,19 +66,20 @@ pub fn is_among(word: &str, list: &str) -> bool {
 
 // How many bytes both have in common at their fronts.
 fn same_front(left: &[u8], right: &[u8]) -> usize {
-    for place in 0..left.len() {
-        if left.get(place) != right.get(place) {
+    let most = left.len().min(right.len());
+    for place in 0..most {
+        if left[place] != right[place] {
             return place;
         }
     }
-    left.len()
+    most
 }
 
 // How many bytes both have in common at their ends.
 fn same_back(left: &[u8], right: &[u8]) -> usize {
     let most = left.len().min(right.len());
     for back in 0..most {
-        if left.get(left.len() - 1 - back) != right.get(right.len() - 1 - back) {
+        if left[left.len() - 1 - back] != right[right.len() - 1 - back] {
             return back;
         }
     }
