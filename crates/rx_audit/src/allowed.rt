@@ -186,10 +186,7 @@ fn is_free(past: &[Event], found: &Found, marks: &Vec<Marks>, place: Place) -> b
 fn node_of_resource(past: &[Event], r: u64) -> Option<u64>
     ensures { result ≡ option_and_then node_of_accept (slice_get past.now r) }
 {
-    match past.get(r as usize).copied() {
-        Some(event) => event.held_at(),
-        None => None,
-    }
+    past.get(r as usize)?.held_at()
 }
 
 /// Whether node `n` is open, and resource `r`, which is in the history, was not removed.

@@ -3,7 +3,7 @@
 ghost use Rattle.std.specs.Prelude.{◌≡◌, ℕ, ◌-◌, ◌<◌, false, true, [], Some, None, OnOk, length, is_some, sum_by};
 ghost use Rattle.std.specs.Option.{option_and_then, option_to_list};
 ghost use Rattle.rx_event.specs.Tree.{at, parent};
-ghost use Rattle.rx_event.specs.Climb.{stop_at, onward_from, onward};
+ghost use Rattle.rx_event.specs.Climb.{stop_made, stop_at, onward_from, onward};
 ghost use Rattle.rx_audit.specs.Listed.{AreLinked, AreOpenListed};
 ghost use Rattle.rx_audit.specs.Rules.{fired_by, projected_by};
 
@@ -49,17 +49,28 @@ pub fn fired_at(past: &[Event], n: u64) -> Option<u64>
     }
 }
 
-/// Whether an item goes no further than node `n`.
-fn stops_at(past: &[Event], n: u64) -> bool
-    ensures { result ≡ is_some (stop_at past.now n) }
+/// Whether an item goes no further than node `n`, which the event made.
+fn is_stop(past: &[Event], n: u64, event: Event) -> bool
+    ensures { result ≡ is_some (stop_made past.now n event) }
 {
-    match past.get(n as usize).copied() {
-        Some(Event::Open { place, .. }) => match place {
+    let _ = n;
+    match event {
+        Event::Open { place, .. } => match place {
             Place::Root | Place::Notifier(_) => true,
             Place::Source(f) => at(Event::is_merging, past, f),
             Place::Inner(_) => false,
         },
         _ => false,
+    }
+}
+
+/// Whether an item goes no further than node `n`.
+fn stops_at(past: &[Event], n: u64) -> bool
+    ensures { result ≡ is_some (stop_at past.now n) }
+{
+    match event_at(past, n as usize) {
+        Some(event) => is_stop(past, n, event),
+        None => false,
     }
 }
 

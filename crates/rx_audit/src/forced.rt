@@ -8,7 +8,7 @@ ghost use Rattle.rx_event.specs.Forced.{IsForced};
 ghost use Rattle.rx_event.specs.Sames.{same_terminal};
 ghost use Rattle.rx_audit.specs.Tables.{IsMarked};
 ghost use Rattle.rx_audit.specs.Marking.{IsKept, ends_so, forced_end};
-ghost use Rattle.rx_audit.specs.HubTables.{terminal_of_word, ends_last_so, cut_so, ends_now, forced_now};
+ghost use Rattle.rx_audit.specs.HubTables.{terminal_of, terminal_of_word, ends_last_so, cut_so, ends_now, forced_now};
 ghost use Rattle.rx_audit.specs.Rules.{has_key, open_connected, open_subscribed, open_waiting};
 ghost use Rattle.rx_audit.specs.Rules.{connect_due, any_connect_due, is_left, close_due, is_cut};
 ghost use Rattle.rx_audit.specs.Standing.{IsKnown};
@@ -60,7 +60,10 @@ fn leads_past(word: usize, s: u64) -> bool
 fn leads_no_less(word: usize, other: usize) -> bool
     ensures { result ≡ (nat_lt 0 word && not (nat_lt word other)) }
 {
-    word > 0 && !(word < other)
+    if word < other {
+        return false;
+    }
+    word > 0
 }
 
 /// Whether hub `g` has an open connection.
@@ -139,6 +142,16 @@ pub fn close_due(past: &[Event], live: &[bool], nodes: &Nodes, c: u64) -> bool
         }
 }
 
+/// How the event ends a node, if it ends one.
+fn terminal_of(event: Event) -> Option<Terminal>
+    ensures { result ≡ terminal_of event }
+{
+    match event {
+        Event::End(_, terminal) => Some(terminal),
+        _ => None,
+    }
+}
+
 /// How the event before this word's place ends a node, if it ends one.
 fn terminal_of_word(past: &[Event], word: usize) -> Option<Terminal>
     ensures { result ≡ terminal_of_word past.now word }
@@ -146,10 +159,7 @@ fn terminal_of_word(past: &[Event], word: usize) -> Option<Terminal>
     if word == 0 {
         return None;
     }
-    match past.get(word - 1).copied() {
-        Some(Event::End(_, terminal)) => Some(terminal),
-        _ => None,
-    }
+    terminal_of(*past.get(word - 1)?)
 }
 
 /// Whether the last end of a connection of the hub of node `s` is so.

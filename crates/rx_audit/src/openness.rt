@@ -15,27 +15,16 @@ use rx_event::Event;
 pub fn parent_of(past: &[Event], n: usize) -> Option<u64>
     ensures { result ≡ parent past.now n }
 {
-    let named = match past.get(n).copied() {
-        Some(Event::Open { place, .. }) => place.above(),
-        _ => None,
-    };
-    match named {
-        Some(p) if p < n as u64 => Some(p),
-        _ => None,
-    }
+    let p = past.get(n)?.parent()?;
+    if p < n as u64 { Some(p) } else { None }
 }
 
 /// The node above the one that the event makes as number `n`.
 pub fn parent_of_new(event: Event, n: u64) -> Option<u64>
     ensures { result ≡ option_and_then (if_less n) (parent_named event) }
 {
-    match event {
-        Event::Open { place, .. } => match place.above() {
-            Some(p) if p < n => Some(p),
-            _ => None,
-        },
-        _ => None,
-    }
+    let p = event.parent()?;
+    if p < n { Some(p) } else { None }
 }
 
 /// Whether the node that the event makes is open.

@@ -32,20 +32,14 @@ pub struct Subscribers {
 pub fn hub_subscribed_at(past: &[Event], k: u64) -> Option<u64>
     ensures { result ≡ hub_subscribed_at past.now k }
 {
-    match past.get(k as usize).copied() {
-        Some(event) => event.subscribes_to(),
-        None => None,
-    }
+    past.get(k as usize)?.subscribes_to()
 }
 
 /// The hub that node `k` connects.
 pub fn hub_connected_at(past: &[Event], k: u64) -> Option<u64>
     ensures { result ≡ hub_connected_at past.now k }
 {
-    match past.get(k as usize).copied() {
-        Some(event) => event.connects(),
-        None => None,
-    }
+    past.get(k as usize)?.connects()
 }
 
 /// There are no subscribers, with room for this many events.
