@@ -1,6 +1,6 @@
 -- A call that may take memory is let in: nothing stands against it, and its cost is room that was gotten.
-use Rattle.std.proofs.Common.{◌≡◌, ℕ, ◌+◌, ◌≤◌, length, cond, List, Bool, true, false, Option, Some, None, refl, sym, ap, subst, ◌∙◌, arith}
-use Rattle.std.specs.Prelude.{ℤ, Result, Ok, Err, IsErrAnd}
+use Rattle.std.proofs.Common.{◌≡◌, ℕ, ◌+◌, ◌≤◌, length, cond, List, Bool, true, false, Option, Some, None, refl, sym, ap, subst, arith}
+use Rattle.std.specs.Prelude.{ℤ}
 use Rattle.rx_resource.specs.declared.Resource.{Ghosts}
 use Rattle.rx_event.specs.declared.refusal.Refusal.{Refusal}
 use Rattle.rx_event.specs.declared.refusal.Refusal.TheVariants.{Full}
@@ -23,7 +23,7 @@ use Rattle.rx_ground.specs.Reached.{IsReach}
 use Rattle.rx_ground.specs.Shown.{Ground}
 use Rattle.rx_ground.specs.Ties.{IsStanding, IsRoomier, HasRoomBeside}
 use Rattle.rx_book.specs.declared.admit.Wish.{Wish}
-use Rattle.rx_book.specs.declared.admit.Wish.TheVariants.{Open, OpenUsing, Hold, Apply, Lease, Emit, Publish, Connect}
+use Rattle.rx_book.specs.declared.admit.Wish.TheVariants.{Open, OpenUsing, Hold, Apply, Lease, Publish, Connect}
 use Rattle.rx_book.specs.State.{State}
 use Rattle.rx_book.specs.Requests.{Request, stands}
 use Rattle.rx_book.specs.Asked.{request_for}
@@ -53,7 +53,6 @@ counted base s (OpenUsing at tag is_fresh) limit = refl
 counted base s (Hold node tag is_fresh) limit = refl
 counted base s (Apply res) limit = refl
 counted base s (Lease res) limit = refl
-counted base s (Emit leaf value) limit = refl
 counted base s (Publish mode) limit = refl
 counted base s (Connect hub) limit = refl
 
@@ -64,48 +63,53 @@ ready s (OpenUsing at tag is_fresh) = tt
 ready s (Hold node tag is_fresh) = tt
 ready s (Apply res) = tt
 ready s (Lease res) = tt
-ready s (Emit leaf value) = tt
 ready s (Publish mode) = tt
 ready s (Connect hub) = tt
 
--- the cost is within the limit
-pub cost_within : (s : State) (wish : Wish) (cost : Wanted) → first_cause (stands s (request_for s wish)) ≡ None →
-    cost ≡ cost_of s.history (request_for s wish).call →
+-- the cost of what is asked is within the limit
+pub within_limit : (s : State) (asked : Request) (cost : Wanted) →
+    causes s.base s.history s.limit asked.is_fresh asked.call Full ≡ is_over s.base s.history s.limit (added_by s.history asked.call) →
+    first_cause (stands s asked) ≡ None → cost ≡ cost_of s.history asked.call →
     length s.history + debt s.base s.history + cost.events ≤ s.base.at_length + s.limit
-cost_within s wish cost none is =
-    let asked = request_for s wish in
-    let within = within_full s.base asked.call asked.is_known asked.is_fresh s.history s.limit (counted s.base s wish s.limit) none in
+within_limit s asked cost full none is =
+    let within = within_full s.base asked.call asked.is_known asked.is_fresh s.history s.limit full none in
     let added = ap (λ (w : Wanted). w.events) is in
     omega arith
 
+pub cost_within : (s : State) (wish : Wish) (cost : Wanted) → first_cause (stands s (request_for s wish)) ≡ None →
+    cost ≡ cost_of s.history (request_for s wish).call →
+    length s.history + debt s.base s.history + cost.events ≤ s.base.at_length + s.limit
+cost_within s wish cost none is = within_limit s (request_for s wish) cost (counted s.base s wish s.limit) none is
+
 -- with the room for it, it is admitted
-pub admitted : {T : Type 0} {g : Ghosts T} {old b : Ground T} (wish : Wish) (cost : Wanted) → IsRoomier old b → IsStanding g b → IsPromised b.register →
-    first_cause (stands (state_of g old) (request_for (state_of g old) wish)) ≡ None →
-    cost ≡ cost_of old.register.history (request_for (state_of g old) wish).call →
-    HasRoomBeside b cost → IsAdmitted g b (request_for (state_of g b) wish)
-admitted {g} {old} {b} wish cost roomier standing promised none is has =
+pub admitted_as : {T : Type 0} {g : Ghosts T} {old b : Ground T} (ask : State → Request) (cost : Wanted) →
+    IsReadyFor b.register.history (ask (state_of g b)).call → IsRoomier old b → IsStanding g b → IsPromised b.register →
+    first_cause (stands (state_of g old) (ask (state_of g old))) ≡ None → cost ≡ cost_of old.register.history (ask (state_of g old)).call →
+    HasRoomBeside b cost → IsAdmitted g b (ask (state_of g b))
+admitted_as {g} {old} {b} ask cost ready roomier standing promised none is has =
     let same = sym (state_roomier g old b roomier) in
-    let none_now = subst (λ (s : State). first_cause (stands s (request_for s wish)) ≡ None) same none in
-    let is_now = subst (λ (s : State). cost ≡ cost_of s.history (request_for s wish).call) same is in
+    let none_now = subst (λ (s : State). first_cause (stands s (ask s)) ≡ None) same none in
+    let is_now = subst (λ (s : State). cost ≡ cost_of s.history (ask s).call) same is in
     let events = ap (λ (w : Wanted). w.events) is_now in
     let notes = ap (λ (w : Wanted). w.notes) is_now in
     record {
-      let_in = let_in g b (request_for (state_of g b) wish) standing promised none_now (ready (state_of g b) wish) (record {
+      let_in = let_in g b (ask (state_of g b)) standing promised none_now ready (record {
         events = let e = has.events in omega arith;
         notes = let n = has.notes in omega arith;
       });
       room = subst (λ (w : Wanted). HasRoomBeside b w) is_now has;
     }
 
+pub admitted : {T : Type 0} {g : Ghosts T} {old b : Ground T} (wish : Wish) (cost : Wanted) → IsRoomier old b → IsStanding g b → IsPromised b.register →
+    first_cause (stands (state_of g old) (request_for (state_of g old) wish)) ≡ None →
+    cost ≡ cost_of old.register.history (request_for (state_of g old) wish).call →
+    HasRoomBeside b cost → IsAdmitted g b (request_for (state_of g b) wish)
+admitted {g} {old} {b} wish cost roomier standing promised none is has =
+    admitted_as (λ s. request_for s wish) cost (ready (state_of g b) wish) roomier standing promised none is has
+
 -- and room may come after a call that changes nothing
 pub roomier_after : {T : Type 0} (old mid new : Ground T) → mid ≡ old → IsRoomier mid new → IsRoomier old new
 roomier_after {T = T} old mid new same kept = subst (λ (b : Ground T). IsRoomier b new) same kept
-
--- what is passed on of an item that goes nowhere
-pub decided_none : (s : State) (asked : Request) (answer : Result Wanted Refusal) (why : Refusal) → IsErrAnd answer (λ e. e ≡ why) →
-    first_cause (stands s asked) ≡ Some why → IsDecided s asked answer
-decided_none s asked (Ok cost) why is first = absurd is
-decided_none s asked (Err e) why is first = record { ok = tt; few = tt; none = tt; err = first ∙ ap (λ (w : Refusal). Some w) (sym is) }
 
 -- the cost of an item, by what it reaches
 pub item_cost : (h : List Event) (nodes : Slots Node) (leaf : Key) (value : ℤ) (reach : Reach) → IsReach h nodes leaf reach →

@@ -1,20 +1,22 @@
 //! The calls that may take memory: what stands against each, and room for it.
 
-ghost use Rattle.std.specs.Prelude.{◌≡◌, IfErr, OnOk};
+ghost use Rattle.std.specs.Prelude.{◌≡◌, IfOk, IfErr, OnOk};
+ghost use Rattle.rx_ground.specs.Reached.{MakesOnly};
 ghost use Rattle.rx_ground.specs.Ties.{IsStanding};
 ghost use Rattle.rx_book.specs.Answers.{IsCauseOrWant};
 ghost use Rattle.rx_book.specs.Asked.{request_for};
-ghost use Rattle.rx_book.specs.Shown.{state_of};
+ghost use Rattle.rx_book.specs.Requests.{next_request};
+ghost use Rattle.rx_book.specs.Shown.{state_of, tree_key_of};
 ghost use Rattle.rx_book.specs.Steps.{IsAdmitted, IsDecided, unless_caused};
 
 use crate::answer::At;
 use crate::key::{Key, ResKey, tree_key, tree_res_key};
 use crate::place::spot_of;
 use rx_event::{Kind, Mode, Refusal};
-use rx_ground::{Ground, Wanted};
+use rx_ground::{Ground, Wanted, Way};
 use rx_resource::Resource;
 
-/// What a call asks for that may take memory.
+/// What a call asks for that may take memory, beside an item.
 #[derive(Clone, Copy)]
 pub(crate) enum Wish {
     /// A node, opened there.
@@ -27,8 +29,6 @@ pub(crate) enum Wish {
     Apply(ResKey),
     /// A lease of a held resource.
     Lease(ResKey),
-    /// An item of a leaf.
-    Emit(Key, i64),
     /// A hub.
     Publish(Mode),
     /// A connection of a hub.
@@ -80,10 +80,6 @@ fn decide<R: Resource>(ground: &mut Ground<R>, wish: Wish) -> Result<Wanted, Ref
             ground.leasing_cause(tree_res_key(res)),
             Wanted::of_leasing(),
         ),
-        Wish::Emit(leaf, value) => {
-            let reach = ground.route(tree_key(leaf), value)?;
-            Ok(Wanted::of_item(reach))
-        }
         Wish::Publish(mode) => unless(ground.publishing_cause(mode), Wanted::of_hub()),
         Wish::Connect(hub) => unless(ground.connecting_cause(hub), Wanted::of_connecting()),
     }
@@ -104,4 +100,27 @@ pub(crate) fn admit<R: Resource>(ground: &mut Ground<R>, wish: Wish) -> Result<(
     ground.make_room(cost)?;
     ground.promise();
     Ok(())
+}
+
+/// Lets an item of a leaf in likewise, and answers its way.
+#[inline(always)]
+pub(crate) fn admit_item<R: Resource>(
+    ground: &mut Ground<R>,
+    leaf: Key,
+    value: i64,
+) -> Result<Way, Refusal>
+    requires standing { IsStanding R.Resource ground.old }
+    ensures ok { OnOk result
+        (IsAdmitted R.Resource ground.new (next_request (state_of R.Resource ground.new) leaf value)) }
+    ensures only { IfOk result
+        (λ way. MakesOnly ground.new.tree.nodes ground.new.hubs.hubs (tree_key_of leaf) way.only) }
+    ensures err { IfErr result
+        (IsCauseOrWant (state_of R.Resource ground.old) (next_request (state_of R.Resource ground.old) leaf value)) }
+    ensures same { state_of R.Resource ground.new ≡ state_of R.Resource ground.old }
+    ensures standing { IsStanding R.Resource ground.new }
+{
+    let way = ground.route(tree_key(leaf), value)?;
+    ground.make_room(Wanted::of_item(way.reach))?;
+    ground.promise();
+    Ok(way)
 }

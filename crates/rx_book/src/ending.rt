@@ -7,7 +7,7 @@ ghost use Rattle.rx_book.specs.Answers.{AnswersPlace, AnswersPlaceOrWant};
 ghost use Rattle.rx_book.specs.Courses.{EmitsAll};
 
 use crate::Book;
-use crate::admit::{Wish, admit};
+use crate::admit::admit_item;
 use crate::asked::Asked;
 use crate::key::{Key, tree_key};
 use rx_event::{Refusal, Terminal};
@@ -41,9 +41,9 @@ impl<R: Resource> Book<R> {
     pub fn next(&mut self, leaf: Key, value: i64) -> Result<u64, Refusal>
         ensures { AnswersPlaceOrWant self.old (next_request self.old leaf value) self.new result }
     {
-        admit(&mut self.ground, Wish::Emit(leaf, value))?;
+        let way = admit_item(&mut self.ground, leaf, value)?;
         let place = self.ground.len();
-        self.ground.write_item(tree_key(leaf), value);
+        self.ground.write_item(tree_key(leaf), value, way);
         self.ground.settle();
         Ok(place)
     }

@@ -6,3 +6,4 @@ pub mod Ranges
 pub mod JustOpenHeldWaiting
 pub mod StaysHeld
 pub mod OwnedInTree
+pub mod OneStop

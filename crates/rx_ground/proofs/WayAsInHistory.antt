@@ -1,6 +1,6 @@
 -- Where an item goes by a tree and hubs is where it goes by their history, and what it wants there.
 use Rattle.std.proofs.Common.{◌≡◌, ℕ, ℤ, Bool, cond, count_by, ◌+◌, true, false, nat_lt, List, [], ◌∷◌, length, Option, Some, None, IsSome}
-use Rattle.std.proofs.Common.{IfSome, is_some, option_map, refl, sym, ap, subst, ◌∙◌, arith}
+use Rattle.std.proofs.Common.{IfSome, is_some, option_map, refl, sym, ap, ◌∙◌, arith}
 use Rattle.std.proofs.Math.Bool.{not}
 use Rattle.std.specs.List.{filter_map}
 use Rattle.std.specs.Option.{option_map_or}
@@ -22,21 +22,19 @@ use Rattle.rx_event.specs.Climb.{Stop as NumberedStop, Delivery as DeliveryTo, P
 use Rattle.rx_slots.specs.declared.Key.{Key}
 use Rattle.rx_slots.specs.Slots.{Slots, find}
 use Rattle.rx_tree.specs.declared.node.Node.{Node}
-use Rattle.rx_tree.specs.Tree.{Tree, IsSound, is_key}
-use Rattle.rx_tree.proofs.Laws.Keys.{key_is}
+use Rattle.rx_tree.specs.Tree.{Tree, IsSound}
 use Rattle.rx_flow.specs.declared.stop.Stop.{Stop}
 use Rattle.rx_flow.specs.declared.stop.Stop.TheVariants.{Delivery, Projection, Firing, Connection}
 use Rattle.rx_flow.specs.Claims.{numbered}
 use Rattle.rx_hub.specs.Hubs.{Hub, Hubs}
 use Rattle.rx_hub.specs.Walk.{IsWalk, stops_over}
 use Rattle.rx_hub.proofs.Laws.Walks.{all_stops_told, found_hub}
-use Rattle.rx_ground.specs.declared.base.Only.{Only}
 use Rattle.rx_ground.specs.declared.route.Reach.{Reach}
+use Rattle.rx_ground.specs.declared.route.Way.{Way}
 use Rattle.rx_ground.specs.Ties.{AreRecords, AreTied}
 use Rattle.rx_ground.specs.Reached.{IsReach}
-use Rattle.rx_ground.proofs.Bare.{stops_bare}
 use Rattle.rx_ground.proofs.Records.{as_records}
-use Rattle.rx_ground.specs.Passing.{IsMeasured, IsOnly, owed_at, told_at, sum_at}
+use Rattle.rx_ground.specs.Passing.{IsMeasured, owed_at, told_at, sum_at}
 
 -- an item may go over a tree and hubs of one history
 pub walk_tied : (base : Kept) → {T : Type 0} {g : Ghosts T} {h : List Event} {tree : Tree T} {hubs : Hubs} → AreTied base g h tree hubs → IsSound tree.nodes →
@@ -82,6 +80,13 @@ reach_told {base} h nodes hubs key walk there reach is = record {
   where
     same : stops h key.number ≡ filter_map numbered (stops_over nodes hubs key)
     same = all_stops_told base h nodes hubs key walk there
+
+-- so of what is measured, if anything is
+pub all_reach_told : {base : Kept} → (h : List Event) (nodes : Slots Node) (hubs : List Hub) (key : Key) → IsWalk base h nodes hubs →
+    IsSome (find nodes key) → (measured : Option Way) → IfSome measured (λ way. IsMeasured (stops_over nodes hubs key) way.reach) →
+    IfSome measured (λ way. IsReach h nodes key way.reach)
+all_reach_told h nodes hubs key walk there None is = tt
+all_reach_told h nodes hubs key walk there (Some way) is = reach_told h nodes hubs key walk there way.reach is
 
 -- refusals ----------------------------------------------------------------------------------------
 
@@ -136,23 +141,3 @@ module _ (base : Kept) (h : List Event) (limit : ℕ) (nodes : Slots Node) (chai
   cause_of-room reach full leaf narrow reached room =
       let few = test_is _ true narrow in
       row true leaf ∙ rw (few, ← reached.events, ← room) refl
-
--- the one stop ------------------------------------------------------------------------------------
-
--- what was counted of it is kept
-pub only_kept : (nodes : Slots Node) (hubs : List Hub) (leaf : Key) (counted : Option Stop) →
-    IfSome counted (λ stop. stops_over nodes hubs leaf ≡ stop ∷ []) →
-    (kept : Option Only) → kept ≡ option_map (λ stop. record { leaf = leaf; stop = stop }) counted → IfSome kept (IsOnly nodes.entries hubs)
-only_kept nodes hubs leaf counted one kept same = subst (λ (o : Option Only). IfSome o (IsOnly nodes.entries hubs)) (sym same) (by_value counted one) where
-  by_value : (o : Option Stop) → IfSome o (λ stop. stops_over nodes hubs leaf ≡ stop ∷ []) →
-      IfSome (option_map (λ stop. record { leaf = leaf; stop = stop }) o) (IsOnly nodes.entries hubs)
-  by_value None one = tt
-  by_value (Some stop) one = record { one = stops_bare nodes hubs leaf ∙ one }
-
--- and what is kept is of its leaf
-pub only_found : (nodes : Slots Node) (hubs : List Hub) (kept : Option Only) (only : Only) (leaf : Key) →
-    IfSome kept (IsOnly nodes.entries hubs) → kept ≡ Some only → is_key only.leaf leaf ≡ true → stops_over nodes hubs leaf ≡ only.stop ∷ []
-only_found nodes hubs kept only leaf is found same =
-    let one : IsOnly nodes.entries hubs only = subst (λ (o : Option Only). IfSome o (IsOnly nodes.entries hubs)) found is in
-    subst (λ (key : Key). stops_over nodes hubs key ≡ only.stop ∷ []) (key_is only.leaf leaf same)
-    (sym (stops_bare nodes hubs only.leaf) ∙ one.one)

@@ -21,10 +21,8 @@ use Rattle.rx_flow.specs.declared.stop.Reached.{Reached}
 use Rattle.rx_flow.specs.declared.stop.Stop.{Stop}
 use Rattle.rx_flow.specs.declared.stop.Stop.TheVariants.{Delivery, Projection, Firing, Connection}
 use Rattle.rx_flow.specs.Claims.{numbered}
-use Rattle.rx_hub.specs.Hubs.{Hub}
-use Rattle.rx_hub.specs.Walk.{arrival, stops_over}
+use Rattle.rx_hub.specs.Walk.{arrival}
 use Rattle.rx_register.specs.State.{State as Register}
-use Rattle.rx_ground.specs.declared.base.Only.{Only}
 use Rattle.rx_ground.specs.declared.route.Reach.{Reach}
 use Rattle.rx_ground.specs.Ties.{HasKey, Remarks}
 
@@ -84,10 +82,6 @@ pub record IsMeasured (stops : List Stop) (reach : Reach) : Type 0 where
 -- the nodes at these slots
 abbrev pub nodes_at : List (Option (Entry Node)) → Slots Node
 nodes_at entries = record { entries = entries; next_slot = 0; count = 0; room = 0 }
-
--- an item of this leaf makes this stop and no other
-pub record IsOnly (entries : List (Option (Entry Node))) (hubs : List Hub) (only : Only) : Type 0 where
-  pub one : stops_over (nodes_at entries) hubs only.leaf ≡ only.stop ∷ []
 
 -- the records of the open nodes, as they are marked after these stops of an item that is not yet written
 pub record ArePassed (base : Kept) (h : List Event) (done : List NumberedStop) (nodes : Slots Node) (chain : List Key) : Type 0 where

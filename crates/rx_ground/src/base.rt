@@ -9,7 +9,6 @@ ghost use Rattle.rx_slots.specs.Slots.{find};
 ghost use Rattle.rx_ground.specs.Ties.{IsRoomier, HasRoom, record_of};
 
 use rx_event::{Event, Marks};
-use rx_flow::Stop;
 use rx_hub::{Hubs, Route};
 use rx_lease::Leases;
 use rx_register::Register;
@@ -17,13 +16,6 @@ use rx_resource::Resource;
 use rx_tree::{Closed, Key, Tree};
 use std::alloc::AllocError;
 use std::marker::Model;
-
-/// The one stop that an item of a leaf makes.
-#[derive(Clone, Copy)]
-pub(crate) struct Only {
-    pub(crate) leaf: Key,
-    pub(crate) stop: Stop,
-}
 
 /// The register, the tree, the hubs and the leases. Between a caller's event and the last that it forces they are of
 /// one history, in which something is still due.
@@ -37,21 +29,18 @@ pub struct Ground<R: Resource> {
     pub(crate) closed: Vec<Closed>,
     // Where an item stands on its way. It has room for all hubs, so that an item takes no memory.
     pub(crate) route: Route,
-    // The way of the item that was measured last, where it makes just one stop and nothing was written since.
-    pub(crate) only: Option<Only>,
 }
 
 impl<R: Resource> Model for Ground<R> {
-    ghost use Rattle.std.specs.Prelude.{◌≡◌, ◌+◌, ◌-◌, ◌≤◌, [], length, vec_capacity, IfSome};
+    ghost use Rattle.std.specs.Prelude.{◌≡◌, ◌+◌, ◌-◌, ◌≤◌, [], length, vec_capacity};
     ghost use Rattle.rx_ground.specs.Shown.{Ground as Shown};
-    ghost use Rattle.rx_ground.specs.Passing.{IsOnly};
 
     ghost Value = { Shown R };
 
     ghost view = { λ b. record { register = b.register; tree = b.tree; hubs = b.hubs; leases = b.leases; space = vec_capacity b.closed - b.tree.nodes.count } };
 
     ghost invariant = { λ b. (b.closed.items ≡ []) × (b.tree.nodes.count ≤ vec_capacity b.closed) ×
-        (length b.hubs.hubs + b.hubs.room ≤ b.route.room) × IfSome b.only (IsOnly b.tree.nodes.entries b.hubs.hubs) };
+        (length b.hubs.hubs + b.hubs.room ≤ b.route.room) };
 }
 
 /// For how much a call wants room.

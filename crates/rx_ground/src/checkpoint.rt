@@ -57,7 +57,6 @@ impl<R: Resource> Ground<R> {
         let base = self.kept_base()?;
         self.register.rebase(base, load.debt)?;
         self.hubs.forget_ends();
-        self.only = None;
         Ok(())
     }
 }

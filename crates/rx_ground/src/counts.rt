@@ -46,7 +46,6 @@ impl<R: Resource> Ground<R> {
             leases: Leases::new(alloc),
             closed: Vec::new(alloc),
             route: Route::new(alloc),
-            only: None,
         }
     }
 

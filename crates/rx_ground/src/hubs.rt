@@ -184,7 +184,6 @@ impl<R: Resource> Ground<R> {
         self.register.promise();
         let number = self.register.len();
         self.hubs.add(number, mode);
-        self.only = None;
         self.register.write(Event::Hub(mode));
         number
     }
@@ -219,7 +218,6 @@ impl<R: Resource> Ground<R> {
             unreachable!()
         };
         self.hubs.connect(hub, key);
-        self.only = None;
         self.register.write(made);
         key
     }

@@ -19,7 +19,8 @@
 //! - `IsStanding` says that beside this no rule is left undone, and that what closing everything needs is
 //!   reserved.
 //! - A [`Reach`] is what an item of a leaf wants, wherever it goes: how many events with what FlatMaps and
-//!   Switches then owe, and how many notes. `IsReach` (`specs/Reached`) says of which item it is that.
+//!   Switches then owe, and how many notes. `IsReach` (`specs/Reached`) says of which item it is that. A [`Way`]
+//!   has with it the one stop that the item makes, where it makes just one, as `MakesOnly` says.
 //! - What stands first against a call is `first_at`, of a call by an open node's key, and `first_by_key` and
 //!   `first_by_res_key` (`specs/FirstCause`), by the register's table of causes. So it is told for each call
 //!   of a book; whether a subscriber stands in the order of hubs is told by a climb from its place.
@@ -58,4 +59,4 @@ mod settle;
 mod write;
 
 pub use base::{Ground, Record, Wanted};
-pub use route::Reach;
+pub use route::{Reach, Way};

@@ -196,7 +196,6 @@ impl<R: Resource> Ground<R> {
         let _slots = self.tree.slots();
         join(&mut self.hubs, place, kind, key);
         mark_opened(&mut self.tree, replaces, place, above);
-        self.only = None;
         self.register.write(made);
         key
     }

@@ -1,7 +1,7 @@
 //! Where an item goes, and what it does on its way: up from its leaf, and from a connection on to each
 //! subscriber of its hub (Publish), the first one's climb before the second's.
 
-ghost use Rattle.std.specs.Prelude.{◌≡◌, ◌+◌, ◌<◌, ◌≤◌, ◌++◌, [], ◌∷◌, length, option_map, Some, None, false, is_some, nat_lt, IsSome, IfSome};
+ghost use Rattle.std.specs.Prelude.{◌≡◌, ◌+◌, ◌<◌, ◌≤◌, ◌++◌, [], ◌∷◌, length, Some, None, false, is_some, nat_lt, IsSome, IfSome};
 ghost use Rattle.std.specs.Prelude.{IfOk, IfErr, OnOk, if◌then◌else◌};
 ghost use Rattle.std.specs.Option.{option_to_list};
 ghost use Rattle.std.proofs.Math.Bool.{not};
@@ -13,15 +13,15 @@ ghost use Rattle.rx_event.specs.Marks.{after_projection, after_firing};
 ghost use Rattle.rx_event.specs.Notes.{mail_of};
 ghost use Rattle.rx_slots.specs.Slots.{find};
 ghost use Rattle.rx_tree.specs.Owed.{owed_in};
-ghost use Rattle.rx_tree.specs.Tree.{is_key, is_on};
+ghost use Rattle.rx_tree.specs.Tree.{is_on};
 ghost use Rattle.rx_hub.specs.Route.{IsOrdered};
 ghost use Rattle.rx_hub.specs.Walk.{IsWalk, climb_over, stops_over};
 ghost use Rattle.rx_ground.specs.FirstCause.{first_at};
 ghost use Rattle.rx_ground.specs.Ties.{AreRecords, IsStanding, IsUndue, Remarks};
 ghost use Rattle.rx_ground.specs.Passing.{owed_at, told_at, mail_at, IsThere, IsMarkedAt, IsArrived, IsMeasured, IsPassing};
-ghost use Rattle.rx_ground.specs.Reached.{IsReach};
+ghost use Rattle.rx_ground.specs.Reached.{IsReach, MakesOnly};
 
-use crate::base::{Ground, Only};
+use crate::base::Ground;
 use rx_event::{MOST_VISITS, Mail, Refusal};
 use rx_flow::{Reached, Stop, climb};
 use rx_hub::{Hubs, Route};
@@ -40,11 +40,13 @@ pub struct Reach {
     pub notes: u64,
 }
 
-/// What an item wants, and its one stop where it makes just one.
+/// The way of an item.
 #[derive(Clone, Copy)]
-pub(crate) struct Counted {
-    pub(crate) reach: Reach,
-    pub(crate) only: Option<Stop>,
+pub struct Way {
+    /// What it wants.
+    pub reach: Reach,
+    /// Its one stop, where it makes just one.
+    pub only: Option<Stop>,
 }
 
 /// How many answers an item is owed that stops there.
@@ -102,13 +104,12 @@ fn measure_over<R: Resource>(
     hubs: &Hubs,
     route: &mut Route,
     node: Key,
-) -> Option<Counted>
+) -> Option<Way>
     requires open { IsSome (find tree.now.nodes node) }
     requires ordered { IsOrdered tree.now.nodes hubs.now.hubs }
     requires room { length hubs.now.hubs ≤ route.old.room }
-    ensures reach { IfSome result (λ counted. IsMeasured (stops_over tree.now.nodes hubs.now.hubs node) counted.reach) }
-    ensures only { IfSome result (λ counted. IfSome counted.only (λ stop.
-        stops_over tree.now.nodes hubs.now.hubs node ≡ stop ∷ [])) }
+    ensures reach { IfSome result (λ way. IsMeasured (stops_over tree.now.nodes hubs.now.hubs node) way.reach) }
+    ensures only { IfSome result (λ way. MakesOnly tree.now.nodes hubs.now.hubs node way.only) }
     ensures visits { is_some result ≡ not (nat_lt most_visits (length (climb_over tree.now.nodes hubs.now.hubs node))) }
     ensures room { route.new.room ≡ route.old.room }
 {
@@ -126,7 +127,7 @@ fn measure_over<R: Resource>(
     if route.visits() > MOST_VISITS {
         return None;
     }
-    Some(Counted {
+    Some(Way {
         reach: Reach { events, notes },
         only,
     })
@@ -135,18 +136,12 @@ fn measure_over<R: Resource>(
 /// What an item of this node wants, and its stop where it makes just one; None where it would make more visits
 /// than it may. Where it reaches no connection, one climb tells it.
 #[inline(always)]
-fn measure<R: Resource>(
-    tree: &Tree<R>,
-    hubs: &Hubs,
-    route: &mut Route,
-    node: Key,
-) -> Option<Counted>
+fn measure<R: Resource>(tree: &Tree<R>, hubs: &Hubs, route: &mut Route, node: Key) -> Option<Way>
     requires open { IsSome (find tree.now.nodes node) }
     requires ordered { IsOrdered tree.now.nodes hubs.now.hubs }
     requires room { length hubs.now.hubs ≤ route.old.room }
-    ensures reach { IfSome result (λ counted. IsMeasured (stops_over tree.now.nodes hubs.now.hubs node) counted.reach) }
-    ensures only { IfSome result (λ counted. IfSome counted.only (λ stop.
-        stops_over tree.now.nodes hubs.now.hubs node ≡ stop ∷ [])) }
+    ensures reach { IfSome result (λ way. IsMeasured (stops_over tree.now.nodes hubs.now.hubs node) way.reach) }
+    ensures only { IfSome result (λ way. MakesOnly tree.now.nodes hubs.now.hubs node way.only) }
     ensures visits { is_some result ≡ not (nat_lt most_visits (length (climb_over tree.now.nodes hubs.now.hubs node))) }
     ensures room { route.new.room ≡ route.old.room }
 {
@@ -155,7 +150,7 @@ fn measure<R: Resource>(
         Some(stop) => {
             let owed = owed_at(stop);
             let told = told_at(stop);
-            Some(Counted {
+            Some(Way {
                 reach: Reach {
                     events: 1 + owed,
                     notes: told,
@@ -164,25 +159,6 @@ fn measure<R: Resource>(
             })
         }
         None => measure_over(tree, hubs, route, node),
-    }
-}
-
-/// Whether two keys are one.
-#[inline(always)]
-fn is_same(a: Key, b: Key) -> bool
-    ensures { result ≡ is_key a b }
-{
-    a.slot == b.slot && a.number == b.number
-}
-
-/// The one stop of this leaf, where there is one.
-#[inline(always)]
-fn only_at(leaf: Key, stop: Option<Stop>) -> Option<Only>
-    ensures { result ≡ option_map (λ stop. record { leaf = leaf; stop = stop }) stop }
-{
-    match stop {
-        Some(stop) => Some(Only { leaf, stop }),
-        None => None,
     }
 }
 
@@ -322,7 +298,7 @@ pub(crate) fn pass<R: Resource>(
     requires notes { length (mail_of register.old.history (Event.Item leaf.number value)) ≤ register.old.mail_room }
     requires pending { register.old.pending ≡ [] }
     requires room { length hubs.now.hubs ≤ route.old.room }
-    requires only { IfSome only (λ stop. stops_over tree.old.nodes hubs.now.hubs leaf ≡ stop ∷ []) }
+    requires only { MakesOnly tree.old.nodes hubs.now.hubs leaf only }
     requires countable { owed_in tree.old.nodes ≤ 4503608216256510 }
     ensures passed { IsPassing register.old tree.old leaf.number value register.new tree.new [] }
     ensures room { route.new.room ≡ route.old.room }
@@ -334,48 +310,31 @@ pub(crate) fn pass<R: Resource>(
 }
 
 impl<R: Resource> Ground<R> {
-    /// The one stop of an item of this leaf, where it was measured last and makes just one.
+    /// What an item of this node wants, and its stop where it makes just one; None where it would make more visits
+    /// than it may.
     #[inline(always)]
-    pub(crate) fn only_of(&self, leaf: Key) -> Option<Stop>
-        ensures { IfSome result (λ stop. stops_over self.now.tree.nodes self.now.hubs.hubs leaf ≡ stop ∷ []) }
-    {
-        let Some(only) = self.only else {
-            return None;
-        };
-        if is_same(only.leaf, leaf) {
-            Some(only.stop)
-        } else {
-            None
-        }
-    }
-
-    /// What an item of this node wants; None where it would make more visits than it may. Where it makes just
-    /// one stop, that is kept.
-    #[inline(always)]
-    fn measured(&mut self, node: Key) -> Option<Reach>
+    fn measured(&mut self, node: Key) -> Option<Way>
         requires standing { IsStanding R.Resource self.old }
         requires open { IsSome (find self.old.tree.nodes node) }
         ensures kept { self.new ≡ self.old }
-        ensures reach { IfSome result (IsReach self.old.register.history self.old.tree.nodes node) }
+        ensures reach { IfSome result (λ way. IsReach self.old.register.history self.old.tree.nodes node way.reach) }
+        ensures only { IfSome result (λ way. MakesOnly self.old.tree.nodes self.old.hubs.hubs node way.only) }
         ensures visits { is_some result ≡ not (nat_lt most_visits (visits self.old.register.history node.number)) }
     {
         self.register.promise();
         self.tree.promise();
-        let Some(counted) = measure(&self.tree, &self.hubs, &mut self.route, node) else {
-            return None;
-        };
-        self.only = only_at(node, counted.only);
-        Some(counted.reach)
+        measure(&self.tree, &self.hubs, &mut self.route, node)
     }
 
     /// What an item of this leaf wants, or what stands first against it: `TooMany` counts the visits of its
     /// whole way over all hubs, and `Full` the item's event, and one more for each time that a FlatMap or a
-    /// Switch projects it. Nothing changes.
+    /// Switch projects it. With it comes its stop, where it makes just one. Nothing changes.
     #[inline(always)]
-    pub fn route(&mut self, leaf: Key, value: i64) -> Result<Reach, Refusal>
+    pub fn route(&mut self, leaf: Key, value: i64) -> Result<Way, Refusal>
         requires standing { IsStanding R.Resource self.old }
         ensures kept { self.new ≡ self.old }
-        ensures ok { IfOk result (IsReach self.old.register.history self.old.tree.nodes leaf) }
+        ensures ok { IfOk result (λ way. IsReach self.old.register.history self.old.tree.nodes leaf way.reach) }
+        ensures only { IfOk result (λ way. MakesOnly self.old.tree.nodes self.old.hubs.hubs leaf way.only) }
         ensures none { OnOk result (first_at self.old leaf (Emitting leaf.number value) ≡ None) }
         ensures first { IfErr result (λ why. first_at self.old leaf (Emitting leaf.number value) ≡ Some why) }
     {
@@ -385,12 +344,12 @@ impl<R: Resource> Ground<R> {
         if !made.is_leaf() {
             return Err(Refusal::WrongKind);
         }
-        let Some(reach) = self.measured(leaf) else {
+        let Some(way) = self.measured(leaf) else {
             return Err(Refusal::TooMany);
         };
-        if self.is_over(reach.events) {
+        if self.is_over(way.reach.events) {
             return Err(Refusal::Full);
         }
-        Ok(reach)
+        Ok(way)
     }
 }

@@ -14,12 +14,13 @@ ghost use Rattle.rx_slots.specs.Slots.{find};
 ghost use Rattle.rx_tree.specs.Owed.{owed_in};
 ghost use Rattle.rx_tree.specs.Resources.{is_held_at, is_owned_at};
 ghost use Rattle.rx_register.specs.State.{Writes};
+ghost use Rattle.rx_ground.specs.Reached.{MakesOnly};
 ghost use Rattle.rx_ground.specs.Ties.{AreTied, AreLeased, IsReady, KeepsNodes, KeepsHeld, IsListed, Remarks, Cuts, left_inside};
 ghost use Rattle.rx_hub.specs.After.{end_by};
 ghost use Rattle.rx_ground.specs.Memory.{TakesNoMemory};
 
 use crate::base::{Ground, parent};
-use crate::route::pass;
+use crate::route::{Way, pass};
 use rx_event::{Event, Mail, Terminal};
 use rx_hub::LastEnd;
 use rx_note::Note;
@@ -170,19 +171,20 @@ impl<R: Resource> Ground<R> {
         self.register.promise();
         self.tree.promise();
         self.tree.mark_decline(merging);
-        self.only = None;
         self.register.write(Event::Decline(merging.number));
     }
 
     /// Emits an item, which goes its whole way: each root that it reaches is told of it, as often as it is
-    /// reached, each FlatMap or Switch is told to project it, and each TakeUntil fires.
+    /// reached, each FlatMap or Switch is told to project it, and each TakeUntil fires. Where `way` has its one
+    /// stop, it is taken there without a walk.
     #[inline(always)]
-    pub fn write_item(&mut self, leaf: Key, value: i64)
+    pub fn write_item(&mut self, leaf: Key, value: i64, way: Way)
         requires tied { AreTied self.old.register.base R.Resource self.old.register.history self.old.tree
             self.old.hubs }
         requires leased { AreLeased self.old.register.history self.old.tree.resources self.old.leases }
         requires ready { IsReady self.old.register (Event.Item leaf.number value) }
         requires open { IsSome (find self.old.tree.nodes leaf) }
+        requires only { MakesOnly self.old.tree.nodes self.old.hubs.hubs leaf way.only }
         ensures written { Writes self.old.register (Event.Item leaf.number value ∷ []) self.new.register }
         ensures tied { AreTied self.new.register.base R.Resource self.new.register.history self.new.tree self.new.hubs }
         ensures leased { AreLeased self.new.register.history self.new.tree.resources self.new.leases }
@@ -194,17 +196,15 @@ impl<R: Resource> Ground<R> {
     {
         self.register.promise();
         self.tree.promise();
-        let only = self.only_of(leaf);
         pass(
             &mut self.register,
             &mut self.tree,
             &self.hubs,
             &mut self.route,
-            only,
+            way.only,
             leaf,
             value,
         );
-        self.only = None;
         self.register.write(Event::Item(leaf.number, value));
     }
 
@@ -228,7 +228,6 @@ impl<R: Resource> Ground<R> {
         self.tree.close_below(node, &mut self.closed);
         self.hubs.leave_closed(&self.closed, ended);
         self.closed.clear();
-        self.only = None;
     }
 
     /// Ends an open node, and closes all below it. Of a connection its hub keeps how it ended.
@@ -262,7 +261,6 @@ impl<R: Resource> Ground<R> {
         );
         let place = self.register.len();
         self.cut(node, Some(LastEnd { place, terminal }));
-        self.only = None;
         self.register.write(Event::End(node.number, terminal));
         self.tree.promise();
         mark_end(

@@ -1,11 +1,11 @@
-use Rattle.std.proofs.Common.{true, None, Some, sym, ap, ◌∙◌, arith}
-use Rattle.rx_event.specs.Calls.{Opening, OpeningUsing, Holding, Applying, Leasing, Emitting}
+use Rattle.std.proofs.Common.{true, sym, ap, arith}
+use Rattle.rx_event.specs.Calls.{Opening, OpeningUsing, Holding, Applying, Leasing}
 use Rattle.rx_event.specs.Causes.{causes}
 use Rattle.rx_ground.specs.declared.base.Wanted.{Wanted}
 use Rattle.rx_book.specs.Requests.{place_of}
 use Rattle.rx_book.specs.Shown.{state_of}
 use Rattle.rx_book.proofs.CausesByKey.{first_by_key, first_by_res_key, first_by_place}
-use Rattle.rx_book.proofs.Admitted.{decided, decided_none, few_opened, item_cost}
+use Rattle.rx_book.proofs.Admitted.{decided, few_opened}
 use Rattle.rx_book.proofs.admit.decide.Goals as goal
 
 pub returns-in-Open-clause-decided : goal.returns-in-Open-clause-decided
@@ -75,23 +75,3 @@ returns-in-Connect-clause-decided g c =
     let notes = ap (λ (w : Wanted). w.notes) cost in
     rw c.in-Connect.is
     (rw c.unless-in-Connect.ensures (decided (state_of g.R.Resource b) _ c.connecting_cause.result c.of_connecting.result first cost (omega arith)))
-
-pub returns-in_err-reach-in-Emit-clause-decided : goal.returns-in_err-reach-in-Emit-clause-decided
-returns-in_err-reach-in-Emit-clause-decided g c =
-    let b = c.args.ground.now in
-    let why = c.in_err-reach-in-Emit.field-0.0 in
-    let stand = causes b.register.base b.register.history b.register.limit true (Emitting c.in-Emit.leaf.number c.in-Emit.value) in
-    let first = first_by_key b.tree stand (Some why) c.in-Emit.leaf (rw c.tree_key-in-Emit.ensures at (sym c.in_err-reach-in-Emit.ensures.first)) in
-    rw c.in-Emit.is (decided_none (state_of g.R.Resource b) _ c.from_residual.result why c.from_residual.ensures.1 first)
-
-pub returns-in_ok-reach-in-Emit-clause-decided : goal.returns-in_ok-reach-in-Emit-clause-decided
-returns-in_ok-reach-in-Emit-clause-decided g c =
-    let b = c.args.ground.now in
-    let r = c.in_ok-reach-in-Emit.ensures in
-    let is = rw c.tree_key-in-Emit.ensures at r.ok in
-    let stand = causes b.register.base b.register.history b.register.limit true (Emitting c.in-Emit.leaf.number c.in-Emit.value) in
-    let first = first_by_key b.tree stand None c.in-Emit.leaf (rw c.tree_key-in-Emit.ensures at (sym r.none)) in
-    let cost = c.of_item.ensures ∙ item_cost b.register.history b.tree.nodes _ c.in-Emit.value c.in_ok-reach-in-Emit.reach is in
-    let notes = ap (λ (w : Wanted). w.notes) c.of_item.ensures in
-    let few = is.few in
-    rw c.in-Emit.is (decided (state_of g.R.Resource b) _ None c.of_item.result first cost (omega arith))

@@ -24,8 +24,8 @@ returns-then-is_over-clause-first g c =
     let reach = rw (← c.self.view_is) at c.in-Some-measured.ensures in
     let refused = cause_of-room _ _ _ _ _ standing.tied.of_tree.records c.args.leaf c.args.value c.in-Some.made c.in-Some.ensures in
     let same = ap (λ (b : Ground g.row.R.Denot). b.register) (c.in-Some-measured.ensures.kept ∙ sym c.self.view_is) in
-    let over = c.if-is_over.ensures ∙ ap (λ (r : Register). is_over r.base r.history r.limit c.in-Some-measured.reach.events) same in
-    rw (← c.self.view_is) (refused c.in-Some-measured.reach true c.if-not-is_leaf.ensures reach.visits reach.reach over)
+    let over = c.if-is_over.ensures ∙ ap (λ (r : Register). is_over r.base r.history r.limit c.in-Some-measured.way.reach.events) same in
+    rw (← c.self.view_is) (refused c.in-Some-measured.way.reach true c.if-not-is_leaf.ensures reach.visits reach.reach over)
 
 pub returns-clause-none : goal.returns-clause-none
 returns-clause-none g c =
@@ -33,5 +33,5 @@ returns-clause-none g c =
     let reach = rw (← c.self.view_is) at c.in-Some-measured.ensures in
     let refused = cause_of-room _ _ _ _ _ standing.tied.of_tree.records c.args.leaf c.args.value c.in-Some.made c.in-Some.ensures in
     let same = ap (λ (b : Ground g.row.R.Denot). b.register) (c.in-Some-measured.ensures.kept ∙ sym c.self.view_is) in
-    let over = c.if-is_over.ensures ∙ ap (λ (r : Register). is_over r.base r.history r.limit c.in-Some-measured.reach.events) same in
-    rw (← c.self.view_is) (refused c.in-Some-measured.reach false c.if-not-is_leaf.ensures reach.visits reach.reach over)
+    let over = c.if-is_over.ensures ∙ ap (λ (r : Register). is_over r.base r.history r.limit c.in-Some-measured.way.reach.events) same in
+    rw (← c.self.view_is) (refused c.in-Some-measured.way.reach false c.if-not-is_leaf.ensures reach.visits reach.reach over)

@@ -70,7 +70,7 @@ ended g c = rw (written g c).history (ended_tied c.parent-above.result (ready g 
     c.promise-3.ensures.sound.apart (rw (c.is_some.ensures, c.source_of.ensures) at c.mark_end.ensures.marked) c.mark_end.ensures.none)
 
 pub invariant_of-self-2 : goal.invariant_of-self-2
-invariant_of-self-2 g c = let count = (ended g c).count in (c.self-2.invariant.0, (let room = c.self-2.invariant.1 in omega arith), c.self-2.invariant.2, tt)
+invariant_of-self-2 g c = let count = (ended g c).count in (c.self-2.invariant.0, (let room = c.self-2.invariant.1 in omega arith), c.self-2.invariant.2)
 
 -- the hubs are left by what stands inside the node
 left_hubs : (g : Over) (c : goal.After-mark_end g) → c.self-2.inside.hubs ≡ left_inside c.self.inside.register.history c.args.node.number

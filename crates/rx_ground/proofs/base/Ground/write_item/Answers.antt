@@ -1,10 +1,12 @@
-use Rattle.std.proofs.Common.{◌+◌, ◌-◌, ◌∷◌, ◌++◌, [], ap, ◌∙◌, w64, refl, vec_capacity}
+use Rattle.std.proofs.Common.{◌+◌, ◌-◌, ◌∷◌, ◌++◌, [], sym, ap, subst, ◌∙◌, w64, refl, vec_capacity}
 use Rattle.std.proofs.lemmas.Int.{to_z-of_z}
 use Rattle.rx_event.specs.declared.event.Event.TheVariants.{Item}
 use Rattle.rx_event.specs.Lawful.{MayFollow}
 use Rattle.rx_slots.specs.Slots.{Slots}
 use Rattle.rx_tree.specs.declared.node.Node.{Node}
 use Rattle.rx_tree.specs.declared.node.Stowed.{Stowed}
+use Rattle.rx_ground.specs.Reached.{MakesOnly}
+use Rattle.rx_ground.specs.Shown.{Ground}
 use Rattle.rx_ground.specs.Ties.{AreLeased, AreTied}
 use Rattle.rx_ground.proofs.HubsAfterEvent.{rebased}
 use Rattle.rx_register.specs.State.{State as Register}
@@ -26,6 +28,10 @@ pass-requires-clause-countable g c κs within =
     let tied : AreTied c.self.inside.register.base g.R.Resource c.self.inside.register.history c.self.inside.tree c.self.inside.hubs =
     rw (← c.self.view_is) at c.requires.tied in
     owed_in-bounded g.R.Resource c.self.inside.register c.self.inside.tree tied.of_tree c.promise.ensures c.promise-2.ensures.sound.apart
+
+pub pass-requires-clause-only : goal.pass-requires-clause-only
+pass-requires-clause-only g c κs within =
+    subst (λ (b : Ground g.row.R.Denot). MakesOnly b.tree.nodes b.hubs.hubs c.args.leaf c.args.way.only) (sym c.self.view_is) c.requires.only
 
 pub returns-clause-written : goal.returns-clause-written
 returns-clause-written g c =
