@@ -56,9 +56,10 @@ fn decide<R: Resource>(ground: &mut Ground<R>, wish: Wish) -> Result<Wanted, Ref
     match wish {
         Wish::Open(at, kind) => {
             let spot = spot_of(at);
+            let cost = ground.opening_cost(spot.place, kind);
             unless(
-                ground.opening_cause(spot.place, spot.above, kind),
-                ground.opening_cost(spot.place, kind),
+                ground.opening_cause(spot.place, spot.above, kind, cost),
+                cost,
             )
         }
         Wish::OpenUsing(at, tag, is_fresh) => {

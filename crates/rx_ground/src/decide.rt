@@ -15,6 +15,7 @@ ghost use Rattle.rx_event.specs.Causes.{by_key, projecting_causes};
 ghost use Rattle.rx_event.specs.Causes.{is_without_hub as is_without_hub_in, is_wrong_place as is_wrong_place_in};
 ghost use Rattle.rx_event.specs.Causes.{is_taken_place as is_taken_place_in, is_unowed_place as is_unowed_place_in};
 ghost use Rattle.rx_event.specs.Causes.{is_crowded as is_crowded_in, is_over as is_over_in};
+ghost use Rattle.rx_ground.specs.Costs.{cost_of};
 ghost use Rattle.rx_ground.specs.FirstCause.{first_at, first_by_key, first_by_res_key, first_by_lease_key, has_node};
 ghost use Rattle.rx_ground.specs.Ties.{IsStanding, is_there};
 ghost use Rattle.rx_ground.specs.Told.{IsTold, has_place as has_place_in};
@@ -185,13 +186,20 @@ impl<R: Resource> Ground<R> {
         self.register.is_over(self.load(), more)
     }
 
-    /// What stands first against opening a node there; `above` is the key of the node that the place
-    /// names.
+    /// What stands first against opening a node there, which costs so much; `above` is the key of the node
+    /// that the place names.
     #[tactic(auto, using(crate::proofs::Told::there_open))]
     #[inline]
-    pub fn opening_cause(&self, place: Place, above: Option<Key>, kind: Kind) -> Option<Refusal>
+    pub fn opening_cause(
+        &self,
+        place: Place,
+        above: Option<Key>,
+        kind: Kind,
+        cost: Wanted,
+    ) -> Option<Refusal>
         requires standing { IsStanding R.Resource self.now }
         requires named { named_by place ≡ option_map (λ key. key.number) above }
+        requires cost { cost ≡ cost_of self.now.register.history (Opening place kind) }
         ensures { result ≡ first_by_key self.now (is_there self.now.tree.nodes above) true (Opening place kind) }
     {
         if self.is_without_hub(kind) {
@@ -212,7 +220,6 @@ impl<R: Resource> Ground<R> {
         if self.is_out_of_order(place, above, kind) {
             return Some(Refusal::HubOrder);
         }
-        let cost = self.opening_cost(place, kind);
         if self.is_crowded(cost.nodes as u64) {
             return Some(Refusal::TooMany);
         }

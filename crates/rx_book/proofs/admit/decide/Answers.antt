@@ -15,10 +15,10 @@ returns-in-Open-clause-decided g c =
     let stand = causes b.register.base b.register.history b.register.limit true (Opening (place_of at) c.in-Open.kind) in
     let first =
     first_by_place b.tree stand c.opening_cause.result at (rw (c.spot_of-spot.ensures.place, c.spot_of-spot.ensures.above) at c.opening_cause.ensures) in
-    let cost = rw c.spot_of-spot.ensures.place at c.opening_cost.ensures in
+    let cost = rw c.spot_of-spot.ensures.place at c.opening_cost-cost.ensures in
     let few = few_opened b.register.history c.in-Open.kind in
     let notes = ap (λ (w : Wanted). w.notes) cost in
-    rw c.in-Open.is (rw c.unless.ensures (decided (state_of g.R.Resource b) _ c.opening_cause.result c.opening_cost.result first cost (omega arith)))
+    rw c.in-Open.is (rw c.unless.ensures (decided (state_of g.R.Resource b) _ c.opening_cause.result c.opening_cost-cost.result first cost (omega arith)))
 
 pub returns-in-OpenUsing-clause-decided : goal.returns-in-OpenUsing-clause-decided
 returns-in-OpenUsing-clause-decided g c =
