@@ -151,6 +151,28 @@ impl<R: Resource> Ground<R> {
         ensures leases { self.new.leases ≡ self.old.leases }
         ensures memory { TakesNoMemory self.old self.new }
     {
+        let Place::Inner(_) = place else {
+            return false;
+        };
+        self.exchange_inner(place, above)
+    }
+
+    // The same at an Inner place: apart, so that what opens a node stays small.
+    #[inline(never)]
+    fn exchange_inner(&mut self, place: Place, above: Option<Key>) -> bool
+        requires tied { AreTied self.old.register.base R.Resource self.old.register.history self.old.tree
+            self.old.hubs }
+        requires named { named_by place ≡ option_map (λ key. key.number) above }
+        requires there { IfSome above (λ key. IsSome (find self.old.tree.nodes key)) }
+        ensures way { MakesWay self.old.register.history place self.old.tree self.new.tree result }
+        ensures register { self.new.register ≡ self.old.register }
+        ensures room { self.old.tree.nodes.room ≤ self.new.tree.nodes.room }
+        ensures owed { owed_in self.new.tree.nodes ≤ owed_in self.old.tree.nodes }
+        ensures hubs { ClearsHubs self.old.register.history place self.old.tree self.new.tree
+            self.old.hubs self.new.hubs result }
+        ensures leases { self.new.leases ≡ self.old.leases }
+        ensures memory { TakesNoMemory self.old self.new }
+    {
         let Some(inner) = self.replaced(place, above) else {
             return false;
         };
