@@ -22,7 +22,7 @@ use Rattle.rx_event.proofs.Laws.Lists.{filter_nonempty}
 use Rattle.rx_event.proofs.Laws.Places.{slice_get_last, at-append, at_within}
 use Rattle.rx_event.proofs.Laws.Openness.{is_open_within, is_open_cut, is_open_last, is_open_made, is_cut, is_cut_none, is_cut_inner}
 use Rattle.rx_event.proofs.Laws.Hubs.{at_connect}
-use Rattle.rx_event.proofs.Laws.OneEnd.{open_old}
+use Rattle.rx_event.proofs.Laws.Openness.{open_old}
 use Rattle.rx_event.proofs.Laws.Waits.{settled_connected, kept_unsubscribed, kept_subscribed, cut_alone, spares, at_before}
 use Rattle.rx_audit.specs.Allowing.{needs_connection, leaves_room, open_allowed}
 use Rattle.rx_audit.specs.Rules.{has_key, open_connected}

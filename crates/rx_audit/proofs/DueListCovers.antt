@@ -17,7 +17,7 @@ use Rattle.rx_event.specs.Tree.{is_open, has_open_child, is_open_child_of, place
 use Rattle.rx_event.specs.Marks.{open_children, marks_of, terminal_due, due_at}
 use Rattle.rx_event.specs.Lawful.{IsLawful, MayFollow}
 use Rattle.rx_event.proofs.Laws.Openness.{is_open_within}
-use Rattle.rx_event.proofs.Laws.OneEnd.{open_old}
+use Rattle.rx_event.proofs.Laws.Openness.{open_old}
 use Rattle.rx_event.proofs.Laws.Places.{slice_get-append, slice_get_last}
 use Rattle.rx_event.proofs.Laws.Stands.{event_at}
 use Rattle.rx_event.proofs.Laws.MarksTouched.{quiet_new}

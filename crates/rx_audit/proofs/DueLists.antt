@@ -19,7 +19,7 @@ use Rattle.rx_event.proofs.Laws.Openness.{is_open_within}
 use Rattle.rx_event.proofs.Laws.Places.{at_within}
 use Rattle.rx_event.proofs.Laws.Stands.{event_at}
 use Rattle.rx_event.proofs.Laws.Hubs.{subscriber_hub}
-use Rattle.rx_event.proofs.Laws.OneEnd.{open_old}
+use Rattle.rx_event.proofs.Laws.Openness.{open_old}
 use Rattle.rx_event.proofs.Laws.MarksDue.{due_at_forced, settled_by_marks}
 use Rattle.rx_event.proofs.Laws.Connections.{last_connection, source_ended_or_now, left_or_now}
 use Rattle.rx_audit.specs.declared.hubs.Hubs.{Hubs}

@@ -9,7 +9,7 @@ use Rattle.rx_event.specs.declared.event.Event.{Event}
 use Rattle.rx_event.specs.declared.event.Event.TheVariants.{Open, Connect}
 use Rattle.rx_event.specs.Events.{makes_hub, hub_connected}
 use Rattle.rx_event.specs.Lawful.{IsLawful}
-use Rattle.rx_event.proofs.Laws.Sound.{hub_before}
+use Rattle.rx_event.proofs.Laws.Hubs.{hub_before}
 use Rattle.rx_event.proofs.Laws.Places.{at_within}
 use Rattle.rx_audit.specs.Rules.{hub_connected_at}
 

@@ -17,7 +17,7 @@ use Rattle.rx_event.specs.Tree.{at, parent, places, is_open, is_switched_inner, 
 use Rattle.std.specs.Prelude.{is_some}
 use Rattle.std.proofs.lemmas.List.Sums.{count_by-le-length}
 use Rattle.std.proofs.lemmas.List.FromFn.{length-range_with_len}
-use Rattle.rx_event.proofs.Laws.OneEnd.{open_old}
+use Rattle.rx_event.proofs.Laws.Openness.{open_old}
 use Rattle.rx_event.specs.Marks.{marks_of, blank_marks, touches, after_source, after_notifier, after_inner, after_decline, after_child, open_children}
 use Rattle.rx_event.specs.Moments.{owed}
 use Rattle.rx_event.specs.Lawful.{MayFollow, IsLawful}

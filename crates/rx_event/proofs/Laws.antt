@@ -1,3 +1,5 @@
+pub mod Common
+pub mod Bools
 pub mod Lists
 pub mod Places
 pub mod Parents

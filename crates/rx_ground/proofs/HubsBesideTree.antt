@@ -19,7 +19,7 @@ use Rattle.rx_event.specs.declared.event.Kind.TheVariants.{Sub}
 use Rattle.rx_event.specs.Events.{makes_hub, hub_connected, hub_subscribed, is_connect_of, is_subscriber_of}
 use Rattle.rx_event.specs.Tree.{at, is_open, places}
 use Rattle.rx_event.specs.Lawful.{IsLawful}
-use Rattle.rx_event.proofs.Laws.Sound.{hub_before}
+use Rattle.rx_event.proofs.Laws.Hubs.{hub_before}
 use Rattle.rx_event.proofs.Laws.Lists.{AllByRecursion-both}
 use Rattle.rx_event.proofs.Laws.Openness.{is_open_within}
 use Rattle.rx_event.proofs.Laws.Places.{at-append, at_within}

@@ -16,7 +16,8 @@ use Rattle.rx_event.specs.Tree.{at, is_open}
 use Rattle.rx_event.specs.Resources.{is_owned, leases_of, uses}
 use Rattle.rx_event.specs.Lawful.{MayFollow, IsLawful}
 use Rattle.rx_event.proofs.Laws.Places.{slice_get_last, at-append, at_within}
-use Rattle.rx_event.proofs.Laws.Searches.{list_any_push, or_false}
+use Rattle.rx_event.proofs.Laws.Searches.{list_any_push}
+use Rattle.rx_event.proofs.Laws.Bools.{or_false}
 use Rattle.rx_event.proofs.Laws.Openness.{is_cut, is_open_cut, is_open_unchanged, is_open_within, stays_closed}
 use Rattle.rx_event.proofs.Laws.Resources.{node_of, loses, is_owned-push, is_owned-remove, is_owned_last, no_take, accepted_by-push, accepted_by_new}
 use Rattle.rx_event.proofs.Laws.Leases.{leases_of_kept, leases_of_still, leases_of_new, leases_of-return}

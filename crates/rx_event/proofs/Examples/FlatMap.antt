@@ -1,19 +1,9 @@
 -- The definitions at worked examples: FlatMap.
-use Rattle.std.proofs.Common.{◌≡◌, List, [], ◌∷◌, ◌++◌, refl, pos}
-use Rattle.rx_note.specs.declared.note.Terminal.TheVariants.{Completed, Error}
-use Rattle.rx_note.specs.declared.note.Note.TheVariants.{Next, Project, End as Ended}
-use Rattle.rx_event.specs.declared.event.Place.TheVariants.{Root, Source, Inner}
-use Rattle.rx_event.specs.declared.event.Kind.TheVariants.{Leaf, Pass, Flat, Sub}
-use Rattle.rx_event.specs.declared.event.Mode.TheVariants.{Auto}
-use Rattle.rx_event.specs.declared.event.Event.{Event}
-use Rattle.rx_event.specs.declared.event.Event.TheVariants.{Open, Hub, Connect, Accept, Item, Decline, End}
-use Rattle.rx_event.specs.Kept.{nothing_kept, shown}
-use Rattle.rx_event.specs.Tree.{parent, ancestors, is_shut, is_open, open_nodes}
-use Rattle.rx_event.specs.Resources.{is_owned, is_out, leases_of, is_held, is_taken, is_waiting, waiting_resources}
-use Rattle.rx_event.specs.Climb.{most_visits, climb, stops, Delivery, Projection}
-use Rattle.rx_event.specs.Moments.{moments, projections, owed}
-use Rattle.rx_event.specs.Notes.{notes}
-use Rattle.rx_event.specs.Forced.{failed, IsDue}
+use Rattle.rx_event.proofs.Laws.Common.{◌≡◌, List, [], ◌∷◌, ◌++◌, refl, pos, Completed, Error, Root, Source, Inner, Leaf, Pass, Flat, Sub, Auto, Event, Open}
+use Rattle.rx_event.proofs.Laws.Common.{Hub, Connect, Accept, Item, Decline, End, nothing_kept, shown, parent, ancestors, is_shut, is_open, open_nodes}
+use Rattle.rx_event.proofs.Laws.Common.{is_owned, is_out, leases_of, is_held, is_taken, is_waiting, waiting_resources, most_visits, climb, stops, Delivery}
+use Rattle.rx_event.proofs.Laws.Common.{Projection, moments, projections, owed, notes, failed, IsDue, Next}
+use Rattle.rx_note.specs.declared.note.Note.TheVariants.{Project, End as Ended}
 
 -- an item of the source is projected, and while its inner is owed the completion of the source ends nothing
 abbrev projected : List Event

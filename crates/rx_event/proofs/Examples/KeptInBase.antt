@@ -1,20 +1,10 @@
 -- The definitions at worked examples: what a base keeps, and what it shows.
-use Rattle.std.proofs.Common.{◌≡◌, true, false, List, [], ◌∷◌, refl, pos}
-use Rattle.rx_note.specs.declared.note.Terminal.TheVariants.{Completed}
-use Rattle.rx_event.specs.declared.event.Place.TheVariants.{Root, Source, Inner}
-use Rattle.rx_event.specs.declared.event.Kind.TheVariants.{Leaf, Pass, Flat}
-use Rattle.rx_event.specs.declared.event.Mode.TheVariants.{Auto}
-use Rattle.rx_event.specs.declared.event.Event.{Event}
-use Rattle.rx_event.specs.declared.event.Event.TheVariants.{Open, Hub, Accept, Use, Remove, Item, End, Close, Take}
+use Rattle.rx_event.proofs.Laws.Common.{◌≡◌, true, false, List, [], ◌∷◌, refl, pos, Completed, Root, Source, Inner, Leaf, Pass, Flat, Auto, Event, Open, Hub}
+use Rattle.rx_event.proofs.Laws.Common.{Accept, Use, Remove, Item, End, Close, Take, parent, ancestors, is_shut, is_open, is_owned, is_out, leases_of}
+use Rattle.rx_event.proofs.Laws.Common.{is_held, is_taken, is_waiting, uses, most_visits, climb, stops, moments, projections, owed, source_completed, Kept}
+use Rattle.rx_event.proofs.Laws.Common.{nothing_kept, shown, source_opened, base_of}
 use Rattle.rx_event.specs.declared.base.BaseState.TheVariants.{Owned, Waiting}
-use Rattle.rx_event.specs.Tree.{parent, ancestors, is_shut, is_open}
-use Rattle.rx_event.specs.Resources.{is_owned, is_out, leases_of, is_held, is_taken, is_waiting, uses}
-use Rattle.rx_event.specs.Climb.{most_visits, climb, stops}
-use Rattle.rx_event.specs.Moments.{moments, projections, owed}
-use Rattle.rx_event.specs.Marks.{source_completed}
-use Rattle.rx_event.specs.Kept.{Kept, nothing_kept, shown, stored}
-use Rattle.rx_event.specs.Opened.{source_opened}
-use Rattle.rx_event.specs.Bases.{base_of}
+use Rattle.rx_event.specs.Kept.{stored}
 
 -- a FlatMap whose source was opened and completed, and which owes one item; the leaf is forgotten
 abbrev projected : List Event

@@ -1,22 +1,14 @@
 -- The definitions at worked examples: a lease that is given back after its subscription was disposed of.
-use Rattle.std.proofs.Common.{◌≡◌, true, false, Some, List, [], ◌∷◌, ◌++◌, refl}
+use Rattle.rx_event.proofs.Laws.Common.{◌≡◌, true, false, Some, List, [], ◌∷◌, ◌++◌, refl, Root, Pass, Event, Open, Accept, Use, Remove, Lease, Return, Close}
+use Rattle.rx_event.proofs.Laws.Common.{Take, parent, ancestors, is_shut, is_open, is_owned, is_out, leases_of, is_held, is_taken, is_waiting}
+use Rattle.rx_event.proofs.Laws.Common.{waiting_resources, uses, accepted_by, most_visits, climb, stops, moments, projections, is_fired, owed, child_terminal}
+use Rattle.rx_event.proofs.Laws.Common.{source_completed, open_children, IsSettled, IsAllowed, Kept, nothing_kept, shown, base_of, held_resources, debt}
+use Rattle.rx_event.proofs.Laws.Common.{first_forced}
 use Rattle.rx_event.specs.declared.base.BaseState.TheVariants.{Leased}
-use Rattle.rx_event.specs.declared.event.Place.TheVariants.{Root}
-use Rattle.rx_event.specs.declared.event.Kind.TheVariants.{Pass}
-use Rattle.rx_event.specs.declared.event.Event.{Event}
-use Rattle.rx_event.specs.declared.event.Event.TheVariants.{Open, Accept, Use, Remove, Lease, Return, Close, Take}
-use Rattle.rx_event.specs.Tree.{parent, ancestors, is_shut, is_open}
-use Rattle.rx_event.specs.Resources.{is_owned, is_out, leases_of, leases_out, is_held, is_taken, is_waiting, held_resources, waiting_resources, uses}
-use Rattle.rx_event.specs.Resources.{accepted_by}
-use Rattle.rx_event.specs.Climb.{most_visits, climb, stops}
-use Rattle.rx_event.specs.Moments.{moments, projections, is_fired, owed}
-use Rattle.rx_event.specs.Marks.{child_terminal, source_completed, open_children}
-use Rattle.rx_event.specs.Totals.{debt}
-use Rattle.rx_event.specs.Forced.{IsSettled}
-use Rattle.rx_event.specs.Allowed.{used, leased, returned, taken, IsAllowed}
-use Rattle.rx_event.specs.Canonical.{source_end, first_forced}
-use Rattle.rx_event.specs.Kept.{Kept, nothing_kept, shown, stored}
-use Rattle.rx_event.specs.Bases.{base_of}
+use Rattle.rx_event.specs.Resources.{leases_out}
+use Rattle.rx_event.specs.Allowed.{used, leased, returned, taken}
+use Rattle.rx_event.specs.Canonical.{source_end}
+use Rattle.rx_event.specs.Kept.{stored}
 use Rattle.rx_event.proofs.Laws.InOrder.{settled_by_order}
 
 -- a Using subscription whose resource is leased, and which is then disposed of

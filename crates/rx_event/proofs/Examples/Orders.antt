@@ -1,19 +1,9 @@
 -- The definitions at a worked example: two orders of what is forced, of which one is longer.
-use Rattle.std.proofs.Common.{◌≡◌, ◌+◌, Some, None, List, [], ◌∷◌, ◌++◌, length, refl, arith}
-use Rattle.rx_note.specs.declared.note.Terminal.TheVariants.{Completed}
-use Rattle.rx_event.specs.declared.event.Place.TheVariants.{Root, Source, Notifier}
-use Rattle.rx_event.specs.declared.event.Kind.TheVariants.{Leaf, Sub, Until}
-use Rattle.rx_event.specs.declared.event.Mode.TheVariants.{Auto}
-use Rattle.rx_event.specs.declared.event.Event.{Event}
-use Rattle.rx_event.specs.declared.event.Event.TheVariants.{Open, Hub, Connect, End}
-use Rattle.rx_event.specs.Kept.{nothing_kept, shown}
-use Rattle.rx_event.specs.Tree.{parent, ancestors, is_shut, is_open, open_nodes}
-use Rattle.rx_event.specs.Climb.{most_visits, climb, stops}
-use Rattle.rx_event.specs.Moments.{projections, owed, is_fired, moments}
-use Rattle.rx_event.specs.Forced.{mirrored, cut, due, IsDue, IsSettled}
-use Rattle.rx_event.specs.Marks.{child_terminal, source_completed, open_children}
-use Rattle.rx_event.specs.Lawful.{stays, more, IsForcedOn}
-use Rattle.rx_event.specs.Canonical.{source_end, first_forced}
+use Rattle.rx_event.proofs.Laws.Common.{◌≡◌, ◌+◌, Some, None, List, [], ◌∷◌, ◌++◌, length, refl, arith, Completed, Root, Source, Notifier, Leaf, Sub, Until}
+use Rattle.rx_event.proofs.Laws.Common.{Auto, Event, Open, Hub, Connect, End, nothing_kept, shown, parent, ancestors, is_shut, is_open, open_nodes}
+use Rattle.rx_event.proofs.Laws.Common.{most_visits, climb, stops, projections, owed, is_fired, moments, mirrored, cut, due, IsDue, IsSettled, child_terminal}
+use Rattle.rx_event.proofs.Laws.Common.{source_completed, open_children, stays, more, IsForcedOn, first_forced}
+use Rattle.rx_event.specs.Canonical.{source_end}
 use Rattle.rx_event.proofs.Laws.InOrder.{none_connecting, settled_by_order}
 
 -- source and notifier of a TakeUntil subscribe to one hub, and the source of its connection completes

@@ -1,18 +1,8 @@
 -- The definitions at worked examples: Publish, Connect and RefCount.
-use Rattle.std.proofs.Common.{◌≡◌, List, [], ◌∷◌, ◌++◌, refl, arith}
-use Rattle.rx_note.specs.declared.note.Terminal.TheVariants.{Error}
-use Rattle.rx_event.specs.declared.event.Place.TheVariants.{Root, Source}
-use Rattle.rx_event.specs.declared.event.Kind.TheVariants.{Leaf, Sub}
-use Rattle.rx_event.specs.declared.event.Mode.TheVariants.{Auto, Manual}
-use Rattle.rx_event.specs.declared.event.Event.{Event}
-use Rattle.rx_event.specs.declared.event.Event.TheVariants.{Open, Hub, Connect, End, Close}
-use Rattle.rx_event.specs.Kept.{nothing_kept, shown}
-use Rattle.rx_event.specs.Tree.{parent, ancestors, is_shut, is_open, open_nodes}
-use Rattle.rx_event.specs.Resources.{is_owned, is_out, leases_of, is_held, is_taken, is_waiting}
-use Rattle.rx_event.specs.Climb.{Delivery, most_visits, climb, stops}
-use Rattle.rx_event.specs.Moments.{projections, owed, moments}
-use Rattle.rx_event.specs.Totals.{debt}
-use Rattle.rx_event.specs.Forced.{mirrored, cut, left, IsDue}
+use Rattle.rx_event.proofs.Laws.Common.{◌≡◌, List, [], ◌∷◌, ◌++◌, refl, arith, Error, Root, Source, Leaf, Sub, Auto, Manual, Event, Open, Hub, Connect, End}
+use Rattle.rx_event.proofs.Laws.Common.{Close, nothing_kept, shown, parent, ancestors, is_shut, is_open, open_nodes, is_owned, is_out, leases_of, is_held}
+use Rattle.rx_event.proofs.Laws.Common.{is_taken, is_waiting, Delivery, most_visits, climb, stops, projections, owed, moments, mirrored, cut, left, IsDue}
+use Rattle.rx_event.proofs.Laws.Common.{debt}
 
 -- two hubs, one subscribed to inside a connection of the other: the last subscriber's leaving takes both connections down
 abbrev nested : List Event

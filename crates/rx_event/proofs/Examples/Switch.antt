@@ -1,14 +1,8 @@
 -- The definitions at worked examples: Switch.
-use Rattle.std.proofs.Common.{◌≡◌, List, [], ◌∷◌, ◌++◌, refl, pos}
-use Rattle.rx_event.specs.declared.event.Place.TheVariants.{Root, Source, Inner}
-use Rattle.rx_event.specs.declared.event.Kind.TheVariants.{Leaf, Pass, Switch, Sub}
-use Rattle.rx_event.specs.declared.event.Mode.TheVariants.{Auto}
-use Rattle.rx_event.specs.declared.event.Event.{Event}
-use Rattle.rx_event.specs.declared.event.Event.TheVariants.{Open, Hub, Connect, Accept, Item, Close}
-use Rattle.rx_event.specs.Kept.{nothing_kept, shown}
-use Rattle.rx_event.specs.Tree.{parent, ancestors, is_shut, is_open, open_nodes, open_connections, open_subscribers}
-use Rattle.rx_event.specs.Resources.{is_owned, is_out, leases_of, is_held, is_taken, is_waiting, held_resources, waiting_resources}
-use Rattle.rx_event.specs.Lawful.{opened_with, MayFollow}
+use Rattle.rx_event.proofs.Laws.Common.{◌≡◌, List, [], ◌∷◌, ◌++◌, refl, pos, Root, Source, Inner, Leaf, Pass, Switch, Sub, Auto, Event, Open, Hub, Connect}
+use Rattle.rx_event.proofs.Laws.Common.{Accept, Item, Close, nothing_kept, shown, parent, ancestors, is_shut, is_open, open_nodes, open_connections}
+use Rattle.rx_event.proofs.Laws.Common.{open_subscribers, is_owned, is_out, leases_of, is_held, is_taken, is_waiting, waiting_resources, opened_with}
+use Rattle.rx_event.proofs.Laws.Common.{MayFollow, held_resources}
 
 -- the opening of the second inner closes the first, whose resource waits
 abbrev exchanged : List Event

@@ -1,18 +1,8 @@
 -- The definitions at worked examples: TakeUntil.
-use Rattle.std.proofs.Common.{◌≡◌, List, [], ◌∷◌, ◌++◌, refl, pos}
-use Rattle.rx_note.specs.declared.note.Terminal.TheVariants.{Completed}
-use Rattle.rx_note.specs.declared.note.Note.TheVariants.{Next, End as Ended}
-use Rattle.rx_event.specs.declared.event.Place.TheVariants.{Root, Source, Notifier}
-use Rattle.rx_event.specs.declared.event.Kind.TheVariants.{Leaf, Until, Sub}
-use Rattle.rx_event.specs.declared.event.Mode.TheVariants.{Auto}
-use Rattle.rx_event.specs.declared.event.Event.{Event}
-use Rattle.rx_event.specs.declared.event.Event.TheVariants.{Open, Hub, Connect, Item, End, Close}
-use Rattle.rx_event.specs.Kept.{nothing_kept, shown}
-use Rattle.rx_event.specs.Tree.{parent, ancestors, is_shut, is_open, open_nodes}
-use Rattle.rx_event.specs.Climb.{Delivery, Firing, most_visits, climb, stops, visits}
-use Rattle.rx_event.specs.Moments.{moments, is_fired}
-use Rattle.rx_event.specs.Notes.{notes}
-use Rattle.rx_event.specs.Forced.{fired, left, IsDue}
+use Rattle.rx_event.proofs.Laws.Common.{◌≡◌, List, [], ◌∷◌, ◌++◌, refl, pos, Completed, Root, Source, Notifier, Leaf, Until, Sub, Auto, Event, Open, Hub}
+use Rattle.rx_event.proofs.Laws.Common.{Connect, Item, End, Close, nothing_kept, shown, parent, ancestors, is_shut, is_open, open_nodes, Delivery, Firing}
+use Rattle.rx_event.proofs.Laws.Common.{most_visits, climb, stops, moments, is_fired, notes, fired, left, IsDue, Next, visits}
+use Rattle.rx_note.specs.declared.note.Note.TheVariants.{End as Ended}
 
 -- source and notifier are leaves of their own
 abbrev until : List Event

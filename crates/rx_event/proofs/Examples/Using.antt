@@ -1,19 +1,9 @@
 -- The definitions at worked examples: Using and mirroring nodes.
-use Rattle.std.proofs.Common.{◌≡◌, List, [], ◌∷◌, ◌++◌, refl, pos}
-use Rattle.rx_note.specs.declared.note.Terminal.TheVariants.{Completed}
-use Rattle.rx_note.specs.declared.note.Note.TheVariants.{Next, End as Ended}
-use Rattle.rx_event.specs.declared.event.Place.TheVariants.{Root, Source}
-use Rattle.rx_event.specs.declared.event.Kind.TheVariants.{Leaf, Pass}
-use Rattle.rx_event.specs.declared.event.Event.{Event}
-use Rattle.rx_event.specs.declared.event.Event.TheVariants.{Open, Accept, Item, End, Close, Take}
-use Rattle.rx_event.specs.Kept.{nothing_kept, shown}
-use Rattle.rx_event.specs.Tree.{parent, ancestors, is_shut, is_open}
-use Rattle.rx_event.specs.Resources.{is_owned, is_out, leases_of, is_held, is_taken, is_waiting, held_resources, waiting_resources}
-use Rattle.rx_event.specs.Climb.{most_visits, climb, stops}
-use Rattle.rx_event.specs.Moments.{moments, projections, owed}
-use Rattle.rx_event.specs.Notes.{notes}
-use Rattle.rx_event.specs.Totals.{debt}
-use Rattle.rx_event.specs.Forced.{mirrored, IsDue}
+use Rattle.rx_event.proofs.Laws.Common.{◌≡◌, List, [], ◌∷◌, ◌++◌, refl, pos, Completed, Root, Source, Leaf, Pass, Event, Open, Accept, Item, End, Close, Take}
+use Rattle.rx_event.proofs.Laws.Common.{nothing_kept, shown, parent, ancestors, is_shut, is_open, is_owned, is_out, leases_of, is_held, is_taken, is_waiting}
+use Rattle.rx_event.proofs.Laws.Common.{waiting_resources, most_visits, climb, stops, moments, projections, owed, notes, mirrored, IsDue, Next}
+use Rattle.rx_event.proofs.Laws.Common.{held_resources, debt}
+use Rattle.rx_note.specs.declared.note.Note.TheVariants.{End as Ended}
 
 -- a Using subscription with one resource, disposed of
 abbrev using : List Event

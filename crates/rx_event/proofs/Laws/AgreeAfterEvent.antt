@@ -1,32 +1,22 @@
 -- Two stored histories that agree, followed by one event that may follow, agree again.
-use Rattle.std.proofs.Common.{◌≡◌, ℕ, ◌+◌, ◌<◌, Bool, true, false, List, [], ◌∷◌, ◌++◌, length, cond, Option, Some, None, refl, sym, ap, ◌∙◌, arith}
-use Rattle.std.proofs.Common.{inl, inr, ◌⊎◌, slice_get, nat_lt, length-append, subst, ℤ}
-use Rattle.std.proofs.Math.Bool.{not, ◌&&◌, ◌||◌}
-use Rattle.std.specs.Option.{option_and_then, option_map_or}
-use Rattle.std.proofs.lemmas.Bool.{cases_order, both_ways, false≢true, and_parts}
-use Rattle.rx_event.specs.declared.event.Event.{Event}
-use Rattle.rx_event.specs.declared.event.Event.TheVariants.{End, Item}
-use Rattle.rx_event.specs.Events.{node_of_accept, is_remove_of, is_return_of, is_take_of, is_use_of}
-use Rattle.rx_event.specs.Tree.{is_open}
-use Rattle.rx_event.specs.Resources.{is_owned, is_out, leases_of, is_held, is_waiting, uses, accepted_by}
-use Rattle.rx_event.specs.Kept.{Kept, resource_kept}
-use Rattle.rx_event.specs.Bases.{is_untaken, Agree}
+use Rattle.rx_event.proofs.Laws.Common.{◌≡◌, ℕ, ◌+◌, ◌<◌, Bool, true, false, List, [], ◌∷◌, ◌++◌, length, cond, Option, Some, None, refl, sym, ap, ◌∙◌, arith}
+use Rattle.rx_event.proofs.Laws.Common.{inl, inr, ◌⊎◌, slice_get, nat_lt, length-append, subst, ℤ, not, ◌&&◌, ◌||◌, option_and_then, option_map_or}
+use Rattle.rx_event.proofs.Laws.Common.{cases_order, both_ways, and_parts, Event, End, Item, node_of_accept, is_remove_of, is_return_of, is_take_of}
+use Rattle.rx_event.proofs.Laws.Common.{is_use_of, is_open, is_owned, is_out, leases_of, is_held, is_waiting, uses, accepted_by, Kept, resource_kept, Agree}
+use Rattle.rx_event.proofs.Laws.Common.{AreRead, MayFollow, IsLawful, Terminal, is_untaken}
 use Rattle.rx_event.proofs.Laws.Places.{slice_get-append, slice_get_last}
-use Rattle.rx_event.proofs.Laws.Resources.{node_of, held_is, owned_held, is_owned_past, is_owned_new, held_old, is_held_past, is_waiting_past}
-use Rattle.rx_event.proofs.Laws.Resources.{is_waiting_new, is_waiting-unheld}
+use Rattle.rx_event.proofs.Laws.Resources.{node_of, held_is, owned_held, is_owned_past, is_owned_new, held_old, is_held_past, is_waiting_past, is_waiting_new}
+use Rattle.rx_event.proofs.Laws.Resources.{is_waiting-unheld}
 use Rattle.rx_event.proofs.Laws.Leases.{is_out-push, is_out_last, is_out_past, is_leased-counted, leases_of_same}
 use Rattle.rx_event.proofs.Laws.Totals.{item_count-push, accepted_count-push, taken_count-push, uses-push, uses_past}
-use Rattle.rx_event.specs.Renumbered.{AreRead}
 use Rattle.rx_event.proofs.Laws.SameTree.{Alike, alike_read}
 use Rattle.rx_event.proofs.Laws.TreeRead.{event_by_itself}
 use Rattle.rx_event.proofs.Laws.TreeAfterEvent.{GoesOn, id_goes_on}
 use Rattle.rx_event.proofs.Laws.ReadAfter.{read_after}
 use Rattle.rx_event.proofs.Laws.SameForcedAndAllowed.{reads_of}
 use Rattle.rx_event.proofs.Laws.Sound.{sound_of, owned-push, node_open}
-use Rattle.rx_event.specs.Lawful.{MayFollow, IsLawful}
 use Rattle.rx_event.proofs.Laws.Lawful.{IsLawful-push, shown_within, may_end}
 use Rattle.rx_event.proofs.Laws.Steps.{may_name, may_emit}
-use Rattle.rx_note.specs.declared.note.Terminal.{Terminal}
 
 pub ends : (b : Kept) (h : List Event) (e : Event) → MayFollow b h e → (n : ℕ) (t : Terminal) → e ≡ End n t → is_open h n ≡ true
 ends b h e next n t same = may_end b (subst (λ x. MayFollow b h x) same next)
@@ -127,10 +117,7 @@ module _ (b : Kept) (h : List Event) (c : Kept) (k : List Event) (e : Event) (la
     where
       shape : (after waits held takes : Bool) → (after ≡ true → held ≡ true) → (after || ((waits || (held && not after)) && not takes)) ≡ true →
           (held || waits) ≡ true
-      shape after waits true takes up some = refl
-      shape after true false takes up some = refl
-      shape true false false takes up some = up refl
-      shape false false false takes up some = absurd (false≢true some)
+      shape after waits held takes up some = grind arith
 
   accepts_on : (r : ℕ) → is_untaken (h ++ e ∷ []) r ≡ true → accepted_by b (h ++ e ∷ []) r ≡ accepted_by c (k ++ e ∷ []) r
   accepts_on r untaken = by_place (cases_order r (length h)) where

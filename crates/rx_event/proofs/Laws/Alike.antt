@@ -1,28 +1,18 @@
 -- Two courses of what is forced after one history come to the same, but for the places of ends and closings.
-use Rattle.std.proofs.Common.{◌≡◌, ℕ, ◌<◌, ◌≤◌, Bool, true, false, List, [], ◌∷◌, ◌++◌, length, Option, Some, None, cond, slice_get, refl, sym, ap, subst}
-use Rattle.std.proofs.Common.{◌∙◌, inl, inr, ◌⊎◌, ◌==◌, nat_lt, arith, filter, append-nil, length-append, ◌+◌, ◌-◌}
-use Rattle.std.proofs.Math.Bool.{not, ◌&&◌, ◌||◌}
-use Rattle.std.specs.List.{list_any, count_by}
-use Rattle.std.specs.Option.{option_and_then, option_map_or}
-use Rattle.std.proofs.lemmas.Bool.{both_ways, false≢true, eqb-true, false_from_ne_true}
-use Rattle.std.proofs.lemmas.Option.{slice_get_within, same_Some, none-some}
-use Rattle.std.proofs.lemmas.List.Sums.{length-filter}
-use Rattle.rx_note.specs.declared.note.Terminal.{Terminal}
+use Rattle.rx_event.proofs.Laws.Common.{◌≡◌, ℕ, ◌<◌, ◌≤◌, Bool, true, false, List, [], ◌∷◌, ◌++◌, length, Option, Some, None, cond, slice_get, refl, sym, ap}
+use Rattle.rx_event.proofs.Laws.Common.{subst, ◌∙◌, inl, inr, ◌⊎◌, ◌==◌, nat_lt, arith, filter, append-nil, length-append, ◌+◌, ◌-◌, not, ◌&&◌, ◌||◌}
+use Rattle.rx_event.proofs.Laws.Common.{list_any, count_by, option_and_then, option_map_or, both_ways, false≢true, eqb-true, false_from_ne_true}
+use Rattle.rx_event.proofs.Laws.Common.{slice_get_within, same_Some, none-some, Terminal, Kept, shown, resource_kept, Root, Event, Open, Connect, End, Close}
+use Rattle.rx_event.proofs.Laws.Common.{makes_node, makes_resource, makes_lease, node_of_accept, is_root, is_remove_of, is_return_of, is_take_of, is_use_of}
+use Rattle.rx_event.proofs.Laws.Common.{is_connect_of, is_subscriber_of, at, places, parent, ancestors, is_open, is_within, open_nodes, is_owned, is_out}
+use Rattle.rx_event.proofs.Laws.Common.{leases_of, is_held, is_taken, is_waiting, waiting_resources, uses, mail_of, IsDue, IsConnected, IsSettled, stays}
+use Rattle.rx_event.proofs.Laws.Common.{more, IsLawful, IsForcedOn, and_false, and_true, length-filter, is_lease_of, is_take, held_resources, notes_to}
 use Rattle.rx_note.specs.declared.note.Note.{Note}
 use Rattle.rx_note.specs.declared.note.Note.TheVariants.{End as EndNote}
-use Rattle.rx_event.specs.Kept.{Kept, shown, resource_kept}
-use Rattle.rx_event.specs.declared.event.Place.TheVariants.{Root}
-use Rattle.rx_event.specs.declared.event.Event.{Event}
-use Rattle.rx_event.specs.declared.event.Event.TheVariants.{Open, Connect, End, Close}
-use Rattle.rx_event.specs.Events.{makes_node, makes_resource, makes_lease, node_of_accept, is_root, is_remove_of, is_lease_of, is_return_of, is_take_of}
-use Rattle.rx_event.specs.Events.{is_use_of, is_connect_of, is_subscriber_of, is_item, is_take}
-use Rattle.rx_event.specs.Tree.{at, places, parent, ancestors, is_open, is_within, open_nodes}
-use Rattle.rx_event.specs.Resources.{is_owned, is_out, is_out_of, leases_of, leases_out, is_held, is_taken, is_waiting, held_resources, waiting_resources, uses}
-use Rattle.rx_event.specs.Notes.{notes_to, mail_of}
-use Rattle.rx_event.specs.Forced.{IsDue, IsConnected, IsSettled}
-use Rattle.rx_event.specs.Lawful.{stays, more, IsLawful, IsForcedOn, IsStep}
+use Rattle.rx_event.specs.Events.{is_item}
+use Rattle.rx_event.specs.Resources.{is_out_of, leases_out}
+use Rattle.rx_event.specs.Lawful.{IsStep}
 use Rattle.rx_event.specs.Claims.Determined.{is_closing, AreAlike, EndsSince}
-use Rattle.rx_event.proofs.Laws.Searches.{and_true, and_false}
 use Rattle.rx_event.proofs.Laws.Lists.{same_filter}
 use Rattle.rx_event.proofs.Laws.Places.{slice_get_last}
 use Rattle.rx_event.proofs.Laws.Parents.{ancestors_step}

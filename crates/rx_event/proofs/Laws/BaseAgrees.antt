@@ -1,47 +1,34 @@
 -- The base of a settled stored history is sound, and agrees with it.
-use Rattle.std.proofs.Common.{◌≡◌, ℕ, suc, ◌+◌, ◌-◌, ◌<◌, ◌≤◌, Bool, true, false, List, [], ◌∷◌, ◌++◌, length, cond, Option, Some, None, refl, sym, ap}
-use Rattle.std.proofs.Common.{◌∙◌, arith, inl, inr, ◌⊎◌, slice_get, nat_lt, count_by, sum_by}
-use Rattle.std.proofs.Math.Bool.{not, ◌&&◌, ◌||◌}
-use Rattle.std.specs.List.{list_any}
-use Rattle.std.specs.Option.{option_and_then, option_map_or}
-use Rattle.std.proofs.lemmas.Bool.{cases_Bool, cases_lt, both_ways, false≢true, and_parts, eqb-true}
-use Rattle.std.proofs.lemmas.Option.{slice_get_past, slice_get_within, none-some, same_Some}
-use Rattle.std.proofs.lemmas.List.Sums.{sum_by-cons}
-use Rattle.rx_note.specs.declared.note.Terminal.{Terminal}
-use Rattle.rx_note.specs.declared.note.Terminal.TheVariants.{Completed, Error}
-use Rattle.rx_event.specs.declared.event.Place.{Place}
-use Rattle.rx_event.specs.declared.event.Kind.TheVariants.{Leaf, Sub}
-use Rattle.rx_event.specs.Allowed.{IsInOrderAt, IsInOrder}
+use Rattle.rx_event.proofs.Laws.Common.{◌≡◌, ℕ, suc, ◌+◌, ◌-◌, ◌<◌, ◌≤◌, Bool, true, false, List, [], ◌∷◌, ◌++◌, length, cond, Option, Some, None, refl, sym}
+use Rattle.rx_event.proofs.Laws.Common.{ap, ◌∙◌, arith, inl, inr, ◌⊎◌, slice_get, nat_lt, not, ◌&&◌, ◌||◌, list_any, option_and_then, option_map_or}
+use Rattle.rx_event.proofs.Laws.Common.{cases_Bool, cases_lt, both_ways, false≢true, and_parts, eqb-true, slice_get_past, slice_get_within, none-some}
+use Rattle.rx_event.proofs.Laws.Common.{same_Some, sum_by-cons, Terminal, Completed, Error, Place, Leaf, Sub, IsInOrderAt, Root, Source, Inner, Notifier}
+use Rattle.rx_event.proofs.Laws.Common.{Event, Open, Hub, Connect, Accept, Use, Lease, Item, End, Close, has_source, is_merging, is_until, makes_node}
+use Rattle.rx_event.proofs.Laws.Common.{makes_hub, makes_resource, makes_lease, parent_named, node_of_accept, is_source_of, is_inner_of, is_switch}
+use Rattle.rx_event.proofs.Laws.Common.{is_remove_of, is_return_of, is_take_of, is_use_of, pays, at, is_open, is_owned, is_out, leases_of, is_held, is_taken}
+use Rattle.rx_event.proofs.Laws.Common.{is_waiting, uses, accepted_by, Stop, Moment, moments, moments_after, is_projection_to, stops_of, projections}
+use Rattle.rx_event.proofs.Laws.Common.{is_fired, owed, completes_source, source_completed, child_terminal, marks_of, mirrored, fired, failed, completed, cut}
+use Rattle.rx_event.proofs.Laws.Common.{left, connecting, due, IsConnected, IsDue, IsForced, IsSettled, IsLawful, Kept, node_kept, resource_kept, shown}
+use Rattle.rx_event.proofs.Laws.Common.{source_opened, base_of, Agree, and_false, and_true, or_false, false_from_ne_true as never, counted_once, IsInOrder}
+use Rattle.rx_event.proofs.Laws.Common.{is_notifier_of, is_take, accepted_count, taken_count, notifier_opened, keep_node, is_untaken}
+use Rattle.std.proofs.Common.{count_by, sum_by}
 use Rattle.rx_event.proofs.Laws.SameForcedAndAllowed.{hub_is, in_order_too}
-use Rattle.rx_event.specs.declared.event.Place.TheVariants.{Root, Source, Inner, Notifier}
-use Rattle.rx_event.specs.declared.event.Event.{Event}
-use Rattle.rx_event.specs.declared.event.Event.TheVariants.{Open, Hub, Connect, Accept, Use, Lease, Item, End, Close, Take}
-use Rattle.rx_event.specs.Events.{has_source, is_merging, is_until, makes_node, makes_hub, makes_resource, makes_lease, parent_named, node_of_accept}
-use Rattle.rx_event.specs.Events.{is_source_of, is_notifier_of, is_inner_of, is_switch, is_remove_of, is_return_of, is_take_of, is_use_of, pays, is_item}
-use Rattle.rx_event.specs.Events.{is_take, is_making}
-use Rattle.rx_event.specs.Tree.{at, is_open}
-use Rattle.rx_event.specs.Resources.{is_owned, is_out, leases_of, is_held, is_taken, is_waiting, uses, accepted_by}
-use Rattle.rx_event.specs.Climb.{Stop}
-use Rattle.rx_event.specs.Moments.{Moment, moments, moments_after, is_projection_to, stops_of, projections, is_fired, projected_by, owed}
-use Rattle.rx_event.specs.Totals.{item_count, accepted_count, taken_count}
-use Rattle.rx_event.specs.Marks.{completes_source, source_completed, child_terminal, marks_of}
-use Rattle.rx_event.specs.Forced.{mirrored, fired, failed, completed, cut, left, connecting, due, IsConnected, IsDue, IsForced, IsSettled}
-use Rattle.rx_event.specs.Lawful.{IsLawful}
+use Rattle.rx_event.specs.Events.{is_item, is_making}
+use Rattle.rx_event.specs.Moments.{projected_by}
+use Rattle.rx_event.specs.Totals.{item_count}
 use Rattle.rx_event.specs.declared.base.BaseResource.{BaseResource}
 use Rattle.rx_event.specs.declared.base.BaseLease.{BaseLease}
 use Rattle.rx_event.specs.declared.base.BaseState.TheVariants.{Owned, Leased, Waiting}
-use Rattle.rx_event.specs.Kept.{Kept, node_kept, hub_kept, resource_kept, lease_kept, node_shown, resource_shown, lease_shown, shown}
-use Rattle.rx_event.specs.Opened.{source_opened, notifier_opened}
-use Rattle.rx_event.specs.Bases.{keep_node, keep_hub, keep_resource, keep_lease, lease_resource, accept_node, accept_tag, is_untaken, base_of, Agree}
+use Rattle.rx_event.specs.Kept.{hub_kept, lease_kept, node_shown, resource_shown, lease_shown}
+use Rattle.rx_event.specs.Bases.{keep_hub, keep_resource, keep_lease, lease_resource, accept_node, accept_tag}
 use Rattle.rx_event.proofs.Laws.SoundForm.{StandsWell, SubscribesWell, TwoOpenInners, Sound}
-use Rattle.rx_event.proofs.Laws.Searches.{list_any_found, list_any_holds, or_false, and_true, and_false}
+use Rattle.rx_event.proofs.Laws.Searches.{list_any_found, list_any_holds}
 use Rattle.rx_event.proofs.Laws.Places.{at_within}
 use Rattle.rx_event.proofs.Laws.Openness.{parent_open}
 use Rattle.rx_event.proofs.Laws.Stands.{open_node}
 use Rattle.rx_event.proofs.Laws.Resources.{node_of, held_is, owned_held, is_held_within, is_waiting_within, held_resource, waiting_parts}
 use Rattle.rx_event.proofs.Laws.Leases.{is_out_within, out_lease, leases_of_same}
 use Rattle.rx_event.proofs.Laws.Sums.{sum_by_no_rise, count_by-places}
-use Rattle.rx_event.proofs.Laws.MarksNew.{never}
 use Rattle.rx_event.proofs.Laws.SameTree.{Alike, at_hub_alike, at_alike, auto_alike, childless_alike, subscribers_alike, trees_alike, alike_back, read_alike}
 use Rattle.rx_event.proofs.Laws.TreeRead.{named_parent, children_by, trees_back}
 use Rattle.rx_event.proofs.Laws.Steps.{named_below}
@@ -50,7 +37,8 @@ use Rattle.rx_event.proofs.Laws.MarksAfter.{same_marks}
 use Rattle.rx_event.proofs.Laws.SameMarks.{parent_sort}
 use Rattle.rx_event.proofs.Laws.ReadDue.{connect_due_by}
 use Rattle.rx_event.proofs.Laws.SameRules.{fired_until, due_by_child}
-use Rattle.rx_event.proofs.Laws.Bases.{found, node_of_base, hub_of_base, shown_get, length_base, base_length, is_inert, KeptAt, kept_at, kept_open, base_alike}
+use Rattle.rx_event.proofs.Laws.Bases.{found, node_of_base, hub_of_base, shown_get, length_base, base_length, is_inert, KeptAt, kept_at, kept_open}
+use Rattle.rx_event.proofs.Laws.Bases.{base_alike}
 use Rattle.rx_event.proofs.Laws.Sound.{count_none, sound_of}
 use Rattle.rx_event.proofs.Laws.MakingRemovesNothing.{made_unremoved, made_unreturned, made_untaken, made_unfired}
 
@@ -132,9 +120,7 @@ inert_making m (Close c) i = refl
 inert_making m _ i = absurd (false≢true i)
 
 node_making : (x : Event) → makes_node x ≡ true → is_making x ≡ true
-node_making (Open place kind) i = refl
-node_making (Connect g) i = refl
-node_making _ i = absurd (false≢true i)
+node_making x i = grind arith
 
 module _ (b : Kept) (h : List Event) where
   pub s_making : (i : ℕ) (x : Event) → slice_get (shown (base_of b h)) i ≡ Some x → is_making x ≡ true
@@ -193,26 +179,15 @@ module _ (b : Kept) (h : List Event) where
     clash None is node = false≢true is
     clash (Some x) is node = both_made x is node
 
-    not_hub : (x : Event) → makes_resource x ≡ true → makes_hub x ≡ false
-    not_hub (Hub mode) is = absurd (false≢true is)
-    not_hub _ is = refl
-
     no_hub : (o : Option Event) → option_map_or makes_resource o false ≡ true → option_map_or makes_hub o false ≡ false
-    no_hub None is = refl
-    no_hub (Some x) is = not_hub x is
+    no_hub o is = grind arith
 
   accepted_some : (r : ℕ) → at makes_resource h r ≡ true →
       accepted_by b h r ≡ Some (Accept (option_map_or accept_node (accepted_by b h r) 0) (option_map_or accept_tag (accepted_by b h r) 0))
   accepted_some r makes = by_record (resource_kept b r) where
-    in_event : (x : Event) → makes_resource x ≡ true → x ≡ Accept (accept_node x) (accept_tag x)
-    in_event (Accept n tag) is = refl
-    in_event (Open place kind) is = absurd (false≢true is)
-    in_event _ is = absurd (false≢true is)
-
     in_place : (o : Option Event) → option_map_or makes_resource o false ≡ true →
         o ≡ Some (Accept (option_map_or accept_node o 0) (option_map_or accept_tag o 0))
-    in_place None is = absurd (false≢true is)
-    in_place (Some x) is = ap Some (in_event x is)
+    in_place o is = grind arith
 
     by_record : (k : Option BaseResource) → option_map_or (λ x. Some (Accept x.node x.tag)) k (slice_get h r) ≡
         Some (Accept (option_map_or accept_node (option_map_or (λ x. Some (Accept x.node x.tag)) k (slice_get h r)) 0)
@@ -256,15 +231,8 @@ module _ (b : Kept) (h : List Event) where
   -- else none
   pub s_no_resource : (r : ℕ) → is_untaken h r ≡ false → at makes_resource (shown (base_of b h)) r ≡ false
   s_no_resource r none = by_place (cases_lt r (length h)) where
-    not_made : (x : Event) → makes_node x ≡ true → makes_resource x ≡ false
-    not_made (Open place kind) is = refl
-    not_made (Connect g) is = refl
-    not_made (Accept n tag) is = absurd (false≢true is)
-    not_made _ is = refl
-
     by_event : (o : Option Event) → option_map_or makes_node o false ≡ true → option_map_or makes_resource o false ≡ false
-    by_event None is = refl
-    by_event (Some x) is = not_made x is
+    by_event o is = grind arith
 
     no_lease : (o : Option BaseLease) → makes_resource (option_map_or (λ k. Lease k.resource) o (Close r)) ≡ false
     no_lease None = refl
@@ -297,9 +265,7 @@ module _ (b : Kept) (h : List Event) where
     by_event (Some _) is = absurd (false≢true is)
 
   lease_is : (o : Option Event) (l : ℕ) → option_map_or makes_lease o false ≡ true → o ≡ Some (Lease (lease_resource (option_map_or (λ e. e) o (Close l))))
-  lease_is None l is = absurd (false≢true is)
-  lease_is (Some (Lease r)) l is = refl
-  lease_is (Some _) l is = absurd (false≢true is)
+  lease_is o l is = grind arith
 
   -- a place that is neither a node nor a hub nor a resource
   s_other : (l : ℕ) → l < length h → is_open h l ≡ false → at makes_hub h l ≡ false → is_untaken h l ≡ false → slice_get (shown (base_of b h)) l ≡ Some
@@ -392,14 +358,12 @@ module _ (b : Kept) (h : List Event) where
   s_items : count_by is_item (shown (base_of b h)) ≡ 0
   s_items = s_count is_item fails where
     fails : (x : Event) → is_making x ≡ true → is_item x ≡ false
-    fails (Item l v) making = absurd (false≢true making)
-    fails _ making = refl
+    fails x making = grind arith
 
   s_takes : count_by is_take (shown (base_of b h)) ≡ 0
   s_takes = s_count is_take fails where
     fails : (x : Event) → is_making x ≡ true → is_take x ≡ false
-    fails (Take q) making = absurd (false≢true making)
-    fails _ making = refl
+    fails x making = grind arith
 
   s_taken : (r : ℕ) → is_taken (shown (base_of b h)) r ≡ false
   unfolding is_taken
@@ -426,10 +390,7 @@ module _ (b : Kept) (h : List Event) where
         (node_of (shown (base_of b h)) r) false && not c) (s_unremoved r) ∙ and_true (option_map_or (is_open (shown (base_of b h)))
         (node_of (shown (base_of b h)) r) false)) where
           no_accept : (o : Option Event) → option_map_or makes_resource o false ≡ false → option_and_then node_of_accept o ≡ None
-          no_accept None none = refl
-          no_accept (Some (Accept n tag)) none = absurd (false≢true (sym none))
-          no_accept (Some (Open place kind)) none = refl
-          no_accept (Some _) none = refl
+          no_accept o none = grind arith
 
           by_state : (x : Bool) → is_owned h r ≡ x → (y : Bool) → is_untaken h r ≡ y → x ≡ option_map_or (is_open (shown (base_of b h)))
               (node_of (shown (base_of b h)) r) false
@@ -458,21 +419,13 @@ module _ (b : Kept) (h : List Event) where
         up held = ap (λ c. c || is_waiting h r) (held_is h r ∙ held)
 
         shape : (o a u n : Bool) → ((o || (a && n)) ≡ true → u ≡ true) → (u ≡ true → a ≡ true) → (o || (a && n)) ≡ (o || (u && n))
-        shape true a u n up down = refl
-        shape false true true n up down = refl
-        shape false true false true up down = absurd (false≢true (up refl))
-        shape false true false false up down = refl
-        shape false false true n up down = absurd (false≢true (down refl))
-        shape false false false n up down = refl
+        shape o a u n up down = grind arith
 
     s_is_waiting : (r : ℕ) → is_waiting h r ≡ is_waiting (shown (base_of b h)) r
     s_is_waiting r = sym (waiting_is (shown (base_of b h)) r ∙ (λ i. (s_resource_at r i && not (sym (s_is_held r) i)) && not (s_taken r i)) ∙ shape
         (is_held h r) (is_waiting h r) (λ w. (waiting_parts h r w).1)) where
           shape : (x y : Bool) → (y ≡ true → x ≡ false) → (((x || y) && not x) && true) ≡ y
-          shape true true apart = absurd (both_ways _ (apart refl) refl)
-          shape true false apart = refl
-          shape false true apart = refl
-          shape false false apart = refl
+          shape x y apart = grind arith
 
     s_kept : (r : ℕ) → is_untaken h r ≡ true → resource_kept (base_of b h) r ≡ Some (keep_resource b h r)
     s_kept r untaken = resource_of_base b h r ∙ ap (λ c. cond c (Some (keep_resource b h r)) None) untaken
@@ -508,10 +461,7 @@ module _ (b : Kept) (h : List Event) where
         by_case i x passes (inr inert) = absurd (both_ways _ (fails i x inert) passes)
 
     or_more : (x y z : Bool) → (z ≡ true → y ≡ true) → ((x || y) || z) ≡ (x || y)
-    or_more true y z up = refl
-    or_more false true z up = refl
-    or_more false false true up = sym (up refl)
-    or_more false false false up = refl
+    or_more x y z up = grind arith
 
     inert_source : (n m : ℕ) (x : Event) → is_inert m x ≡ true → is_source_of n x ≡ false
     inert_source n m (Open place kind) i = absurd (false≢true i)
@@ -668,14 +618,9 @@ module _ (b : Kept) (h : List Event) where
         let two = count_by-places makes_resource h in
         let less =
         sum_by_no_rise (λ n. cond (at makes_resource h n) 1 0) (λ n. cond (at makes_resource (shown (base_of b h)) n) 1 0) (length h)
-        (λ n l. bit_le (at makes_resource (shown (base_of b h)) n) (at makes_resource h n) (made n)) in
+        (λ n l. counted_once (at makes_resource (shown (base_of b h)) n) (at makes_resource h n) (made n)) in
         rw (one, two, length_base b h) less
       where
-        bit_le : (x y : Bool) → (x ≡ true → y ≡ true) → cond {A = ℕ} x 1 0 ≤ cond {A = ℕ} y 1 0
-        bit_le true true up = omega arith
-        bit_le true false up = absurd (false≢true (up refl))
-        bit_le false y up = omega arith
-
         made : (n : ℕ) → at makes_resource (shown (base_of b h)) n ≡ true → at makes_resource h n ≡ true
         made n there = by_test (cases_Bool (is_untaken h n)) where
           by_test : (is_untaken h n ≡ true) ⊎ (is_untaken h n ≡ false) → at makes_resource h n ≡ true

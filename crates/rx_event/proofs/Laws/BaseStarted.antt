@@ -1,32 +1,21 @@
 -- A history may begin with the base of a lawful settled one.
-use Rattle.std.proofs.Common.{◌≡◌, ℕ, ◌+◌, ◌<◌, ◌≤◌, Bool, true, false, List, ◌++◌, length, take, drop, cond, Option}
-use Rattle.std.proofs.Common.{Some, None, refl, sym, ap, ◌∙◌, arith, inl, inr, ◌⊎◌, ◌==◌, slice_get, count_by}
-use Rattle.std.proofs.Math.Bool.{◌||◌}
-use Rattle.std.specs.List.{list_any}
-use Rattle.std.specs.Option.{option_map_or}
-use Rattle.std.proofs.lemmas.Bool.{cases_Bool, both_ways, false≢true, eqb-true}
-use Rattle.std.proofs.lemmas.List.{take-append-drop, length-take-le}
-use Rattle.std.proofs.lemmas.Option.{slice_get_within, same_Some, none-some}
-use Rattle.rx_event.specs.declared.event.Place.{Place}
-use Rattle.rx_event.specs.declared.event.Place.TheVariants.{Root, Source, Inner, Notifier}
-use Rattle.rx_event.specs.declared.event.Kind.{Kind}
-use Rattle.rx_event.specs.declared.event.Kind.TheVariants.{Leaf, Sub}
-use Rattle.rx_event.specs.declared.event.Event.{Event}
-use Rattle.rx_event.specs.declared.event.Event.TheVariants.{Open, Connect, Accept, Lease, Decline}
-use Rattle.rx_event.specs.Kept.{Kept, node_kept, resource_kept, shown}
-use Rattle.rx_event.specs.Events.{makes_node, makes_hub, makes_resource, makes_lease, has_source, is_merging, is_until, is_use_of, is_source_of}
-use Rattle.rx_event.specs.Events.{is_making, parent_named, node_of_accept, pays}
-use Rattle.rx_event.specs.Tree.{at, is_open, is_within}
-use Rattle.rx_event.specs.Resources.{is_owned, is_out, is_waiting, uses}
-use Rattle.rx_event.specs.Moments.{projected_by, owed}
-use Rattle.rx_event.specs.Forced.{IsSettled}
-use Rattle.rx_event.specs.Allowed.{IsHubbed, IsInOrderAt, IsInOrder}
-use Rattle.rx_event.specs.Lawful.{HasPlace, Started, IsLawful}
-use Rattle.rx_event.specs.Bases.{keep_node, keep_resource, is_untaken, base_of, Agree}
+use Rattle.rx_event.proofs.Laws.Common.{◌≡◌, ℕ, ◌+◌, ◌<◌, ◌≤◌, Bool, true, false, List, ◌++◌, length, take, drop, cond, Option, Some, None, refl, sym, ap}
+use Rattle.rx_event.proofs.Laws.Common.{◌∙◌, arith, inl, inr, ◌⊎◌, ◌==◌, slice_get, ◌||◌, list_any, option_map_or, cases_Bool, both_ways, false≢true}
+use Rattle.rx_event.proofs.Laws.Common.{eqb-true, length-take-le, slice_get_within, same_Some, none-some, Place, Root, Source, Inner, Notifier, Kind, Leaf}
+use Rattle.rx_event.proofs.Laws.Common.{Sub, Event, Open, Connect, Accept, Lease, Decline, Kept, node_kept, resource_kept, shown, makes_node, makes_hub}
+use Rattle.rx_event.proofs.Laws.Common.{makes_resource, makes_lease, has_source, is_merging, is_until, is_use_of, is_source_of, parent_named, node_of_accept}
+use Rattle.rx_event.proofs.Laws.Common.{pays, at, is_open, is_within, is_owned, is_out, is_waiting, uses, owed, IsSettled, IsInOrderAt, Started, IsLawful}
+use Rattle.rx_event.proofs.Laws.Common.{base_of, Agree, false_from_ne_true as never, IsHubbed, IsInOrder, keep_node, is_untaken}
+use Rattle.std.proofs.Common.{count_by}
+use Rattle.std.proofs.lemmas.List.{take-append-drop}
+use Rattle.rx_event.specs.Events.{is_making}
+use Rattle.rx_event.specs.Moments.{projected_by}
+use Rattle.rx_event.specs.Lawful.{HasPlace}
+use Rattle.rx_event.specs.Bases.{keep_resource}
 use Rattle.rx_event.proofs.Laws.Places.{slice_get-append, at-take, at_within}
 use Rattle.rx_event.proofs.Laws.Parents.{ancestors-append}
 use Rattle.rx_event.proofs.Laws.Openness.{is_open_past, stays_closed_after, parent_open}
-use Rattle.rx_event.proofs.Laws.Hubs.{one_connection}
+use Rattle.rx_event.proofs.Laws.Hubs.{one_connection, hub_before}
 use Rattle.rx_event.proofs.Laws.Resources.{node_of-lt, leased_held, is_held_past, is_waiting_past}
 use Rattle.rx_event.proofs.Laws.Leases.{lease_older}
 use Rattle.rx_event.proofs.Laws.NothingOpenNothingHeld.{out_leased}
@@ -34,8 +23,7 @@ use Rattle.rx_event.proofs.Laws.Plain.{owed_plain}
 use Rattle.rx_event.proofs.Laws.Sources.{one_source}
 use Rattle.rx_event.proofs.Laws.Totals.{accepted_count-parts}
 use Rattle.rx_event.proofs.Laws.SoundForm.{Sound}
-use Rattle.rx_event.proofs.Laws.Sound.{sound_of, count_none, hub_before, hubbed_before}
-use Rattle.rx_event.proofs.Laws.MarksNew.{never}
+use Rattle.rx_event.proofs.Laws.Sound.{sound_of, count_none, hubbed_before}
 use Rattle.rx_event.proofs.Laws.TreeRead.{named_parent}
 use Rattle.rx_event.proofs.Laws.Bases.{is_inert, KeptAt, kept_at, node_of_base, length_base}
 use Rattle.rx_event.proofs.Laws.SameTree.{Alike}
@@ -226,8 +214,7 @@ module _ (b : Kept) (h : List Event) (law : IsLawful b h) (settled : IsSettled b
     by_event (Some e) at_n passes = ap (λ x. option_map_or q x false) (made_there n e at_n (makes e passes)).1 ∙ passes
 
   makes_source : (f : ℕ) (e : Event) → is_source_of f e ≡ true → makes_node e ≡ true
-  makes_source f (Open place kind) source = refl
-  makes_source f _ source = absurd (false≢true source)
+  makes_source f e source = grind arith
 
   plain : (f : ℕ) → is_open s f ≡ true → at is_merging s f ≡ false → owed (base_of b h) s f ≡ 0
   plain f o none =

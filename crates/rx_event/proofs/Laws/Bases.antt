@@ -1,26 +1,20 @@
 -- The base of a history reads as a list of events with the same hubs and open nodes.
-use Rattle.std.proofs.Common.{◌≡◌, ℕ, zero, suc, ◌+◌, ◌<◌, ◌≤◌, Bool, true, false, List, [], ◌∷◌, length, drop, map, cond, Option}
-use Rattle.std.proofs.Common.{Some, None, refl, sym, ap, subst, ◌∙◌, arith, inl, inr, ◌⊎◌, nat_lt, ◌==◌, slice_get, filter}
-use Rattle.std.proofs.Math.Bool.{not, ◌&&◌}
-use Rattle.std.specs.List.{list_any, range_with_len}
-use Rattle.std.specs.Option.{option_and_then, option_map, option_map_or}
-use Rattle.std.proofs.lemmas.Bool.{cases_Bool, cases_lt, cases_order, and_parts, both_ways, eqb-true, eq-eqb, false≢true}
-use Rattle.std.proofs.lemmas.Option.{slice_get_past, slice_get_within, slice_get-map, same_Some}
+use Rattle.rx_event.proofs.Laws.Common.{◌≡◌, ℕ, zero, suc, ◌+◌, ◌<◌, ◌≤◌, Bool, true, false, List, [], ◌∷◌, length, drop, map, cond, Option, Some, None, refl}
+use Rattle.rx_event.proofs.Laws.Common.{sym, ap, subst, ◌∙◌, arith, inl, inr, ◌⊎◌, nat_lt, ◌==◌, slice_get, filter, not, ◌&&◌, list_any, range_with_len}
+use Rattle.rx_event.proofs.Laws.Common.{option_and_then, option_map_or, cases_Bool, cases_lt, cases_order, and_parts, both_ways, eqb-true, eq-eqb, false≢true}
+use Rattle.rx_event.proofs.Laws.Common.{slice_get_past, slice_get_within, same_Some, Kind, Mode, Root, Source, Inner, Notifier, Event, Open, Hub, Connect}
+use Rattle.rx_event.proofs.Laws.Common.{Accept, Lease, End, Close, makes_node, makes_hub, parent_named, is_switch, is_inner_of, at, parent, if_less, shuts}
+use Rattle.rx_event.proofs.Laws.Common.{is_shut, is_open, Kept, node_kept, resource_kept, shown, base_of, is_switched_inner, keep_node}
+use Rattle.std.specs.Option.{option_map}
+use Rattle.std.proofs.lemmas.Option.{slice_get-map}
 use Rattle.std.proofs.lemmas.List.FromFn.{length-map-range_with_len}
-use Rattle.rx_event.specs.declared.event.Kind.{Kind}
-use Rattle.rx_event.specs.declared.event.Mode.{Mode}
-use Rattle.rx_event.specs.declared.event.Place.TheVariants.{Root, Source, Inner, Notifier}
-use Rattle.rx_event.specs.declared.event.Event.{Event}
-use Rattle.rx_event.specs.declared.event.Event.TheVariants.{Open, Hub, Connect, Accept, Lease, End, Close}
-use Rattle.rx_event.specs.Events.{makes_node, makes_hub, parent_named, is_switch, is_inner_of}
-use Rattle.rx_event.specs.Tree.{at, parent, if_less, shuts, is_shut, is_open, is_switched_inner}
 use Rattle.rx_event.proofs.Laws.SoundForm.{TwoOpenInners}
 use Rattle.rx_event.specs.declared.base.BaseResource.{BaseResource}
 use Rattle.rx_event.specs.declared.base.BaseLease.{BaseLease}
 use Rattle.rx_event.specs.declared.base.BaseNode.{BaseNode}
 use Rattle.rx_event.specs.declared.base.BaseHub.{BaseHub}
-use Rattle.rx_event.specs.Kept.{Kept, find_by, node_kept, hub_kept, resource_kept, lease_kept, resource_shown, lease_shown, shown_at, shown}
-use Rattle.rx_event.specs.Bases.{event_or, keep_node, keep_hub, mode_of, base_of}
+use Rattle.rx_event.specs.Kept.{find_by, hub_kept, lease_kept, resource_shown, lease_shown, shown_at}
+use Rattle.rx_event.specs.Bases.{event_or, keep_hub, mode_of}
 use Rattle.rx_event.proofs.Laws.SameTree.{Alike}
 use Rattle.rx_event.proofs.Laws.Places.{at_within}
 use Rattle.rx_event.proofs.Laws.Parents.{parent-lt}
@@ -99,7 +93,7 @@ pub hub_of_base : (b : Kept) (h : List Event) (n : ℕ) → hub_kept (base_of b 
 unfolding base_of
 hub_of_base b h = found (λ (k : BaseHub). k.number) (keep_hub h) (λ n. refl) (at makes_hub h) (length h) (at_within makes_hub h)
 
-range_at : (s n k : ℕ) → k < n → slice_get (range_with_len s n) k ≡ Some (s + k)
+pub range_at : (s n k : ℕ) → k < n → slice_get (range_with_len s n) k ≡ Some (s + k)
 range_at s zero k l = absurd (omega arith)
 range_at s (suc n) zero l = ap Some (let e : s ≡ s + 0 = omega arith in e)
 range_at s (suc n) (suc k) l = range_at (s + 1) n k (omega arith) ∙ ap Some (let e : (s + 1) + k ≡ s + suc k = omega arith in e)
@@ -330,8 +324,7 @@ base_alike b h law =
       made = same_Some (shown_at (base_of b h) n) (Hub mode) (sym (shown_get (base_of b h) n (rw (base_length b h) l)) ∙ at_n)
 
       hub_event : (e : Event) → makes_hub e ≡ true → e ≡ Hub (mode_of e)
-      hub_event (Hub m) is = refl
-      hub_event _ is = absurd (false≢true is)
+      hub_event e is = grind arith
 
       in_event : (o : Option Event) → option_map_or makes_hub o false ≡ true → o ≡ Some (Hub (mode_of (option_map_or (λ x. x) o (Close n))))
       in_event None is = absurd (false≢true is)

@@ -1,17 +1,7 @@
 -- The empty base is one that a history may begin with.
-use Rattle.std.proofs.Common.{◌≡◌, ℕ, true, List, [], refl, sym, subst, arith}
-use Rattle.std.specs.List.{AllByRecursion}
-use Rattle.std.proofs.lemmas.Bool.{both_ways, false≢true}
-use Rattle.std.proofs.lemmas.Option.{none-some}
-use Rattle.rx_event.specs.declared.event.Event.{Event}
-use Rattle.rx_event.specs.Tree.{is_open}
-use Rattle.rx_event.specs.Marks.{source_completed}
-use Rattle.rx_event.specs.Moments.{Moment, moments, projections, owed, is_fired}
-use Rattle.rx_event.specs.Notes.{notes}
-use Rattle.rx_event.specs.Resources.{uses}
-use Rattle.rx_event.specs.Forced.{mirrored, fired, failed, completed, cut, left, connecting, due, IsDue, IsForced}
-use Rattle.rx_event.specs.Kept.{nothing_kept, shown}
-use Rattle.rx_event.specs.Lawful.{MayFollow, Started, IsLawful}
+use Rattle.rx_event.proofs.Laws.Common.{◌≡◌, ℕ, true, List, [], refl, sym, subst, arith, AllByRecursion, both_ways, false≢true, none-some, Event, is_open}
+use Rattle.rx_event.proofs.Laws.Common.{source_completed, Moment, moments, projections, owed, is_fired, notes, uses, mirrored, fired, failed, completed, cut}
+use Rattle.rx_event.proofs.Laws.Common.{left, connecting, due, IsDue, IsForced, nothing_kept, shown, MayFollow, Started, IsLawful}
 use Rattle.rx_event.specs.Claims.Checkpoints.{EmptyBase}
 use Rattle.rx_event.proofs.Laws.Lawful.{IsLawful_empty}
 use Rattle.rx_event.proofs.Laws.Openness.{is_open_past}

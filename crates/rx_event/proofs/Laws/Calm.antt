@@ -1,27 +1,12 @@
 -- After an event that ends no node, declines nothing and fires none, no node is due to end that was not before. Where it closes none
 -- either, nothing is forced that was not, but the connection of a new subscriber's hub.
-use Rattle.std.proofs.Common.{◌≡◌, ℕ, ◌<◌, Bool, true, false, List, [], ◌∷◌, ◌++◌, length, Option, Some, None, option_map}
-use Rattle.std.proofs.Common.{slice_get, refl, sym, ap, subst, ◌∙◌, inl, inr, ◌⊎◌, arith, length-append}
-use Rattle.std.proofs.Math.Bool.{not, ◌&&◌}
-use Rattle.std.specs.List.{list_any}
-use Rattle.std.proofs.lemmas.Bool.{false≢true, cases_order, both_ways, and_parts, and_from, eq-eqb}
-use Rattle.std.proofs.lemmas.Option.{same_Some, none-some}
-use Rattle.rx_note.specs.declared.note.Terminal.{Terminal}
-use Rattle.rx_note.specs.declared.note.Terminal.TheVariants.{Completed, Error}
-use Rattle.rx_event.specs.Kept.{Kept}
-use Rattle.rx_event.specs.declared.event.Place.{Place}
-use Rattle.rx_event.specs.declared.event.Kind.{Kind}
-use Rattle.rx_event.specs.declared.event.Kind.TheVariants.{Sub}
-use Rattle.rx_event.specs.declared.event.Event.{Event}
-use Rattle.rx_event.specs.declared.event.Event.TheVariants.{Open, Connect, Decline, End, Close}
-use Rattle.rx_event.specs.Events.{is_auto_hub, is_manual_hub, is_subscriber_of, hub_subscribed}
-use Rattle.rx_event.specs.Tree.{at, places, is_open, open_subscribers, open_connections}
-use Rattle.rx_event.specs.Moments.{is_firing_of, stops_of}
-use Rattle.rx_event.specs.Marks.{marks_of, terminal_due, due_at}
-use Rattle.rx_event.specs.Forced.{mirrored, fired, failed, completed, cut, left, connecting, due, SourceEnded}
-use Rattle.rx_event.specs.Forced.{IsDue, IsForced, IsConnectDue, IsConnected, IsSettled}
-use Rattle.rx_event.specs.Allowed.{connected, IsAllowed}
-use Rattle.rx_event.specs.Lawful.{forced, allowed, stays, more, MayFollow, IsLawful, IsForcedOn}
+use Rattle.rx_event.proofs.Laws.Common.{◌≡◌, ℕ, ◌<◌, Bool, true, false, List, [], ◌∷◌, ◌++◌, length, Option, Some, None, slice_get, refl, sym, ap, subst, ◌∙◌}
+use Rattle.rx_event.proofs.Laws.Common.{inl, inr, ◌⊎◌, arith, length-append, not, ◌&&◌, list_any, false≢true, cases_order, both_ways, and_parts, and_from}
+use Rattle.rx_event.proofs.Laws.Common.{eq-eqb, same_Some, none-some, Terminal, Completed, Error, Kept, Place, Kind, Sub, Event, Open, Connect, Decline, End}
+use Rattle.rx_event.proofs.Laws.Common.{Close, is_auto_hub, is_manual_hub, is_subscriber_of, at, places, is_open, open_subscribers, open_connections}
+use Rattle.rx_event.proofs.Laws.Common.{is_firing_of, stops_of, marks_of, due_at, mirrored, fired, failed, completed, cut, left, connecting, due, SourceEnded}
+use Rattle.rx_event.proofs.Laws.Common.{IsDue, IsForced, IsConnectDue, IsConnected, IsSettled, IsAllowed, forced, allowed, stays, more, MayFollow, IsLawful}
+use Rattle.rx_event.proofs.Laws.Common.{IsForcedOn, option_map, hub_subscribed, terminal_due, connected}
 use Rattle.rx_event.specs.Claims.Stays.{ends_or_declines, FiresNone, ClosesNone, ConnectsAtMost, is_done, is_waiting_for}
 use Rattle.rx_event.proofs.Laws.Lists.{first_passes, filter_nonempty}
 use Rattle.rx_event.proofs.Laws.Places.{slice_get-append, slice_get_last, at-append, at_within}

@@ -1,13 +1,5 @@
 -- What nodes remember, and what was told, in two settled histories that agree: so in a history and in its base.
-use Rattle.std.proofs.Common.{◌≡◌, ℕ, true, List, [], sym}
-use Rattle.rx_event.specs.Kept.{Kept, shown}
-use Rattle.rx_event.specs.declared.event.Event.{Event}
-use Rattle.rx_event.specs.Tree.{is_open}
-use Rattle.rx_event.specs.Notes.{notes}
-use Rattle.rx_event.specs.Forced.{IsSettled}
-use Rattle.rx_event.specs.Marks.{marks_of}
-use Rattle.rx_event.specs.Lawful.{IsLawful}
-use Rattle.rx_event.specs.Bases.{base_of}
+use Rattle.rx_event.proofs.Laws.Common.{◌≡◌, ℕ, true, List, [], sym, Kept, shown, Event, is_open, notes, IsSettled, marks_of, IsLawful, base_of}
 use Rattle.rx_event.proofs.Laws.MakingRemovesNothing.{made_untold}
 use Rattle.rx_event.proofs.Laws.BaseStarted.{base_started}
 use Rattle.rx_event.proofs.Laws.Checkpoints.{kept_agrees}

@@ -1,27 +1,18 @@
 -- Checkpoints: a stored history and its base agree, and go on by the same events.
-use Rattle.std.proofs.Common.{◌≡◌, ℕ, ◌+◌, length, Bool, true, false, List, [], ◌∷◌, ◌++◌, map, cond, Option, Some, None}
-use Rattle.std.proofs.Common.{refl, sym, ap, subst, ◌∙◌, slice_get, sum_by, filter, append_assoc, append-nil, drop}
-use Rattle.std.proofs.Math.Bool.{◌||◌, ◌&&◌}
-use Rattle.std.specs.List.{AllByRecursion, range_with_len, filter_map}
-use Rattle.std.specs.Option.{option_map_or}
-use Rattle.std.proofs.lemmas.Bool.{false≢true}
-use Rattle.rx_event.specs.declared.event.Event.{Event}
-use Rattle.rx_event.specs.declared.event.Event.TheVariants.{Open, Hub, Item, End, Close}
-use Rattle.rx_event.specs.Events.{is_merging, makes_hub, is_root}
-use Rattle.rx_event.specs.Resources.{is_owned, is_out, is_held, is_waiting}
-use Rattle.rx_event.specs.Tree.{at, hubs, places, open_nodes, is_open}
-use Rattle.rx_event.specs.Moments.{Moment, moments_after, owed}
-use Rattle.rx_event.specs.Notes.{told, mail_of}
-use Rattle.rx_event.specs.Forced.{IsSettled}
-use Rattle.rx_event.specs.Lawful.{MayFollow, IsLawful}
+use Rattle.rx_event.proofs.Laws.Common.{◌≡◌, ℕ, ◌+◌, length, Bool, true, false, List, [], ◌∷◌, ◌++◌, map, cond, Option, Some, None, refl, sym, ap, subst, ◌∙◌}
+use Rattle.rx_event.proofs.Laws.Common.{slice_get, filter, append_assoc, append-nil, drop, ◌||◌, ◌&&◌, AllByRecursion, range_with_len, filter_map}
+use Rattle.rx_event.proofs.Laws.Common.{option_map_or, false≢true, Event, Open, Hub, Item, End, Close, is_merging, makes_hub, is_root, is_owned, is_out}
+use Rattle.rx_event.proofs.Laws.Common.{is_held, is_waiting, at, places, open_nodes, is_open, Moment, moments_after, owed, mail_of, IsSettled, MayFollow}
+use Rattle.rx_event.proofs.Laws.Common.{IsLawful, Kept, shown, base_of, Agree, AreRead, keep_node, is_untaken, debt}
+use Rattle.std.proofs.Common.{sum_by}
+use Rattle.rx_event.specs.Tree.{hubs}
+use Rattle.rx_event.specs.Notes.{told}
 use Rattle.rx_event.specs.declared.base.BaseState.TheVariants.{Owned, Leased, Waiting}
-use Rattle.rx_event.specs.Kept.{Kept, shown}
-use Rattle.rx_event.specs.Bases.{keep_node, keep_hub, keep_resource, keep_lease, lease_resource, mode_of, accept_node, accept_tag, is_untaken, base_of, Agree}
-use Rattle.rx_event.specs.Totals.{debt_of, debt}
+use Rattle.rx_event.specs.Bases.{keep_hub, keep_resource, keep_lease, lease_resource, mode_of, accept_node, accept_tag}
+use Rattle.rx_event.specs.Totals.{debt_of}
 use Rattle.rx_event.specs.Claims.Checkpoints.{EachRule, AgreeingGoOn, CheckpointsAgree}
 use Rattle.rx_event.proofs.Laws.Lawful.{IsLawful-push, IsLawful_empty, may_end}
 use Rattle.rx_event.proofs.Laws.Sums.{sum_by-same}
-use Rattle.rx_event.specs.Renumbered.{AreRead}
 use Rattle.rx_event.proofs.Laws.SameTree.{Alike, alike_of, alike_back, at_alike, open_nodes_alike, stops_of_alike}
 use Rattle.rx_event.proofs.Laws.ReadDue.{read_back, connect_due_read}
 use Rattle.rx_event.proofs.Laws.SameForcedAndAllowed.{agree_back, reads_of, forced_too, allowed_too, follows_too, hubs_alike, hub_is}

@@ -1,21 +1,15 @@
 -- Climbs in the subject's own words: a node, and then the climbs of where it goes on, in order.
-use Rattle.std.proofs.Common.{◌≡◌, ◌↔◌, ℕ, zero, suc, ◌+◌, ◌*◌, ◌<◌, ◌≤◌, Bool, true, false, List, [], ◌∷◌, ◌++◌, length, take, Option, Some}
-use Rattle.std.proofs.Common.{None, cond, min, refl, sym, ap, ◌∙◌, arith, ◌==◌, slice_get, append_assoc, append-nil, add-zero, length-append}
-use Rattle.std.proofs.Math.Bool.{◌&&◌}
-use Rattle.std.specs.List.{AllByRecursion, filter_map, flat_map, sum_by, range_with_len, cons_option}
-use Rattle.std.specs.Option.{option_map_or, option_to_list}
-use Rattle.std.proofs.lemmas.Bool.{and_parts}
+use Rattle.rx_event.proofs.Laws.Common.{◌≡◌, ℕ, zero, suc, ◌+◌, ◌<◌, ◌≤◌, Bool, true, false, List, [], ◌∷◌, ◌++◌, length, take, Option, Some, None, cond}
+use Rattle.rx_event.proofs.Laws.Common.{refl, sym, ap, ◌∙◌, arith, ◌==◌, slice_get, append_assoc, append-nil, length-append, ◌&&◌, AllByRecursion, filter_map}
+use Rattle.rx_event.proofs.Laws.Common.{sum_by, range_with_len, option_map_or, and_parts, sum_by-cons, Kept, Event, Connect, is_subscriber_of, at, places}
+use Rattle.rx_event.proofs.Laws.Common.{parent, is_within, is_open, Stop, most_visits, climb, stops, IsLawful, ◌*◌, min, cons_option, option_to_list, visits}
+use Rattle.std.proofs.Common.{◌↔◌, add-zero}
+use Rattle.std.specs.List.{flat_map}
 use Rattle.std.proofs.Math.Nat.{add-mul}
 use Rattle.std.proofs.lemmas.List.{length-take, take_all}
 use Rattle.std.proofs.lemmas.List.Elements.{filter_map-append}
-use Rattle.std.proofs.lemmas.List.Sums.{sum_by-cons, sum_by-append}
-use Rattle.rx_event.specs.Kept.{Kept}
-use Rattle.rx_event.specs.declared.event.Event.{Event}
-use Rattle.rx_event.specs.declared.event.Event.TheVariants.{Connect}
-use Rattle.rx_event.specs.Events.{is_subscriber_of}
-use Rattle.rx_event.specs.Tree.{at, places, parent, is_within, is_open}
-use Rattle.rx_event.specs.Climb.{Stop, stop_at, onward_from, onward_unless, onward, visited, most_visits, climb, stops, visits}
-use Rattle.rx_event.specs.Lawful.{IsLawful}
+use Rattle.std.proofs.lemmas.List.Sums.{sum_by-append}
+use Rattle.rx_event.specs.Climb.{stop_at, onward_from, onward_unless, onward, visited}
 use Rattle.rx_event.specs.Claims.Climbs.{nowhere, visit, Visits, times}
 use Rattle.rx_event.proofs.Laws.Lists.{AllByRecursion-both, filtered}
 use Rattle.rx_event.proofs.Laws.Parents.{parent-lt, within_parent}
@@ -150,9 +144,8 @@ climb_in_order base h law n o few = by_visits (visits_end base h law n o) where
 
 -- stops -------------------------------------------------------------------------------------------
 
-visited_nothing : (k : ℕ) (h : List Event) → visited k h [] ≡ []
-visited_nothing zero h = refl
-visited_nothing (suc k) h = refl
+pub visited_nothing : (k : ℕ) (h : List Event) → visited k h [] ≡ []
+visited_nothing k h = grind arith
 
 -- where the climb stops, it visits that node alone
 pub stops_stop : (h : List Event) (n : ℕ) (s : Stop) → stop_at h n ≡ Some s → stops h n ≡ s ∷ []

@@ -1,22 +1,12 @@
 -- Whatever one course of what is due closes, another closes too, once nothing is left to be done in it.
-use Rattle.std.proofs.Common.{◌≡◌, ℕ, ◌<◌, Bool, true, false, List, [], ◌∷◌, ◌++◌, length, Some}
-use Rattle.std.proofs.Common.{slice_get, refl, sym, ap, subst, ◌∙◌, inl, inr, ◌⊎◌, ◌==◌, arith}
-use Rattle.std.proofs.Math.Bool.{not}
-use Rattle.std.specs.List.{AllByRecursion, list_any}
+use Rattle.rx_event.proofs.Laws.Common.{◌≡◌, ℕ, ◌<◌, Bool, true, false, List, [], ◌∷◌, ◌++◌, length, Some, slice_get, refl, sym, ap, subst, ◌∙◌, inl, inr}
+use Rattle.rx_event.proofs.Laws.Common.{◌⊎◌, ◌==◌, arith, not, AllByRecursion, list_any, false≢true, both_ways, false_from_ne_true, or_cases, eqb-true}
+use Rattle.rx_event.proofs.Laws.Common.{and_from, same_Some, none-some, Terminal, Completed, Error, option_map_or, Kept, node_kept, Event, Connect, End}
+use Rattle.rx_event.proofs.Laws.Common.{Close, is_mirroring, is_merging, is_until, is_source_of, is_subscriber_of, is_auto_hub, at, parent, ancestors}
+use Rattle.rx_event.proofs.Laws.Common.{is_open, is_within, open_subscribers, mirrored, fired, failed, completed, cut, left, due, SourceEnded, IsDue}
+use Rattle.rx_event.proofs.Laws.Common.{IsConnected, IsSettled, completes_source, source_completed, IsLawful, ChildEnded}
 use Rattle.std.specs.Cmp.{both_ways as same_test}
-use Rattle.std.proofs.lemmas.Bool.{false≢true, both_ways, false_from_ne_true, or_cases, eqb-true, and_from}
-use Rattle.std.proofs.lemmas.Option.{same_Some, none-some}
-use Rattle.rx_note.specs.declared.note.Terminal.{Terminal}
-use Rattle.rx_note.specs.declared.note.Terminal.TheVariants.{Completed, Error}
-use Rattle.std.specs.Option.{option_map_or}
-use Rattle.rx_event.specs.Kept.{Kept, node_kept}
-use Rattle.rx_event.specs.declared.event.Event.{Event}
-use Rattle.rx_event.specs.declared.event.Event.TheVariants.{Connect, End, Close}
-use Rattle.rx_event.specs.Events.{is_mirroring, is_merging, is_until, is_source_of, is_subscriber_of, is_auto_hub}
-use Rattle.rx_event.specs.Tree.{at, parent, ancestors, is_open, is_within, open_subscribers}
-use Rattle.rx_event.specs.Forced.{mirrored, fired, failed, completed, cut, left, due, Has, ChildEnded, SourceEnded, IsDue, IsConnected, IsSettled}
-use Rattle.rx_event.specs.Marks.{completes_source, source_completed}
-use Rattle.rx_event.specs.Lawful.{IsLawful}
+use Rattle.rx_event.specs.Forced.{Has}
 use Rattle.rx_event.proofs.Laws.Openness.{is_open_within, is_open_outside-end, is_open_outside-close, ancestors_open}
 use Rattle.rx_event.proofs.Laws.Stands.{connection_parent}
 use Rattle.rx_event.proofs.Laws.Calm.{subscriber_listed, none_subscribed}
@@ -182,8 +172,7 @@ pub open_above : (h : List Event) (c n : ℕ) → is_open h n ≡ true → is_wi
 open_above h c n o inside = all_any (λ a. is_open h a ≡ true) c (ancestors h n) (ancestors_open h n o) inside
 
 not_within : (a : Bool) → (a ≡ true → ⊥) → not a ≡ true
-not_within false out = refl
-not_within true out = absurd (out refl)
+not_within a out = grind arith
 
 spared_step : {base : Kept} {b p k : List Event} → ArriveApart base b p k → {e : Event} → IsDue base p e → IsClosing base p e → (n : ℕ) →
     is_open k n ≡ true → is_open (p ++ e ∷ []) n ≡ true

@@ -1,27 +1,19 @@
 -- Neither a closing nor what is forced opens a root or connects a hub that a caller connects, so what a caller holds open grows less.
-use Rattle.std.proofs.Common.{◌≡◌, ℕ, ◌+◌, ◌<◌, ◌≤◌, Bool, true, false, List, [], ◌∷◌, ◌++◌, length, Option, Some, None}
-use Rattle.std.proofs.Common.{cond, refl, sym, ap, ◌∙◌, arith, inl, inr, ◌⊎◌, slice_get, append_assoc, append-nil}
-use Rattle.std.proofs.Math.Bool.{◌&&◌, not}
-use Rattle.std.specs.List.{count_by, list_all}
-use Rattle.std.specs.Option.{option_map_or}
-use Rattle.std.proofs.lemmas.Bool.{both_ways, false≢true, and_parts, and_from, and_left, eq-eqb, false_from_ne_true}
-use Rattle.std.proofs.lemmas.Option.{slice_get_within}
-use Rattle.rx_event.specs.Kept.{Kept}
-use Rattle.rx_event.specs.declared.event.Mode.TheVariants.{Manual}
-use Rattle.rx_event.specs.declared.event.Event.{Event}
-use Rattle.rx_event.specs.declared.event.Event.TheVariants.{Open, Hub, Connect, End, Close}
-use Rattle.rx_event.specs.Events.{makes_node, makes_hub, is_root, is_auto_hub, is_manual_hub}
-use Rattle.rx_event.specs.Tree.{at, places, is_open, open_connections}
-use Rattle.rx_event.specs.Forced.{mirrored, fired, failed, completed, cut, left, connecting, due, IsDue, IsForced}
-use Rattle.rx_event.specs.Lawful.{stays, more, IsForcedOn, IsLawful}
-use Rattle.rx_event.specs.Claims.Closing.{is_open_root, is_manual_connect, is_manual_connection, open_root_count}
-use Rattle.rx_event.specs.Claims.Closing.{manual_connection_count, IsLetGo, makes_neither, MakesNeither}
+use Rattle.rx_event.proofs.Laws.Common.{◌≡◌, ℕ, ◌+◌, ◌<◌, ◌≤◌, Bool, true, false, List, [], ◌∷◌, ◌++◌, length, Option, Some, None, cond, refl, sym, ap, ◌∙◌}
+use Rattle.rx_event.proofs.Laws.Common.{arith, inl, inr, ◌⊎◌, slice_get, append_assoc, append-nil, not, count_by, option_map_or, both_ways, false≢true}
+use Rattle.rx_event.proofs.Laws.Common.{and_parts, and_from, eq-eqb, false_from_ne_true, slice_get_within, Kept, Manual, Event, Hub, Connect, End, Close}
+use Rattle.rx_event.proofs.Laws.Common.{makes_node, makes_hub, is_root, is_auto_hub, is_manual_hub, at, places, is_open, open_connections, mirrored, fired}
+use Rattle.rx_event.proofs.Laws.Common.{failed, completed, cut, left, connecting, due, IsDue, IsForced, stays, more, IsForcedOn, IsLawful, and_false}
+use Rattle.rx_event.proofs.Laws.Common.{list_all, not-true}
+use Rattle.std.proofs.lemmas.Bool.{and_left}
+use Rattle.rx_event.specs.Claims.Closing.{is_open_root, is_manual_connect, is_manual_connection, open_root_count, manual_connection_count, IsLetGo}
+use Rattle.rx_event.specs.Claims.Closing.{makes_neither, MakesNeither}
 use Rattle.rx_event.proofs.Laws.Places.{slice_get-append, cases_push}
 use Rattle.rx_event.proofs.Laws.Openness.{is_open_within, is_open_cut, is_open_outside-close}
 use Rattle.rx_event.proofs.Laws.Stands.{event_at}
 use Rattle.rx_event.proofs.Laws.Sums.{sum_by-places-push, sum_by_no_rise, sum_by_falls}
 use Rattle.rx_event.proofs.Laws.Totals.{is_within_self}
-use Rattle.rx_event.proofs.Laws.Hubs.{one_connection, one_open_connection}
+use Rattle.rx_event.proofs.Laws.Hubs.{one_connection}
 use Rattle.rx_event.proofs.Laws.LetGo.{connection_listed, first_connection, open_passes_within}
 
 -- events that open nothing anew --------------------------------------------------------------------
@@ -33,8 +25,7 @@ pub record OpensNone (h : List Event) (e : Event) : Type 0 where
   pub auto : (g : ℕ) → e ≡ Connect g → at is_auto_hub h g ≡ true
 
 no_node_no_root : (e : Event) → makes_node e ≡ false → is_root e ≡ false
-no_node_no_root (Open place kind) none = absurd (false≢true (sym none))
-no_node_no_root _ none = refl
+no_node_no_root e none = grind arith
 
 -- what makes neither a node nor a hub opens nothing
 pub neither_opens : (h : List Event) (e : Event) → makes_node e ≡ false → makes_hub e ≡ false → OpensNone h e
@@ -70,16 +61,12 @@ forced_on : (base : Kept) → {h m k : List Event} → IsForcedOn base m k → O
 forced_on base stays before = before
 forced_on base (more rest f) before = one_further (forced_on base rest before) (forced_opens base f)
 
-not_true : (b : Bool) → not b ≡ true → b ≡ false
-not_true false n = refl
-not_true true n = absurd (false≢true n)
-
 outside_on : (h m outside : List Event) → list_all makes_neither outside ≡ true → OpensNoneUpTo h m → OpensNoneUpTo h (m ++ outside)
 outside_on h m [] neither before = rw (append-nil m) before
 outside_on h m (e ∷ outside) neither before =
     let parts : (makes_neither e ≡ true) × (list_all makes_neither outside ≡ true) = and_parts _ _ neither in
     let first : (not (makes_node e) ≡ true) × (not (makes_hub e) ≡ true) = and_parts _ _ parts.0 in
-    let opens : OpensNone m e = neither_opens m e (not_true _ first.0) (not_true _ first.1) in
+    let opens : OpensNone m e = neither_opens m e (not-true _ first.0) (not-true _ first.1) in
     rw (← append_assoc m (e ∷ []) outside) (outside_on h (m ++ e ∷ []) outside parts.1 (one_further before opens))
 
 -- so after events that make neither a node nor a hub, and what they force
@@ -121,9 +108,7 @@ pub record IsManualConnection (h : List Event) (g c : ℕ) : Type 0 where
 pub manual_hub : (h : List Event) (g : ℕ) → at is_manual_hub h g ≡ true → slice_get h g ≡ Some (Hub Manual)
 manual_hub h g = by_event (slice_get h g) where
   by_event : (o : Option Event) → option_map_or is_manual_hub o false ≡ true → o ≡ Some (Hub Manual)
-  by_event None manual = absurd (false≢true manual)
-  by_event (Some (Hub Manual)) manual = refl
-  by_event (Some _) manual = absurd (false≢true manual)
+  by_event o manual = grind arith
 
 pub manual_connection : (h : List Event) (c : ℕ) → is_manual_connection h c ≡ true → (g : ℕ) × IsManualConnection h g c
 manual_connection h c found = by_event (slice_get h c) refl (and_parts _ _ found).1 where
@@ -212,10 +197,7 @@ connections_kept_back = record {
 }
 
 bit_le : (a b : Bool) → (b ≡ true → a ≡ true) → cond {A = ℕ} b 1 0 ≤ cond {A = ℕ} a 1 0
-bit_le true true same = omega arith
-bit_le true false same = omega arith
-bit_le false false same = omega arith
-bit_le false true same = absurd (false≢true (same refl))
+bit_le a b same = grind arith
 
 -- the new place counts for nothing
 last_uncounted : (t : List Event → ℕ → Bool) (h : List Event) (e : Event) → IsKeptBack t → OpensNone h e → t (h ++ e ∷ []) (length h) ≡ false
@@ -264,10 +246,7 @@ close_opens h c = neither_opens h (Close c) refl refl
 
 -- what is closed is not open
 closed_after : (h : List Event) (c : ℕ) → is_open (h ++ Close c ∷ []) c ≡ false
-closed_after h c = is_open_outside-close h c c ∙ rw (is_within_self h c) (no_longer (is_open h c)) where
-  no_longer : (b : Bool) → (b && false) ≡ false
-  no_longer true = refl
-  no_longer false = refl
+closed_after h c = is_open_outside-close h c c ∙ rw (is_within_self h c) (and_false (is_open h c))
 
 -- and a root or a connection less, whatever is forced then
 pub root_less : (base : Kept) → (h k : List Event) (n : ℕ) → is_open_root h n ≡ true → IsForcedOn base (h ++ Close n ∷ []) k →
@@ -310,15 +289,3 @@ hub_disconnected {base} {h} {k} {g} c law manual alive connects f =
         one_connection base h law g c d
         (record { one = rw connects (eq-eqb g g refl); one_open = alive; other = rw before.connected (eq-eqb g g refl); other_open = before.alive }) in
         absurd (both_ways _ (closed_after h c) (ap (is_open (h ++ Close c ∷ [])) same ∙ first.1))
-
--- a disconnection closes the one connection of its hub
-one_listed : (base : Kept) → (h : List Event) → IsLawful base h → (g c : ℕ) → slice_get h c ≡ Some (Connect g) → is_open h c ≡ true →
-    open_connections h g ≡ c ∷ []
-one_listed base h law g c connects alive = by_list (open_connections h g) refl (one_open_connection base h law g) where
-  by_list : (cs : List ℕ) → open_connections h g ≡ cs → length cs ≤ 1 → cs ≡ c ∷ []
-  by_list [] found few = absurd (connection_listed h g c connects alive found)
-  by_list (d ∷ []) found few =
-      let first : (slice_get h d ≡ Some (Connect g)) × (is_open h d ≡ true) = first_connection h g d [] found in
-      ap (λ (n : ℕ). n ∷ []) (one_connection base h law g d c
-      (record { one = rw first.0 (eq-eqb g g refl); one_open = first.1; other = rw connects (eq-eqb g g refl); other_open = alive }))
-  by_list (d ∷ e ∷ cs) found few = absurd (omega arith)

@@ -1,33 +1,22 @@
 -- Connections, one event after the other: the last of a hub and its last end tell all others, and what each event changes.
-use Rattle.std.proofs.Common.{◌≡◌, ◌↔◌, ℕ, zero, suc, ◌+◌, ◌<◌, ◌≤◌, Bool, true, false, List, [], ◌∷◌, ◌++◌, length, Some, cond}
-use Rattle.std.proofs.Common.{refl, sym, ap, subst, ◌∙◌, inl, inr, ◌⊎◌, arith, slice_get, filter, append-nil, length-append}
-use Rattle.std.proofs.Math.Bool.{◌&&◌}
-use Rattle.std.specs.Option.{option_map_or}
-use Rattle.std.specs.List.{sum_by, range_with_len}
+use Rattle.rx_event.proofs.Laws.Common.{◌≡◌, ℕ, zero, suc, ◌+◌, ◌<◌, ◌≤◌, Bool, true, false, List, [], ◌∷◌, ◌++◌, length, Some, cond, refl, sym, ap, subst}
+use Rattle.rx_event.proofs.Laws.Common.{◌∙◌, inl, inr, ◌⊎◌, arith, slice_get, filter, append-nil, length-append, ◌&&◌, option_map_or, sum_by, range_with_len}
+use Rattle.rx_event.proofs.Laws.Common.{sum_by_push, sum_by-cons, cases_order, and_parts, and_from, slice_get_within, same_Some, Terminal, Kept, shown, Place}
+use Rattle.rx_event.proofs.Laws.Common.{Sub, Event, Open, Connect, End, Close, is_auto_hub, is_connect_of, is_subscriber_of, at, places, is_open}
+use Rattle.rx_event.proofs.Laws.Common.{open_subscribers, cut, left, due, SourceEnded, IsDue, IsConnectDue, Started, forced, allowed, MayFollow, IsLawful}
+use Rattle.rx_event.proofs.Laws.Common.{hub_subscribed}
+use Rattle.std.proofs.Common.{◌↔◌}
 use Rattle.std.proofs.lemmas.List.Elements.{filter-append}
-use Rattle.std.proofs.lemmas.List.Sums.{sum_by_push, sum_by-cons}
-use Rattle.std.proofs.lemmas.Bool.{cases_order, false≢true, and_parts, and_from, eqb-true}
-use Rattle.std.proofs.lemmas.Option.{slice_get_within, same_Some}
-use Rattle.rx_note.specs.declared.note.Terminal.{Terminal}
-use Rattle.rx_event.specs.Kept.{Kept, shown}
-use Rattle.rx_event.specs.declared.event.Place.{Place}
-use Rattle.rx_event.specs.declared.event.Kind.TheVariants.{Sub}
-use Rattle.rx_event.specs.declared.event.Event.{Event}
-use Rattle.rx_event.specs.declared.event.Event.TheVariants.{Open, Connect, End, Close}
-use Rattle.rx_event.specs.Events.{is_auto_hub, is_connect_of, is_subscriber_of, hub_subscribed}
-use Rattle.rx_event.specs.Tree.{at, places, is_open, open_subscribers}
-use Rattle.rx_event.specs.Forced.{cut, left, due, SourceEnded, IsDue, IsConnectDue}
-use Rattle.rx_event.specs.Lawful.{Started, forced, allowed, MayFollow, IsLawful}
 use Rattle.rx_event.specs.Claims.Connections.{EndsConnection, EndsLast, HowLeft, left_before, subscriber_gone, connected_now, EndsSource, falling}
 use Rattle.rx_event.proofs.Laws.Lists.{filter_nonempty, first_passes}
 use Rattle.rx_event.proofs.Laws.Places.{slice_get-append, slice_get_last, at-append, at_within, cases_push}
-use Rattle.rx_event.proofs.Laws.Openness.{is_open_within}
+use Rattle.rx_event.proofs.Laws.Openness.{is_open_within, open_old}
 use Rattle.rx_event.proofs.Laws.Lawful.{may_end, ended_after}
 use Rattle.rx_event.proofs.Laws.Steps.{by_events}
 use Rattle.rx_event.proofs.Laws.Hubs.{at_connect, connect_free, connection_hub, subscriber_found}
 use Rattle.rx_event.proofs.Laws.Sums.{below_push}
 use Rattle.rx_event.proofs.Laws.Waits.{waited_end, waited_close, waited_close_allowed, waited_before, auto_before}
-use Rattle.rx_event.proofs.Laws.OneEnd.{one_end, open_old}
+use Rattle.rx_event.proofs.Laws.OneEnd.{one_end}
 use Rattle.rx_event.proofs.Laws.Calm.{subscriber_listed}
 
 -- the last connection -------------------------------------------------------------------------------
@@ -158,8 +147,7 @@ source_ended_or_now base h e law next s t x = by_place (cases_push h e (End x.co
       })
 
 subscribes_now : (g : ℕ) (e : Event) → is_subscriber_of g e ≡ true → hub_subscribed e ≡ Some g
-subscribes_now g (Open place (Sub k)) is = ap (λ (q : ℕ). Some q) (eqb-true k g is)
-subscribes_now g _ is = absurd (false≢true is)
+subscribes_now g e is = grind arith
 
 -- What waits is the hub of the new subscriber, or waited before
 pub waited_or_now : (base : Kept) → (h : List Event) (e : Event) → IsLawful base h → MayFollow base h e → (g : ℕ) → IsConnectDue (h ++ e ∷ []) g →

@@ -1,12 +1,10 @@
 -- What one more event adds to what was told and counted.
-use Rattle.std.proofs.Common.{◌≡◌, ℕ, ◌+◌, List, [], ◌∷◌, ◌++◌, ap, ◌∙◌, append-nil, add-zero}
-use Rattle.std.specs.List.{flat_map, sum_by, count_by}
-use Rattle.std.proofs.lemmas.List.Sums.{sum_by-append, sum_by-cons}
+use Rattle.rx_event.proofs.Laws.Common.{◌≡◌, ℕ, ◌+◌, List, [], ◌∷◌, ◌++◌, ap, ◌∙◌, append-nil, sum_by, count_by, sum_by-cons, Event, Moment, moments}
+use Rattle.rx_event.proofs.Laws.Common.{projections, stops_of, is_projection_to, notes, mail_of, Mail}
+use Rattle.std.proofs.Common.{add-zero}
+use Rattle.std.specs.List.{flat_map}
+use Rattle.std.proofs.lemmas.List.Sums.{sum_by-append}
 use Rattle.std.proofs.lemmas.List.Concat.{flat_map-append}
-use Rattle.rx_event.specs.declared.event.Event.{Event}
-use Rattle.rx_event.specs.Moments.{Moment, moments, projections, stops_of, is_projection_to}
-use Rattle.rx_event.specs.declared.mail.Mail.{Mail}
-use Rattle.rx_event.specs.Notes.{notes, mail_of}
 use Rattle.rx_event.proofs.Laws.Lawful.{moments-push}
 
 -- the notes of one more event come last

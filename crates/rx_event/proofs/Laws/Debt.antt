@@ -1,24 +1,12 @@
 -- What one more event does to the debt.
-use Rattle.std.proofs.Common.{◌≡◌, ℕ, ℤ, ◌+◌, ◌*◌, ◌<◌, ◌≤◌, Bool, true, false, List, [], ◌∷◌, ◌++◌}
-use Rattle.std.proofs.Common.{length, Option, Some, None, cond, refl, ap, ◌∙◌, arith, ◌==◌}
-use Rattle.std.proofs.Math.Bool.{not, ◌&&◌, ◌||◌}
-use Rattle.std.specs.List.{sum_by, count_by}
-use Rattle.std.specs.Option.{option_map_or}
-use Rattle.std.proofs.lemmas.Bool.{eq-eqb, eqb-true, false≢true, both_ways}
-use Rattle.rx_note.specs.declared.note.Terminal.{Terminal}
-use Rattle.rx_event.specs.Kept.{Kept}
-use Rattle.rx_event.specs.declared.event.Place.TheVariants.{Root, Source, Inner, Notifier}
-use Rattle.rx_event.specs.declared.event.Kind.{Kind}
-use Rattle.rx_event.specs.declared.event.Mode.{Mode}
-use Rattle.rx_event.specs.declared.event.Event.{Event}
-use Rattle.rx_event.specs.declared.event.Event.TheVariants.{Open, Hub, Connect, Accept, Use, Remove, Lease, Return, Item, Decline, End, Close, Take}
-use Rattle.rx_event.specs.Events.{makes_node, makes_resource, makes_lease, is_merging, is_switch, is_take, is_return, is_remove_of, pays}
-use Rattle.rx_event.specs.Tree.{at, places, is_open}
-use Rattle.rx_event.specs.Resources.{is_owned, is_out, is_held, is_waiting}
-use Rattle.rx_event.specs.Climb.{stops}
-use Rattle.rx_event.specs.Moments.{owed, is_projection, is_projection_to, stops_of}
-use Rattle.rx_event.specs.Totals.{open_count, owned_count, held_count, lease_count, waiting_count, owed_open, owed_count, kept_debt, debt}
-use Rattle.rx_event.specs.Lawful.{MayFollow, IsLawful}
+use Rattle.rx_event.proofs.Laws.Common.{◌≡◌, ℕ, ℤ, ◌+◌, ◌<◌, ◌≤◌, Bool, true, false, List, [], ◌∷◌, ◌++◌, length, Option, Some, None, cond, refl, ap, ◌∙◌}
+use Rattle.rx_event.proofs.Laws.Common.{arith, ◌==◌, not, ◌&&◌, ◌||◌, sum_by, count_by, option_map_or, eq-eqb, eqb-true, false≢true, Terminal}
+use Rattle.rx_event.proofs.Laws.Common.{Kept, Root, Source, Inner, Notifier, Kind, Mode, Event, Open, Hub, Connect, Accept, Use, Remove, Lease, Return, Item}
+use Rattle.rx_event.proofs.Laws.Common.{Decline, End, Close, Take, makes_node, makes_resource, makes_lease, is_merging, is_switch, is_remove_of, pays, at}
+use Rattle.rx_event.proofs.Laws.Common.{places, is_open, is_owned, is_out, is_held, is_waiting, stops, owed, is_projection_to, stops_of, open_count}
+use Rattle.rx_event.proofs.Laws.Common.{MayFollow, IsLawful, zero_or_zero, none_counted, ◌*◌, is_take, is_return, held_count, waiting_count, debt}
+use Rattle.rx_event.specs.Moments.{is_projection}
+use Rattle.rx_event.specs.Totals.{owned_count, lease_count, owed_open, owed_count, kept_debt}
 use Rattle.rx_event.proofs.Laws.Lawful.{may_end}
 use Rattle.rx_event.proofs.Laws.Places.{at-append}
 use Rattle.rx_event.proofs.Laws.Openness.{is_cut, is_cut_none, is_cut_inner, is_cut_inner_flat, is_open_cut, is_open_within, shuts_none}
@@ -36,13 +24,7 @@ use Rattle.rx_event.proofs.Laws.Projections.{owed-push, owed_new, projected_open
 kept_parts : (h : List Event) (r : ℕ) → kept_debt h r ≡ cond (is_owned h r) 1 0 + cond (is_held h r) 1 0 + cond (is_waiting h r) 1 0
 kept_parts h r = shape (is_owned h r) (is_held h r) (is_waiting h r) (owned_held h r) (λ w. (waiting_parts h r w).1) where
   shape : (o b w : Bool) → (o ≡ true → b ≡ true) → (w ≡ true → b ≡ false) → cond {A = ℕ} o 2 (cond b 1 (cond w 1 0)) ≡ cond o 1 0 + cond b 1 0 + cond w 1 0
-  shape true true true up apart = absurd (both_ways _ (apart refl) refl)
-  shape true true false up apart = refl
-  shape true false w up apart = absurd (false≢true (up refl))
-  shape false true true up apart = absurd (both_ways _ (apart refl) refl)
-  shape false true false up apart = refl
-  shape false false true up apart = refl
-  shape false false false up apart = refl
+  shape o b w up apart = grind arith
 
 -- one for each open node, one for each owned resource, for each held and for each that waits, one for each lease out, and what is owed
 pub debt-counts : (base : Kept) → (h : List Event) → debt base h ≡ open_count h + owned_count h + held_count h + waiting_count h + lease_count h +
@@ -58,10 +40,6 @@ debt-counts base h =
     omega arith
 
 -- owed --------------------------------------------------------------------------------------------
-
-zero_or_zero : (b : Bool) → cond {A = ℕ} b 0 0 ≡ 0
-zero_or_zero true = refl
-zero_or_zero false = refl
 
 -- a new node owes nothing
 owed_open_new : (base : Kept) → (h : List Event) → IsLawful base h → (e : Event) → owed_open base (h ++ e ∷ []) (length h) ≡ 0
@@ -87,14 +65,9 @@ owed_count-push base h e law next whole =
     (owed-push base h e law next n))) in
     omega arith
   where
-    inner : (b p : Bool) (x y z : ℕ) → x + cond p 1 0 ≡ y + z → cond b x 0 + cond (b && p) 1 0 ≡ cond b y 0 + cond b z 0
-    inner true p x y z same = same
-    inner false p x y z same = refl
-
     shape : (o m p : Bool) (x y z : ℕ) → x + cond p 1 0 ≡ y + z →
         cond ((o && not false) && m) x 0 + cond ((o && m) && p) 1 0 ≡ cond (o && m) y 0 + cond (o && m) z 0
-    shape true m p x y z same = inner m p x y z same
-    shape false m p x y z same = refl
+    shape o m p x y z same = grind arith
 
 owed_open_no_rise : (base : Kept) → (h : List Event) (e : Event) → IsLawful base h → MayFollow base h e → stops_of h e ≡ [] → (n : ℕ) → n < length h →
     owed_open base (h ++ e ∷ []) n ≤ owed_open base h n
@@ -105,10 +78,7 @@ owed_open_no_rise base h e law next no_stops n l =
     (shape (is_open h n) (is_cut h e n) (at is_merging h n) (owed base (h ++ e ∷ []) n) (owed base h n) (omega arith))
   where
     shape : (o c m : Bool) (x y : ℕ) → x ≤ y → cond ((o && not c) && m) x 0 ≤ cond (o && m) y 0
-    shape true true m x y le = omega arith
-    shape true false true x y le = le
-    shape true false false x y le = omega arith
-    shape false c m x y le = omega arith
+    shape o c m x y le = grind arith
 
 -- an event that projects nothing raises nothing that is owed
 pub owed_count_no_rise : (base : Kept) → (h : List Event) (e : Event) → IsLawful base h → MayFollow base h e → stops_of h e ≡ [] →
@@ -144,10 +114,7 @@ owed_count_falls-inner base h f kind law next =
         ) (omega arith)
 
 paid_none : (h : List Event) (e : Event) → ((n : ℕ) → pays n e ≡ false) → paid_count h e ≡ 0
-paid_none h e never = sum_by_none _ (length h) (λ n l. rw (never n) (shape (is_open h n && at is_merging h n))) where
-  shape : (b : Bool) → cond {A = ℕ} (b && false) 1 0 ≡ 0
-  shape true = refl
-  shape false = refl
+paid_none h e never = sum_by_none _ (length h) (λ n l. rw (never n) (none_counted (is_open h n && at is_merging h n)))
 
 paid_one : (h : List Event) (e : Event) (f : ℕ) → is_open h f ≡ true → at is_merging h f ≡ true → ((n : ℕ) → pays n e ≡ (f == n)) → paid_count h e ≡ 1
 paid_one h e f o m just =
@@ -160,10 +127,7 @@ paid_one h e f o m just =
         let p : is_open h n ≡ true = rw (← eqb-true f n same) o in
         let q : at is_merging h n ≡ true = rw (← eqb-true f n same) m in
         rw (p, q) refl
-    by_number n false apart = shape (is_open h n && at is_merging h n) where
-      shape : (b : Bool) → cond {A = ℕ} (b && false) 1 0 ≡ 0
-      shape true = refl
-      shape false = refl
+    by_number n false apart = none_counted (is_open h n && at is_merging h n)
 
 projects_nothing : (h : List Event) → sum_by (projected_open h []) (places h) ≡ 0
 projects_nothing h = sum_by_none (projected_open h []) (length h) (λ n l. zero_or_zero (is_open h n && at is_merging h n))
@@ -186,10 +150,7 @@ debt-push base h e law next =
     omega arith
 
 no_cut_count : (h : List Event) (e : Event) → ((n : ℕ) → is_cut h e n ≡ false) → cut_count h e ≡ 0
-no_cut_count h e whole = sum_by_none _ (length h) (λ n l. rw (whole n) (shape (is_open h n))) where
-  shape : (b : Bool) → cond {A = ℕ} (b && false) 1 0 ≡ 0
-  shape true = refl
-  shape false = refl
+no_cut_count h e whole = sum_by_none _ (length h) (λ n l. rw (whole n) (none_counted (is_open h n)))
 
 no_loss : (h : List Event) (e : Event) → ((n : ℕ) → is_cut h e n ≡ false) → ((r : ℕ) → is_remove_of r e ≡ false) → unowned_count h e ≡ 0
 no_loss h e whole keeps = unowned_none h e (λ r. by_node (node_of h r) (keeps r)) where

@@ -1,23 +1,11 @@
 -- What is due, event after event: it ends and closes open nodes, all in one way, and leaves all else as it was.
-use Rattle.std.proofs.Common.{◌≡◌, ℕ, ◌+◌, ◌<◌, ◌≤◌, Bool, true, false, List, [], ◌∷◌, ◌++◌, length, Option, Some, None}
-use Rattle.std.proofs.Common.{cond, slice_get, refl, sym, ap, subst, ◌∙◌, inl, inr, ◌⊎◌, arith, length-append}
-use Rattle.std.proofs.Math.Bool.{not, ◌&&◌, ◌||◌}
-use Rattle.std.specs.List.{list_any, count_by}
-use Rattle.std.specs.Option.{option_and_then, option_map_or}
-use Rattle.std.proofs.lemmas.Bool.{cases_order, false≢true, both_ways}
-use Rattle.std.proofs.lemmas.List.Folds.{list_any-append}
-use Rattle.std.proofs.lemmas.List.Sums.{sum_by_push}
-use Rattle.std.proofs.lemmas.Option.{slice_get_within, slice_get_past, same_Some, none-some}
-use Rattle.rx_note.specs.declared.note.Terminal.{Terminal}
-use Rattle.rx_note.specs.declared.note.Terminal.TheVariants.{Completed, Error}
-use Rattle.rx_event.specs.Kept.{Kept}
-use Rattle.rx_event.specs.declared.event.Event.{Event}
-use Rattle.rx_event.specs.declared.event.Event.TheVariants.{Connect, End, Close}
-use Rattle.rx_event.specs.Events.{parent_named, is_subscriber_of}
-use Rattle.rx_event.specs.Tree.{at, parent, if_less, ancestors, is_open, is_within, open_subscribers}
-use Rattle.rx_event.specs.Moments.{owed, is_fired, is_firing_of, stops_of}
-use Rattle.rx_event.specs.Forced.{mirrored, fired, failed, completed, cut, left, connecting, due, IsDue, IsForced, IsConnected}
-use Rattle.rx_event.specs.Lawful.{forced, stays, more, IsLawful, IsForcedOn}
+use Rattle.rx_event.proofs.Laws.Common.{◌≡◌, ℕ, ◌+◌, ◌<◌, ◌≤◌, Bool, true, false, List, [], ◌∷◌, ◌++◌, length, Option, Some, None, cond, slice_get, refl, sym}
+use Rattle.rx_event.proofs.Laws.Common.{ap, subst, ◌∙◌, inl, inr, ◌⊎◌, arith, length-append, not, ◌&&◌, ◌||◌, list_any, count_by, option_and_then}
+use Rattle.rx_event.proofs.Laws.Common.{option_map_or, cases_order, false≢true, both_ways, sum_by_push, slice_get_within, slice_get_past, same_Some}
+use Rattle.rx_event.proofs.Laws.Common.{none-some, Terminal, Completed, Error, Kept, Event, Connect, End, Close, parent_named, is_subscriber_of, at, parent}
+use Rattle.rx_event.proofs.Laws.Common.{if_less, ancestors, is_open, is_within, open_subscribers, owed, is_fired, is_firing_of, stops_of, mirrored, fired}
+use Rattle.rx_event.proofs.Laws.Common.{failed, completed, cut, left, connecting, due, IsDue, IsForced, IsConnected, forced, stays, more, IsLawful}
+use Rattle.rx_event.proofs.Laws.Common.{IsForcedOn, and_false, or_false, list_any-append}
 use Rattle.rx_event.proofs.Laws.Places.{slice_get-append, slice_get_last, cases_push}
 use Rattle.rx_event.proofs.Laws.Parents.{ancestors-append, within_cases}
 use Rattle.rx_event.proofs.Laws.Openness.{is_open_outside-end, is_open_outside-close, open_before}
@@ -26,7 +14,6 @@ use Rattle.rx_event.proofs.Laws.Totals.{is_within_self}
 use Rattle.rx_event.proofs.Laws.Waits.{kept_due}
 use Rattle.rx_event.proofs.Laws.Projections.{owed_kept}
 use Rattle.rx_event.proofs.Laws.MarksAfter.{is_fired-push}
-use Rattle.rx_event.proofs.Laws.Searches.{or_false, and_false}
 use Rattle.rx_event.proofs.Laws.Calm.{subscriber_listed, none_subscribed}
 use Rattle.rx_event.proofs.Laws.OneEnd.{ends_as, completes, ends_so, completes_one, fires_it, IsReason, due_before, one_end}
 
@@ -49,8 +36,7 @@ closing_of base (cut {s = c} o s) = by_end c (cut o s) o
 closing_of base (left {c = c} {g = g} o at_c auto none) = by_close c g at_c none o
 
 inside_by : (a : Bool) → (true && not a) ≡ false → a ≡ true
-inside_by true gone = refl
-inside_by false gone = absurd (false≢true (sym gone))
+inside_by a gone = grind arith
 
 -- what it leaves alone ------------------------------------------------------------------------------
 

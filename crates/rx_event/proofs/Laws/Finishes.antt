@@ -1,14 +1,9 @@
 -- In the one order each lawful history comes to just one end at which nothing is forced.
-use Rattle.std.proofs.Common.{◌≡◌, ℕ, zero, suc, ◌+◌, ◌<◌, ◌≤◌, false, List, [], ◌∷◌, ◌++◌, Option, Some, None, refl, sym, ap, subst, ◌∙◌, inl, inr, ◌⊎◌, arith}
-use Rattle.std.proofs.lemmas.Option.{same_Some, none-some}
-use Rattle.rx_event.specs.Kept.{Kept}
-use Rattle.rx_event.specs.declared.event.Event.{Event}
-use Rattle.rx_event.specs.declared.event.Event.TheVariants.{Connect}
+use Rattle.rx_event.proofs.Laws.Common.{◌≡◌, ℕ, zero, suc, ◌+◌, ◌<◌, ◌≤◌, false, List, [], ◌∷◌, ◌++◌, Option, Some, None, refl, sym, ap, subst, ◌∙◌, inl, inr}
+use Rattle.rx_event.proofs.Laws.Common.{◌⊎◌, arith, same_Some, none-some, Kept, Event, Connect, open_count, connecting, due, IsForced, IsConnected, IsSettled}
+use Rattle.rx_event.proofs.Laws.Common.{forced, stays, more, IsLawful, IsForcedOn, first_forced}
 use Rattle.rx_event.specs.Events.{is_connect}
-use Rattle.rx_event.specs.Totals.{open_count}
-use Rattle.rx_event.specs.Forced.{connecting, due, IsForced, IsConnected, IsSettled}
-use Rattle.rx_event.specs.Lawful.{forced, stays, more, IsLawful, IsForcedOn}
-use Rattle.rx_event.specs.Canonical.{first_forced, IsFirstOn, nothing_yet, first_next}
+use Rattle.rx_event.specs.Canonical.{IsFirstOn, nothing_yet, first_next}
 use Rattle.rx_event.proofs.Laws.Lawful.{IsLawful-push}
 use Rattle.rx_event.proofs.Laws.Waits.{kept_due, forced_closes, connected_first}
 use Rattle.rx_event.proofs.Laws.Dues.{IsClosing, by_end, by_close, closing_of}

@@ -1,37 +1,25 @@
 -- Hubs: at most one connection of each is open, and in a settled history a RefCount hub has one just where it has a subscriber.
-use Rattle.std.proofs.Common.{subst, ◌≡◌, ◌≢◌, ℕ, ◌+◌, ◌<◌, ◌≤◌, true, false, List, [], ◌∷◌, ◌++◌, length, Option, Some, None, refl}
-use Rattle.std.proofs.Common.{sym, ap, ◌∙◌, arith, inl, inr, ◌⊎◌, ◌==◌, take, drop, slice_get, length-append, take-append-drop}
-use Rattle.std.proofs.Math.Bool.{◌&&◌}
-use Rattle.std.specs.Option.{option_map_or}
-use Rattle.std.proofs.lemmas.Bool.{cases_order, false≢true, and_parts, and_from, eq-eqb, eqb-true}
-use Rattle.std.proofs.lemmas.List.{length-take, length-take-le}
-use Rattle.std.proofs.lemmas.Option.{slice_get_within, same_Some, none-some}
-use Rattle.std.specs.List.{list_any}
-use Rattle.rx_event.specs.Kept.{Kept}
-use Rattle.rx_event.specs.declared.event.Place.{Place}
-use Rattle.rx_event.specs.declared.event.Place.TheVariants.{Root, Source, Inner, Notifier}
-use Rattle.rx_event.specs.declared.event.Kind.{Kind}
-use Rattle.rx_event.specs.declared.event.Kind.TheVariants.{Sub}
-use Rattle.rx_event.specs.declared.event.Event.{Event}
-use Rattle.rx_event.specs.declared.event.Event.TheVariants.{Open, Hub, Connect, Close}
-use Rattle.rx_event.specs.Events.{makes_hub, is_auto_hub, is_manual_hub, is_connect_of, is_subscriber_of}
-use Rattle.rx_event.specs.Tree.{at, places, parent, ancestors, is_within, is_open, open_subscribers, open_connections}
-use Rattle.rx_event.specs.Forced.{cut, left, connecting, due, IsDue, IsForced, IsConnectDue, IsSettled}
-use Rattle.rx_event.specs.Allowed.{opened, connected, IsAllowed, IsHubbed, IsInOrder, IsInOrderAt}
-use Rattle.rx_event.specs.Lawful.{forced, allowed, MayFollow, IsLawful}
+use Rattle.rx_event.proofs.Laws.Common.{subst, ◌≡◌, ℕ, ◌+◌, ◌<◌, ◌≤◌, true, false, List, [], ◌∷◌, ◌++◌, length, Option, Some, None, refl, sym, ap, ◌∙◌, arith}
+use Rattle.rx_event.proofs.Laws.Common.{inl, inr, ◌⊎◌, ◌==◌, take, drop, slice_get, length-append, ◌&&◌, option_map_or, cases_order, false≢true, and_parts}
+use Rattle.rx_event.proofs.Laws.Common.{and_from, eq-eqb, eqb-true, length-take-le, slice_get_within, same_Some, none-some, list_any, Kept, Place, Root}
+use Rattle.rx_event.proofs.Laws.Common.{Source, Inner, Notifier, Kind, Sub, Event, Open, Connect, Close, makes_hub, is_auto_hub, is_manual_hub, is_connect_of}
+use Rattle.rx_event.proofs.Laws.Common.{is_subscriber_of, at, places, parent, ancestors, is_within, is_open, open_subscribers, open_connections, cut, left}
+use Rattle.rx_event.proofs.Laws.Common.{connecting, due, IsDue, IsForced, IsConnectDue, IsSettled, IsAllowed, IsInOrderAt, forced, allowed, MayFollow}
+use Rattle.rx_event.proofs.Laws.Common.{IsLawful, ◌≢◌, connected, IsHubbed, IsInOrder}
+use Rattle.std.proofs.Common.{take-append-drop}
+use Rattle.std.proofs.lemmas.List.{length-take}
+use Rattle.rx_event.specs.Allowed.{opened}
 use Rattle.rx_event.proofs.Laws.Lists.{first_passes, filter_nonempty, filter_few}
 use Rattle.rx_event.proofs.Laws.Places.{slice_get-append, slice_get_last, at-append, at_within}
 use Rattle.rx_event.proofs.Laws.Parents.{parent-lt, parent_name, ancestors-append, is_within-le, within_cases}
 use Rattle.rx_event.proofs.Laws.Lawful.{in_base, since_base, FoundAt, found_at}
-use Rattle.rx_event.proofs.Laws.Openness.{is_open_within, is_open_cut}
+use Rattle.rx_event.proofs.Laws.Openness.{is_open_within, open_old}
 use Rattle.rx_event.proofs.Laws.Steps.{by_events, forced_kind}
 
 -- a connection --------------------------------------------------------------------------------------
 
 connect_found : (g : ℕ) (o : Option Event) → option_map_or (is_connect_of g) o false ≡ true → o ≡ Some (Connect g)
-connect_found g None connects = absurd (false≢true connects)
-connect_found g (Some (Connect k)) connects = ap (λ q. Some (Connect q)) (eqb-true k g connects)
-connect_found g (Some _) connects = absurd (false≢true connects)
+connect_found g o connects = grind arith
 
 -- what connects g is its Connect
 pub at_connect : (h : List Event) (g c : ℕ) → at (is_connect_of g) h c ≡ true → slice_get h c ≡ Some (Connect g)
@@ -72,9 +60,6 @@ one_connection base =
     by_events base (λ h. (g a b : ℕ) → TwoConnections h g a b → a ≡ b) (λ s g a b two. s.one_connection g a b two.one two.one_open two.other two.other_open)
     (λ h e law next. after next)
   where
-    before_open : (h : List Event) (e : Event) (a : ℕ) → a < length h → is_open (h ++ e ∷ []) a ≡ true → is_open h a ≡ true
-    before_open h e a l o = (and_parts _ _ (sym (is_open_cut h e a l) ∙ o)).0
-
     clash : {h : List Event} {e : Event} → MayFollow base h e → (g a : ℕ) {b : ℕ} → a < length h → b ≡ length h → at (is_connect_of g) (h ++ e ∷ []) a ≡ true →
         is_open (h ++ e ∷ []) a ≡ true → at (is_connect_of g) (h ++ e ∷ []) b ≡ true → ⊥
     clash {h} {e} next g a l last one one_open other =
@@ -82,7 +67,7 @@ one_connection base =
         sym (ap (λ o. option_map_or (is_connect_of g) o false) (ap (slice_get (h ++ e ∷ [])) last ∙ slice_get_last h e)) ∙ other in
         let connects : at (is_connect_of g) h a ≡ true = sym (at-append (is_connect_of g) h (e ∷ []) a l) ∙ one in
         filter_nonempty (λ n. at (is_connect_of g) h n && is_open h n) 0 (length h) a (omega arith) (omega arith)
-        (and_from _ _ connects (before_open h e a l one_open)) (connect_free base h e g next new)
+        (and_from _ _ connects (open_old h e a l one_open)) (connect_free base h e g next new)
 
     after : {h : List Event} {e : Event} → MayFollow base h e → ((g a b : ℕ) → TwoConnections h g a b → a ≡ b) → (g a b : ℕ) →
         TwoConnections (h ++ e ∷ []) g a b → a ≡ b
@@ -100,9 +85,9 @@ one_connection base =
       by_place (inr (inl l)) (inr (inl m)) =
           before g a b (record {
             one = sym (at-append (is_connect_of g) h (e ∷ []) a l) ∙ two.one;
-            one_open = before_open h e a l two.one_open;
+            one_open = open_old h e a l two.one_open;
             other = sym (at-append (is_connect_of g) h (e ∷ []) b m) ∙ two.other;
-            other_open = before_open h e b m two.other_open;
+            other_open = open_old h e b m two.other_open;
           })
 
 -- so a hub has at most one
@@ -116,15 +101,11 @@ one_open_connection base h law g = filter_few (λ n. at (is_connect_of g) h n &&
 
 -- the hub of a connection ------------------------------------------------------------------------
 
-auto_made : (o : Option Event) → option_map_or is_auto_hub o false ≡ true → option_map_or makes_hub o false ≡ true
-auto_made None auto = auto
-auto_made (Some (Hub mode)) auto = refl
-auto_made (Some _) auto = absurd (false≢true auto)
+pub auto_made : (o : Option Event) → option_map_or is_auto_hub o false ≡ true → option_map_or makes_hub o false ≡ true
+auto_made o auto = grind arith
 
-manual_made : (o : Option Event) → option_map_or is_manual_hub o false ≡ true → option_map_or makes_hub o false ≡ true
-manual_made None manual = manual
-manual_made (Some (Hub mode)) manual = refl
-manual_made (Some _) manual = absurd (false≢true manual)
+pub manual_made : (o : Option Event) → option_map_or is_manual_hub o false ≡ true → option_map_or makes_hub o false ≡ true
+manual_made o manual = grind arith
 
 forced_hub : (base : Kept) → {h : List Event} {g : ℕ} → IsForced base h (Connect g) → at makes_hub h g ≡ true
 forced_hub base {h = h} {g = g} (connecting d) = auto_made (slice_get h g) d.auto

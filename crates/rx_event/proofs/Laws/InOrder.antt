@@ -1,38 +1,25 @@
 -- One order of what is forced: there is always one next, where anything is forced, and so one end of a step.
-use Rattle.std.proofs.Common.{◌≡◌, ℕ, zero, suc, ◌+◌, ◌<◌, Bool, true, false, List, [], ◌∷◌, length, Option, Some, None}
-use Rattle.std.proofs.Common.{option_map, cond, slice_get, refl, sym, ap, subst, ◌∙◌, inl, inr, ◌⊎◌, nat_lt, arith}
-use Rattle.std.proofs.Math.Bool.{◌&&◌}
-use Rattle.std.specs.List.{list_any, range_with_len}
-use Rattle.std.specs.Option.{option_and_then, option_map_or, option_or}
-use Rattle.std.proofs.lemmas.Bool.{false≢true, and_parts, and_from, ltb-true, lt-ltb, eq-eqb}
-use Rattle.std.proofs.lemmas.Option.{cond_some, same_Some, none-some, slice_get_within}
-use Rattle.rx_note.specs.declared.note.Terminal.{Terminal}
-use Rattle.rx_note.specs.declared.note.Terminal.TheVariants.{Completed}
-use Rattle.rx_event.specs.Kept.{Kept}
-use Rattle.rx_event.specs.declared.event.Kind.TheVariants.{Leaf, Pass, Flat, Switch, Until, Sub}
-use Rattle.rx_event.specs.declared.event.Event.{Event}
-use Rattle.rx_event.specs.declared.event.Event.TheVariants.{Open, Connect, End, Close}
-use Rattle.rx_event.specs.Events.{is_mirroring, is_merging, is_until, is_auto_hub, is_connect_of, is_subscriber_of, hub_subscribed, hub_connected}
-use Rattle.rx_event.specs.Tree.{at, places, is_open, open_subscribers, open_connections}
-use Rattle.rx_event.specs.Moments.{is_fired}
-use Rattle.rx_event.specs.Forced.{mirrored, fired, cut, left, connecting, due, SourceEnded, IsDue, IsForced, IsConnectDue, IsConnected, IsSettled}
-use Rattle.rx_event.specs.Marks.{first_some, child_terminal, marks_of, is_over, completed_if, terminal_due, due_at}
-use Rattle.rx_event.specs.Canonical.{ends_connection, ends_source_at, source_end, is_nothing, is_nil, waits_at, Joining, Mirroring}
-use Rattle.rx_event.specs.Canonical.{Firing, Failing, Completing, Cutting, Leaving, Rule, gives, first_forced}
+use Rattle.rx_event.proofs.Laws.Common.{◌≡◌, ℕ, ◌+◌, ◌<◌, Bool, true, false, List, [], ◌∷◌, length, Option, Some, None, cond, slice_get, refl, sym, ap, subst}
+use Rattle.rx_event.proofs.Laws.Common.{◌∙◌, inl, inr, ◌⊎◌, nat_lt, arith, ◌&&◌, list_any, option_and_then, option_map_or, option_or, false≢true, and_parts}
+use Rattle.rx_event.proofs.Laws.Common.{and_from, lt-ltb, eq-eqb, same_Some, none-some, slice_get_within, Terminal, Completed, Kept, Leaf, Pass, Flat, Switch}
+use Rattle.rx_event.proofs.Laws.Common.{Until, Sub, Event, Open, Connect, End, Close, is_mirroring, is_merging, is_until, is_auto_hub, is_connect_of}
+use Rattle.rx_event.proofs.Laws.Common.{is_subscriber_of, at, places, is_open, open_subscribers, open_connections, is_fired, mirrored, fired, cut, left}
+use Rattle.rx_event.proofs.Laws.Common.{connecting, due, SourceEnded, IsDue, IsForced, IsConnectDue, IsConnected, IsSettled, child_terminal, marks_of, due_at}
+use Rattle.rx_event.proofs.Laws.Common.{option_map, ltb-true, cond_some, hub_subscribed, terminal_due, first_forced}
+use Rattle.rx_event.specs.Events.{hub_connected}
+use Rattle.rx_event.specs.Marks.{first_some, is_over, completed_if}
+use Rattle.rx_event.specs.Canonical.{ends_connection, ends_source_at, source_end, is_nothing, is_nil, waits_at, Joining, Mirroring, Firing, Failing}
+use Rattle.rx_event.specs.Canonical.{Completing, Cutting, Leaving, Rule, gives}
 use Rattle.rx_event.proofs.Laws.Openness.{is_open_within}
 use Rattle.rx_event.proofs.Laws.Places.{at_within}
 use Rattle.rx_event.proofs.Laws.Hubs.{at_connect, subscriber_found}
 use Rattle.rx_event.proofs.Laws.Searches.{first_found, first_none, list_any_found, list_any_holds}
 use Rattle.rx_event.proofs.Laws.MarksFound.{child_terminal_some}
 use Rattle.rx_event.proofs.Laws.MarksDue.{merging_due, settled_by_marks}
-
-range_get : (s n i : ℕ) → i < n → slice_get (range_with_len s n) i ≡ Some (s + i)
-range_get s zero i l = absurd (omega arith)
-range_get s (suc n) zero l = let same : s ≡ s + 0 = omega arith in ap (λ k. Some k) same
-range_get s (suc n) (suc i) l = let same : (s + 1) + i ≡ s + suc i = omega arith in range_get (s + 1) n i (omega arith) ∙ ap (λ k. Some k) same
+use Rattle.rx_event.proofs.Laws.Bases.{range_at}
 
 pub place_get : (h : List Event) (i : ℕ) → i < length h → slice_get (places h) i ≡ Some i
-place_get h i l = let same : 0 + i ≡ i = omega arith in range_get 0 (length h) i l ∙ ap (λ k. Some k) same
+place_get h i l = let same : 0 + i ≡ i = omega arith in range_at 0 (length h) i l ∙ ap (λ k. Some k) same
 
 -- where nothing is found, nothing is given at a place
 none_given : {Y : Type 0} (f : ℕ → Option Y) (h : List Event) → first_some f (places h) ≡ None → (n : ℕ) → n < length h → f n ≡ None
@@ -56,10 +43,14 @@ connection_ends h g (End c u) t found =
     (c, ap (λ v. End c v) w.1, at_connect h g c w.0)
 connection_ends h g _ t found = absurd (none-some t found)
 
-subscribed_event : (e : Event) (g : ℕ) → hub_subscribed e ≡ Some g → is_subscriber_of g e ≡ true
+pub subscribed_event : (e : Event) (g : ℕ) → hub_subscribed e ≡ Some g → is_subscriber_of g e ≡ true
 subscribed_event (Open place (Sub k)) g same = eq-eqb k g (same_Some k g same)
 subscribed_event (Open place kind) g same = absurd (cc)
 subscribed_event _ g same = absurd (none-some g same)
+
+pub connected_event : (e : Event) (g : ℕ) → hub_connected e ≡ Some g → e ≡ Connect g
+connected_event (Connect k) g same = ap (λ n. Connect n) (same_Some k g same)
+connected_event _ g same = absurd (none-some g same)
 
 source_found : {h : List Event} {s g place c : ℕ} {x : Event} (y : Event) (t : Terminal) → slice_get h s ≡ Some x → hub_subscribed x ≡ Some g → s < place →
     slice_get h place ≡ Some y → y ≡ End c t → slice_get h c ≡ Some (Connect g) → SourceEnded h s t
@@ -97,12 +88,10 @@ source_end_none h s t none x =
     none-some t (sym here ∙ is)
 
 nothing_none : {X : Type 0} (o : Option X) → is_nothing o ≡ true → o ≡ None
-nothing_none None is = refl
-nothing_none (Some x) is = absurd (false≢true is)
+nothing_none o is = grind arith
 
 nil_none : (xs : List ℕ) → is_nil xs ≡ true → xs ≡ []
-nil_none [] is = refl
-nil_none (x ∷ xs) is = absurd (false≢true is)
+nil_none xs is = grind arith
 
 -- a hub that waits ---------------------------------------------------------------------------------------------------------
 
@@ -195,9 +184,7 @@ cutting_due base h n e found =
     subst (λ (x : Event). IsDue base h x) w.3 (cut w.1 (source_end_some h n w.0 w.2))
 
 connection_made : (o : Option Event) (g : ℕ) → option_and_then hub_connected o ≡ Some g → o ≡ Some (Connect g)
-connection_made None g found = absurd (none-some g found)
-connection_made (Some (Connect k)) g found = ap (λ j. Some (Connect j)) (same_Some k g found)
-connection_made (Some _) g found = absurd (none-some g found)
+connection_made o g found = grind arith
 
 leaving_due : (base : Kept) → (h : List Event) (n : ℕ) (e : Event) → gives base h Leaving n ≡ Some e → IsDue base h e
 leaving_due base h n e found = by_hub (option_and_then hub_connected (slice_get h n)) refl parts.1 where
@@ -227,7 +214,7 @@ or_some : {Y : Type 0} (a b : Option Y) (y : Y) → option_or a b ≡ Some y →
 or_some (Some x) b y found = inl found
 or_some None b y found = inr (refl, found)
 
-or_nothing_left : {Y : Type 0} (a b : Option Y) → option_or a b ≡ None → (a ≡ None) × (b ≡ None)
+pub or_nothing_left : {Y : Type 0} (a b : Option Y) → option_or a b ≡ None → (a ≡ None) × (b ≡ None)
 or_nothing_left None b none = (refl, none)
 or_nothing_left (Some x) b none = absurd (none-some x (sym none))
 
@@ -268,8 +255,7 @@ first_is_forced base h e found =
 -- nothing is given, so nothing is forced -----------------------------------------------------------------------------------------
 
 no_end_at : (n : ℕ) (o : Option Terminal) → option_map (λ t. End n t) o ≡ None → o ≡ None
-no_end_at n None none = refl
-no_end_at n (Some t) none = absurd (none-some (End n t) (sym none))
+no_end_at n o none = grind arith
 
 module _ (base : Kept) (h : List Event) (each : (rule : Rule) → first_some (gives base h rule) (places h) ≡ None) where
   at_node : (rule : Rule) (n : ℕ) → is_open h n ≡ true → gives base h rule n ≡ None

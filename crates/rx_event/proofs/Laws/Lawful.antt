@@ -1,20 +1,9 @@
 -- Lawful histories, event by event.
-use Rattle.std.proofs.Common.{◌≡◌, ℕ, zero, suc, ◌<◌, ◌≤◌, inl, inr, ◌⊎◌, length, true, List, [], ◌∷◌, ◌++◌, take, Some}
-use Rattle.std.proofs.Common.{refl, sym, ap, subst, ◌∙◌, arith, slice_get, append_assoc, append-nil, length-append}
-use Rattle.std.specs.List.{AllByRecursion}
-use Rattle.std.proofs.lemmas.Grind.{common_steps}
-use Rattle.std.proofs.lemmas.Option.{slice_get_within, same_Some, none-some}
-use Rattle.rx_note.specs.declared.note.Terminal.{Terminal}
-use Rattle.rx_event.specs.Kept.{Kept, shown}
-use Rattle.rx_event.specs.declared.event.Event.{Event}
-use Rattle.rx_event.specs.declared.event.Event.TheVariants.{End}
-use Rattle.rx_event.specs.Tree.{is_open}
-use Rattle.rx_event.specs.Moments.{Moment, moments, moments_after}
-use Rattle.rx_event.specs.Forced.{mirrored, fired, failed, completed, cut, due, IsDue, IsForced}
-use Rattle.rx_event.specs.Allowed.{leaf_ended, aborted, projection_failed, IsAllowed}
-use Rattle.rx_event.specs.Lawful.{Started, forced, allowed, MayFollow, IsLawful}
+use Rattle.rx_event.proofs.Laws.Common.{◌≡◌, ℕ, zero, suc, ◌<◌, ◌≤◌, inl, inr, ◌⊎◌, length, true, List, [], ◌∷◌, ◌++◌, take, Some, refl, sym, ap, subst, ◌∙◌}
+use Rattle.rx_event.proofs.Laws.Common.{arith, slice_get, append_assoc, append-nil, length-append, AllByRecursion, slice_get_within, same_Some, none-some}
+use Rattle.rx_event.proofs.Laws.Common.{Terminal, Kept, shown, Event, End, is_open, Moment, moments, moments_after, due, IsDue, IsForced, IsAllowed, Started}
+use Rattle.rx_event.proofs.Laws.Common.{forced, allowed, MayFollow, IsLawful, false≢true, common_steps}
 use Rattle.rx_event.proofs.Laws.Openness.{is_open_within}
-use Rattle.std.proofs.lemmas.Bool.{false≢true}
 
 -- moments -----------------------------------------------------------------------------------------
 
@@ -93,19 +82,13 @@ found_at base h law i e at_i = by_case (split_at (shown base) [] law.since (λ k
 -- ends --------------------------------------------------------------------------------------------
 
 pub due_open : (base : Kept) → {h : List Event} {c : ℕ} {t : Terminal} → IsDue base h (End c t) → is_open h c ≡ true
-due_open base (mirrored o k e) = o
-due_open base (fired o k e) = o
-due_open base (failed o k e) = o
-due_open base (completed o k n e c w) = o
-due_open base (cut o e) = o
+due_open base given = grind arith
 
 forced_open : (base : Kept) → {h : List Event} {c : ℕ} {t : Terminal} → IsForced base h (End c t) → is_open h c ≡ true
 forced_open base (due n d) = due_open base d
 
 allowed_open : (base : Kept) → {h : List Event} {c : ℕ} {t : Terminal} → IsAllowed base h (End c t) → is_open h c ≡ true
-allowed_open base (leaf_ended o k) = o
-allowed_open base (aborted o k n) = o
-allowed_open base (projection_failed o k w) = o
+allowed_open base given = grind arith
 
 -- what is ended is open before
 pub may_end : (base : Kept) → {h : List Event} {c : ℕ} {t : Terminal} → MayFollow base h (End c t) → is_open h c ≡ true

@@ -1,22 +1,16 @@
 -- Which leases are out after one more event, and how many of each resource.
-use Rattle.std.proofs.Common.{◌≡◌, ℕ, ◌+◌, ◌<◌, ◌≤◌, Bool, true, false, List, [], ◌∷◌, ◌++◌, length, take, Option, Some, None, cond, refl, sym, ap, subst}
-use Rattle.std.proofs.Common.{◌∙◌, arith, inl, inr, ◌⊎◌, ◌==◌, nat_lt, slice_get, length-append}
-use Rattle.std.proofs.Math.Bool.{not, ◌&&◌, ◌||◌}
-use Rattle.std.specs.List.{list_any, sum_by, count_by, range_with_len}
-use Rattle.std.specs.Option.{option_and_then, option_map_or}
-use Rattle.std.proofs.lemmas.Bool.{cases_Bool, both_ways, false≢true, and_parts, or_from, ne_eqb, eqb-true, eq-eqb, lt-ltb, ltb-true, false_from_ne_true}
-use Rattle.std.proofs.lemmas.List.{length-take-le}
-use Rattle.std.proofs.lemmas.Option.{slice_get_past, slice_get_within}
-use Rattle.rx_event.specs.Kept.{Kept, shown}
-use Rattle.rx_event.specs.declared.event.Event.{Event}
-use Rattle.rx_event.specs.declared.event.Event.TheVariants.{Open, Accept, Lease, Return}
-use Rattle.rx_event.specs.Events.{makes_resource, makes_lease, node_of_accept, is_lease_of, is_return, is_return_of}
-use Rattle.rx_event.specs.Tree.{at, is_open, places}
-use Rattle.rx_event.specs.Resources.{is_owned, is_out, is_out_of, leases_of, is_leased}
+use Rattle.rx_event.proofs.Laws.Common.{◌≡◌, ℕ, ◌+◌, ◌<◌, ◌≤◌, Bool, true, false, List, [], ◌∷◌, ◌++◌, length, take, Option, Some, None, cond, refl, sym, ap}
+use Rattle.rx_event.proofs.Laws.Common.{subst, ◌∙◌, arith, inl, inr, ◌⊎◌, ◌==◌, nat_lt, slice_get, length-append, not, ◌&&◌, list_any, sum_by, count_by}
+use Rattle.rx_event.proofs.Laws.Common.{range_with_len, option_and_then, option_map_or, cases_Bool, both_ways, false≢true, and_parts, ne_eqb, eqb-true}
+use Rattle.rx_event.proofs.Laws.Common.{eq-eqb, lt-ltb, false_from_ne_true, length-take-le, slice_get_past, slice_get_within, Kept, shown, Event, Open}
+use Rattle.rx_event.proofs.Laws.Common.{Accept, Lease, Return, makes_resource, makes_lease, node_of_accept, is_return_of, at, is_open, places, is_owned}
+use Rattle.rx_event.proofs.Laws.Common.{is_out, leases_of, MayFollow, IsLawful, and_false, and_true, and_not_or, none_counted, ltb-true, is_lease_of}
+use Rattle.rx_event.proofs.Laws.Common.{is_return, is_leased}
+use Rattle.std.proofs.lemmas.Bool.{or_from}
+use Rattle.rx_event.specs.Resources.{is_out_of}
 use Rattle.rx_event.specs.Totals.{lease_count}
-use Rattle.rx_event.specs.Lawful.{MayFollow, IsLawful}
 use Rattle.rx_event.proofs.Laws.Places.{slice_get_last, at-append, at_within}
-use Rattle.rx_event.proofs.Laws.Searches.{list_any_push, and_true, and_false}
+use Rattle.rx_event.proofs.Laws.Searches.{list_any_push}
 use Rattle.rx_event.proofs.Laws.Sums.{sum_by-places-push, sums_balance, sum_by-same, sum_by_none, sum_by_one, count_by_one, term_in_sum}
 use Rattle.rx_event.proofs.Laws.Lawful.{in_base, since_base, FoundAt, found_at}
 use Rattle.rx_event.proofs.Laws.Steps.{by_events, may_lease, may_return}
@@ -45,13 +39,8 @@ is_owned_within h r owned = at_within makes_resource h r (owned_resource h r own
 pub is_out-push : (h : List Event) (e : Event) (l : ℕ) → l < length h → is_out (h ++ e ∷ []) l ≡ (is_out h l && not (is_return_of l e))
 unfolding is_out
 is_out-push h e l less =
-    (λ i. at-append makes_lease h (e ∷ []) l less i && not (list_any_push (is_return_of l) h e i)) ∙ shape (at makes_lease h l)
+    (λ i. at-append makes_lease h (e ∷ []) l less i && not (list_any_push (is_return_of l) h e i)) ∙ and_not_or (at makes_lease h l)
     (list_any (is_return_of l) h) (is_return_of l e)
-  where
-    shape : (a b c : Bool) → (a && not (b || c)) ≡ ((a && not b) && not c)
-    shape false b c = refl
-    shape true true c = refl
-    shape true false c = refl
 
 -- what is out is a lease
 pub out_lease : (h : List Event) (l : ℕ) → is_out h l ≡ true → at makes_lease h l ≡ true
@@ -106,8 +95,7 @@ lease_older base h law l r at_l =
 
 -- a lease of r is the event that leases r
 lease_is : (r : ℕ) (e : Event) → is_lease_of r e ≡ true → e ≡ Lease r
-lease_is r (Lease q) same = ap Lease (eqb-true q r same)
-lease_is r _ same = absurd (false≢true same)
+lease_is r e same = grind arith
 
 pub lease_at : (h : List Event) (r l : ℕ) → at (is_lease_of r) h l ≡ true → slice_get h l ≡ Some (Lease r)
 lease_at h r l passes = by_event (slice_get h l) passes where
@@ -153,23 +141,14 @@ leases_of-push base h e law r =
     omega arith
   where
     shape : (a o k : Bool) → cond {A = ℕ} (a && (o && not k)) 1 0 + cond {A = ℕ} ((a && o) && k) 1 0 ≡ cond {A = ℕ} (a && o) 1 0 + 0
-    shape false o k = refl
-    shape true false k = refl
-    shape true true true = refl
-    shape true true false = refl
+    shape a o k = grind arith
 
 -- no lease is returned but by a return
 returned_none : (h : List Event) (r : ℕ) (e : Event) → is_return e ≡ false → returned_count h r e ≡ 0
-returned_none h r e none = sum_by_none _ (length h) (λ l less. ap (λ b. cond {A = ℕ} (is_out_of h r l && b) 1 0) (by_event e l none) ∙ shape
+returned_none h r e none = sum_by_none _ (length h) (λ l less. ap (λ b. cond {A = ℕ} (is_out_of h r l && b) 1 0) (by_event e l none) ∙ none_counted
     (is_out_of h r l)) where
       by_event : (e : Event) (l : ℕ) → is_return e ≡ false → is_return_of l e ≡ false
-      by_event (Return m) l none = absurd (false≢true (sym none))
-      by_event (Open place kind) l none = refl
-      by_event _ l none = refl
-
-      shape : (b : Bool) → cond {A = ℕ} (b && false) 1 0 ≡ 0
-      shape true = refl
-      shape false = refl
+      by_event e l none = grind arith
 
 pub leases_of_kept : (base : Kept) → (h : List Event) (e : Event) → IsLawful base h → is_return e ≡ false → (r : ℕ) →
     leases_of (h ++ e ∷ []) r ≡ leases_of h r + cond (is_lease_of r e) 1 0
@@ -188,16 +167,11 @@ leases_of-return base h l q law next at_l r =
     there : is_out_of h r l ≡ (q == r)
     there = (λ i. option_map_or (is_lease_of r) (at_l i) false && may_return base next i) ∙ and_true (q == r)
 
-    shape : (b : Bool) → cond {A = ℕ} (b && false) 1 0 ≡ 0
-    shape true = refl
-    shape false = refl
-
     shape_true : (b : Bool) → cond {A = ℕ} (b && true) 1 0 ≡ cond b 1 0
-    shape_true true = refl
-    shape_true false = refl
+    shape_true b = grind arith
 
     each : (m : ℕ) (b : Bool) → (l == m) ≡ b → cond {A = ℕ} (is_out_of h r m && b) 1 0 ≡ cond b (cond (q == r) 1 0) 0
-    each m false apart = shape (is_out_of h r m)
+    each m false apart = none_counted (is_out_of h r m)
     each m true same = shape_true (is_out_of h r m) ∙ one_if (ap (is_out_of h r) (sym (eqb-true l m same)) ∙ there)
 
 -- beyond the end nothing has a lease
@@ -295,10 +269,7 @@ lease_count-push base h e law next =
     returns_once _ next = sum_by_none (λ l. 0) (length h) (λ l less. refl)
 
     shape : (o k : Bool) → (k ≡ true → o ≡ true) → cond {A = ℕ} (o && not k) 1 0 + cond {A = ℕ} k 1 0 ≡ cond {A = ℕ} o 1 0 + 0
-    shape true true out = refl
-    shape true false out = refl
-    shape false true out = absurd (false≢true (out refl))
-    shape false false out = refl
+    shape o k out = grind arith
 
 -- no lease is out where none is counted
 pub none_out : (h : List Event) → lease_count h ≡ 0 → (l : ℕ) → is_out h l ≡ false
@@ -313,10 +284,7 @@ none_out h none l = by_test (cases_Bool (is_out h l)) where
 pub none_leased : (h : List Event) → lease_count h ≡ 0 → (r : ℕ) → leases_of h r ≡ 0
 unfolding leases_of
 none_leased h none r = sum_by_none (λ l. cond (is_out_of h r l) 1 0) (length h) (λ l less. ap (λ b. cond {A = ℕ} (at (is_lease_of r) h l && b) 1 0)
-    (none_out h none l) ∙ shape (at (is_lease_of r) h l)) where
-      shape : (b : Bool) → cond {A = ℕ} (b && false) 1 0 ≡ 0
-      shape true = refl
-      shape false = refl
+    (none_out h none l) ∙ none_counted (at (is_lease_of r) h l))
 
 -- in a lawful history what has a lease out is a resource
 none_of_others : (base : Kept) → (h : List Event) → IsLawful base h → (r : ℕ) → at makes_resource h r ≡ false → leases_of h r ≡ 0

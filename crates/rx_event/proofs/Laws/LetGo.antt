@@ -1,23 +1,12 @@
 -- Where a caller holds nothing open, nothing is open. What keeps a RefCount hub connected is a subscriber, which stands below a
 -- connection of a later hub; so were one connected, hubs would be endless.
-use Rattle.std.proofs.Common.{◌≡◌, ℕ, zero, suc, ◌+◌, ◌<◌, ◌≤◌, Bool, true, false, List, [], ◌∷◌, length, Option}
-use Rattle.std.proofs.Common.{Some, None, cond, refl, sym, ap, ◌∙◌, arith, inl, inr, ◌⊎◌, slice_get}
-use Rattle.std.proofs.Math.Bool.{◌&&◌}
-use Rattle.std.specs.List.{count_by, range_with_len}
-use Rattle.std.specs.Option.{option_map_or}
-use Rattle.std.proofs.lemmas.Bool.{cases_Bool, both_ways, false≢true, and_parts, and_from, eq-eqb, false_from_ne_true}
-use Rattle.std.proofs.lemmas.Option.{slice_get_within}
+use Rattle.rx_event.proofs.Laws.Common.{◌≡◌, ℕ, zero, suc, ◌+◌, ◌<◌, ◌≤◌, Bool, true, false, List, [], ◌∷◌, length, Option, Some, None, cond, refl, sym, ap}
+use Rattle.rx_event.proofs.Laws.Common.{◌∙◌, arith, inl, inr, ◌⊎◌, slice_get, ◌&&◌, count_by, range_with_len, option_map_or, cases_Bool, both_ways}
+use Rattle.rx_event.proofs.Laws.Common.{false≢true, and_parts, and_from, eq-eqb, false_from_ne_true, slice_get_within, Kept, Root, Source, Inner, Notifier}
+use Rattle.rx_event.proofs.Laws.Common.{Auto, Manual, Event, Open, Hub, Connect, makes_node, makes_hub, is_root, is_auto_hub, is_manual_hub, is_connect_of}
+use Rattle.rx_event.proofs.Laws.Common.{is_subscriber_of, at, places, parent, is_within, is_open, open_subscribers, open_connections, open_count, IsSettled}
+use Rattle.rx_event.proofs.Laws.Common.{IsLawful}
 use Rattle.rx_event.proofs.Laws.Hubs.{hub_before, at_connect, connection_hub, unsubscribed_unconnected, hubs_in_order}
-use Rattle.rx_event.specs.Kept.{Kept}
-use Rattle.rx_event.specs.declared.event.Place.TheVariants.{Root, Source, Inner, Notifier}
-use Rattle.rx_event.specs.declared.event.Mode.TheVariants.{Auto, Manual}
-use Rattle.rx_event.specs.declared.event.Event.{Event}
-use Rattle.rx_event.specs.declared.event.Event.TheVariants.{Open, Hub, Connect}
-use Rattle.rx_event.specs.Events.{makes_node, makes_hub, is_root, is_auto_hub, is_manual_hub, is_connect_of, is_subscriber_of}
-use Rattle.rx_event.specs.Tree.{at, places, parent, is_within, is_open, open_subscribers, open_connections}
-use Rattle.rx_event.specs.Totals.{open_count}
-use Rattle.rx_event.specs.Forced.{IsSettled}
-use Rattle.rx_event.specs.Lawful.{IsLawful}
 use Rattle.rx_event.specs.Claims.Closing.{is_manual_connection, open_root_count, manual_connection_count, IsLetGo}
 use Rattle.rx_event.proofs.Laws.Lists.{first_passes, filter_nonempty}
 use Rattle.rx_event.proofs.Laws.Places.{at-take}

@@ -1,8 +1,6 @@
 -- What holds of the elements of a list, and what a filter leaves.
-use Rattle.std.proofs.Common.{◌≡◌, ℕ, zero, suc, ◌+◌, ◌-◌, ◌<◌, ◌≤◌, Bool, true, false, List, [], ◌∷◌}
-use Rattle.std.proofs.Common.{◌++◌, length, cond, refl, sym, ap, ◌∙◌, arith, inl, inr, ◌⊎◌, filter}
-use Rattle.std.specs.List.{AllByRecursion, range_with_len}
-use Rattle.std.proofs.lemmas.Bool.{cases_Bool, cases_lt, cases_order, both_ways}
+use Rattle.rx_event.proofs.Laws.Common.{◌≡◌, ℕ, zero, suc, ◌+◌, ◌-◌, ◌<◌, ◌≤◌, Bool, true, false, List, [], ◌∷◌, ◌++◌, length, cond, refl, sym, ap, ◌∙◌}
+use Rattle.rx_event.proofs.Laws.Common.{arith, inl, inr, ◌⊎◌, filter, AllByRecursion, range_with_len, cases_Bool, cases_lt, cases_order, both_ways}
 
 pub AllByRecursion-both : {X : Type 0} (P : X → Type 0) (xs ys : List X) → AllByRecursion P xs → AllByRecursion P ys → AllByRecursion P (xs ++ ys)
 AllByRecursion-both P [] ys a b = b

@@ -1,26 +1,13 @@
 -- How one more event changes each mark of an older node.
-use Rattle.std.proofs.Common.{◌≡◌, ℕ, ℤ, ◌+◌, ◌-◌, ◌<◌, Bool, true, false, List, [], ◌∷◌, ◌++◌, length}
-use Rattle.std.proofs.Common.{Option, Some, None, cond, refl, sym, ap, ◌∙◌, arith, ◌==◌, slice_get}
-use Rattle.std.proofs.Math.Bool.{not, ◌&&◌, ◌||◌}
-use Rattle.std.specs.List.{list_any, count_by}
-use Rattle.std.specs.Option.{option_map_or, option_or}
-use Rattle.std.proofs.lemmas.Bool.{false≢true}
-use Rattle.std.proofs.lemmas.Option.{slice_get_within}
-use Rattle.rx_note.specs.declared.note.Terminal.{Terminal}
-use Rattle.rx_note.specs.declared.note.Terminal.TheVariants.{Completed}
-use Rattle.rx_event.specs.Kept.{Kept, node_kept}
-use Rattle.rx_event.specs.Opened.{source_opened, notifier_opened}
-use Rattle.rx_event.specs.declared.event.Place.TheVariants.{Root, Source, Inner, Notifier}
-use Rattle.rx_event.specs.declared.event.Kind.{Kind}
-use Rattle.rx_event.specs.declared.event.Event.{Event}
-use Rattle.rx_event.specs.declared.event.Event.TheVariants.{Open, Hub, Connect, Accept, Use, Remove, Lease, Return, Item, Decline, End, Close, Take}
-use Rattle.rx_event.specs.declared.marks.Marks.{Marks}
-use Rattle.rx_event.specs.Events.{is_merging, is_source_of, is_notifier_of, makes_node, parent_named, pays}
-use Rattle.rx_event.specs.Tree.{places, parent, is_open, is_open_child_of}
-use Rattle.rx_event.specs.Climb.{stops}
-use Rattle.rx_event.specs.Moments.{Moment, moments, owed, is_fired, stops_of, is_firing_of, is_projection_to}
-use Rattle.rx_event.specs.Marks.{first_some, is_child_of, completes_source, ends_by, child_terminal, source_completed, open_children, marks_of}
-use Rattle.rx_event.specs.Lawful.{MayFollow, IsLawful}
+use Rattle.rx_event.proofs.Laws.Common.{◌≡◌, ℕ, ℤ, ◌+◌, ◌-◌, ◌<◌, Bool, true, false, List, [], ◌∷◌, ◌++◌, length, Option, Some, None, cond, refl, sym, ap}
+use Rattle.rx_event.proofs.Laws.Common.{◌∙◌, arith, ◌==◌, slice_get, not, ◌&&◌, ◌||◌, list_any, count_by, option_map_or, option_or, false≢true}
+use Rattle.rx_event.proofs.Laws.Common.{slice_get_within, Terminal, Completed, Kept, node_kept, source_opened, Root, Source, Inner, Notifier, Kind, Event}
+use Rattle.rx_event.proofs.Laws.Common.{Open, Hub, Connect, Accept, Use, Remove, Lease, Return, Item, Decline, End, Close, Take, is_merging, is_source_of}
+use Rattle.rx_event.proofs.Laws.Common.{makes_node, parent_named, pays, places, parent, is_open, is_open_child_of, stops, Moment, moments, owed, is_fired}
+use Rattle.rx_event.proofs.Laws.Common.{stops_of, is_firing_of, is_projection_to, is_child_of, completes_source, child_terminal, source_completed}
+use Rattle.rx_event.proofs.Laws.Common.{open_children, marks_of, MayFollow, IsLawful, or_false, or_assoc, none_counted, notifier_opened, Marks}
+use Rattle.rx_event.proofs.Laws.Common.{is_notifier_of, ends_by}
+use Rattle.rx_event.specs.Marks.{first_some}
 use Rattle.rx_event.proofs.Laws.Places.{slice_get_last, at-append}
 use Rattle.rx_event.proofs.Laws.Parents.{parent-append}
 use Rattle.rx_event.proofs.Laws.Openness.{is_open_within, is_open_cut, is_cut, is_cut_none, shuts_none}
@@ -29,7 +16,7 @@ use Rattle.rx_event.proofs.Laws.Steps.{parent-named}
 use Rattle.rx_event.proofs.Laws.Sums.{sum_by_none, sums_balance, sum_by-places-push}
 use Rattle.rx_event.proofs.Laws.Totals.{is_open_new}
 use Rattle.rx_event.proofs.Laws.Projections.{owed-push}
-use Rattle.rx_event.proofs.Laws.Searches.{or_false, list_any_push, list_any_same_at, or_nothing, first_some_push, first_some_same_at}
+use Rattle.rx_event.proofs.Laws.Searches.{list_any_push, list_any_same_at, or_nothing, first_some_push, first_some_same_at}
 
 -- one more event: each mark -----------------------------------------------------------------------
 
@@ -62,10 +49,6 @@ child_terminal-push base h e law next n l =
     ap (λ o. option_or o (ends_by (h ++ e ∷ []) n e))
     (first_some_same_at (ends_by (h ++ e ∷ []) n) (ends_by h n) h (λ i x at_i. ends_by_kept h (e ∷ []) n l x (ended_older h law i x at_i))) ∙
     ap (option_or (first_some (ends_by h n) h)) (ends_by_kept h (e ∷ []) n l e (ended_old base h e next))
-
-or_assoc : (a b c : Bool) → (a || (b || c)) ≡ ((a || b) || c)
-or_assoc true b c = refl
-or_assoc false b c = refl
 
 pub source_opened-push : (base : Kept) → (h : List Event) (e : Event) (n : ℕ) →
     source_opened base (h ++ e ∷ []) n ≡ (source_opened base h n || is_source_of n e)
@@ -134,11 +117,7 @@ open_children-push base h e law next n =
     omega arith
   where
     shape : (o c b : Bool) → cond {A = ℕ} ((o && not c) && b) 1 0 + cond {A = ℕ} ((o && b) && c) 1 0 ≡ cond (o && b) 1 0 + 0
-    shape false c b = refl
-    shape true true true = refl
-    shape true true false = refl
-    shape true false true = refl
-    shape true false false = refl
+    shape o c b = grind arith
 
 -- one more event: all marks of an older node ------------------------------------------------------
 
@@ -174,11 +153,7 @@ marks-push base h e law next n l =
 
 pub cut_children_none : (h : List Event) (e : Event) (n : ℕ) → ((k : ℕ) → is_cut h e k ≡ false) → cut_children h e n ≡ 0
 cut_children_none h e n whole =
-    sum_by_none (λ k. cond (is_open_child_of h n k && is_cut h e k) 1 0) (length h) (λ k l. rw (whole k) (shape (is_open_child_of h n k)))
-  where
-    shape : (b : Bool) → cond {A = ℕ} (b && false) 1 0 ≡ 0
-    shape true = refl
-    shape false = refl
+    sum_by_none (λ k. cond (is_open_child_of h n k && is_cut h e k) 1 0) (length h) (λ k l. rw (whole k) (none_counted (is_open_child_of h n k)))
 
 -- an item sets what it fires and adds what it projects
 pub marks-item : (base : Kept) → (h : List Event) (leaf : ℕ) (v : ℤ) → IsLawful base h → MayFollow base h (Item leaf v) → (n : ℕ) → n < length h →

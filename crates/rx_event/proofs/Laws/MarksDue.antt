@@ -1,30 +1,19 @@
 -- What the marks of a node give is due there, and where they give none only a hub's rule is left.
-use Rattle.std.proofs.Common.{◌≡◌, ℕ, ◌<◌, Bool, true, false, List, length, Option, Some, None, refl, sym, ap, ◌∙◌, arith, inl, inr, ◌⊎◌, ◌==◌, slice_get, take}
-use Rattle.std.proofs.Math.Bool.{not, ◌&&◌}
-use Rattle.std.specs.List.{list_any}
-use Rattle.std.specs.Option.{option_map, option_map_or, option_or}
-use Rattle.std.proofs.lemmas.Bool.{both_ways, false≢true, and_parts, and_from, eq-eqb, eqb-true}
-use Rattle.std.proofs.lemmas.List.{length-take-le}
-use Rattle.std.proofs.lemmas.Option.{cond_some, slice_get_within, same_Some, none-some}
-use Rattle.rx_note.specs.declared.note.Terminal.{Terminal}
-use Rattle.rx_note.specs.declared.note.Terminal.TheVariants.{Completed, Error}
+use Rattle.rx_event.proofs.Laws.Common.{◌≡◌, ℕ, ◌<◌, Bool, true, false, List, length, Option, Some, None, refl, sym, ap, ◌∙◌, arith, ◌==◌}
+use Rattle.rx_event.proofs.Laws.Common.{slice_get, take, not, ◌&&◌, list_any, option_map_or, option_or, both_ways, false≢true, and_parts, and_from, eq-eqb}
+use Rattle.rx_event.proofs.Laws.Common.{eqb-true, length-take-le, slice_get_within, same_Some, none-some, Terminal, Completed, Error, Kept, Pass, Flat}
+use Rattle.rx_event.proofs.Laws.Common.{Switch, Until, Event, Open, Connect, End, Close, is_merging, is_mirroring, is_until, makes_hub, is_auto_hub}
+use Rattle.rx_event.proofs.Laws.Common.{at, is_open, owed, is_fired, mirrored, fired, failed, completed, cut, left, connecting, due}
+use Rattle.rx_event.proofs.Laws.Common.{SourceEnded, IsDue, IsForced, IsConnectDue, IsSettled, passes_on, child_terminal, source_completed, open_children}
+use Rattle.rx_event.proofs.Laws.Common.{marks_of, due_at, IsLawful, cond_some, Marks, terminal_due}
+use Rattle.std.specs.Option.{option_map}
 use Rattle.rx_event.proofs.Laws.Hubs.{hub_before}
-use Rattle.rx_event.specs.Kept.{Kept}
-use Rattle.rx_event.specs.declared.event.Kind.TheVariants.{Pass, Flat, Switch, Until}
-use Rattle.rx_event.specs.declared.event.Event.{Event}
-use Rattle.rx_event.specs.declared.event.Event.TheVariants.{Open, Hub, Connect, End, Close}
-use Rattle.rx_event.specs.declared.marks.Marks.{Marks}
-use Rattle.rx_event.specs.Events.{is_merging, is_mirroring, is_until, makes_hub, is_auto_hub, is_manual_hub}
-use Rattle.rx_event.specs.Tree.{at, is_open}
-use Rattle.rx_event.specs.Moments.{owed, is_fired}
-use Rattle.rx_event.specs.Forced.{mirrored, fired, failed, completed, cut, left, connecting, due, SourceEnded, IsDue, IsForced, IsConnectDue, IsSettled}
-use Rattle.rx_event.specs.Marks.{passes_on, child_terminal, source_completed, open_children, marks_of, is_over, completed_if, terminal_due, due_at}
-use Rattle.rx_event.specs.Allowed.{connected, IsAllowed}
-use Rattle.rx_event.specs.Lawful.{forced, allowed, MayFollow, IsLawful}
+use Rattle.rx_event.specs.Marks.{is_over, completed_if}
 use Rattle.rx_event.proofs.Laws.Places.{at-take, at_within}
 use Rattle.rx_event.proofs.Laws.Openness.{is_open_step}
 use Rattle.rx_event.proofs.Laws.Searches.{list_any_holds}
 use Rattle.rx_event.proofs.Laws.MarksFound.{child_terminal_some, child_terminal_none, open_children_none, open_children_zero}
+use Rattle.rx_event.proofs.Laws.Lawful.{due_open}
 
 -- the rule at one node ----------------------------------------------------------------------------
 
@@ -87,12 +76,10 @@ or_none (Some x) b none = absurd (none-some x (sym none))
 or_none None b none = (refl, none)
 
 completed_if_none : (b : Bool) → completed_if b ≡ None → b ≡ false
-completed_if_none true none = absurd (none-some Completed (sym none))
-completed_if_none false none = refl
+completed_if_none b none = grind arith
 
 any_passes : (t : Terminal) → passes_on false t ≡ true
-any_passes Completed = refl
-any_passes (Error c) = refl
+any_passes t = grind arith
 
 mirroring_none : (made : Event) (m : Marks) → is_mirroring made ≡ true → terminal_due made m ≡ None → (m.child_terminal ≡ None) × (is_merging made ≡ false)
 mirroring_none (Open place Pass) m mirrors none = (none, refl)
@@ -154,13 +141,6 @@ open_made h n o = by_event (slice_get h n) refl where
   by_event (Some made) at_n = (made, refl)
   by_event None at_n = absurd (both_ways (is_open h n) (is_open_step h n ∙ rw at_n refl) o)
 
-due_is_open : (base : Kept) → {h : List Event} {n : ℕ} {t : Terminal} → IsDue base h (End n t) → is_open h n ≡ true
-due_is_open base (mirrored o k e) = o
-due_is_open base (fired o k e) = o
-due_is_open base (failed o k e) = o
-due_is_open base (completed o k n e c w) = o
-due_is_open base (cut o e) = o
-
 -- A history is settled where no marks of an open node give an event, and no hub's rule does
 pub settled_by_marks : (base : Kept) → (h : List Event) → ((g : ℕ) → ¬ IsConnectDue h g) → ((n : ℕ) (t : Terminal) → is_open h n ≡ true → ¬ SourceEnded h n t) →
     ((c : ℕ) → ¬ IsDue base h (Close c)) →
@@ -169,8 +149,8 @@ pub settled_by_marks : (base : Kept) → (h : List Event) → ((g : ℕ) → ¬ 
 settled_by_marks base h none_waits whole kept quiet = record { none = none } where
   ended : (n : ℕ) (t : Terminal) → IsDue base h (End n t) → ⊥
   ended n t d =
-      let made = open_made h n (due_is_open base d) in
-      whole n t (due_is_open base d) (due_at_none base h n made.0 t made.1 (quiet n made.0 (due_is_open base d) made.1) d)
+      let made = open_made h n (due_open base d) in
+      whole n t (due_open base d) (due_at_none base h n made.0 t made.1 (quiet n made.0 (due_open base d) made.1) d)
 
   none_is : {e : Event} → IsDue base h e → ⊥
   none_is (mirrored {p = p} {t = t} o k e) = ended p t (mirrored o k e)
@@ -191,23 +171,7 @@ hub_at h q hubbed hubless g passes = by_event (slice_get h g) refl passes where
   by_event (Some e) at_g holds = both_ways (list_any makes_hub h) hubless (list_any_holds makes_hub h g e at_g (hubbed e holds))
 
 auto_makes_hub : (e : Event) → is_auto_hub e ≡ true → makes_hub e ≡ true
-auto_makes_hub (Hub mode) a = refl
-auto_makes_hub _ a = absurd (false≢true a)
-
-manual_makes_hub : (e : Event) → is_manual_hub e ≡ true → makes_hub e ≡ true
-manual_makes_hub (Hub mode) a = refl
-manual_makes_hub _ a = absurd (false≢true a)
-
-allowed_hub : (base : Kept) → {h : List Event} {g : ℕ} → IsAllowed base h (Connect g) → at is_manual_hub h g ≡ true
-allowed_hub base (connected m u few) = m
-
-forced_hub : (base : Kept) → {h : List Event} {g : ℕ} → IsForced base h (Connect g) → at is_auto_hub h g ≡ true
-forced_hub base (connecting d) = d.auto
-forced_hub base (due n d) = absurd (elim d [ ])
-
-connect_hub : (base : Kept) → {h : List Event} {g : ℕ} → MayFollow base h (Connect g) → (at is_auto_hub h g ≡ true) ⊎ (at is_manual_hub h g ≡ true)
-connect_hub base (forced f) = inl (forced_hub base f)
-connect_hub base (allowed s a) = inr (allowed_hub base a)
+auto_makes_hub e a = grind arith
 
 -- without a hub nothing was connected
 pub unconnected : (base : Kept) → (h : List Event) → IsLawful base h → list_any makes_hub h ≡ false → (c g : ℕ) → slice_get h c ≡ Some (Connect g) → ⊥

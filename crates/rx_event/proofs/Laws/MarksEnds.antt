@@ -1,45 +1,26 @@
 -- The marks of what stays open after an end or a closing.
-use Rattle.std.proofs.Common.{◌≡◌, ℕ, ◌-◌, Bool, true, false, List, [], ◌∷◌, ◌++◌, length, Option, Some}
-use Rattle.std.proofs.Common.{None, cond, refl, sym, ap, ◌∙◌, arith, inl, inr, ◌⊎◌, ◌==◌, slice_get}
-use Rattle.std.proofs.Math.Bool.{not, ◌&&◌, ◌||◌}
-use Rattle.std.specs.Prelude.{if◌then◌else◌}
-use Rattle.std.specs.List.{count_by}
-use Rattle.std.specs.Option.{option_map_or, option_or}
-use Rattle.std.proofs.lemmas.Bool.{cases_Bool, both_ways, false≢true, and_parts, eq-eqb, eqb-true}
-use Rattle.std.proofs.lemmas.Option.{same_Some, none-some}
-use Rattle.rx_note.specs.declared.note.Terminal.{Terminal}
-use Rattle.rx_note.specs.declared.note.Terminal.TheVariants.{Completed, Error}
-use Rattle.rx_event.specs.Kept.{Kept}
-use Rattle.rx_event.specs.declared.event.Place.TheVariants.{Root, Source, Inner, Notifier}
-use Rattle.rx_event.specs.declared.event.Event.{Event}
-use Rattle.rx_event.specs.declared.event.Event.TheVariants.{Open, Connect, End, Close}
-use Rattle.rx_event.specs.Events.{is_merging, is_source_of, is_root, parent_named}
-use Rattle.rx_event.specs.Tree.{at, parent, is_open, is_open_child_of, is_within}
-use Rattle.rx_event.specs.Moments.{is_projection_to}
-use Rattle.rx_event.specs.Forced.{left, due, IsDue, IsForced}
-use Rattle.rx_event.specs.Marks.{is_child_of, completes_source, passes_on, ends_by, child_terminal, source_completed, open_children, marks_of}
-use Rattle.rx_event.specs.Allowed.{root_closed, disconnected, IsAllowed}
-use Rattle.rx_event.specs.Lawful.{forced, allowed, MayFollow, IsLawful}
+use Rattle.rx_event.proofs.Laws.Common.{◌≡◌, ℕ, ◌-◌, Bool, true, false, List, [], ◌∷◌, ◌++◌, length, Option, Some, None, cond, refl, sym, ap, ◌∙◌, arith, inl}
+use Rattle.rx_event.proofs.Laws.Common.{inr, ◌⊎◌, ◌==◌, slice_get, not, ◌&&◌, ◌||◌, count_by, option_map_or, option_or, cases_Bool, both_ways, false≢true}
+use Rattle.rx_event.proofs.Laws.Common.{and_parts, eq-eqb, eqb-true, same_Some, none-some, Terminal, Completed, Error, Kept, Root, Source, Inner, Notifier}
+use Rattle.rx_event.proofs.Laws.Common.{Event, Open, Connect, End, Close, is_merging, is_source_of, is_root, parent_named, at, parent, is_open}
+use Rattle.rx_event.proofs.Laws.Common.{is_open_child_of, is_within, is_projection_to, left, due, IsDue, IsForced, is_child_of, completes_source, passes_on}
+use Rattle.rx_event.proofs.Laws.Common.{child_terminal, source_completed, open_children, marks_of, IsAllowed, forced, allowed, MayFollow, IsLawful, or_false}
+use Rattle.rx_event.proofs.Laws.Common.{false_from_ne_true as never, if◌then◌else◌, ends_by, not-true}
+use Rattle.rx_event.specs.Allowed.{root_closed, disconnected}
 use Rattle.rx_event.proofs.Laws.Parents.{ancestors_step, parent-lt, parent_within, parent_name, within_cases, is_within-le}
 use Rattle.rx_event.proofs.Laws.Openness.{is_open_within, is_open_outside-end, is_open_outside-close, is_cut, parent_open}
 use Rattle.rx_event.proofs.Laws.Lawful.{may_end}
 use Rattle.rx_event.proofs.Laws.Steps.{may_close, parent-named}
 use Rattle.rx_event.proofs.Laws.Sums.{sum_by-same, sum_by_one}
-use Rattle.rx_event.proofs.Laws.Searches.{or_false, or_nothing}
+use Rattle.rx_event.proofs.Laws.Searches.{or_nothing}
 use Rattle.rx_event.proofs.Laws.MarksFound.{is_child_parent, parent_is_child}
 use Rattle.rx_event.proofs.Laws.MarksDue.{made_passes, open_made}
 use Rattle.rx_event.proofs.Laws.MarksAfter.{cut_children, same_marks, marks-push}
-use Rattle.rx_event.proofs.Laws.MarksNew.{never}
 
 -- an end and a closing ----------------------------------------------------------------------------
 
-pub not_false : (b : Bool) → not b ≡ true → b ≡ false
-not_false false n = refl
-not_false true n = absurd (false≢true n)
-
 and_true_end : (b : Bool) → ((true && b) && true) ≡ b
-and_true_end true = refl
-and_true_end false = refl
+and_true_end b = grind arith
 
 -- what takes away just what is within c takes of the children of a node outside c just c
 closing_cut : (h : List Event) (e : Event) (c n : ℕ) → ((k : ℕ) → is_cut h e k ≡ is_within h c k) → is_open h c ≡ true → is_within h c n ≡ false →
@@ -80,7 +61,7 @@ pub marks-end : (base : Kept) → (h : List Event) (c : ℕ) (t : Terminal) → 
     }
 marks-end base h c t law next n o =
     let parts = and_parts (is_open h n) (not (is_within h c n)) (sym (is_open_outside-end h c t n) ∙ o) in
-    let z = closing_cut h (End c t) c n (λ k. refl) (may_end base next) (not_false (is_within h c n) parts.1) in
+    let z = closing_cut h (End c t) c n (λ k. refl) (may_end base next) (not-true (is_within h c n) parts.1) in
     let w : count_by (is_projection_to n) [] ≡ 0 = refl in
     marks-push base h (End c t) law next n (is_open_within h n parts.0) ∙
     same_marks base (or_false _) (or_false _) (or_false _) refl refl (omega arith) (omega arith)
@@ -90,7 +71,7 @@ pub marks-close : (base : Kept) → (h : List Event) (c : ℕ) → IsLawful base
     marks_of base (h ++ Close c ∷ []) n ≡ record (marks_of base h n) { open_children = open_children h n - cond (is_child_of h n c) 1 0 }
 marks-close base h c law next n o =
     let parts = and_parts (is_open h n) (not (is_within h c n)) (sym (is_open_outside-close h c n) ∙ o) in
-    let z = closing_cut h (Close c) c n (λ k. refl) (may_close base next) (not_false (is_within h c n) parts.1) in
+    let z = closing_cut h (Close c) c n (λ k. refl) (may_close base next) (not-true (is_within h c n) parts.1) in
     let w : count_by (is_projection_to n) [] ≡ 0 = refl in
     marks-push base h (Close c) law next n (is_open_within h n parts.0) ∙
     same_marks base (or_false _) (or_false _) (or_false _) (or_false _) (or_nothing _) (omega arith) (omega arith)

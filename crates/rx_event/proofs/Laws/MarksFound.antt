@@ -1,19 +1,10 @@
 -- What each mark of a node finds in the history.
-use Rattle.std.proofs.Common.{◌≡◌, ℕ, ◌≤◌, Bool, true, false, List, length, Option, Some, None, cond, refl, sym, ap, ◌∙◌, arith, inl, inr, ◌⊎◌, ◌==◌}
-use Rattle.std.proofs.Math.Bool.{◌&&◌, ◌||◌}
-use Rattle.std.specs.List.{count_by, list_any}
-use Rattle.std.specs.Option.{option_map_or}
-use Rattle.std.proofs.lemmas.Bool.{cases_Bool, both_ways, false≢true, and_parts, and_from, eq-eqb, eqb-true, or_cases}
-use Rattle.std.proofs.lemmas.Option.{cond_some, none-some}
-use Rattle.rx_note.specs.declared.note.Terminal.{Terminal}
-use Rattle.rx_note.specs.declared.note.Terminal.TheVariants.{Completed}
-use Rattle.rx_event.specs.Kept.{Kept, node_kept}
-use Rattle.rx_event.specs.declared.event.Event.{Event}
-use Rattle.rx_event.specs.declared.event.Event.TheVariants.{End}
-use Rattle.rx_event.specs.Events.{is_merging, is_source_of}
-use Rattle.rx_event.specs.Tree.{at, places, parent, is_open, is_open_child_of}
-use Rattle.rx_event.specs.Forced.{Has, ChildEnded}
-use Rattle.rx_event.specs.Marks.{is_child_of, completes_source, passes_on, ends_by, child_terminal, source_completed, open_children}
+use Rattle.rx_event.proofs.Laws.Common.{◌≡◌, ℕ, ◌≤◌, Bool, true, false, List, length, Option, Some, None, cond, refl, sym, ap, ◌∙◌, arith, inl, inr, ◌⊎◌}
+use Rattle.rx_event.proofs.Laws.Common.{◌==◌, ◌&&◌, ◌||◌, count_by, list_any, option_map_or, cases_Bool, both_ways, false≢true, and_parts, and_from, eq-eqb}
+use Rattle.rx_event.proofs.Laws.Common.{eqb-true, or_cases, none-some, Terminal, Completed, Kept, node_kept, Event, End, is_merging, is_source_of, at, places}
+use Rattle.rx_event.proofs.Laws.Common.{parent, is_open, is_open_child_of, is_child_of, completes_source, passes_on, child_terminal, source_completed}
+use Rattle.rx_event.proofs.Laws.Common.{open_children, cond_some, ChildEnded, ends_by, or_right}
+use Rattle.rx_event.specs.Forced.{Has}
 use Rattle.rx_event.proofs.Laws.Openness.{is_open_within}
 use Rattle.rx_event.proofs.Laws.Sums.{sum_by_none, sum_by_no_rise, count_by_one}
 use Rattle.rx_event.proofs.Laws.Searches.{list_any_found, list_any_holds, first_found, first_none}
@@ -21,8 +12,7 @@ use Rattle.rx_event.proofs.Laws.Searches.{list_any_found, list_any_holds, first_
 -- what the marks find -----------------------------------------------------------------------------
 
 child_named : (o : Option ℕ) (p : ℕ) → option_map_or (λ q. q == p) o false ≡ true → o ≡ Some p
-child_named None p named = absurd (false≢true named)
-child_named (Some q) p named = ap Some (eqb-true q p named)
+child_named o p named = grind arith
 
 pub is_child_parent : (h : List Event) (p n : ℕ) → is_child_of h p n ≡ true → parent h n ≡ Some p
 is_child_parent h p n child = child_named (parent h n) p child
@@ -59,10 +49,6 @@ completes_end : (h : List Event) (p : ℕ) (e : Event) → completes_source h p 
 completes_end h p (End s Completed) found = (s, refl, found)
 completes_end h p _ found = absurd (false≢true found)
 
-or_yes : (x y : Bool) → y ≡ true → (x || y) ≡ true
-or_yes true y yes_y = refl
-or_yes false y yes_y = yes_y
-
 -- the source completed before the base, or since
 pub completed_by : (base : Kept) → (h : List Event) (n : ℕ) → source_completed base h n ≡ true →
     (option_map_or (λ k. k.source_completed) (node_kept base n) false ≡ true) ⊎ (list_any (completes_source h n) h ≡ true)
@@ -86,7 +72,7 @@ pub source_completed_has : (base : Kept) → (h : List Event) (n s : ℕ) → at
     source_completed base h n ≡ true
 unfolding source_completed
 source_completed_has base h n s source ended =
-    or_yes (option_map_or (λ k. k.source_completed) (node_kept base n) false) (list_any (completes_source h n) h)
+    or_right (option_map_or (λ k. k.source_completed) (node_kept base n) false) (list_any (completes_source h n) h)
     (list_any_holds (completes_source h n) h ended.place (End s Completed) ended.found source)
 
 pub open_children_none : (h : List Event) (n : ℕ) → open_children h n ≡ 0 → (c : ℕ) → parent h c ≡ Some n → is_open h c ≡ false

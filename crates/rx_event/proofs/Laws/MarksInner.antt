@@ -1,30 +1,17 @@
 -- The marks of a FlatMap or Switch after the opening of an inner.
-use Rattle.std.proofs.Common.{◌≡◌, ℕ, ◌+◌, ◌-◌, ◌<◌, Bool, true, false, List, [], ◌∷◌, ◌++◌, length, Option, Some}
-use Rattle.std.proofs.Common.{None, cond, refl, sym, ap, ◌∙◌, arith, inl, inr, ◌⊎◌, ◌==◌, nat_lt, slice_get}
-use Rattle.std.proofs.Math.Bool.{not, ◌&&◌, ◌||◌}
-use Rattle.std.specs.List.{count_by}
-use Rattle.std.specs.Option.{option_map_or}
-use Rattle.std.proofs.lemmas.Bool.{both_ways, false≢true, and_parts, and_from, or_cases, eq-eqb, eqb-true, lt-ltb}
-use Rattle.std.proofs.lemmas.Option.{same_Some}
-use Rattle.rx_event.specs.Kept.{Kept}
-use Rattle.rx_event.specs.declared.event.Place.TheVariants.{Root, Source, Inner, Notifier}
-use Rattle.rx_event.specs.declared.event.Kind.{Kind}
-use Rattle.rx_event.specs.declared.event.Event.{Event}
-use Rattle.rx_event.specs.declared.event.Event.TheVariants.{Open}
-use Rattle.rx_event.specs.Events.{is_inner_of, is_switch}
-use Rattle.rx_event.specs.Tree.{at, parent, is_open, is_open_child_of, shuts, is_switched_inner}
-use Rattle.rx_event.specs.Moments.{owed, is_projection_to}
-use Rattle.rx_event.specs.Marks.{is_child_of, open_children, marks_of}
-use Rattle.rx_event.specs.Lawful.{MayFollow, IsLawful}
+use Rattle.rx_event.proofs.Laws.Common.{◌≡◌, ℕ, ◌+◌, ◌-◌, ◌<◌, Bool, true, false, List, [], ◌∷◌, ◌++◌, length, Option, Some, None, cond, refl, sym, ap, ◌∙◌}
+use Rattle.rx_event.proofs.Laws.Common.{arith, inl, inr, ◌⊎◌, ◌==◌, nat_lt, slice_get, not, ◌&&◌, ◌||◌, count_by, option_map_or, both_ways, false≢true}
+use Rattle.rx_event.proofs.Laws.Common.{and_parts, and_from, or_cases, eq-eqb, eqb-true, lt-ltb, same_Some, Kept, Root, Source, Inner, Notifier, Kind, Event}
+use Rattle.rx_event.proofs.Laws.Common.{Open, is_inner_of, is_switch, at, parent, is_open, is_open_child_of, shuts, owed, is_projection_to, is_child_of}
+use Rattle.rx_event.proofs.Laws.Common.{open_children, marks_of, MayFollow, IsLawful, or_false, is_switched_inner, not-true as not_false}
 use Rattle.rx_event.proofs.Laws.Parents.{ancestors_step, parent-lt}
 use Rattle.rx_event.proofs.Laws.Openness.{is_open_within, is_open_cut, is_cut, is_cut_inner, is_cut_inner_flat}
 use Rattle.rx_event.proofs.Laws.Steps.{may_open, parent-named}
 use Rattle.rx_event.proofs.Laws.Sums.{sum_by_none, sum_by-same, count_by_one}
 use Rattle.rx_event.proofs.Laws.Switches.{one_inner}
-use Rattle.rx_event.proofs.Laws.Searches.{or_false, or_nothing}
+use Rattle.rx_event.proofs.Laws.Searches.{or_nothing}
 use Rattle.rx_event.proofs.Laws.MarksFound.{is_child_parent, parent_is_child}
 use Rattle.rx_event.proofs.Laws.MarksAfter.{cut_children, same_marks, marks-push, cut_children_none}
-use Rattle.rx_event.proofs.Laws.MarksEnds.{not_false}
 
 -- an inner ------------------------------------------------------------------------------------------
 

@@ -1,27 +1,14 @@
 -- A new node has blank marks.
-use Rattle.std.proofs.Common.{◌≡◌, ℕ, ◌<◌, ◌≤◌, Bool, true, false, List, [], ◌∷◌, ◌++◌, length, Option}
-use Rattle.std.proofs.Common.{Some, None, refl, ap, ◌∙◌, arith, slice_get, length-append}
-use Rattle.std.specs.List.{AllByRecursion, list_any}
-use Rattle.std.specs.Option.{option_map_or}
-use Rattle.std.proofs.lemmas.Bool.{false≢true, eqb-true, ne_eqb}
-use Rattle.std.proofs.lemmas.Option.{slice_get_within}
-use Rattle.rx_note.specs.declared.note.Terminal.{Terminal}
-use Rattle.std.proofs.Math.Bool.{◌||◌}
+use Rattle.rx_event.proofs.Laws.Common.{◌≡◌, ℕ, ◌<◌, ◌≤◌, true, false, List, [], ◌∷◌, ◌++◌, length, Option, Some, None, refl, ◌∙◌, arith, slice_get}
+use Rattle.rx_event.proofs.Laws.Common.{length-append, AllByRecursion, list_any, option_map_or, false≢true, ne_eqb, slice_get_within, Terminal, ◌||◌, Kept}
+use Rattle.rx_event.proofs.Laws.Common.{node_kept, shown, Event, Item, is_source_of, parent_named, parent, Stop, Delivery, Projection, Firing, stops, moments}
+use Rattle.rx_event.proofs.Laws.Common.{is_fired, stops_of, is_firing_of, source_completed, completes_source, child_terminal, marks_of, MayFollow, IsLawful}
+use Rattle.rx_event.proofs.Laws.Common.{StopsAtOpen, false_from_ne_true, is_notifier_of}
 use Rattle.rx_event.proofs.Laws.Lawful.{shown_within, IsLawful-push}
-use Rattle.rx_event.specs.Kept.{Kept, node_kept, shown}
-use Rattle.rx_event.specs.declared.event.Place.TheVariants.{Source, Notifier}
-use Rattle.rx_event.specs.declared.event.Event.{Event}
-use Rattle.rx_event.specs.declared.event.Event.TheVariants.{Open, Item}
-use Rattle.rx_event.specs.Events.{is_source_of, is_notifier_of, parent_named}
-use Rattle.rx_event.specs.Tree.{parent}
-use Rattle.rx_event.specs.Climb.{Stop, Delivery, Projection, Firing, stops}
-use Rattle.rx_event.specs.Moments.{moments, is_fired, stops_of, is_firing_of}
-use Rattle.rx_event.specs.Marks.{source_completed, completes_source, blank_marks, child_terminal, marks_of}
-use Rattle.rx_event.specs.Lawful.{MayFollow, IsLawful}
+use Rattle.rx_event.specs.Marks.{blank_marks}
 use Rattle.rx_event.proofs.Laws.Parents.{parent-lt, parent_within}
 use Rattle.rx_event.proofs.Laws.Openness.{is_open_within}
 use Rattle.rx_event.proofs.Laws.Steps.{by_events, may_emit, named_below}
-use Rattle.rx_event.specs.Claims.Climbs.{StopsAtOpen}
 use Rattle.rx_event.proofs.Laws.Projections.{stops_open, owed_new}
 use Rattle.rx_event.proofs.Laws.Searches.{list_any_found}
 use Rattle.rx_event.proofs.Laws.MarksFound.{child_terminal_some, source_completed_true, open_children_zero}
@@ -38,16 +25,10 @@ names_new {base} h e law next i x at_i named =
     absurd (omega (arith, length-append h (e ∷ [])))
 
 source_names : (n : ℕ) (x : Event) → is_source_of n x ≡ true → parent_named x ≡ Some n
-source_names n (Open (Source q) kind) source = ap Some (eqb-true q n source)
-source_names n _ source = absurd (false≢true source)
+source_names n x source = grind arith
 
 notifier_names : (n : ℕ) (x : Event) → is_notifier_of n x ≡ true → parent_named x ≡ Some n
-notifier_names n (Open (Notifier q) kind) notifier = ap Some (eqb-true q n notifier)
-notifier_names n _ notifier = absurd (false≢true notifier)
-
-pub never : (b : Bool) → (b ≡ true → ⊥) → b ≡ false
-never true no_way = absurd (no_way refl)
-never false no_way = refl
+notifier_names n x notifier = grind arith
 
 -- stops of an open leaf fire what is there
 pub firing_old : (h : List Event) (ss : List Stop) → AllByRecursion (StopsAtOpen h) ss → (u : ℕ) → length h ≤ u → list_any (is_firing_of u) ss ≡ false
@@ -85,10 +66,10 @@ pub marks-new : (base : Kept) → (h : List Event) (e : Event) → IsLawful base
 marks-new base h e law next =
     same_marks base
     (λ i. option_map_or (λ k. k.source_opened) (unkept i) false ||
-    never _ (λ s. let r = list_any_found (is_source_of (length h)) (h ++ e ∷ []) s in
+    false_from_ne_true _ (λ s. let r = list_any_found (is_source_of (length h)) (h ++ e ∷ []) s in
     names_new h e law next r.0 r.1 r.2 (source_names (length h) r.1 r.3)) i)
     (λ i. option_map_or (λ k. k.notifier_opened) (unkept i) false ||
-    never _ (λ s. let r = list_any_found (is_notifier_of (length h)) (h ++ e ∷ []) s in
+    false_from_ne_true _ (λ s. let r = list_any_found (is_notifier_of (length h)) (h ++ e ∷ []) s in
     names_new h e law next r.0 r.1 r.2 (notifier_names (length h) r.1 r.3)) i)
     (is_fired-push h e (length h) ∙ rw (fired_past base h law (length h) (omega arith), fires_old base h e law next (length h) (omega arith)) refl)
     completed_new
@@ -107,7 +88,7 @@ marks-new base h e law next =
     completed_new =
         (source_completed_is base (h ++ e ∷ []) (length h)) ∙
         (λ i. option_map_or (λ k. k.source_completed) (unkept i) false ||
-        never _ (λ s. let r = source_completed_true base (h ++ e ∷ []) (length h) s in source_new r.0 (slice_get (h ++ e ∷ []) r.0) refl r.1) i)
+        false_from_ne_true _ (λ s. let r = source_completed_true base (h ++ e ∷ []) (length h) s in source_new r.0 (slice_get (h ++ e ∷ []) r.0) refl r.1) i)
 
     terminal_new : (o : Option Terminal) → child_terminal (h ++ e ∷ []) (length h) ≡ o → o ≡ None
     terminal_new None ended = refl

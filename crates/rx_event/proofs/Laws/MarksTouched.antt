@@ -1,33 +1,15 @@
 -- An event changes the marks of one node at most, but for an item.
-use Rattle.std.proofs.Common.{◌≡◌, ℕ, ℤ, ◌+◌, ◌-◌, ◌<◌, Bool, true, false, List, [], ◌∷◌, ◌++◌, length, Some}
-use Rattle.std.proofs.Common.{None, cond, refl, sym, ap, ◌∙◌, arith, inl, inr, ◌⊎◌, ◌==◌, slice_get}
-use Rattle.std.proofs.Math.Bool.{not, ◌&&◌, ◌||◌}
-use Rattle.std.specs.Prelude.{if◌then◌else◌}
-use Rattle.std.specs.List.{list_any, count_by}
-use Rattle.std.specs.Option.{option_map_or, option_or}
-use Rattle.std.proofs.lemmas.Bool.{cases_order, both_ways, false≢true, eq-eqb}
-use Rattle.std.proofs.lemmas.List.Sums.{sum_by-cons}
-use Rattle.rx_note.specs.declared.note.Terminal.{Terminal}
-use Rattle.rx_note.specs.declared.note.Terminal.TheVariants.{Completed, Error}
-use Rattle.rx_event.specs.Kept.{Kept}
-use Rattle.rx_event.specs.Opened.{source_opened, notifier_opened}
-use Rattle.rx_event.specs.declared.event.Place.TheVariants.{Source, Inner, Notifier}
-use Rattle.rx_event.specs.declared.event.Kind.{Kind}
-use Rattle.rx_event.specs.declared.event.Kind.TheVariants.{Pass}
-use Rattle.rx_event.specs.declared.event.Event.{Event}
-use Rattle.rx_event.specs.declared.event.Event.TheVariants.{Open, Item, Decline, End, Close}
-use Rattle.rx_event.specs.declared.marks.Marks.{Marks}
-use Rattle.rx_event.specs.Events.{is_merging, is_source_of, is_inner_of, is_switch}
-use Rattle.rx_event.specs.Tree.{at, parent, is_open}
-use Rattle.rx_event.specs.Climb.{Stop, Delivery, Projection, Firing, stops}
-use Rattle.rx_event.specs.Moments.{is_fired, is_firing_of, is_projection_to}
+use Rattle.rx_event.proofs.Laws.Common.{◌≡◌, ℕ, ℤ, ◌+◌, ◌-◌, ◌<◌, Bool, true, false, List, [], ◌∷◌, ◌++◌, length, Some, None, cond, refl, sym, ap, ◌∙◌, arith}
+use Rattle.rx_event.proofs.Laws.Common.{inl, inr, ◌⊎◌, ◌==◌, slice_get, not, ◌&&◌, ◌||◌, list_any, count_by, option_map_or, option_or, cases_order, both_ways}
+use Rattle.rx_event.proofs.Laws.Common.{eq-eqb, sum_by-cons, Terminal, Completed, Error, Kept, source_opened, Source, Inner, Notifier, Kind, Event, Open}
+use Rattle.rx_event.proofs.Laws.Common.{Item, Decline, End, Close, is_merging, is_source_of, is_inner_of, is_switch, at, parent, is_open, Stop, Delivery}
+use Rattle.rx_event.proofs.Laws.Common.{Projection, Firing, stops, is_fired, is_firing_of, is_projection_to, completes_source, passes_on, child_terminal}
+use Rattle.rx_event.proofs.Laws.Common.{source_completed, open_children, marks_of, due_at, MayFollow, IsLawful, and_false, and_true, or_false, or_true}
+use Rattle.rx_event.proofs.Laws.Common.{if◌then◌else◌, notifier_opened, Marks, or_parts}
 use Rattle.rx_event.specs.Marks.{touches, after_source, after_notifier, after_inner, after_decline, after_child, after_stops, blank_marks}
-use Rattle.rx_event.specs.Marks.{completes_source, passes_on, child_terminal, source_completed, open_children, marks_of, due_at}
-use Rattle.rx_event.specs.Lawful.{MayFollow, IsLawful}
 use Rattle.rx_event.specs.Claims.Nodes.{IsOpenInner}
 use Rattle.rx_event.proofs.Laws.Openness.{is_open_within}
 use Rattle.rx_event.proofs.Laws.Steps.{may_open, may_decline}
-use Rattle.rx_event.proofs.Laws.Searches.{or_false, and_true, and_false}
 use Rattle.rx_event.proofs.Laws.MarksFound.{open_children_none}
 use Rattle.rx_event.proofs.Laws.MarksAfter.{same_marks, marks-item, marks-decline, marks_kept, marks-source, marks-notifier}
 use Rattle.rx_event.proofs.Laws.MarksEnds.{marks-end_other, marks-close_other, marks-end_parent}
@@ -36,17 +18,12 @@ use Rattle.rx_event.proofs.Laws.MarksNew.{marks-new}
 
 -- which marks change ------------------------------------------------------------------------------
 
-or_parts_false : (a b : Bool) → (a || b) ≡ false → (a ≡ false) × (b ≡ false)
-or_parts_false false false e = (refl, refl)
-or_parts_false false true e = absurd (false≢true (sym e))
-or_parts_false true b e = absurd (false≢true (sym e))
-
 stops_apart : (n : ℕ) (ss : List Stop) → list_any (λ s. is_firing_of n s || is_projection_to n s) ss ≡ false →
     (list_any (is_firing_of n) ss ≡ false) × (count_by (is_projection_to n) ss ≡ 0)
 stops_apart n [] apart = (refl, refl)
 stops_apart n (s ∷ ss) apart =
-    let a = or_parts_false (is_firing_of n s || is_projection_to n s) (list_any (λ x. is_firing_of n x || is_projection_to n x) ss) apart in
-    let b = or_parts_false (is_firing_of n s) (is_projection_to n s) a.0 in
+    let a = or_parts (is_firing_of n s || is_projection_to n s) (list_any (λ x. is_firing_of n x || is_projection_to n x) ss) apart in
+    let b = or_parts (is_firing_of n s) (is_projection_to n s) a.0 in
     let rest = stops_apart n ss a.1 in
     (rw (b.0, rest.0) refl, sum_by-cons (λ x. cond (is_projection_to n x) 1 0) s ss ∙ rw (b.1, rest.1) refl)
 
@@ -93,10 +70,6 @@ marks-end_parent_at {base} {h} {c} {p} made above t law next below at_c at_p =
     source_is (Error code) = sym (and_false (is_source_of p made))
 
 -- the marks of the one node that an event touches -------------------------------------------------
-
-or_true : (b : Bool) → (b || true) ≡ true
-or_true true = refl
-or_true false = refl
 
 pub marks-source_at : (base : Kept) → (h : List Event) (p : ℕ) (kind : Kind) → IsLawful base h → MayFollow base h (Open (Source p) kind) →
     marks_of base (h ++ Open (Source p) kind ∷ []) p ≡ after_source (marks_of base h p)
@@ -178,8 +151,7 @@ marks-inner_at_next {f = f} {old = old} {kind = kind} law next i = marks-inner_n
 
 -- a new node has nothing to do
 pub blank_quiet : (made : Event) (n : ℕ) → due_at made blank_marks n ≡ None
-blank_quiet (Open place Pass) n = refl
-blank_quiet _ n = refl
+blank_quiet made n = grind arith
 
 pub quiet_new : (base : Kept) → (h : List Event) (e : Event) → IsLawful base h → MayFollow base h e →
     due_at e (marks_of base (h ++ e ∷ []) (length h)) (length h) ≡ None

@@ -1,27 +1,15 @@
 -- What each node is told: items, then at most one end, then nothing.
-use Rattle.std.proofs.Common.{◌≡◌, ℕ, ℤ, ◌<◌, ◌≤◌, Bool, true, false, List, [], ◌∷◌, ◌++◌, length, Some, None, cond, refl}
-use Rattle.std.proofs.Common.{sym, ap, ◌∙◌, arith, inl, inr, ◌⊎◌, ◌==◌, append-nil, filter, map, length-append}
-use Rattle.std.proofs.Math.Bool.{not}
-use Rattle.std.specs.List.{AllByRecursion, list_all, filter_map}
-use Rattle.std.proofs.lemmas.Bool.{cases_Bool, cases_lt, both_ways, and_from, eqb-true}
-use Rattle.std.proofs.lemmas.List.{map-append}
+use Rattle.rx_event.proofs.Laws.Common.{◌≡◌, ℕ, ℤ, ◌<◌, ◌≤◌, Bool, true, false, List, [], ◌∷◌, ◌++◌, length, Some, None, cond, refl, sym, ap, ◌∙◌, arith, inl}
+use Rattle.rx_event.proofs.Laws.Common.{inr, ◌⊎◌, ◌==◌, append-nil, filter, map, length-append, not, AllByRecursion, filter_map, cases_Bool, cases_lt}
+use Rattle.rx_event.proofs.Laws.Common.{both_ways, and_from, eqb-true, slice_get_past, Terminal, Kept, shown, Event, Item, End, is_root, at, is_open, Stop}
+use Rattle.rx_event.proofs.Laws.Common.{Delivery, Projection, Firing, stops, notes, mail_of, MayFollow, IsLawful, StopsAtOpen, list_all, map-append, Next}
+use Rattle.rx_event.proofs.Laws.Common.{Mail, notes_to}
 use Rattle.std.proofs.lemmas.List.Elements.{filter-append}
 use Rattle.std.proofs.lemmas.List.Folds.{list_all-append}
-use Rattle.std.proofs.lemmas.Option.{slice_get_past}
-use Rattle.rx_note.specs.declared.note.Terminal.{Terminal}
 use Rattle.rx_note.specs.declared.note.Note.{Note}
-use Rattle.rx_note.specs.declared.note.Note.TheVariants.{Next, Project, End as EndNote}
+use Rattle.rx_note.specs.declared.note.Note.TheVariants.{Project, End as EndNote}
 use Rattle.rx_note.specs.Notes.{is_end, IsGrammatical}
-use Rattle.rx_event.specs.Kept.{Kept, shown}
-use Rattle.rx_event.specs.declared.event.Event.{Event}
-use Rattle.rx_event.specs.declared.event.Event.TheVariants.{Item, End}
-use Rattle.rx_event.specs.Events.{is_root}
-use Rattle.rx_event.specs.Tree.{at, is_open}
-use Rattle.rx_event.specs.Climb.{Stop, Delivery, Projection, Firing, stops}
-use Rattle.rx_event.specs.declared.mail.Mail.{Mail}
-use Rattle.rx_event.specs.Notes.{notes, notes_to, told, mail_of}
-use Rattle.rx_event.specs.Lawful.{MayFollow, IsLawful}
-use Rattle.rx_event.specs.Claims.Climbs.{StopsAtOpen}
+use Rattle.rx_event.specs.Notes.{told}
 use Rattle.rx_event.proofs.Laws.Lists.{AllByRecursion-both}
 use Rattle.rx_event.proofs.Laws.Places.{at-append}
 use Rattle.rx_event.proofs.Laws.Openness.{is_open_within, is_open_outside-end, stays_closed}

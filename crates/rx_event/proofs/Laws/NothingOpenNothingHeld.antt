@@ -1,15 +1,10 @@
 -- Where nothing is open nothing is owned, where no lease is out either nothing is held, and where nothing waits all was handed out.
 -- What a lease that is out keeps.
-use Rattle.std.proofs.Common.{◌≡◌, ℕ, ◌≤◌, Bool, true, false, List, length, Option, Some, None, cond, refl, ap, arith, inl, inr, ◌⊎◌, slice_get}
-use Rattle.std.specs.Option.{option_map_or}
-use Rattle.std.proofs.lemmas.Bool.{both_ways, false≢true, and_parts, false_from_ne_true}
-use Rattle.rx_event.specs.Kept.{Kept}
-use Rattle.rx_event.specs.declared.event.Event.{Event}
-use Rattle.rx_event.specs.declared.event.Event.TheVariants.{Lease}
-use Rattle.rx_event.specs.Tree.{is_open}
-use Rattle.rx_event.specs.Resources.{is_owned, is_out, is_leased, is_held, is_taken, is_waiting}
-use Rattle.rx_event.specs.Totals.{open_count, owned_count, held_count, lease_count, waiting_count, taken_count, accepted_count}
-use Rattle.rx_event.specs.Lawful.{IsLawful}
+use Rattle.rx_event.proofs.Laws.Common.{◌≡◌, ℕ, ◌≤◌, Bool, true, false, List, length, Option, Some, None, cond, refl, ap, arith, inl, inr, ◌⊎◌, slice_get}
+use Rattle.rx_event.proofs.Laws.Common.{option_map_or, both_ways, false≢true, and_parts, false_from_ne_true, Kept, Event, Lease, is_open, is_owned, is_out}
+use Rattle.rx_event.proofs.Laws.Common.{is_held, is_taken, is_waiting, open_count, IsLawful, is_leased, held_count, waiting_count, taken_count}
+use Rattle.rx_event.proofs.Laws.Common.{accepted_count}
+use Rattle.rx_event.specs.Totals.{owned_count, lease_count}
 use Rattle.rx_event.proofs.Laws.Openness.{is_open_within}
 use Rattle.rx_event.proofs.Laws.Sums.{sum_by_none, term_in_sum}
 use Rattle.rx_event.proofs.Laws.Leases.{none_leased, leased_some, leased_where, leases_of_some, lease_resource}

@@ -1,38 +1,26 @@
 -- All that is due in a lawful history ends in one way: as what was ended in this step did, or by a completion.
-use Rattle.std.proofs.Common.{◌≡◌, ℕ, ◌<◌, ◌≤◌, Bool, true, false, List, [], ◌∷◌, ◌++◌, length, Option, Some}
-use Rattle.std.proofs.Common.{None, cond, refl, sym, ap, ◌∙◌, arith, inl, inr, ◌⊎◌, ◌==◌, slice_get}
-use Rattle.std.proofs.Math.Bool.{not, ◌&&◌, ◌||◌}
-use Rattle.std.specs.List.{list_any}
-use Rattle.std.specs.Option.{option_map_or}
-use Rattle.std.proofs.lemmas.Bool.{cases_lt, both_ways, false≢true, and_parts, or_cases, eq-eqb, eqb-true}
-use Rattle.std.proofs.lemmas.Option.{slice_get_within, same_Some, none-some}
-use Rattle.rx_note.specs.declared.note.Terminal.{Terminal}
-use Rattle.rx_note.specs.declared.note.Terminal.TheVariants.{Completed, Error}
-use Rattle.rx_event.specs.Kept.{Kept, node_kept}
-use Rattle.rx_event.specs.Marks.{completes_source, source_completed, due_at, marks_of, is_child_of}
+use Rattle.rx_event.proofs.Laws.Common.{◌≡◌, ℕ, ◌<◌, ◌≤◌, Bool, true, false, List, [], ◌∷◌, ◌++◌, length, Option, Some, None, cond, refl, sym, ap, ◌∙◌, arith}
+use Rattle.rx_event.proofs.Laws.Common.{inl, inr, ◌⊎◌, ◌==◌, slice_get, not, ◌&&◌, ◌||◌, list_any, option_map_or, cases_lt, both_ways, false≢true, and_parts}
+use Rattle.rx_event.proofs.Laws.Common.{or_cases, eq-eqb, eqb-true, slice_get_within, same_Some, none-some, Terminal, Completed, Error, Kept, node_kept}
+use Rattle.rx_event.proofs.Laws.Common.{completes_source, source_completed, due_at, marks_of, is_child_of, Root, Source, Inner, Notifier, Event, Open, Item}
+use Rattle.rx_event.proofs.Laws.Common.{Decline, End, Close, is_mirroring, is_merging, is_until, is_source_of, is_inner_of, is_subscriber_of, pays, at}
+use Rattle.rx_event.proofs.Laws.Common.{parent, is_open, shuts, is_fired, is_firing_of, stops_of, mirrored, fired, failed, completed, cut, due, SourceEnded}
+use Rattle.rx_event.proofs.Laws.Common.{IsDue, IsForced, IsSettled, forced, allowed, opened_with, MayFollow, IsLawful, or_false, ChildEnded}
+use Rattle.rx_event.proofs.Laws.Common.{not-true as not_false}
 use Rattle.rx_event.proofs.Laws.MarksAfter.{source_completed-push, ended_older, child_new, adds_child, is_fired-push}
 use Rattle.rx_event.proofs.Laws.MarksNew.{source_completed_is, fired_past}
 use Rattle.rx_event.proofs.Laws.MarksFound.{source_completed_true, is_child_parent}
-use Rattle.rx_event.proofs.Laws.Lawful.{shown_within, ended_after, due_open}
-use Rattle.rx_event.proofs.Laws.Searches.{or_false}
-use Rattle.rx_event.specs.declared.event.Place.TheVariants.{Root, Source, Inner, Notifier}
-use Rattle.rx_event.specs.declared.event.Event.{Event}
-use Rattle.rx_event.specs.declared.event.Event.TheVariants.{Open, Item, Decline, End, Close}
-use Rattle.rx_event.specs.Events.{is_mirroring, is_merging, is_until, is_source_of, is_inner_of, is_subscriber_of, pays}
-use Rattle.rx_event.specs.Tree.{at, parent, is_open, shuts}
-use Rattle.rx_event.specs.Moments.{is_fired, is_firing_of, stops_of}
-use Rattle.rx_event.specs.Forced.{mirrored, fired, failed, completed, cut, due, ChildEnded, SourceEnded, IsDue, IsForced, IsSettled}
+use Rattle.rx_event.proofs.Laws.Lawful.{shown_within, ended_after}
 use Rattle.rx_event.specs.Bases.{Completes}
-use Rattle.rx_event.specs.Lawful.{forced, allowed, opened_with, MayFollow, IsLawful}
 use Rattle.rx_event.proofs.Laws.Places.{slice_get-append, slice_get_last, at-append, cases_push}
 use Rattle.rx_event.proofs.Laws.Parents.{parent-append, parent-lt, parent_within, parent_name, ancestors_step}
-use Rattle.rx_event.proofs.Laws.Openness.{is_open_within, is_open_cut, is_cut}
+use Rattle.rx_event.proofs.Laws.Openness.{open_old, is_open_cut, is_cut}
 use Rattle.rx_event.proofs.Laws.Steps.{by_events, parent-named, forced_kind}
 use Rattle.rx_event.proofs.Laws.Stands.{event_at}
 use Rattle.rx_event.proofs.Laws.Waits.{settled_connected}
 use Rattle.rx_event.proofs.Laws.Projections.{owed-push}
 use Rattle.rx_event.proofs.Laws.MarksDue.{due_by_marks, due_at_due}
-use Rattle.rx_event.proofs.Laws.MarksEnds.{may_close_none, not_false}
+use Rattle.rx_event.proofs.Laws.MarksEnds.{may_close_none}
 use Rattle.rx_event.proofs.Laws.MarksInner.{switched_parent}
 
 -- how what the event makes due ends, if it makes anything due
@@ -58,9 +46,6 @@ pub data IsReason (h : List Event) (e : Event) (n : ℕ) (u : Terminal) : Type 0
   ends_so : ends_as e ≡ Some u → IsReason h e n u
   completes_one : completes e ≡ true → u ≡ Completed → IsReason h e n u
   fires_it : list_any (is_firing_of n) (stops_of h e) ≡ true → u ≡ Completed → IsReason h e n u
-
-pub open_old : (h : List Event) (e : Event) (n : ℕ) → n < length h → is_open (h ++ e ∷ []) n ≡ true → is_open h n ≡ true
-open_old h e n l o = (and_parts (is_open h n) (not (is_cut h e n)) (sym (is_open_cut h e n l) ∙ o)).0
 
 -- a child that ended had ended, or ends by this event
 pub child_ended_before : (base : Kept) → (h : List Event) (e : Event) → IsLawful base h → (n : ℕ) (u : Terminal) → ChildEnded (h ++ e ∷ []) n u →
@@ -134,9 +119,7 @@ child_shut {e = Open (Notifier f) kind} law next n k below shut silent opens = a
 child_shut law next n k below shut silent opens = absurd (false≢true shut)
 
 now_closed : (o c : Bool) → (o && not c) ≡ false → c ≡ false → o ≡ false
-now_closed false c gone whole = refl
-now_closed true false gone whole = gone
-now_closed true true gone whole = absurd (false≢true (sym whole))
+now_closed o c gone whole = grind arith
 
 pub source_parent : (base : Kept) → (h : List Event) → IsLawful base h → (n s : ℕ) → at (is_source_of n) h s ≡ true → parent h s ≡ Some n
 source_parent base h law n s source = by_event (slice_get h s) refl source where
@@ -294,9 +277,6 @@ end_alike {base} {h} e (forced f) before n t u d now = by_forced e f now where
   by_forced (Item leaf v) f same = absurd (false≢true (forced_kind base f))
   by_forced (Decline g) f same = absurd (false≢true (forced_kind base f))
   by_forced _ f same = absurd (none-some u same)
-
-nothing_due : (base : Kept) → (n : ℕ) (t : Terminal) → IsDue base [] (End n t) → ⊥
-nothing_due base n t d = let l = is_open_within [] n (due_open base d) in omega arith
 
 -- the ways in which two that are due now came to be so
 same_end : {base : Kept} → {h : List Event} {e : Event} → MayFollow base h e →

@@ -1,14 +1,7 @@
 -- The open nodes of one sort, in order, after one more event.
-use Rattle.std.proofs.Common.{◌≡◌, ℕ, zero, suc, ◌+◌, ◌<◌, Bool, true, false, List, [], ◌∷◌, ◌++◌, length, cond, refl, sym, ap, ◌∙◌, arith, filter}
-use Rattle.std.proofs.Math.Bool.{not, ◌&&◌}
-use Rattle.std.specs.List.{range_with_len}
-use Rattle.std.specs.Option.{option_map_or}
+use Rattle.rx_event.proofs.Laws.Common.{◌≡◌, ℕ, zero, suc, ◌+◌, ◌<◌, Bool, true, false, List, [], ◌∷◌, ◌++◌, length, cond, refl, sym, ap, ◌∙◌, arith, filter}
+use Rattle.rx_event.proofs.Laws.Common.{not, ◌&&◌, range_with_len, option_map_or, Kept, Event, makes_node, at, places, is_open, MayFollow}
 use Rattle.std.proofs.lemmas.List.Elements.{filter-append}
-use Rattle.rx_event.specs.Kept.{Kept}
-use Rattle.rx_event.specs.declared.event.Event.{Event}
-use Rattle.rx_event.specs.Events.{makes_node}
-use Rattle.rx_event.specs.Tree.{at, places, is_open}
-use Rattle.rx_event.specs.Lawful.{MayFollow}
 use Rattle.rx_event.proofs.Laws.Places.{slice_get_last, at-append}
 use Rattle.rx_event.proofs.Laws.Openness.{is_cut, is_open_cut}
 use Rattle.rx_event.proofs.Laws.Sums.{places-push}
@@ -26,7 +19,7 @@ filter_twice {X = X} p q (x ∷ xs) = by_test (q x) (filter_twice p q xs) where
   by_test false rest = rest
 
 -- two tests that agree at each number
-filter_below : (p q : ℕ → Bool) (s n : ℕ) → ((k : ℕ) → k < s + n → p k ≡ q k) → filter p (range_with_len s n) ≡ filter q (range_with_len s n)
+pub filter_below : (p q : ℕ → Bool) (s n : ℕ) → ((k : ℕ) → k < s + n → p k ≡ q k) → filter p (range_with_len s n) ≡ filter q (range_with_len s n)
 filter_below p q s zero same = refl
 filter_below p q s (suc n) same =
     let rest = filter_below p q (s + 1) n (λ k l. same k (omega arith)) in
@@ -46,9 +39,7 @@ open_of-push base sort h e next makes = ap (filter passes) (places-push h e) ∙
   passes n = at sort (h ++ e ∷ []) n && is_open (h ++ e ∷ []) n
 
   regrouped : (a b c : Bool) → (a && (b && c)) ≡ ((a && b) && (b && c))
-  regrouped true true c = refl
-  regrouped true false c = refl
-  regrouped false b c = refl
+  regrouped a b c = grind arith
 
   still : (n : ℕ) → n < 0 + length h → passes n ≡ ((at sort h n && is_open h n) && is_open (h ++ e ∷ []) n)
   still n l =
@@ -62,8 +53,7 @@ open_of-push base sort h e next makes = ap (filter passes) (places-push h e) ∙
       sym (filter_twice (is_open (h ++ e ∷ [])) (λ n. at sort h n && is_open h n) (places h))
 
   made : (a b : Bool) → (a ≡ true → b ≡ true) → (a && b) ≡ a
-  made true b yes_b = yes_b refl
-  made false b yes_b = refl
+  made a b yes_b = grind arith
 
   last : filter passes (length h ∷ []) ≡ cond (sort e) (length h ∷ []) []
   last = ap (λ b. cond b (length h ∷ []) [])

@@ -1,28 +1,20 @@
 -- Which nodes are open after one more event.
-use Rattle.std.proofs.Common.{◌≡◌, ℕ, zero, suc, ◌<◌, ◌≤◌, Bool, true, false, List, [], ◌∷◌, ◌++◌, length, drop, Option, Some}
-use Rattle.std.proofs.Common.{None, refl, sym, ap, ◌∙◌, arith, inl, inr, ◌⊎◌, nat_lt, length-append, append-nil, append_assoc}
-use Rattle.std.proofs.Math.Bool.{not, ◌&&◌, ◌||◌}
-use Rattle.std.specs.List.{list_any, list_all, AllByRecursion}
-use Rattle.std.specs.Option.{option_and_then, option_map_or}
-use Rattle.std.proofs.lemmas.Bool.{cases_Bool, cases_lt, cases_order, ltb-true, lt-ltb, le-ltb, and_parts, both_ways}
-use Rattle.std.proofs.lemmas.Option.{cond_some, option_and_then_some, slice_get_past}
+use Rattle.rx_event.proofs.Laws.Common.{◌≡◌, ℕ, zero, suc, ◌<◌, ◌≤◌, Bool, true, false, List, [], ◌∷◌, ◌++◌, length, drop, Option, Some, None, refl, sym, ap}
+use Rattle.rx_event.proofs.Laws.Common.{◌∙◌, arith, inl, inr, ◌⊎◌, nat_lt, length-append, append-nil, append_assoc, not, ◌&&◌, ◌||◌, list_any, AllByRecursion}
+use Rattle.rx_event.proofs.Laws.Common.{option_and_then, option_map_or, cases_Bool, cases_lt, cases_order, lt-ltb, and_parts, both_ways, slice_get_past}
+use Rattle.rx_event.proofs.Laws.Common.{Terminal, Kind, Inner, Event, Open, End, Close, makes_node, parent_named, is_switch, is_inner_of, at, parent, if_less}
+use Rattle.rx_event.proofs.Laws.Common.{ancestors, shuts, is_shut, is_open, is_within, and_false, and_true, or_false, and_not_or, and_same, list_all}
+use Rattle.rx_event.proofs.Laws.Common.{ltb-true, le-ltb, cond_some, list_any-append, is_switched_inner}
+use Rattle.std.proofs.lemmas.Option.{option_and_then_some}
 use Rattle.std.proofs.lemmas.List.{drop-append-le}
-use Rattle.std.proofs.lemmas.List.Folds.{list_any-append}
-use Rattle.rx_note.specs.declared.note.Terminal.{Terminal}
-use Rattle.rx_event.specs.declared.event.Kind.{Kind}
-use Rattle.rx_event.specs.declared.event.Place.TheVariants.{Inner}
-use Rattle.rx_event.specs.declared.event.Event.{Event}
-use Rattle.rx_event.specs.declared.event.Event.TheVariants.{Open, End, Close}
-use Rattle.rx_event.specs.Events.{makes_node, parent_named, is_switch, is_inner_of}
-use Rattle.rx_event.specs.Tree.{at, parent, if_less, ancestors, shuts, is_shut, is_open, is_standing, is_switched_inner, is_within}
-use Rattle.rx_event.proofs.Laws.Searches.{and_true, and_false}
+use Rattle.rx_event.specs.Tree.{is_standing}
 use Rattle.rx_event.proofs.Laws.Places.{slice_get_last, at-append}
 use Rattle.rx_event.proofs.Laws.Parents.{parent-lt, ancestors_step, ancestors-append, ancestors-le, option_map_or-same}
 
 -- openness ----------------------------------------------------------------------------------------
 
 -- two tests that agree at each element
-list_any-same : {X : Type 0} (p q : X → Bool) → ((x : X) → p x ≡ q x) → (xs : List X) → list_any p xs ≡ list_any q xs
+pub list_any-same : {X : Type 0} (p q : X → Bool) → ((x : X) → p x ≡ q x) → (xs : List X) → list_any p xs ≡ list_any q xs
 list_any-same p q same [] = refl
 list_any-same p q same (x ∷ xs) = rw (same x, list_any-same p q same xs) refl
 
@@ -44,10 +36,6 @@ is_shut-push h e n l =
       list_any-append (shuts h n) (drop (suc n) h) (e ∷ []),
     )
     (ap (λ b. list_any (shuts h n) (drop (suc n) h) || b) (or_false (shuts h n e)))
-  where
-    or_false : (b : Bool) → (b || false) ≡ b
-    or_false true = refl
-    or_false false = refl
 
 -- the new node is not shut
 pub is_shut_last : (h : List Event) (e : Event) → is_shut (h ++ e ∷ []) (length h) ≡ false
@@ -66,17 +54,10 @@ list_all-and : {X : Type 0} (p q : X → Bool) (xs : List X) → list_all (λ x.
 list_all-and p q [] = refl
 list_all-and p q (x ∷ xs) = rw (list_all-and p q xs) (swapped (p x) (q x) (list_all p xs) (list_all q xs)) where
   swapped : (a b c d : Bool) → ((a && b) && (c && d)) ≡ ((a && c) && (b && d))
-  swapped false b c d = refl
-  swapped true b false false = elim b as (λ v. (v && (false && false)) ≡ (false && (v && false))) [ true ↦ refl | false ↦ refl ]
-  swapped true b false true = elim b as (λ v. (v && (false && true)) ≡ (false && (v && true))) [ true ↦ refl | false ↦ refl ]
-  swapped true b true d = refl
+  swapped a b c d = grind arith
 
 standing-push : (h : List Event) (e : Event) (n : ℕ) → n < length h → is_standing (h ++ e ∷ []) n ≡ (is_standing h n && not (shuts h n e))
-standing-push h e n l = rw (at-append makes_node h (e ∷ []) n l, is_shut-push h e n l) (shape (at makes_node h n) (is_shut h n) (shuts h n e)) where
-  shape : (a b c : Bool) → (a && not (b || c)) ≡ ((a && not b) && not c)
-  shape false b c = refl
-  shape true true c = refl
-  shape true false c = refl
+standing-push h e n l = rw (at-append makes_node h (e ∷ []) n l, is_shut-push h e n l) (and_not_or (at makes_node h n) (is_shut h n) (shuts h n e))
 
 -- An older node is open if it was, and the new event shuts neither it nor a node above it.
 pub is_open-push : (h : List Event) (e : Event) (n : ℕ) → n < length h →
@@ -132,12 +113,14 @@ list_all-not : {X : Type 0} (p : X → Bool) (xs : List X) → list_all (λ x. n
 list_all-not p [] = refl
 list_all-not p (x ∷ xs) = rw (list_all-not p xs) (shape (p x) (list_any p xs)) where
   shape : (a b : Bool) → (not a && not b) ≡ not (a || b)
-  shape true b = refl
-  shape false b = refl
+  shape a b = grind arith
 
 -- an older node is open if it was, and the new event does not cut it. (Cut by the end or the closing of c is what is within c.)
 pub is_open_cut : (h : List Event) (e : Event) (n : ℕ) → n < length h → is_open (h ++ e ∷ []) n ≡ (is_open h n && not (is_cut h e n))
 is_open_cut h e n l = is_open-push h e n l ∙ ap (λ b. is_open h n && b) (list_all-not (λ a. shuts h a e) (ancestors h n))
+
+pub open_old : (h : List Event) (e : Event) (n : ℕ) → n < length h → is_open (h ++ e ∷ []) n ≡ true → is_open h n ≡ true
+open_old h e n l o = (and_parts (is_open h n) (not (is_cut h e n)) (sym (is_open_cut h e n l) ∙ o)).0
 
 -- an event that shuts no node cuts none
 pub is_cut_none : (h : List Event) (e : Event) (n : ℕ) → shuts_none e ≡ true → is_cut h e n ≡ false
@@ -160,10 +143,6 @@ is_open_last h e s =
     (option_map_or-same (is_open (h ++ e ∷ [])) (is_open h) (option_and_then (if_less (length h)) (parent_named e)) true
     (λ p o. is_open_kept h e p (less (parent_named e) p o) s)))
   where
-    and_same : (a b c : Bool) → b ≡ c → ((a && true) && b) ≡ (a && c)
-    and_same true b c e = e
-    and_same false b c e = refl
-
     less : (o : Option ℕ) (p : ℕ) → option_and_then (if_less (length h)) o ≡ Some p → p < length h
     less o p e =
         option_and_then_some (if_less (length h)) o p e (λ x a b. let w = cond_some (nat_lt x (length h)) x p b in rw (← w.1) (ltb-true x (length h) w.0))
@@ -210,8 +189,7 @@ is_cut_inner h f kind n l =
 pub is_cut_inner_flat : (h : List Event) (f : ℕ) (kind : Kind) → at is_switch h f ≡ false → (n : ℕ) → is_cut h (Open (Inner f) kind) n ≡ false
 is_cut_inner_flat h f kind flat n = none (ancestors h n) where
   no_switch : (b c : Bool) → ((b && false) && c) ≡ false
-  no_switch true c = refl
-  no_switch false c = refl
+  no_switch b c = grind arith
 
   none : (xs : List ℕ) → list_any (λ a. is_switched_inner h f a) xs ≡ false
   none [] = refl

@@ -1,14 +1,10 @@
 -- Parents and ancestors in a longer history.
-use Rattle.std.proofs.Common.{◌≡◌, ℕ, zero, suc, ◌<◌, ◌≤◌, true, false, List, [], ◌∷◌, ◌++◌, length, Option}
-use Rattle.std.proofs.Common.{Some, None, refl, sym, ap, ◌∙◌, arith, inl, inr, ◌⊎◌, nat_lt, ◌==◌, slice_get}
-use Rattle.std.specs.List.{AllByRecursion, list_any}
-use Rattle.std.specs.Option.{option_and_then, option_map_or}
-use Rattle.std.proofs.lemmas.Bool.{ltb-true, eqb-true, or_cases, or_right, false≢true}
-use Rattle.std.proofs.lemmas.Option.{cond_some, option_and_then_some, slice_get_within}
-use Rattle.rx_event.specs.declared.event.Event.{Event}
-use Rattle.rx_event.specs.declared.event.Event.TheVariants.{Open}
-use Rattle.rx_event.specs.Events.{parent_named, makes_node}
-use Rattle.rx_event.specs.Tree.{parent, if_less, ancestors, ancestors_within, is_within}
+use Rattle.rx_event.proofs.Laws.Common.{◌≡◌, ℕ, zero, suc, ◌<◌, ◌≤◌, true, List, [], ◌∷◌, ◌++◌, length, Option, Some, None, refl, sym, ap, ◌∙◌, arith}
+use Rattle.rx_event.proofs.Laws.Common.{inl, inr, ◌⊎◌, nat_lt, ◌==◌, slice_get, AllByRecursion, list_any, option_and_then, option_map_or, eqb-true, or_cases}
+use Rattle.rx_event.proofs.Laws.Common.{false≢true, slice_get_within, Event, parent_named, parent, if_less, ancestors, is_within, ltb-true}
+use Rattle.rx_event.proofs.Laws.Common.{or_right, cond_some}
+use Rattle.std.proofs.lemmas.Option.{option_and_then_some}
+use Rattle.rx_event.specs.Tree.{ancestors_within}
 use Rattle.rx_event.proofs.Laws.Places.{slice_get-append}
 
 -- parents have smaller numbers
@@ -24,8 +20,7 @@ parent-append h t n l = ap (λ o. option_and_then (if_less n) (option_and_then p
 
 -- one test for both
 pub option_map_or-same : {X Y : Type 0} (f g : X → Y) (o : Option X) (d : Y) → ((x : X) → o ≡ Some x → f x ≡ g x) → option_map_or f o d ≡ option_map_or g o d
-option_map_or-same f g None d same = refl
-option_map_or-same f g (Some x) d same = same x refl
+option_map_or-same f g o d same = grind arith
 
 no_parent_of_zero : (h : List Event) (o : Option ℕ) → parent h 0 ≡ o → o ≡ None
 no_parent_of_zero h None e = refl
@@ -94,10 +89,6 @@ unfolding parent
 parent_name h n p e below at_n =
     option_and_then_some (if_less n) (option_and_then parent_named (slice_get h n)) p below
     (λ x a b. sym (ap (option_and_then parent_named) at_n) ∙ a ∙ ap Some (cond_some (nat_lt x n) x p b).1)
-
-names_no_parent : (e : Event) → makes_node e ≡ false → parent_named e ≡ None
-names_no_parent (Open place kind) n = cc
-names_no_parent _ n = refl
 
 -- what n is within ---------------------------------------------------------------------------------
 

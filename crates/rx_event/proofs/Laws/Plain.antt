@@ -1,12 +1,6 @@
 -- What is no FlatMap or Switch owes nothing.
-use Rattle.std.proofs.Common.{◌≡◌, ℕ, ◌<◌, true, false, List, [], ◌∷◌, ◌++◌, length, sym, ap, ◌∙◌, arith, inl, inr, ◌⊎◌, length-append}
-use Rattle.std.proofs.lemmas.Bool.{cases_Bool, cases_order, both_ways}
-use Rattle.rx_event.specs.declared.event.Event.{Event}
-use Rattle.rx_event.specs.Kept.{Kept}
-use Rattle.rx_event.specs.Events.{is_merging}
-use Rattle.rx_event.specs.Tree.{at, is_open}
-use Rattle.rx_event.specs.Moments.{owed}
-use Rattle.rx_event.specs.Lawful.{MayFollow, IsLawful}
+use Rattle.rx_event.proofs.Laws.Common.{◌≡◌, ℕ, ◌<◌, true, false, List, [], ◌∷◌, ◌++◌, length, sym, ap, ◌∙◌, arith, inl, inr, ◌⊎◌, length-append, cases_Bool}
+use Rattle.rx_event.proofs.Laws.Common.{cases_order, both_ways, Event, Kept, is_merging, at, is_open, owed, MayFollow, IsLawful}
 use Rattle.rx_event.proofs.Laws.Places.{at-append}
 use Rattle.rx_event.proofs.Laws.Openness.{is_open_within, stays_closed}
 use Rattle.rx_event.proofs.Laws.Steps.{by_events}

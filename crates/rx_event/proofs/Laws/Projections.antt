@@ -1,25 +1,15 @@
 -- Projected items: where they go, and what each FlatMap and Switch owes after one more event.
-use Rattle.std.proofs.Common.{take, ◌≡◌, ℕ, zero, suc, ◌+◌, ◌-◌, ◌<◌, ◌≤◌, Bool, true, false, List, [], ◌∷◌, ◌++◌, length, Option}
-use Rattle.std.proofs.Common.{Some, None, cond, refl, sym, ap, ◌∙◌, arith, inl, inr, ◌⊎◌, ◌==◌, slice_get, length-append}
-use Rattle.std.proofs.Math.Bool.{◌&&◌}
-use Rattle.std.specs.List.{AllByRecursion, sum_by, count_by, filter_map}
-use Rattle.std.specs.Option.{option_and_then, option_map_or, option_to_list}
-use Rattle.std.proofs.lemmas.Bool.{cases_Bool, both_ways, false≢true, and_parts, eqb-true}
-use Rattle.std.proofs.lemmas.List.Sums.{sum_by_push, sum_by-cons}
-use Rattle.std.proofs.lemmas.Option.{slice_get_past, slice_get_within}
+use Rattle.rx_event.proofs.Laws.Common.{take, ◌≡◌, ℕ, zero, suc, ◌+◌, ◌-◌, ◌<◌, ◌≤◌, Bool, true, false, List, [], ◌∷◌, ◌++◌, length, Option, Some, None, cond}
+use Rattle.rx_event.proofs.Laws.Common.{refl, sym, ap, ◌∙◌, arith, inl, inr, ◌⊎◌, ◌==◌, slice_get, length-append, ◌&&◌, AllByRecursion, sum_by, count_by}
+use Rattle.rx_event.proofs.Laws.Common.{filter_map, option_and_then, option_map_or, cases_Bool, both_ways, false≢true, and_parts, eqb-true, sum_by_push}
+use Rattle.rx_event.proofs.Laws.Common.{sum_by-cons, slice_get_past, slice_get_within, Kept, node_kept, shown, Root, Source, Inner, Notifier, Kind, Event}
+use Rattle.rx_event.proofs.Laws.Common.{Open, Connect, Item, Decline, is_merging, is_until, pays, at, places, parent, is_open, Stop, Delivery, Projection}
+use Rattle.rx_event.proofs.Laws.Common.{Firing, climb, stops, most_visits, moments, projections, owed, is_projection_to, stops_of, MayFollow, IsLawful}
+use Rattle.rx_event.proofs.Laws.Common.{StopsAtOpen, zero_or_zero, option_to_list}
 use Rattle.rx_event.specs.declared.base.BaseNode.{BaseNode}
-use Rattle.rx_event.specs.Kept.{Kept, node_kept, shown}
-use Rattle.rx_event.specs.declared.event.Place.TheVariants.{Root, Source, Inner, Notifier}
-use Rattle.rx_event.specs.declared.event.Kind.{Kind}
-use Rattle.rx_event.specs.declared.event.Event.{Event}
-use Rattle.rx_event.specs.declared.event.Event.TheVariants.{Open, Connect, Item, Decline}
-use Rattle.rx_event.specs.Events.{is_merging, is_until, pays}
-use Rattle.rx_event.specs.Tree.{at, places, parent, is_open}
-use Rattle.rx_event.specs.Climb.{Stop, Delivery, Projection, Firing, stop_made, stop_at, onward_from, onward, onward_unless, visited, climb, stops, most_visits}
-use Rattle.rx_event.specs.Moments.{projected_by, moments, projections, owed, is_projection, is_projection_to, stops_of}
-use Rattle.rx_event.specs.Lawful.{MayFollow, IsLawful}
+use Rattle.rx_event.specs.Climb.{stop_made, stop_at, onward_from, onward, onward_unless, visited}
+use Rattle.rx_event.specs.Moments.{projected_by, is_projection}
 use Rattle.rx_event.proofs.Laws.Openness.{is_open_within, parent_open}
-use Rattle.rx_event.specs.Claims.Climbs.{StopsAtOpen}
 use Rattle.rx_event.proofs.Laws.Places.{at-take}
 use Rattle.rx_event.proofs.Laws.Lawful.{in_base, since_base, FoundAt, found_at, shown_within}
 use Rattle.rx_event.proofs.Laws.Lists.{AllByRecursion-both, filtered}
@@ -213,10 +203,6 @@ pub stops_open : (base : Kept) → (h : List Event) (l : ℕ) → IsLawful base 
 unfolding stops
 stops_open base h l law o = stops_well base h law (climb h l) (climb_open h l o)
 
-zero_or_zero : (b : Bool) → cond {A = ℕ} b 0 0 ≡ 0
-zero_or_zero true = refl
-zero_or_zero false = refl
-
 -- what stops project to n, where it is an open FlatMap or Switch
 abbrev pub projected_open : List Event → List Stop → ℕ → ℕ
 projected_open h ss n = cond (is_open h n && at is_merging h n) (count_by (is_projection_to n) ss) 0
@@ -237,8 +223,7 @@ projected_count h (s ∷ ss) well =
     omega arith
   where
     shape : (b : Bool) (x y z : ℕ) → x ≡ y + z → cond b x 0 ≡ cond b y 0 + cond b z 0
-    shape true x y z same = same
-    shape false x y z same = refl
+    shape b x y z same = grind arith
 
     to_one : (f n : ℕ) → (is_open h f ≡ true) × (at is_merging h f ≡ true) → (b : Bool) → (f == n) ≡ b →
         cond (is_open h n && at is_merging h n) (cond b 1 0) 0 ≡ cond {A = ℕ} b 1 0

@@ -1,29 +1,12 @@
 -- Two histories that are the same but for their numbers stay so when each goes on by one event, whatever it is.
-use Rattle.std.proofs.Common.{◌≡◌, ℕ, ◌+◌, ◌<◌, true, List, [], ◌∷◌, ◌++◌, length, Some, None, cond}
-use Rattle.std.proofs.Common.{slice_get, map, refl, sym, ap, subst, ◌∙◌, inl, inr, ◌⊎◌, ◌==◌, arith}
-use Rattle.std.proofs.Math.Bool.{◌&&◌, ◌||◌}
-use Rattle.std.specs.List.{list_any, AllByRecursion, count_by}
-use Rattle.std.specs.Option.{option_or}
+use Rattle.rx_event.proofs.Laws.Common.{◌≡◌, ℕ, ◌+◌, ◌<◌, true, List, [], ◌∷◌, ◌++◌, length, Some, None, cond, slice_get, map, refl, sym, ap, subst, ◌∙◌, inl}
+use Rattle.rx_event.proofs.Laws.Common.{inr, ◌⊎◌, ◌==◌, arith, ◌&&◌, ◌||◌, list_any, AllByRecursion, count_by, option_or, false≢true, both_ways, eq-eqb}
+use Rattle.rx_event.proofs.Laws.Common.{eqb-true, sum_by-cons, slice_get_within, Terminal, Completed, Kept, Source, Inner, Notifier, Event, Open, Connect}
+use Rattle.rx_event.proofs.Laws.Common.{Item, Decline, End, makes_node, is_merging, is_source_of, is_subscriber_of, pays, at, is_open, Stop, Delivery}
+use Rattle.rx_event.proofs.Laws.Common.{Projection, Firing, stops, source_opened, is_projection_to, is_firing_of, stops_of, is_fired, owed, SourceEnded}
+use Rattle.rx_event.proofs.Laws.Common.{marks_of, completes_source, source_completed, passes_on, child_terminal, MayFollow, IsLawful, StopsAtOpen, event_by}
+use Rattle.rx_event.proofs.Laws.Common.{is_named, AreRead, is_notifier_of, notifier_opened, ends_by, IsRead}
 use Rattle.std.specs.Cmp.{both_ways as same_test}
-use Rattle.std.proofs.lemmas.Bool.{false≢true, both_ways, eq-eqb, eqb-true}
-use Rattle.std.proofs.lemmas.List.Sums.{sum_by-cons}
-use Rattle.std.proofs.lemmas.Option.{slice_get_within}
-use Rattle.rx_note.specs.declared.note.Terminal.{Terminal}
-use Rattle.rx_note.specs.declared.note.Terminal.TheVariants.{Completed}
-use Rattle.rx_event.specs.Kept.{Kept}
-use Rattle.rx_event.specs.declared.event.Place.TheVariants.{Source, Inner, Notifier}
-use Rattle.rx_event.specs.declared.event.Event.{Event}
-use Rattle.rx_event.specs.declared.event.Event.TheVariants.{Open, Connect, Item, Decline, End}
-use Rattle.rx_event.specs.Events.{makes_node, is_merging, is_source_of, is_notifier_of, is_subscriber_of, pays}
-use Rattle.rx_event.specs.Tree.{at, is_open}
-use Rattle.rx_event.specs.Climb.{Stop, Delivery, Projection, Firing, stops}
-use Rattle.rx_event.specs.Opened.{source_opened, notifier_opened}
-use Rattle.rx_event.specs.Moments.{is_projection_to, is_firing_of, stops_of, is_fired, owed}
-use Rattle.rx_event.specs.Forced.{SourceEnded}
-use Rattle.rx_event.specs.Marks.{marks_of, completes_source, source_completed, passes_on, ends_by, child_terminal}
-use Rattle.rx_event.specs.Lawful.{MayFollow, IsLawful}
-use Rattle.rx_event.specs.Claims.Climbs.{StopsAtOpen}
-use Rattle.rx_event.specs.Renumbered.{event_by, is_named, IsRead, AreRead}
 use Rattle.rx_event.proofs.Laws.Places.{slice_get-append, slice_get_last, at-append, cases_push}
 use Rattle.rx_event.proofs.Laws.Openness.{is_open_within}
 use Rattle.rx_event.proofs.Laws.Lawful.{IsLawful-push, may_end, ended_after}

@@ -1,31 +1,15 @@
 -- What callers may do in a history they may do in one that is the same but for its numbers, or over another base.
-use Rattle.std.proofs.Common.{◌≡◌, ℕ, suc, ◌+◌, ◌<◌, ◌≤◌, Bool, true, false, List, [], ◌∷◌, ◌++◌, length, Option, Some, None, map}
-use Rattle.std.proofs.Common.{slice_get, refl, sym, ap, subst, ◌∙◌, arith}
-use Rattle.std.proofs.Math.Bool.{not}
-use Rattle.std.specs.Option.{option_map_or}
-use Rattle.std.proofs.lemmas.Bool.{false≢true, both_ways, and_from, false_from_ne_true}
-use Rattle.std.proofs.lemmas.List.{length-map}
-use Rattle.std.proofs.lemmas.Option.{same_Some, none-some}
-use Rattle.rx_note.specs.declared.note.Terminal.{Terminal}
-use Rattle.rx_event.specs.Kept.{Kept}
-use Rattle.rx_event.specs.declared.event.Place.{Place}
-use Rattle.rx_event.specs.declared.event.Place.TheVariants.{Root, Source, Inner, Notifier}
-use Rattle.rx_event.specs.declared.event.Kind.{Kind}
-use Rattle.rx_event.specs.declared.event.Kind.TheVariants.{Leaf, Sub}
-use Rattle.rx_event.specs.declared.event.Mode.TheVariants.{Manual}
-use Rattle.rx_event.specs.declared.event.Event.{Event}
-use Rattle.rx_event.specs.declared.event.Event.TheVariants.{Open, Hub, Connect, Accept}
-use Rattle.rx_event.specs.declared.marks.Marks.{Marks}
-use Rattle.rx_event.specs.Events.{makes_hub, makes_resource, has_source, is_leaf, is_merging, is_until, is_root, is_manual_hub}
-use Rattle.rx_event.specs.Tree.{at, hubs, parent, is_open, is_within, open_nodes}
-use Rattle.rx_event.specs.Resources.{is_owned, is_out, is_held, is_waiting}
-use Rattle.rx_event.specs.Moments.{owed}
-use Rattle.rx_event.specs.Opened.{source_opened, notifier_opened}
-use Rattle.rx_event.specs.Forced.{SourceEnded, IsConnectDue}
-use Rattle.rx_event.specs.Allowed.{IsFree, IsInOrderAt, IsInOrder, IsHubbed, may_abort, most_nodes, opened, published, connected, accepted, used, removed, leased}
-use Rattle.rx_event.specs.Allowed.{returned, emitted, declined, leaf_ended, aborted, projection_failed, root_closed, disconnected, taken, IsAllowed}
-use Rattle.rx_event.specs.Lawful.{IsLawful}
-use Rattle.rx_event.specs.Renumbered.{place_by, kind_by, event_by, is_named, AreSameBy}
+use Rattle.rx_event.proofs.Laws.Common.{◌≡◌, ℕ, suc, ◌+◌, ◌<◌, ◌≤◌, Bool, true, false, List, [], ◌∷◌, ◌++◌, length, Option, Some, map, slice_get, refl, sym}
+use Rattle.rx_event.proofs.Laws.Common.{ap, subst, ◌∙◌, arith, not, option_map_or, both_ways, and_from, false_from_ne_true, same_Some, none-some, Terminal}
+use Rattle.rx_event.proofs.Laws.Common.{Kept, Place, Root, Source, Inner, Notifier, Kind, Sub, Manual, Event, Open, Connect, Accept, makes_hub}
+use Rattle.rx_event.proofs.Laws.Common.{makes_resource, has_source, is_merging, is_until, is_root, is_manual_hub, at, parent, is_open, is_within, open_nodes}
+use Rattle.rx_event.proofs.Laws.Common.{is_owned, is_out, is_held, is_waiting, owed, source_opened, SourceEnded, IsConnectDue, IsInOrderAt, IsAllowed}
+use Rattle.rx_event.proofs.Laws.Common.{IsLawful, event_by, is_named, length-map, Marks, notifier_opened, IsInOrder, IsHubbed, connected, place_by, AreSameBy}
+use Rattle.rx_event.specs.Events.{is_leaf}
+use Rattle.rx_event.specs.Tree.{hubs}
+use Rattle.rx_event.specs.Allowed.{IsFree, may_abort, most_nodes, opened, published, accepted, used, removed, leased, returned, emitted, declined, leaf_ended}
+use Rattle.rx_event.specs.Allowed.{aborted, projection_failed, root_closed, disconnected, taken}
+use Rattle.rx_event.specs.Renumbered.{kind_by}
 use Rattle.rx_event.proofs.Laws.Places.{at_within}
 use Rattle.rx_event.proofs.Laws.Leases.{owned_resource, out_lease}
 use Rattle.rx_event.proofs.Laws.Resources.{held_resource, waiting_parts}
@@ -38,24 +22,21 @@ use Rattle.rx_event.proofs.Laws.ReadMade.{with_number, number_new, number_old, n
 use Rattle.rx_event.proofs.Laws.ReadDue.{trees_of, unconnected_by, connect_due_by}
 use Rattle.rx_event.proofs.Laws.ReadAfter.{ended_on, trees_on}
 use Rattle.rx_event.proofs.Laws.ReadShown.{made_at, resource_made, root_by}
+use Rattle.rx_event.proofs.Laws.Closings.{manual_hub}
 
 -- tests that see no number -----------------------------------------------------------------------------------------------------------
 
 pub leaf_by : (r : ℕ → ℕ) (e : Event) → is_leaf (event_by r e) ≡ is_leaf e
-leaf_by r (Open place Leaf) = refl
-leaf_by r _ = refl
+leaf_by r e = grind arith
 
 pub sourced_by : (r : ℕ → ℕ) (e : Event) → has_source (event_by r e) ≡ has_source e
-sourced_by r (Open place Leaf) = refl
-sourced_by r _ = refl
+sourced_by r e = grind arith
 
 pub abort_by : (r : ℕ → ℕ) (e : Event) → may_abort (event_by r e) ≡ may_abort e
-abort_by r (Open place Leaf) = refl
-abort_by r _ = refl
+abort_by r e = grind arith
 
 pub until_by : (r : ℕ → ℕ) (e : Event) → is_until (event_by r e) ≡ is_until e
-until_by r (Open place Leaf) = refl
-until_by r _ = refl
+until_by r e = grind arith
 
 -- what callers may do rests on this ----------------------------------------------------------------------------------------------------
 
@@ -71,13 +52,6 @@ pub record MayAlike (b d : Kept) (r s : ℕ → ℕ) (h c : List Event) : Type 0
   pub held : (q : ℕ) → is_held h q ≡ true → is_held c (r q) ≡ true
   pub out : (l : ℕ) → is_out h l ≡ true → is_out c (r l) ≡ true
   pub waiting : (q : ℕ) → is_waiting h q ≡ true → is_waiting c (r q) ≡ true
-
-manual_made : (h : List Event) (g : ℕ) → at is_manual_hub h g ≡ true → slice_get h g ≡ Some (Hub Manual)
-manual_made h g = by_event (slice_get h g) where
-  by_event : (o : Option Event) → option_map_or is_manual_hub o false ≡ true → o ≡ Some (Hub Manual)
-  by_event None manual = absurd (false≢true manual)
-  by_event (Some (Hub Manual)) manual = refl
-  by_event (Some _) manual = absurd (false≢true manual)
 
 module _ (b d : Kept) (r s : ℕ → ℕ) (h c : List Event) (m : MayAlike b d r s h c) where
   alive : (n : ℕ) → is_open h n ≡ true → is_open c (r n) ≡ true
@@ -104,7 +78,7 @@ module _ (b d : Kept) (r s : ℕ → ℕ) (h c : List Event) (m : MayAlike b d r
       (ap (λ (x : Option Event). option_map_or makes_hub x false) (m.trees.back.hub k w.0 w.1), m.trees.back.hub_undone k w.0 w.1)
 
   manual_there : (g : ℕ) → at is_manual_hub h g ≡ true → at is_manual_hub c (r g) ≡ true
-  manual_there g manual = ap (λ (x : Option Event). option_map_or is_manual_hub x false) (m.trees.there.hub g Manual (manual_made h g manual))
+  manual_there g manual = ap (λ (x : Option Event). option_map_or is_manual_hub x false) (m.trees.there.hub g Manual (manual_hub h g manual))
 
   -- no item goes round in a circle
   pub in_order_by : (g p : ℕ) → at makes_hub h g ≡ true → is_open h p ≡ true → IsInOrderAt h g p → IsInOrderAt c (r g) (r p)
@@ -221,7 +195,7 @@ allowed_by {b} {d} {r} {s} {h} {c} m law other_law ended may = by_case may where
   by_case (published room) = published (let same = m.hub_total in omega arith)
   by_case (connected {g = g} manual none room) =
       connected (manual_there b d r s h c m g manual)
-      (unconnected_by r s h c m.trees g (m.trees.there.hub_undone g Manual (manual_made h g manual)) none)
+      (unconnected_by r s h c m.trees g (m.trees.there.hub_undone g Manual (manual_hub h g manual)) none)
       (let same = open_total b d r s h c m in omega arith)
   by_case (accepted {n = n} o) = accepted (alive b d r s h c m n o)
   by_case (used {r = q} held) = used (m.held q held)
@@ -245,8 +219,7 @@ allowed_by {b} {d} {r} {s} {h} {c} m law other_law ended may = by_case may where
 -- so with other numbers ------------------------------------------------------------------------------------------------------------------------
 
 hub_named : (e : Event) → makes_hub e ≡ true → is_named e ≡ true
-hub_named (Hub mode) made = refl
-hub_named _ made = absurd (false≢true made)
+hub_named e made = grind arith
 
 pub hubs_read : (base : Kept) → (r s : ℕ → ℕ) (h c : List Event) → AreSameBy base r s h c → hubs c ≡ map r (hubs h)
 hubs_read base r s h c a = same_list r s (at makes_hub h) (at makes_hub c) (length h) (length c) (record {

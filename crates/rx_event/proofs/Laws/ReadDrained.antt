@@ -1,27 +1,12 @@
 -- Taking all that waits, in whatever order, leaves two histories the same that were the same but for their numbers.
-use Rattle.std.proofs.Common.{◌≡◌, ℕ, ◌+◌, ◌<◌, Bool, true, false, List, [], ◌∷◌, ◌++◌, length, Option, Some, cond}
-use Rattle.std.proofs.Common.{map, slice_get, refl, sym, ap, ◌∙◌, inl, inr, ◌⊎◌, arith, append-nil, ◌-◌}
-use Rattle.std.proofs.Math.Bool.{not, ◌&&◌}
-use Rattle.std.specs.List.{count_by}
-use Rattle.std.specs.Option.{option_map_or}
-use Rattle.std.proofs.lemmas.Bool.{false≢true, both_ways, false_from_ne_true}
-use Rattle.std.proofs.lemmas.List.{length-map}
-use Rattle.std.proofs.lemmas.List.Sums.{sum_by_push, length-filter}
-use Rattle.std.proofs.lemmas.Option.{slice_get_within, none-some}
-use Rattle.rx_note.specs.declared.note.Terminal.{Terminal}
-use Rattle.rx_event.specs.Kept.{Kept, shown}
-use Rattle.rx_event.specs.declared.event.Mode.{Mode}
-use Rattle.rx_event.specs.declared.event.Event.{Event}
-use Rattle.rx_event.specs.declared.event.Event.TheVariants.{Hub, Accept, Lease, Take}
-use Rattle.rx_event.specs.Events.{makes_node, makes_resource, makes_lease}
-use Rattle.rx_event.specs.Tree.{at, places, is_open}
-use Rattle.rx_event.specs.Resources.{is_owned, is_out, leases_of, is_held, is_taken, is_waiting, uses, held_resources, waiting_resources}
-use Rattle.rx_event.specs.Totals.{accepted_count, taken_count, held_count, waiting_count}
-use Rattle.rx_event.specs.Notes.{notes_to}
-use Rattle.rx_event.specs.Forced.{SourceEnded}
-use Rattle.rx_event.specs.Lawful.{MayFollow, IsLawful}
-use Rattle.rx_event.specs.Renumbered.{event_by, is_named, IsRead, AreRenumbered, IsShown, AreSameBy}
-use Rattle.rx_event.proofs.Laws.Searches.{and_true}
+use Rattle.rx_event.proofs.Laws.Common.{◌≡◌, ℕ, ◌+◌, ◌<◌, Bool, true, false, List, [], ◌∷◌, ◌++◌, length, Option, Some, cond, map, slice_get, refl, sym, ap}
+use Rattle.rx_event.proofs.Laws.Common.{◌∙◌, inl, inr, ◌⊎◌, arith, append-nil, ◌-◌, not, ◌&&◌, count_by, option_map_or, false≢true, both_ways}
+use Rattle.rx_event.proofs.Laws.Common.{false_from_ne_true, sum_by_push, slice_get_within, none-some, Terminal, Kept, shown, Mode, Event, Hub, Accept, Lease}
+use Rattle.rx_event.proofs.Laws.Common.{Take, makes_node, makes_resource, makes_lease, at, places, is_open, is_owned, is_out, leases_of, is_held, is_taken}
+use Rattle.rx_event.proofs.Laws.Common.{is_waiting, uses, waiting_resources, SourceEnded, MayFollow, IsLawful, event_by, is_named, and_true, length-map}
+use Rattle.rx_event.proofs.Laws.Common.{length-filter, held_resources, accepted_count, taken_count, held_count, waiting_count, notes_to, IsRead}
+use Rattle.rx_event.proofs.Laws.Common.{AreRenumbered, AreSameBy}
+use Rattle.rx_event.specs.Renumbered.{IsShown}
 use Rattle.rx_event.proofs.Laws.Lists.{filter_nonempty}
 use Rattle.rx_event.proofs.Laws.Places.{slice_get-append, at_within, cases_push}
 use Rattle.rx_event.proofs.Laws.Openness.{is_open_within, is_open_unchanged}

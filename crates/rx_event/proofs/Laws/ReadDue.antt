@@ -1,23 +1,10 @@
 -- What is due in a history is due in one that is the same but for its numbers.
-use Rattle.std.proofs.Common.{◌≡◌, ℕ, Bool, true, false, List, [], Option, Some, None, option_map, map, slice_get, refl, sym, ap, subst, ◌∙◌}
-use Rattle.std.specs.Option.{option_map_or}
-use Rattle.std.proofs.lemmas.Bool.{false≢true}
-use Rattle.std.proofs.lemmas.Option.{same_Some, none-some}
-use Rattle.rx_note.specs.declared.note.Terminal.{Terminal}
-use Rattle.rx_note.specs.declared.note.Terminal.TheVariants.{Completed, Error}
-use Rattle.rx_event.specs.Kept.{Kept}
-use Rattle.rx_event.specs.declared.event.Place.{Place}
-use Rattle.rx_event.specs.declared.event.Kind.TheVariants.{Leaf, Sub}
-use Rattle.rx_event.specs.declared.event.Mode.TheVariants.{Auto}
-use Rattle.rx_event.specs.declared.event.Event.{Event}
-use Rattle.rx_event.specs.declared.event.Event.TheVariants.{Open, Hub, Connect, End}
-use Rattle.rx_event.specs.declared.marks.Marks.{Marks}
-use Rattle.rx_event.specs.Events.{is_mirroring, is_merging, is_until, is_auto_hub, is_subscriber_of}
-use Rattle.rx_event.specs.Tree.{at, is_open, open_subscribers, open_connections}
-use Rattle.rx_event.specs.Forced.{mirrored, fired, failed, completed, cut, left, connecting, due, SourceEnded}
-use Rattle.rx_event.specs.Forced.{IsDue, IsForced, IsConnectDue, IsConnected, IsSettled}
-use Rattle.rx_event.specs.Marks.{marks_of, terminal_due}
-use Rattle.rx_event.specs.Renumbered.{event_by, IsRead, AreRead, AreRenumbered}
+use Rattle.rx_event.proofs.Laws.Common.{arith, ◌≡◌, ℕ, Bool, true, false, List, [], Option, Some, None, map, slice_get, refl, sym, ap, subst, ◌∙◌}
+use Rattle.rx_event.proofs.Laws.Common.{option_map_or, false≢true, same_Some, none-some, Terminal, Completed, Error, Kept, Place, Sub, Auto, Event, Open, Hub}
+use Rattle.rx_event.proofs.Laws.Common.{Connect, End, is_mirroring, is_merging, is_until, is_auto_hub, is_subscriber_of, at, is_open, open_subscribers}
+use Rattle.rx_event.proofs.Laws.Common.{open_connections, mirrored, fired, failed, completed, cut, left, connecting, due, SourceEnded, IsDue, IsForced}
+use Rattle.rx_event.proofs.Laws.Common.{IsConnectDue, IsConnected, IsSettled, marks_of, event_by, AreRead, option_map, Marks, terminal_due, IsRead}
+use Rattle.rx_event.proofs.Laws.Common.{AreRenumbered}
 use Rattle.rx_event.proofs.Laws.Openness.{is_open_within}
 use Rattle.rx_event.proofs.Laws.Lawful.{due_open}
 use Rattle.rx_event.proofs.Laws.Steps.{named_below}
@@ -29,8 +16,7 @@ use Rattle.rx_event.proofs.Laws.OneEnd.{due_by_marks_alone}
 
 -- what is due by the same marks is the same
 terminal_due_by : (r : ℕ → ℕ) (e : Event) (m : Marks) → terminal_due (event_by r e) m ≡ terminal_due e m
-terminal_due_by r (Open place Leaf) m = refl
-terminal_due_by r _ m = refl
+terminal_due_by r e m = grind arith
 
 -- no node of another sort is a subscriber
 subscribes_only : (q : Event → Bool) → ((place : Place) (g : ℕ) → q (Open place (Sub g)) ≡ false) → (h : List Event) (n g : ℕ) → at q h n ≡ true →
@@ -48,9 +34,7 @@ ended_by n (Some u) t same = ap Some (same_end (same_Some (End n u) (End n t) sa
 pub auto_hub : (h : List Event) (g : ℕ) → at is_auto_hub h g ≡ true → slice_get h g ≡ Some (Hub Auto)
 auto_hub h g = by_event (slice_get h g) where
   by_event : (o : Option Event) → option_map_or is_auto_hub o false ≡ true → o ≡ Some (Hub Auto)
-  by_event None auto = absurd (false≢true auto)
-  by_event (Some (Hub Auto)) auto = refl
-  by_event (Some _) auto = absurd (false≢true auto)
+  by_event o auto = grind arith
 
 -- as trees ----------------------------------------------------------------------------------------------------
 

@@ -1,19 +1,8 @@
 -- One number more, and which numbers an event names.
-use Rattle.std.proofs.Common.{◌≡◌, ℕ, ◌<◌, true, List, length, take, Some, cond, slice_get, refl, ap, ◌==◌, arith, subst}
-use Rattle.std.proofs.lemmas.List.{length-take-le}
-use Rattle.std.proofs.lemmas.Bool.{false≢true, eq-eqb, ne_eqb}
-use Rattle.std.proofs.lemmas.Option.{slice_get_within}
-use Rattle.rx_event.specs.Kept.{Kept, shown}
-use Rattle.rx_event.specs.declared.event.Place.{Place}
-use Rattle.rx_event.specs.declared.event.Place.TheVariants.{Root, Source, Inner, Notifier}
-use Rattle.rx_event.specs.declared.event.Kind.{Kind}
-use Rattle.rx_event.specs.declared.event.Kind.TheVariants.{Sub}
-use Rattle.rx_event.specs.declared.event.Event.{Event}
-use Rattle.rx_event.specs.declared.event.Event.TheVariants.{Open, Connect}
-use Rattle.rx_event.specs.Events.{makes_node, makes_hub}
-use Rattle.rx_event.specs.Tree.{at, is_open}
-use Rattle.rx_event.specs.Lawful.{Started, MayFollow, IsLawful}
-use Rattle.rx_event.specs.Renumbered.{place_by, kind_by, event_by}
+use Rattle.rx_event.proofs.Laws.Common.{◌≡◌, ℕ, ◌<◌, true, List, length, take, Some, cond, slice_get, refl, ap, ◌==◌, arith, subst, length-take-le}
+use Rattle.rx_event.proofs.Laws.Common.{false≢true, eq-eqb, ne_eqb, slice_get_within, Kept, shown, Place, Root, Source, Inner, Notifier, Kind, Sub, Event}
+use Rattle.rx_event.proofs.Laws.Common.{Open, Connect, makes_node, makes_hub, at, is_open, Started, MayFollow, IsLawful, event_by, place_by}
+use Rattle.rx_event.specs.Renumbered.{kind_by}
 use Rattle.rx_event.proofs.Laws.Places.{at_within}
 use Rattle.rx_event.proofs.Laws.Openness.{is_open_within}
 use Rattle.rx_event.proofs.Laws.Lawful.{in_base, since_base, FoundAt, found_at}

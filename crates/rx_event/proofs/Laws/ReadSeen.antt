@@ -1,28 +1,20 @@
 -- What callers see of histories that are the same but for their numbers.
-use Rattle.std.proofs.Common.{◌≡◌, ℕ, Bool, true, false, List, length, Option, Some, slice_get, refl, sym, ap, subst, ◌∙◌}
-use Rattle.std.proofs.Math.Bool.{not, ◌&&◌}
-use Rattle.std.specs.Option.{option_map_or}
+use Rattle.rx_event.proofs.Laws.Common.{◌≡◌, ℕ, Bool, true, false, List, length, Option, Some, slice_get, refl, sym, ap, subst, ◌∙◌, not, ◌&&◌, option_map_or}
+use Rattle.rx_event.proofs.Laws.Common.{and_parts, and_from, Kept, Mode, Event, Hub, Accept, makes_node, makes_hub, makes_resource, has_source, is_merging}
+use Rattle.rx_event.proofs.Laws.Common.{is_until, is_root, is_auto_hub, is_manual_hub, at, places, parent, is_open, open_nodes, is_open_child_of, is_waiting}
+use Rattle.rx_event.proofs.Laws.Common.{is_child_of, IsInOrderAt, is_named, length-map, length-filter, AreSameBy}
 use Rattle.std.specs.Cmp.{both_ways as same_test}
-use Rattle.std.proofs.lemmas.Bool.{and_parts, and_from}
-use Rattle.std.proofs.lemmas.List.{length-map}
-use Rattle.std.proofs.lemmas.List.Sums.{length-filter}
-use Rattle.rx_event.specs.Kept.{Kept}
-use Rattle.rx_event.specs.declared.event.Mode.{Mode}
-use Rattle.rx_event.specs.declared.event.Event.{Event}
-use Rattle.rx_event.specs.declared.event.Event.TheVariants.{Hub, Accept}
-use Rattle.rx_event.specs.Events.{makes_node, makes_hub, makes_resource, has_source, is_leaf, is_merging, is_until, is_root, is_auto_hub, is_manual_hub}
-use Rattle.rx_event.specs.Tree.{at, places, parent, is_open, open_nodes, is_open_child_of, has_open_child}
-use Rattle.rx_event.specs.Resources.{is_waiting}
-use Rattle.rx_event.specs.Marks.{is_child_of}
-use Rattle.rx_event.specs.Allowed.{may_abort, IsInOrderAt}
-use Rattle.rx_event.specs.Renumbered.{is_named, AreSameBy}
+use Rattle.rx_event.specs.Events.{is_leaf}
+use Rattle.rx_event.specs.Tree.{has_open_child}
+use Rattle.rx_event.specs.Allowed.{may_abort}
 use Rattle.rx_event.specs.Claims.Seen.{CallersSeeTheSame}
 use Rattle.rx_event.proofs.Laws.Openness.{is_open_within}
 use Rattle.rx_event.proofs.Laws.Searches.{list_any_found, list_any_holds}
 use Rattle.rx_event.proofs.Laws.MarksFound.{is_child_parent, parent_is_child}
 use Rattle.rx_event.proofs.Laws.InOrder.{place_get}
 use Rattle.rx_event.proofs.Laws.ReadDue.{trees_of, renumbered_back}
-use Rattle.rx_event.proofs.Laws.TreeRead.{opens_by, AreTreesRead, same_at, merging_by, hub_made, parent_there, visits_by, subscribers_by, connections_by, node_named}
+use Rattle.rx_event.proofs.Laws.TreeRead.{opens_by, AreTreesRead, same_at, merging_by, hub_made, parent_there, visits_by, subscribers_by, connections_by}
+use Rattle.rx_event.proofs.Laws.TreeRead.{node_named}
 use Rattle.rx_event.proofs.Laws.ReadShown.{made_at, resource_made, root_by}
 use Rattle.rx_event.proofs.Laws.ReadAllowed.{leaf_by, sourced_by, abort_by, until_by, hubs_read, same_may, hub_there, in_order_by}
 

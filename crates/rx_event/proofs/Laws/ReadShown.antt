@@ -1,27 +1,16 @@
 -- What a report shows stays the same, when two histories that are the same but for their numbers go on by one event each.
-use Rattle.std.proofs.Common.{◌≡◌, ℕ, ℤ, ◌+◌, ◌<◌, ◌≤◌, Bool, true, false, List, [], ◌∷◌, ◌++◌, length, take, Option, Some, None, cond, map, slice_get}
-use Rattle.std.proofs.Common.{refl, sym, ap, ◌∙◌, inl, inr, ◌⊎◌, ◌==◌, nat_lt, arith, length-append, ◌-◌, subst}
-use Rattle.std.proofs.Math.Bool.{not, ◌&&◌, ◌||◌}
-use Rattle.std.specs.List.{AllByRecursion, filter_map, count_by}
-use Rattle.std.proofs.lemmas.List.Sums.{sum_by_push}
-use Rattle.std.specs.Option.{option_map_or, option_and_then}
+use Rattle.rx_event.proofs.Laws.Common.{◌≡◌, ℕ, ℤ, ◌+◌, ◌<◌, ◌≤◌, Bool, true, false, List, [], ◌∷◌, ◌++◌, length, take, Option, Some, None, cond, map}
+use Rattle.rx_event.proofs.Laws.Common.{slice_get, refl, sym, ap, ◌∙◌, inl, inr, ◌⊎◌, ◌==◌, nat_lt, arith, length-append, ◌-◌, subst, not, ◌&&◌, ◌||◌}
+use Rattle.rx_event.proofs.Laws.Common.{AllByRecursion, filter_map, count_by, sum_by_push, option_map_or, option_and_then, false≢true, both_ways, cases_order}
+use Rattle.rx_event.proofs.Laws.Common.{cases_Bool, eq-eqb, eqb-true, false_from_ne_true, slice_get_within, same_Some, Kept, shown, Event, Open, Hub, Connect}
+use Rattle.rx_event.proofs.Laws.Common.{Accept, Use, Remove, Lease, Return, Item, End, Take, makes_node, makes_resource, makes_lease, node_of_accept, is_root}
+use Rattle.rx_event.proofs.Laws.Common.{is_remove_of, is_return_of, is_take_of, is_use_of, at, is_open, is_owned, is_out, leases_of, is_held, is_taken, uses}
+use Rattle.rx_event.proofs.Laws.Common.{Stop, Delivery, Projection, Firing, stops, mail_of, MayFollow, IsLawful, StopsAtOpen, event_by, is_named, Next}
+use Rattle.rx_event.proofs.Laws.Common.{is_lease_of, is_return, is_take, notes_to, AreRenumbered}
 use Rattle.std.specs.Cmp.{both_ways as same_test}
-use Rattle.std.proofs.lemmas.Bool.{false≢true, both_ways, cases_order, cases_Bool, eq-eqb, eqb-true, false_from_ne_true}
-use Rattle.std.proofs.lemmas.Option.{slice_get_within, same_Some}
-use Rattle.rx_note.specs.declared.note.Note.TheVariants.{Next, Project, End as EndNote}
-use Rattle.rx_event.specs.Kept.{Kept, shown}
-use Rattle.rx_event.specs.declared.event.Place.TheVariants.{Root}
-use Rattle.rx_event.specs.declared.event.Event.{Event}
-use Rattle.rx_event.specs.declared.event.Event.TheVariants.{Open, Hub, Connect, Accept, Use, Remove, Lease, Return, Item, End, Take}
-use Rattle.rx_event.specs.Events.{makes_node, makes_resource, makes_lease, node_of_accept, is_root, is_remove_of, is_lease_of, is_return, is_return_of}
-use Rattle.rx_event.specs.Events.{is_take_of, is_use_of, is_take}
-use Rattle.rx_event.specs.Tree.{at, is_open}
-use Rattle.rx_event.specs.Resources.{is_owned, is_out, leases_of, is_held, is_taken, uses}
-use Rattle.rx_event.specs.Climb.{Stop, Delivery, Projection, Firing, stops}
-use Rattle.rx_event.specs.Notes.{notes_to, told, mail_of}
-use Rattle.rx_event.specs.Lawful.{MayFollow, IsLawful}
-use Rattle.rx_event.specs.Claims.Climbs.{StopsAtOpen}
-use Rattle.rx_event.specs.Renumbered.{event_by, is_named, IsShown, AreRenumbered}
+use Rattle.rx_note.specs.declared.note.Note.TheVariants.{Project, End as EndNote}
+use Rattle.rx_event.specs.Notes.{told}
+use Rattle.rx_event.specs.Renumbered.{IsShown}
 use Rattle.rx_event.proofs.Laws.Places.{slice_get-append, slice_get_last, at-append, at_within}
 use Rattle.rx_event.proofs.Laws.Openness.{is_open_within, is_open_past}
 use Rattle.rx_event.proofs.Laws.Lawful.{in_base, since_base, FoundAt, found_at, may_end}
@@ -53,17 +42,14 @@ notes_new base h e law next =
     (λ i. notes_past base h law (length h) (omega arith) i ++ (mail_silent base) h e law next (length h) (is_open_past h (length h) (omega arith)) i)
 
 pub root_by : (r : ℕ → ℕ) (e : Event) → is_root (event_by r e) ≡ is_root e
-root_by r (Open Root kind) = refl
-root_by r _ = refl
+root_by r e = grind arith
 
 -- a node is named, and so is a resource
 pub resource_named : (e : Event) → makes_resource e ≡ true → is_named e ≡ true
-resource_named (Accept n tag) made = refl
-resource_named _ made = absurd (false≢true made)
+resource_named e made = grind arith
 
 pub lease_named : (e : Event) → makes_lease e ≡ true → is_named e ≡ true
-lease_named (Lease q) made = refl
-lease_named _ made = absurd (false≢true made)
+lease_named e made = grind arith
 
 pub made_at : (q p : Event → Bool) → ((e : Event) → q e ≡ true → p e ≡ true) → (h : List Event) (n : ℕ) → at q h n ≡ true → at p h n ≡ true
 made_at q p by h n = by_event (slice_get h n) where
@@ -163,16 +149,13 @@ module _ (base : Kept) (r s : ℕ → ℕ) (h c : List Event) (a : AreRenumbered
   mail_same _ next n named = refl
 
 makes_resource_by : (r : ℕ → ℕ) (e : Event) → makes_resource (event_by r e) ≡ makes_resource e
-makes_resource_by r (Accept n tag) = refl
-makes_resource_by r _ = refl
+makes_resource_by r e = grind arith
 
 makes_lease_by : (r : ℕ → ℕ) (e : Event) → makes_lease (event_by r e) ≡ makes_lease e
-makes_lease_by r (Lease q) = refl
-makes_lease_by r _ = refl
+makes_lease_by r e = grind arith
 
 return_by : (r : ℕ → ℕ) (e : Event) → is_return (event_by r e) ≡ is_return e
-return_by r (Return l) = refl
-return_by r _ = refl
+return_by r e = grind arith
 
 -- what is returned by a return
 returned_by : (e : Event) → is_return e ≡ true → (l : ℕ) × (e ≡ Return l)
@@ -188,8 +171,7 @@ lease_made h l = by_event (slice_get h l) where
   by_event (Some _) made = absurd (false≢true made)
 
 take_by : (r : ℕ → ℕ) (e : Event) → is_take (event_by r e) ≡ is_take e
-take_by r (Take q) = refl
-take_by r _ = refl
+take_by r e = grind arith
 
 -- one event more -----------------------------------------------------------------------------------------------------------------
 

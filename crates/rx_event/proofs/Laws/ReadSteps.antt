@@ -1,19 +1,13 @@
 -- One call on two histories that are the same but for their numbers leaves them so, whatever the order of what is forced in each.
-use Rattle.std.proofs.Common.{◌≡◌, ℕ, ◌+◌, ◌≤◌, true, false, List, [], ◌∷◌, ◌++◌, length, Option, map, slice_get}
-use Rattle.std.proofs.Common.{sym, ap, subst, ◌∙◌, arith, append_assoc, append-nil, length-append}
-use Rattle.std.specs.Option.{option_map_or}
-use Rattle.rx_note.specs.declared.note.Terminal.TheVariants.{Error}
-use Rattle.rx_event.specs.Kept.{Kept, shown}
-use Rattle.rx_event.specs.declared.event.Place.{Place}
-use Rattle.rx_event.specs.declared.event.Kind.TheVariants.{Pass}
-use Rattle.rx_event.specs.declared.event.Event.{Event}
-use Rattle.rx_event.specs.declared.event.Event.TheVariants.{Open, Hub, Connect, Accept, Use, Remove, Lease, Return, Item, Decline, End, Close, Take}
-use Rattle.rx_event.specs.Events.{makes_hub}
-use Rattle.rx_event.specs.Tree.{at, open_connections}
-use Rattle.rx_event.specs.Lawful.{MayFollow, IsLawful, IsForcedOn, IsStep}
-use Rattle.rx_event.specs.Calls.{Opening, OpeningUsing, Holding, Applying, Removing, Leasing, GivingBack, Emitting, Ending, Aborting, Declining, Failing}
-use Rattle.rx_event.specs.Calls.{Disposing, Publishing, Connecting, Disconnecting, Taking, Call, IsStepOf}
-use Rattle.rx_event.specs.Renumbered.{place_by, event_by, call_by, is_named, IsKnown, AreSameBy, AreSameSince}
+use Rattle.rx_event.proofs.Laws.Common.{◌≡◌, ℕ, ◌+◌, ◌≤◌, true, false, List, [], ◌∷◌, ◌++◌, length, Option, map, slice_get, sym, ap, subst, ◌∙◌, arith}
+use Rattle.rx_event.proofs.Laws.Common.{append_assoc, append-nil, length-append, option_map_or, Error, Kept, shown, Place, Pass, Event, Open, Hub, Connect}
+use Rattle.rx_event.proofs.Laws.Common.{Accept, Use, Remove, Lease, Return, Item, Decline, End, Close, Take, makes_hub, at, open_connections, MayFollow}
+use Rattle.rx_event.proofs.Laws.Common.{IsLawful, IsForcedOn, event_by, is_named, Opening, OpeningUsing, Holding, Applying, Removing, Leasing, GivingBack}
+use Rattle.rx_event.proofs.Laws.Common.{Emitting, Ending, Aborting, Declining, Failing, Disposing, Publishing, Disconnecting, Taking, Call, IsStepOf}
+use Rattle.rx_event.proofs.Laws.Common.{place_by, AreSameBy}
+use Rattle.rx_event.specs.Lawful.{IsStep}
+use Rattle.rx_event.specs.Calls.{Connecting}
+use Rattle.rx_event.specs.Renumbered.{call_by, IsKnown, AreSameSince}
 use Rattle.rx_event.proofs.Laws.Places.{slice_get_last}
 use Rattle.rx_event.proofs.Laws.Lawful.{shown_within}
 use Rattle.rx_event.proofs.Laws.Hubs.{one_open_connection}

@@ -1,18 +1,11 @@
 -- Histories that are the same but for their numbers stay so through each event that may come next in both, and through whole courses
 -- of what is forced, in whatever order it comes in each.
-use Rattle.std.proofs.Common.{◌≡◌, ℕ, ◌+◌, ◌-◌, ◌<◌, ◌≤◌, Bool, true, false, List, [], ◌∷◌, ◌++◌, length, Option, Some, slice_get}
-use Rattle.std.proofs.Common.{refl, sym, ap, subst, ◌∙◌, inl, inr, ◌⊎◌, arith, length-append, append_assoc, append-nil}
-use Rattle.std.specs.Option.{option_map_or}
-use Rattle.std.proofs.lemmas.Bool.{false≢true, cases_lt}
-use Rattle.rx_note.specs.declared.note.Terminal.{Terminal}
-use Rattle.rx_event.specs.Kept.{Kept, shown}
-use Rattle.rx_event.specs.declared.event.Event.{Event}
-use Rattle.rx_event.specs.declared.event.Event.TheVariants.{Open, Hub, Connect, Accept, Use, Remove, Lease, Return, Item, Decline, End, Close, Take}
-use Rattle.rx_event.specs.Events.{makes_node, makes_resource, makes_lease}
-use Rattle.rx_event.specs.Tree.{at, is_open}
-use Rattle.rx_event.specs.Forced.{cut, due, SourceEnded, IsSettled}
-use Rattle.rx_event.specs.Lawful.{forced, stays, more, MayFollow, IsLawful, IsForcedOn, Started}
-use Rattle.rx_event.specs.Renumbered.{event_by, is_named, IsRead, AreRenumbered, IsShown, AreSameBy, AreSame, AreSameSince}
+use Rattle.rx_event.proofs.Laws.Common.{◌≡◌, ℕ, ◌+◌, ◌-◌, ◌<◌, ◌≤◌, Bool, true, false, List, [], ◌∷◌, ◌++◌, length, Option, Some, slice_get, refl, sym, ap}
+use Rattle.rx_event.proofs.Laws.Common.{subst, ◌∙◌, inl, inr, ◌⊎◌, arith, length-append, append_assoc, append-nil, option_map_or, false≢true, cases_lt}
+use Rattle.rx_event.proofs.Laws.Common.{Terminal, Kept, shown, Event, Open, Hub, Connect, Accept, Use, Remove, Lease, Return, Item, Decline, End, Close, Take}
+use Rattle.rx_event.proofs.Laws.Common.{makes_node, makes_resource, makes_lease, at, is_open, cut, due, SourceEnded, IsSettled, forced, stays, more}
+use Rattle.rx_event.proofs.Laws.Common.{MayFollow, IsLawful, IsForcedOn, Started, event_by, is_named, IsRead, AreRenumbered, AreSameBy}
+use Rattle.rx_event.specs.Renumbered.{IsShown, AreSame, AreSameSince}
 use Rattle.rx_event.specs.Claims.Determined.{is_closing, AreAlike}
 use Rattle.rx_event.proofs.Laws.Places.{slice_get_last, at-append, at_within}
 use Rattle.rx_event.proofs.Laws.Lawful.{may_end, IsLawful_empty}
@@ -200,17 +193,13 @@ no_source_ended : (base : Kept) → (h : List Event) → IsSettled base h → (n
 no_source_ended base h settled n t o x = settled.none (End n t) (due (settled_connected base h settled) (cut o x))
 
 named_plain : (r : ℕ → ℕ) (e : Event) → is_named e ≡ true → is_closing (event_by r e) ≡ false
-named_plain r (End n t) named = absurd (false≢true named)
-named_plain r (Close n) named = absurd (false≢true named)
-named_plain r _ named = refl
+named_plain r e named = grind arith
 
 made_event : (h : List Event) (n : ℕ) (e : Event) → is_open h n ≡ true → slice_get h n ≡ Some e → is_named e ≡ true
 made_event h n e o at_n = node_named e (sym (ap (λ (x : Option Event). option_map_or makes_node x false) at_n) ∙ open_node h n o)
 
 named_closing : (e : Event) → is_named e ≡ true → is_closing e ≡ false
-named_closing (End n t) named = absurd (false≢true named)
-named_closing (Close n) named = absurd (false≢true named)
-named_closing _ named = refl
+named_closing e named = grind arith
 
 -- what differs in the places of ends and closings alone may stand in the other's place
 alike_read : (base : Kept) → {r s : ℕ → ℕ} {h k j : List Event} → IsRead base base r s h k → IsSettled base h → AreAlike base k j → IsRead base base r s h j

@@ -1,29 +1,19 @@
 -- Where each resource is after one more event.
-use Rattle.std.proofs.Common.{◌≡◌, ℕ, ◌+◌, ◌<◌, ◌≤◌, Bool, true, false, List, [], ◌∷◌, ◌++◌, length, take, Option, Some, None, cond, refl, sym, ap, ◌∙◌}
-use Rattle.std.proofs.Common.{arith, inl, inr, ◌⊎◌, ◌==◌, nat_lt, slice_get, length-append}
-use Rattle.std.proofs.Math.Bool.{not, ◌&&◌, ◌||◌}
-use Rattle.std.specs.List.{list_any}
-use Rattle.std.specs.Option.{option_and_then, option_map_or}
-use Rattle.std.proofs.lemmas.Grind.{common_steps}
-use Rattle.std.proofs.lemmas.Bool.{cases_order, cases_Bool, both_ways, false≢true, and_parts, or_cases, or_right, or_from, and_right, ne_eqb, eqb-true}
-use Rattle.std.proofs.lemmas.Bool.{not-true, lt-ltb}
-use Rattle.std.proofs.lemmas.Option.{option_and_then_some, slice_get_past, slice_get_within, none-some, same_Some}
-use Rattle.std.proofs.lemmas.List.Folds.{list_any-append}
-use Rattle.rx_note.specs.declared.note.Terminal.{Terminal}
-use Rattle.rx_event.specs.Kept.{Kept, shown, resource_kept}
-use Rattle.rx_event.specs.declared.event.Place.TheVariants.{Inner}
-use Rattle.rx_event.specs.declared.event.Event.{Event}
-use Rattle.rx_event.specs.declared.event.Event.TheVariants.{Open, Hub, Connect, Accept, Use, Remove, Lease, Return, Item, Decline, End, Close, Take}
-use Rattle.rx_event.specs.Events.{makes_resource, node_of_accept, is_remove_of, is_lease_of, is_return, is_take_of}
-use Rattle.rx_event.specs.Tree.{at, is_open, is_within}
-use Rattle.rx_event.specs.Resources.{is_owned, leases_of, is_leased, is_held, is_taken, is_waiting, accepted_by}
-use Rattle.rx_event.specs.Lawful.{MayFollow, IsLawful}
-use Rattle.rx_event.proofs.Laws.Searches.{and_true}
+use Rattle.rx_event.proofs.Laws.Common.{◌≡◌, ℕ, ◌+◌, ◌<◌, ◌≤◌, Bool, true, false, List, [], ◌∷◌, ◌++◌, length, take, Option, Some, None, cond, refl, sym, ap}
+use Rattle.rx_event.proofs.Laws.Common.{◌∙◌, arith, inl, inr, ◌⊎◌, ◌==◌, nat_lt, slice_get, length-append, not, ◌&&◌, ◌||◌, list_any, option_and_then}
+use Rattle.rx_event.proofs.Laws.Common.{option_map_or, cases_order, cases_Bool, both_ways, and_parts, or_cases, ne_eqb, eqb-true, lt-ltb}
+use Rattle.rx_event.proofs.Laws.Common.{slice_get_past, slice_get_within, none-some, same_Some, Terminal, Kept, shown, resource_kept, Inner, Event, Open, Hub}
+use Rattle.rx_event.proofs.Laws.Common.{Connect, Accept, Use, Remove, Lease, Return, Item, Decline, End, Close, Take, makes_resource, node_of_accept}
+use Rattle.rx_event.proofs.Laws.Common.{is_remove_of, is_take_of, at, is_open, is_within, is_owned, leases_of, is_held, is_taken, is_waiting, accepted_by}
+use Rattle.rx_event.proofs.Laws.Common.{MayFollow, IsLawful, and_true, and_not_false, or_false, and_assoc, and_false, common_steps, or_right, not-true}
+use Rattle.rx_event.proofs.Laws.Common.{list_any-append, is_lease_of, is_return, is_leased}
+use Rattle.std.proofs.lemmas.Bool.{or_from, and_right}
+use Rattle.std.proofs.lemmas.Option.{option_and_then_some}
 use Rattle.rx_event.proofs.Laws.Places.{slice_get-append, slice_get_last, at-append, at_within}
 use Rattle.rx_event.proofs.Laws.Openness.{is_cut, is_cut_none, is_open_cut, is_open_within, is_open_unchanged, shuts_none}
 use Rattle.rx_event.proofs.Laws.Lawful.{in_base, since_base, FoundAt, found_at, shown_within}
 use Rattle.rx_event.proofs.Laws.Steps.{by_events, may_accept, may_remove, may_take}
-use Rattle.rx_event.proofs.Laws.Leases.{is_owned_within, owned_resource, lease_resource, leases_of_kept, leases_of-return, leased_resource, leased_some}
+use Rattle.rx_event.proofs.Laws.Leases.{is_owned_within, owned_resource, lease_resource, leases_of-return, leased_resource}
 use Rattle.rx_event.proofs.Laws.Leases.{leased_where, is_leased_past, is_leased_kept, is_leased_last, leased_old, lease_owned}
 use Rattle.rx_event.proofs.Laws.MakingRemovesNothing.{made_unremoved, made_untaken}
 
@@ -62,12 +52,7 @@ is_owned-push base h e law r l =
     rw (slice_get-append h (e ∷ []) r l, list_any-append (is_remove_of r) h (e ∷ [])) (by_node (node_of h r) refl)
   where
     shape : (o s a b : Bool) → ((o && not s) && not (a || (b || false))) ≡ ((o && not a) && not (s || b))
-    shape false s a b = refl
-    shape true true false b = refl
-    shape true true true b = refl
-    shape true false true b = refl
-    shape true false false true = refl
-    shape true false false false = refl
+    shape o s a b = grind arith
 
     by_node : (o : Option ℕ) → node_of h r ≡ o →
         (option_map_or (is_open (h ++ e ∷ [])) o false && not (list_any (is_remove_of r) h || (is_remove_of r e || false))) ≡
@@ -99,16 +84,12 @@ pub is_owned_last : (base : Kept) → (h : List Event) (e : Event) → IsLawful 
     (node_of_accept e) false
 unfolding is_owned
 is_owned_last base h e law = rw (slice_get_last h e) (by_event e) where
-  and_yes : (b c : Bool) → c ≡ false → (b && not c) ≡ b
-  and_yes true c gone = ap not gone
-  and_yes false c gone = refl
-
   by_event : (e : Event) →
       (option_map_or (is_open (h ++ e ∷ [])) (node_of_accept e) false && not (list_any (is_remove_of (length h)) (h ++ e ∷ []))) ≡
       option_map_or (is_open h) (node_of_accept e) false
   by_event (Accept n tag) =
       rw (is_open_unchanged h (Accept n tag) refl refl n)
-      (and_yes (is_open h n) _
+      (and_not_false (is_open h n) _
       (list_any-append (is_remove_of (length h)) h (Accept n tag ∷ []) ∙ or_from _ _ (no_remove base h law (length h) (omega arith)) refl))
   by_event _ = refl
 
@@ -126,10 +107,6 @@ is_owned_kept base h e law r l s keeps = rw (is_owned-push base h e law r l, kee
 -- a resource is in the history
 pub node_of_within : (h : List Event) (r n : ℕ) → node_of h r ≡ Some n → r < length h
 node_of_within h r n named = option_and_then_some node_of_accept (slice_get h r) n named (λ e at_r n_of. slice_get_within h r e at_r)
-
-or_false : (b : Bool) → (b || false) ≡ b
-or_false true = refl
-or_false false = refl
 
 -- after the end or the closing of c, what was owned within c no longer is
 pub is_owned-end : (base : Kept) → (h : List Event) (c : ℕ) (t : Terminal) → IsLawful base h → (r n : ℕ) → node_of h r ≡ Some n →
@@ -165,10 +142,7 @@ is_owned-open base h e law r n at_r =
     (owned_open h r n at_r))
   where
     shape : (owned o c k : Bool) → (owned ≡ true → o ≡ true) → (owned && not (c || k)) ≡ ((owned && (o && not c)) && not k)
-    shape false o c k open_where = refl
-    shape true false c k open_where = absurd (false≢true (open_where refl))
-    shape true true true k open_where = refl
-    shape true true false k open_where = refl
+    shape owned o c k open_where = grind arith
 
 -- held --------------------------------------------------------------------------------------------
 
@@ -227,15 +201,6 @@ pub held_old : (base : Kept) → (h : List Event) (e : Event) → IsLawful base 
     is_held (h ++ e ∷ []) r ≡ true → is_held h r ≡ true
 held_old base h e law next r l held = held_before base h e law r l (lease_owned base h e next r) held
 
--- what is leased stays so but for a return
-leased_stays : (base : Kept) → (h : List Event) (e : Event) → IsLawful base h → (r : ℕ) → is_return e ≡ false → is_leased h r ≡ true → is_leased
-    (h ++ e ∷ []) r ≡ true
-leased_stays base h e law r none leased =
-    let made = leased_resource h r leased in
-    let less : r < length h = at_within makes_resource h r made in
-    leased_where (h ++ e ∷ []) r (at-append makes_resource h (e ∷ []) r less ∙ made) (let some = leased_some h r leased in let kept = leases_of_kept base h
-    e law none r in omega arith)
-
 -- after a return just that resource is leased no more of which it was the last lease
 pub is_leased-return : {base : Kept} → (h : List Event) (l q : ℕ) → IsLawful base h → MayFollow base h (Return l) → slice_get h l ≡ Some (Lease q) → (r : ℕ)
     → r < length h →
@@ -243,12 +208,8 @@ pub is_leased-return : {base : Kept} → (h : List Event) (l q : ℕ) → IsLawf
 is_leased-return {base} h l q law next at_l r less =
     ap (λ a. a && nat_lt 0 (leases_of (h ++ Return l ∷ []) r)) (at-append makes_resource h (Return l ∷ []) r less) ∙
     ap (λ b. at makes_resource h r && b) (by_number (q == r) (leases_of-return base h l q law next at_l r)) ∙
-    and_again (at makes_resource h r) (nat_lt 0 (leases_of h r)) (not (q == r && leases_of h r == 1))
+    and_assoc (at makes_resource h r) (nat_lt 0 (leases_of h r)) (not (q == r && leases_of h r == 1))
   where
-    and_again : (a b c : Bool) → (a && (b && c)) ≡ ((a && b) && c)
-    and_again true b c = refl
-    and_again false b c = refl
-
     both : (x : ℕ) → nat_lt 0 x ≡ (nat_lt 0 (x + 1) && not (x + 1 == 1))
     both x = by_size (cases_order x 0) where
       by_size : (x ≡ 0) ⊎ ((x < 0) ⊎ (0 < x)) → nat_lt 0 x ≡ (nat_lt 0 (x + 1) && not (x + 1 == 1))
@@ -276,10 +237,7 @@ is_taken-push h e r l =
     (shape (at makes_resource h r) (list_any (is_take_of r) h) (is_take_of r e))
   where
     shape : (a b c : Bool) → (a && (b || (c || false))) ≡ ((a && b) || (a && c))
-    shape false b c = refl
-    shape true true c = refl
-    shape true false true = refl
-    shape true false false = refl
+    shape a b c = grind arith
 
 -- what is taken is a resource
 pub taken_resource : (h : List Event) (r : ℕ) → is_taken h r ≡ true → at makes_resource h r ≡ true
@@ -347,10 +305,7 @@ held_untaken base h _ next r held = refl
 -- without a taking nothing is taken
 untaken_there : (h : List Event) (r : ℕ) → list_any (is_take_of r) h ≡ false → is_taken h r ≡ false
 unfolding is_taken
-untaken_there h r none = ap (λ c. at makes_resource h r && c) none ∙ and_no (at makes_resource h r) where
-  and_no : (c : Bool) → (c && false) ≡ false
-  and_no true = refl
-  and_no false = refl
+untaken_there h r none = ap (λ c. at makes_resource h r && c) none ∙ and_false (at makes_resource h r)
 
 -- what is held was not taken
 pub held_not_taken : (base : Kept) → (h : List Event) → IsLawful base h → (r : ℕ) → is_held h r ≡ true → is_taken h r ≡ false
@@ -379,15 +334,7 @@ waiting-held base h e law r l may =
   where
     shape : (a held after taken t : Bool) → (held ≡ true → a ≡ true) → (held ≡ true → taken ≡ false) → (after ≡ true → held ≡ true) →
         ((a && not after) && not (taken || (a && t))) ≡ ((((a && not held) && not taken) || (held && not after)) && not t)
-    shape true true after true t made untaken old = absurd (both_ways _ (untaken refl) refl)
-    shape true true true false t made untaken old = refl
-    shape true true false false t made untaken old = refl
-    shape true false true taken t made untaken old = absurd (false≢true (old refl))
-    shape true false false true t made untaken old = refl
-    shape true false false false t made untaken old = refl
-    shape false true after taken t made untaken old = absurd (false≢true (made refl))
-    shape false false true taken t made untaken old = absurd (false≢true (old refl))
-    shape false false false taken t made untaken old = refl
+    shape a held after taken t made untaken old = grind arith
 
 pub is_waiting-unheld : (base : Kept) → (h : List Event) (e : Event) → IsLawful base h → MayFollow base h e → (r : ℕ) → r < length h →
     is_waiting (h ++ e ∷ []) r ≡ ((is_waiting h r || (is_held h r && not (is_held (h ++ e ∷ []) r))) && not (is_take_of r e))
@@ -404,13 +351,7 @@ is_waiting-loses {base} h e law r l none unleased leaves =
     after = held_is (h ++ e ∷ []) r ∙ (λ i. is_owned-push base h e law r l i || is_leased_kept base h e law r l none unleased i)
 
     shape : (w o k s : Bool) → ((w || ((o || s) && not ((o && not k) || s))) && true) ≡ (w || ((o && k) && not s))
-    shape true o k s = refl
-    shape false true true true = refl
-    shape false true true false = refl
-    shape false true false true = refl
-    shape false true false false = refl
-    shape false false k true = refl
-    shape false false k false = refl
+    shape w o k s = grind arith
 
 -- after the end or the closing of c, what was owned within c waits, but what is leased
 pub is_waiting-end : (base : Kept) → (h : List Event) (c : ℕ) (t : Terminal) → IsLawful base h → (r n : ℕ) → node_of h r ≡ Some n →
@@ -457,14 +398,7 @@ pub is_waiting-return : (base : Kept) → (h : List Event) (l q : ℕ) → IsLaw
 is_waiting-return base h l q law next at_l r = by_place (cases_order r (length h)) where
   shape : (w o s same one : Bool) → (same ≡ true → s ≡ true) →
       ((w || ((o || s) && not (o || (s && not (same && one))))) && true) ≡ (w || ((same && not o) && one))
-  shape true o s same one leased = refl
-  shape false true s true one leased = refl
-  shape false true s false one leased = refl
-  shape false false true true true leased = refl
-  shape false false true true false leased = refl
-  shape false false true false one leased = refl
-  shape false false false true one leased = absurd (false≢true (leased refl))
-  shape false false false false one leased = refl
+  shape w o s same one leased = grind arith
 
   leased : (q == r) ≡ true → is_leased h r ≡ true
   leased same =
@@ -496,13 +430,7 @@ in_one_place base h law r = shape (at makes_resource h r) (is_held h r) (is_take
   where
     shape : (a held taken : Bool) → (held ≡ true → a ≡ true) → (held ≡ true → taken ≡ false) → (taken ≡ true → a ≡ true) →
         cond held 1 0 + cond ((a && not held) && not taken) 1 0 + cond taken 1 0 ≡ cond a 1 0
-    shape true true true made untaken given = absurd (both_ways _ (untaken refl) refl)
-    shape true true false made untaken given = refl
-    shape true false true made untaken given = refl
-    shape true false false made untaken given = refl
-    shape false true taken made untaken given = absurd (false≢true (made refl))
-    shape false false true made untaken given = absurd (false≢true (given refl))
-    shape false false false made untaken given = refl
+    shape a held taken made untaken given = grind arith
 
 -- what neither shuts a node nor moves a resource --------------------------------------------------
 
@@ -525,17 +453,6 @@ pub record MovesNone (e : Event) : Type 0 where
   pub leases : (r : ℕ) → is_lease_of r e ≡ false
   pub returns : is_return e ≡ false
   pub takes : (r : ℕ) → is_take_of r e ≡ false
-
-moves_parts : (e : Event) → moves_none e ≡ true → MovesNone e
-moves_parts (Open (Inner f) kind) m = absurd (false≢true m)
-moves_parts (Accept n tag) m = absurd (false≢true m)
-moves_parts (Remove q) m = absurd (false≢true m)
-moves_parts (Lease q) m = absurd (false≢true m)
-moves_parts (Return l) m = absurd (false≢true m)
-moves_parts (End n t) m = absurd (false≢true m)
-moves_parts (Close n) m = absurd (false≢true m)
-moves_parts (Take q) m = absurd (false≢true m)
-moves_parts _ m = record { shuts = refl; accepts = refl; named = refl; removes = λ r. refl; leases = λ r. refl; returns = refl; takes = λ r. refl }
 
 -- a new resource is held
 pub is_held_new : (base : Kept) → (h : List Event) (e : Event) → IsLawful base h → MayFollow base h e → is_held (h ++ e ∷ []) (length h) ≡ makes_resource e

@@ -1,7 +1,6 @@
 -- Lists of rising numbers: two with the same members are the same.
-use Rattle.std.proofs.Common.{◌≡◌, ℕ, zero, suc, ◌+◌, ◌<◌, ◌≤◌, Bool, true, false, List, [], ◌∷◌, cond, refl, sym, ap, ◌∙◌, inl, inr, ◌⊎◌, arith, filter, map, subst}
-use Rattle.std.specs.List.{AllByRecursion, range_with_len}
-use Rattle.std.proofs.lemmas.Bool.{cases_order}
+use Rattle.rx_event.proofs.Laws.Common.{◌≡◌, ℕ, zero, suc, ◌+◌, ◌<◌, ◌≤◌, Bool, true, false, List, [], ◌∷◌, cond, refl, sym, ap, ◌∙◌, inl, inr, ◌⊎◌, arith}
+use Rattle.rx_event.proofs.Laws.Common.{filter, map, subst, AllByRecursion, range_with_len, cases_order}
 
 abbrev pub In : ℕ → List ℕ → Type 0
 In k [] = ⊥

@@ -1,20 +1,9 @@
 -- Stored histories that agree: the same is forced and allowed in both, and followed by one event they agree again.
-use Rattle.std.proofs.Common.{◌≡◌, ℕ, true, false, List, length, refl, sym, ap, subst, ◌∙◌, filter}
-use Rattle.std.proofs.Math.Bool.{◌||◌}
-use Rattle.std.specs.List.{range_with_len}
+use Rattle.rx_event.proofs.Laws.Common.{◌≡◌, ℕ, true, List, length, refl, sym, ap, subst, ◌∙◌, filter, ◌||◌, range_with_len, false≢true, Mode, Event}
+use Rattle.rx_event.proofs.Laws.Common.{Hub, makes_hub, at, is_open, is_within, IsForced, IsSettled, IsInOrderAt, IsAllowed, Kept, Agree, AreRead, forced}
+use Rattle.rx_event.proofs.Laws.Common.{allowed, opened_with, MayFollow, IsLawful, is_untaken}
 use Rattle.std.specs.Cmp.{both_ways as same_test}
-use Rattle.std.proofs.lemmas.Bool.{false≢true}
-use Rattle.rx_event.specs.declared.event.Mode.{Mode}
-use Rattle.rx_event.specs.declared.event.Event.{Event}
-use Rattle.rx_event.specs.declared.event.Event.TheVariants.{Hub}
-use Rattle.rx_event.specs.Events.{makes_hub}
-use Rattle.rx_event.specs.Tree.{at, hubs, is_open, is_within}
-use Rattle.rx_event.specs.Forced.{IsForced, IsSettled}
-use Rattle.rx_event.specs.Allowed.{IsInOrderAt, IsAllowed}
-use Rattle.rx_event.specs.Kept.{Kept}
-use Rattle.rx_event.specs.Bases.{is_untaken, Agree}
-use Rattle.rx_event.specs.Renumbered.{AreRead}
-use Rattle.rx_event.specs.Lawful.{forced, allowed, opened_with, MayFollow, IsLawful}
+use Rattle.rx_event.specs.Tree.{hubs}
 use Rattle.rx_event.proofs.Laws.SameTree.{Alike, alike_of, alike_back, at_hub_alike, within_alike}
 use Rattle.rx_event.proofs.Laws.ReadDue.{trees_of, forced_read, settled_read}
 use Rattle.rx_event.proofs.Laws.TreeRead.{event_by_itself}

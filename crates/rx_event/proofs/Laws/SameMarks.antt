@@ -1,23 +1,10 @@
 -- Two courses of what is forced after one history leave the same marks at each node that they leave open.
-use Rattle.std.proofs.Common.{◌≡◌, ℕ, Bool, true, false, List, length, Option, Some, None, slice_get, refl, sym, ap, ◌∙◌, ◌==◌, filter}
-use Rattle.std.proofs.Math.Bool.{◌&&◌, ◌||◌}
-use Rattle.std.specs.List.{list_any}
-use Rattle.std.specs.Option.{option_map_or}
+use Rattle.rx_event.proofs.Laws.Common.{◌≡◌, ℕ, Bool, true, false, List, length, Option, Some, None, slice_get, refl, sym, ap, ◌∙◌, ◌==◌, filter, ◌&&◌, ◌||◌}
+use Rattle.rx_event.proofs.Laws.Common.{list_any, option_map_or, false≢true, Terminal, Completed, Error, Kept, node_kept, Source, Inner, Notifier, Pass, Flat}
+use Rattle.rx_event.proofs.Laws.Common.{Switch, Until, Event, Open, Connect, has_source, is_mirroring, is_merging, is_until, is_source_of, parent_named, at}
+use Rattle.rx_event.proofs.Laws.Common.{places, parent, is_open, is_open_child_of, mirrored, failed, due, IsDue, IsConnected, IsSettled, passes_on}
+use Rattle.rx_event.proofs.Laws.Common.{child_terminal, source_completed, open_children, marks_of, IsLawful, length-filter, is_notifier_of, ChildEnded}
 use Rattle.std.specs.Cmp.{both_ways as same_test}
-use Rattle.std.proofs.lemmas.Bool.{false≢true}
-use Rattle.std.proofs.lemmas.List.Sums.{length-filter}
-use Rattle.rx_note.specs.declared.note.Terminal.{Terminal}
-use Rattle.rx_note.specs.declared.note.Terminal.TheVariants.{Completed, Error}
-use Rattle.rx_event.specs.Kept.{Kept, node_kept}
-use Rattle.rx_event.specs.declared.event.Place.TheVariants.{Source, Inner, Notifier}
-use Rattle.rx_event.specs.declared.event.Kind.TheVariants.{Pass, Flat, Switch, Until}
-use Rattle.rx_event.specs.declared.event.Event.{Event}
-use Rattle.rx_event.specs.declared.event.Event.TheVariants.{Open, Connect}
-use Rattle.rx_event.specs.Events.{has_source, is_mirroring, is_merging, is_until, is_source_of, is_notifier_of, parent_named}
-use Rattle.rx_event.specs.Tree.{at, places, parent, is_open, is_open_child_of}
-use Rattle.rx_event.specs.Forced.{mirrored, failed, due, ChildEnded, IsDue, IsConnected, IsSettled}
-use Rattle.rx_event.specs.Marks.{passes_on, child_terminal, source_completed, open_children, marks_of}
-use Rattle.rx_event.specs.Lawful.{IsLawful}
 use Rattle.rx_event.proofs.Laws.Lists.{same_filter}
 use Rattle.rx_event.proofs.Laws.Parents.{parent_within, parent_name}
 use Rattle.rx_event.proofs.Laws.Openness.{is_open_past}

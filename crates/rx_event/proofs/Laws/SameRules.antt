@@ -1,25 +1,10 @@
 -- How the children of a node ended, and what each rule gives in two histories that are the same, number for number.
-use Rattle.std.proofs.Common.{◌≡◌, ℕ, Bool, true, false, List, [], ◌∷◌, ◌++◌, Option, Some, None, refl, sym, ap, ◌∙◌, inl, inr, ◌⊎◌, ◌==◌, slice_get}
-use Rattle.std.proofs.Math.Bool.{not, ◌||◌}
-use Rattle.std.specs.List.{AllByRecursion, list_any}
-use Rattle.std.specs.Option.{option_map_or}
-use Rattle.std.proofs.lemmas.Bool.{false≢true, or_cases, eqb-true}
-use Rattle.rx_note.specs.declared.note.Terminal.{Terminal}
-use Rattle.rx_note.specs.declared.note.Terminal.TheVariants.{Completed, Error}
-use Rattle.rx_event.specs.Kept.{Kept, shown}
-use Rattle.rx_event.specs.declared.event.Kind.TheVariants.{Pass, Until}
-use Rattle.rx_event.specs.declared.event.Event.{Event}
-use Rattle.rx_event.specs.declared.event.Event.TheVariants.{Open, Connect, Item, End}
-use Rattle.rx_event.specs.Events.{is_until, is_mirroring, is_merging}
-use Rattle.rx_event.specs.Tree.{at, is_open}
-use Rattle.rx_event.specs.Climb.{Stop, Delivery, Projection, Firing, stops}
-use Rattle.rx_event.specs.Moments.{is_fired, is_firing_of, stops_of}
-use Rattle.rx_event.specs.Forced.{ChildEnded, mirrored, failed, IsDue}
-use Rattle.rx_event.specs.Marks.{child_terminal, passes_on}
-use Rattle.rx_event.specs.Lawful.{MayFollow, IsLawful}
+use Rattle.rx_event.proofs.Laws.Common.{arith, ◌≡◌, ℕ, Bool, true, false, List, [], ◌∷◌, ◌++◌, Option, Some, None, refl, sym, ap, ◌∙◌, inl, inr, ◌⊎◌, ◌==◌}
+use Rattle.rx_event.proofs.Laws.Common.{slice_get, not, ◌||◌, AllByRecursion, list_any, option_map_or, false≢true, or_cases, eqb-true, Terminal, Completed}
+use Rattle.rx_event.proofs.Laws.Common.{Error, Kept, shown, Event, Item, End, is_until, is_mirroring, is_merging, at, is_open, Stop, Delivery, Projection}
+use Rattle.rx_event.proofs.Laws.Common.{Firing, stops, is_fired, is_firing_of, stops_of, mirrored, failed, IsDue, child_terminal, passes_on, MayFollow}
+use Rattle.rx_event.proofs.Laws.Common.{IsLawful, AreRead, StopsAtOpen, ChildEnded}
 use Rattle.rx_event.specs.Bases.{Mirrors, Fires, Fails, Completes, Cuts, Leaves}
-use Rattle.rx_event.specs.Renumbered.{AreRead}
-use Rattle.rx_event.specs.Claims.Climbs.{StopsAtOpen}
 use Rattle.rx_event.proofs.Laws.Places.{at-append, at_within}
 use Rattle.rx_event.proofs.Laws.Steps.{by_events, may_emit}
 use Rattle.rx_event.proofs.Laws.Projections.{stops_open}
@@ -68,11 +53,7 @@ mirroring_passes : (h : List Event) (n : ℕ) (t : Terminal) → at is_mirroring
 mirroring_passes h n (Error code) mirroring = refl
 mirroring_passes h n Completed mirroring = ap not (by_event (slice_get h n) mirroring) where
   by_event : (x : Option Event) → option_map_or is_mirroring x false ≡ true → option_map_or is_merging x false ≡ false
-  by_event None fails = absurd (false≢true fails)
-  by_event (Some (Open place Pass)) is = refl
-  by_event (Some (Open place Until)) is = refl
-  by_event (Some (Connect g)) is = refl
-  by_event (Some _) fails = absurd (false≢true fails)
+  by_event x fails = grind arith
 
 pub due_by_child : {b : Kept} {h : List Event} {n : ℕ} (t : Terminal) → is_open h n ≡ true → IsParent h n → ChildEnded h n t →
     passes_on (at is_merging h n) t ≡ true → IsDue b h (End n t)

@@ -1,25 +1,11 @@
 -- What is the same in two histories with the same hubs and open nodes.
-use Rattle.std.proofs.Common.{◌≡◌, ℕ, ℤ, zero, suc, ◌<◌, Bool, true, false, List, [], ◌∷◌, length, Option, Some, None, refl, sym}
-use Rattle.std.proofs.Common.{ap, ◌∙◌, arith, ◌==◌, slice_get, filter, map}
-use Rattle.std.proofs.Math.Bool.{◌&&◌}
-use Rattle.std.specs.List.{list_any, range_with_len}
-use Rattle.std.specs.Option.{option_and_then, option_map_or}
+use Rattle.rx_event.proofs.Laws.Common.{◌≡◌, ℕ, ℤ, zero, suc, ◌<◌, Bool, true, false, List, [], ◌∷◌, length, Option, Some, None, refl, sym, ap, ◌∙◌, arith}
+use Rattle.rx_event.proofs.Laws.Common.{◌==◌, slice_get, filter, map, ◌&&◌, list_any, range_with_len, option_and_then, option_map_or, false≢true, both_ways}
+use Rattle.rx_event.proofs.Laws.Common.{false_from_ne_true, Terminal, Mode, Event, Hub, Item, Kept, parent_named, is_auto_hub, is_subscriber_of}
+use Rattle.rx_event.proofs.Laws.Common.{is_connect_of, at, places, parent, if_less, ancestors, is_open, is_within, open_nodes, open_subscribers}
+use Rattle.rx_event.proofs.Laws.Common.{open_connections, Stop, Delivery, Projection, Firing, stops, stops_of, Agree, SourceEnded, marks_of, IsLawful, visits}
+use Rattle.rx_event.proofs.Laws.Common.{IsRead}
 use Rattle.std.specs.Cmp.{both_ways as same_test}
-use Rattle.std.proofs.lemmas.Bool.{false≢true, both_ways, false_from_ne_true}
-use Rattle.rx_note.specs.declared.note.Terminal.{Terminal}
-use Rattle.rx_event.specs.declared.event.Mode.{Mode}
-use Rattle.rx_event.specs.declared.event.Event.{Event}
-use Rattle.rx_event.specs.declared.event.Event.TheVariants.{Hub, Item}
-use Rattle.rx_event.specs.Kept.{Kept}
-use Rattle.rx_event.specs.Events.{parent_named, is_auto_hub, is_subscriber_of, is_connect_of}
-use Rattle.rx_event.specs.Tree.{at, places, parent, if_less, ancestors, is_open, is_within, open_nodes, open_subscribers, open_connections}
-use Rattle.rx_event.specs.Climb.{Stop, Delivery, Projection, Firing, stops, visits}
-use Rattle.rx_event.specs.Moments.{stops_of}
-use Rattle.rx_event.specs.Bases.{Agree}
-use Rattle.rx_event.specs.Forced.{SourceEnded}
-use Rattle.rx_event.specs.Marks.{marks_of}
-use Rattle.rx_event.specs.Renumbered.{IsRead}
-use Rattle.rx_event.specs.Lawful.{IsLawful}
 use Rattle.rx_event.proofs.Laws.Parents.{parent-lt, ancestors_step}
 use Rattle.rx_event.proofs.Laws.Openness.{is_open_within, parent_open}
 use Rattle.rx_event.proofs.Laws.Stands.{event_at}
@@ -52,10 +38,7 @@ at_alike p q a t n o = ap (λ x. option_map_or t x false) (a.same_made n o)
 pub at_open_alike : (p q : List Event) → Alike p q → (t : Event → Bool) (n : ℕ) → (at t p n && is_open p n) ≡ (at t q n && is_open q n)
 at_open_alike p q a t n = by_test (is_open p n) (is_open q n) (a.same_open n) (at_alike p q a t n) where
   no_both : (x y : Bool) → (x && false) ≡ (y && false)
-  no_both true true = refl
-  no_both true false = refl
-  no_both false true = refl
-  no_both false false = refl
+  no_both x y = grind arith
 
   by_test : (x y : Bool) → x ≡ y → (x ≡ true → at t p n ≡ at t q n) → (at t p n && x) ≡ (at t q n && y)
   by_test true y same then = (λ i. then refl i && same i)

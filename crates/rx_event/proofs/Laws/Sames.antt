@@ -1,46 +1,22 @@
 -- Two events pass the test of sameness exactly where they are equal.
-use Rattle.std.proofs.Common.{◌≡◌, ◌↔◌, ℕ, true, refl, sym, ap, ◌∙◌, ◌==◌}
-use Rattle.std.specs.Prelude.{IsTrue}
+use Rattle.rx_event.proofs.Laws.Common.{arith, ◌≡◌, true, refl, sym, ap, ◌∙◌, ◌==◌, false≢true, and_parts, and_from, eqb-true, Terminal, Place, Kind, Mode}
+use Rattle.rx_event.proofs.Laws.Common.{Event, Open, Hub, Connect, Accept, Use, Remove, Lease, Return, Item, Decline, End, Close, Take, number_itself, IsTrue}
+use Rattle.std.proofs.Common.{◌↔◌}
 use Rattle.std.specs.Ordering.{int_eq}
-use Rattle.std.proofs.lemmas.Bool.{false≢true, and_parts, and_from, eq-eqb, eqb-true}
 use Rattle.std.proofs.lemmas.Bool.Decides.{Decides-int_eq}
-use Rattle.rx_note.specs.declared.note.Terminal.{Terminal}
-use Rattle.rx_note.specs.declared.note.Terminal.TheVariants.{Completed, Error}
-use Rattle.rx_event.specs.declared.event.Place.{Place}
-use Rattle.rx_event.specs.declared.event.Place.TheVariants.{Root, Source, Inner, Notifier}
-use Rattle.rx_event.specs.declared.event.Kind.{Kind}
-use Rattle.rx_event.specs.declared.event.Kind.TheVariants.{Leaf, Pass, Flat, Switch, Until, Sub}
-use Rattle.rx_event.specs.declared.event.Mode.{Mode}
-use Rattle.rx_event.specs.declared.event.Mode.TheVariants.{Auto, Manual}
-use Rattle.rx_event.specs.declared.event.Event.{Event}
-use Rattle.rx_event.specs.declared.event.Event.TheVariants.{Open, Hub, Connect, Accept, Use, Remove, Lease, Return, Item, Decline, End, Close, Take}
 use Rattle.rx_event.specs.Sames.{same_terminal, same_place, same_kind, same_mode, same_event}
 
-terminals_equal : (t u : Terminal) → same_terminal t u ≡ true → t ≡ u
-terminals_equal Completed Completed same = refl
-terminals_equal (Error c) (Error d) same = ap (λ x. Error x) (eqb-true c d same)
-terminals_equal _ _ same = absurd (false≢true same)
+pub terminals_equal : (t u : Terminal) → same_terminal t u ≡ true → t ≡ u
+terminals_equal t u same = grind arith
 
 places_equal : (p q : Place) → same_place p q ≡ true → p ≡ q
-places_equal Root Root same = refl
-places_equal (Source n) (Source m) same = ap (λ x. Source x) (eqb-true n m same)
-places_equal (Inner n) (Inner m) same = ap (λ x. Inner x) (eqb-true n m same)
-places_equal (Notifier n) (Notifier m) same = ap (λ x. Notifier x) (eqb-true n m same)
-places_equal _ _ same = absurd (false≢true same)
+places_equal p q same = grind arith
 
 kinds_equal : (k j : Kind) → same_kind k j ≡ true → k ≡ j
-kinds_equal Leaf Leaf same = refl
-kinds_equal Pass Pass same = refl
-kinds_equal Flat Flat same = refl
-kinds_equal Switch Switch same = refl
-kinds_equal Until Until same = refl
-kinds_equal (Sub g) (Sub k) same = ap (λ x. Sub x) (eqb-true g k same)
-kinds_equal _ _ same = absurd (false≢true same)
+kinds_equal k j same = grind arith
 
 modes_equal : (m n : Mode) → same_mode m n ≡ true → m ≡ n
-modes_equal Auto Auto same = refl
-modes_equal Manual Manual same = refl
-modes_equal _ _ same = absurd (false≢true same)
+modes_equal m n same = grind arith
 
 pub events_equal : (a b : Event) → same_event a b ≡ true → a ≡ b
 events_equal (Open p k) (Open q j) same =
@@ -66,26 +42,17 @@ events_equal (Close n) (Close m) same = ap (λ x. Close x) (eqb-true n m same)
 events_equal (Take r) (Take q) same = ap (λ x. Take x) (eqb-true r q same)
 events_equal _ _ same = absurd (false≢true same)
 
-number_itself : (n : ℕ) → (n == n) ≡ true
-number_itself n = eq-eqb n n refl
-
 terminal_itself : (t : Terminal) → same_terminal t t ≡ true
-terminal_itself Completed = refl
-terminal_itself (Error c) = number_itself c
+terminal_itself t = grind arith
 
 place_itself : (p : Place) → same_place p p ≡ true
-place_itself Root = refl
-place_itself (Source n) = number_itself n
-place_itself (Inner n) = number_itself n
-place_itself (Notifier n) = number_itself n
+place_itself p = grind arith
 
 kind_itself : (k : Kind) → same_kind k k ≡ true
-kind_itself (Sub g) = number_itself g
-kind_itself _ = refl
+kind_itself k = grind arith
 
 mode_itself : (m : Mode) → same_mode m m ≡ true
-mode_itself Auto = refl
-mode_itself Manual = refl
+mode_itself m = grind arith
 
 pub event_itself : (e : Event) → same_event e e ≡ true
 event_itself (Open p k) = and_from (same_place p p) (same_kind k k) (place_itself p) (kind_itself k)

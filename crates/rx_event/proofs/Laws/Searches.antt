@@ -1,11 +1,7 @@
 -- Searches of a list: by a test, and by the first value that there is.
-use Rattle.std.proofs.Common.{◌≡◌, ℕ, zero, suc, Bool, true, false, List, [], ◌∷◌, ◌++◌, Option, Some, None, refl, sym, ap, ◌∙◌, inl, inr, ◌⊎◌, slice_get}
-use Rattle.std.proofs.Math.Bool.{◌&&◌, ◌||◌}
-use Rattle.std.specs.List.{list_any}
-use Rattle.std.specs.Option.{option_or}
-use Rattle.std.proofs.lemmas.Bool.{false≢true, or_cases, or_right}
-use Rattle.std.proofs.lemmas.List.Folds.{list_any-append}
-use Rattle.std.proofs.lemmas.Option.{same_Some, none-some}
+use Rattle.rx_event.proofs.Laws.Common.{arith, ◌≡◌, ℕ, zero, suc, Bool, true, List, [], ◌∷◌, ◌++◌, Option, Some, None, refl, sym, ap, ◌∙◌, inl, inr}
+use Rattle.rx_event.proofs.Laws.Common.{◌⊎◌, slice_get, ◌||◌, list_any, option_or, false≢true, or_cases, same_Some, none-some, or_false, or_right}
+use Rattle.rx_event.proofs.Laws.Common.{list_any-append}
 use Rattle.rx_event.specs.Marks.{first_some}
 
 -- searches ----------------------------------------------------------------------------------------
@@ -44,18 +40,6 @@ first_none {X = X} {Y = Y} f (y ∷ xs) none i x at_i = by_first (f y) refl none
 
 -- one more event: searches ------------------------------------------------------------------------
 
-pub or_false : (b : Bool) → (b || false) ≡ b
-or_false true = refl
-or_false false = refl
-
-pub and_true : (b : Bool) → (b && true) ≡ b
-and_true true = refl
-and_true false = refl
-
-pub and_false : (b : Bool) → (b && false) ≡ false
-and_false true = refl
-and_false false = refl
-
 pub list_any_push : {X : Type 0} (p : X → Bool) (xs : List X) (x : X) → list_any p (xs ++ x ∷ []) ≡ (list_any p xs || p x)
 list_any_push p xs x = list_any-append p xs (x ∷ []) ∙ ap (λ b. list_any p xs || b) (or_false (p x))
 
@@ -64,8 +48,7 @@ list_any_same_at p q [] same = refl
 list_any_same_at p q (x ∷ xs) same = rw (same 0 x refl, list_any_same_at p q xs (λ i y at_i. same (suc i) y at_i)) refl
 
 pub or_nothing : {X : Type 0} (o : Option X) → option_or o None ≡ o
-or_nothing None = refl
-or_nothing (Some x) = refl
+or_nothing o = grind arith
 
 pub first_some_push : {X Y : Type 0} (f : X → Option Y) (xs : List X) (x : X) → first_some f (xs ++ x ∷ []) ≡ option_or (first_some f xs) (f x)
 first_some_push f [] x = or_nothing (f x)

@@ -1,12 +1,7 @@
 -- What holds of a list holds of what its base shows: where inductions over the events since a base begin.
-use Rattle.std.proofs.Common.{◌≡◌, ℕ, ◌+◌, true, List, sym, ◌∙◌, count_by}
-use Rattle.std.specs.List.{range_with_len}
-use Rattle.rx_event.specs.declared.event.Event.{Event}
-use Rattle.rx_event.specs.Events.{is_connect_of}
-use Rattle.rx_event.specs.Tree.{is_open}
-use Rattle.rx_event.specs.Totals.{held_count, waiting_count, taken_count, accepted_count}
-use Rattle.rx_event.specs.Kept.{Kept, shown}
-use Rattle.rx_event.specs.Bases.{base_of, Agree}
+use Rattle.rx_event.proofs.Laws.Common.{◌≡◌, ℕ, ◌+◌, true, List, sym, ◌∙◌, range_with_len, Event, is_connect_of, is_open, Kept, shown, base_of, Agree}
+use Rattle.rx_event.proofs.Laws.Common.{held_count, waiting_count, taken_count, accepted_count}
+use Rattle.std.proofs.Common.{count_by}
 use Rattle.rx_event.proofs.Laws.SoundForm.{Sound}
 use Rattle.rx_event.proofs.Laws.SameTree.{at_alike}
 use Rattle.rx_event.proofs.Laws.Bases.{base_alike}

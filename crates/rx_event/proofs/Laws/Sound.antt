@@ -1,37 +1,23 @@
 -- What is known of a lawful stored history, in the words that its base needs.
-use Rattle.std.proofs.Common.{subst, ◌≡◌, ℕ, suc, ◌<◌, ◌≤◌, Bool, true, false, List, [], ◌∷◌, ◌++◌, length, cond, Option, Some, None}
-use Rattle.std.proofs.Common.{refl, sym, ap, ◌∙◌, arith, inl, inr, ◌⊎◌, ◌==◌, slice_get, count_by, length-append, take, drop}
-use Rattle.std.proofs.Math.Bool.{not, ◌&&◌, ◌||◌}
-use Rattle.std.specs.List.{list_any}
-use Rattle.std.specs.Option.{option_and_then, option_map_or}
-use Rattle.std.proofs.lemmas.Bool.{cases_order, and_parts, both_ways, false≢true}
-use Rattle.std.proofs.lemmas.Option.{slice_get_within}
-use Rattle.std.proofs.lemmas.List.Sums.{sum_by-cons}
-use Rattle.rx_event.specs.declared.event.Place.{Place}
-use Rattle.rx_event.specs.declared.event.Kind.TheVariants.{Leaf, Sub}
-use Rattle.rx_event.specs.declared.event.Place.TheVariants.{Root, Source, Inner, Notifier}
-use Rattle.rx_event.specs.declared.event.Event.{Event}
-use Rattle.rx_event.specs.declared.event.Event.TheVariants.{Connect, Open, Accept}
-use Rattle.rx_event.specs.Events.{makes_hub, node_of_accept, is_remove_of}
-use Rattle.rx_event.specs.Tree.{is_within, at, is_open}
-use Rattle.rx_event.specs.Allowed.{IsInOrderAt, IsInOrder, IsHubbed}
+use Rattle.rx_event.proofs.Laws.Common.{subst, ◌≡◌, ℕ, suc, ◌<◌, ◌≤◌, Bool, true, false, List, [], ◌∷◌, ◌++◌, length, cond, Option, Some, None, refl, sym, ap}
+use Rattle.rx_event.proofs.Laws.Common.{◌∙◌, arith, inl, inr, ◌⊎◌, ◌==◌, slice_get, length-append, take, drop, not, ◌&&◌, ◌||◌, list_any, option_and_then}
+use Rattle.rx_event.proofs.Laws.Common.{option_map_or, cases_order, and_parts, both_ways, slice_get_within, sum_by-cons, Place, Leaf, Sub, Root}
+use Rattle.rx_event.proofs.Laws.Common.{Source, Inner, Notifier, Event, Connect, Open, Accept, makes_hub, node_of_accept, is_remove_of, is_within, is_open}
+use Rattle.rx_event.proofs.Laws.Common.{IsInOrderAt, is_owned, accepted_by, Kept, resource_kept, length-take-le, IsLawful, Kind, IsInOrder, IsHubbed}
+use Rattle.std.proofs.Common.{count_by}
 use Rattle.rx_event.proofs.Laws.Parents.{ancestors-append, is_within-le}
 use Rattle.rx_event.proofs.Laws.Places.{slice_get-append}
-use Rattle.rx_event.specs.Resources.{is_owned, accepted_by}
-use Rattle.rx_event.specs.Kept.{Kept, resource_kept}
 use Rattle.rx_event.proofs.Laws.SoundForm.{StandsWell, SubscribesWell, Sound}
 use Rattle.rx_event.proofs.Laws.Searches.{list_any_push}
 use Rattle.rx_event.proofs.Laws.Resources.{node_of, is_owned_past, node_of-lt}
-use Rattle.rx_event.proofs.Laws.OneEnd.{open_old}
-use Rattle.std.proofs.lemmas.List.{take-append-drop, length-take-le}
-use Rattle.rx_event.specs.Lawful.{IsLawful}
+use Rattle.rx_event.proofs.Laws.Openness.{open_old}
+use Rattle.std.proofs.lemmas.List.{take-append-drop}
 use Rattle.rx_event.proofs.Laws.Stands.{at_older, source_stands, inner_stands, notifier_stands}
 use Rattle.rx_event.proofs.Laws.Steps.{by_events, named_below}
 use Rattle.rx_event.proofs.Laws.Lawful.{in_base, since_base, FoundAt, found_at, shown_within}
-use Rattle.rx_event.proofs.Laws.Hubs.{may_connect_hub, may_subscribe}
+use Rattle.rx_event.proofs.Laws.Hubs.{may_subscribe}
 use Rattle.rx_event.proofs.Laws.LetGo.{connected_hub}
 use Rattle.rx_event.proofs.Laws.Switches.{one_inner}
-use Rattle.rx_event.specs.declared.event.Kind.{Kind}
 
 pub count_none : {X : Type 0} (p : X → Bool) (xs : List X) → ((i : ℕ) (x : X) → slice_get xs i ≡ Some x → p x ≡ false) → count_by p xs ≡ 0
 count_none p [] none = refl
@@ -51,12 +37,6 @@ pub order_older : (h : List Event) (n g p : ℕ) → n ≤ length h → p < n �
 order_older h n g p l less ordered =
     subst (λ (k : List Event). IsInOrderAt k g p) (take-append-drop n h)
     (order_over (take n h) (drop n h) g p (let s = length-take-le n h l in omega arith) ordered)
-
-pub hub_before : (b : Kept) (h : List Event) → IsLawful b h → (c g : ℕ) → slice_get h c ≡ Some (Connect g) → at makes_hub (take c h) g ≡ true
-hub_before b h law c g at_c = by_case (found_at b h law c (Connect g) at_c) where
-  by_case : FoundAt b h c (Connect g) → at makes_hub (take c h) g ≡ true
-  by_case (in_base found same) = ap (λ k. at makes_hub k g) same ∙ law.started.connects c g found
-  by_case (since_base next) = may_connect_hub b next
 
 pub hubbed_before : (b : Kept) (h : List Event) → IsLawful b h → (n : ℕ) (place : Place) (kind : Kind) → slice_get h n ≡ Some (Open place kind) →
     IsHubbed (take n h) place kind
@@ -80,11 +60,7 @@ owned-push b h e law r l =
     by_node (node_of h r) refl
   where
     shape : (o n s c : Bool) → (n ≡ true → o ≡ true) → (n && not (s || c)) ≡ ((o && not s) && (n && not c))
-    shape true n true true up = elim n as (λ v. (v && false) ≡ (false && (v && false))) [ true ↦ refl | false ↦ refl ]
-    shape true n true false up = elim n as (λ v. (v && false) ≡ (false && (v && true))) [ true ↦ refl | false ↦ refl ]
-    shape true n false c up = refl
-    shape false true s c up = absurd (false≢true (up refl))
-    shape false false s c up = refl
+    shape o n s c up = grind arith
 
     by_node : (o : Option ℕ) → node_of h r ≡ o →
         (option_map_or (is_open (h ++ e ∷ [])) o false && not (list_any (is_remove_of r) h || is_remove_of r e)) ≡

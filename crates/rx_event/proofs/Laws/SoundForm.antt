@@ -1,13 +1,6 @@
 -- What a stored history is, in the words that its laws need: b is the base, h the list that it reads as.
-use Rattle.std.specs.Prelude.{◌≡◌, ℕ, ◌<◌, Some, List, slice_get, IsTrue}
-use Rattle.rx_event.specs.declared.event.Place.TheVariants.{Source, Inner, Notifier}
-use Rattle.rx_event.specs.declared.event.Event.{Event}
-use Rattle.rx_event.specs.declared.event.Event.TheVariants.{Open, Connect}
-use Rattle.rx_event.specs.Events.{makes_hub, has_source, is_merging, is_until, is_switch, is_inner_of, parent_named}
-use Rattle.rx_event.specs.Tree.{at, is_open}
-use Rattle.rx_event.specs.Resources.{is_owned, accepted_by}
-use Rattle.rx_event.specs.Allowed.{IsHubbed}
-use Rattle.rx_event.specs.Kept.{Kept}
+use Rattle.rx_event.proofs.Laws.Common.{◌≡◌, ℕ, ◌<◌, Some, List, slice_get, Source, Inner, Notifier, Event, Open, Connect, makes_hub, has_source, is_merging}
+use Rattle.rx_event.proofs.Laws.Common.{is_until, is_switch, is_inner_of, parent_named, at, is_open, is_owned, accepted_by, Kept, IsTrue, IsHubbed}
 
 -- two open inners of one Switch
 pub record TwoOpenInners (h : List Event) (f a b : ℕ) : Type 0 where

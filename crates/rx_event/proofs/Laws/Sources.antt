@@ -1,19 +1,7 @@
 -- A node has one source at most.
-use Rattle.std.proofs.Common.{◌≡◌, ℕ, zero, suc, ◌<◌, Bool, true, false, List, [], ◌∷◌, Option, Some}
-use Rattle.std.proofs.Common.{None, refl, sym, ap, ◌∙◌, arith, inl, inr, ◌⊎◌, slice_get, take}
-use Rattle.std.proofs.Math.Bool.{◌||◌}
-use Rattle.std.specs.List.{list_any}
-use Rattle.std.specs.Option.{option_map_or}
-use Rattle.std.proofs.lemmas.Bool.{cases_order, both_ways, false≢true, eqb-true, or_parts, or_right}
-use Rattle.std.proofs.lemmas.Option.{slice_get_within}
-use Rattle.rx_event.specs.declared.event.Place.TheVariants.{Source}
-use Rattle.rx_event.specs.declared.event.Event.{Event}
-use Rattle.rx_event.specs.declared.event.Event.TheVariants.{Open}
-use Rattle.rx_event.specs.Kept.{Kept, shown}
-use Rattle.rx_event.specs.Events.{is_source_of}
-use Rattle.rx_event.specs.Tree.{at}
-use Rattle.rx_event.specs.Opened.{source_opened}
-use Rattle.rx_event.specs.Lawful.{IsLawful}
+use Rattle.rx_event.proofs.Laws.Common.{◌≡◌, ℕ, zero, suc, ◌<◌, Bool, true, false, List, [], ◌∷◌, Option, Some, None, refl, sym, ap, ◌∙◌, arith, inl, inr}
+use Rattle.rx_event.proofs.Laws.Common.{◌⊎◌, slice_get, take, ◌||◌, list_any, option_map_or, cases_order, both_ways, false≢true, eqb-true, slice_get_within}
+use Rattle.rx_event.proofs.Laws.Common.{Source, Event, Open, Kept, shown, is_source_of, at, source_opened, IsLawful, or_parts, or_right}
 use Rattle.rx_event.proofs.Laws.Places.{at-take, at_within}
 use Rattle.rx_event.proofs.Laws.Lawful.{FoundAt, in_base, since_base, found_at}
 use Rattle.rx_event.proofs.Laws.Steps.{may_open}

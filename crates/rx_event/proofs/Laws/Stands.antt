@@ -1,20 +1,11 @@
 -- Where nodes stand in a lawful history: below nodes, each place below what has such a place, connections topmost.
-use Rattle.std.proofs.Common.{subst, ◌≡◌, ℕ, ◌<◌, Bool, true, List, [], ◌∷◌, length, Some, None, refl}
-use Rattle.std.proofs.Common.{sym, ap, ◌∙◌, arith, zero, suc, inl, inr, ◌⊎◌, take, slice_get}
-use Rattle.std.specs.Option.{option_map_or}
-use Rattle.std.proofs.lemmas.Bool.{and_parts}
-use Rattle.std.proofs.lemmas.List.{length-take-le}
-use Rattle.std.proofs.lemmas.Option.{slice_get_within, same_Some, none-some}
+use Rattle.rx_event.proofs.Laws.Common.{subst, ◌≡◌, ℕ, ◌<◌, Bool, true, List, [], ◌∷◌, length, Some, None, refl, sym, ap, ◌∙◌, arith, zero, suc, inl, inr}
+use Rattle.rx_event.proofs.Laws.Common.{◌⊎◌, take, slice_get, option_map_or, and_parts, length-take-le, slice_get_within, same_Some, none-some, IsLawful}
+use Rattle.rx_event.proofs.Laws.Common.{Root, Source, Inner, Notifier, Kept, Place, Kind, Event, Open, Connect, makes_node, has_source, is_merging, is_until}
+use Rattle.rx_event.proofs.Laws.Common.{at, parent, is_within, is_open}
 use Rattle.rx_event.proofs.Laws.Steps.{named_open, may_open}
-use Rattle.rx_event.specs.Lawful.{HasPlace, IsLawful}
-use Rattle.rx_event.specs.declared.event.Place.TheVariants.{Root, Source, Inner, Notifier}
-use Rattle.rx_event.specs.Kept.{Kept}
-use Rattle.rx_event.specs.declared.event.Place.{Place}
-use Rattle.rx_event.specs.declared.event.Kind.{Kind}
-use Rattle.rx_event.specs.declared.event.Event.{Event}
-use Rattle.rx_event.specs.declared.event.Event.TheVariants.{Open, Connect}
-use Rattle.rx_event.specs.Events.{makes_node, has_source, is_merging, is_until}
-use Rattle.rx_event.specs.Tree.{at, parent, is_within, is_open, is_standing}
+use Rattle.rx_event.specs.Lawful.{HasPlace}
+use Rattle.rx_event.specs.Tree.{is_standing}
 use Rattle.rx_event.specs.Allowed.{IsFree}
 use Rattle.rx_event.proofs.Laws.Places.{at-take, at_within}
 use Rattle.rx_event.proofs.Laws.Parents.{parent-lt, parent_within, parent_name, within_cases}

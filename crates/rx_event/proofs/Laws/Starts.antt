@@ -1,15 +1,10 @@
 -- Where two courses of what is forced after one history begin alike: at the connection of the hub that waits, or at once.
-use Rattle.std.proofs.Common.{◌≡◌, ℕ, ◌≤◌, List, [], ◌∷◌, ◌++◌, length, take, slice_get, refl, sym, ap, subst}
-use Rattle.std.proofs.Common.{◌∙◌, inl, inr, ◌⊎◌, arith, append_assoc, append-nil, length-append}
+use Rattle.rx_event.proofs.Laws.Common.{◌≡◌, ℕ, ◌≤◌, List, [], ◌∷◌, ◌++◌, length, take, slice_get, refl, sym, ap, subst, ◌∙◌, inl, inr, ◌⊎◌, arith}
+use Rattle.rx_event.proofs.Laws.Common.{append_assoc, append-nil, length-append, same_Some, AllByRecursion, Kept, shown, Event, Connect, Accept, Moment}
+use Rattle.rx_event.proofs.Laws.Common.{moments_after, connecting, due, IsForced, IsConnectDue, IsConnected, IsSettled, forced, allowed, opened_with, stays}
+use Rattle.rx_event.proofs.Laws.Common.{more, MayFollow, IsLawful, IsForcedOn}
 use Rattle.std.proofs.Math.Seq.{take-append_seam}
-use Rattle.std.proofs.lemmas.Option.{same_Some}
-use Rattle.std.specs.List.{AllByRecursion}
-use Rattle.rx_event.specs.Kept.{Kept, shown}
-use Rattle.rx_event.specs.declared.event.Event.{Event}
-use Rattle.rx_event.specs.declared.event.Event.TheVariants.{Connect, Accept}
-use Rattle.rx_event.specs.Moments.{Moment, moments_after}
-use Rattle.rx_event.specs.Forced.{connecting, due, none_waits, one_waits, IsForced, IsConnectDue, IsConnected, IsSettled, MayWait}
-use Rattle.rx_event.specs.Lawful.{forced, allowed, opened_with, stays, more, MayFollow, IsLawful, IsForcedOn}
+use Rattle.rx_event.specs.Forced.{none_waits, one_waits, MayWait}
 use Rattle.rx_event.proofs.Laws.Lawful.{moments_after-push, IsLawful-push}
 use Rattle.rx_event.proofs.Laws.Places.{slice_get_last}
 use Rattle.rx_event.proofs.Laws.Steps.{by_events}

@@ -1,24 +1,12 @@
 -- What a caller opens stays open through all that is forced after it, and so does the node at which it hands in a resource.
-use Rattle.std.proofs.Common.{◌≡◌, ℕ, zero, suc, ◌+◌, ◌<◌, ◌≤◌, Bool, true, false, List, [], ◌∷◌, ◌++◌, length, Option, Some, None, slice_get}
-use Rattle.std.proofs.Common.{refl, sym, ap, subst, ◌∙◌, inl, inr, ◌⊎◌, ◌==◌, arith, length-append, append_assoc, append-nil}
-use Rattle.std.proofs.Math.Bool.{not, ◌&&◌}
-use Rattle.std.specs.List.{list_any}
-use Rattle.std.specs.Option.{option_map_or}
-use Rattle.std.proofs.lemmas.Bool.{false≢true, cases_order, and_parts, or_cases}
-use Rattle.std.proofs.lemmas.Option.{slice_get_within, same_Some}
-use Rattle.rx_note.specs.declared.note.Terminal.TheVariants.{Completed, Error}
+use Rattle.rx_event.proofs.Laws.Common.{◌≡◌, ℕ, zero, suc, ◌+◌, ◌<◌, ◌≤◌, Bool, true, false, List, [], ◌∷◌, ◌++◌, length, Option, Some, None, slice_get, refl}
+use Rattle.rx_event.proofs.Laws.Common.{sym, ap, subst, ◌∙◌, inl, inr, ◌⊎◌, ◌==◌, arith, length-append, append_assoc, append-nil, not, ◌&&◌, list_any}
+use Rattle.rx_event.proofs.Laws.Common.{option_map_or, false≢true, cases_order, and_parts, or_cases, slice_get_within, same_Some, Completed, Error, Kept}
+use Rattle.rx_event.proofs.Laws.Common.{shown, Place, Root, Source, Inner, Notifier, Kind, Pass, Event, Open, Connect, Accept, Close, is_subscriber_of}
+use Rattle.rx_event.proofs.Laws.Common.{parent_named, at, parent, ancestors, is_open, is_within, shuts, mirrored, fired, failed, completed, cut, left}
+use Rattle.rx_event.proofs.Laws.Common.{connecting, due, IsDue, IsForced, IsSettled, forced, allowed, opened_with, stays, more, MayFollow, IsLawful}
+use Rattle.rx_event.proofs.Laws.Common.{IsForcedOn}
 use Rattle.rx_event.proofs.Laws.Lawful.{IsLawful_empty, IsLawful-push}
-use Rattle.rx_event.specs.Kept.{Kept, shown}
-use Rattle.rx_event.specs.declared.event.Place.{Place}
-use Rattle.rx_event.specs.declared.event.Place.TheVariants.{Root, Source, Inner, Notifier}
-use Rattle.rx_event.specs.declared.event.Kind.{Kind}
-use Rattle.rx_event.specs.declared.event.Kind.TheVariants.{Pass}
-use Rattle.rx_event.specs.declared.event.Event.{Event}
-use Rattle.rx_event.specs.declared.event.Event.TheVariants.{Open, Connect, Accept, Close}
-use Rattle.rx_event.specs.Events.{is_subscriber_of, parent_named}
-use Rattle.rx_event.specs.Tree.{at, parent, ancestors, is_open, is_within, shuts}
-use Rattle.rx_event.specs.Forced.{mirrored, fired, failed, completed, cut, left, connecting, due, IsDue, IsForced, IsSettled}
-use Rattle.rx_event.specs.Lawful.{forced, allowed, opened_with, stays, more, MayFollow, IsLawful, IsForcedOn}
 use Rattle.rx_event.specs.Claims.Stays.{ends_or_declines, FiresNone}
 use Rattle.rx_event.proofs.Laws.Places.{slice_get-append, slice_get_last, at-append, at_within}
 use Rattle.rx_event.proofs.Laws.Parents.{ancestors_step, ancestors-append, within_cases, within_parent, is_within-le, parent-lt, parent_name}
@@ -27,8 +15,8 @@ use Rattle.rx_event.proofs.Laws.Steps.{by_events, forced_kind, may_accept}
 use Rattle.rx_event.proofs.Laws.Totals.{is_open_new}
 use Rattle.rx_event.proofs.Laws.Hubs.{hubs_in_order}
 use Rattle.rx_event.proofs.Laws.MarksInner.{switched_parent}
-use Rattle.rx_event.proofs.Laws.Calm.{EndsNone, IsUnused, KeepsSubscribers, ends_none_on, settled_ends_none, settled_used}
-use Rattle.rx_event.proofs.Laws.Calm.{unused_older, opened_settled, closes_none_kept, settled_on, unforced}
+use Rattle.rx_event.proofs.Laws.Calm.{EndsNone, IsUnused, KeepsSubscribers, ends_none_on, settled_ends_none, settled_used, unused_older, opened_settled}
+use Rattle.rx_event.proofs.Laws.Calm.{closes_none_kept, settled_on, unforced}
 
 -- what a step may not harm --------------------------------------------------------------------------
 

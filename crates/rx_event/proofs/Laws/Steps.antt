@@ -1,23 +1,11 @@
 -- Histories, one event more at a time: proofs by their events, and what stands where an event may follow.
-use Rattle.std.proofs.Common.{◌≡◌, ℕ, ℤ, ◌<◌, Bool, true, false, List, [], ◌∷◌, ◌++◌, take, Some, refl}
-use Rattle.std.proofs.Common.{sym, ap, ◌∙◌, subst, arith, slice_get, append_assoc, append-nil}
-use Rattle.std.specs.List.{AllByRecursion}
-use Rattle.std.proofs.lemmas.Grind.{common_steps}
-use Rattle.std.proofs.lemmas.Bool.{false≢true, lt-ltb}
-use Rattle.std.proofs.lemmas.Option.{slice_get_within, same_Some, none-some}
-use Rattle.rx_event.specs.Kept.{Kept, shown}
-use Rattle.rx_event.specs.declared.event.Place.{Place}
-use Rattle.rx_event.specs.declared.event.Place.TheVariants.{Root, Source, Inner, Notifier}
-use Rattle.rx_event.specs.declared.event.Kind.{Kind}
-use Rattle.rx_event.specs.declared.event.Event.{Event}
-use Rattle.rx_event.specs.declared.event.Event.TheVariants.{Open, Connect, Accept, Use, Remove, Lease, Return, Item, Decline, End, Close, Take}
-use Rattle.rx_event.specs.Events.{is_merging, parent_named}
-use Rattle.rx_event.specs.Tree.{at, parent, is_open}
-use Rattle.rx_event.specs.Resources.{is_owned, is_out, is_held, is_waiting}
-use Rattle.rx_event.specs.Moments.{Moment, moments_after, owed}
-use Rattle.rx_event.specs.Forced.{mirrored, left, connecting, due, IsDue, IsForced}
-use Rattle.rx_event.specs.Allowed.{opened, accepted, used, removed, leased, returned, emitted, declined, root_closed, disconnected, taken, IsFree, IsAllowed}
-use Rattle.rx_event.specs.Lawful.{Started, forced, allowed, opened_with, MayFollow, IsLawful}
+use Rattle.rx_event.proofs.Laws.Common.{◌≡◌, ℕ, ℤ, ◌<◌, Bool, true, false, List, [], ◌∷◌, ◌++◌, take, Some, refl, sym, ap, ◌∙◌, subst, arith, slice_get}
+use Rattle.rx_event.proofs.Laws.Common.{append_assoc, append-nil, AllByRecursion, false≢true, lt-ltb, slice_get_within, same_Some, none-some, Kept, shown}
+use Rattle.rx_event.proofs.Laws.Common.{Place, Root, Source, Inner, Notifier, Kind, Event, Open, Connect, Accept, Use, Remove, Lease, Return, Item, Decline}
+use Rattle.rx_event.proofs.Laws.Common.{End, Close, Take, is_merging, parent_named, at, parent, is_open, is_owned, is_out, is_held, is_waiting, Moment}
+use Rattle.rx_event.proofs.Laws.Common.{moments_after, owed, mirrored, left, connecting, due, IsDue, IsForced, IsAllowed, Started, forced, allowed}
+use Rattle.rx_event.proofs.Laws.Common.{opened_with, MayFollow, IsLawful, common_steps}
+use Rattle.rx_event.specs.Allowed.{opened, accepted, used, removed, leased, returned, emitted, declined, taken, IsFree}
 use Rattle.rx_event.proofs.Laws.Openness.{is_open_within}
 use Rattle.rx_event.proofs.Laws.Lawful.{IsLawful-push, IsLawful_empty, in_base, since_base, FoundAt, found_at}
 
@@ -114,8 +102,7 @@ forced_close : (base : Kept) → {h : List Event} {c : ℕ} → IsForced base h 
 forced_close base (due n d) = due_close base d
 
 allowed_close : (base : Kept) → {h : List Event} {c : ℕ} → IsAllowed base h (Close c) → is_open h c ≡ true
-allowed_close base (root_closed o k) = o
-allowed_close base (disconnected o at_c a) = o
+allowed_close base given = grind arith
 
 -- what is closed is open before
 pub may_close : (base : Kept) → {h : List Event} {c : ℕ} → MayFollow base h (Close c) → is_open h c ≡ true

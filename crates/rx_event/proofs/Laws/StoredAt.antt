@@ -1,7 +1,6 @@
 -- Places of a stored history.
-use Rattle.std.proofs.Common.{◌≡◌, ℕ, zero, suc, ◌+◌, ◌-◌, ◌≤◌, List, [], ◌∷◌, ◌++◌, length, ap, ◌∙◌, arith, slice_get, length-append, append-nil}
-use Rattle.rx_event.specs.declared.event.Event.{Event}
-use Rattle.rx_event.specs.Kept.{Kept, shown}
+use Rattle.rx_event.proofs.Laws.Common.{◌≡◌, ℕ, zero, suc, ◌+◌, ◌-◌, ◌≤◌, List, [], ◌∷◌, ◌++◌, length, ap, ◌∙◌, arith, slice_get, length-append, append-nil}
+use Rattle.rx_event.proofs.Laws.Common.{Event, Kept, shown}
 use Rattle.rx_event.proofs.Laws.Bases.{length-shown}
 
 pub length_stored : (b : Kept) (es : List Event) → length (shown b ++ es) ≡ b.at_length + length es

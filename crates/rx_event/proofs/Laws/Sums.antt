@@ -1,17 +1,14 @@
 -- Sums over the places of a history.
-use Rattle.std.proofs.Common.{◌≡◌, ℕ, zero, suc, ◌+◌, ◌<◌, ◌≤◌, Bool, true, false, List, [], ◌∷◌, ◌++◌, length}
-use Rattle.std.proofs.Common.{cond, refl, sym, ap, ◌∙◌, arith, inl, inr, ◌⊎◌, ◌==◌, add-zero, length-append}
-use Rattle.std.specs.List.{sum_by, count_by, range_with_len}
-use Rattle.std.proofs.lemmas.Bool.{cases_order, eq-eqb, ne_eqb}
-use Rattle.std.proofs.lemmas.List.Sums.{sum_by_push}
-use Rattle.rx_event.specs.declared.event.Event.{Event}
-use Rattle.rx_event.specs.Tree.{at, places}
+use Rattle.rx_event.proofs.Laws.Common.{◌≡◌, ℕ, zero, suc, ◌+◌, ◌<◌, ◌≤◌, Bool, true, false, List, [], ◌∷◌, ◌++◌, length, cond, refl, sym, ap, ◌∙◌, arith}
+use Rattle.rx_event.proofs.Laws.Common.{inl, inr, ◌⊎◌, ◌==◌, length-append, sum_by, count_by, range_with_len, cases_order, eq-eqb, ne_eqb, sum_by_push, Event}
+use Rattle.rx_event.proofs.Laws.Common.{at, places}
+use Rattle.std.proofs.Common.{add-zero}
 use Rattle.rx_event.proofs.Laws.Places.{slice_get_last, at-append}
 use Rattle.rx_event.proofs.Laws.Steps.{by_pushes}
 
 -- one number more ---------------------------------------------------------------------------------
 
-range_push : (a n : ℕ) → range_with_len a (suc n) ≡ range_with_len a n ++ (a + n) ∷ []
+pub range_push : (a n : ℕ) → range_with_len a (suc n) ≡ range_with_len a n ++ (a + n) ∷ []
 range_push a zero = ap (λ (k : ℕ). k ∷ []) (sym (add-zero a))
 range_push a (suc n) =
     let same : (a + 1) + n ≡ a + suc n = omega arith in

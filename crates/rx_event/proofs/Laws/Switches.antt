@@ -1,18 +1,8 @@
 -- The inners of a Switch: at most one is open, and the opening of another closes it with all below it.
-use Rattle.std.proofs.Common.{◌≡◌, ℕ, ◌+◌, ◌<◌, Bool, true, false, List, [], ◌∷◌, ◌++◌, length, Option, Some}
-use Rattle.std.proofs.Common.{None, refl, sym, ap, ◌∙◌, arith, inl, inr, ◌⊎◌, ◌==◌, slice_get, length-append}
-use Rattle.std.proofs.Math.Bool.{not, ◌&&◌}
-use Rattle.std.specs.List.{AllByRecursion, list_any}
-use Rattle.std.specs.Option.{option_map_or}
-use Rattle.std.proofs.lemmas.Bool.{cases_Bool, cases_order, both_ways, false≢true, and_parts, and_from, eq-eqb, eqb-true, lt-ltb}
-use Rattle.rx_event.specs.Kept.{Kept}
-use Rattle.rx_event.specs.declared.event.Place.TheVariants.{Root, Inner}
-use Rattle.rx_event.specs.declared.event.Kind.{Kind}
-use Rattle.rx_event.specs.declared.event.Event.{Event}
-use Rattle.rx_event.specs.declared.event.Event.TheVariants.{Open}
-use Rattle.rx_event.specs.Events.{is_switch, is_inner_of, parent_named}
-use Rattle.rx_event.specs.Tree.{at, ancestors, is_open, is_within, is_switched_inner}
-use Rattle.rx_event.specs.Lawful.{IsLawful}
+use Rattle.rx_event.proofs.Laws.Common.{◌≡◌, ℕ, ◌+◌, ◌<◌, Bool, true, false, List, [], ◌∷◌, ◌++◌, length, Option, Some, None, refl, sym, ap, ◌∙◌, arith, inl}
+use Rattle.rx_event.proofs.Laws.Common.{inr, ◌⊎◌, ◌==◌, slice_get, length-append, not, ◌&&◌, AllByRecursion, list_any, option_map_or, cases_Bool, cases_order}
+use Rattle.rx_event.proofs.Laws.Common.{both_ways, false≢true, and_parts, and_from, eq-eqb, eqb-true, lt-ltb, Kept, Root, Inner, Kind, Event, Open, is_switch}
+use Rattle.rx_event.proofs.Laws.Common.{is_inner_of, parent_named, at, ancestors, is_open, is_within, IsLawful, is_switched_inner}
 use Rattle.rx_event.specs.Claims.Nodes.{IsOpenInner}
 use Rattle.rx_event.proofs.Laws.Places.{slice_get_last, at-append}
 use Rattle.rx_event.proofs.Laws.Openness.{is_cut, is_cut_inner_flat, is_open_cut, is_open_within, ancestors_open, self_cut}
@@ -98,12 +88,10 @@ list_any-agree P p q same [] a = refl
 list_any-agree P p q same (x ∷ xs) a = rw (same x a.0, list_any-agree P p q same xs a.1) refl
 
 and_same : (a b c : Bool) → (a ≡ true → b ≡ c) → (a && not b) ≡ (a && not c)
-and_same true b c same = ap not (same refl)
-and_same false b c same = refl
+and_same a b c same = grind arith
 
 and_yes : (a b : Bool) → (a ≡ true → b ≡ false) → (a && not b) ≡ a
-and_yes true b none = ap not (none refl)
-and_yes false b none = refl
+and_yes a b none = grind arith
 
 -- the open inner of a Switch is the only one
 same_inner : {base : Kept} → {h : List Event} (f c : ℕ) → IsLawful base h → at is_switch h f ≡ true → at (is_inner_of f) h c ≡ true → is_open h c ≡ true →
@@ -159,5 +147,4 @@ is_cut-inner_switch {h} f c kind law switch inner o n =
     (ancestors h n) (ancestors_open h n here))
   where
     cut_same : (a b c : Bool) → (a ≡ true → b ≡ c) → (a && b) ≡ (a && c)
-    cut_same true b c same = same refl
-    cut_same false b c same = refl
+    cut_same a b c same = grind arith

@@ -1,28 +1,18 @@
 -- What one more event adds to the totals.
-use Rattle.std.proofs.Common.{◌≡◌, ℕ, ◌+◌, ◌<◌, ◌≤◌, Bool, true, false, List, [], ◌∷◌, ◌++◌, length, Option, Some, None, cond, refl, sym, ap, ◌∙◌, arith}
-use Rattle.std.proofs.Common.{inl, inr, ◌⊎◌, ◌==◌, length-append}
-use Rattle.std.proofs.Math.Bool.{not, ◌&&◌, ◌||◌}
-use Rattle.std.specs.List.{sum_by, count_by}
-use Rattle.std.specs.Option.{option_map_or}
-use Rattle.std.proofs.lemmas.Bool.{cases_Bool, both_ways, false≢true, eq-eqb, eqb-true, ne_eqb}
-use Rattle.std.proofs.lemmas.List.Sums.{sum_by_push}
-use Rattle.rx_note.specs.declared.note.Terminal.{Terminal}
+use Rattle.rx_event.proofs.Laws.Common.{◌≡◌, ℕ, ◌+◌, ◌<◌, ◌≤◌, Bool, true, false, List, [], ◌∷◌, ◌++◌, length, Option, Some, None, cond, refl, sym, ap, ◌∙◌}
+use Rattle.rx_event.proofs.Laws.Common.{arith, inl, inr, ◌⊎◌, ◌==◌, length-append, not, ◌&&◌, ◌||◌, sum_by, count_by, option_map_or, cases_Bool, false≢true}
+use Rattle.rx_event.proofs.Laws.Common.{eq-eqb, eqb-true, ne_eqb, sum_by_push, Terminal, Kept, resource_kept, Source, Inner, Notifier, Kind, Event, Open}
+use Rattle.rx_event.proofs.Laws.Common.{Accept, Use, Remove, End, Close, Take, makes_node, makes_resource, node_of_accept, parent_named, is_use_of}
+use Rattle.rx_event.proofs.Laws.Common.{is_take_of, places, is_open, is_within, is_owned, is_held, is_waiting, uses, open_count, MayFollow, IsLawful}
+use Rattle.rx_event.proofs.Laws.Common.{and_false, counted_in_parts, counted_once, none_counted, is_take, is_leased, accepted_count, taken_count, held_count}
+use Rattle.rx_event.proofs.Laws.Common.{waiting_count}
 use Rattle.rx_event.specs.declared.base.BaseResource.{BaseResource}
-use Rattle.rx_event.specs.Kept.{Kept, resource_kept}
-use Rattle.rx_event.specs.declared.event.Place.TheVariants.{Source, Inner, Notifier}
-use Rattle.rx_event.specs.declared.event.Kind.{Kind}
-use Rattle.rx_event.specs.declared.event.Event.{Event}
-use Rattle.rx_event.specs.declared.event.Event.TheVariants.{Open, Accept, Use, Remove, End, Close, Take}
-use Rattle.rx_event.specs.Events.{makes_node, makes_resource, node_of_accept, parent_named, is_use_of, is_take_of, is_item, is_take}
-use Rattle.rx_event.specs.Tree.{places, is_open, is_within}
-use Rattle.rx_event.specs.Resources.{is_owned, is_leased, is_held, is_waiting, uses}
-use Rattle.rx_event.specs.Totals.{item_count, accepted_count, taken_count, owned_count, held_count, waiting_count, open_count}
-use Rattle.rx_event.specs.Lawful.{MayFollow, IsLawful}
+use Rattle.rx_event.specs.Events.{is_item}
+use Rattle.rx_event.specs.Totals.{item_count, owned_count}
 use Rattle.rx_event.specs.Claims.Nodes.{IsOpenInner}
-use Rattle.rx_event.proofs.Laws.Searches.{and_false}
 use Rattle.rx_event.proofs.Laws.Parents.{ancestors_step}
-use Rattle.rx_event.proofs.Laws.Openness.{is_cut, is_cut_none, is_cut_inner, is_open_cut, is_open_last}
-use Rattle.rx_event.proofs.Laws.Openness.{is_open_made, is_open_within, is_open_last_none, shuts_none}
+use Rattle.rx_event.proofs.Laws.Openness.{is_cut, is_cut_none, is_cut_inner, is_open_cut, is_open_last, is_open_made, is_open_within, is_open_last_none}
+use Rattle.rx_event.proofs.Laws.Openness.{shuts_none}
 use Rattle.rx_event.proofs.Laws.Steps.{by_events, may_name, may_accept, may_use, may_remove, may_take}
 use Rattle.rx_event.proofs.Laws.Sums.{sum_by-places-push, sums_balance, sum_by-same, sum_by_no_rise, sum_by_falls, sum_by_none, sum_by_one, count_by_one}
 use Rattle.rx_event.proofs.Laws.Switches.{is_cut-inner_switch}
@@ -83,25 +73,16 @@ pub owned_count-push : (base : Kept) → (h : List Event) (e : Event) → IsLawf
 owned_count-push base h e law =
     let older : count_by (is_owned (h ++ e ∷ [])) (places h) + unowned_count h e ≡ owned_count h + sum_by (λ (r : ℕ). 0) (places h) =
     sums_balance (λ r. cond (is_owned (h ++ e ∷ []) r) 1 0) (λ r. cond (is_owned h r && loses h e r) 1 0) (λ r. cond (is_owned h r) 1 0) (λ r. 0) (length h)
-    (λ r l. rw (is_owned-push base h e law r l) (shape (is_owned h r) (loses h e r))) in
+    (λ r l. rw (is_owned-push base h e law r l) (counted_in_parts (is_owned h r) (loses h e r))) in
     let none = sum_by_none (λ r. 0) (length h) (λ r l. refl) in
     let last = sum_by-places-push (λ r. cond (is_owned (h ++ e ∷ []) r) 1 0) h e in
     let new = one_if (is_owned_last base h e law) in
     omega arith
-  where
-    shape : (owned lost : Bool) → cond (owned && not lost) 1 0 + cond (owned && lost) 1 0 ≡ cond owned 1 0 + 0
-    shape true true = refl
-    shape true false = refl
-    shape false lost = refl
 
 -- what is owned is held
 pub owned_count_within : (h : List Event) → owned_count h ≤ held_count h
 owned_count_within h = sum_by_no_rise (λ r. cond (is_held h r) 1 0) (λ r. cond (is_owned h r) 1 0) (length h)
-    (λ r l. shape (is_owned h r) (is_held h r) (owned_held h r)) where
-      shape : (owned held : Bool) → (owned ≡ true → held ≡ true) → cond {A = ℕ} owned 1 0 ≤ cond {A = ℕ} held 1 0
-      shape true true up = omega arith
-      shape true false up = absurd (false≢true (up refl))
-      shape false held up = omega arith
+    (λ r l. counted_once (is_owned h r) (is_held h r) (owned_held h r))
 
 -- how many resources are held no more after the event
 abbrev pub lost_count : List Event → Event → ℕ
@@ -120,10 +101,7 @@ held_count-push base h e law next =
     omega arith
   where
     shape : (after held : Bool) → (after ≡ true → held ≡ true) → cond {A = ℕ} after 1 0 + cond {A = ℕ} (held && not after) 1 0 ≡ cond {A = ℕ} held 1 0 + 0
-    shape true true old = refl
-    shape true false old = absurd (false≢true (old refl))
-    shape false true old = refl
-    shape false false old = refl
+    shape after held old = grind arith
 
 takes_once : (base : Kept) → (h : List Event) (e : Event) → MayFollow base h e → count_by (λ r. is_take_of r e) (places h) ≡ cond (is_take e) 1 0
 takes_once base h (Take q) next = count_by_one q (length h) (is_waiting_within h q (may_take base next))
@@ -149,13 +127,7 @@ waiting_count-push base h e law next =
   where
     shape : (w b k t : Bool) → (w ≡ true → b ≡ false) → (t ≡ true → w ≡ true) →
         cond ((w || (b && k)) && not t) 1 0 + cond t 1 0 ≡ cond w 1 0 + cond (b && k) 1 0
-    shape true true k t apart waited = absurd (both_ways _ (apart refl) refl)
-    shape true false k true apart waited = refl
-    shape true false k false apart waited = refl
-    shape false b k true apart waited = absurd (false≢true (waited refl))
-    shape false true true false apart waited = refl
-    shape false true false false apart waited = refl
-    shape false false k false apart waited = refl
+    shape w b k t apart waited = grind arith
 
 pub accepts_open : (base : Kept) → (h : List Event) (e : Event) → MayFollow base h e → option_map_or (is_open h) (node_of_accept e) false ≡ makes_resource e
 accepts_open base h (Accept n tag) next = may_accept base next
@@ -175,18 +147,13 @@ accepted_count-parts base =
 pub lost_none : (h : List Event) (e : Event) → ((r : ℕ) → r < length h → is_held (h ++ e ∷ []) r ≡ is_held h r) → lost_count h e ≡ 0
 lost_none h e keeps = sum_by_none (λ r. cond (is_held h r && not (is_held (h ++ e ∷ []) r)) 1 0) (length h) (λ r l. rw (keeps r l) (shape (is_held h r))) where
   shape : (b : Bool) → cond {A = ℕ} (b && not b) 1 0 ≡ 0
-  shape true = refl
-  shape false = refl
+  shape b = grind arith
 
 pub unowned_none : (h : List Event) (e : Event) → ((r : ℕ) → loses h e r ≡ false) → unowned_count h e ≡ 0
-unowned_none h e keeps = sum_by_none (λ r. cond (is_owned h r && loses h e r) 1 0) (length h) (λ r l. rw (keeps r) (shape (is_owned h r))) where
-  shape : (b : Bool) → cond {A = ℕ} (b && false) 1 0 ≡ 0
-  shape true = refl
-  shape false = refl
+unowned_none h e keeps = sum_by_none (λ r. cond (is_owned h r && loses h e r) 1 0) (length h) (λ r l. rw (keeps r) (none_counted (is_owned h r)))
 
 no_accept : (h : List Event) (e : Event) → makes_resource e ≡ false → option_map_or (is_open h) (node_of_accept e) false ≡ false
-no_accept h (Accept n tag) none = absurd (false≢true (sym none))
-no_accept h _ none = refl
+no_accept h e none = grind arith
 
 -- no event but an acceptance raises what is held, or what is owned
 pub held_count_no_rise : (base : Kept) → (h : List Event) (e : Event) → IsLawful base h → MayFollow base h e → makes_resource e ≡ false → held_count
@@ -270,13 +237,7 @@ lost_one base h q law owned =
     sum_by_one (λ r. cond (is_leased h r) 0 1) q (length h) (is_owned_within h q owned)
   where
     shape : (o s same : Bool) → (same ≡ true → o ≡ true) → cond {A = ℕ} ((o || s) && not ((o && not same) || s)) 1 0 ≡ cond same (cond s 0 1) 0
-    shape true true true there = refl
-    shape true false true there = refl
-    shape true true false there = refl
-    shape true false false there = refl
-    shape false s true there = absurd (false≢true (there refl))
-    shape false true false there = refl
-    shape false false false there = refl
+    shape o s same there = grind arith
 
     there : (r : ℕ) → (q == r) ≡ true → is_owned h r ≡ true
     there r same = ap (is_owned h) (sym (eqb-true q r same)) ∙ owned
@@ -312,15 +273,10 @@ pub open_count-push : (h : List Event) (e : Event) → open_count (h ++ e ∷ []
 open_count-push h e =
     let older : count_by (is_open (h ++ e ∷ [])) (places h) + cut_count h e ≡ open_count h + sum_by (λ (n : ℕ). 0) (places h) =
     sums_balance (λ n. cond (is_open (h ++ e ∷ []) n) 1 0) (λ n. cond (is_open h n && is_cut h e n) 1 0) (λ n. cond (is_open h n) 1 0) (λ n. 0) (length h)
-    (λ n l. rw (is_open_cut h e n l) (shape (is_open h n) (is_cut h e n))) in
+    (λ n l. rw (is_open_cut h e n l) (counted_in_parts (is_open h n) (is_cut h e n))) in
     let none = sum_by_none (λ n. 0) (length h) (λ n l. refl) in
     let last = sum_by-places-push (λ n. cond (is_open (h ++ e ∷ []) n) 1 0) h e in
     omega arith
-  where
-    shape : (o c : Bool) → cond (o && not c) 1 0 + cond (o && c) 1 0 ≡ cond o 1 0 + 0
-    shape true true = refl
-    shape true false = refl
-    shape false c = refl
 
 -- what is made is open, where it names an open node
 pub is_open_named : (h : List Event) (e : Event) → ((p : ℕ) → parent_named e ≡ Some p → is_open h p ≡ true) → is_open (h ++ e ∷ []) (length h) ≡ makes_node e
@@ -342,12 +298,8 @@ pub open_count_uncut : (base : Kept) → (h : List Event) (e : Event) → MayFol
 open_count_uncut base h e next whole =
     let b = open_count-push h e in
     let n = one_if (is_open_new base h e next) in
-    let k = sum_by_none (λ n. cond (is_open h n && is_cut h e n) 1 0) (length h) (λ n l. rw (whole n) (shape (is_open h n))) in
+    let k = sum_by_none (λ n. cond (is_open h n && is_cut h e n) 1 0) (length h) (λ n l. rw (whole n) (none_counted (is_open h n))) in
     omega arith
-  where
-    shape : (b : Bool) → cond {A = ℕ} (b && false) 1 0 ≡ 0
-    shape true = refl
-    shape false = refl
 
 pub open_count_made : (base : Kept) → (h : List Event) (e : Event) → MayFollow base h e → shuts_none e ≡ true →
     open_count (h ++ e ∷ []) ≡ open_count h + cond (makes_node e) 1 0

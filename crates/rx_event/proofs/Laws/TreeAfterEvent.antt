@@ -1,27 +1,16 @@
 -- Two lists of events whose open nodes and hubs are the same but for their numbers: an event takes away the same from both, and leaves them the same.
-use Rattle.std.proofs.Common.{◌≡◌, ℕ, zero, suc, ◌<◌, true, false, List, [], ◌∷◌, ◌++◌, length, Option, Some, None, nat_lt}
-use Rattle.std.proofs.Common.{slice_get, refl, sym, ap, subst, ◌∙◌, inl, inr, ◌⊎◌, arith, length-append}
-use Rattle.std.proofs.Math.Bool.{not, ◌&&◌}
-use Rattle.std.specs.List.{list_any}
-use Rattle.std.specs.Option.{option_map_or}
-use Rattle.std.proofs.lemmas.Bool.{false≢true, both_ways, cases_order, and_parts, and_from, eq-eqb, eqb-true, false_from_ne_true}
-use Rattle.std.proofs.lemmas.Bool.{or_cases, or_right, ltb-true, lt-ltb}
-use Rattle.std.proofs.lemmas.Option.{slice_get_within, same_Some}
-use Rattle.rx_event.specs.declared.event.Place.TheVariants.{Root, Source, Inner, Notifier}
-use Rattle.rx_event.specs.declared.event.Mode.{Mode}
-use Rattle.rx_event.specs.declared.event.Event.{Event}
-use Rattle.rx_event.specs.declared.event.Event.TheVariants.{Open, Hub, End, Close}
-use Rattle.rx_event.specs.Events.{makes_node, parent_named, is_switch, is_inner_of}
-use Rattle.rx_event.specs.Tree.{at, parent, ancestors, is_open, shuts}
-use Rattle.rx_event.specs.Renumbered.{event_by, is_named}
+use Rattle.rx_event.proofs.Laws.Common.{◌≡◌, ℕ, zero, suc, ◌<◌, true, false, List, [], ◌∷◌, ◌++◌, length, Option, Some, None, nat_lt, slice_get, refl, sym}
+use Rattle.rx_event.proofs.Laws.Common.{ap, subst, ◌∙◌, inl, inr, ◌⊎◌, arith, length-append, not, ◌&&◌, list_any, option_map_or, false≢true, both_ways}
+use Rattle.rx_event.proofs.Laws.Common.{cases_order, and_parts, and_from, eq-eqb, eqb-true, false_from_ne_true, or_cases, lt-ltb, slice_get_within, same_Some}
+use Rattle.rx_event.proofs.Laws.Common.{Root, Source, Inner, Notifier, Mode, Event, Open, Hub, End, Close, makes_node, parent_named, is_switch, is_inner_of}
+use Rattle.rx_event.proofs.Laws.Common.{at, parent, ancestors, is_open, shuts, event_by, is_named, or_right, ltb-true, not-true as not_false}
 use Rattle.rx_event.proofs.Laws.Places.{slice_get-append, slice_get_last}
 use Rattle.rx_event.proofs.Laws.Parents.{parent-lt, ancestors_step}
-use Rattle.rx_event.proofs.Laws.Openness.{is_open_within, is_open_cut, is_cut, self_cut, parent_open}
+use Rattle.rx_event.proofs.Laws.Openness.{is_open_within, is_open_cut, is_cut, self_cut, parent_open, open_old}
 use Rattle.rx_event.proofs.Laws.Stands.{open_node}
 use Rattle.rx_event.proofs.Laws.Totals.{is_open_named}
-use Rattle.rx_event.proofs.Laws.MarksEnds.{not_false}
-use Rattle.rx_event.proofs.Laws.OneEnd.{open_old}
-use Rattle.rx_event.proofs.Laws.TreeRead.{IsTreeRead, AreTreesRead, StandsBelow, trees_back, same_at, test_there, parent_there, switch_by, inner_by, makes_by, node_named, event_by_itself}
+use Rattle.rx_event.proofs.Laws.TreeRead.{IsTreeRead, AreTreesRead, StandsBelow, trees_back, same_at, test_there, parent_there, switch_by, inner_by, makes_by}
+use Rattle.rx_event.proofs.Laws.TreeRead.{node_named, event_by_itself}
 
 -- what an event takes away ------------------------------------------------------------------------------------------------
 

@@ -1,28 +1,15 @@
 -- Two lists of events whose open nodes and hubs are the same but for their numbers: where nodes stand, who subscribes,
 -- and where an item stops. Neither has to be lawful.
-use Rattle.std.proofs.Common.{◌≡◌, ℕ, zero, suc, ◌<◌, Bool, true, false, List, [], ◌∷◌, ◌++◌, length, Option, Some, None, cond}
-use Rattle.std.proofs.Common.{option_map, slice_get, filter, map, refl, sym, ap, ◌∙◌, inl, inr, ◌⊎◌, ◌==◌, arith}
-use Rattle.std.proofs.Math.Bool.{◌&&◌}
-use Rattle.std.specs.List.{AllByRecursion, filter_map, cons_option}
-use Rattle.std.specs.Option.{option_map_or, option_and_then, option_to_list}
+use Rattle.rx_event.proofs.Laws.Common.{◌≡◌, ℕ, zero, suc, ◌<◌, Bool, true, false, List, [], ◌∷◌, ◌++◌, length, Option, Some, None, cond, slice_get, filter}
+use Rattle.rx_event.proofs.Laws.Common.{map, refl, sym, ap, ◌∙◌, inl, inr, ◌⊎◌, ◌==◌, arith, ◌&&◌, AllByRecursion, filter_map, option_map_or, option_and_then}
+use Rattle.rx_event.proofs.Laws.Common.{false≢true, and_parts, and_from, eq-eqb, eqb-true, lt-ltb, same_Some, Place, Source, Inner, Kind, Sub, Mode, Event}
+use Rattle.rx_event.proofs.Laws.Common.{Open, Hub, Connect, makes_node, makes_hub, parent_named, is_merging, is_switch, is_inner_of, is_subscriber_of}
+use Rattle.rx_event.proofs.Laws.Common.{is_connect_of, at, places, parent, if_less, is_open, is_within, open_nodes, open_subscribers, open_connections}
+use Rattle.rx_event.proofs.Laws.Common.{is_open_child_of, Stop, Delivery, Projection, Firing, most_visits, climb, stops, is_child_of, open_children, event_by}
+use Rattle.rx_event.proofs.Laws.Common.{is_named, option_map, cons_option, option_to_list, length-map, map-append, length-filter, visits, place_by}
 use Rattle.std.specs.Cmp.{both_ways as same_test}
-use Rattle.std.proofs.lemmas.Bool.{false≢true, and_parts, and_from, eq-eqb, eqb-true, lt-ltb}
-use Rattle.std.proofs.lemmas.List.{length-map, map-append}
-use Rattle.std.proofs.lemmas.List.Sums.{length-filter}
-use Rattle.std.proofs.lemmas.Option.{same_Some}
-use Rattle.rx_event.specs.declared.event.Place.{Place}
-use Rattle.rx_event.specs.declared.event.Place.TheVariants.{Root, Source, Inner}
-use Rattle.rx_event.specs.declared.event.Kind.{Kind}
-use Rattle.rx_event.specs.declared.event.Kind.TheVariants.{Leaf, Sub}
-use Rattle.rx_event.specs.declared.event.Mode.{Mode}
-use Rattle.rx_event.specs.declared.event.Event.{Event}
-use Rattle.rx_event.specs.declared.event.Event.TheVariants.{Open, Hub, Connect}
-use Rattle.rx_event.specs.Events.{makes_node, makes_hub, parent_named, is_merging, is_switch, is_inner_of, is_subscriber_of, is_connect_of}
-use Rattle.rx_event.specs.Tree.{at, places, parent, if_less, is_open, is_within, open_nodes, open_subscribers, open_connections, is_open_child_of}
-use Rattle.rx_event.specs.Climb.{Stop, Delivery, Projection, Firing, stop_made, stop_at, onward_from, onward_unless, onward, visited, most_visits}
-use Rattle.rx_event.specs.Climb.{climb, stops, visits}
-use Rattle.rx_event.specs.Marks.{is_child_of, open_children}
-use Rattle.rx_event.specs.Renumbered.{place_by, kind_by, event_by, is_named}
+use Rattle.rx_event.specs.Climb.{stop_made, stop_at, onward_from, onward_unless, onward, visited}
+use Rattle.rx_event.specs.Renumbered.{kind_by}
 use Rattle.rx_event.proofs.Laws.Lists.{AllByRecursion-both}
 use Rattle.rx_event.proofs.Laws.Parents.{parent-lt, within_cases, within_parent}
 use Rattle.rx_event.proofs.Laws.Openness.{is_open_within, parent_open}
@@ -54,8 +41,7 @@ pub record AreTreesRead (r s : ℕ → ℕ) (p q : List Event) : Type 0 where
 
 -- the parent that an event names, with other numbers
 pub parent_named_by : (r : ℕ → ℕ) (e : Event) → parent_named (event_by r e) ≡ option_map r (parent_named e)
-parent_named_by r (Open Root kind) = refl
-parent_named_by r _ = refl
+parent_named_by r e = grind arith
 
 pub named_parent : (p : List Event) (n m : ℕ) (e : Event) → slice_get p n ≡ Some e → parent_named e ≡ Some m → m < n → parent p n ≡ Some m
 unfolding parent
@@ -98,21 +84,16 @@ hub_made h g = by_event (slice_get h g) where
 -- tests of one event --------------------------------------------------------------------------------------------------
 
 pub makes_by : (r : ℕ → ℕ) (e : Event) → makes_node (event_by r e) ≡ makes_node e
-makes_by r (Open place kind) = refl
-makes_by r _ = refl
+makes_by r e = grind arith
 
 pub node_named : (e : Event) → makes_node e ≡ true → is_named e ≡ true
-node_named (Open place kind) made = refl
-node_named (Connect g) made = refl
-node_named _ made = absurd (false≢true made)
+node_named e made = grind arith
 
 pub merging_by : (r : ℕ → ℕ) (e : Event) → is_merging (event_by r e) ≡ is_merging e
-merging_by r (Open place Leaf) = refl
-merging_by r _ = refl
+merging_by r e = grind arith
 
 pub switch_by : (r : ℕ → ℕ) (e : Event) → is_switch (event_by r e) ≡ is_switch e
-switch_by r (Open place Leaf) = refl
-switch_by r _ = refl
+switch_by r e = grind arith
 
 pub inner_by : (r : ℕ → ℕ) (f : ℕ) (e : Event) → is_inner_of f e ≡ true → is_inner_of (r f) (event_by r e) ≡ true
 inner_by r f (Open (Inner g) kind) holds = eq-eqb (r g) (r f) (ap r (eqb-true g f holds))
@@ -135,12 +116,10 @@ abbrev Open_all : List Event → List ℕ → Type 0
 Open_all h ns = AllByRecursion (λ m. is_open h m ≡ true) ns
 
 place_by_itself : (p : Place) → place_by (λ n. n) p ≡ p
-place_by_itself Root = refl
-place_by_itself _ = refl
+place_by_itself p = grind arith
 
 kind_by_itself : (k : Kind) → kind_by (λ n. n) k ≡ k
-kind_by_itself Leaf = refl
-kind_by_itself _ = refl
+kind_by_itself k = grind arith
 
 -- with the same numbers
 pub event_by_itself : (e : Event) → event_by (λ n. n) e ≡ e

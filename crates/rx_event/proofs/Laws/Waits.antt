@@ -1,26 +1,16 @@
 -- Which hubs wait for a connection after one more event, and that one step connects one hub at most.
-use Rattle.std.proofs.Common.{◌≡◌, ℕ, ◌+◌, ◌<◌, ◌≤◌, Bool, true, false, List, [], ◌∷◌, ◌++◌, length, Option, Some, None}
-use Rattle.std.proofs.Common.{cond, refl, sym, ap, ◌∙◌, arith, inl, inr, ◌⊎◌, ◌==◌, slice_get, length-append}
-use Rattle.std.proofs.Math.Bool.{◌&&◌, not}
-use Rattle.std.specs.Option.{option_map_or}
-use Rattle.std.proofs.lemmas.Bool.{cases_Bool, cases_order, both_ways, false≢true, and_parts, and_from, eq-eqb, eqb-true}
-use Rattle.std.proofs.lemmas.List.Sums.{sum_by_push}
-use Rattle.std.proofs.lemmas.Option.{slice_get_within, same_Some, none-some}
-use Rattle.rx_note.specs.declared.note.Terminal.{Terminal}
-use Rattle.rx_event.specs.Kept.{Kept}
-use Rattle.rx_event.specs.declared.event.Place.{Place}
-use Rattle.rx_event.specs.declared.event.Place.TheVariants.{Root, Inner}
-use Rattle.rx_event.specs.declared.event.Kind.TheVariants.{Leaf, Pass, Flat, Switch, Until, Sub}
-use Rattle.rx_event.specs.declared.event.Mode.TheVariants.{Manual}
-use Rattle.rx_event.specs.declared.event.Event.{Event}
-use Rattle.rx_event.specs.declared.event.Event.TheVariants.{Open, Hub, Connect, End, Close}
-use Rattle.rx_event.specs.Events.{is_root, is_manual_hub, is_auto_hub, is_connect_of, is_subscriber_of, is_inner_of, hub_subscribed, is_connect}
-use Rattle.rx_event.specs.Tree.{at, places, parent, ancestors, is_open, shuts, open_subscribers, open_connections}
-use Rattle.rx_event.specs.Totals.{connect_count, open_count}
-use Rattle.rx_event.specs.Forced.{mirrored, fired, failed, completed, cut, left, connecting, due, none_waits, one_waits}
-use Rattle.rx_event.specs.Forced.{IsDue, IsForced, IsConnectDue, IsConnected, IsSettled, MayWait, SourceEnded}
-use Rattle.rx_event.specs.Allowed.{root_closed, disconnected, IsAllowed}
-use Rattle.rx_event.specs.Lawful.{stays, more, forced, IsForcedOn, IsLawful}
+use Rattle.rx_event.proofs.Laws.Common.{◌≡◌, ℕ, ◌+◌, ◌<◌, ◌≤◌, Bool, true, false, List, [], ◌∷◌, ◌++◌, length, Option, Some, None, cond, refl, sym, ap, ◌∙◌}
+use Rattle.rx_event.proofs.Laws.Common.{arith, inl, inr, ◌⊎◌, ◌==◌, slice_get, length-append, ◌&&◌, not, option_map_or, cases_Bool, cases_order, both_ways}
+use Rattle.rx_event.proofs.Laws.Common.{false≢true, and_parts, and_from, eq-eqb, eqb-true, sum_by_push, slice_get_within, same_Some, none-some, Terminal}
+use Rattle.rx_event.proofs.Laws.Common.{Kept, Place, Root, Inner, Leaf, Pass, Flat, Switch, Until, Sub, Manual, Event, Open, Hub, Connect, End, Close}
+use Rattle.rx_event.proofs.Laws.Common.{is_root, is_manual_hub, is_auto_hub, is_connect_of, is_subscriber_of, is_inner_of, at, places, parent, ancestors}
+use Rattle.rx_event.proofs.Laws.Common.{is_open, shuts, open_subscribers, open_connections, open_count, mirrored, fired, failed, completed, cut, left}
+use Rattle.rx_event.proofs.Laws.Common.{connecting, due, IsDue, IsForced, IsConnectDue, IsConnected, IsSettled, SourceEnded, IsAllowed, stays, more, forced}
+use Rattle.rx_event.proofs.Laws.Common.{IsForcedOn, IsLawful, or_false, hub_subscribed}
+use Rattle.rx_event.specs.Events.{is_connect}
+use Rattle.rx_event.specs.Totals.{connect_count}
+use Rattle.rx_event.specs.Forced.{none_waits, one_waits, MayWait}
+use Rattle.rx_event.specs.Allowed.{root_closed, disconnected}
 use Rattle.rx_event.proofs.Laws.Lists.{first_passes, filter_nonempty}
 use Rattle.rx_event.proofs.Laws.Places.{slice_get-append, slice_get_last, at-append, at_within}
 use Rattle.rx_event.proofs.Laws.Parents.{ancestors_step}
@@ -29,7 +19,7 @@ use Rattle.rx_event.proofs.Laws.Hubs.{at_connect, subscriber_hub}
 use Rattle.rx_event.proofs.Laws.Lawful.{may_end}
 use Rattle.rx_event.proofs.Laws.Steps.{forced_kind, may_close}
 use Rattle.rx_event.proofs.Laws.Totals.{open_count_falls-end, open_count_falls-close}
-use Rattle.rx_event.proofs.Laws.Searches.{or_false}
+use Rattle.std.proofs.lemmas.Bool.{not-false}
 
 pub at_before : (q : Event → Bool) (h : List Event) (e : Event) (n : ℕ) → q e ≡ false → at q (h ++ e ∷ []) n ≡ true → at q h n ≡ true
 at_before q h e n out found = by_place (cases_order n (length h)) where
@@ -73,10 +63,6 @@ data HowWaits (base : Kept) (h : List Event) (e : Event) (g : ℕ) : Type 0 wher
   waited : IsConnectDue h g → HowWaits base h e g
   lost : {c : ℕ} → IsConnection base h g c → shuts h c e ≡ true → HowWaits base h e g
 
-not_false : (b : Bool) → not b ≡ false → b ≡ true
-not_false true n = refl
-not_false false n = absurd (false≢true (sym n))
-
 subscribed_before : (h : List Event) (e : Event) (g : ℕ) → is_subscriber_of g e ≡ false → (d : IsConnectDue (h ++ e ∷ []) g) →
     (at (is_subscriber_of g) h d.subscriber ≡ true) × (is_open h d.subscriber ≡ true)
 subscribed_before h e g out d =
@@ -98,7 +84,7 @@ how_waits base h e g out auto d = by_list (open_connections h g) refl where
       (let n = length-append h (e ∷ []) in omega arith) (and_from _ _ later o) d.unconnected)
   by_cut c x false gone =
       let now : (is_open h c && not (is_cut h e c)) ≡ false = sym (is_open_cut h e c (is_open_within h c x.is_alive)) ∙ gone in
-      lost {c = c} x (sym (cut_alone h e c g x.connects) ∙ not_false (is_cut h e c) (rw x.is_alive at now))
+      lost {c = c} x (sym (cut_alone h e c g x.connects) ∙ not-false (is_cut h e c) (rw x.is_alive at now))
 
   by_list : (cs : List ℕ) → open_connections h g ≡ cs → HowWaits base h e g
   by_list [] unconnected = waited (record {
@@ -286,8 +272,7 @@ record StepConnects (h k : List Event) (most : ℕ) : Type 0 where
   pub counted : connect_count k + waiting ≤ connect_count h + most
 
 due_connects : (base : Kept) → {h : List Event} {e : Event} → IsDue base h e → is_connect e ≡ false
-due_connects base (mirrored o k e) = refl
-due_connects base _ = refl
+due_connects base given = grind arith
 
 connects_after : (base : Kept) → (h k : List Event) (e : Event) (most : ℕ) → StepConnects h k most → IsForced base k e → StepConnects h (k ++ e ∷ []) most
 connects_after base h k e most s (due none d) =

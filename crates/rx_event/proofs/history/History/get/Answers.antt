@@ -1,4 +1,4 @@
-use Rattle.std.proofs.Common.{rules, ◌≡◌, ◌≤◌, ◌-◌, slice_get, nat_lt, false, sym, ◌∙◌}
+use Rattle.rx_event.proofs.Laws.Common.{◌≡◌, ◌≤◌, ◌-◌, slice_get, nat_lt, false, sym, ◌∙◌, rules}
 use Rattle.rx_event.proofs.Laws.StoredAt.{get_stored}
 use Rattle.rx_event.proofs.history.History.get.Goals as goal
 

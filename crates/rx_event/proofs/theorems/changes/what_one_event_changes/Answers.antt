@@ -1,10 +1,9 @@
-use Rattle.std.proofs.Common.{ap}
-use Rattle.std.specs.Option.{option_and_then}
-use Rattle.rx_event.specs.Events.{node_of_accept}
+use Rattle.rx_event.proofs.Laws.Common.{ap, option_and_then, node_of_accept}
 use Rattle.rx_event.proofs.Laws.Openness.{is_cut_never, is_open_outside-end, is_open_outside-close, is_open_uncut}
 use Rattle.rx_event.proofs.Laws.Switches.{is_open-inner_switch, is_open-inner_first, is_open-inner_flat}
-use Rattle.rx_event.proofs.Laws.Resources.{is_owned-open, is_owned_new, held_old, is_waiting-unheld, is_taken-push, is_held_new, is_waiting_new, is_taken_last}
-use Rattle.rx_event.proofs.Laws.Resources.{is_owned-end, is_waiting-end, is_owned-close, is_waiting-close, is_waiting-remove, is_waiting-return}
+use Rattle.rx_event.proofs.Laws.Resources.{is_owned-open, is_owned_new, held_old, is_waiting-unheld, is_taken-push, is_held_new, is_waiting_new}
+use Rattle.rx_event.proofs.Laws.Resources.{is_taken_last, is_owned-end, is_waiting-end, is_owned-close, is_waiting-close, is_waiting-remove}
+use Rattle.rx_event.proofs.Laws.Resources.{is_waiting-return}
 use Rattle.rx_event.proofs.Laws.Leases.{is_out-push, is_out_last, leases_of_kept, leases_of-return, leases_of_no_rise, lease_count-push}
 use Rattle.rx_event.proofs.Laws.Totals.{item_count-push, accepted_count-push, taken_count-push, uses-push, uses_past, held_waiting_count-push}
 use Rattle.rx_event.proofs.Laws.Totals.{owned_count_within, owned_count_no_rise, owned_count-accept, owned_count-remove, held_count_no_rise}
@@ -13,8 +12,8 @@ use Rattle.rx_event.proofs.Laws.Totals.{open_count-end, open_count-close, open_c
 use Rattle.rx_event.proofs.Laws.Steps.{may_remove}
 use Rattle.rx_event.proofs.Laws.Projections.{owed-push}
 use Rattle.rx_event.proofs.Laws.Debt.{debt-counts, debt-root, debt-source, debt-notifier, debt-inner_flat, debt_no_rise-inner, debt-hub, debt-connect}
-use Rattle.rx_event.proofs.Laws.Debt.{debt-accept, debt-use, debt-remove, debt-lease, debt-return, debt-item, debt-decline, debt_falls-end}
-use Rattle.rx_event.proofs.Laws.Debt.{debt_falls-close, debt-take}
+use Rattle.rx_event.proofs.Laws.Debt.{debt-accept, debt-use, debt-remove, debt-lease, debt-return, debt-item, debt-decline, debt_falls-end, debt_falls-close}
+use Rattle.rx_event.proofs.Laws.Debt.{debt-take}
 use Rattle.rx_event.proofs.Laws.MarksNew.{marks-new}
 use Rattle.rx_event.proofs.Laws.MarksEnds.{marks_closed}
 use Rattle.rx_event.proofs.Laws.MarksTouched.{marks_untouched, marks-source_at, marks-notifier_at, marks-inner_at_flat, marks-inner_at_first}

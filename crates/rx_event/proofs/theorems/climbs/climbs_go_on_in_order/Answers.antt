@@ -1,7 +1,7 @@
 use Rattle.rx_event.proofs.Laws.Hubs.{hubs_in_order}
 use Rattle.rx_event.proofs.Laws.Projections.{stops_open}
-use Rattle.rx_event.proofs.Laws.Climbs.{visits_end, visits_only, visits_open, climb_cut_off, visits_within, climb_whole, climb_in_order}
-use Rattle.rx_event.proofs.Laws.Climbs.{stops_stop, stops_whole, stops_in_order, visits_each, visits_by_node, visits_all}
+use Rattle.rx_event.proofs.Laws.Climbs.{visits_end, visits_only, visits_open, climb_cut_off, visits_within, climb_whole, climb_in_order, stops_stop}
+use Rattle.rx_event.proofs.Laws.Climbs.{stops_whole, stops_in_order, visits_each, visits_by_node, visits_all}
 use Rattle.rx_event.proofs.theorems.climbs.climbs_go_on_in_order.Goals as goal
 
 pub returns-clause-end : goal.returns-clause-end

@@ -1,5 +1,5 @@
-use Rattle.rx_event.proofs.Laws.Closings.{makes_neither_opens, roots_before, manual_before, unconnected_after, let_go_after}
-use Rattle.rx_event.proofs.Laws.Closings.{roots_no_more, connections_no_more, root_less, connection_less, hub_disconnected}
+use Rattle.rx_event.proofs.Laws.Closings.{makes_neither_opens, roots_before, manual_before, unconnected_after, let_go_after, roots_no_more}
+use Rattle.rx_event.proofs.Laws.Closings.{connections_no_more, root_less, connection_less, hub_disconnected}
 use Rattle.rx_event.proofs.theorems.closing.closing_opens_nothing_anew.Goals as goal
 
 pub returns-clause-anew : goal.returns-clause-anew

@@ -1,6 +1,5 @@
+use Rattle.rx_event.proofs.Laws.Common.{Accept, refl}
 use Rattle.rx_event.proofs.Laws.Waits.{settled_connected, waits_after, kept_unsubscribed, forced_connected, forced_connects, forced_closes}
-use Rattle.rx_event.specs.declared.event.Event.TheVariants.{Accept}
-use Rattle.std.proofs.Common.{refl}
 use Rattle.rx_event.proofs.theorems.hubs.a_step_connects_one_hub.Goals as goal
 
 pub returns : goal.returns

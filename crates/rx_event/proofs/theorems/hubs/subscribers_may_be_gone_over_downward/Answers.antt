@@ -1,6 +1,4 @@
-use Rattle.std.specs.Prelude.{◌&&◌, length}
-use Rattle.rx_event.specs.Events.{is_subscriber_of}
-use Rattle.rx_event.specs.Tree.{at, is_open}
+use Rattle.rx_event.proofs.Laws.Common.{◌&&◌, length, is_subscriber_of, at, is_open}
 use Rattle.rx_event.proofs.Laws.Connections.{sum_by-falling}
 use Rattle.rx_event.proofs.theorems.hubs.subscribers_may_be_gone_over_downward.Goals as goal
 
