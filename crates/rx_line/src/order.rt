@@ -159,17 +159,16 @@ fn order_in(alloc: Global, value: Part<'_, '_>) -> Result<Option<Order>, AllocEr
 }
 
 /// What a line asks for: one JSON object, `do` with the members of its command, `is` with a `node`, or `list` or
-/// `dump` alone.
+/// `dump` alone. The scratch is kept from line to line: it is made once, and grows to the longest line.
 ///
 /// # Errors
 ///
 /// `Faulty` where the line is no order, exactly; `Memory` where memory is refused.
-pub fn order_of(alloc: Global, line: &[u8]) -> Result<Order, Unread>
+pub fn order_of(alloc: Global, line: &[u8], scratch: &mut Scratch) -> Result<Order, Unread>
     ensures ok { IfOk result (λ o. IsOrderOf line.now (order_of o)) }
     ensures err { IfErr result (IsUnread (IsFaulty line.now)) }
 {
-    let mut scratch = Scratch::new(alloc);
-    let value = match parse_in_place(alloc, line, &mut scratch) {
+    let value = match parse_in_place(alloc, line, scratch) {
         Ok(value) => value,
         Err(ScriptError::Memory) => return Err(Unread::Memory),
         Err(_) => return Err(Unread::Faulty(fault_in(alloc, line)?)),

@@ -8,6 +8,7 @@ ghost use Rattle.rx_live.specs.Lines.{IsPutOff, Sends, Ends, IsFresh};
 use crate::engine::Engine;
 use crate::live::Live;
 use crate::sending::{end, send};
+use json::Scratch;
 use std::alloc::{AllocError, Global};
 
 impl Live {
@@ -21,6 +22,7 @@ impl Live {
     {
         Live {
             engine: Engine::new(alloc, max_events),
+            scratch: Scratch::new(alloc),
         }
     }
 
@@ -48,7 +50,7 @@ impl Live {
         ensures err { OnErr result (IsPutOff line.now (session self.old) (session self.new)) }
     {
         self.engine.book.promise();
-        send(&mut self.engine, line)
+        send(&mut self.engine, &mut self.scratch, line)
     }
 
     /// Closes all, and answers what is left to be released: `{"closed":true}`, with `"release"` where there

@@ -3,6 +3,7 @@
 ghost use Rattle.rx_live.specs.Session.{session_of, IsTied};
 
 use crate::engine::Engine;
+use json::Scratch;
 
 /// A book that takes its commands as lines of text, and answers each with one.
 ///
@@ -13,5 +14,7 @@ use crate::engine::Engine;
 #[derive(Drop)]
 pub struct Live {
     pub(crate) engine: Engine,
+    /// What reading a line needs, kept from line to line.
+    pub(crate) scratch: Scratch,
     ghost tied: { IsTied (session_of engine) },
 }

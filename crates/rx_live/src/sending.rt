@@ -20,6 +20,7 @@ use crate::query::query_text;
 use crate::renewing::renew;
 use crate::running::run;
 use crate::telling::{ROOM, tell_notes, tell_releases};
+use json::Scratch;
 use rx_book::Refusal;
 use rx_line::{Cause, Order, Outcome, Unread, faulty_text, ok_text, order_of, put, refused_text};
 use rx_listing::is_since;
@@ -115,14 +116,14 @@ fn carry_out(engine: &mut Engine, command: Command) -> Result<Option<String>, Al
 
 // Answers a line. None where it finds the history full by its age. Err where memory is refused. In both nothing
 // has changed.
-fn answer(engine: &mut Engine, line: &[u8]) -> Result<Option<String>, AllocError>
+fn answer(engine: &mut Engine, scratch: &mut Scratch, line: &[u8]) -> Result<Option<String>, AllocError>
     requires { IsSound (session_of engine.old) }
     ensures some { IfOk result (λ a. IfSome a (λ s. Answered (session_of engine.old) line.now (string_bytes s) (session_of engine.new))) }
     ensures none { IfOk result (λ a. IfNone a (IsFullByAge (session_of engine.old) line.now (session_of engine.new))) }
     ensures err { OnErr result (IsAlike (session_of engine.old) (session_of engine.new)) }
     ensures sound { IsSound (session_of engine.new) }
 {
-    match order_of(engine.alloc, line) {
+    match order_of(engine.alloc, line, scratch) {
         Ok(Order::Command(command)) => carry_out(engine, command),
         Ok(Order::Query(node)) => Ok(Some(query_text(engine, node.as_str())?)),
         Ok(Order::List) => Ok(Some(list_text(engine)?)),
@@ -147,17 +148,17 @@ fn make_room(engine: &mut Engine) -> Result<(), AllocError>
 
 /// Answers a line; one that finds the history full by its age is taken again behind a checkpoint. Err where
 /// memory is refused, and then nothing has changed, but that a checkpoint may have been made.
-pub fn send(engine: &mut Engine, line: &[u8]) -> Result<String, AllocError>
+pub fn send(engine: &mut Engine, scratch: &mut Scratch, line: &[u8]) -> Result<String, AllocError>
     requires { IsSound (session_of engine.old) }
     ensures ok { IfOk result (λ s. Sends (session_of engine.old) line.now (string_bytes s) (session_of engine.new)) }
     ensures err { OnErr result (IsPutOff line.now (session_of engine.old) (session_of engine.new)) }
     ensures sound { IsSound (session_of engine.new) }
 {
-    if let Some(text) = answer(engine, line)? {
+    if let Some(text) = answer(engine, scratch, line)? {
         return Ok(text);
     }
     make_room(engine)?;
-    match answer(engine, line)? {
+    match answer(engine, scratch, line)? {
         Some(text) => Ok(text),
         None => unreachable!(),
     }
