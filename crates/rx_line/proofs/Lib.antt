@@ -1,4 +1,3 @@
 pub mod NamesStayPaired
 pub mod NamesWithMoreRoom
 pub mod BoundAfterChange
-pub mod LinesRead

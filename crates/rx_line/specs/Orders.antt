@@ -72,10 +72,6 @@ pub record IsOrderOf (line : List ℕ) (o : Order) : Type 0 where
   pub json : IsJsonOf line value
   pub order : order_in value ≡ Some o
 
--- the line asks for nothing
-abbrev pub IsFaulty : List ℕ → Type 0
-IsFaulty line = (o : Order) → ¬ IsOrderOf line o
-
 -- it is faulty for this reason; where memory is refused, nothing is known of it
 abbrev pub IsUnread : Type 0 → Unread → Type 0
 IsUnread reason (Faulty told) = reason

@@ -2,19 +2,21 @@
 //!
 //! # Vocabulary
 //!
-//! - A **line** is the JSON text of one command of a scenario, or of `is`, `list` or `dump`; [`order_of`] reads
-//!   it as an [`Order`]. Which texts are orders, and which order, is defined in `specs/Orders.antt`.
+//! - A **line** is the JSON text of one command of a scenario, of `is`, `list` or `dump`, or of an array of such;
+//!   [`read_line`] reads it as a JSON value, and [`order_of`] such a value as an [`Order`]. Which values are orders,
+//!   and which order, is defined in `specs/Orders.antt`.
 //! - An **answer** is written of pieces, which are defined in `specs/Pieces.antt`: what was accepted, refused or
 //!   faulty, and a note that an observer is told.
 //! - [`Names`] is a space of names, each of which stands for one number (`specs/Names.antt`).
 //!
 //! # Promised, and not
 //!
-//! - [`order_of`] gives the order that a line is, and `Faulty` where it is none, exactly. Of a line for which it
-//!   answers `Memory` nothing is known, and that it does so only where memory was refused is not proved.
+//! - [`read_line`] gives the value that a line is, and [`order_of`] the order that a value is, and each `Faulty`
+//!   where it is none, exactly. Of what is answered `Memory` nothing is known, and that this comes only where memory
+//!   was refused is not proved.
 //! - Each piece of an answer is the text that its definition says, or memory was refused.
 //! - A name that is bound, and one that is forgotten, changes nothing of any other.
-//! - Of the words with which a line is called faulty nothing is promised.
+//! - Of the words with which a line or a value is called faulty nothing is promised.
 #![tactic(auto)]
 
 mod names;
@@ -24,6 +26,6 @@ mod pieces;
 mod wanted;
 
 pub use names::{Names, Spot, Twice};
-pub use order::{Order, Unread, order_of};
+pub use order::{Order, Unread, order_of, read_line};
 pub use outcome::{Cause, Outcome};
 pub use pieces::{faulty_text, note_text, ok_text, put, refused_text};

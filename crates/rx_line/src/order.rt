@@ -1,19 +1,22 @@
 //! What a line says.
 
-ghost use Rattle.std.specs.Prelude.{◌≡◌, option_map, string_bytes, IfOk, IfErr};
+ghost use Rattle.std.specs.Prelude.{◌≡◌, None, Some, option_map, string_bytes, IfOk, IfErr};
+ghost use Rattle.json.specs.Value.{value_view};
+ghost use Rattle.serde_json.specs.Data.{Data};
 ghost use Rattle.rx_scenario.specs.Scenario.{command_of};
-ghost use Rattle.rx_device.specs.Part.{part_data};
+ghost use Rattle.rx_device.specs.Input.{IsJsonOf};
+ghost use Rattle.rx_device.specs.Part.{data_of, part_data};
 ghost use Rattle.rx_line.specs.Orders.{query, does, is_word, is_query, query_in, is_timed, command_in};
-ghost use Rattle.rx_line.specs.Orders.{order_in, order_of, IsOrderOf, IsFaulty, IsUnread};
+ghost use Rattle.rx_line.specs.Orders.{order_in, order_of, IsUnread};
 
 use crate::wanted::fault_of;
-use json::Scratch;
+use json::{Scratch, Value};
 use rx_device::{Part, ScriptError, ShapeError, parse_in_place};
 use rx_scenario::{Action, Command, action_in, is_name, is_object_of};
-use serde_json::{Error, Value};
+use serde_json::Error;
 use std::alloc::{AllocError, Global};
 
-/// What a line asks for.
+/// What a value asks for.
 #[derive(Drop)]
 pub enum Order {
     /// A command of the book.
@@ -26,12 +29,12 @@ pub enum Order {
     Dump,
 }
 
-/// Why a line is no order.
+/// Why a line is no JSON text, or a value no order.
 #[derive(Drop)]
 pub enum Unread {
     /// It is faulty: which member, and why.
     Faulty(String),
-    /// Memory was refused, and nothing is known of the line.
+    /// Memory was refused, and nothing is known of it.
     Memory,
 }
 
@@ -46,7 +49,7 @@ impl From<AllocError> for Unread {
 }
 
 // What is said of a line that is no JSON text.
-fn no_json(alloc: Global, error: &Error) -> Result<String, AllocError> {
+fn column_text(alloc: Global, error: &Error) -> Result<String, AllocError> {
     let column = error.column();
     if error.is_eof() {
         return format!(in alloc; "column {column}: the JSON text ends too early");
@@ -54,12 +57,12 @@ fn no_json(alloc: Global, error: &Error) -> Result<String, AllocError> {
     format!(in alloc; "column {column}: not a JSON text; look here and just before")
 }
 
-// What is said of a line that asks for nothing.
-fn fault_in(alloc: Global, line: &[u8]) -> Result<String, AllocError> {
-    match Value::from_slice(alloc, line) {
-        Ok(value) => fault_of(alloc, &value),
+// What is wrong with a line that is no JSON text.
+fn no_json(alloc: Global, line: &[u8]) -> Result<String, AllocError> {
+    match serde_json::Value::from_slice(alloc, line) {
+        Ok(_) => String::from_str(alloc, "not a JSON text"),
         Err(error) if error.is_memory() => Err(AllocError),
-        Err(error) => no_json(alloc, &error),
+        Err(error) => column_text(alloc, &error),
     }
 }
 
@@ -158,23 +161,39 @@ fn order_in(alloc: Global, value: Part<'_, '_>) -> Result<Option<Order>, AllocEr
     }
 }
 
-/// What a line asks for: one JSON object, `do` with the members of its command, `is` with a `node`, or `list` or
-/// `dump` alone. The scratch is kept from line to line: it is made once, and grows to the longest line.
+/// The JSON value that a line is. Its names and words stand in the line, or in the scratch, which is kept from
+/// line to line and grows to the longest.
 ///
 /// # Errors
 ///
-/// `Faulty` where the line is no order, exactly; `Memory` where memory is refused.
-pub fn order_of(alloc: Global, line: &[u8], scratch: &mut Scratch) -> Result<Order, Unread>
-    ensures ok { IfOk result (λ o. IsOrderOf line.now (order_of o)) }
-    ensures err { IfErr result (IsUnread (IsFaulty line.now)) }
+/// `Faulty` where the line is no JSON text, exactly; `Memory` where memory is refused.
+pub fn read_line<'a>(
+    alloc: Global,
+    line: &'a [u8],
+    scratch: &'a mut Scratch,
+) -> Result<Value<'a>, Unread>
+    ensures ok { IfOk result (λ v. IsJsonOf line.now (data_of (value_view v))) }
+    ensures err { IfErr result (IsUnread ((d : Data) → ¬ IsJsonOf line.now d)) }
 {
-    let value = match parse_in_place(alloc, line, scratch) {
-        Ok(value) => value,
-        Err(ScriptError::Memory) => return Err(Unread::Memory),
-        Err(_) => return Err(Unread::Faulty(fault_in(alloc, line)?)),
-    };
-    match order_in(alloc, Part::new(&value))? {
+    match parse_in_place(alloc, line, scratch) {
+        Ok(value) => Ok(value),
+        Err(ScriptError::Memory) => Err(Unread::Memory),
+        Err(_) => Err(Unread::Faulty(no_json(alloc, line)?)),
+    }
+}
+
+/// What a value asks for: an object, `do` with the members of its command, `is` with a `node`, or `list` or `dump`
+/// alone.
+///
+/// # Errors
+///
+/// `Faulty` where the value is no order, exactly; `Memory` where memory is refused.
+pub fn order_of(alloc: Global, value: Part<'_, '_>) -> Result<Order, Unread>
+    ensures ok { IfOk result (λ o. order_in (part_data value.entry) ≡ Some (order_of o)) }
+    ensures err { IfErr result (IsUnread (order_in (part_data value.entry) ≡ None)) }
+{
+    match order_in(alloc, value)? {
         Some(order) => Ok(order),
-        None => Err(Unread::Faulty(fault_in(alloc, line)?)),
+        None => Err(Unread::Faulty(fault_of(alloc, value)?)),
     }
 }

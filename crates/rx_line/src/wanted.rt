@@ -1,46 +1,60 @@
-//! What is wrong with a line that is JSON and no command. Nothing is proved of what it says.
+//! What is wrong with a JSON value that is no command. Nothing is proved of what it says.
 
+use rx_device::Part;
 use rx_scenario::is_name;
-use serde_json::Value;
 use std::alloc::{AllocError, Global};
 
 const NAME: &str = "a name of 1 to 32 letters, digits, - and _ is expected";
 
 const CODE: &str = "a whole number from 0 to 4294967295 is expected";
 
+// The commands, and the members of each besides `do`.
+static MEMBERS: [(&str, &str); 21] = [
+    ("using", "name, place, of, res"),
+    ("open", "name, place, of, kind, hub, connection"),
+    ("hold", "node, res"),
+    ("apply", "res, word"),
+    ("remove", "res"),
+    ("lease", "res, name"),
+    ("return", "lease"),
+    ("next", "node, value"),
+    ("end", "node, error"),
+    ("abort", "node, error"),
+    ("fail", "node, error"),
+    ("decline", "node"),
+    ("dispose", "node"),
+    ("is", "node"),
+    ("hub", "name, mode"),
+    ("connect", "hub, name"),
+    ("disconnect", "hub"),
+    ("drain", ""),
+    ("checkpoint", ""),
+    ("list", ""),
+    ("dump", ""),
+];
+
 // The members of a command, besides `do`.
 fn members_of(command: &str) -> Option<&'static str> {
-    match command {
-        "using" => Some("name, place, of, res"),
-        "open" => Some("name, place, of, kind, hub, connection"),
-        "hold" => Some("node, res"),
-        "apply" => Some("res, word"),
-        "remove" => Some("res"),
-        "lease" => Some("res, name"),
-        "return" => Some("lease"),
-        "next" => Some("node, value"),
-        "end" | "abort" | "fail" => Some("node, error"),
-        "decline" | "dispose" | "is" => Some("node"),
-        "hub" => Some("name, mode"),
-        "connect" => Some("hub, name"),
-        "disconnect" => Some("hub"),
-        "drain" | "checkpoint" | "list" | "dump" => Some(""),
-        _ => None,
+    for &(known, members) in &MEMBERS {
+        if known == command {
+            return Some(members);
+        }
     }
+    None
 }
 
 fn is_among(member: &str, members: &str) -> bool {
     members.split(", ").any(|known| known == member)
 }
 
-fn has_name(value: &Value) -> bool {
+fn has_name(value: Part<'_, '_>) -> bool {
     match value.as_str() {
         Some(text) => is_name(text),
         None => false,
     }
 }
 
-fn is_code(value: &Value) -> bool {
+fn is_code(value: Part<'_, '_>) -> bool {
     match value.as_u64() {
         Some(code) => code <= 4_294_967_295,
         None => false,
@@ -48,20 +62,20 @@ fn is_code(value: &Value) -> bool {
 }
 
 // Whether a member of the object is this word.
-fn is_word(object: &Value, member: &str, word: &str) -> bool {
-    object.get(member).and_then(Value::as_str) == Some(word)
+fn is_word(object: Part<'_, '_>, member: &str, word: &str) -> bool {
+    object.get(member).and_then(Part::as_str) == Some(word)
 }
 
 // Whether a member of the object is one of these words.
-fn is_one_of(object: &Value, member: &str, words: &str) -> bool {
-    match object.get(member).and_then(Value::as_str) {
+fn is_one_of(object: Part<'_, '_>, member: &str, words: &str) -> bool {
+    match object.get(member).and_then(Part::as_str) {
         Some(word) => is_among(word, words),
         None => false,
     }
 }
 
 // Whether a name, or with `may` none, stands there.
-fn name_fault(object: &Value, member: &str, may: bool) -> Option<&'static str> {
+fn name_fault(object: Part<'_, '_>, member: &str, may: bool) -> Option<&'static str> {
     match object.get(member) {
         Some(value) if has_name(value) => None,
         None if may => None,
@@ -70,7 +84,7 @@ fn name_fault(object: &Value, member: &str, may: bool) -> Option<&'static str> {
 }
 
 // Whether an error's code, or with `may` none, stands there.
-fn code_fault(object: &Value, may: bool) -> Option<&'static str> {
+fn code_fault(object: Part<'_, '_>, may: bool) -> Option<&'static str> {
     match object.get("error") {
         Some(value) if is_code(value) => None,
         None if may => None,
@@ -79,7 +93,7 @@ fn code_fault(object: &Value, may: bool) -> Option<&'static str> {
 }
 
 // What is wrong with the node above.
-fn of_fault(object: &Value) -> Option<&'static str> {
+fn of_fault(object: Part<'_, '_>) -> Option<&'static str> {
     if !is_word(object, "place", "root") {
         return name_fault(object, "of", false);
     }
@@ -90,7 +104,7 @@ fn of_fault(object: &Value) -> Option<&'static str> {
 }
 
 // What is wrong with a member that a subscriber alone has.
-fn sub_fault(object: &Value, member: &str, may: bool) -> Option<&'static str> {
+fn sub_fault(object: Part<'_, '_>, member: &str, may: bool) -> Option<&'static str> {
     if is_word(object, "kind", "sub") {
         return name_fault(object, member, may);
     }
@@ -100,21 +114,21 @@ fn sub_fault(object: &Value, member: &str, may: bool) -> Option<&'static str> {
     }
 }
 
-fn value_fault(object: &Value) -> Option<&'static str> {
-    match object.get("value").and_then(Value::as_i64) {
+fn value_fault(object: Part<'_, '_>) -> Option<&'static str> {
+    match object.get("value").and_then(Part::as_i64) {
         Some(_) => None,
         None => Some("a whole number from -2^63 to 2^63 - 1 is expected"),
     }
 }
 
-fn word_fault(object: &Value) -> Option<&'static str> {
-    match object.get("word").and_then(Value::as_u64) {
+fn word_fault(object: Part<'_, '_>) -> Option<&'static str> {
+    match object.get("word").and_then(Part::as_u64) {
         Some(_) => None,
         None => Some("a whole number from 0 to 2^64 - 1 is expected"),
     }
 }
 
-fn words_fault(object: &Value, member: &str) -> Option<&'static str> {
+fn words_fault(object: Part<'_, '_>, member: &str) -> Option<&'static str> {
     let (words, told) = match member {
         "place" => (
             "root, source, inner, notifier",
@@ -134,7 +148,7 @@ fn words_fault(object: &Value, member: &str) -> Option<&'static str> {
 }
 
 // What is wrong with a member of a command.
-fn member_fault(object: &Value, command: &str, member: &str) -> Option<&'static str> {
+fn member_fault(object: Part<'_, '_>, command: &str, member: &str) -> Option<&'static str> {
     match member {
         "value" => value_fault(object),
         "word" => word_fault(object),
@@ -148,11 +162,11 @@ fn member_fault(object: &Value, command: &str, member: &str) -> Option<&'static 
 }
 
 // The first member that the command does not have.
-fn stranger<'a>(object: &'a Value, own: &str) -> Option<&'a str> {
-    for member in object.as_object()?.keys() {
-        let member = member.as_str();
-        if member != "do" && !is_among(member, own) {
-            return Some(member);
+fn stranger<'a>(object: Part<'_, 'a>, own: &str) -> Option<&'a str> {
+    for member in object.as_object()? {
+        let name = member.0;
+        if name != "do" && !is_among(name, own) {
+            return Some(name);
         }
     }
     None
@@ -161,7 +175,7 @@ fn stranger<'a>(object: &'a Value, own: &str) -> Option<&'a str> {
 // What is wrong with an object that has this word for its command.
 fn command_fault(
     alloc: Global,
-    object: &Value,
+    object: Part<'_, '_>,
     command: &str,
     own: &'static str,
 ) -> Result<String, AllocError> {
@@ -180,11 +194,11 @@ fn command_fault(
 }
 
 /// What is wrong with a value that is no command: which member, and why.
-pub fn fault_of(alloc: Global, value: &Value) -> Result<String, AllocError> {
-    if !value.is_object() {
+pub fn fault_of(alloc: Global, value: Part<'_, '_>) -> Result<String, AllocError> {
+    if value.as_object().is_none() {
         return String::from_str(alloc, "a command is an object");
     }
-    let Some(command) = value.get("do").and_then(Value::as_str) else {
+    let Some(command) = value.get("do").and_then(Part::as_str) else {
         return String::from_str(alloc, "do: the name of a command is expected");
     };
     match members_of(command) {
