@@ -37,16 +37,23 @@ class Refused(Exception):
 
 
 class _Asked:
-    """A line on its way, and what is known of it so far."""
+    """A line on its way, of one command or of several, and what is known of it so far."""
 
-    def __init__(self, words: Dict[str, Any], observer: Optional[Observer], release: Optional[Release]):
+    def __init__(self, words: Any, observer: Optional[Observer], release: Optional[Release]):
         self.words, self.observer, self.release = words, observer, release
         self.line = json.dumps(words).encode()
         self.thread = threading.get_ident()
         self.steps: List[int] = []  # what was written of it, or the statuses of its calls
         self.read: List[bytes] = []
-        self.answer: Optional[Dict[str, Any]] = None
+        self.answer: Any = None
         self.due: Optional["_Due"] = None
+
+    def pairs(self) -> List[Tuple[Dict[str, Any], Dict[str, Any]]]:
+        """Each command, and its answer."""
+        answer = self.answer or {}
+        if isinstance(self.words, dict):
+            return [(self.words, answer)]
+        return list(zip(self.words, answer if isinstance(answer, list) else [answer] * len(self.words)))
 
 
 class _Due:
@@ -163,6 +170,15 @@ class Book:
             raise TypeError(f"{do}: release= is missing, which releases the resource")
         return self._ask(_Asked({"do": do, **members}, observer, release))
 
+    def send_all(self, *commands: Dict[str, Any]) -> List[Dict[str, Any]]:
+        """Sends several commands in one line, each as a dict, as {"do": "end", "node": "b"}, and answers their answers; for one that
+        is refused nothing is raised. A `using` or a `hold`, and what has an observer, goes by `send`."""
+        if any(it.get("do") in ("using", "hold") for it in commands):
+            raise TypeError("send_all: using and hold go by send, with release=")
+        asked = _Asked(list(commands), None, None)
+        self._take(asked)
+        return [answer for _, answer in asked.pairs()]
+
     def using(self, name: str, observer: Optional[Observer], release: Release, **place: Any) -> Dict[str, Any]:
         """A node, with a resource of the same name."""
         return self.send("using", observer=observer, release=release, name=name, res=name, **(place or {"place": "root"}))
@@ -175,13 +191,16 @@ class Book:
         """Lets a node hold one more resource."""
         return self.send("hold", release=release, node=node, res=res)
 
-    def _ask(self, asked: _Asked) -> Dict[str, Any]:
+    def _take(self, asked: _Asked) -> None:
         with self._lock:
             self._carry_out(asked)
             if len(self._observers) > self._sweep_at:
                 self._sweep()
         self._serve()
-        answer = asked.answer
+
+    def _ask(self, asked: _Asked) -> Dict[str, Any]:
+        self._take(asked)
+        answer: Dict[str, Any] = asked.answer
         assert answer is not None
         if "ok" not in answer:
             raise Refused(answer.get("refused") or answer.get("faulty"))
@@ -203,40 +222,50 @@ class Book:
 
     def _due(self, asked: _Asked) -> _Due:
         """What the answer makes due. It changes nothing."""
-        answer, words, due = asked.answer or {}, asked.words, _Due(asked.thread)
-        name, held = words.get("name"), self._held
-        if "ok" not in answer:
-            if asked.release is not None:
-                due.calls.append((asked.release, ()))
-        elif asked.release is not None:
-            held = {**self._held, words["res"]: asked.release} if answer.get("release") else held
-        for note in answer.get("notes", ()):
-            observer = asked.observer if note["to"] == name and "ok" in answer else self._observers.get(note["to"])
-            if observer is not None:
-                due.calls.append((observer, (note,)))
-        for res in answer.get("release", ()):
-            if res in held:
-                due.calls.append((held[res], ()))
+        due = _Due(asked.thread)
+        gone = set()  # the names that earlier commands of the line freed
+        for words, answer in asked.pairs():
+            name, held = words.get("name"), self._held
+            if "ok" not in answer:
+                if asked.release is not None:
+                    due.calls.append((asked.release, ()))
+            elif asked.release is not None:
+                held = {**self._held, words["res"]: asked.release} if answer.get("release") else held
+            for note in answer.get("notes", ()):
+                observer = asked.observer if note["to"] == name and "ok" in answer else self._observers.get(note["to"])
+                if observer is not None and note["to"] not in gone:
+                    due.calls.append((observer, (note,)))
+            for res in answer.get("release", ()):
+                if res in held:
+                    due.calls.append((held[res], ()))
+            gone.update(self._ended(words, answer))
+            if name is not None and "ok" in answer:
+                gone.add(name)
         return due
+
+    @staticmethod
+    def _ended(words: Dict[str, Any], answer: Dict[str, Any]) -> List[str]:
+        """The nodes that receive nothing more behind this answer."""
+        names = [note["to"] for note in answer.get("notes", ()) if "completed" in note or "error" in note]
+        if words.get("do") == "dispose" and "ok" in answer and "late" not in answer:
+            names.append(words["node"])
+        return names
 
     def _bind(self, asked: _Asked) -> None:
         """Binds the names of the line, and lets go of those that the answer frees."""
-        answer, words = asked.answer or {}, asked.words
-        if "ok" in answer:
-            if asked.release is not None:
-                self._held[words["res"]] = asked.release
-            if words["do"] in ("open", "using"):
-                self._observers.pop(words["name"], None)  # a name that is given again is not heard by whom it had
-                if asked.observer is not None:
-                    self._observers[words["name"]] = asked.observer
-        self._is_late = "late" in answer
-        for note in answer.get("notes", ()):
-            if "completed" in note or "error" in note:
-                self._observers.pop(note["to"], None)
-        for res in answer.get("release", ()):
-            self._held.pop(res, None)
-        if words["do"] == "dispose" and "ok" in answer and not self._is_late:
-            self._observers.pop(words["node"], None)
+        for words, answer in asked.pairs():
+            if "ok" in answer:
+                if asked.release is not None:
+                    self._held[words["res"]] = asked.release
+                if words["do"] in ("open", "using"):
+                    self._observers.pop(words["name"], None)  # a name that is given again is not heard by whom it had
+                    if asked.observer is not None:
+                        self._observers[words["name"]] = asked.observer
+            self._is_late = "late" in answer
+            for name in self._ended(words, answer):
+                self._observers.pop(name, None)
+            for res in answer.get("release", ()):
+                self._held.pop(res, None)
 
     def _sweep(self) -> None:
         """Lets go of the observers of nodes that are closed: of roots all but those that closed unheard are gone already, but

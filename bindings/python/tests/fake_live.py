@@ -68,6 +68,12 @@ class Lines:
             answer["nodes"] = [{"name": name} for name, node in self.nodes.items() if book.is_open(node)]
         return self.told(answer)
 
+    def answer(self, words):
+        try:
+            return self.do(**words)
+        except it.Refused as why:
+            return {"refused": why.name}
+
     def told(self, answer):
         ends = {it.ON_COMPLETED: "completed", it.ON_ERROR: "error", it.NEXT: "next", it.PROJECT: "project"}
         notes = [{"to": self.names[to], ends[kind]: True if kind == it.ON_COMPLETED else value}
@@ -86,14 +92,13 @@ def main():
     lines = Lines()
     for line in sys.stdin:
         words = json.loads(line)
+        if isinstance(words, list):
+            print(json.dumps([lines.answer(one) for one in words]), flush=True)
+            continue
         if words.pop("die", None):
             return
         time.sleep(words.pop("slow", 0))
-        try:
-            answer = lines.do(**words)
-        except it.Refused as why:
-            answer = {"refused": why.name}
-        print(json.dumps(answer), flush=True)
+        print(json.dumps(lines.answer(words)), flush=True)
     lines.book.close()
     print(json.dumps(lines.told({"closed": True})), flush=True)
 

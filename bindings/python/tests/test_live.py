@@ -76,6 +76,17 @@ class Live(unittest.TestCase):
         for told, name in (a, "a"), (b, "b"):
             self.assertEqual(told[-2:], [{"to": name, "completed": True}, "released"])
 
+    def test_several_commands_go_in_one_line(self):
+        a = []
+        with self.book() as book:
+            shared(book, {"a": (a.append, lambda: a.append("released"))})
+            answers = book.send_all({"do": "next", "node": "leaf", "value": 1}, {"do": "next", "node": "nobody", "value": 2},
+                                    {"do": "end", "node": "leaf"})
+            self.assertEqual(a, [{"to": "a", "next": 1}, {"to": "a", "completed": True}, "released"])
+            self.assertEqual(["ok" in it for it in answers], [True, False, True])
+            self.assertEqual(answers[1], {"refused": "NoName"})
+            self.assertRaises(TypeError, book.send_all, {"do": "hold", "node": "leaf", "res": "r"})
+
     def test_a_resource_that_is_held_is_released(self):
         told = []
         with self.book() as book:
