@@ -1,87 +1,127 @@
--- What a line's answer says of the session.
+-- What an answer says of the session.
 use Rattle.std.proofs.Common.{◌≡◌, ℕ, List, [], ◌++◌, codes, map, Option, Some, None, Result}
-use Rattle.std.proofs.Common.{Ok, Err, refl, ap, ◌∙◌, subst, String, Global, string_bytes}
-use Rattle.std.specs.Prelude.{IfOk, IfSome, IfNone, is_some}
+use Rattle.std.proofs.Common.{Ok, Err, refl, ap, ◌∙◌, append_assoc, Bool, true, false}
+use Rattle.std.specs.Prelude.{IfOk, OnOk, is_some}
 use Rattle.std.specs.declared.alloc.AllocError.{AllocError}
 use Rattle.rx_scenario.specs.Scenario.{Name, Command}
-use Rattle.rx_line.specs.Orders.{command, query, list, dump, IsOrderOf, IsFaulty}
+use Rattle.rx_line.specs.Orders.{Order, command, query, list, dump}
 use Rattle.rx_line.specs.Pieces.{refused_text, faulty_text, name_text, member_text}
 use Rattle.rx_line.specs.declared.outcome.Cause.{Cause}
 use Rattle.rx_line.specs.declared.outcome.Outcome.TheVariants.{Accepted, Refused}
 use Rattle.rx_live.specs.Session.{Session, IsSound, has_resource}
 use Rattle.rx_live.specs.Promise.{released, no_act}
-use Rattle.rx_live.specs.Answers.{told_text, WritesNotes, late_text}
+use Rattle.rx_live.specs.Answers.{told_text, WritesNotes, is_late, late_text}
 use Rattle.rx_live.specs.Listed.{all_names}
 use Rattle.rx_live.specs.Openings.{front_text}
 use Rattle.rx_live.specs.Renewals.{Renews, IsFullByOpen}
 use Rattle.rx_live.specs.Dumps.{query_text, dump_text}
 use Rattle.rx_live.specs.Lines.{Runs, handed_by, TellsAll, CarriesOut, refuses, carries, is_faulty, is_refused}
-use Rattle.rx_live.specs.Lines.{as_it_was, renewed, FindsFull, is_carried, is_queried, is_listed, is_dumped, Sends, Ends, IsClosed}
-use Rattle.rx_live.specs.Taken.{Answered, IsFullByAge}
+use Rattle.rx_live.specs.Lines.{as_it_was, renewed, FindsFull, is_carried, is_queried, is_listed, is_dumped, AnswersAsked, Ends, IsClosed}
+use Rattle.rx_live.specs.Taken.{Answered, IsFullByAge, Writes, Tries}
 use Rattle.rx_live.proofs.Laws.HeldStaysHeld.{leads_same, alike_held, renewed_held}
 use Rattle.rx_live.proofs.AcceptedBindsNames.{alike_same}
 use Rattle.rx_live.proofs.Acts.{carried_leads, refused_alike}
 use Rattle.rx_live.proofs.Listings.{leads_all}
 
--- a command that is carried out
-pub carried_out : {old : Session} (done new : Session) (c : Command) (front text : List ℕ) → Runs old c Accepted done →
-    front ≡ front_text old c done → TellsAll done front new text → CarriesOut old c text new
-carried_out {old} done new c front text runs is tells =
-    let all : TellsAll done (front_text old c done) new text = subst (λ (t : List ℕ). TellsAll done t new text) is tells in
-    carries (handed_by c ++ map released all.names) (record { done = done; runs = runs; left = new; tells = all; alike = alike_same new; acts_are = refl })
+-- behind what was written
+behind : (b f p q r s : List ℕ) → b ++ f ++ p ++ q ++ r ++ s ≡ b ++ (f ++ p ++ q ++ r ++ s)
+behind b f p q r s =
+    ap (λ (t : List ℕ). t ++ q ++ r ++ s) (append_assoc b f p) ∙ ap (λ (t : List ℕ). t ++ r ++ s) (append_assoc b (f ++ p) q)
+    ∙ ap (λ (t : List ℕ). t ++ s) (append_assoc b (f ++ p ++ q) r) ∙ append_assoc b (f ++ p ++ q ++ r) s
 
--- the answers of a line
-answered_one : (old new : Session) (line text : List ℕ) (c : Command) → IsOrderOf line (command c) → CarriesOut old c text new → Answered old line text new
-answered_one old new line text c order (refuses why runs alive is) =
+-- a command that is carried out
+pub carried_out : {old : Session} (done new : Session) (c : Command) (begun front text : List ℕ) → Runs old c Accepted done →
+    front ≡ front_text old c done → TellsAll done (begun ++ front) new text → Writes (λ t. CarriesOut old c t new) begun text
+carried_out {old} done new c begun front text runs is tells =
+    let notes : List ℕ = member_text (codes "notes") (map told_text tells.told) in
+    let names : List ℕ = member_text (codes "release") (map name_text tells.names) in
+    let late : List ℕ = late_text (is_late new) in
+    let answer : List ℕ = front_text old c done ++ notes ++ names ++ late ++ codes "}" in
+    let all : TellsAll done (front_text old c done) new answer = record {
+      mid = tells.mid;
+      told = tells.told;
+      tells = tells.tells;
+      all_notes = tells.all_notes;
+      sound = tells.sound;
+      names = tells.names;
+      releases = tells.releases;
+      all_names = tells.all_names;
+      written = refl;
+    } in
+    record {
+      answer = answer;
+      is = carries (handed_by c ++ map released all.names) (record { done = done; runs = runs; left = new; tells = all; alike = alike_same new; acts_are = refl });
+      written = tells.written ∙ behind begun front notes names late (codes "}")
+          ∙ ap (λ (t : List ℕ). begun ++ (t ++ notes ++ names ++ late ++ codes "}")) is;
+    }
+
+-- what is asked
+answered_one : (old new : Session) (asked : Option Order) (text : List ℕ) (c : Command) → asked ≡ Some (command c) → CarriesOut old c text new →
+    Answered old asked new text
+answered_one old new asked text c order (refuses why runs alive is) =
     record { acts = []; answer = is_refused c why order runs alive is; leads = no_act (alike_held old new (refused_alike old new c why runs)) }
-answered_one old new line text c order (carries acts carried) =
+answered_one old new asked text c order (carries acts carried) =
     record { acts = acts; answer = is_carried c order carried; leads = carried_leads old new c text acts carried }
 
--- of a command, where it is answered
-pub answered_command : (old new : Session) (line : List ℕ) (c : Command) (result : Result (Option (String Global)) AllocError) → IsOrderOf line (command c) →
-    IfOk result (λ a. IfSome a (λ s. CarriesOut old c (string_bytes s) new)) → IfOk result (λ a. IfSome a (λ s. Answered old line (string_bytes s) new))
-answered_command old new line c (Err e) order carried = carried
-answered_command old new line c (Ok None) order carried = carried
-answered_command old new line c (Ok (Some s)) order carried = answered_one old new line (string_bytes s) c order carried
+written_as : (p q : List ℕ → Type 0) (begun text : List ℕ) → ((t : List ℕ) → p t → q t) → Writes p begun text → Writes q begun text
+written_as p q begun text goes w = record { answer = w.answer; is = goes w.answer w.is; written = w.written }
 
--- of one that finds the history full by its age
-pub full_command : (old new : Session) (line : List ℕ) (c : Command) (result : Result (Option (String Global)) AllocError) → IsOrderOf line (command c) →
-    IfOk result (λ a. IfNone a (FindsFull old c new)) → IfOk result (λ a. IfNone a (IsFullByAge old line new))
-full_command old new line c (Err e) order full = full
-full_command old new line c (Ok None) order full = record { asked = c; order = order; full = full }
-full_command old new line c (Ok (Some s)) order full = full
+-- an attempt at a command is one at what is asked
+pub tried_command : (old new : Session) (asked : Option Order) (c : Command) (begun text : List ℕ) (result : Result Bool AllocError) → asked ≡ Some (command c) →
+    IfOk result (Tries (λ t. CarriesOut old c t new) (FindsFull old c new) begun text) →
+    IfOk result (Tries (Answered old asked new) (IsFullByAge old asked new) begun text)
+tried_command old new asked c begun text (Err e) order tried = tried
+tried_command old new asked c begun text (Ok true) order tried =
+    written_as (λ t. CarriesOut old c t new) (Answered old asked new) begun text (λ t. answered_one old new asked t c order) tried
+tried_command old new asked c begun text (Ok false) order tried = (record { c = c; order = order; full = tried.0 }, tried.1)
 
--- of the others
-pub answered_queried : (old : Session) (line text : List ℕ) (node : Name) → IsOrderOf line (query node) → text ≡ query_text old node →
-    Answered old line text old
-answered_queried old line text node order is = record { acts = []; answer = is_queried node order is; leads = no_act (λ n. refl) }
+-- an answer that changed nothing
+pub tried_said : (old : Session) (asked : Option Order) (begun answer text : List ℕ) (result : Result Bool AllocError) → Answered old asked old answer →
+    IfOk result (λ b. b ≡ true) → OnOk result (text ≡ begun ++ answer) → IfOk result (Tries (Answered old asked old) (IsFullByAge old asked old) begun text)
+tried_said old asked begun answer text (Err e) answered done is = tt
+tried_said old asked begun answer text (Ok true) answered done is = record { answer = answer; is = answered; written = is }
+tried_said old asked begun answer text (Ok false) answered done is = absurd (cc)
 
-pub answered_listed : (old : Session) (line text : List ℕ) → IsOrderOf line list → Answered old line text old
-answered_listed old line text order = record { acts = []; answer = is_listed order; leads = no_act (λ n. refl) }
+pub answered_queried : (old : Session) (asked : Option Order) (text : List ℕ) (node : Name) → asked ≡ Some (query node) → text ≡ query_text old node →
+    Answered old asked old text
+answered_queried old asked text node order is = record { acts = []; answer = is_queried node order is; leads = no_act (λ n. refl) }
 
-pub answered_dumped : (old : Session) (line text : List ℕ) → IsOrderOf line dump → text ≡ dump_text old → Answered old line text old
-answered_dumped old line text order is = record { acts = []; answer = is_dumped order is; leads = no_act (λ n. refl) }
+pub answered_listed : (old : Session) (asked : Option Order) (text : List ℕ) → asked ≡ Some list → Answered old asked old text
+answered_listed old asked text order = record { acts = []; answer = is_listed order; leads = no_act (λ n. refl) }
 
-pub answered_faulty : (old : Session) (line told text : List ℕ) → IsFaulty line → text ≡ faulty_text told → Answered old line text old
-answered_faulty old line told text faulty is = record { acts = []; answer = is_faulty told faulty is; leads = no_act (λ n. refl) }
+pub answered_dumped : (old : Session) (asked : Option Order) (text : List ℕ) → asked ≡ Some dump → text ≡ dump_text old → Answered old asked old text
+answered_dumped old asked text order is = record { acts = []; answer = is_dumped order is; leads = no_act (λ n. refl) }
 
--- as the line came, or behind a checkpoint
-pub sent_first : (old new : Session) (line text : List ℕ) → Answered old line text new → IsSound new → Sends old line text new
-sent_first old new line text answered sound =
-    record { aged = old; ages = as_it_was; acts = answered.acts; answer = answered.answer; leads = answered.leads; sound = sound }
+pub answered_faulty : (old : Session) (asked : Option Order) (told text : List ℕ) → asked ≡ None → text ≡ faulty_text told → Answered old asked old text
+answered_faulty old asked told text faulty is = record { acts = []; answer = is_faulty told faulty is; leads = no_act (λ n. refl) }
 
-pub sent_again : {old mid : Session} (aged new : Session) (line text : List ℕ) → IsFullByAge old line mid → Renews mid aged → Answered aged line text new → IsSound new →
-    Sends old line text new
-sent_again {old} {mid} aged new line text full renews answered sound =
+-- which of the two an attempt came to
+pub answered_so : (p : List ℕ → Type 0) (q : Type 0) (begun text : List ℕ) {b : Bool} → b ≡ true → Tries p q begun text b → Writes p begun text
+answered_so p q begun text is tried = subst (λ (b : Bool). Tries p q begun text b) is tried
+
+pub found_so : (p : List ℕ → Type 0) (q : Type 0) (begun text : List ℕ) {b : Bool} → b ≡ false → Tries p q begun text b → q × (text ≡ begun)
+found_so p q begun text is tried = subst (λ (b : Bool). Tries p q begun text b) is tried
+
+-- as it came, or behind a checkpoint
+pub sent_first : (old new : Session) (asked : Option Order) (begun text : List ℕ) → Writes (Answered old asked new) begun text → IsSound new →
+    Writes (λ t. AnswersAsked old asked t new) begun text
+sent_first old new asked begun text wrote sound =
+    written_as (Answered old asked new) (λ t. AnswersAsked old asked t new) begun text
+    (λ t answered. record { aged = old; ages = as_it_was; acts = answered.acts; answer = answered.answer; leads = answered.leads; sound = sound }) wrote
+
+pub sent_again : {old mid : Session} (aged new : Session) (asked : Option Order) (begun text : List ℕ) → IsFullByAge old asked mid → Renews mid aged →
+    Writes (Answered aged asked new) begun text → IsSound new → Writes (λ t. AnswersAsked old asked t new) begun text
+sent_again {old} {mid} aged new asked begun text full renews wrote sound =
     let same : (n : Name) → has_resource aged n ≡ has_resource old n = renewed_held old mid aged full.full.alike renews in
-    record {
+    written_as (Answered aged asked new) (λ t. AnswersAsked old asked t new) begun text
+    (λ t answered. record {
       aged = aged;
-      ages = renewed mid full.asked full.order full.full renews;
+      ages = renewed mid full.c full.order full.full renews;
       acts = answered.acts;
       answer = answered.answer;
       leads = leads_same (has_resource old) (has_resource aged) (has_resource new) answered.acts same answered.leads;
       sound = sound;
-    }
+    }) wrote
 
 -- the last line
 pub ended : {old : Session} (left new : Session) (front after text : List ℕ) → IsSound old →
@@ -100,6 +140,6 @@ ended {old} left new front after text sound is notes closing closed = record {
 }
 
 -- one that is refused
-pub refused_out : (old new : Session) (c : Command) (why : Cause) (text : List ℕ) → Runs old c (Refused why) new → IsFullByOpen old why →
-    text ≡ refused_text why → CarriesOut old c text new
-refused_out old new c why text runs alive is = refuses why runs alive is
+pub refused_out : (old new : Session) (c : Command) (why : Cause) (begun answer text : List ℕ) → Runs old c (Refused why) new → IsFullByOpen old why →
+    answer ≡ refused_text why → text ≡ begun ++ answer → Writes (λ t. CarriesOut old c t new) begun text
+refused_out old new c why begun answer text runs alive is written = record { answer = answer; is = refuses why runs alive is; written = written }

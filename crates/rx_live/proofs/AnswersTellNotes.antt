@@ -12,6 +12,8 @@ use Rattle.rx_event.specs.Moments.{moments}
 use Rattle.rx_event.specs.Calls.{Call, outside_of, IsStepOf}
 use Rattle.rx_event.specs.Lawful.{IsForcedOn, stays, more}
 use Rattle.rx_event.proofs.Laws.Counts.{notes-push}
+use Rattle.serde_json.specs.Data.{Data, Items}
+use Rattle.rx_line.specs.Orders.{Order}
 use Rattle.rx_scenario.specs.Scenario.{Command, using, open_node, hold, apply, remove, lease, give_back, next, end, abort}
 use Rattle.rx_scenario.specs.Scenario.{decline, fail, dispose, make_hub, connect, disconnect, drain, checkpoint}
 use Rattle.rx_book.specs.State.{State}
@@ -24,9 +26,11 @@ use Rattle.rx_live.specs.Given.{IsAlike, Gives, BindsHub}
 use Rattle.rx_live.specs.Answers.{to_tell, Takes, none_taken, one_taken}
 use Rattle.rx_live.specs.Renewals.{Renews}
 use Rattle.rx_live.specs.Lines.{Runs, IsCarried, IsAnswer, is_faulty, is_refused, is_carried, is_queried, is_listed, is_dumped}
-use Rattle.rx_live.specs.Lines.{GoesOn, no_line, one_line, IsFresh, IsAged, as_it_was, renewed}
+use Rattle.rx_live.specs.Lines.{GoesOn, no_line, one_line, IsFresh, IsAged, as_it_was, renewed, AnswersAsked, AnswersOne, is_taken, is_put_off}
+use Rattle.rx_live.specs.Lines.{AnswersEach, none_left, one_more, AnswersValue, one_asked, many_asked, IsAnswered, no_json, is_json}
 use Rattle.rx_live.specs.Promise.{Act}
-use Rattle.rx_live.specs.Sessions.{told_by, written_of, written_by, told_in, written_in}
+use Rattle.rx_live.specs.Sessions.{told_by, written_of, written_by, told_one, written_one, told_each, written_each}
+use Rattle.rx_live.specs.Sessions.{told_value, written_value, told_line, written_line, told_in, written_in}
 use Rattle.rx_live.proofs.Acts.{refused_alike}
 
 -- a history that goes on ------------------------------------------------------------------------------
@@ -207,40 +211,85 @@ module _ (old new : Session) (c : Command) (text : List ℕ) (acts : List Act) (
 idle : (old new : Session) → to_tell new ≡ to_tell old → Balances old new [] []
 idle old new same = record { is = append-nil (to_tell old) ∙ sym same }
 
-answer_balances : (old new : Session) (line text : List ℕ) (acts : List Act) → IsBehind old → (answer : IsAnswer old line text acts new) →
-    Balances old new (written_by old new line text acts answer) (told_by old new line text acts answer)
-answer_balances old new line text acts behind (is_faulty told faulty is) = idle old old refl
-answer_balances old new line text acts behind (is_refused c why order runs by_open is) = idle old new (alike_tells old new (refused_alike old new c why runs))
-answer_balances old new line text acts behind (is_carried c order carried) = carried_balances old new c text acts carried behind
-answer_balances old new line text acts behind (is_queried node order is) = idle old old refl
-answer_balances old new line text acts behind (is_listed order) = idle old old refl
-answer_balances old new line text acts behind (is_dumped order is) = idle old old refl
+answer_balances : (old new : Session) (asked : Option Order) (text : List ℕ) (acts : List Act) → IsBehind old → (answer : IsAnswer old asked text acts new) →
+    Balances old new (written_by old new asked text acts answer) (told_by old new asked text acts answer)
+answer_balances old new asked text acts behind (is_faulty told faulty is) = idle old old refl
+answer_balances old new asked text acts behind (is_refused c why order runs by_open is) = idle old new (alike_tells old new (refused_alike old new c why runs))
+answer_balances old new asked text acts behind (is_carried c order carried) = carried_balances old new c text acts carried behind
+answer_balances old new asked text acts behind (is_queried node order is) = idle old old refl
+answer_balances old new asked text acts behind (is_listed order) = idle old old refl
+answer_balances old new asked text acts behind (is_dumped order is) = idle old old refl
 
 -- a checkpoint before it
-aged_tells : {line : List ℕ} (old aged : Session) → IsAged line old aged → to_tell aged ≡ to_tell old
-aged_tells {line} old aged as_it_was = refl
-aged_tells {line} old aged (renewed mid c order full renews) = renews.untold ∙ sym renews.told ∙ alike_tells old mid full.alike
+aged_tells : {asked : Option Order} (old aged : Session) → IsAged asked old aged → to_tell aged ≡ to_tell old
+aged_tells {asked} old aged as_it_was = refl
+aged_tells {asked} old aged (renewed mid c order full renews) = renews.untold ∙ sym renews.told ∙ alike_tells old mid full.alike
 
-aged_behind : {line : List ℕ} (old aged : Session) → IsAged line old aged → IsBehind old → IsBehind aged
-aged_behind {line} old aged as_it_was behind = behind
-aged_behind {line} old aged (renewed mid c order full renews) behind = let none = renews.book.given in omega (arith, none)
+aged_behind : {asked : Option Order} (old aged : Session) → IsAged asked old aged → IsBehind old → IsBehind aged
+aged_behind {asked} old aged as_it_was behind = behind
+aged_behind {asked} old aged (renewed mid c order full renews) behind = let none = renews.book.given in omega (arith, none)
+
+balances_aged : {asked : Option Order} (old new : Session) (text : List ℕ) → IsBehind old → (one : AnswersAsked old asked text new) →
+    Balances old new (written_by one.aged new asked text one.acts one.answer) (told_by one.aged new asked text one.acts one.answer)
+balances_aged {asked} old new text behind one =
+    let wrote : List Mail = written_by one.aged new asked text one.acts one.answer in
+    let balances = answer_balances one.aged new asked text one.acts (aged_behind old one.aged one.ages behind) one.answer in
+    record { is = ap (λ (ms : List Mail). ms ++ wrote) (sym (aged_tells old one.aged one.ages)) ∙ balances.is }
+
+-- an array -------------------------------------------------------------------------------------------
+
+-- what balances, and goes on
+record BalancesOn (old new : Session) (written told : List Mail) : Type 0 where
+  pub balances : Balances old new written told
+  pub behind : IsBehind new
+
+alike_behind : (old new : Session) → IsAlike old new → IsBehind old → IsBehind new
+alike_behind old new alike behind = subst (λ (b : State). b.given ≤ length (notes b.history)) (sym alike.book) behind
+
+one_balances : {old new : Session} {asked : Option Order} {text : List ℕ} {acts : List Act} → IsBehind old → (one : AnswersOne old asked text acts new) →
+    BalancesOn old new (written_one one) (told_one one)
+one_balances {old} {new} {asked} {text} behind (is_taken one) =
+    record { balances = balances_aged old new text behind one; behind = one.sound.kept.given }
+one_balances {old} {new} {asked} behind (is_put_off waits) = record {
+  balances = idle old new (alike_tells waits.aged new waits.alike ∙ aged_tells old waits.aged waits.ages);
+  behind = alike_behind waits.aged new waits.alike (aged_behind old waits.aged waits.ages behind);
+}
+
+both_balance : (a b c : Session) (xs ys us vs : List Mail) → Balances a b xs us → Balances b c ys vs → Balances a c (xs ++ ys) (us ++ vs)
+both_balance a b c xs ys us vs p q = record {
+  is = sym (append_assoc (to_tell a) xs ys) ∙ ap (λ (ms : List Mail). ms ++ ys) p.is ∙ append_assoc us (to_tell b) ys
+      ∙ ap (λ (ms : List Mail). us ++ ms) q.is ∙ sym (append_assoc us vs (to_tell c));
+}
+
+each_balances : {old new : Session} {ds : Items} {texts : List (List ℕ)} {acts : List Act} → IsBehind old → (each : AnswersEach old ds texts acts new) →
+    BalancesOn old new (written_each each) (told_each each)
+each_balances {old} behind none_left = record { balances = idle old old refl; behind = behind }
+each_balances {old} {new} behind (one_more mid one rest) =
+    let first : BalancesOn old mid (written_one one) (told_one one) = one_balances behind one in
+    let later : BalancesOn mid new (written_each rest) (told_each rest) = each_balances first.behind rest in
+    record {
+      balances = both_balance old mid new (written_one one) (written_each rest) (told_one one) (told_each rest) first.balances later.balances;
+      behind = later.behind;
+    }
+
+-- a line
+value_balances : {old new : Session} {d : Data} {text : List ℕ} {acts : List Act} → IsBehind old → (answers : AnswersValue old d text acts new) →
+    Balances old new (written_value answers) (told_value answers)
+value_balances {old} {new} {d} {text} behind (one_asked single one) = balances_aged old new text behind one
+value_balances behind (many_asked ds texts several each is) = (each_balances behind each).balances
+
+line_balances : {old new : Session} {line text : List ℕ} {acts : List Act} → IsBehind old → (answer : IsAnswered old line text acts new) →
+    Balances old new (written_line answer) (told_line answer)
+line_balances {old} behind (no_json told none is) = idle old old refl
+line_balances behind (is_json d json answers) = value_balances behind answers
 
 -- many lines ------------------------------------------------------------------------------------------
 
-all_balance : {first last : Session} {acts : List Act} → IsBehind first → (goes : GoesOn first acts last) →
-    to_tell first ++ written_in goes ≡ told_in goes ++ to_tell last
-all_balance {first} behind no_line = append-nil (to_tell first)
+all_balance : {first last : Session} {acts : List Act} → IsBehind first → (goes : GoesOn first acts last) → Balances first last (written_in goes) (told_in goes)
+all_balance {first} behind no_line = idle first first refl
 all_balance {first} {last} behind (one_line line text new sent rest) =
-    let told : List Mail = told_by sent.aged new line text sent.acts sent.answer in
-    let wrote : List Mail = written_by sent.aged new line text sent.acts sent.answer in
-    let one : Balances sent.aged new wrote told =
-    answer_balances sent.aged new line text sent.acts (aged_behind first sent.aged sent.ages behind) sent.answer in
-    ap (λ (ms : List Mail). ms ++ (wrote ++ written_in rest)) (sym (aged_tells first sent.aged sent.ages))
-    ∙ sym (append_assoc (to_tell sent.aged) wrote (written_in rest))
-    ∙ ap (λ (ms : List Mail). ms ++ written_in rest) one.is
-    ∙ append_assoc told (to_tell new) (written_in rest)
-    ∙ ap (λ (ms : List Mail). told ++ ms) (all_balance sent.sound.kept.given rest)
-    ∙ sym (append_assoc told (told_in rest) (to_tell last))
+    both_balance first new last (written_line sent.answer) (written_in rest) (told_line sent.answer) (told_in rest)
+    (line_balances behind sent.answer) (all_balance sent.sound.kept.given rest)
 
 no_notes : notes [] ≡ []
 unfolding notes moments
@@ -251,4 +300,4 @@ session_told first last acts fresh goes =
     let silent : notes first.book.history ≡ [] = ap notes fresh.history ∙ no_notes in
     let behind : IsBehind first = let g = fresh.given in omega (arith, g) in
     let nothing : to_tell first ≡ [] = λ i. option_to_list (fresh.untold i) ++ drop (fresh.given i) (silent i) in
-    ap (λ (ms : List Mail). ms ++ written_in goes) (sym nothing) ∙ all_balance behind goes
+    ap (λ (ms : List Mail). ms ++ written_in goes) (sym nothing) ∙ (all_balance behind goes).is

@@ -14,4 +14,5 @@ pub mod AnswersTellNotes
 pub mod ClosedSessionIsSound
 pub mod ConnectionAnswered
 pub mod AnswerToEachLine
+pub mod AnswersOfArrays
 pub mod Ties

@@ -1,13 +1,16 @@
 -- What a line is answered, and what the last line says.
-use Rattle.std.specs.Prelude.{◌≡◌, ℕ, true, false, List, [], ◌∷◌, ◌++◌, codes, map, Some, None, is_some, option_map}
+use Rattle.std.specs.Prelude.{◌≡◌, ℕ, true, false, List, [], ◌∷◌, ◌++◌, codes, map, Option, Some, None, is_some, option_map}
 use Rattle.std.specs.Option.{option_map_or}
 use Rattle.rx_scenario.specs.Scenario.{Name, Command, using, open_node, hold, apply, remove, lease, give_back, next, end}
 use Rattle.rx_scenario.specs.Scenario.{abort, decline, fail, dispose, make_hub, connect, disconnect, drain, checkpoint}
 use Rattle.rx_book.specs.Requests.{apply_request, remove_request, lease_request, give_back_request, next_request, end_request, abort_request}
 use Rattle.rx_book.specs.Requests.{decline_request, fail_request, dispose_request, hub_request, connect_request, disconnect_request}
-use Rattle.rx_line.specs.Orders.{command, query, list, dump, IsOrderOf, IsFaulty}
+use Rattle.serde_json.specs.Data.{Data, Items, no_items, item}
+use Rattle.serde_json.specs.Find.{as_array}
+use Rattle.rx_device.specs.Input.{IsJsonOf}
+use Rattle.rx_line.specs.Orders.{Order, command, query, list, dump, order_in, IsOrderOf}
 use Rattle.rx_line.specs.Names.{AreNone}
-use Rattle.rx_line.specs.Pieces.{refused_text, faulty_text, name_text, member_text}
+use Rattle.rx_line.specs.Pieces.{refused_text, faulty_text, name_text, member_text, joined}
 use Rattle.rx_line.specs.declared.outcome.Cause.{Cause}
 use Rattle.rx_line.specs.declared.outcome.Outcome.{Outcome}
 use Rattle.rx_line.specs.declared.outcome.Outcome.TheVariants.{Accepted, Refused}
@@ -16,7 +19,7 @@ use Rattle.rx_live.specs.Carried.{Goes}
 use Rattle.rx_live.specs.Given.{IsAlike, GivesNames, BindsResource, BindsLease, BindsHub, FreesLease, hold_asked}
 use Rattle.rx_live.specs.Openings.{open_asked, using_asked, connection_of, is_node, is_open_taken, is_using_taken, BindsNode, BindsUsing, BindsConnection}
 use Rattle.rx_live.specs.Openings.{front_text}
-use Rattle.rx_event.specs.declared.refusal.Refusal.TheVariants.{Full}
+use Rattle.rx_event.specs.declared.refusal.Refusal.TheVariants.{Full, NoMemory}
 use Rattle.rx_line.specs.declared.outcome.Cause.TheVariants.{Book}
 use Rattle.rx_live.specs.Renewals.{Renews, Renewing, IsFullByOpen, may_renew}
 use Rattle.rx_live.specs.Promise.{Act, handed_in, released, Leads}
@@ -85,15 +88,15 @@ pub data CarriesOut (old : Session) (c : Command) (text : List ℕ) (new : Sessi
   refuses : (why : Cause) → Runs old c (Refused why) new → IsFullByOpen old why → text ≡ refused_text why → CarriesOut old c text new
   carries : (acts : List Act) → IsCarried old c text acts new → CarriesOut old c text new
 
--- a line, with what its answer hands in and releases
-pub data IsAnswer (old : Session) (line text : List ℕ) : List Act → Session → Type 0 where
-  is_faulty : (told : List ℕ) → IsFaulty line → text ≡ faulty_text told → IsAnswer old line text [] old
-  is_refused : {new : Session} (c : Command) (why : Cause) → IsOrderOf line (command c) → Runs old c (Refused why) new → IsFullByOpen old why →
-      text ≡ refused_text why → IsAnswer old line text [] new
-  is_carried : {new : Session} {acts : List Act} (c : Command) → IsOrderOf line (command c) → IsCarried old c text acts new → IsAnswer old line text acts new
-  is_queried : (node : Name) → IsOrderOf line (query node) → text ≡ query_text old node → IsAnswer old line text [] old
-  is_listed : IsOrderOf line list → IsAnswer old line text [] old
-  is_dumped : IsOrderOf line dump → text ≡ dump_text old → IsAnswer old line text [] old
+-- what is asked, or nothing where that is faulty, with what its answer hands in and releases
+pub data IsAnswer (old : Session) (asked : Option Order) (text : List ℕ) : List Act → Session → Type 0 where
+  is_faulty : (told : List ℕ) → asked ≡ None → text ≡ faulty_text told → IsAnswer old asked text [] old
+  is_refused : {new : Session} (c : Command) (why : Cause) → asked ≡ Some (command c) → Runs old c (Refused why) new → IsFullByOpen old why →
+      text ≡ refused_text why → IsAnswer old asked text [] new
+  is_carried : {new : Session} {acts : List Act} (c : Command) → asked ≡ Some (command c) → IsCarried old c text acts new → IsAnswer old asked text acts new
+  is_queried : (node : Name) → asked ≡ Some (query node) → text ≡ query_text old node → IsAnswer old asked text [] old
+  is_listed : asked ≡ Some list → IsAnswer old asked text [] old
+  is_dumped : asked ≡ Some dump → text ≡ dump_text old → IsAnswer old asked text [] old
 
 -- a command found the history full by its age: it is refused Full, and a checkpoint makes room
 pub record FindsFull (old : Session) (c : Command) (mid : Session) : Type 0 where
@@ -101,26 +104,65 @@ pub record FindsFull (old : Session) (c : Command) (mid : Session) : Type 0 wher
   pub alike : IsAlike old mid
   pub aged : may_renew old ≡ true
 
--- before a line is taken: nothing, or a checkpoint, where its command found the history full by its age
-pub data IsAged (line : List ℕ) (old : Session) : Session → Type 0 where
-  as_it_was : IsAged line old old
-  renewed : {new : Session} (mid : Session) (c : Command) → IsOrderOf line (command c) → FindsFull old c mid → Renews mid new → IsAged line old new
+-- before it is taken: nothing, or a checkpoint, where its command found the history full by its age
+pub data IsAged (asked : Option Order) (old : Session) : Session → Type 0 where
+  as_it_was : IsAged asked old old
+  renewed : {new : Session} (mid : Session) (c : Command) → asked ≡ Some (command c) → FindsFull old c mid → Renews mid new → IsAged asked old new
+
+-- it was not taken: nothing but a checkpoint took place
+pub record WaitsFor (asked : Option Order) (old new : Session) : Type 0 where
+  pub aged : Session
+  pub ages : IsAged asked old aged
+  pub alike : IsAlike aged new
+
+-- its answer, and the names that it hands in and releases; one that finds the history full by its age is taken again behind a checkpoint
+pub record AnswersAsked (old : Session) (asked : Option Order) (text : List ℕ) (new : Session) : Type 0 where
+  pub aged : Session
+  pub ages : IsAged asked old aged
+  pub acts : List Act
+  pub answer : IsAnswer aged asked text acts new
+  pub leads : Leads (has_resource old) acts (has_resource new)
+  pub sound : IsSound new
+
+-- a line ----------------------------------------------------------------------------------------------
+
+-- an element of an array: it is answered, or in want of memory not taken, and the answer says so
+pub data AnswersOne (old : Session) (asked : Option Order) : List ℕ → List Act → Session → Type 0 where
+  is_taken : {text : List ℕ} {new : Session} → (one : AnswersAsked old asked text new) → AnswersOne old asked text one.acts new
+  is_put_off : {new : Session} → WaitsFor asked old new → AnswersOne old asked (refused_text (Book NoMemory)) [] new
+
+-- the elements of an array, each by itself and in order
+pub data AnswersEach : Session → Items → List (List ℕ) → List Act → Session → Type 0 where
+  none_left : {s : Session} → AnswersEach s no_items [] [] s
+  one_more : {old new : Session} {d : Data} {ds : Items} {text : List ℕ} {texts : List (List ℕ)} {acts more : List Act} (mid : Session) →
+      AnswersOne old (order_in d) text acts mid → AnswersEach mid ds texts more new → AnswersEach old (item d ds) (text ∷ texts) (acts ++ more) new
+
+abbrev pub array_text : List (List ℕ) → List ℕ
+array_text texts = codes "[" ++ joined texts ++ codes "]"
+
+-- a value asks for one thing, or is an array
+pub data AnswersValue (old : Session) (d : Data) (text : List ℕ) : List Act → Session → Type 0 where
+  one_asked : {new : Session} → as_array d ≡ None → (one : AnswersAsked old (order_in d) text new) → AnswersValue old d text one.acts new
+  many_asked : {new : Session} {acts : List Act} (ds : Items) (texts : List (List ℕ)) → as_array d ≡ Some ds → AnswersEach old ds texts acts new →
+      text ≡ array_text texts → AnswersValue old d text acts new
+
+-- a line is no JSON text, or such a value
+pub data IsAnswered (old : Session) (line text : List ℕ) : List Act → Session → Type 0 where
+  no_json : (told : List ℕ) → ((d : Data) → ¬ IsJsonOf line d) → text ≡ faulty_text told → IsAnswered old line text [] old
+  is_json : {new : Session} {acts : List Act} (d : Data) → IsJsonOf line d → AnswersValue old d text acts new → IsAnswered old line text acts new
+
+-- a line's answer, and the names that it hands in and releases
+pub record Sends (old : Session) (line text : List ℕ) (new : Session) : Type 0 where
+  pub acts : List Act
+  pub answer : IsAnswered old line text acts new
+  pub leads : Leads (has_resource old) acts (has_resource new)
+  pub sound : IsSound new
 
 -- a line that was not taken: nothing but a checkpoint took place
 pub record IsPutOff (line : List ℕ) (old new : Session) : Type 0 where
-  pub aged : Session
-  pub ages : IsAged line old aged
-  pub alike : IsAlike aged new
-
--- a line's answer, and the names that it hands in and releases; a line that finds the history full by its age is taken again behind
--- a checkpoint
-pub record Sends (old : Session) (line text : List ℕ) (new : Session) : Type 0 where
-  pub aged : Session
-  pub ages : IsAged line old aged
-  pub acts : List Act
-  pub answer : IsAnswer aged line text acts new
-  pub leads : Leads (has_resource old) acts (has_resource new)
-  pub sound : IsSound new
+  pub asked : Option Order
+  pub order : (o : Order) → asked ≡ Some o → IsOrderOf line o
+  pub waits : WaitsFor asked old new
 
 -- the last line ---------------------------------------------------------------------------------------
 

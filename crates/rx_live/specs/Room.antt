@@ -7,6 +7,6 @@ use Rattle.std.specs.declared.alloc.Global.{Global}
 abbrev pub HasRoom : ℕ → String Global → Type 0
 HasRoom n text = string_len text + n ≤ string_capacity text
 
--- what closes an answer still finds room
-abbrev pub KeepsRoom : String Global → String Global → Type 0
-KeepsRoom old new = (n : ℕ) → n ≤ 32 → HasRoom n old → HasRoom n new
+-- what closes an answer still finds room, and so much more behind it
+abbrev pub KeepsRoom : (rest : ℕ) → String Global → String Global → Type 0
+KeepsRoom rest old new = (n : ℕ) → n ≤ rest + 32 → HasRoom n old → HasRoom n new

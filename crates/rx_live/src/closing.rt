@@ -34,7 +34,7 @@ fn push_number(
 {
     match engine.resources.name_of(number) {
         Some(name) => {
-            push_quoted(text, lead_of(is_first), name)?;
+            push_quoted(text, lead_of(is_first), name, 0)?;
             Ok(false)
         }
         None => Ok(is_first),
@@ -48,7 +48,7 @@ fn push_unnamed(engine: &Engine, text: &mut String) -> Result<bool, AllocError>
 {
     match &engine.unnamed {
         Some(name) => {
-            push_quoted(text, lead_of(true), name.as_str())?;
+            push_quoted(text, lead_of(true), name.as_str(), 0)?;
             Ok(false)
         }
         None => Ok(true),

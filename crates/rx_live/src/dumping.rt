@@ -78,7 +78,7 @@ fn entry_text(alloc: Global, number: u64, name: &str) -> Result<String, AllocErr
     ensures { IfOk result (λ s. string_bytes s ≡ entry_text number name.now) }
 {
     let mut text = number_text(alloc, number)?;
-    push_quoted(&mut text, ":", name)?;
+    push_quoted(&mut text, ":", name, 0)?;
     Ok(text)
 }
 

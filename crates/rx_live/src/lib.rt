@@ -34,6 +34,7 @@
 //!   something is late, or a checkpoint not made, only where memory was refused is tested and not proved.
 #![tactic(auto)]
 
+mod arrays;
 mod calls;
 mod closing;
 mod connected;

@@ -5,9 +5,10 @@ ghost use Rattle.rx_live.specs.Session.{IsSound};
 ghost use Rattle.rx_live.specs.Live.{session};
 ghost use Rattle.rx_live.specs.Lines.{IsPutOff, Sends, Ends, IsFresh};
 
+use crate::arrays::send_line;
 use crate::engine::Engine;
 use crate::live::Live;
-use crate::sending::{end, send};
+use crate::sending::end;
 use json::Scratch;
 use std::alloc::{AllocError, Global};
 
@@ -50,7 +51,7 @@ impl Live {
         ensures err { OnErr result (IsPutOff line.now (session self.old) (session self.new)) }
     {
         self.engine.book.promise();
-        send(&mut self.engine, &mut self.scratch, line)
+        send_line(&mut self.engine, &mut self.scratch, line)
     }
 
     /// Closes all, and answers what is left to be released: `{"closed":true}`, with `"release"` where there

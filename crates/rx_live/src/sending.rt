@@ -1,14 +1,15 @@
-//! A line, and its answer.
+//! What is asked, and its answer.
 
-ghost use Rattle.std.specs.Prelude.{◌≡◌, ◌+◌, ◌++◌, ◌&&◌, codes, length, string_bytes, IfOk, IfSome, IfNone, OnOk, OnErr};
+ghost use Rattle.std.specs.Prelude.{◌≡◌, ◌+◌, ◌++◌, ◌&&◌, true, codes, length, string_bytes, IfOk, OnOk, OnErr};
 ghost use Rattle.rx_scenario.specs.Scenario.{command_of};
-ghost use Rattle.rx_line.specs.Pieces.{ok_text};
+ghost use Rattle.rx_device.specs.Part.{part_data};
+ghost use Rattle.rx_line.specs.Orders.{order_in};
 ghost use Rattle.rx_live.specs.Session.{session_of, IsSound};
-ghost use Rattle.rx_live.specs.Given.{IsAlike, IsUnchanged};
+ghost use Rattle.rx_live.specs.Given.{IsUnchanged, IsAlike};
 ghost use Rattle.rx_live.specs.Answers.{late_text};
 ghost use Rattle.rx_live.specs.Renewals.{Renews, may_renew};
-ghost use Rattle.rx_live.specs.Lines.{TellsAll, CarriesOut, FindsFull, IsPutOff, Sends, Ends};
-ghost use Rattle.rx_live.specs.Taken.{is_full, IsFullByAge, Answered};
+ghost use Rattle.rx_live.specs.Lines.{TellsAll, CarriesOut, FindsFull, WaitsFor, AnswersAsked, Ends};
+ghost use Rattle.rx_live.specs.Taken.{is_full, IsFullByAge, Answered, Writes, Tries};
 ghost use Rattle.rx_live.specs.Room.{HasRoom};
 
 use crate::closing::{close, push_names};
@@ -20,8 +21,8 @@ use crate::query::query_text;
 use crate::renewing::renew;
 use crate::running::run;
 use crate::telling::{ROOM, tell_notes, tell_releases};
-use json::Scratch;
 use rx_book::Refusal;
+use rx_device::Part;
 use rx_line::{Cause, Order, Outcome, Unread, faulty_text, ok_text, order_of, put, refused_text};
 use rx_listing::is_since;
 use rx_scenario::Command;
@@ -31,9 +32,10 @@ use std::alloc::AllocError;
 const MOST_PLACES: u64 = 9_223_372_036_854_775_807;
 
 // Closes an answer, which says where something is put off.
-fn close_text(text: &mut String, late: bool)
-    requires room { HasRoom 13 text.old }
-    ensures { string_bytes text.new ≡ string_bytes text.old ++ late_text late ++ codes "}" }
+fn close_text(text: &mut String, late: bool, rest: u32)
+    requires room { HasRoom (rest + 13) text.old }
+    ensures text { string_bytes text.new ≡ string_bytes text.old ++ late_text late ++ codes "}" }
+    ensures room { HasRoom rest text.new }
 {
     if late {
         put(text, ",\"late\":true");
@@ -42,28 +44,27 @@ fn close_text(text: &mut String, late: bool)
 }
 
 // Tells all that is to be told behind the front of an answer, and closes that.
-fn tell(engine: &mut Engine, text: String) -> String
+fn tell(engine: &mut Engine, text: &mut String, rest: u32)
     requires sound { IsSound (session_of engine.old) }
-    requires room { HasRoom 15 text }
-    ensures tells { TellsAll (session_of engine.old) (string_bytes text) (session_of engine.new) (string_bytes result) }
+    requires room { HasRoom (rest + 15) text.old }
+    ensures tells { TellsAll (session_of engine.old) (string_bytes text.old) (session_of engine.new) (string_bytes text.new) }
     ensures sound { IsSound (session_of engine.new) }
+    ensures room { HasRoom rest text.new }
 {
-    let mut text = text;
-    tell_notes(engine, &mut text);
-    tell_releases(engine, &mut text);
+    tell_notes(engine, text, rest);
+    tell_releases(engine, text, rest);
     let late = engine.untold.is_some() || engine.unnamed.is_some();
-    close_text(&mut text, late);
-    text
+    close_text(text, late, rest);
 }
 
-// The front of an answer at this place, with room for what may be said behind it and for what closes it.
-fn front(engine: &Engine, said: &str) -> Result<String, AllocError>
-    ensures text { IfOk result (λ s. string_bytes s ≡ ok_text (length engine.now.book.history)) }
-    ensures room { IfOk result (λ s. HasRoom (length said.now + 15) s) }
+// Gets room for the front of an answer, for what may be said behind it and for what closes it.
+fn make_place(text: &mut String, front: &str, said: &str, rest: u32) -> Result<(), AllocError>
+    ensures same { string_bytes text.new ≡ string_bytes text.old }
+    ensures ok { OnOk result (HasRoom (length front.now + (length said.now + (rest + 15))) text.new) }
+    ensures kept { HasRoom rest text.old → HasRoom rest text.new }
 {
-    let mut text = ok_text(engine.alloc, engine.book.len())?;
-    text.reserve(said.len().saturating_add(ROOM))?;
-    Ok(text)
+    let wanted = front.len().saturating_add(said.len());
+    text.reserve(wanted.saturating_add(rest as usize + ROOM))
 }
 
 // Whether the history is full by its age, so that a checkpoint makes room: an event was written since the last
@@ -87,48 +88,94 @@ fn is_full_by_age(engine: &Engine, why: Cause) -> bool
     is_full(why) && may_renew(engine)
 }
 
-// Carries a command out, and answers it. None where it finds the history full by its age. Err where memory is
-// refused. In both nothing has changed.
-fn carry_out(engine: &mut Engine, command: Command) -> Result<Option<String>, AllocError>
-    requires { IsSound (session_of engine.old) }
-    ensures some { IfOk result (λ a. IfSome a (λ s. CarriesOut (session_of engine.old) (command_of command) (string_bytes s) (session_of engine.new))) }
-    ensures none { IfOk result (λ a. IfNone a (FindsFull (session_of engine.old) (command_of command) (session_of engine.new))) }
+// Writes an answer; one that finds no room is not written.
+fn push_answer(text: &mut String, answer: &str, rest: u32) -> Result<(), AllocError>
+    requires room { HasRoom rest text.old }
+    ensures ok { OnOk result (string_bytes text.new ≡ string_bytes text.old ++ answer.now) }
+    ensures err { OnErr result (string_bytes text.new ≡ string_bytes text.old) }
+    ensures room { HasRoom rest text.new }
+{
+    text.reserve(answer.len().saturating_add(rest as usize))?;
+    put(text, answer);
+    Ok(())
+}
+
+// Carries a command out, and writes its answer. False where it finds the history full by its age. Err where memory
+// is refused. In both nothing has changed.
+fn carry_out(
+    engine: &mut Engine,
+    command: Command,
+    text: &mut String,
+    rest: u32,
+) -> Result<bool, AllocError>
+    requires sound { IsSound (session_of engine.old) }
+    requires room { HasRoom rest text.old }
+    ensures ok { IfOk result (Tries (λ t. CarriesOut (session_of engine.old) (command_of command) t (session_of engine.new))
+        (FindsFull (session_of engine.old) (command_of command) (session_of engine.new)) (string_bytes text.old) (string_bytes text.new)) }
     ensures err { OnErr result (IsUnchanged (session_of engine.old) (session_of engine.new)) }
+    ensures blank { OnErr result (string_bytes text.new ≡ string_bytes text.old) }
     ensures sound { IsSound (session_of engine.new) }
+    ensures room { HasRoom rest text.new }
 {
     let connected = connected_by(engine.alloc, &command)?;
     let said = connected.as_str();
-    let mut text = front(engine, said)?;
+    let placed = ok_text(engine.alloc, engine.book.len())?;
+    let front = placed.as_str();
+    make_place(text, front, said, rest)?;
     let behind = engine.place_behind();
     match run(engine, command)? {
         Outcome::Accepted => {
-            push_connected(engine, &mut text, said, behind);
-            Ok(Some(tell(engine, text)))
+            put(text, front);
+            push_connected(engine, text, said, behind, rest);
+            tell(engine, text, rest);
+            Ok(true)
         }
         Outcome::Refused(why) => {
             if is_full_by_age(engine, why) {
-                return Ok(None);
+                return Ok(false);
             }
-            Ok(Some(refused_text(engine.alloc, why)?))
+            let told = refused_text(engine.alloc, why)?;
+            push_answer(text, told.as_str(), rest)?;
+            Ok(true)
         }
     }
 }
 
-// Answers a line. None where it finds the history full by its age. Err where memory is refused. In both nothing
-// has changed.
-fn answer(engine: &mut Engine, scratch: &mut Scratch, line: &[u8]) -> Result<Option<String>, AllocError>
-    requires { IsSound (session_of engine.old) }
-    ensures some { IfOk result (λ a. IfSome a (λ s. Answered (session_of engine.old) line.now (string_bytes s) (session_of engine.new))) }
-    ensures none { IfOk result (λ a. IfNone a (IsFullByAge (session_of engine.old) line.now (session_of engine.new))) }
-    ensures err { OnErr result (IsAlike (session_of engine.old) (session_of engine.new)) }
-    ensures sound { IsSound (session_of engine.new) }
+// Writes an answer that changed nothing.
+fn say(text: &mut String, answer: String, rest: u32) -> Result<bool, AllocError>
+    requires room { HasRoom rest text.old }
+    ensures done { IfOk result (λ b. b ≡ true) }
+    ensures ok { OnOk result (string_bytes text.new ≡ string_bytes text.old ++ string_bytes answer) }
+    ensures blank { OnErr result (string_bytes text.new ≡ string_bytes text.old) }
+    ensures room { HasRoom rest text.new }
 {
-    match order_of(engine.alloc, line, scratch) {
-        Ok(Order::Command(command)) => carry_out(engine, command),
-        Ok(Order::Query(node)) => Ok(Some(query_text(engine, node.as_str())?)),
-        Ok(Order::List) => Ok(Some(list_text(engine)?)),
-        Ok(Order::Dump) => Ok(Some(dump_text(engine)?)),
-        Err(Unread::Faulty(told)) => Ok(Some(faulty_text(engine.alloc, told)?)),
+    push_answer(text, answer.as_str(), rest)?;
+    Ok(true)
+}
+
+// Writes the answer to what a value asks for. False where it finds the history full by its age. Err where memory is
+// refused. In both nothing has changed.
+fn answer(
+    engine: &mut Engine,
+    value: Part<'_, '_>,
+    text: &mut String,
+    rest: u32,
+) -> Result<bool, AllocError>
+    requires sound { IsSound (session_of engine.old) }
+    requires room { HasRoom rest text.old }
+    ensures ok { IfOk result (Tries (Answered (session_of engine.old) (order_in (part_data value.entry)) (session_of engine.new))
+        (IsFullByAge (session_of engine.old) (order_in (part_data value.entry)) (session_of engine.new)) (string_bytes text.old) (string_bytes text.new)) }
+    ensures err { OnErr result (IsAlike (session_of engine.old) (session_of engine.new)) }
+    ensures blank { OnErr result (string_bytes text.new ≡ string_bytes text.old) }
+    ensures sound { IsSound (session_of engine.new) }
+    ensures room { HasRoom rest text.new }
+{
+    match order_of(engine.alloc, value) {
+        Ok(Order::Command(command)) => carry_out(engine, command, text, rest),
+        Ok(Order::Query(node)) => say(text, query_text(engine, node.as_str())?, rest),
+        Ok(Order::List) => say(text, list_text(engine)?, rest),
+        Ok(Order::Dump) => say(text, dump_text(engine)?, rest),
+        Err(Unread::Faulty(told)) => say(text, faulty_text(engine.alloc, told)?, rest),
         Err(Unread::Memory) => Err(AllocError),
     }
 }
@@ -146,22 +193,34 @@ fn make_room(engine: &mut Engine) -> Result<(), AllocError>
     }
 }
 
-/// Answers a line; one that finds the history full by its age is taken again behind a checkpoint. Err where
-/// memory is refused, and then nothing has changed, but that a checkpoint may have been made.
-pub fn send(engine: &mut Engine, scratch: &mut Scratch, line: &[u8]) -> Result<String, AllocError>
-    requires { IsSound (session_of engine.old) }
-    ensures ok { IfOk result (λ s. Sends (session_of engine.old) line.now (string_bytes s) (session_of engine.new)) }
-    ensures err { OnErr result (IsPutOff line.now (session_of engine.old) (session_of engine.new)) }
+/// Writes the answer to what a value asks for, where room for a `rest` is kept behind the text; what finds the
+/// history full by its age is taken again behind a checkpoint. Err where memory is refused, and then nothing has
+/// changed, but that a checkpoint may have been made.
+pub fn send(
+    engine: &mut Engine,
+    value: Part<'_, '_>,
+    text: &mut String,
+    rest: u32,
+) -> Result<(), AllocError>
+    requires sound { IsSound (session_of engine.old) }
+    requires room { HasRoom rest text.old }
+    ensures ok { OnOk result (Writes
+        (λ t. AnswersAsked (session_of engine.old) (order_in (part_data value.entry)) t (session_of engine.new)) (string_bytes text.old) (string_bytes text.new)) }
+    ensures err { OnErr result (WaitsFor (order_in (part_data value.entry)) (session_of engine.old) (session_of engine.new)) }
+    ensures blank { OnErr result (string_bytes text.new ≡ string_bytes text.old) }
     ensures sound { IsSound (session_of engine.new) }
+    ensures room { HasRoom rest text.new }
 {
-    if let Some(text) = answer(engine, scratch, line)? {
-        return Ok(text);
+    let is_answered = answer(engine, value, text, rest)?;
+    if is_answered {
+        return Ok(());
     }
     make_room(engine)?;
-    match answer(engine, scratch, line)? {
-        Some(text) => Ok(text),
-        None => unreachable!(),
+    let is_done = answer(engine, value, text, rest)?;
+    if is_done {
+        return Ok(());
     }
+    unreachable!()
 }
 
 /// Closes all, and answers what is left to be released. Err where memory is refused, and then nothing has
@@ -175,8 +234,8 @@ pub fn end(engine: &mut Engine) -> Result<String, AllocError>
     let mut text = String::from_str(engine.alloc, "{\"closed\":true")?;
     push_names(engine, &mut text)?;
     text.reserve(ROOM)?;
-    tell_notes(engine, &mut text);
-    close_text(&mut text, engine.untold.is_some());
+    tell_notes(engine, &mut text, 0);
+    close_text(&mut text, engine.untold.is_some(), 0);
     close(engine);
     Ok(text)
 }

@@ -1,5 +1,6 @@
 //! A live book, line by line.
 
+mod arrays;
 mod lasting;
 mod listed;
 mod session;

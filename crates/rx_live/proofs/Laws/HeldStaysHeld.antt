@@ -1,16 +1,17 @@
 -- Which names are held, along acts and from session to session.
-use Rattle.std.proofs.Common.{◌≡◌, ℕ, Bool, false, List, ◌++◌, refl, ap, ◌∙◌, subst}
+use Rattle.std.proofs.Common.{◌≡◌, ℕ, Bool, false, List, Option, ◌++◌, refl, ap, ◌∙◌, subst}
 use Rattle.std.specs.Prelude.{is_some}
 use Rattle.std.proofs.Math.Bool.{◌||◌}
 use Rattle.std.specs.Str.{bytes_eq}
 use Rattle.std.specs.Option.{option_map_or}
 use Rattle.rx_scenario.specs.Scenario.{Name}
 use Rattle.rx_line.specs.Names.{spot_of}
+use Rattle.rx_line.specs.Orders.{Order}
 use Rattle.rx_live.specs.Session.{Session, has_resource}
 use Rattle.rx_live.specs.Given.{IsAlike}
 use Rattle.rx_live.specs.Renewals.{Renews}
 use Rattle.rx_live.specs.Promise.{Act, Leads, no_act, hands_in, releases}
-use Rattle.rx_live.specs.Lines.{IsFresh, IsAged, as_it_was, renewed, IsPutOff}
+use Rattle.rx_live.specs.Lines.{IsFresh, IsAged, as_it_was, renewed, WaitsFor, IsPutOff}
 
 -- acts ------------------------------------------------------------------------------------------------
 
@@ -33,12 +34,15 @@ renewed_held old mid aged alike renews n =
     option_map_or (bytes_eq n) (ap (λ (s : Session). s.unnamed) renews.rest i) false)
     ∙ alike_held old mid alike n
 
-pub aged_held : {line : List ℕ} {old aged : Session} → IsAged line old aged → (n : Name) → has_resource aged n ≡ has_resource old n
+pub aged_held : {asked : Option Order} {old aged : Session} → IsAged asked old aged → (n : Name) → has_resource aged n ≡ has_resource old n
 aged_held as_it_was n = refl
-aged_held {line} {old} {aged} (renewed mid c order full renews) n = renewed_held old mid aged full.alike renews n
+aged_held {asked} {old} {aged} (renewed mid c order full renews) n = renewed_held old mid aged full.alike renews n
+
+pub waits_held : {asked : Option Order} (old new : Session) → WaitsFor asked old new → (n : Name) → has_resource new n ≡ has_resource old n
+waits_held {asked} old new waits n = alike_held waits.aged new waits.alike n ∙ aged_held waits.ages n
 
 pub put_off_held : {line : List ℕ} (old new : Session) → IsPutOff line old new → (n : Name) → has_resource new n ≡ has_resource old n
-put_off_held {line} old new off n = alike_held off.aged new off.alike n ∙ aged_held off.ages n
+put_off_held {line} old new off n = waits_held old new off.waits n
 
 pub fresh_held : (s : Session) → IsFresh s → (n : Name) → has_resource s n ≡ false
 fresh_held s fresh n = λ i. is_some (fresh.resources.0 n i) || option_map_or (bytes_eq n) (fresh.unnamed i) false

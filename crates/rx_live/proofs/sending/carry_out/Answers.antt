@@ -1,9 +1,12 @@
-use Rattle.std.proofs.Common.{subst, string_bytes, sym, ◌∙◌}
-use Rattle.rx_scenario.specs.Scenario.{command_of}
+use Rattle.std.proofs.Common.{◌≡◌, ℕ, ◌+◌, ◌++◌, List, length, subst, string_bytes, refl, sym, ap, ◌∙◌, append_assoc, arith}
+use Rattle.rx_scenario.specs.Scenario.{Command, command_of}
 use Rattle.rx_line.specs.declared.outcome.Outcome.{Outcome}
 use Rattle.rx_line.specs.declared.outcome.Outcome.TheVariants.{Accepted, Refused}
 use Rattle.rx_live.specs.Session.{session_of}
-use Rattle.rx_live.specs.Lines.{Runs}
+use Rattle.rx_live.specs.Openings.{said_if, front_text}
+use Rattle.rx_live.specs.Lines.{Runs, TellsAll}
+use Rattle.rx_live.specs.Taken.{connects_at}
+use Rattle.rx_live.specs.Room.{HasRoom}
 use Rattle.rx_live.proofs.Acts.{refused_alike}
 use Rattle.rx_live.proofs.OpenedNodesGetNames.{on_err}
 use Rattle.rx_live.proofs.SessionAfterCheckpoint.{full_by_age, full_by_open}
@@ -11,46 +14,46 @@ use Rattle.rx_live.proofs.ConnectionAnswered.{front_said}
 use Rattle.rx_live.proofs.AnswerToEachLine.{carried_out, refused_out}
 use Rattle.rx_live.proofs.sending.carry_out.Goals as goal
 
-pub returns-then-is_full_by_age-clause-none : goal.returns-then-is_full_by_age-clause-none
-returns-then-is_full_by_age-clause-none c =
+pub returns-then-is_full_by_age-clause-ok : goal.returns-then-is_full_by_age-clause-ok
+returns-then-is_full_by_age-clause-ok c =
     let old = session_of c.args.engine.now in
     let new = session_of c.run.new.engine in
     let runs : Runs old (command_of c.args.command) (Refused c.in-Refused.why) new =
-    subst (λ (o : Outcome). Runs old (command_of c.args.command) o new) c.in-Refused.is c.in_ok-run.ensures.ok in
-    full_by_age old new (command_of c.args.command) c.in-Refused.why runs (refused_alike old new (command_of c.args.command) c.in-Refused.why runs)
-    (sym c.is_full_by_age.ensures ∙ c.if-is_full_by_age.true)
+    subst (λ (o : Outcome). Runs old (command_of c.args.command) o new) c.in-Refused.is c.in_ok-run.ensures.ok in (
+      full_by_age old new (command_of c.args.command) c.in-Refused.why runs (refused_alike old new (command_of c.args.command) c.in-Refused.why runs)
+          (sym c.is_full_by_age.ensures ∙ c.if-is_full_by_age.true),
+      c.make_place.ensures.same,
+    )
 
-pub returns-in_err-refused_text-in-Refused-clause-err : goal.returns-in_err-refused_text-in-Refused-clause-err
-returns-in_err-refused_text-in-Refused-clause-err c =
-    let old = session_of c.args.engine.now in
-    let new = session_of c.run.new.engine in
-    let runs : Runs old (command_of c.args.command) (Refused c.in-Refused.why) new =
-    subst (λ (o : Outcome). Runs old (command_of c.args.command) o new) c.in-Refused.is c.in_ok-run.ensures.ok in
-    on_err c.from_residual-in_err-refused_text-in-Refused.result _
-    (record { alike = refused_alike old new (command_of c.args.command) c.in-Refused.why runs; sound = c.run.ensures.sound })
-
-pub returns-in-Accepted-clause-some : goal.returns-in-Accepted-clause-some
-returns-in-Accepted-clause-some c =
+pub returns-in-Accepted-clause-ok : goal.returns-in-Accepted-clause-ok
+returns-in-Accepted-clause-ok c =
     let old = session_of c.args.engine.now in
     let done = session_of c.run.new.engine in
     let runs : Runs old (command_of c.args.command) Accepted done =
     subst (λ (o : Outcome). Runs old (command_of c.args.command) o done) c.in-Accepted.is c.in_ok-run.ensures.ok in
-    let asked = command_of c.args.command in
-    let front = string_bytes c.push_connected.new.text in
-    carried_out done (session_of c.tell.new.engine) asked front (string_bytes c.tell.result) runs
-    (front_said old done asked (string_bytes c.in_ok-text.text) c.as_str-said.result.now front c.place_behind-behind.result c.requires runs
-    c.in_ok-text.ensures.text (c.as_str-said.ensures.value ∙ c.in_ok-connected.ensures) c.place_behind-behind.ensures
-    c.push_connected.ensures.text)
-    c.tell.ensures.tells
+    let asked : Command = command_of c.args.command in
+    let begun : List ℕ = string_bytes c.args.text.now in
+    let placed : List ℕ = c.as_str-front.result.now in
+    let said : List ℕ = c.as_str-said.result.now in
+    let led : List ℕ = said_if (connects_at done.book c.place_behind-behind.result) said in
+    let front : placed ++ led ≡ front_text old asked done =
+    front_said old done asked placed said (placed ++ led) c.place_behind-behind.result c.requires.sound runs
+    (c.as_str-front.ensures.value ∙ c.in_ok-placed.ensures) (c.as_str-said.ensures.value ∙ c.in_ok-connected.ensures) c.place_behind-behind.ensures refl in
+    let written : string_bytes c.push_connected.new.text ≡ begun ++ (placed ++ led) =
+    c.push_connected.ensures.text ∙ ap (λ (t : List ℕ). t ++ led) (c.put.ensures.bytes ∙ ap (λ (t : List ℕ). t ++ placed) c.make_place.ensures.same)
+    ∙ append_assoc begun placed led in
+    carried_out done (session_of c.tell.new.engine) asked begun (placed ++ led) (string_bytes c.tell.new.text) runs front
+    (subst (λ (t : List ℕ). TellsAll done t (session_of c.tell.new.engine) (string_bytes c.tell.new.text)) written c.tell.ensures.tells)
 
-pub returns-clause-some : goal.returns-clause-some
-returns-clause-some c =
+pub returns-clause-ok : goal.returns-clause-ok
+returns-clause-ok c =
     let old = session_of c.args.engine.now in
     let new = session_of c.run.new.engine in
     let why = c.in-Refused.why in
     let runs : Runs old (command_of c.args.command) (Refused why) new =
     subst (λ (o : Outcome). Runs old (command_of c.args.command) o new) c.in-Refused.is c.in_ok-run.ensures.ok in
-    refused_out old new (command_of c.args.command) why (string_bytes c.in_ok-refused_text-in-Refused.field-0) runs
-    (full_by_open old new why c.requires.kept (refused_alike old new (command_of c.args.command) why runs)
+    refused_out old new (command_of c.args.command) why (string_bytes c.args.text.now) (string_bytes c.in_ok-told.told) (string_bytes c.push_answer.new.text) runs
+    (full_by_open old new why c.requires.sound.kept (refused_alike old new (command_of c.args.command) why runs)
     (sym c.is_full_by_age.ensures ∙ c.if-is_full_by_age.false))
-    c.in_ok-refused_text-in-Refused.ensures
+    c.in_ok-told.ensures
+    (c.in_ok-push_answer.ensures.ok ∙ (λ i. c.make_place.ensures.same i ++ c.as_str.ensures.value i))

@@ -1,58 +1,54 @@
-use Rattle.std.proofs.Common.{Option, String, Global, subst, string_bytes, sym}
-use Rattle.std.specs.Prelude.{IfSome, IfNone}
+use Rattle.std.proofs.Common.{◌≡◌, ℕ, Bool, true, false, List, subst, string_bytes, sym, ◌∙◌}
+use Rattle.rx_device.specs.Part.{part_data}
+use Rattle.rx_line.specs.Orders.{order_in}
 use Rattle.rx_live.specs.Session.{Session, session_of}
 use Rattle.rx_live.specs.Given.{IsAlike}
 use Rattle.rx_live.specs.Lines.{as_it_was, renewed}
-use Rattle.rx_live.specs.Taken.{IsFullByAge, Answered}
+use Rattle.rx_live.specs.Taken.{IsFullByAge, Answered, Writes, Tries}
 use Rattle.rx_live.proofs.OpenedNodesGetNames.{on_err}
 use Rattle.rx_live.proofs.SessionAfterCheckpoint.{young}
-use Rattle.rx_live.proofs.AnswerToEachLine.{sent_first, sent_again}
+use Rattle.rx_live.proofs.AnswerToEachLine.{sent_first, sent_again, answered_so, found_so}
 use Rattle.rx_live.proofs.sending.send.Goals as goal
 
-pub returns-in_err-text-clause-err : goal.returns-in_err-text-clause-err
-returns-in_err-text-clause-err c =
-    on_err c.from_residual.result _ (record { aged = session_of c.args.engine.now; ages = as_it_was; alike = c.in_err-text.ensures.err })
+pub returns-in_err-is_answered-clause-err : goal.returns-in_err-is_answered-clause-err
+returns-in_err-is_answered-clause-err c =
+    on_err c.from_residual.result _ (record { aged = session_of c.args.engine.now; ages = as_it_was; alike = c.in_err-is_answered.ensures.err })
 
-pub returns-in-Some-clause-ok : goal.returns-in-Some-clause-ok
-returns-in-Some-clause-ok c =
-    let old = session_of c.args.engine.now in
-    let new = session_of c.answer.new.engine in
-    let answered : Answered old c.args.line.now (string_bytes c.in-Some.text) new =
-    subst (λ (o : Option (String Global)). IfSome o (λ s. Answered old c.args.line.now (string_bytes s) new)) c.in-Some.is c.in_ok-text.ensures.some in
-    sent_first old new c.args.line.now (string_bytes c.in-Some.text) answered c.answer.ensures.sound
+pub returns-then-is_answered-clause-ok : goal.returns-then-is_answered-clause-ok
+returns-then-is_answered-clause-ok c =
+    sent_first (session_of c.args.engine.now) (session_of c.answer.new.engine) (order_in (part_data c.args.value)) (string_bytes c.args.text.now)
+    (string_bytes c.answer.new.text) (answered_so _ _ _ _ c.if-is_answered.true c.in_ok-is_answered.ensures.ok) c.answer.ensures.sound
 
 pub returns-in_err-make_room-clause-err : goal.returns-in_err-make_room-clause-err
 returns-in_err-make_room-clause-err c =
     let old = session_of c.args.engine.now in
-    let mid = session_of c.answer.new.engine in
-    let full : IsFullByAge old c.args.line.now mid = subst (λ (o : Option (String Global)). IfNone o (IsFullByAge old c.args.line.now mid)) c.in_default.is c.in_ok-text.ensures.none in
+    let full = found_so _ _ _ _ c.if-is_answered.false c.in_ok-is_answered.ensures.ok in
     on_err c.from_residual-in_err-make_room.result _
-    (record { aged = old; ages = as_it_was; alike = subst (λ (s : Session). IsAlike old s) (sym c.in_err-make_room.ensures.err) full.full.alike })
+    (record { aged = old; ages = as_it_was; alike = subst (λ (s : Session). IsAlike old s) (sym c.in_err-make_room.ensures.err) full.0.full.alike })
 
-pub returns-in_err-text-2-clause-err : goal.returns-in_err-text-2-clause-err
-returns-in_err-text-2-clause-err c =
-    let old = session_of c.args.engine.now in
+pub returns-in_err-is_done-clause-err : goal.returns-in_err-is_done-clause-err
+returns-in_err-is_done-clause-err c =
     let mid = session_of c.answer.new.engine in
-    let full : IsFullByAge old c.args.line.now mid = subst (λ (o : Option (String Global)). IfNone o (IsFullByAge old c.args.line.now mid)) c.in_default.is c.in_ok-text.ensures.none in
-    on_err c.from_residual-in_err-text-2.result _
-    (record { aged = session_of c.make_room.new.engine; ages = renewed mid full.asked full.order full.full c.in_ok-make_room.ensures.ok; alike = c.in_err-text-2.ensures.err })
+    let full = found_so _ _ _ _ c.if-is_answered.false c.in_ok-is_answered.ensures.ok in
+    on_err c.from_residual-in_err-is_done.result _
+    (record {
+      aged = session_of c.make_room.new.engine;
+      ages = renewed mid full.0.c full.0.order full.0.full c.in_ok-make_room.ensures.ok;
+      alike = c.in_err-is_done.ensures.err;
+    })
 
 pub unreachable-requires : goal.unreachable-requires
 unreachable-requires c =
-    let mid = session_of c.answer.new.engine in
-    let aged = session_of c.make_room.new.engine in
-    let new = session_of c.answer-2.new.engine in
-    let full : IsFullByAge aged c.args.line.now new = subst (λ (o : Option (String Global)). IfNone o (IsFullByAge aged c.args.line.now new)) c.in-None.is c.in_ok-text-2.ensures.none in
-    young mid aged c.in_ok-make_room.ensures.ok full.full.aged
+    let full = found_so _ _ _ _ c.if-is_done.false c.in_ok-is_done.ensures.ok in
+    young (session_of c.answer.new.engine) (session_of c.make_room.new.engine) c.in_ok-make_room.ensures.ok full.0.full.aged
 
-pub returns-clause-ok : goal.returns-clause-ok
-returns-clause-ok c =
-    let old = session_of c.args.engine.now in
-    let mid = session_of c.answer.new.engine in
+pub returns-then-is_done-clause-ok : goal.returns-then-is_done-clause-ok
+returns-then-is_done-clause-ok c =
     let aged = session_of c.make_room.new.engine in
     let new = session_of c.answer-2.new.engine in
-    let line = c.args.line.now in
-    let full : IsFullByAge old c.args.line.now mid = subst (λ (o : Option (String Global)). IfNone o (IsFullByAge old c.args.line.now mid)) c.in_default.is c.in_ok-text.ensures.none in
-    let answered : Answered aged line (string_bytes c.in-Some-2.text) new =
-    subst (λ (o : Option (String Global)). IfSome o (λ s. Answered aged line (string_bytes s) new)) c.in-Some-2.is c.in_ok-text-2.ensures.some in
-    sent_again aged new line (string_bytes c.in-Some-2.text) full c.in_ok-make_room.ensures.ok answered c.answer-2.ensures.sound
+    let asked = order_in (part_data c.args.value) in
+    let full = found_so _ _ _ _ c.if-is_answered.false c.in_ok-is_answered.ensures.ok in
+    let text : List ℕ = string_bytes c.answer-2.new.text in
+    let wrote : Writes (Answered aged asked new) (string_bytes c.answer.new.text) text = answered_so _ _ _ _ c.if-is_done.true c.in_ok-is_done.ensures.ok in
+    sent_again aged new asked (string_bytes c.args.text.now) text full.0 c.in_ok-make_room.ensures.ok
+    (subst (λ (begun : List ℕ). Writes (Answered aged asked new) begun text) full.1 wrote) c.answer-2.ensures.sound

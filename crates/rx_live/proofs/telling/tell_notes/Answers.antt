@@ -1,4 +1,4 @@
-use Rattle.std.proofs.Common.{ℕ, List, sym, subst, arith, string_bytes}
+use Rattle.std.proofs.Common.{ℕ, ◌+◌, List, sym, subst, arith, string_bytes}
 use Rattle.rx_live.specs.Session.{session_of}
 use Rattle.rx_live.specs.Answers.{WritesNotes}
 use Rattle.rx_live.specs.Room.{HasRoom}
@@ -11,7 +11,7 @@ notes-init c = record {
       notes_begun (session_of c.args.engine.now) (session_of c.push_next.new.engine) (string_bytes c.args.text.now) (string_bytes c.push_next.new.text)
       c.if-not-push_next.ensures.told;
   sound = c.push_next.ensures.sound;
-  room = c.push_next.ensures.room 15 (omega arith) c.requires.room;
+  room = c.push_next.ensures.room (c.args.rest + 15) (omega arith) c.requires.room;
 }
 
 pub notes-preserved : goal.notes-preserved
@@ -21,7 +21,7 @@ notes-preserved c = record {
       (string_bytes c.notes.text)
       (string_bytes c.push_next-in-notes.new.text) c.notes.invariant.written c.notes-test.ensures.told;
   sound = c.push_next-in-notes.ensures.sound;
-  room = c.push_next-in-notes.ensures.room 15 (omega arith) c.notes.invariant.room;
+  room = c.push_next-in-notes.ensures.room (c.args.rest + 15) (omega arith) c.notes.invariant.room;
 }
 
 pub returns-clause-told : goal.returns-clause-told
@@ -34,14 +34,14 @@ returns-clause-told c =
     c.notes-test.ensures.told)
 
 pub returns-then-not-push_next-clause-room : goal.returns-then-not-push_next-clause-room
-returns-then-not-push_next-clause-room c = let r : HasRoom 15 c.args.text.now = c.requires.room in c.push_next.ensures.room 14 (omega arith) (omega (arith, r))
+returns-then-not-push_next-clause-room c = let r : HasRoom (c.args.rest + 15) c.args.text.now = c.requires.room in c.push_next.ensures.room (c.args.rest + 14) (omega arith) (omega (arith, r))
 
 pub put-requires : goal.put-requires
 put-requires c =
-    let r : HasRoom 15 c.push_next-in-notes.new.text = c.push_next-in-notes.ensures.room 15 (omega arith) c.notes.invariant.room in
+    let r : HasRoom (c.args.rest + 15) c.push_next-in-notes.new.text = c.push_next-in-notes.ensures.room (c.args.rest + 15) (omega arith) c.notes.invariant.room in
     record { room = omega (arith, r) }
 
 pub returns-clause-room : goal.returns-clause-room
 returns-clause-room c =
-    let r : HasRoom 15 c.push_next-in-notes.new.text = c.push_next-in-notes.ensures.room 15 (omega arith) c.notes.invariant.room in
+    let r : HasRoom (c.args.rest + 15) c.push_next-in-notes.new.text = c.push_next-in-notes.ensures.room (c.args.rest + 15) (omega arith) c.notes.invariant.room in
     omega (arith, r, c.put.ensures.len, c.put.ensures.capacity)

@@ -1,4 +1,4 @@
-use Rattle.std.proofs.Common.{length, string_bytes}
+use Rattle.std.proofs.Common.{◌+◌, length, string_bytes}
 use Rattle.rx_live.specs.Session.{session_of, IsSound}
 use Rattle.rx_live.specs.Answers.{to_tell}
 use Rattle.rx_live.specs.Steps.{AreNotesWritten}
@@ -9,7 +9,7 @@ abbrev pub invariant-notes : goal.invariant-notes
 invariant-notes l = record {
   written : AreNotesWritten (session_of l.fn.engine) (string_bytes l.fn.text) (session_of l.engine) (string_bytes l.text);
   sound : IsSound (session_of l.engine);
-  room : HasRoom 15 l.text;
+  room : HasRoom (l.rest + 15) l.text;
 }
 
 abbrev pub decreases-notes : goal.decreases-notes

@@ -1,4 +1,4 @@
-use Rattle.std.proofs.Common.{ℕ, List, sym, subst, arith, string_bytes}
+use Rattle.std.proofs.Common.{ℕ, ◌+◌, List, sym, subst, arith, string_bytes}
 use Rattle.rx_live.specs.Session.{session_of}
 use Rattle.rx_live.specs.Answers.{WritesNames}
 use Rattle.rx_live.specs.Room.{HasRoom}
@@ -11,7 +11,7 @@ names-init c = record {
       names_begun (session_of c.args.engine.now) (session_of c.push_name.new.engine) (string_bytes c.args.text.now) (string_bytes c.push_name.new.text)
       c.if-not-push_name.ensures.told;
   sound = c.push_name.ensures.sound;
-  room = c.push_name.ensures.room 14 (omega arith) c.requires.room;
+  room = c.push_name.ensures.room (c.args.rest + 14) (omega arith) c.requires.room;
 }
 
 pub names-preserved : goal.names-preserved
@@ -21,7 +21,7 @@ names-preserved c = record {
       (string_bytes c.names.text)
       (string_bytes c.push_name-in-names.new.text) c.names.invariant.written c.names-test.ensures.told;
   sound = c.push_name-in-names.ensures.sound;
-  room = c.push_name-in-names.ensures.room 14 (omega arith) c.names.invariant.room;
+  room = c.push_name-in-names.ensures.room (c.args.rest + 14) (omega arith) c.names.invariant.room;
 }
 
 pub returns-clause-told : goal.returns-clause-told
@@ -34,16 +34,16 @@ returns-clause-told c =
     c.names-test.ensures.told)
 
 pub returns-then-not-push_name-clause-room : goal.returns-then-not-push_name-clause-room
-returns-then-not-push_name-clause-room c = let r : HasRoom 14 c.args.text.now = c.requires.room in c.push_name.ensures.room 13 (omega arith) (omega (arith, r))
+returns-then-not-push_name-clause-room c = let r : HasRoom (c.args.rest + 14) c.args.text.now = c.requires.room in c.push_name.ensures.room (c.args.rest + 13) (omega arith) (omega (arith, r))
 
 pub put-requires : goal.put-requires
 put-requires c =
-    let r : HasRoom 14 c.push_name-in-names.new.text = c.push_name-in-names.ensures.room 14 (omega arith) c.names.invariant.room in
+    let r : HasRoom (c.args.rest + 14) c.push_name-in-names.new.text = c.push_name-in-names.ensures.room (c.args.rest + 14) (omega arith) c.names.invariant.room in
     record { room = omega (arith, r) }
 
 pub returns-clause-room : goal.returns-clause-room
 returns-clause-room c =
-    let r : HasRoom 14 c.push_name-in-names.new.text = c.push_name-in-names.ensures.room 14 (omega arith) c.names.invariant.room in
+    let r : HasRoom (c.args.rest + 14) c.push_name-in-names.new.text = c.push_name-in-names.ensures.room (c.args.rest + 14) (omega arith) c.names.invariant.room in
     omega (arith, r, c.put.ensures.len, c.put.ensures.capacity)
 
 pub returns-then-not-push_name-clause-told : goal.returns-then-not-push_name-clause-told

@@ -1,4 +1,4 @@
-use Rattle.std.proofs.Common.{string_bytes}
+use Rattle.std.proofs.Common.{◌+◌, string_bytes}
 use Rattle.rx_live.specs.Session.{session_of, IsSound}
 use Rattle.rx_live.specs.Steps.{AreNamesWritten, names_left}
 use Rattle.rx_live.specs.Room.{HasRoom}
@@ -8,7 +8,7 @@ abbrev pub invariant-names : goal.invariant-names
 invariant-names l = record {
   written : AreNamesWritten (session_of l.fn.engine) (string_bytes l.fn.text) (session_of l.engine) (string_bytes l.text);
   sound : IsSound (session_of l.engine);
-  room : HasRoom 14 l.text;
+  room : HasRoom (l.rest + 14) l.text;
 }
 
 abbrev pub decreases-names : goal.decreases-names

@@ -1,0 +1,24 @@
+use Rattle.std.proofs.Common.{◌≡◌, Result, subst, string_bytes, sym}
+use Rattle.serde_json.specs.Data.{Data}
+use Rattle.json.specs.Value.{value_view}
+use Rattle.rx_device.specs.Input.{IsJsonOf}
+use Rattle.rx_device.specs.Part.{data_of, part_data}
+use Rattle.rx_line.specs.declared.order.Unread.{Unread}
+use Rattle.rx_line.specs.Orders.{IsUnread}
+use Rattle.rx_live.specs.Session.{session_of}
+use Rattle.rx_live.proofs.AnswersOfArrays.{line_sent, line_waits, line_faulty, line_unread}
+use Rattle.rx_live.proofs.arrays.send_line.Goals as goal
+
+pub returns-in-Ok-clause-ok : goal.returns-in-Ok-clause-ok
+returns-in-Ok-clause-ok c =
+    let line = c.args.line.now in
+    let d : Data = part_data c.new.result in
+    let json : IsJsonOf line d = subst (λ (d : Data). IsJsonOf line d) (sym c.new.ensures) c.in-Ok.ensures.ok in
+    line_sent (session_of c.args.engine.now) (session_of c.send_value.new.engine) line d c.send_value.result json c.send_value.ensures.sound c.send_value.ensures.ok
+
+pub returns-in-Ok-clause-err : goal.returns-in-Ok-clause-err
+returns-in-Ok-clause-err c =
+    let line = c.args.line.now in
+    let d : Data = part_data c.new.result in
+    let json : IsJsonOf line d = subst (λ (d : Data). IsJsonOf line d) (sym c.new.ensures) c.in-Ok.ensures.ok in
+    line_waits (session_of c.args.engine.now) (session_of c.send_value.new.engine) line d c.send_value.result json c.send_value.ensures.err

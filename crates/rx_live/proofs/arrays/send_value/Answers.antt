@@ -1,0 +1,25 @@
+use Rattle.std.proofs.Common.{◌≡◌, Some, None, option_map, sym, ap, ◌∙◌}
+use Rattle.serde_json.specs.Find.{as_array}
+use Rattle.json.specs.Value.{items_view}
+use Rattle.rx_device.specs.Part.{part_data, items_data}
+use Rattle.rx_line.specs.Orders.{order_in}
+use Rattle.rx_live.specs.Session.{session_of}
+use Rattle.rx_live.proofs.AnswersOfArrays.{value_one, value_many, array_waits}
+use Rattle.rx_live.proofs.arrays.send_value.Goals as goal
+
+pub returns-in-Some-clause-ok : goal.returns-in-Some-clause-ok
+returns-in-Some-clause-ok c =
+    let several : as_array (part_data c.args.value) ≡ Some (items_data (items_view c.in-Some.values.now.items)) =
+    sym c.as_array.ensures ∙ ap (option_map (λ v. items_data (items_view v.now.items))) c.in-Some.is in
+    value_many (session_of c.args.engine.now) (session_of c.send_array.new.engine) (part_data c.args.value) (items_data (items_view c.in-Some.values.now.items))
+    c.send_array.result several c.send_array.ensures.ok
+
+pub returns-in-Some-clause-err : goal.returns-in-Some-clause-err
+returns-in-Some-clause-err c =
+    array_waits (order_in (part_data c.args.value)) (session_of c.args.engine.now) (session_of c.send_array.new.engine) c.send_array.result c.send_array.ensures.err
+
+pub returns-in-None-clause-ok : goal.returns-in-None-clause-ok
+returns-in-None-clause-ok c =
+    let single : as_array (part_data c.args.value) ≡ None =
+    sym c.as_array.ensures ∙ ap (option_map (λ v. items_data (items_view v.now.items))) c.in-None.is in
+    value_one (session_of c.args.engine.now) (session_of c.send_one.new.engine) (part_data c.args.value) c.send_one.result single c.send_one.ensures.ok
