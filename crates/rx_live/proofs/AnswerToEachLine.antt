@@ -1,6 +1,6 @@
 -- What an answer says of the session.
 use Rattle.std.proofs.Common.{◌≡◌, ℕ, List, [], ◌++◌, codes, map, Option, Some, None, Result}
-use Rattle.std.proofs.Common.{Ok, Err, refl, ap, ◌∙◌, append_assoc, Bool, true, false}
+use Rattle.std.proofs.Common.{Ok, Err, refl, ap, ◌∙◌, append_assoc, subst, Bool, true, false}
 use Rattle.std.specs.Prelude.{IfOk, OnOk, is_some}
 use Rattle.std.specs.declared.alloc.AllocError.{AllocError}
 use Rattle.rx_scenario.specs.Scenario.{Name, Command}

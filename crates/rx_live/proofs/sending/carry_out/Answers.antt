@@ -2,6 +2,7 @@ use Rattle.std.proofs.Common.{◌≡◌, ℕ, ◌+◌, ◌++◌, List, length, s
 use Rattle.rx_scenario.specs.Scenario.{Command, command_of}
 use Rattle.rx_line.specs.declared.outcome.Outcome.{Outcome}
 use Rattle.rx_line.specs.declared.outcome.Outcome.TheVariants.{Accepted, Refused}
+use Rattle.rx_line.specs.Pieces.{ok_text}
 use Rattle.rx_live.specs.Session.{session_of}
 use Rattle.rx_live.specs.Openings.{said_if, front_text}
 use Rattle.rx_live.specs.Lines.{Runs, TellsAll}
@@ -38,7 +39,7 @@ returns-in-Accepted-clause-ok c =
     let led : List ℕ = said_if (connects_at done.book c.place_behind-behind.result) said in
     let front : placed ++ led ≡ front_text old asked done =
     front_said old done asked placed said (placed ++ led) c.place_behind-behind.result c.requires.sound runs
-    (c.as_str-front.ensures.value ∙ c.in_ok-placed.ensures) (c.as_str-said.ensures.value ∙ c.in_ok-connected.ensures) c.place_behind-behind.ensures refl in
+    (c.as_str-front.ensures.value ∙ c.in_ok-placed.ensures ∙ ap ok_text c.len.ensures) (c.as_str-said.ensures.value ∙ c.in_ok-connected.ensures) c.place_behind-behind.ensures refl in
     let written : string_bytes c.push_connected.new.text ≡ begun ++ (placed ++ led) =
     c.push_connected.ensures.text ∙ ap (λ (t : List ℕ). t ++ led) (c.put.ensures.bytes ∙ ap (λ (t : List ℕ). t ++ placed) c.make_place.ensures.same)
     ∙ append_assoc begun placed led in
@@ -52,8 +53,26 @@ returns-clause-ok c =
     let why = c.in-Refused.why in
     let runs : Runs old (command_of c.args.command) (Refused why) new =
     subst (λ (o : Outcome). Runs old (command_of c.args.command) o new) c.in-Refused.is c.in_ok-run.ensures.ok in
-    refused_out old new (command_of c.args.command) why (string_bytes c.args.text.now) (string_bytes c.in_ok-told.told) (string_bytes c.push_answer.new.text) runs
+    refused_out old new (command_of c.args.command) why (string_bytes c.args.text.now) (string_bytes c.in_ok-told-in-Refused.told) (string_bytes c.push_answer.new.text) runs
     (full_by_open old new why c.requires.sound.kept (refused_alike old new (command_of c.args.command) why runs)
     (sym c.is_full_by_age.ensures ∙ c.if-is_full_by_age.false))
-    c.in_ok-told.ensures
-    (c.in_ok-push_answer.ensures.ok ∙ (λ i. c.make_place.ensures.same i ++ c.as_str.ensures.value i))
+    c.in_ok-told-in-Refused.ensures
+    (c.in_ok-push_answer-in-Refused.ensures.ok ∙ (λ i. c.make_place.ensures.same i ++ c.as_str.ensures.value i))
+
+pub returns-in_err-told-in-Refused-clause-err : goal.returns-in_err-told-in-Refused-clause-err
+returns-in_err-told-in-Refused-clause-err c =
+    let old = session_of c.args.engine.now in
+    let new = session_of c.run.new.engine in
+    let runs : Runs old (command_of c.args.command) (Refused c.in-Refused.why) new =
+    subst (λ (o : Outcome). Runs old (command_of c.args.command) o new) c.in-Refused.is c.in_ok-run.ensures.ok in
+    on_err c.from_residual-in_err-told-in-Refused.result _
+    (record { alike = refused_alike old new (command_of c.args.command) c.in-Refused.why runs; sound = c.run.ensures.sound })
+
+pub returns-in_err-push_answer-in-Refused-clause-err : goal.returns-in_err-push_answer-in-Refused-clause-err
+returns-in_err-push_answer-in-Refused-clause-err c =
+    let old = session_of c.args.engine.now in
+    let new = session_of c.run.new.engine in
+    let runs : Runs old (command_of c.args.command) (Refused c.in-Refused.why) new =
+    subst (λ (o : Outcome). Runs old (command_of c.args.command) o new) c.in-Refused.is c.in_ok-run.ensures.ok in
+    on_err c.from_residual-in_err-push_answer-in-Refused.result _
+    (record { alike = refused_alike old new (command_of c.args.command) c.in-Refused.why runs; sound = c.run.ensures.sound })

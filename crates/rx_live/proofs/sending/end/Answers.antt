@@ -16,4 +16,4 @@ returns-clause-ok c =
     ended (session_of c.tell_notes.new.engine) (session_of c.close.new.engine) (string_bytes c.reserve.new.self) (string_bytes c.tell_notes.new.text)
     (string_bytes c.close_text.new.text)
     c.requires is c.tell_notes.ensures.told
-    (c.close_text.ensures ∙ ap (λ (b : Bool). string_bytes c.tell_notes.new.text ++ late_text b ++ codes "}") c.is_some.ensures) c.close.ensures.closed
+    (c.close_text.ensures.text ∙ ap (λ (b : Bool). string_bytes c.tell_notes.new.text ++ late_text b ++ codes "}") c.is_some.ensures) c.close.ensures.closed
