@@ -14,7 +14,7 @@ use Rattle.rx_line.specs.Pieces.{refused_text, faulty_text, joined}
 use Rattle.rx_line.specs.declared.outcome.Cause.TheVariants.{Book}
 use Rattle.rx_live.specs.Session.{Session, IsSound, has_resource}
 use Rattle.rx_live.specs.Promise.{Act, Leads, no_act}
-use Rattle.rx_live.specs.Lines.{as_it_was, WaitsFor, AnswersAsked, AnswersOne, is_taken, is_put_off, AnswersEach, none_left, one_more, array_text}
+use Rattle.rx_live.specs.Lines.{as_it_was, WaitsFor, AnswersAsked, AnswersOne, is_taken, is_put_off, AnswersEach, none_left, one_more}
 use Rattle.rx_live.specs.Lines.{one_asked, many_asked, no_json, is_json, IsPutOff, Sends}
 use Rattle.rx_live.specs.Listed.{is_nil}
 use Rattle.rx_live.specs.Taken.{Writes, AnsweredOne, WritesEach, comma_if, AreAnswering, AnsweredArray, AnsweredValue}

@@ -2,8 +2,8 @@
 //!
 //! # Vocabulary
 //!
-//! - A **line** is one command as JSON, or `is`, `list` or `dump`; what it asks for is defined in `rx_line`.
-//!   Its **answer** is one JSON object.
+//! - A **line** is one command as JSON, or `is`, `list` or `dump`, or an array of such; what each asks for is
+//!   defined in `rx_line`. Its **answer** is one JSON object, or an array of them.
 //! - A **session** is what a [`Live`] is to contracts: its book, which names are bound, and what was taken
 //!   from the book and is still to be told (`specs/Session.antt`).
 //! - A resource's name is **held** from the answer of the `using` or the `hold` that hands it in until it
@@ -19,6 +19,8 @@
 //!   one is refused by its first cause and changes nothing, and an accepted one tells all notes of the book's
 //!   history that were not told before, in order, and the names of all that was taken from it, or says that
 //!   something is late.
+//! - The commands of an array are carried out and answered one after the other, each as in a line of its own
+//!   (`AnswersEach` there). One for which memory is refused is answered so, and the next is taken.
 //! - The answer to the opening of a subscriber says whether that made a connection.
 //! - A line that is refused `Full` finds no event in the history since its last checkpoint. After a checkpoint
 //!   each name of a node is that of an open one. `dump` is answered with the dump of the history and the names of

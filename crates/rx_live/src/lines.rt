@@ -37,7 +37,8 @@ impl Live {
 
     /// Takes a line, which is one command as JSON, and answers it with one: `{"ok":PLACE}`, or
     /// `{"refused":NAME}`, or `{"faulty":TEXT}`; with `"notes"` and `"release"` where there are some, and with
-    /// `"late":true` where memory was refused for what was to be told: that is told by a later answer.
+    /// `"late":true` where memory was refused for what was to be told: that is told by a later answer. Or it takes
+    /// an array of commands, and answers an array with the answer to each.
     ///
     /// A command that finds the history full by its age is taken again behind a checkpoint; so it is refused
     /// `Full` by what is open alone.

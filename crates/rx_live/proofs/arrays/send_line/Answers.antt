@@ -1,8 +1,7 @@
-use Rattle.std.proofs.Common.{◌≡◌, Result, subst, string_bytes, sym}
+use Rattle.std.proofs.Common.{subst, string_bytes, sym}
 use Rattle.serde_json.specs.Data.{Data}
-use Rattle.json.specs.Value.{value_view}
 use Rattle.rx_device.specs.Input.{IsJsonOf}
-use Rattle.rx_device.specs.Part.{data_of, part_data}
+use Rattle.rx_device.specs.Part.{part_data}
 use Rattle.rx_line.specs.declared.order.Unread.{Unread}
 use Rattle.rx_line.specs.Orders.{IsUnread}
 use Rattle.rx_live.specs.Session.{session_of}

@@ -1,4 +1,4 @@
-use Rattle.std.proofs.Common.{◌≡◌, ℕ, ◌+◌, ◌++◌, List, length, subst, string_bytes, refl, sym, ap, ◌∙◌, append_assoc, arith}
+use Rattle.std.proofs.Common.{◌≡◌, ℕ, ◌++◌, List, subst, string_bytes, refl, sym, ap, ◌∙◌, append_assoc}
 use Rattle.rx_scenario.specs.Scenario.{Command, command_of}
 use Rattle.rx_line.specs.declared.outcome.Outcome.{Outcome}
 use Rattle.rx_line.specs.declared.outcome.Outcome.TheVariants.{Accepted, Refused}
@@ -7,7 +7,6 @@ use Rattle.rx_live.specs.Session.{session_of}
 use Rattle.rx_live.specs.Openings.{said_if, front_text}
 use Rattle.rx_live.specs.Lines.{Runs, TellsAll}
 use Rattle.rx_live.specs.Taken.{connects_at}
-use Rattle.rx_live.specs.Room.{HasRoom}
 use Rattle.rx_live.proofs.Acts.{refused_alike}
 use Rattle.rx_live.proofs.OpenedNodesGetNames.{on_err}
 use Rattle.rx_live.proofs.SessionAfterCheckpoint.{full_by_age, full_by_open}

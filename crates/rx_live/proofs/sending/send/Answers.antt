@@ -1,10 +1,10 @@
-use Rattle.std.proofs.Common.{◌≡◌, ℕ, Bool, true, false, List, subst, string_bytes, sym, ◌∙◌}
+use Rattle.std.proofs.Common.{ℕ, List, subst, string_bytes, sym}
 use Rattle.rx_device.specs.Part.{part_data}
 use Rattle.rx_line.specs.Orders.{order_in}
 use Rattle.rx_live.specs.Session.{Session, session_of}
 use Rattle.rx_live.specs.Given.{IsAlike}
 use Rattle.rx_live.specs.Lines.{as_it_was, renewed}
-use Rattle.rx_live.specs.Taken.{IsFullByAge, Answered, Writes, Tries}
+use Rattle.rx_live.specs.Taken.{Answered, Writes}
 use Rattle.rx_live.proofs.OpenedNodesGetNames.{on_err}
 use Rattle.rx_live.proofs.SessionAfterCheckpoint.{young}
 use Rattle.rx_live.proofs.AnswerToEachLine.{sent_first, sent_again, answered_so, found_so}
