@@ -82,8 +82,22 @@ impl<R: Drop> Store<R> {
         ensures rest { Relinks self.old self.new }
     {
         if self.is_noted(slot) {
-            self.leave(Place::Noted(slot));
+            self.leave_noted(slot);
         }
+    }
+
+    // The same of one that stands there, which is seldom: apart, so that what closes a node stays small.
+    #[cold]
+    #[inline(never)]
+    fn leave_noted(&mut self, slot: usize)
+        requires there { IsTrue (is_there self.old (Noted slot)) }
+        requires before { IsTrue (is_there self.old (previous_of self.old (Noted slot))) }
+        requires after { IsTrue (is_there self.old (next_of self.old (Noted slot))) }
+        ensures leaves { Leaves places (next_of self.old) (previous_of self.old)
+            (next_of self.new) (previous_of self.new) (Noted slot) }
+        ensures rest { Relinks self.old self.new }
+    {
+        self.leave(Place::Noted(slot));
     }
 
     // Takes out the record of a node without children.
@@ -127,7 +141,9 @@ impl<R: Drop> Store<R> {
         ensures list_room { vec_capacity closed.new ≡ vec_capacity closed.old }
     {
         let key = self.leaf_below(from);
-        let node = self.take_leaf(key)?;
+        let Some(node) = self.take_leaf(key) else {
+            unreachable!()
+        };
         closed.push_reserved(Closed { key, node });
         if key.number == top.number {
             None
