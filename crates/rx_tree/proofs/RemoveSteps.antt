@@ -12,6 +12,8 @@ use Rattle.rx_rings.specs.Rings.{is_among, without, Joins, Leaves}
 use Rattle.rx_tree.specs.Places.{is_place, places}
 use Rattle.rx_tree.proofs.PlacesApart.{tells}
 use Rattle.rx_rings.proofs.Laws.Places.{without_none}
+use Rattle.rx_rings.proofs.Laws.JoinsLeavesMerges.{leaves_nothing}
+use Rattle.rx_tree.specs.Resources.{is_owned, is_lent}
 use Rattle.rx_tree.specs.Store.{key_on, nodes_of, resources_of, next_of, previous_of, stands, is_there, KeepsLinks, Relinks, shown}
 use Rattle.rx_tree.specs.Ties.{resource_ring, IsTiedAt, IsTied}
 use Rattle.rx_tree.proofs.Chain.{chain_is, retie}
@@ -19,6 +21,10 @@ use Rattle.rx_tree.proofs.Laws.FoundAfterWrite.{entry_found}
 use Rattle.rx_tree.proofs.There.{previous_stands, next_stands}
 use Rattle.rx_tree.proofs.TieResources.{ring_ends, tied_off, tied_on}
 use Rattle.rx_tree.proofs.TieSteps.{tied_links}
+
+-- a store has the records and the counts that it has
+pub relinks_same : {T : Type 0} (s : Store T) → Relinks s s
+relinks_same s = record { nodes = refl; resources = refl; waiting_count = refl; owed = refl; held_count = λ j. refl }
 
 module _ {T : Type 0} (s : Store T) (key : Key) (tied : IsTied s) (stowed : Stowed T) (found : find (resources_of s) key ≡ Some stowed) where
   pub stored_stands : stands (nodes_of s) (resources_of s) (Stored key.slot) ≡ true
@@ -29,6 +35,15 @@ module _ {T : Type 0} (s : Store T) (key : Key) (tied : IsTied s) (stowed : Stow
 
   pub stored_after : stands (nodes_of s) (resources_of s) (next_of s (Stored key.slot)) ≡ true
   stored_after = next_stands (nodes_of s) (resources_of s) (next_of s) (previous_of s) tied (Stored key.slot) stored_stands
+
+  -- one of which a lease is out is on no ring that it could leave
+  pub lent_stays : is_lent stowed ≡ true → Leaves places (next_of s) (previous_of s) (next_of s) (previous_of s) (Stored key.slot)
+  lent_stays lent =
+      let none : option_and_then (λ e. resource_ring (nodes_of s) e.value) (entry_at (resources_of s) key.slot) ≡ None =
+      ap (option_and_then (λ e. resource_ring (nodes_of s) e.value)) (entry_found (resources_of s) key stowed found) ∙
+      ap (λ l. cond l None (Some (cond (is_owned (nodes_of s) stowed) (Held stowed.node.slot) Waiting))) lent in
+      let alone = tied.ringed.loose (Stored key.slot) refl none in
+      leaves_nothing tells (next_of s) (previous_of s) (Stored key.slot) alone.to alone.back
 
   -- it is not on the chain of what may be due
   not_due : is_among places (Stored key.slot) (tied.rings Due) ≡ false

@@ -609,11 +609,10 @@ impl<R: Resource> Tree<R> {
             slot: res.slot,
             number: res.number,
         };
-        let place = Place::Stored(res.slot);
-        self.store.leave(place);
+        // One of which a lease is out stands on no ring.
         self.store.unlend(key);
         if let Some(ring) = self.store.ring_of(key) {
-            self.store.join(ring, place);
+            self.store.join(ring, Place::Stored(res.slot));
         }
     }
 

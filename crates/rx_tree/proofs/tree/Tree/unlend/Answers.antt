@@ -1,4 +1,4 @@
-use Rattle.std.proofs.Common.{◌≡◌, Some, sym, ap, subst, ◌∙◌}
+use Rattle.std.proofs.Common.{sym, ap, ◌∙◌}
 use Rattle.std.specs.Option.{option_and_then}
 use Rattle.rx_slots.specs.declared.Key.{Key}
 use Rattle.rx_slots.specs.Slots.{find}
@@ -7,46 +7,22 @@ use Rattle.rx_tree.specs.Store.{nodes_of, resources_of}
 use Rattle.rx_tree.specs.Ties.{resource_ring}
 use Rattle.rx_tree.proofs.There.{ring_stands}
 use Rattle.rx_tree.proofs.Laws.FoundAfterWrite.{found_entry}
-use Rattle.rx_tree.proofs.RemoveSteps.{found_where, stored_stands, stored_before, stored_after, stands_still, last_there, off_tied, off_chain, on_tied}
+use Rattle.rx_tree.proofs.RemoveSteps.{found_where, stored_stands, lent_stays, relinks_same, stands_still, last_there, off_tied, off_chain, on_tied}
 use Rattle.rx_tree.proofs.RemoveSteps.{on_chain}
 use Rattle.rx_tree.specs.declared.links.Place.TheVariants.{Stored}
 use Rattle.rx_tree.proofs.CountSteps.{counted_relinked}
 use Rattle.rx_tree.proofs.tree.Tree.unlend.Goals as goal
-
-pub leave-requires-clause-place : goal.leave-requires-clause-place
-leave-requires-clause-place g c =
-    let s = c.self.inside.store in
-    let key : Key = record { slot = c.args.res.slot; number = c.args.res.number } in
-    let h = found_where is_lent (find (resources_of s) key) (rw (← c.self.view_is) at c.requires.lent) in
-    stored_stands s key c.self.invariant.tied h.0 h.1
-
-pub leave-requires-clause-before : goal.leave-requires-clause-before
-leave-requires-clause-before g c =
-    let s = c.self.inside.store in
-    let key : Key = record { slot = c.args.res.slot; number = c.args.res.number } in
-    let h = found_where is_lent (find (resources_of s) key) (rw (← c.self.view_is) at c.requires.lent) in
-    stored_before s key c.self.invariant.tied h.0 h.1
-
-pub leave-requires-clause-after : goal.leave-requires-clause-after
-leave-requires-clause-after g c =
-    let s = c.self.inside.store in
-    let key : Key = record { slot = c.args.res.slot; number = c.args.res.number } in
-    let h = found_where is_lent (find (resources_of s) key) (rw (← c.self.view_is) at c.requires.lent) in
-    stored_after s key c.self.invariant.tied h.0 h.1
-
-pub unlend-requires-clause-counted : goal.unlend-requires-clause-counted
-unlend-requires-clause-counted g c = counted_relinked c.self.inside.store c.leave.new.self c.leave.ensures.rest c.self.invariant.counted
 
 pub join-requires-clause-end : goal.join-requires-clause-end
 join-requires-clause-end g c =
     let s = c.self.inside.store in
     let key : Key = record { slot = c.args.res.slot; number = c.args.res.number } in
     let h = found_where is_lent (find (resources_of s) key) (rw (← c.self.view_is) at c.requires.lent) in
-    let change = c.unlend.ensures.changes h.0 (subst (λ r. find r key ≡ Some h.0) (sym c.leave.ensures.rest.resources) h.1) in
+    let change = c.unlend.ensures.changes h.0 h.1 in
     let now = found_entry (resources_of c.unlend.new.self) key (one_lease_less h.0) change.changed in
-    let ring = ap (λ n. resource_ring n (one_lease_less h.0)) (sym (c.unlend.ensures.nodes ∙ c.leave.ensures.rest.nodes)) ∙
+    let ring = ap (λ n. resource_ring n (one_lease_less h.0)) (sym c.unlend.ensures.nodes) ∙
     sym (ap (option_and_then (resource_ring (nodes_of c.unlend.new.self))) now) ∙ sym c.ring_of.ensures ∙ c.in-Some.is in
-    stands_still s key c.self.invariant.tied h.0 h.1 (one_lease_less h.0) c.leave.new.self c.unlend.new.self c.leave.ensures.leaves c.leave.ensures.rest
+    stands_still s key c.self.invariant.tied h.0 h.1 (one_lease_less h.0) s c.unlend.new.self (lent_stays s key c.self.invariant.tied h.0 h.1 h.2) (relinks_same s)
     change c.unlend.ensures.links c.unlend.ensures.nodes c.in-Some.ring (ring_stands (nodes_of s) (resources_of s) (one_lease_less h.0) c.in-Some.ring ring)
 
 pub join-requires-clause-place : goal.join-requires-clause-place
@@ -54,8 +30,8 @@ join-requires-clause-place g c =
     let s = c.self.inside.store in
     let key : Key = record { slot = c.args.res.slot; number = c.args.res.number } in
     let h = found_where is_lent (find (resources_of s) key) (rw (← c.self.view_is) at c.requires.lent) in
-    let change = c.unlend.ensures.changes h.0 (subst (λ r. find r key ≡ Some h.0) (sym c.leave.ensures.rest.resources) h.1) in
-    stands_still s key c.self.invariant.tied h.0 h.1 (one_lease_less h.0) c.leave.new.self c.unlend.new.self c.leave.ensures.leaves c.leave.ensures.rest
+    let change = c.unlend.ensures.changes h.0 h.1 in
+    stands_still s key c.self.invariant.tied h.0 h.1 (one_lease_less h.0) s c.unlend.new.self (lent_stays s key c.self.invariant.tied h.0 h.1 h.2) (relinks_same s)
     change c.unlend.ensures.links c.unlend.ensures.nodes (Stored c.args.res.slot) (stored_stands s key c.self.invariant.tied h.0 h.1)
 
 pub join-requires-clause-last : goal.join-requires-clause-last
@@ -63,11 +39,11 @@ join-requires-clause-last g c =
     let s = c.self.inside.store in
     let key : Key = record { slot = c.args.res.slot; number = c.args.res.number } in
     let h = found_where is_lent (find (resources_of s) key) (rw (← c.self.view_is) at c.requires.lent) in
-    let change = c.unlend.ensures.changes h.0 (subst (λ r. find r key ≡ Some h.0) (sym c.leave.ensures.rest.resources) h.1) in
+    let change = c.unlend.ensures.changes h.0 h.1 in
     let now = found_entry (resources_of c.unlend.new.self) key (one_lease_less h.0) change.changed in
-    let ring = ap (λ n. resource_ring n (one_lease_less h.0)) (sym (c.unlend.ensures.nodes ∙ c.leave.ensures.rest.nodes)) ∙
+    let ring = ap (λ n. resource_ring n (one_lease_less h.0)) (sym c.unlend.ensures.nodes) ∙
     sym (ap (option_and_then (resource_ring (nodes_of c.unlend.new.self))) now) ∙ sym c.ring_of.ensures ∙ c.in-Some.is in
-    last_there s key c.self.invariant.tied h.0 h.1 (one_lease_less h.0) c.leave.new.self c.unlend.new.self c.leave.ensures.leaves c.leave.ensures.rest
+    last_there s key c.self.invariant.tied h.0 h.1 (one_lease_less h.0) s c.unlend.new.self (lent_stays s key c.self.invariant.tied h.0 h.1 h.2) (relinks_same s)
     change c.unlend.ensures.links c.unlend.ensures.nodes c.in-Some.ring (ring_stands (nodes_of s) (resources_of s) (one_lease_less h.0) c.in-Some.ring ring)
 
 pub invariant_of-self : goal.invariant_of-self
@@ -75,12 +51,12 @@ invariant_of-self g c =
     let s = c.self.inside.store in
     let key : Key = record { slot = c.args.res.slot; number = c.args.res.number } in
     let h = found_where is_lent (find (resources_of s) key) (rw (← c.self.view_is) at c.requires.lent) in
-    let change = c.unlend.ensures.changes h.0 (subst (λ r. find r key ≡ Some h.0) (sym c.leave.ensures.rest.resources) h.1) in
+    let change = c.unlend.ensures.changes h.0 h.1 in
     let now = found_entry (resources_of c.unlend.new.self) key (one_lease_less h.0) change.changed in
-    let ring = ap (λ n. resource_ring n (one_lease_less h.0)) (sym (c.unlend.ensures.nodes ∙ c.leave.ensures.rest.nodes)) ∙
+    let ring = ap (λ n. resource_ring n (one_lease_less h.0)) (sym c.unlend.ensures.nodes) ∙
     sym (ap (option_and_then (resource_ring (nodes_of c.unlend.new.self))) now) ∙ sym c.ring_of.ensures ∙ c.in-Some.is in
     record {
-      tied = on_tied s key c.self.invariant.tied h.0 h.1 (one_lease_less h.0) c.leave.new.self c.unlend.new.self c.leave.ensures.leaves c.leave.ensures.rest
+      tied = on_tied s key c.self.invariant.tied h.0 h.1 (one_lease_less h.0) s c.unlend.new.self (lent_stays s key c.self.invariant.tied h.0 h.1 h.2) (relinks_same s)
           change c.unlend.ensures.links c.unlend.ensures.nodes c.in-Some.ring ring c.join.new.self c.join.ensures.joins c.join.ensures.rest;
       counted = counted_relinked c.unlend.new.self c.join.new.self c.join.ensures.rest c.unlend.ensures.counted;
     }
@@ -90,13 +66,13 @@ invariant_of-self-in_default g c =
     let s = c.self.inside.store in
     let key : Key = record { slot = c.args.res.slot; number = c.args.res.number } in
     let h = found_where is_lent (find (resources_of s) key) (rw (← c.self.view_is) at c.requires.lent) in
-    let change = c.unlend.ensures.changes h.0 (subst (λ r. find r key ≡ Some h.0) (sym c.leave.ensures.rest.resources) h.1) in
+    let change = c.unlend.ensures.changes h.0 h.1 in
     let now = found_entry (resources_of c.unlend.new.self) key (one_lease_less h.0) change.changed in
-    let ring = ap (λ n. resource_ring n (one_lease_less h.0)) (sym (c.unlend.ensures.nodes ∙ c.leave.ensures.rest.nodes)) ∙
+    let ring = ap (λ n. resource_ring n (one_lease_less h.0)) (sym c.unlend.ensures.nodes) ∙
     sym (ap (option_and_then (resource_ring (nodes_of c.unlend.new.self))) now) ∙ sym c.ring_of.ensures ∙ c.in_default.is in
     record {
-      tied = off_tied s key c.self.invariant.tied h.0 h.1 (one_lease_less h.0) c.leave.new.self c.unlend.new.self c.leave.ensures.leaves
-          c.leave.ensures.rest change c.unlend.ensures.links c.unlend.ensures.nodes ring;
+      tied = off_tied s key c.self.invariant.tied h.0 h.1 (one_lease_less h.0) s c.unlend.new.self (lent_stays s key c.self.invariant.tied h.0 h.1 h.2)
+          (relinks_same s) change c.unlend.ensures.links c.unlend.ensures.nodes ring;
       counted = c.unlend.ensures.counted;
     }
 
@@ -105,21 +81,21 @@ returns-in-Some-clause-chain g c =
     let s = c.self.inside.store in
     let key : Key = record { slot = c.args.res.slot; number = c.args.res.number } in
     let h = found_where is_lent (find (resources_of s) key) (rw (← c.self.view_is) at c.requires.lent) in
-    let change = c.unlend.ensures.changes h.0 (subst (λ r. find r key ≡ Some h.0) (sym c.leave.ensures.rest.resources) h.1) in
+    let change = c.unlend.ensures.changes h.0 h.1 in
     let now = found_entry (resources_of c.unlend.new.self) key (one_lease_less h.0) change.changed in
-    let ring = ap (λ n. resource_ring n (one_lease_less h.0)) (sym (c.unlend.ensures.nodes ∙ c.leave.ensures.rest.nodes)) ∙
+    let ring = ap (λ n. resource_ring n (one_lease_less h.0)) (sym c.unlend.ensures.nodes) ∙
     sym (ap (option_and_then (resource_ring (nodes_of c.unlend.new.self))) now) ∙ sym c.ring_of.ensures ∙ c.in-Some.is in
-    rw (← c.self.view_is) (on_chain s key c.self.invariant.tied h.0 h.1 (one_lease_less h.0) c.leave.new.self c.unlend.new.self c.leave.ensures.leaves
-    c.leave.ensures.rest change c.unlend.ensures.links c.unlend.ensures.nodes c.in-Some.ring ring c.join.new.self c.join.ensures.joins c.join.ensures.rest)
+    rw (← c.self.view_is) (on_chain s key c.self.invariant.tied h.0 h.1 (one_lease_less h.0) s c.unlend.new.self (lent_stays s key c.self.invariant.tied h.0 h.1 h.2)
+    (relinks_same s) change c.unlend.ensures.links c.unlend.ensures.nodes c.in-Some.ring ring c.join.new.self c.join.ensures.joins c.join.ensures.rest)
 
 pub returns-in_default-clause-chain : goal.returns-in_default-clause-chain
 returns-in_default-clause-chain g c =
     let s = c.self.inside.store in
     let key : Key = record { slot = c.args.res.slot; number = c.args.res.number } in
     let h = found_where is_lent (find (resources_of s) key) (rw (← c.self.view_is) at c.requires.lent) in
-    let change = c.unlend.ensures.changes h.0 (subst (λ r. find r key ≡ Some h.0) (sym c.leave.ensures.rest.resources) h.1) in
+    let change = c.unlend.ensures.changes h.0 h.1 in
     let now = found_entry (resources_of c.unlend.new.self) key (one_lease_less h.0) change.changed in
-    let ring = ap (λ n. resource_ring n (one_lease_less h.0)) (sym (c.unlend.ensures.nodes ∙ c.leave.ensures.rest.nodes)) ∙
+    let ring = ap (λ n. resource_ring n (one_lease_less h.0)) (sym c.unlend.ensures.nodes) ∙
     sym (ap (option_and_then (resource_ring (nodes_of c.unlend.new.self))) now) ∙ sym c.ring_of.ensures ∙ c.in_default.is in
-    rw (← c.self.view_is) (off_chain s key c.self.invariant.tied h.0 h.1 (one_lease_less h.0) c.leave.new.self c.unlend.new.self c.leave.ensures.leaves
-    c.leave.ensures.rest change c.unlend.ensures.links c.unlend.ensures.nodes ring)
+    rw (← c.self.view_is) (off_chain s key c.self.invariant.tied h.0 h.1 (one_lease_less h.0) s c.unlend.new.self (lent_stays s key c.self.invariant.tied h.0 h.1 h.2)
+    (relinks_same s) change c.unlend.ensures.links c.unlend.ensures.nodes ring)
