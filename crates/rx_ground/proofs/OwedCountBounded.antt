@@ -1,9 +1,8 @@
 -- What all open FlatMaps and Switches owe together, by the history and by the records of a tree, and that it stays within 64 bits.
 use Rattle.std.proofs.Common.{◌≡◌, ℕ, zero, suc, ◌+◌, ◌*◌, ◌<◌, ◌≤◌, Bool, true, false, cond, List, [], ◌∷◌, ◌++◌, length}
-use Rattle.std.proofs.Common.{Option, Some, None, is_some, IsSome, IfSome, option_map, refl, sym, ap, ◌∙◌, arith, length-append}
+use Rattle.std.proofs.Common.{Option, Some, None, is_some, IsSome, IfSome, refl, sym, ap, ◌∙◌, arith, length-append}
 use Rattle.std.proofs.Math.Bool.{not, ◌&&◌}
 use Rattle.std.specs.List.{AllByRecursion, count_by, filter_map, cons_option}
-use Rattle.std.proofs.lemmas.Option.{none-some, same_Some}
 use Rattle.std.proofs.lemmas.List.Sums.{sum_by-cons}
 use Rattle.rx_event.specs.Kept.{Kept, shown}
 use Rattle.rx_resource.specs.declared.Resource.{Ghosts}
@@ -30,7 +29,7 @@ use Rattle.rx_slots.specs.Slots.{Slots, find}
 use Rattle.rx_tree.specs.declared.node.Node.{Node}
 use Rattle.rx_tree.specs.Tree.{Tree, AreApart}
 use Rattle.rx_tree.specs.Owed.{owed_in}
-use Rattle.rx_tree.proofs.Laws.Owed.{owed_part, owed_in-numbers}
+use Rattle.rx_tree.proofs.Laws.Owed.{owed_in-numbers}
 use Rattle.rx_register.specs.State.{State as Register, IsPromised}
 use Rattle.rx_ground.specs.Ties.{AreRecords, IsTied}
 
@@ -149,18 +148,7 @@ owed_in-count base h law nodes chain records apart = owed_in-numbers (owed_open 
     by_test true alive some = let has = records.every k alive in (has.key, has.numbered, ap is_some has.found)
     by_test false shut some = absurd (omega arith)
 
--- what one node owes is within it
-pub owed_marks-le : (nodes : Slots Node) (key : Key) (marks : Marks) → option_map (λ (node : Node). node.marks) (find nodes key) ≡ Some marks →
-    marks.owed ≤ owed_in nodes
-owed_marks-le nodes key marks at_key = by_value (find nodes key) refl at_key where
-  by_value : (o : Option Node) → find nodes key ≡ o → option_map (λ (node : Node). node.marks) o ≡ Some marks → marks.owed ≤ owed_in nodes
-  by_value None found none = absurd (none-some marks none)
-  by_value (Some node) found same =
-      let part = owed_part nodes key node found in
-      let owes = ap (λ (m : Marks). m.owed) (same_Some node.marks marks same) in
-      omega arith
-
--- and all of it far within 64 bits
+-- it is far within 64 bits
 pub owed_in-bounded : {T : Type 0} (g : Ghosts T) (s : Register) (tree : Tree T) → IsTied s.base g s.history tree → IsPromised s → AreApart tree.nodes →
     owed_in tree.nodes ≤ 4503608216256510
 owed_in-bounded g s tree tied promised apart =

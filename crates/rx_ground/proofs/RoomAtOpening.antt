@@ -18,7 +18,6 @@ use Rattle.rx_ground.specs.Memory.{TakesNoMemory}
 use Rattle.rx_ground.specs.Shown.{Ground}
 use Rattle.rx_ground.specs.Ties.{AreTied}
 use Rattle.rx_ground.proofs.Memory.{written_memory}
-use Rattle.rx_ground.proofs.OwedCountBounded.{owed_in-bounded}
 use Rattle.rx_ground.proofs.HubsAtOpening.{hubs_opened}
 use Rattle.rx_ground.proofs.ReadyToOpen.{IsReadyToOpen, IsOpenedBelow, few_above}
 
@@ -57,15 +56,7 @@ module _ {T : Type 0} where
         stays = stays;
       }
 
-  -- what all nodes owe can still be counted
-  pub few_owed : {g : Ghosts T} {place : Place} {kind : Kind} {old left : Ground T} {replaces : Bool} → IsWayMade g place kind old left replaces →
-      IsPromised old.register → owed_in left.tree.nodes < 9223372036854775808
-  few_owed {g = g} {old = old} w promised =
-      let all = owed_in-bounded g old.register old.tree w.ready.tied.of_tree promised w.ready.sound.apart in
-      let less = w.stays.owed in
-      omega arith
-
-  -- and so can the children of the node above
+  -- the children of the node above can still be counted
   pub few_children : {g : Ghosts T} {place : Place} {kind : Kind} {old left : Ground T} {replaces : Bool} {mid : Tree T} {key : Key}
       {above : Option Key} → IsWayMade g place kind old left replaces → IsPromised old.register →
       IsOpenedBelow old.register.history place kind above old.tree left.tree mid key →

@@ -14,7 +14,7 @@ use Rattle.rx_event.specs.declared.event.Event.{Event}
 use Rattle.rx_event.specs.declared.event.Event.TheVariants.{Connect, End}
 use Rattle.rx_event.specs.Events.{is_merging}
 use Rattle.rx_event.specs.Tree.{is_open}
-use Rattle.rx_event.specs.Marks.{due_at, after_child, after_decline}
+use Rattle.rx_event.specs.Marks.{due_at, after_child}
 use Rattle.rx_event.specs.Notes.{mail_of}
 use Rattle.rx_event.specs.Forced.{IsConnectDue, IsForced, IsSettled, connecting, due}
 use Rattle.rx_event.specs.Lawful.{IsLawful, IsForcedOn, forced, stays, more}
@@ -329,12 +329,12 @@ pub end_rest : {T : Type 0} (old new : Tree T) (key : Key) (source : Bool) (t : 
     new.nodes ≡ record old.nodes { entries = new.nodes.entries }
 end_rest {T = T} old new key source t there nodes = let x = some_of (find old.nodes key) there in (nodes x.0 x.1).rest
 
--- a record that is found declined one
-pub decline_marked : {T : Type 0} {old new : Tree T} {key : Key} → IsSome (find old.nodes key) → ((node : Node) → find old.nodes key ≡ Some node →
-    Rewrites old.nodes new.nodes key (with_marks (after_decline node.marks))) → new.chain ≡ with_due new.nodes key old.chain →
-    new.resources ≡ old.resources → Remarks old new key after_decline
-decline_marked {T = T} {old} {new} {key} there nodes chain stored =
+-- the marks of a record that is found change so
+pub found_marked : {T : Type 0} {old new : Tree T} {key : Key} (change : Marks → Marks) → IsSome (find old.nodes key) → ((node : Node) →
+    find old.nodes key ≡ Some node → Rewrites old.nodes new.nodes key (with_marks (change node.marks))) → new.chain ≡ with_due new.nodes key old.chain →
+    new.resources ≡ old.resources → Remarks old new key change
+found_marked {T = T} {old} {new} {key} change there nodes chain stored =
     let x = some_of (find old.nodes key) there in
     let at_marks : option_map (λ (node : Node). node.marks) (find old.nodes key) ≡ Some x.0.marks = ap (option_map (λ (node : Node). node.marks)) x.1 in
-    let sets : SetsMarks old new key (after_decline x.0.marks) = record { nodes = nodes x.0 x.1; chain = chain; stored = stored } in
-    set_remarks after_decline at_marks refl sets
+    let sets : SetsMarks old new key (change x.0.marks) = record { nodes = nodes x.0 x.1; chain = chain; stored = stored } in
+    set_remarks change at_marks refl sets

@@ -10,7 +10,6 @@ ghost use Rattle.rx_tree.specs.Owed.{owed_in};
 ghost use Rattle.rx_tree.specs.Tree.{IsPlaced, is_on};
 ghost use Rattle.rx_register.specs.State.{Writes};
 ghost use Rattle.rx_ground.specs.Inners.{IsInner, HasNoInner, IsReplaced, ReplacesNone, MakesWay, ClearsHubs};
-ghost use Rattle.rx_event.specs.Marks.{after_inner};
 ghost use Rattle.rx_ground.specs.Ties.{AreTied, AreLeased, IsReady, IsNewNode, IsUndue, Remarks, opened_marks};
 ghost use Rattle.rx_event.specs.declared.event.Kind.{Kind};
 ghost use Rattle.rx_hub.specs.After.{hubs_after, with_made};
@@ -23,21 +22,6 @@ use rx_hub::Hubs;
 use rx_resource::Resource;
 use rx_tree::{Key, Tree};
 
-/// Marks a FlatMap or a Switch as one of which an inner was opened, in the place of an open one or not.
-#[inline(always)]
-fn mark_inner<R: Resource>(tree: &mut Tree<R>, replaces: bool, key: Key)
-    requires open { IsSome (find tree.old.nodes key) }
-    requires room { IfSome (find tree.old.nodes key) (λ node. node.marks.open_children + 1 < 18446744073709551616) }
-    requires owes { IfSome (find tree.old.nodes key) (λ node. 0 < node.marks.owed) }
-    requires countable { owed_in tree.old.nodes < 9223372036854775808 }
-    ensures { Remarks tree.old tree.new key (after_inner replaces) }
-{
-    let Some(marks) = tree.marks(key) else {
-        unreachable!()
-    };
-    tree.set_marks(key, marks.after_inner(replaces));
-}
-
 /// Marks a node as one at whose place a node was opened, an inner in the place of an open one or not. By an
 /// opening at its source's or its notifier's place it has not to end.
 #[inline(always)]
@@ -45,14 +29,13 @@ fn mark_place<R: Resource>(tree: &mut Tree<R>, replaces: bool, place: Place, key
     requires open { IsSome (find tree.old.nodes key) }
     requires room { IfSome (find tree.old.nodes key) (λ node. node.marks.open_children + 1 < 18446744073709551616) }
     requires owes { (f : _) → place ≡ Place.Inner f → IfSome (find tree.old.nodes key) (λ node. 0 < node.marks.owed) }
-    requires countable { owed_in tree.old.nodes < 9223372036854775808 }
     requires quiet { is_on key tree.old.chain ≡ false → IsUndue tree.old.nodes key }
     ensures { Remarks tree.old tree.new key (opened_marks replaces place) }
 {
     match place {
         Place::Root => {}
         Place::Source(_) => tree.mark_source(key),
-        Place::Inner(_) => mark_inner(tree, replaces, key),
+        Place::Inner(_) => tree.mark_inner(key, replaces),
         Place::Notifier(_) => tree.mark_notifier(key),
     }
 }
@@ -63,7 +46,6 @@ fn mark_opened<R: Resource>(tree: &mut Tree<R>, replaces: bool, place: Place, ab
     requires there { IfSome above (λ key. IsSome (find tree.old.nodes key)) }
     requires found { IfSome above (λ key. IfSome (find tree.old.nodes key) (λ node. node.marks.open_children + 1 < 18446744073709551616)) }
     requires owes { (f : _) → place ≡ Place.Inner f → IfSome above (λ key. IfSome (find tree.old.nodes key) (λ node. 0 < node.marks.owed)) }
-    requires countable { owed_in tree.old.nodes < 9223372036854775808 }
     requires quiet { IfSome above (λ key. is_on key tree.old.chain ≡ false → IsUndue tree.old.nodes key) }
     ensures marked { IfSome above (λ key. Remarks tree.old tree.new key (opened_marks replaces place)) }
     ensures none { IfNone above (tree.new ≡ tree.old) }

@@ -202,13 +202,9 @@ fn mark_projection<R: Resource>(tree: &mut Tree<R>, merging: Key)
 #[inline(always)]
 fn mark_firing<R: Resource>(tree: &mut Tree<R>, until: Key)
     requires open { IsSome (find tree.old.nodes until) }
-    requires countable { owed_in tree.old.nodes < 9223372036854775808 }
     ensures { Remarks tree.old tree.new until after_firing }
 {
-    let Some(marks) = tree.marks(until) else {
-        unreachable!()
-    };
-    tree.set_marks(until, marks.after_firing());
+    tree.mark_firing(until);
 }
 
 /// Marks the node at which an item stops.

@@ -69,7 +69,7 @@ impl<R: Resource> Model for Tree<R> {
 
 impl<R: Resource> Tree<R> {
     ghost use Rattle.rx_tree.specs.Tree.{IsPromised, IsNewest, IsPast, IsPlaced, IsChild, IsRoot, IsFirst, HasNone};
-    ghost use Rattle.rx_tree.specs.Tree.{Rewrites, blank_node, parent_number, with_marks, with_last, with_due, first_of};
+    ghost use Rattle.rx_tree.specs.Tree.{Rewrites, blank_node, parent_number, with_marks, with_due, first_of};
     ghost use Rattle.rx_tree.specs.Below.{is_below};
     ghost use Rattle.rx_tree.specs.Closing.{IsSubtree, outside};
     ghost use Rattle.rx_tree.specs.Owed.{owed_in};
@@ -370,18 +370,17 @@ impl<R: Resource> Tree<R> {
         self.store.note_due(key);
     }
 
-    /// Marks the node as one at whose notifier's place an item arrived, and puts it last on the chain of
-    /// what may be due where it is not there.
+    /// Marks the node as one at whose notifier's place an item arrived, and chains it likewise.
     #[inline(always)]
     pub fn mark_firing(&mut self, key: Key)
         requires open { IsSome (find self.old.nodes key) }
         ensures nodes { (node : Node) → find self.old.nodes key ≡ Some node →
             Rewrites self.old.nodes self.new.nodes key (with_marks (after_firing node.marks)) }
-        ensures chain { self.new.chain ≡ with_last key self.old.chain }
+        ensures chain { self.new.chain ≡ with_due self.new.nodes key self.old.chain }
         ensures resources { self.new.resources ≡ self.old.resources }
     {
         self.store.fire(key);
-        self.store.note(key);
+        self.store.note_due(key);
     }
 
     /// Marks the node as one to which an item was projected. By that no node has to end.
@@ -424,7 +423,7 @@ impl<R: Resource> Tree<R> {
     }
 
     /// Marks the node as one at whose Inner place a node was opened for an item that was owed: in the place
-    /// of an open one, or beside the others.
+    /// of an open one, or beside the others. It chains it likewise.
     #[inline(always)]
     pub fn mark_inner(&mut self, key: Key, replaces: bool)
         requires open { IsSome (find self.old.nodes key) }
@@ -432,10 +431,11 @@ impl<R: Resource> Tree<R> {
         requires room { IfSome (find self.old.nodes key) (λ node. node.marks.open_children + 1 < 2 ^ 64) }
         ensures nodes { (node : Node) → find self.old.nodes key ≡ Some node →
             Rewrites self.old.nodes self.new.nodes key (with_marks (after_inner replaces node.marks)) }
-        ensures chain { self.new.chain ≡ self.old.chain }
+        ensures chain { self.new.chain ≡ with_due self.new.nodes key self.old.chain }
         ensures resources { self.new.resources ≡ self.old.resources }
     {
         self.store.open_inner(key, replaces);
+        self.store.note_due(key);
     }
 
     /// Whether the chain of what may be due is empty.

@@ -1,5 +1,6 @@
-use Rattle.rx_event.specs.Marks.{after_source, after_notifier}
+use Rattle.rx_event.specs.Marks.{after_source, after_notifier, after_inner}
 use Rattle.rx_ground.proofs.MarksMakeNothingDue.{source_undue, notifier_undue, remarks_undue, remarks_none}
+use Rattle.rx_ground.proofs.TiedWhileSettling.{found_marked}
 use Rattle.rx_ground.proofs.opening.mark_place.Goals as goal
 
 pub returns-in-Root : goal.returns-in-Root
@@ -9,6 +10,11 @@ pub returns-in-Source : goal.returns-in-Source
 returns-in-Source g c =
     let m = c.mark_source.ensures in
     rw c.in-Source.is (remarks_undue after_source source_undue c.requires.open c.requires.quiet m.nodes m.chain m.resources)
+
+pub returns-in-Inner : goal.returns-in-Inner
+returns-in-Inner g c =
+    let m = c.mark_inner.ensures in
+    rw c.in-Inner.is (found_marked (after_inner c.args.replaces) c.requires.open m.nodes m.chain m.resources)
 
 pub returns-in-Notifier : goal.returns-in-Notifier
 returns-in-Notifier g c =

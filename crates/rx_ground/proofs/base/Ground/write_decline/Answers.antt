@@ -12,7 +12,7 @@ use Rattle.rx_ground.proofs.Memory.{written_memory, same_places}
 use Rattle.rx_ground.proofs.RegisterAfterWrite.{writes_silent}
 use Rattle.rx_ground.proofs.OwedCountBounded.{owes_told}
 use Rattle.rx_ground.proofs.StaysTied.{tied_decline, remarked_keeps}
-use Rattle.rx_ground.proofs.TiedWhileSettling.{decline_marked}
+use Rattle.rx_ground.proofs.TiedWhileSettling.{found_marked}
 use Rattle.rx_ground.proofs.HubsAfterEvent.{rebased, tied_on_marked}
 use Rattle.rx_ground.proofs.Leases.{leased_quiet}
 use Rattle.rx_ground.proofs.base.Ground.write_decline.Given.{Over}
@@ -28,7 +28,7 @@ mark_decline-requires-clause-owes g c κs within =
 marked : (g : Over) (c : goal.After-write g) → Remarks c.self.inside.tree c.mark_decline.new.self c.args.merging after_decline
 marked g c =
     let is : IsSome (find c.self.inside.tree.nodes c.args.merging) = rw (← c.self.view_is) at c.requires.open in
-    decline_marked is c.mark_decline.ensures.nodes c.mark_decline.ensures.chain c.mark_decline.ensures.resources
+    found_marked after_decline is c.mark_decline.ensures.nodes c.mark_decline.ensures.chain c.mark_decline.ensures.resources
 
 pub invariant_of-self : goal.invariant_of-self
 invariant_of-self g c =

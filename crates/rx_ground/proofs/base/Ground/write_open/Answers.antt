@@ -8,7 +8,7 @@ use Rattle.rx_ground.specs.Ties.{AreLeased}
 use Rattle.rx_ground.proofs.RegisterAfterWrite.{writes_silent}
 use Rattle.rx_ground.proofs.ReadyToOpen.{IsOpenedBelow, stands_below, opened_new, owes_above, above_there_still, quiet_above, newest_left, placed_left, way_resources}
 use Rattle.rx_ground.proofs.HubsAtOpening.{rest_same, joined_left, ready_left, older_left, all_opened, as_many_opened}
-use Rattle.rx_ground.proofs.RoomAtOpening.{IsWayMade, way_made, few_owed, few_children, hubs_told, slot_within, left_memory}
+use Rattle.rx_ground.proofs.RoomAtOpening.{IsWayMade, way_made, few_children, hubs_told, slot_within, left_memory}
 use Rattle.rx_ground.proofs.HubsAfterEvent.{tied_written}
 use Rattle.rx_ground.proofs.HubsBesideTree.{slot_free, some_hub}
 use Rattle.rx_ground.proofs.Leases.{leased_quiet}
@@ -80,12 +80,6 @@ mark_opened-requires-clause-found g c κs within = let at = goal.at.mark_opened-
 pub mark_opened-requires-clause-owes : goal.mark_opened-requires-clause-owes
 mark_opened-requires-clause-owes g c κs within = let at = goal.at.mark_opened-requires-clause-owes g c in
     owes_above (way g at.After-open.before).ready (below g at.After-join)
-
-pub mark_opened-requires-clause-countable : goal.mark_opened-requires-clause-countable
-mark_opened-requires-clause-countable g c =
-    let few = few_owed (way g (goal.at.mark_opened-requires-clause-countable g c).After-open.before) c.promise.ensures in
-    let same = c.in-Ok.ensures.owed in
-    omega arith
 
 pub mark_opened-requires-clause-quiet : goal.mark_opened-requires-clause-quiet
 mark_opened-requires-clause-quiet g c κs within = let at = goal.at.mark_opened-requires-clause-quiet g c in
