@@ -1,6 +1,6 @@
 //! A line and its answer: it asks for one thing, or is an array of what is asked.
 
-ghost use Rattle.std.specs.Prelude.{◌≡◌, ◌+◌, ◌*◌, ◌<◌, ◌^◌, ◌++◌, length, string_bytes, IfOk, IfSome, OnOk, OnErr};
+ghost use Rattle.std.specs.Prelude.{◌≡◌, ◌+◌, ◌*◌, ◌<◌, ◌^◌, ◌++◌, length, string_bytes, IfOk, IfSome, OnErr};
 ghost use Rattle.json.specs.Value.{items_view};
 ghost use Rattle.rx_device.specs.Part.{part_data, items_data};
 ghost use Rattle.rx_line.specs.Orders.{order_in};
