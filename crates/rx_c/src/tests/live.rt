@@ -143,7 +143,7 @@ const SESSION: [Row; 10] = [
     (Asking::Send(USING), 512, 0, Handed::Text(FIRST)),
     (Asking::Send(OPEN), 512, 0, Handed::Text("{\"ok\":2}")),
     (Asking::Send(NEXT), 512, 0, Handed::Text(TOLD)),
-    (Asking::Send(b"[]"), 512, 0, Handed::Text(FAULTY)),
+    (Asking::Send(b"7"), 512, 0, Handed::Text(FAULTY)),
     (Asking::Read, 512, 6, NOTHING),
     (Asking::End, 512, 0, Handed::Text(CLOSED)),
     (Asking::End, 512, 2, NOTHING),
