@@ -13,7 +13,7 @@ use Rattle.rx_event.specs.declared.event.Event.TheVariants.{Open, Connect}
 use Rattle.rx_event.specs.declared.event.Kind.TheVariants.{Sub}
 use Rattle.rx_event.specs.Events.{hub_connected, hub_subscribed, is_connect_of, is_subscriber_of}
 use Rattle.rx_slots.specs.declared.Key.{Key}
-use Rattle.rx_tree.specs.declared.node.Closed.{Closed}
+use Rattle.rx_tree.specs.Closing.{Closed}
 use Rattle.rx_tree.specs.Tree.{is_key, is_on}
 use Rattle.rx_tree.proofs.Laws.Keys.{key_is}
 use Rattle.rx_hub.specs.declared.hub.LastEnd.{LastEnd}

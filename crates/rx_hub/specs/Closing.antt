@@ -6,7 +6,7 @@ use Rattle.std.specs.Option.{option_map_or}
 use Rattle.std.proofs.Math.Bool.{not}
 use Rattle.rx_event.specs.Events.{hub_connected, hub_subscribed, is_connect_of, is_subscriber_of}
 use Rattle.rx_slots.specs.declared.Key.{Key}
-use Rattle.rx_tree.specs.declared.node.Closed.{Closed}
+use Rattle.rx_tree.specs.Closing.{Closed}
 use Rattle.rx_tree.specs.Tree.{is_key, is_on}
 use Rattle.rx_hub.specs.declared.hub.LastEnd.{LastEnd}
 use Rattle.rx_hub.specs.Hubs.{Hub, find_hub, disconnected}

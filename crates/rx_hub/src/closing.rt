@@ -32,9 +32,9 @@ impl Hubs {
         requires known { IsKnown self.old.hubs closed.now }
         ensures { self.new ≡ record self.old { hubs = map (after_closing (closed.now ∷ []) ended) self.old.hubs } }
     {
-        if let Some(hub) = closed.node.made.subscribes_to() {
-            self.leave(hub, closed.key);
-        } else if let Some(hub) = closed.node.made.connects() {
+        if let Some(hub) = closed.subscribes_to() {
+            self.leave(hub, closed.key());
+        } else if let Some(hub) = closed.connects() {
             self.disconnect(hub, ended);
         }
     }

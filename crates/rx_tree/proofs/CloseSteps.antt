@@ -9,11 +9,10 @@ use Rattle.std.proofs.lemmas.List.{append_assoc}
 use Rattle.rx_slots.specs.declared.Key.{Key}
 use Rattle.rx_slots.specs.Slots.{find}
 use Rattle.rx_tree.specs.declared.node.Node.{Node}
-use Rattle.rx_tree.specs.declared.node.Closed.{Closed}
 use Rattle.rx_tree.specs.declared.store.Store.{Store}
 use Rattle.rx_tree.specs.Tree.{is_key, is_on}
 use Rattle.rx_tree.specs.Below.{is_below}
-use Rattle.rx_tree.specs.Closing.{IsSubtree, outside}
+use Rattle.rx_tree.specs.Closing.{Closed, IsSubtree, outside}
 use Rattle.rx_tree.specs.Owed.{owed_in}
 use Rattle.rx_tree.specs.Cuts.{Descends, still_open, CutsLeaf, IsCutting}
 use Rattle.rx_tree.specs.Store.{nodes_of, shown}

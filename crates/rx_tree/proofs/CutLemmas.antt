@@ -6,10 +6,9 @@ use Rattle.std.proofs.lemmas.List.Quantifiers.{all_pairs_push}
 use Rattle.rx_slots.specs.declared.Key.{Key}
 use Rattle.rx_slots.specs.Slots.{Slots, find}
 use Rattle.rx_tree.specs.declared.node.Node.{Node}
-use Rattle.rx_tree.specs.declared.node.Closed.{Closed}
 use Rattle.rx_tree.specs.Tree.{IsSound}
 use Rattle.rx_tree.specs.Below.{is_below}
-use Rattle.rx_tree.specs.Closing.{IsInside, IsSubtree}
+use Rattle.rx_tree.specs.Closing.{Closed, IsInside, IsSubtree}
 use Rattle.rx_tree.specs.Cuts.{Descends, from_top, one_down, IsPart}
 use Rattle.rx_tree.specs.Store.{Takes_out}
 use Rattle.rx_tree.proofs.Laws.Keys.{some_of, none_not_some, cases_key}

@@ -5,8 +5,12 @@ use Rattle.std.proofs.Math.Bool.{not}
 use Rattle.rx_slots.specs.declared.Key.{Key}
 use Rattle.rx_slots.specs.Slots.{Slots, find}
 use Rattle.rx_tree.specs.declared.node.Node.{Node}
-use Rattle.rx_tree.specs.declared.node.Closed.{Closed}
 use Rattle.rx_tree.specs.Below.{is_below}
+
+-- a record that was moved out, with the key that found it
+pub record Closed : Type 0 where
+  pub key : Key
+  pub node : Node
 
 -- a record of the tree with its key, at the top or below it
 pub record IsInside (nodes : Slots Node) (top : ℕ) (closed : Closed) : Type 0 where

@@ -43,6 +43,7 @@
 #![tactic(auto)]
 
 mod checkpoint;
+mod closed;
 mod linked;
 mod links;
 mod node;
@@ -52,7 +53,8 @@ mod store;
 mod subtree;
 mod tree;
 
+pub use closed::Closed;
 pub use linked::Record;
-pub use node::{Closed, Node, ResKey, Stowed};
+pub use node::{Node, ResKey, Stowed};
 pub use rx_slots::Key;
 pub use tree::Tree;

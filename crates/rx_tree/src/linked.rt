@@ -8,6 +8,7 @@ ghost use Rattle.rx_tree.specs.Store.{alone, no_counts};
 ghost use Rattle.rx_tree.specs.Tree.{with_marks};
 ghost use Rattle.rx_tree.specs.declared.links.Place.TheVariants.{Children, Held, Sibling, Noted};
 
+use crate::closed::Closed;
 use crate::links::{Link, LinkKinds, LinkSlots, Place};
 use crate::node::Node;
 use crate::origin::{KindWord, Origin, PlaceWord};
@@ -99,6 +100,21 @@ impl Record {
             made: self.origin.made(self.place, self.kind),
             above: self.origin.above(self.place),
             marks: self.marks,
+        }
+    }
+
+    // What is left of it where its node is moved out of the tree.
+    #[inline(always)]
+    pub(crate) fn closed(&self, key: Key) -> Closed
+        ensures key { result.key ≡ key }
+        ensures node { result.node ≡ self.now.node }
+    {
+        Closed {
+            key,
+            origin: self.origin,
+            marks: self.marks,
+            place: self.place,
+            kind: self.kind,
         }
     }
 
@@ -333,15 +349,7 @@ impl Record {
     pub fn connects(&self) -> Option<u64>
         ensures { result ≡ hub_connected self.now.node.made }
     {
-        match self.kind {
-            KindWord::Connect => Some(self.origin.hub),
-            KindWord::Leaf
-            | KindWord::Pass
-            | KindWord::Flat
-            | KindWord::Switch
-            | KindWord::Until
-            | KindWord::Sub => None,
-        }
+        self.origin.connects(self.place, self.kind)
     }
 
     /// The hub that it subscribes to; None where it is no subscriber.
@@ -349,15 +357,7 @@ impl Record {
     pub fn subscribes_to(&self) -> Option<u64>
         ensures { result ≡ hub_subscribed self.now.node.made }
     {
-        match self.kind {
-            KindWord::Sub => Some(self.origin.hub),
-            KindWord::Leaf
-            | KindWord::Pass
-            | KindWord::Flat
-            | KindWord::Switch
-            | KindWord::Until
-            | KindWord::Connect => None,
-        }
+        self.origin.subscribes_to(self.place, self.kind)
     }
 
     /// How it has to end, by its marks.

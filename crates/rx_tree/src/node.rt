@@ -1,4 +1,4 @@
-//! The record of an open node, what is left of it once it is closed, and a resource in the store.
+//! The record of an open node, and a resource in the store.
 
 use rx_event::{Event, Marks};
 use rx_slots::Key;
@@ -12,15 +12,6 @@ pub struct Node {
     pub above: Option<Key>,
     /// What it remembers of what happened below it.
     pub marks: Marks,
-}
-
-/// The record of a node that was moved out of its tree, with the key that it had there.
-#[derive(Clone, Copy, Debug, PartialEq, Eq)]
-pub struct Closed {
-    /// The key that found it.
-    pub key: Key,
-    /// The record as it was.
-    pub node: Node,
 }
 
 /// A resource in the store.

@@ -1,6 +1,7 @@
 //! What made a node and what it stands below, as its record keeps them.
 
 ghost use Rattle.std.specs.Prelude.{◌≡◌};
+ghost use Rattle.rx_event.specs.Events.{hub_connected, hub_subscribed};
 ghost use Rattle.rx_tree.specs.Record.{made_of, above_of, place_word, kind_word, hub_in, origin_of, place_at};
 
 use crate::node::Node;
@@ -153,6 +154,40 @@ impl Origin {
                 kind: Kind::Sub(self.hub),
             },
             KindWord::Connect => Event::Connect(self.hub),
+        }
+    }
+
+    // The hub that the node of these numbers and words connects; None where it is no connection.
+    #[inline(always)]
+    pub(crate) fn connects(self, place: PlaceWord, kind: KindWord) -> Option<u64>
+        ensures { result ≡ hub_connected (made_of place kind self) }
+    {
+        let _place = place;
+        match kind {
+            KindWord::Connect => Some(self.hub),
+            KindWord::Leaf
+            | KindWord::Pass
+            | KindWord::Flat
+            | KindWord::Switch
+            | KindWord::Until
+            | KindWord::Sub => None,
+        }
+    }
+
+    // The hub that it subscribes to; None where it is no subscriber.
+    #[inline(always)]
+    pub(crate) fn subscribes_to(self, place: PlaceWord, kind: KindWord) -> Option<u64>
+        ensures { result ≡ hub_subscribed (made_of place kind self) }
+    {
+        let _place = place;
+        match kind {
+            KindWord::Sub => Some(self.hub),
+            KindWord::Leaf
+            | KindWord::Pass
+            | KindWord::Flat
+            | KindWord::Switch
+            | KindWord::Until
+            | KindWord::Connect => None,
         }
     }
 

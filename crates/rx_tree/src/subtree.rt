@@ -1,6 +1,6 @@
 //! How a node is closed with all below it: one childless node after another.
 
-ghost use Rattle.std.specs.Prelude.{◌≡◌, ◌+◌, ◌<◌, ◌≤◌, ◌^◌, IsSome, IfSome, IsTrue, None, is_some, true, vec_len, vec_capacity};
+ghost use Rattle.std.specs.Prelude.{◌≡◌, ◌+◌, ◌<◌, ◌≤◌, ◌^◌, IsSome, IfSome, IsTrue, None, option_map, is_some, true, vec_len, vec_capacity};
 ghost use Rattle.rx_slots.specs.Slots.{find, entry_at};
 ghost use Rattle.rx_tree.specs.Cuts.{Descends, LetsWait, CutsLeaf, still_open};
 ghost use Rattle.rx_rings.specs.Rings.{Leaves};
@@ -9,8 +9,8 @@ ghost use Rattle.rx_tree.specs.Store.{nodes_of, resources_of, next_of, previous_
 ghost use Rattle.rx_tree.specs.Ties.{IsTied, IsCounted};
 ghost use Rattle.rx_tree.specs.declared.links.Place.TheVariants.{Children, Noted};
 
+use crate::closed::Closed;
 use crate::links::Place;
-use crate::node::{Closed, Node};
 use crate::store::Store;
 use rx_slots::Key;
 
@@ -102,12 +102,13 @@ impl<R: Drop> Store<R> {
 
     // Takes out the record of a node without children.
     #[inline(always)]
-    fn take_leaf(&mut self, key: Key) -> Option<Node>
+    fn take_leaf(&mut self, key: Key) -> Option<Closed>
         requires tied { IsTied self.old }
         requires open { IsSome (find (nodes_of self.old) key) }
         requires counted { IsCounted self.old }
         requires childless { next_of self.old (Children key.slot) ≡ Children key.slot }
-        ensures value { result ≡ find (nodes_of self.old) key }
+        ensures value { option_map (λ m. m.node) result ≡ find (nodes_of self.old) key }
+        ensures key { IfSome result (λ m. m.key ≡ key) }
         ensures taken { Takes_out (nodes_of self.old) (nodes_of self.new) key }
         ensures tied { IsTied self.new }
         ensures counted { IsCounted self.new }
@@ -141,14 +142,15 @@ impl<R: Drop> Store<R> {
         ensures list_room { vec_capacity closed.new ≡ vec_capacity closed.old }
     {
         let key = self.leaf_below(from);
-        let Some(node) = self.take_leaf(key) else {
+        let Some(leaf) = self.take_leaf(key) else {
             unreachable!()
         };
-        closed.push_reserved(Closed { key, node });
+        let above = leaf.parent();
+        closed.push_reserved(leaf);
         if key.number == top.number {
             None
         } else {
-            node.above
+            above
         }
     }
 }

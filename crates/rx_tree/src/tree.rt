@@ -10,9 +10,10 @@ ghost use Rattle.rx_slots.specs.declared.Key.{Key};
 ghost use Rattle.rx_slots.specs.Slots.{find, entry_at, value_at, number_at, IsWithin, KeepsOthers};
 ghost use Rattle.rx_tree.specs.Ties.{sibling_ring};
 
+use crate::closed::Closed;
 use crate::linked::Record;
 use crate::links::Place;
-use crate::node::{Closed, Node, ResKey, Stowed};
+use crate::node::{Node, ResKey, Stowed};
 use crate::store::Store;
 use rx_event::{Event, Marks, Terminal};
 use rx_resource::Resource;

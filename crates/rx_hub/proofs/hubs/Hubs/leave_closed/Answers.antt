@@ -1,5 +1,5 @@
-use Rattle.std.proofs.Common.{◌≡◌, List, [], ◌∷◌, length, map, refl, ap, arith}
-use Rattle.rx_hub.specs.Closing.{after_closing}
+use Rattle.std.proofs.Common.{◌≡◌, List, [], ◌∷◌, length, map, refl, sym, ap, subst, ◌∙◌, arith}
+use Rattle.rx_hub.specs.Closing.{IsKnown, after_closing}
 use Rattle.rx_hub.specs.Hubs.{Hub, Hubs}
 use Rattle.rx_hub.proofs.ClosedLemmas.{closed_first, closed_step, known_at}
 use Rattle.rx_hub.proofs.hubs.Hubs.leave_closed.Goals as goal
@@ -23,12 +23,14 @@ pub leave_one-requires : goal.leave_one-requires
 leave_one-requires c =
     let test = c.loop-one-test.true in
     record {
-      known = known_at c.loop-one.self.hubs c.args.closed.now c.loop-one.one-index _ c.args.ended
-          (ap (λ (s : Hubs). s.hubs) c.loop-one.invariant) c.requires.closing (omega (arith, test));
+      known = subst (λ x. IsKnown c.loop-one.self.hubs x) (sym c.one-item.is)
+          (known_at c.loop-one.self.hubs c.args.closed.now c.loop-one.one-index c.one-item.result c.args.ended
+          (ap (λ (s : Hubs). s.hubs) c.loop-one.invariant) c.requires.closing (omega (arith, test)));
     }
 
 pub loop-one-preserved : goal.loop-one-preserved
 loop-one-preserved c =
     let test = c.loop-one-test.true in
-    closed_step c.args.self.now c.args.closed.now _ c.args.ended
-    c.loop-one.invariant c.leave_one.ensures (omega (arith, test)) (omega arith)
+    closed_step c.args.self.now c.args.closed.now c.one-item.result c.args.ended c.loop-one.invariant
+    (c.leave_one.ensures ∙ ap (λ x. record c.loop-one.self { hubs = map (after_closing (x ∷ []) c.args.ended) c.loop-one.self.hubs }) c.one-item.is)
+    (omega (arith, test)) (omega arith)

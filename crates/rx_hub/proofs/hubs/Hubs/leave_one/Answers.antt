@@ -1,14 +1,18 @@
-use Rattle.std.proofs.Common.{List, sym, ap, ◌∙◌}
-use Rattle.rx_hub.specs.Hubs.{Hub}
+use Rattle.std.proofs.Common.{◌≡◌, List, true, IfSome, sym, ap, subst, ◌∙◌}
+use Rattle.rx_tree.specs.Tree.{is_on}
+use Rattle.rx_hub.specs.Hubs.{Hub, find_hub, at_hub, unsubscribed}
 use Rattle.rx_hub.proofs.ClosedLemmas.{subscriber_on, subscriber_left, connection_left, none_left}
 use Rattle.rx_hub.proofs.hubs.Hubs.leave_one.Goals as goal
 
 pub leave-requires-clause-subscribes : goal.leave-requires-clause-subscribes
 leave-requires-clause-subscribes c =
-    subscriber_on c.args.self.now.hubs c.args.closed.now c.args.ended c.requires.known c.in-Some.hub (sym c.subscribes_to.ensures ∙ c.in-Some.is)
+    subst (λ k. IfSome (find_hub c.args.self.now.hubs c.in-Some.hub) (λ h. is_on k h.subscribers ≡ true)) (sym c.key.ensures)
+    (subscriber_on c.args.self.now.hubs c.args.closed.now c.args.ended c.requires.known c.in-Some.hub (sym c.subscribes_to.ensures ∙ c.in-Some.is))
 
 pub returns-in-Some : goal.returns-in-Some
-returns-in-Some c = c.leave.ensures ∙ ap (λ (hs : List Hub). record c.args.self.now { hubs = hs })
+returns-in-Some c = c.leave.ensures ∙
+    ap (λ k. record c.args.self.now { hubs = at_hub c.in-Some.hub (unsubscribed k) c.args.self.now.hubs }) c.key.ensures ∙
+    ap (λ (hs : List Hub). record c.args.self.now { hubs = hs })
     (subscriber_left c.args.self.now.hubs c.args.closed.now c.args.ended c.requires.known c.in-Some.hub (sym c.subscribes_to.ensures ∙ c.in-Some.is))
 
 pub returns-in-Some-connects : goal.returns-in-Some-connects

@@ -59,9 +59,9 @@ returns-clause-tied g c =
     leaf_tied c.args.self.now c.let_wait.new.self c.args.key h.0 h.1 c.let_wait.ensures.waits c.let_wait.ensures.rest c.requires.childless c.unnote.new.self
     c.unnote.ensures.leaves c.unnote.ensures.rest c.pass_by.new.self c.pass_by.ensures.passes c.pass_by.ensures.rest c.take_node.new.self
     (took_of c.args.key h.1 c.let_wait.ensures.rest
-    c.unnote.ensures.rest c.pass_by.ensures.rest c.take_node.ensures.value _ c.take_node.ensures.taken)
+    c.unnote.ensures.rest c.pass_by.ensures.rest c.take_node.result c.take_node.ensures.value _ c.take_node.ensures.taken)
     (took_of c.args.key h.1 c.let_wait.ensures.rest
-    c.unnote.ensures.rest c.pass_by.ensures.rest c.take_node.ensures.value _ c.take_node.ensures.links)
+    c.unnote.ensures.rest c.pass_by.ensures.rest c.take_node.result c.take_node.ensures.value _ c.take_node.ensures.links)
     (ap (project (λ r. r.stowed)) c.take_node.ensures.resources)
 
 pub returns-clause-chain : goal.returns-clause-chain
@@ -70,9 +70,9 @@ returns-clause-chain g c =
     leaf_chain c.args.self.now c.let_wait.new.self c.args.key h.0 h.1 c.let_wait.ensures.waits c.let_wait.ensures.rest c.requires.childless c.unnote.new.self
     c.unnote.ensures.leaves c.unnote.ensures.rest c.pass_by.new.self c.pass_by.ensures.passes c.pass_by.ensures.rest c.take_node.new.self
     (took_of c.args.key h.1 c.let_wait.ensures.rest
-    c.unnote.ensures.rest c.pass_by.ensures.rest c.take_node.ensures.value _ c.take_node.ensures.taken)
+    c.unnote.ensures.rest c.pass_by.ensures.rest c.take_node.result c.take_node.ensures.value _ c.take_node.ensures.taken)
     (took_of c.args.key h.1 c.let_wait.ensures.rest
-    c.unnote.ensures.rest c.pass_by.ensures.rest c.take_node.ensures.value _ c.take_node.ensures.links)
+    c.unnote.ensures.rest c.pass_by.ensures.rest c.take_node.result c.take_node.ensures.value _ c.take_node.ensures.links)
     (ap (project (λ r. r.stowed)) c.take_node.ensures.resources)
 
 pub returns-clause-taken : goal.returns-clause-taken
@@ -81,9 +81,9 @@ returns-clause-taken g c =
     taken c.args.self.now c.let_wait.new.self c.args.key h.0 h.1 c.let_wait.ensures.waits c.let_wait.ensures.rest c.requires.childless c.unnote.new.self
     c.unnote.ensures.leaves c.unnote.ensures.rest c.pass_by.new.self c.pass_by.ensures.passes c.pass_by.ensures.rest c.take_node.new.self
     (took_of c.args.key h.1 c.let_wait.ensures.rest
-    c.unnote.ensures.rest c.pass_by.ensures.rest c.take_node.ensures.value _ c.take_node.ensures.taken)
+    c.unnote.ensures.rest c.pass_by.ensures.rest c.take_node.result c.take_node.ensures.value _ c.take_node.ensures.taken)
     (took_of c.args.key h.1 c.let_wait.ensures.rest
-    c.unnote.ensures.rest c.pass_by.ensures.rest c.take_node.ensures.value _ c.take_node.ensures.links)
+    c.unnote.ensures.rest c.pass_by.ensures.rest c.take_node.result c.take_node.ensures.value _ c.take_node.ensures.links)
     (ap (project (λ r. r.stowed)) c.take_node.ensures.resources)
 
 pub take_node-requires-clause-counted : goal.take_node-requires-clause-counted

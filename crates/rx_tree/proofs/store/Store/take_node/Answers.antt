@@ -1,4 +1,4 @@
-use Rattle.std.proofs.Common.{◌≡◌, ◌+◌, ◌-◌, Bool, true, false, option_map, refl, sym, ap, ◌∙◌, arith}
+use Rattle.std.proofs.Common.{◌≡◌, ◌+◌, ◌-◌, Bool, true, false, Some, option_map, refl, sym, ap, ◌∙◌, arith}
 use Rattle.rx_tree.specs.declared.links.Place.TheVariants.{Children, Held, Sibling, Noted}
 use Rattle.rx_tree.specs.declared.store.Counts.{Counts}
 use Rattle.rx_tree.specs.Store.{alone, count_if}
@@ -41,14 +41,14 @@ overflow_add-self-2 g c =
 
 pub overflow_sub-self : goal.overflow_sub-self
 overflow_sub-self g c =
-    rw c.node-node.ensures (let a = c.args.self.now in
+    rw c.owed-owed.ensures (let a = c.args.self.now in
     let b = record c.args.self.now { nodes = c.take.new.self } in
     some_owed a b c.requires.counted c.args.key c.in_ok-linked.linked (sym c.take.ensures.value ∙ c.in_ok-linked.was)
     (changes-project (λ l. l.node) _ _ c.args.key.slot _ c.in_ok-linked.ensures.changes))
 
 pub returns-clause-counted : goal.returns-clause-counted
 returns-clause-counted g c =
-    rw (c.held_count-count.ensures, c.node-node.ensures) (let both : (l : Bool) → count_if l (record {
+    rw (c.held_count-count.ensures, c.owed-owed.ensures) (let both : (l : Bool) → count_if l (record {
       free = c.args.self.now.waiting_count.free + c.in_ok-linked.linked.held_count.free;
       lent =
           c.args.self.now.waiting_count.lent + c.in_ok-linked.linked.held_count.lent;
@@ -73,5 +73,5 @@ returns-clause-counted g c =
     (changes-project (λ l. l.node) _ _ c.args.key.slot _ c.in_ok-linked.ensures.changes) refl both c.in_ok-linked.ensures.changes refl)
 
 pub returns-clause-value : goal.returns-clause-value
-returns-clause-value g c = rw c.node-node.ensures (sym (find-project (λ l. l.node) c.args.self.now.nodes c.args.key ∙
-    ap (option_map (λ l. l.node)) (sym c.take.ensures.value ∙ c.in_ok-linked.was)))
+returns-clause-value g c = ap Some c.closed.ensures.node ∙ sym (find-project (λ l. l.node) c.args.self.now.nodes c.args.key ∙
+    ap (option_map (λ l. l.node)) (sym c.take.ensures.value ∙ c.in_ok-linked.was))
