@@ -26,10 +26,9 @@ use Rattle.rx_event.proofs.Laws.Places.{at-append, at_within}
 use Rattle.rx_slots.specs.declared.Key.{Key}
 use Rattle.rx_slots.specs.Slots.{Slots, find, entry_at, with_number}
 use Rattle.rx_tree.specs.declared.node.Node.{Node}
-use Rattle.rx_tree.specs.declared.node.Closed.{Closed}
 use Rattle.rx_tree.specs.Tree.{Tree, IsSound, is_key, is_on}
 use Rattle.rx_tree.specs.Below.{is_below}
-use Rattle.rx_tree.specs.Closing.{IsSubtree}
+use Rattle.rx_tree.specs.Closing.{Closed, IsSubtree}
 use Rattle.rx_tree.proofs.Laws.Keys.{key_is, some_of}
 use Rattle.rx_hub.specs.declared.hub.LastEnd.{LastEnd}
 use Rattle.rx_hub.specs.After.{AgreeAt, is_inside, with_made}

@@ -3,8 +3,7 @@ use Rattle.rx_hub.specs.Hubs.{Hub}
 use Rattle.rx_ground.specs.Ties.{AreTied}
 use Rattle.rx_slots.specs.Slots.{Slots}
 use Rattle.rx_tree.specs.declared.node.Node.{Node}
-use Rattle.rx_tree.specs.declared.node.Closed.{Closed}
-use Rattle.rx_tree.specs.Closing.{IsSubtree}
+use Rattle.rx_tree.specs.Closing.{Closed, IsSubtree}
 use Rattle.rx_ground.proofs.HubsBesideTree.{are_closing, moved_left}
 use Rattle.rx_ground.proofs.base.Ground.cut.Goals as goal
 
