@@ -1,124 +1,265 @@
--- What the table of slots shows of the slab underneath.
-use Rattle.std.proofs.Common.{List, ◌≡◌, ◌⊎◌, ℕ, ◌+◌, ◌-◌, ◌<◌, max, ◌++◌, length, get_or, set, replicate, Option, Some, None, is_some}
-use Rattle.std.proofs.Common.{IsSome, count_by, cond, option_map, refl, sym, ap, ◌∙◌, inl, inr, arith, zero-add, true≢false}
+-- What the free slots are while values come and go.
+use Rattle.std.proofs.Common.{List, ◌≡◌, ◌≢◌, ◌⊎◌, ℕ, ◌+◌, ◌-◌, ◌<◌, ◌≤◌, [], ◌∷◌, ◌++◌, length, get_or, set, replicate, Option, Some, None, is_some}
+use Rattle.std.specs.Prelude.{slice_get}
+use Rattle.std.proofs.Common.{IsSome, count_by, cond, refl, sym, ap, subst, ◌∙◌, inl, inr, arith, true≢false}
 use Rattle.std.proofs.lemmas.Bool.{cases_eq, cases_lt}
-use Rattle.std.proofs.lemmas.List.{get_or_past, get_or-set_same, get_or-set_other, length-set, length-append, length-replicate}
-use Rattle.std.proofs.lemmas.List.FromFn.{length-map-range_with_len, get_or-map-range_with_len, fill_by_all}
-use Rattle.slab.specs.Slab.{Slab, get, slab_len, with_value, Updates}
+use Rattle.std.proofs.lemmas.Option.{get_or_from_slice_get}
+use Rattle.std.proofs.lemmas.List.{get_or_past, get_or-set_same, get_or-set_other, length-set, length_push, get_or_push, get_or_append_left, set_at, append-nil}
+use Rattle.std.proofs.lemmas.List.Sums.{sum_by-append, sum_by-set}
 use Rattle.rx_slots.specs.declared.Entry.{Entry}
-use Rattle.rx_slots.specs.declared.Key.{Key}
-use Rattle.rx_slots.specs.Slots.{entry_at, find, IsWithin, placed, entry_of, with_value_at}
-use Rattle.rx_slots.specs.Kept.{table, shown, IsKept}
-use Rattle.rx_slots.proofs.SlotsLemmas.{get_or-append-nothing, sum_by-same_reads}
-use Rattle.rx_slots.proofs.Laws.EntryByNumber.{numbered_entry}
-use Rattle.slab.proofs.SlabLemmas.{ContainsKey-within, Updates-with_value}
-use Rattle.std.proofs.lemmas.List.Sums.{sum_by-set}
+use Rattle.rx_slots.specs.Slots.{IsWithin, placed}
+use Rattle.rx_slots.specs.Kept.{last_or, shown, IsKept}
+use Rattle.rx_slots.proofs.Laws.EntryByNumber.{found_there}
+
+pub last_or-push : (further : ℕ) (slots : List ℕ) (slot : ℕ) → last_or further (slots ++ slot ∷ []) ≡ slot
+last_or-push further [] slot = refl
+last_or-push further (x ∷ slots) slot = last_or-push x slots slot
+
+last_is : (x : ℕ) (xs : List ℕ) → last_or x xs ≡ get_or (x ∷ xs) (length xs) 0
+last_is x [] = refl
+last_is x (y ∷ ys) = last_is y ys
+
+-- the last of slots by its index
+pub last_or_at : (further : ℕ) (slots : List ℕ) (slot : ℕ) → Some slot ≡ slice_get slots (length slots - 1) → slot ≡ last_or further slots
+last_or_at further [] slot at = absurd (true≢false (ap is_some at))
+last_or_at further (x ∷ xs) slot at =
+    let last : length (x ∷ xs) - 1 ≡ length xs = omega arith in
+    sym (get_or_from_slice_get (x ∷ xs) (length xs) slot 0 (sym (at ∙ ap (slice_get (x ∷ xs)) last))) ∙ sym (last_is x xs)
 
 module _ {T : Type 0} where
-  pub length-table : (cells : Slab (Entry T)) (n : ℕ) → length (table cells n) ≡ n
-  length-table cells n = length-map-range_with_len (get cells) 0 n
+  -- what a cell adds to the count of values
+  abbrev weight : Option (Entry T) → ℕ
+  weight at = cond (is_some at) 1 0
 
-  -- the table shows what the slab has, at each slot
-  pub get_or-table : (cells : Slab (Entry T)) (n slot : ℕ) → IsKept cells n → get_or (table cells n) slot None ≡ get cells slot
-  get_or-table cells n slot kept =
-      elim (cases_lt slot n) [
-        | inl within ↦ get_or-map-range_with_len (get cells) 0 n slot slot None within (zero-add slot)
-        | inr past ↦ get_or_past (table cells n) slot None (omega (arith, length-table cells n)) ∙ sym (kept.below slot past)
-      ]
+  count_push : (cells : List (Option (Entry T))) (e : Entry T) → count_by is_some (cells ++ Some e ∷ []) ≡ count_by is_some cells + 1
+  count_push cells e = sum_by-append weight cells (Some e ∷ [])
 
-  -- so a slot that shows a value has it in the slab
-  pub there_in : (cells : Slab (Entry T)) (n slot : ℕ) → IsKept cells n → IsSome (entry_at (shown cells n) slot) → IsSome (get cells slot)
-  there_in cells n slot kept there = ap is_some (sym (get_or-table cells n slot kept)) ∙ there
-
-  -- a slot with a value is below the count of slots
-  pub IsKept-within : (cells : Slab (Entry T)) (n slot : ℕ) → IsKept cells n → IsSome (get cells slot) → slot < n
-  IsKept-within cells n slot kept present =
-      elim (cases_lt slot n) [
+  -- a slot with a value is one that was used
+  pub below_length : (cells : List (Option (Entry T))) (slot : ℕ) → IsSome (get_or cells slot None) → slot < length cells
+  below_length cells slot there =
+      elim (cases_lt slot (length cells)) [
         | inl within ↦ within
-        | inr past ↦ absurd (true≢false (sym present ∙ ap is_some (kept.below slot past)))
+        | inr past ↦ absurd (true≢false (sym there ∙ ap is_some (get_or_past cells slot None past)))
       ]
 
-  -- the table counts the slab's values
-  pub count_by-table : (cells : Slab (Entry T)) (n : ℕ) → IsKept cells n → count_by is_some (table cells n) ≡ slab_len cells
-  count_by-table cells n kept =
-      sum_by-same_reads (λ at. cond (is_some at) 1 0) refl (table cells n) cells.slots (λ slot. get_or-table cells n slot kept)
+  pub placed_next : (cells : List (Option (Entry T))) (e : Entry T) → cells ++ Some e ∷ [] ≡ placed cells (length cells) e
+  placed_next cells e =
+      let more : length cells + 1 - length cells ≡ 1 = omega arith in
+      let nothing : Option (Entry T) = None in
+      sym (ap (λ n. set (cells ++ replicate n nothing) (length cells) (Some e)) more ∙ set_at cells nothing [] (Some e) (length cells) refl)
 
-  -- what an update of the slab below the count of slots does to the table
-  pub table-update : (old new : Slab (Entry T)) (n slot : ℕ) (entry : Option (Entry T)) → IsKept old n → Updates old new slot entry → slot < n →
-      table new n ≡ set (table old n) slot entry
-  table-update old new n slot entry kept updates within =
-      sym (fill_by_all (get new) (set (table old n) slot entry) n None (length-set (table old n) slot entry ∙ length-table old n)
-      (λ k below. elim (cases_eq k slot) [
-        | inl same ↦ rw same (get_or-set_same (table old n) slot entry None (omega (arith, length-table old n)) ∙ sym updates.changed)
-        | inr differs ↦ get_or-set_other (table old n) slot k entry None differs ∙ get_or-table old n k kept ∙ sym (updates.others k differs)
-      ]))
+  pub placed_within : (cells : List (Option (Entry T))) (slot : ℕ) (e : Entry T) → slot < length cells → set cells slot (Some e) ≡ placed cells slot e
+  placed_within cells slot e within =
+      let more : slot + 1 - length cells ≡ 0 = omega (arith, within) in
+      let nothing : Option (Entry T) = None in
+      sym (ap (λ n. set (cells ++ replicate n nothing) slot (Some e)) more ∙ ap (λ (xs : List (Option (Entry T))). set xs slot (Some e)) (append-nil cells))
 
-  -- what a new value in the slab does to the table
-  pub table-placed : (old new : Slab (Entry T)) (n slot : ℕ) (e : Entry T) → IsKept old n → Updates old new slot (Some e) →
-      table new (max n (slot + 1)) ≡ placed (table old n) slot e
-  table-placed old new n slot e kept updates =
-      let entries = table old n in
-      let more = slot + 1 - length entries in
-      let none : Option (Entry T) = None in
-      let longer = entries ++ replicate more none in
-      let count : length longer ≡ max n (slot + 1) =
-      omega (arith, length-table old n, length-append entries (replicate more none), length-replicate more none) in
-      sym (fill_by_all (get new) (set longer slot (Some e)) (max n (slot + 1)) None (length-set longer slot (Some e) ∙ count)
-      (λ k below. elim (cases_eq k slot) [
-        | inl same ↦ rw same (get_or-set_same longer slot (Some e) None (omega arith) ∙ sym updates.changed)
-        | inr differs ↦ get_or-set_other longer slot k (Some e) None differs ∙
-            get_or-append-nothing entries more k ∙
-            get_or-table old n k kept ∙
-            sym (updates.others k differs)
-      ]))
+  -- how many have a value where one cell changes
+  counted_set : (cells : List (Option (Entry T))) (slot : ℕ) (at : Option (Entry T)) → slot < length cells →
+      count_by is_some (set cells slot at) + weight (get_or cells slot None) ≡ count_by is_some cells + weight at
+  counted_set cells slot at within = sum_by-set weight cells slot at None within
 
-  -- a key that finds a value has its number beside it in the slab
-  pub stored_entry : (cells : Slab (Entry T)) (n : ℕ) (key : Key) → IsKept cells n → IsSome (find (shown cells n) key) →
-      (e : Entry T) × (get cells key.slot ≡ Some e) × (e.number ≡ key.number)
-  stored_entry cells n key kept found =
-      let at = numbered_entry key.number (get_or (table cells n) key.slot None) found in
-      (at.0, sym (get_or-table cells n key.slot kept) ∙ at.1, at.2)
+  module _ (cells : List (Option (Entry T))) (free : List ℕ) (capacity cells_fit free_fit : ℕ) (kept : IsKept cells free capacity cells_fit free_fit) where
+    pub free_few : length free ≤ length cells
+    free_few = let counted = kept.counted in omega arith
 
-  -- and stands at a slot below as many as fit
-  pub within_shown : (cells : Slab (Entry T)) (n : ℕ) → IsKept cells n → IsWithin (shown cells n)
-  within_shown cells n kept key found =
-      let at = stored_entry cells n key kept found in
-      let below = IsKept-within cells n key.slot kept (ap is_some at.1) in
-      let slots = kept.slots_fit in
-      let values = kept.values_fit in
-      omega (arith, below, slots, values)
+    pub count_is : length cells - length free ≡ count_by is_some cells
+    count_is = let counted = kept.counted in omega arith
 
-  -- a write through a reference into the slab changes the table at that slot alone
-  pub table-with_value : (cells : Slab (Entry T)) (n slot : ℕ) (old new : Entry T) → IsKept cells n → get cells slot ≡ Some old →
-      table (with_value cells slot new) n ≡ set (table cells n) slot (Some new)
-  table-with_value cells n slot old new kept found =
-      let present = ap is_some found in
-      table-update cells (with_value cells slot new) n slot (Some new) kept (Updates-with_value cells slot new present)
-      (IsKept-within cells n slot kept present)
+    pub within_shown : IsWithin (shown cells free capacity)
+    within_shown key found =
+        let below = below_length cells key.slot (found_there (shown cells free capacity) key found) in
+        let within = kept.within in
+        omega (arith, below, within, free_few)
 
-  -- and no count
-  pub slab_len-with_value : (cells : Slab (Entry T)) (slot : ℕ) (old new : Entry T) → get cells slot ≡ Some old →
-      slab_len (with_value cells slot new) ≡ slab_len cells
-  slab_len-with_value cells slot old new found =
-      let counts : Option (Entry T) → ℕ = λ at. cond (is_some at) 1 0 in
-      let read = ap counts found in
-      omega (arith, sum_by-set counts cells.slots slot (Some new) None (ContainsKey-within cells slot (ap is_some found)))
+    -- the next slot has no value
+    pub next_free : get_or cells (last_or (length cells) free) None ≡ None
+    next_free = of free refl where
+      of : (slots : List ℕ) → slots ≡ free → get_or cells (last_or (length cells) slots) None ≡ None
+      of [] same = get_or_past cells (length cells) None (omega arith)
+      of (x ∷ xs) same =
+          let at : last_or x xs ≡ get_or free (length xs) 0 = last_is x xs ∙ ap (λ (ys : List ℕ). get_or ys (length xs) 0) same in
+          ap (λ k. get_or cells k None) at ∙ (kept.vacant (length xs) (omega (arith, ap length same))).1
 
-  -- the table shows an entry that the slab has
-  pub entry_at-stored : (cells : Slab (Entry T)) (n slot : ℕ) (e : Entry T) → IsKept cells n → get cells slot ≡ Some e → entry_at (shown cells n) slot ≡ Some e
-  entry_at-stored cells n slot e kept read = get_or-table cells n slot kept ∙ read
+    -- and is one of those that there may be, or the first beyond
+    pub next_small : last_or (length cells) free ≤ 536870912
+    next_small = of free refl where
+      of : (slots : List ℕ) → slots ≡ free → last_or (length cells) slots ≤ 536870912
+      of [] same =
+          let most = kept.most in
+          let within = kept.within in
+          omega (arith, most, within)
+      of (x ∷ xs) same =
+          let most = kept.most in
+          let within = kept.within in
+          let at : last_or x xs ≡ get_or free (length xs) 0 = last_is x xs ∙ ap (λ (ys : List ℕ). get_or ys (length xs) 0) same in
+          let below = (kept.vacant (length xs) (omega (arith, ap length same))).0 in
+          omega (arith, most, within, at, below)
 
-  -- what a contract sees of a write at a slot
-  pub shown-with_value_at : (cells : Slab (Entry T)) (n slot : ℕ) (e : Entry T) (value : T) → IsKept cells n → get cells slot ≡ Some e →
-      shown (with_value cells slot (record e { value = value })) n ≡ with_value_at (shown cells n) slot value
-  shown-with_value_at cells n slot e value kept read =
-      let new : Entry T = record e { value = value } in
-      let entries = table-with_value cells n slot e new kept read in
-      let count = slab_len-with_value cells slot e new read in
-      let rest : Option (Entry T) → List (Option (Entry T)) =
-      λ at. set (table cells n) slot (option_map (λ number. entry_of number value) (option_map (λ x. x.number) at)) in
-      let written = entries ∙ ap rest (sym (entry_at-stored cells n slot e kept read)) in
-      λ i. record { entries = written i; next_slot = cells.vacant_key; count = count i; room = cells.capacity - count i }
+    -- more room
+    pub kept_wider : (more cells_more free_more : ℕ) → capacity ≤ more → more ≤ 536870912 → more ≤ cells_more → more ≤ free_more →
+        IsKept cells free more cells_more free_more
+    kept_wider more cells_more free_more wider most cells_in free_in =
+        record {
+          most = most;
+          cells_in = cells_in;
+          free_in = free_in;
+          within = let within = kept.within in omega (arith, within, wider);
+          counted = kept.counted;
+          vacant = kept.vacant;
+          once = kept.once;
+        }
+
+    -- a value at a further slot
+    pub kept_pushed : (e : Entry T) → free ≡ [] → length cells < capacity → IsKept (cells ++ Some e ∷ []) [] capacity cells_fit free_fit
+    kept_pushed e none room =
+        let counted = kept.counted in
+        let empty : length free ≡ 0 = ap length none in
+        record {
+          most = kept.most;
+          cells_in = kept.cells_in;
+          free_in = kept.free_in;
+          within = omega (arith, room, length_push cells (Some e));
+          counted = omega (arith, counted, empty, count_push cells e, length_push cells (Some e));
+          vacant = λ i few. absurd (omega (arith, few));
+          once = λ i j less few. absurd (omega (arith, few));
+        }
+
+    -- a value at the slot that was free last
+    module _ (rest : List ℕ) (slot : ℕ) (e : Entry T) (parts : free ≡ rest ++ slot ∷ []) where
+      longer : length free ≡ length rest + 1
+      longer = ap length parts ∙ length_push rest slot
+
+      rest_at : (i : ℕ) → i < length rest → get_or free i 0 ≡ get_or rest i 0
+      rest_at i few = ap (λ (xs : List ℕ). get_or xs i 0) parts ∙ get_or_append_left rest (slot ∷ []) 0 i few
+
+      last_at : get_or free (length rest) 0 ≡ slot
+      last_at = ap (λ (xs : List ℕ). get_or xs (length rest) 0) parts ∙ get_or_push rest slot 0 (length rest) refl
+
+      last_vacant : (slot < length cells) × (get_or cells slot None ≡ None)
+      last_vacant = subst (λ k. (k < length cells) × (get_or cells k None ≡ None)) last_at (kept.vacant (length rest) (omega (arith, longer)))
+
+      pub reused_below : slot < length cells
+      reused_below = last_vacant.0
+
+      pub reused_free : get_or cells slot None ≡ None
+      reused_free = last_vacant.1
+
+      pub reused_next : last_or (length cells) free ≡ slot
+      reused_next = ap (last_or (length cells)) parts ∙ last_or-push (length cells) rest slot
+
+      pub kept_reused : IsKept (set cells slot (Some e)) rest capacity cells_fit free_fit
+      kept_reused =
+          let counted = kept.counted in
+          let within = kept.within in
+          let one : weight (get_or cells slot None) ≡ 0 = ap weight reused_free in
+          let new : weight (Some e) ≡ 1 = refl in
+          record {
+            most = kept.most;
+            cells_in = kept.cells_in;
+            free_in = kept.free_in;
+            within = omega (arith, within, length-set cells slot (Some e));
+            counted = omega (arith, counted, longer, one, new, counted_set cells slot (Some e) reused_below, length-set cells slot (Some e));
+            vacant = λ i few.
+                let old = subst (λ k. (k < length cells) × (get_or cells k None ≡ None)) (rest_at i few) (kept.vacant i (omega (arith, few, longer))) in
+                let apart : get_or rest i 0 ≢ slot = λ same. kept.once i (length rest) few (omega (arith, longer)) (rest_at i few ∙ same ∙ sym last_at) in (
+                  omega (arith, old.0, length-set cells slot (Some e)),
+                  get_or-set_other cells slot (get_or rest i 0) (Some e) None apart ∙ old.1,
+                );
+            once = λ i j less few same. kept.once i j less (omega (arith, few, longer)) (rest_at i (omega (arith, less, few)) ∙ same ∙ sym (rest_at j few));
+          }
+
+    -- a slot whose value is gone
+    module _ (slot : ℕ) (there : IsSome (get_or cells slot None)) where
+      taken_below : slot < length cells
+      taken_below = below_length cells slot there
+
+      one_more : weight (get_or cells slot None) ≡ 1
+      one_more = ap (λ b. cond {A = ℕ} b 1 0) there
+
+      one_less : count_by is_some (set cells slot None) + 1 ≡ count_by is_some cells
+      one_less =
+          let none : weight None ≡ 0 = refl in
+          omega (arith, one_more, none, counted_set cells slot None taken_below)
+
+      some_count : 0 < count_by is_some cells
+      some_count = omega (arith, one_less)
+
+      pub free_fits : length free < free_fit
+      free_fits =
+          let counted = kept.counted in
+          let within = kept.within in
+          let free_in = kept.free_in in
+          omega (arith, counted, within, free_in, some_count)
+
+      pub free_fewer : length free < length cells
+      free_fewer = let counted = kept.counted in omega (arith, counted, some_count)
+
+      pub slot_small : slot < 536870912
+      slot_small =
+          let within = kept.within in
+          let most = kept.most in
+          omega (arith, within, most, taken_below)
+
+      still_vacant : (k : ℕ) → get_or cells k None ≡ None → get_or (set cells slot None) k None ≡ None
+      still_vacant k old =
+          elim (cases_eq k slot) [
+            | inl same ↦ rw same (get_or-set_same cells slot None None taken_below)
+            | inr apart ↦ get_or-set_other cells slot k None None apart ∙ old
+          ]
+
+      not_free : (i : ℕ) → i < length free → get_or free i 0 ≢ slot
+      not_free i few same = true≢false (sym there ∙ ap is_some (ap (λ k. get_or cells k None) (sym same) ∙ (kept.vacant i few).1))
+
+      pub kept_taken : IsKept (set cells slot None) (free ++ slot ∷ []) capacity cells_fit free_fit
+      kept_taken =
+          let counted = kept.counted in
+          let within = kept.within in
+          record {
+            most = kept.most;
+            cells_in = kept.cells_in;
+            free_in = kept.free_in;
+            within = omega (arith, within, length-set cells slot None);
+            counted = omega (arith, counted, one_less, length-set cells slot None, length_push free slot);
+            vacant = λ i few. elim (cases_lt i (length free)) [
+              | inl old ↦ let at = get_or_append_left free (slot ∷ []) 0 i old in let was = kept.vacant i old in rw at (
+                omega (arith, was.0, length-set cells slot None),
+                still_vacant (get_or free i 0) was.1,
+              )
+              | inr past ↦ let last : length free ≡ i = omega (arith, past, few, length_push free slot) in rw (get_or_push free slot 0 i last) (
+                omega (arith, taken_below, length-set cells slot None),
+                get_or-set_same cells slot None None taken_below,
+              )
+            ];
+            once = λ i j less few same. elim (cases_lt j (length free)) [
+              | inl old ↦ kept.once i j less old (sym (get_or_append_left free (slot ∷ []) 0 i (omega (arith, less, old))) ∙ same ∙ get_or_append_left free (slot ∷ []) 0 j old)
+              | inr past ↦ let last : length free ≡ j = omega (arith, past, few, length_push free slot) in let before : i < length free = omega (arith, less, last) in
+                  not_free i before (sym (get_or_append_left free (slot ∷ []) 0 i before) ∙ same ∙ get_or_push free slot 0 j last)
+            ];
+          }
+
+    -- a value that is written over
+    pub kept_written : (slot : ℕ) (e : Entry T) → IsSome (get_or cells slot None) → IsKept (set cells slot (Some e)) free capacity cells_fit free_fit
+    kept_written slot e there =
+        let counted = kept.counted in
+        let within = kept.within in
+        let below = below_length cells slot there in
+        let one : weight (get_or cells slot None) ≡ 1 = ap (λ b. cond {A = ℕ} b 1 0) there in
+        let new : weight (Some e) ≡ 1 = refl in
+        record {
+          most = kept.most;
+          cells_in = kept.cells_in;
+          free_in = kept.free_in;
+          within = omega (arith, within, length-set cells slot (Some e));
+          counted = omega (arith, counted, one, new, counted_set cells slot (Some e) below, length-set cells slot (Some e));
+          vacant = λ i few.
+              let old = kept.vacant i few in
+              let apart : get_or free i 0 ≢ slot = λ same. true≢false (sym there ∙ ap is_some (ap (λ k. get_or cells k None) (sym same) ∙ old.1)) in (
+                omega (arith, old.0, length-set cells slot (Some e)),
+                get_or-set_other cells slot (get_or free i 0) (Some e) None apart ∙ old.1,
+              );
+          once = kept.once;
+        }
 
 -- a `&mut` leaves what two functions that agree everywhere say alike
 pub same_loan : {G W S : Type 0} (name : G) (f g : W → S) → ((w : W) → f w ≡ g w) → ◌≡◌ {A = (G × (W → S)) ⊎ S} (inl (name, f)) (inl (name, g))

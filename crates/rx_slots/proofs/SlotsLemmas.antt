@@ -1,9 +1,7 @@
 -- Lemmas on what a contract sees of `Slots`, for this crate and its callers.
 use Rattle.std.proofs.Common.{◌≡◌, ◌≢◌, ℕ, zero, suc, ◌+◌, ◌-◌, ◌<◌, List, [], ◌∷◌, ◌++◌, length, get_or, set, replicate}
 use Rattle.std.proofs.Common.{Option, Some, None, is_some, IsSome, refl, sym, ap, ◌∙◌, inl, inr, arith, true≢false}
-use Rattle.std.specs.List.{sum_by}
 use Rattle.std.proofs.lemmas.Bool.{cases_eq, cases_lt}
-use Rattle.std.proofs.lemmas.List.Sums.{sum_by-cons}
 use Rattle.std.proofs.lemmas.List.{length-set, length-append, length-replicate, get_or_past, get_or-set_same, get_or-set_other}
 use Rattle.rx_slots.specs.declared.Entry.{Entry}
 use Rattle.rx_slots.specs.declared.Key.{Key}
@@ -17,20 +15,6 @@ get_or-append-nothing [] (suc more) zero = refl
 get_or-append-nothing [] (suc more) (suc k) = get_or-append-nothing [] more k
 get_or-append-nothing (x ∷ xs) more zero = refl
 get_or-append-nothing (x ∷ xs) more (suc k) = get_or-append-nothing xs more k
-
--- a sum to which nothing adds nothing is told by the look-ups alone
-pub sum_by-same_reads : {X : Type 0} (f : Option X → ℕ) → f None ≡ 0 → (xs ys : List (Option X)) → ((k : ℕ) → get_or xs k None ≡ get_or ys k None) →
-    sum_by f xs ≡ sum_by f ys
-sum_by-same_reads f nothing [] [] same = refl
-sum_by-same_reads f nothing [] (y ∷ ys) same =
-    let head : f y ≡ 0 = ap f (sym (same 0)) ∙ nothing in
-    omega (arith, sum_by-same_reads f nothing [] ys (λ k. same (suc k)), sum_by-cons f y ys)
-sum_by-same_reads f nothing (x ∷ xs) [] same =
-    let head : f x ≡ 0 = ap f (same 0) ∙ nothing in
-    omega (arith, sum_by-same_reads f nothing xs [] (λ k. same (suc k)), sum_by-cons f x xs)
-sum_by-same_reads f nothing (x ∷ xs) (y ∷ ys) same =
-    let head : f x ≡ f y = ap f (same 0) in
-    omega (arith, sum_by-same_reads f nothing xs ys (λ k. same (suc k)), sum_by-cons f x xs, sum_by-cons f y ys)
 
 same_key : (a b : Key) → a.slot ≡ b.slot → a.number ≡ b.number → a ≡ b
 same_key a b slot number = λ i. record { slot = slot i; number = number i }

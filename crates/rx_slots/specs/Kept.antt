@@ -1,27 +1,31 @@
 -- What `Slots` shows of its fields, and keeps true of them. No public clause cites this module.
-use Rattle.std.specs.Prelude.{◌≡◌, ℕ, ◌-◌, ◌≤◌, List, map, Option, None}
-use Rattle.std.specs.List.{range_with_len}
-use Rattle.slab.specs.Slab.{Slab, get, slab_len}
+use Rattle.std.specs.Prelude.{◌≡◌, ◌≢◌, ℕ, ◌+◌, ◌-◌, ◌<◌, ◌≤◌, List, [], ◌∷◌, length, Option, None, is_some, count_by, slice_index_or}
 use Rattle.rx_slots.specs.declared.Entry.{Entry}
 use Rattle.rx_slots.specs.Slots.{Slots}
 
-module _ {T : Type 0} where
-  -- what stands at so many slots, from 0 on
-  abbrev pub table : Slab (Entry T) → ℕ → List (Option (Entry T))
-  table cells slot_count = map (get cells) (range_with_len 0 slot_count)
+-- the last of these slots, or this one where there is none
+abbrev pub last_or : ℕ → List ℕ → ℕ
+last_or further [] = further
+last_or further (slot ∷ slots) = last_or slot slots
 
-  -- what a contract sees of these fields
-  abbrev pub shown : Slab (Entry T) → ℕ → Slots T
-  shown cells slot_count =
+module _ {T : Type 0} where
+  -- what a contract sees of these cells, these free slots, and how many values fit
+  abbrev pub shown : List (Option (Entry T)) → List ℕ → ℕ → Slots T
+  shown cells free capacity =
       record {
-        entries = table cells slot_count;
-        next_slot = cells.vacant_key;
-        count = slab_len cells;
-        room = cells.capacity - slab_len cells;
+        entries = cells;
+        next_slot = last_or (length cells) free;
+        count = length cells - length free;
+        room = capacity - (length cells - length free);
       }
 
-  -- every value is at a slot below the count of slots, and the slots and the values fit
-  pub record IsKept (cells : Slab (Entry T)) (slot_count : ℕ) : Type 0 where
-    pub below : (slot : ℕ) → slot_count ≤ slot → get cells slot ≡ None
-    pub slots_fit : slot_count ≤ cells.capacity
-    pub values_fit : slab_len cells ≤ cells.capacity
+  -- the values fit, and so do the free slots, which are all those without a value, each once; and slots are below 2^29
+  pub record IsKept (cells : List (Option (Entry T))) (free : List ℕ) (capacity cells_fit free_fit : ℕ) : Type 0 where
+    pub most : capacity ≤ 536870912
+    pub cells_in : capacity ≤ cells_fit
+    pub free_in : capacity ≤ free_fit
+    pub within : length cells ≤ capacity
+    pub counted : length free + count_by is_some cells ≡ length cells
+    pub vacant : (i : ℕ) → i < length free →
+        (slice_index_or free i 0 < length cells) × (slice_index_or cells (slice_index_or free i 0) None ≡ None)
+    pub once : (i j : ℕ) → i < j → j < length free → slice_index_or free i 0 ≢ slice_index_or free j 0

@@ -18,21 +18,21 @@
 //! read it in place and [`Slots::take_at`] takes it out, and where there is room [`Slots::place`] puts one
 //! in: a proved build asks nothing there.
 //!
-//! Promised: each answer is the one that the entries tell, and after `reserve(n)` n inserts succeed
-//! with no memory. A walk over all values, by [`Slots::slot_count`] or [`Slots::next_key`], takes no
-//! memory. Values need not be `Drop`.
+//! Promised: each answer is the one that the entries tell, after `reserve(n)` n inserts succeed with
+//! no memory, and a slot is below 2^29: room for more is refused as memory is. A walk over all values,
+//! by [`Slots::slot_count`] or [`Slots::next_key`], takes no memory. Values need not be `Drop`.
 //!
 //! Not promised: that numbers differ, which is the caller's part, and that there is memory. A store
 //! is `Drop` only where its values are: one of other values can be emptied, but not let go.
 #![tactic(auto)]
 
-ghost use Rattle.std.specs.Prelude.{◌≡◌, ◌↔◌, IsTrue, ℕ, ◌+◌, ◌<◌, ◌≤◌, max, IsOk, IsSome, IfOk, IfErr, IfNone, IfSome, OnOk, OnErr, OnSome, option_copied, ◌==◌, is_some, count_by, [], slice_set};
+ghost use Rattle.std.specs.Prelude.{◌≡◌, ◌↔◌, IsTrue, ℕ, ◌+◌, ◌<◌, ◌≤◌, ◌^◌, max, IsOk, IsSome, IfOk, IfErr, IfNone, IfSome, OnOk, OnErr, OnSome, option_copied, ◌==◌, is_some, count_by, [], slice_set};
 ghost use Rattle.std.specs.Option.{option_copied_mut};
 ghost use Rattle.std.specs.Borrow.{sem};
 
-use slab::Slab;
 use std::alloc::{AllocError, Global};
 use std::marker::Model;
+use std::mem;
 
 /// The slot that a value was put at, and the number that it was given.
 #[derive(Clone, Copy, Debug, PartialEq, Eq)]
@@ -55,10 +55,16 @@ pub struct Entry<T> {
 /// Values at slots, each under a key that finds no other value.
 #[derive(Drop)]
 pub struct Slots<T> {
-    cells: Slab<Entry<T>>,
-    // One past the last slot that was ever used.
-    slot_count: usize,
+    // What stands at each slot that was ever used.
+    cells: Vec<Option<Entry<T>>>,
+    // The slots without a value, each once. The last of them is used next.
+    free: Vec<u32>,
+    // How many values there are and have room.
+    capacity: usize,
 }
+
+// As many slots are used at most, so that a link may keep one in 29 bits.
+const MOST: usize = 536_870_912;
 
 impl<T> Model for Slots<T> {
     ghost use Rattle.rx_slots.specs.Slots.{Slots as Entries, slots_code};
@@ -67,11 +73,12 @@ impl<T> Model for Slots<T> {
 
     ghost coded = { slots_code T.code };
 
+    ghost use Rattle.std.specs.Prelude.{vec_capacity};
     ghost use Rattle.rx_slots.specs.Kept.{shown, IsKept};
 
-    ghost view = { λ s. shown s.cells s.slot_count };
+    ghost view = { λ s. shown s.cells.items s.free.items s.capacity };
 
-    ghost invariant = { λ s. IsKept s.cells s.slot_count };
+    ghost invariant = { λ s. IsKept s.cells.items s.free.items s.capacity (vec_capacity s.cells) (vec_capacity s.free) };
 }
 
 impl<T> Slots<T> {
@@ -86,8 +93,9 @@ impl<T> Slots<T> {
         ensures room { result.room ≡ 0 }
     {
         Slots {
-            cells: Slab::new(alloc),
-            slot_count: 0,
+            cells: Vec::new(alloc),
+            free: Vec::new(alloc),
+            capacity: 0,
         }
     }
 
@@ -112,15 +120,33 @@ impl<T> Slots<T> {
     #[cold]
     #[inline(never)]
     fn grow(&mut self, additional: usize) -> Result<(), AllocError>
+        requires short { self.old.room < additional }
         ensures ok { OnOk result (additional ≤ self.new.room) }
         ensures kept { self.new ≡ record self.old { room = self.new.room } }
         ensures room { self.old.room ≤ self.new.room }
     {
-        let more = self.cells.len().saturating_mul(3);
-        if additional < more && self.cells.reserve(more).is_ok() {
+        let more = self.len().saturating_mul(3);
+        if additional < more && self.extend(more).is_ok() {
             return Ok(());
         }
-        self.cells.reserve(additional)
+        self.extend(additional)
+    }
+
+    // Gets room for so many values more, and for as many free slots as there can be then.
+    fn extend(&mut self, additional: usize) -> Result<(), AllocError>
+        ensures ok { OnOk result (additional ≤ self.new.room) }
+        ensures kept { self.new ≡ record self.old { room = self.new.room } }
+        ensures room { self.old.room ≤ self.new.room }
+    {
+        let len = self.len();
+        if additional > MOST - len {
+            return Err(AllocError);
+        }
+        let capacity = self.capacity.max(len + additional);
+        self.cells.reserve(capacity - self.cells.len())?;
+        self.free.reserve(capacity - self.free.len())?;
+        self.capacity = capacity;
+        Ok(())
     }
 
     /// How many values more need no memory.
@@ -128,7 +154,7 @@ impl<T> Slots<T> {
     pub fn room(&self) -> usize
         ensures { result ≡ self.now.room }
     {
-        self.cells.capacity() - self.cells.len()
+        self.capacity - self.len()
     }
 
     /// Puts a value at the next slot, under a number that its caller gives.
@@ -140,6 +166,7 @@ impl<T> Slots<T> {
         ensures numbered { IfOk result (λ key. key.number ≡ number) }
         ensures slot { IfOk result (λ key. key.slot ≡ self.old.next_slot) }
         ensures was_free { IfOk result (λ key. entry_at self.old key.slot ≡ None) }
+        ensures below { IfOk result (λ key. key.slot < 2 ^ 29) }
         ensures placed { IfOk result (λ key.
             self.new.entries ≡ placed self.old.entries key.slot (entry_of number value)) }
         ensures changes { IfOk result (λ key.
@@ -172,6 +199,7 @@ impl<T> Slots<T> {
         requires room { 0 < self.old.room }
         ensures slot { result ≡ self.old.next_slot }
         ensures was_free { entry_at self.old result ≡ None }
+        ensures below { result < 2 ^ 29 }
         ensures placed { self.new.entries ≡ placed self.old.entries result (entry_of number value) }
         ensures changes { Changes self.old self.new result (Some (entry_of number value)) }
         ensures found { find self.new (record { slot = result; number = number }) ≡ Some value }
@@ -180,10 +208,17 @@ impl<T> Slots<T> {
         ensures count { self.new.count ≡ self.old.count + 1 }
         ensures had_room { self.new.room + 1 ≡ self.old.room }
     {
-        let slot = self.cells.insert_reserved(Entry { number, value });
-        prove!(slot < self.cells.capacity());
-        self.slot_count = self.slot_count.max(slot + 1);
-        slot
+        let entry = Some(Entry { number, value });
+        let Some(slot) = self.free.pop() else {
+            let slot = self.cells.len();
+            self.cells.push_reserved(entry);
+            return slot;
+        };
+        let slot = slot as usize;
+        match mem::replace(&mut self.cells[slot], entry) {
+            None => slot,
+            Some(_before) => unreachable!(),
+        }
     }
 
     /// The value of a key; None where its slot has no value, or one of another number.
@@ -255,8 +290,11 @@ impl<T> Slots<T> {
         ensures count { self.new.count + 1 ≡ self.old.count }
         ensures room { self.new.room ≡ self.old.room + 1 }
     {
-        let Entry { number: _, value } = self.cells.remove(slot);
-        value
+        self.free.push_reserved(slot as u32);
+        match self.cells[slot].take() {
+            Some(Entry { number: _, value }) => value,
+            None => unreachable!(),
+        }
     }
 
     /// How many values there are.
@@ -265,14 +303,14 @@ impl<T> Slots<T> {
         ensures value { result ≡ self.now.count }
         ensures counted { result ≡ count_by is_some self.now.entries }
     {
-        self.cells.len()
+        self.cells.len() - self.free.len()
     }
 
     /// Whether there is no value.
     pub fn is_empty(&self) -> bool
         ensures { result ≡ (self.now.count == 0) }
     {
-        self.cells.is_empty()
+        self.len() == 0
     }
 
     /// How many values there are and have room: each is at a slot below, also those that are put in
@@ -281,8 +319,9 @@ impl<T> Slots<T> {
     pub fn capacity(&self) -> usize
         ensures value { result ≡ self.now.count + self.now.room }
         ensures within { IsWithin self.now }
+        ensures most { result ≤ 2 ^ 29 }
     {
-        self.cells.capacity()
+        self.capacity
     }
 
     /// How many slots were ever used: each value is at a slot below.
@@ -292,15 +331,19 @@ impl<T> Slots<T> {
         ensures value { result ≡ slot_count self.now }
         ensures at_most { result ≤ self.now.count + self.now.room }
     {
-        self.slot_count
+        self.cells.len()
     }
 
     /// The slot that the next insert uses.
     pub fn next_slot(&self) -> usize
         ensures value { result ≡ self.now.next_slot }
         ensures free { entry_at self.now result ≡ None }
+        ensures most { result ≤ 2 ^ 29 }
     {
-        self.cells.vacant_key()
+        match self.free.last() {
+            Some(slot) => *slot as usize,
+            None => self.cells.len(),
+        }
     }
 
     /// The value at a slot with its number, if one stands there.
@@ -308,7 +351,7 @@ impl<T> Slots<T> {
     pub fn entry_at(&self, slot: usize) -> Option<&Entry<T>>
         ensures { option_copied result ≡ entry_at self.now slot }
     {
-        self.cells.get(slot)
+        self.cells.get(slot)?.as_ref()
     }
 
     /// The number at a slot, if a value stands there.
@@ -349,13 +392,25 @@ impl<T> Slots<T> {
         }
     }
 
+    // The entry at a slot that has one.
+    #[inline(always)]
+    fn entry(&self, slot: usize) -> &Entry<T>
+        requires there { IsSome (entry_at self.now slot) }
+        ensures { entry_at self.now slot ≡ Some result.now }
+    {
+        match &self.cells[slot] {
+            Some(entry) => entry,
+            None => unreachable!(),
+        }
+    }
+
     /// The value at a slot that has one.
     #[inline(always)]
     pub fn at(&self, slot: usize) -> &T
         requires there { IsSome (entry_at self.now slot) }
         ensures { value_at self.now slot ≡ Some result.now }
     {
-        &self.cells[slot].value
+        &self.entry(slot).value
     }
 
     /// The number at a slot that has a value.
@@ -364,7 +419,7 @@ impl<T> Slots<T> {
         requires there { IsSome (entry_at self.now slot) }
         ensures { number_at self.now slot ≡ Some result }
     {
-        self.cells[slot].number
+        self.entry(slot).number
     }
 
     /// The value at a slot that has one, for writing.
@@ -374,7 +429,10 @@ impl<T> Slots<T> {
         ensures* writes_back { sem 𝓛 (lends_at T.row self.entry slot result) }
         ensures value { value_at self.old slot ≡ Some result.now }
     {
-        &mut self.cells[slot].value
+        match &mut self.cells[slot] {
+            Some(entry) => &mut entry.value,
+            None => unreachable!(),
+        }
     }
 
     /// The key of the first value at this slot or a later one; None where no value stands there.

@@ -1,6 +1,9 @@
-use Rattle.std.proofs.Common.{◌∙◌}
-use Rattle.rx_slots.proofs.KeptLemmas.{get_or-table}
+use Rattle.std.proofs.Common.{◌≡◌, ◌-◌, ℕ, List, Some, length, subst}
+use Rattle.std.specs.Prelude.{slice_get}
+use Rattle.rx_slots.proofs.KeptLemmas.{last_or_at}
 use Rattle.rx_slots.proofs.Slots.next_slot.Goals as goal
 
-pub returns-clause-free : goal.returns-clause-free
-returns-clause-free g c = rw (← c.self.view_is) (get_or-table _ _ c.vacant_key.result c.self.invariant ∙ c.vacant_key.ensures.vacant)
+pub returns-in-Some-clause-value : goal.returns-in-Some-clause-value
+returns-in-Some-clause-value g c = rw (← c.self.view_is)
+    (last_or_at _ c.self.inside.free.items c.in-Some.slot.now
+    (subst (λ (xs : List ℕ). Some c.in-Some.slot.now ≡ slice_get xs (length xs - 1)) c.deref.ensures.value c.in-Some.ensures.value))
