@@ -1,5 +1,5 @@
 -- A call that may take memory is let in: nothing stands against it, and its cost is room that was gotten.
-use Rattle.std.proofs.Common.{◌≡◌, ℕ, ◌+◌, ◌≤◌, length, cond, List, Bool, true, false, Option, Some, None, refl, sym, ap, subst, arith}
+use Rattle.std.proofs.Common.{◌≡◌, ℕ, ◌+◌, ◌≤◌, length, cond, List, [], Bool, true, false, Option, Some, None, refl, sym, ap, subst, ◌∙◌, arith}
 use Rattle.std.specs.Prelude.{ℤ}
 use Rattle.rx_resource.specs.declared.Resource.{Ghosts}
 use Rattle.rx_event.specs.declared.refusal.Refusal.{Refusal}
@@ -30,6 +30,7 @@ use Rattle.rx_book.specs.Asked.{request_for}
 use Rattle.rx_book.specs.Shown.{state_of}
 use Rattle.rx_book.specs.Steps.{IsAdmitted, IsDecided, unless_caused}
 use Rattle.rx_book.proofs.CallWithoutCause.{let_in, within_full, state_roomier}
+use Rattle.rx_book.proofs.ListOfClosed.{standing_begun, room_begun}
 
 -- what is decided by the first cause and the cost
 pub decided : (s : State) (asked : Request) (cause : Option Refusal) (cost : Wanted) → first_cause (stands s asked) ≡ cause →
@@ -81,31 +82,48 @@ pub cost_within : (s : State) (wish : Wish) (cost : Wanted) → first_cause (sta
     length s.history + debt s.base s.history + cost.events ≤ s.base.at_length + s.limit
 cost_within s wish cost none is = within_limit s (request_for s wish) cost (counted s.base s wish s.limit) none is
 
--- with the room for it, it is admitted
-pub admitted_as : {T : Type 0} {g : Ghosts T} {old b : Ground T} (ask : State → Request) (cost : Wanted) →
-    IsReadyFor b.register.history (ask (state_of g b)).call → IsRoomier old b → IsStanding g b → IsPromised b.register →
+-- with the room for it, it is admitted once the list of what is closed was begun
+pub admitted_as : {T : Type 0} {g : Ghosts T} {old b new : Ground T} (ask : State → Request) (cost : Wanted) →
+    ((s : State) → ask (record s { closed = [] }) ≡ ask s) → IsReadyFor b.register.history (ask (state_of g b)).call → IsRoomier old b →
+    IsStanding g b → IsPromised b.register →
     first_cause (stands (state_of g old) (ask (state_of g old))) ≡ None → cost ≡ cost_of old.register.history (ask (state_of g old)).call →
-    HasRoomBeside b cost → IsAdmitted g b (ask (state_of g b))
-admitted_as {g} {old} {b} ask cost ready roomier standing promised none is has =
+    HasRoomBeside b cost → new ≡ record b { closed = [] } → IsAdmitted g new (ask (state_of g new))
+admitted_as {T = T} {g} {old} {b} {new} ask cost unlisted ready roomier standing promised none is has begun =
     let same = sym (state_roomier g old b roomier) in
     let none_now = subst (λ (s : State). first_cause (stands s (ask s)) ≡ None) same none in
     let is_now = subst (λ (s : State). cost ≡ cost_of s.history (ask s).call) same is in
     let events = ap (λ (w : Wanted). w.events) is_now in
     let notes = ap (λ (w : Wanted). w.notes) is_now in
-    record {
-      let_in = let_in g b (ask (state_of g b)) standing promised none_now ready (record {
+    subst (λ (x : Ground T). IsAdmitted g x (ask (state_of g x))) (sym begun)
+    (subst (IsAdmitted g (record b { closed = [] })) (sym (unlisted (state_of g b))) (record {
+      let_in = let_in g (record b { closed = [] }) (ask (state_of g b)) (standing_begun standing) promised none_now ready (record {
         events = let e = has.events in omega arith;
         notes = let n = has.notes in omega arith;
-      });
-      room = subst (λ (w : Wanted). HasRoomBeside b w) is_now has;
-    }
+      }) refl;
+      room = room_begun (subst (λ (w : Wanted). HasRoomBeside b w) is_now has);
+    }))
 
-pub admitted : {T : Type 0} {g : Ghosts T} {old b : Ground T} (wish : Wish) (cost : Wanted) → IsRoomier old b → IsStanding g b → IsPromised b.register →
-    first_cause (stands (state_of g old) (request_for (state_of g old) wish)) ≡ None →
+unlisted_wish : (wish : Wish) (s : State) → request_for (record s { closed = [] }) wish ≡ request_for s wish
+unlisted_wish (Open at kind) s = refl
+unlisted_wish (OpenUsing at tag is_fresh) s = refl
+unlisted_wish (Hold node tag is_fresh) s = refl
+unlisted_wish (Apply res) s = refl
+unlisted_wish (Lease res) s = refl
+unlisted_wish (Publish mode) s = refl
+unlisted_wish (Connect hub) s = refl
+
+pub admitted : {T : Type 0} {g : Ghosts T} {old b new : Ground T} (wish : Wish) (cost : Wanted) → IsRoomier old b → IsStanding g b →
+    IsPromised b.register → first_cause (stands (state_of g old) (request_for (state_of g old) wish)) ≡ None →
     cost ≡ cost_of old.register.history (request_for (state_of g old) wish).call →
-    HasRoomBeside b cost → IsAdmitted g b (request_for (state_of g b) wish)
-admitted {g} {old} {b} wish cost roomier standing promised none is has =
-    admitted_as (λ s. request_for s wish) cost (ready (state_of g b) wish) roomier standing promised none is has
+    HasRoomBeside b cost → new ≡ record b { closed = [] } → IsAdmitted g new (request_for (state_of g new) wish)
+admitted {g} {old} {b} wish cost roomier standing promised none is has begun =
+    admitted_as (λ s. request_for s wish) cost (unlisted_wish wish) (ready (state_of g b) wish) roomier standing promised none is has begun
+
+-- callers see the list begun, and nothing else changed
+pub state_begun : {T : Type 0} (g : Ghosts T) (old b : Ground T) {new : Ground T} → IsRoomier old b → new ≡ record b { closed = [] } →
+    state_of g new ≡ record (state_of g old) { closed = [] }
+state_begun {T = T} g old b roomier begun =
+    ap (state_of g) begun ∙ ap (λ (s : State). record s { closed = [] }) (state_roomier g old b roomier)
 
 -- and room may come after a call that changes nothing
 pub roomier_after : {T : Type 0} (old mid new : Ground T) → mid ≡ old → IsRoomier mid new → IsRoomier old new

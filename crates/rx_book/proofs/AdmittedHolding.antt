@@ -1,5 +1,5 @@
 -- An opening that holds a resource is let in: nothing stands against it, and the room for both its events was gotten.
-use Rattle.std.proofs.Common.{◌≡◌, ◌+◌, ◌≤◌, Bool, Option, None, length, sym, ap, subst, arith}
+use Rattle.std.proofs.Common.{◌≡◌, ◌+◌, ◌≤◌, Bool, Option, None, [], length, refl, sym, ap, subst, arith}
 use Rattle.rx_resource.specs.declared.Resource.{Ghosts}
 use Rattle.rx_event.specs.declared.event.Kind.{Kind}
 use Rattle.rx_event.specs.declared.refusal.Refusal.{Refusal}
@@ -21,6 +21,7 @@ use Rattle.rx_book.specs.Shown.{state_of}
 use Rattle.rx_book.proofs.Admitted.{few_opened}
 use Rattle.rx_book.proofs.CallWithoutCause.{let_in, state_roomier}
 use Rattle.rx_book.proofs.CausesByKey.{first_by_place}
+use Rattle.rx_book.proofs.ListOfClosed.{standing_begun}
 use Rattle.rx_book.proofs.HoldingUnstood.{opens_unstood, within_with}
 
 module _ {T : Type 0} (g : Ghosts T) (b : Ground T) (at : At) (kind : Kind) (fresh : Bool) where
@@ -46,10 +47,11 @@ module _ {T : Type 0} (g : Ghosts T) (b : Ground T) (at : At) (kind : Kind) (fre
       omega arith
 
 -- with the room for it, it is admitted
-pub admitted_holding : {T : Type 0} {g : Ghosts T} {old b : Ground T} (at : At) (kind : Kind) (fresh : Bool) (cost : Wanted) → IsRoomier old b →
+pub admitted_holding : {T : Type 0} {g : Ghosts T} {old b new : Ground T} (at : At) (kind : Kind) (fresh : Bool) (cost : Wanted) → IsRoomier old b →
     IsStanding g b → IsPromised b.register → first_cause (stands_holding (state_of g old) at kind fresh) ≡ None →
-    cost ≡ opening_holding_cost old.register.history (place_of at) kind → HasRoomBeside b cost → IsAdmittedHolding g b at kind fresh
-admitted_holding {g} {old} {b} at kind fresh cost roomier standing promised none is has =
+    cost ≡ opening_holding_cost old.register.history (place_of at) kind → HasRoomBeside b cost → new ≡ record b { closed = [] } →
+    IsAdmittedHolding g new at kind fresh
+admitted_holding {T = T} {g} {old} {b} at kind fresh cost roomier standing promised none is has begun =
     let same = sym (state_roomier g old b roomier) in
     let none_now = subst (λ (s : State). first_cause (stands_holding s at kind fresh) ≡ None) same none in
     let is_now = subst (λ (s : State). cost ≡ opening_holding_cost s.history (place_of at) kind) same is in
@@ -62,10 +64,10 @@ admitted_holding {g} {old} {b} at kind fresh cost roomier standing promised none
     let nodes = has.nodes in
     let space = has.space in
     let resources = has.resources in
-    record {
+    subst (λ (x : Ground T). IsAdmittedHolding g x at kind fresh) (sym begun) (record {
       opening = record {
-        let_in = let_in g b (open_request (state_of g b) at kind) standing promised (opens_unstood (state_of g b) at kind fresh none_now) tt
-            (record { events = omega arith; notes = omega arith });
+        let_in = let_in g (record b { closed = [] }) (open_request (state_of g b) at kind) (standing_begun standing) promised
+            (opens_unstood (state_of g b) at kind fresh none_now) tt (record { events = omega arith; notes = omega arith }) refl;
         room = record {
           events = omega arith;
           notes = omega arith;
@@ -80,4 +82,4 @@ admitted_holding {g} {old} {b} at kind fresh cost roomier standing promised none
       none = none_now;
       events = omega arith;
       resources = omega arith;
-    }
+    })

@@ -1,6 +1,6 @@
 -- An answer is made of what was given, or of the refusal.
 use Rattle.std.proofs.Common.{◌≡◌, sym, subst}
-use Rattle.std.specs.Prelude.{Result, Ok, Err, IfErr, IsErrAnd}
+use Rattle.std.specs.Prelude.{Result, Ok, Err, IfErr, OnErr, IsErrAnd}
 use Rattle.rx_book.specs.State.{State}
 use Rattle.rx_book.specs.Requests.{Request}
 use Rattle.rx_book.specs.Answers.{Accepts, Answers}
@@ -21,3 +21,8 @@ module _ {A E : Type 0} {gives : A → Type 0} {refuses : E → Type 0} {old : S
 pub refused_with : {A E : Type 0} (refuses : E → Type 0) (answer : Result A E) (why : E) → IsErrAnd answer (λ e. e ≡ why) → refuses why → IfErr answer refuses
 refused_with refuses (Ok x) why is refused = tt
 refused_with refuses (Err e) why is refused = subst refuses (sym is) refused
+
+-- and what is so where it is refused
+pub on_refusal : {A E P : Type 0} (answer : Result A E) → P → OnErr answer P
+on_refusal (Ok x) holds = tt
+on_refusal (Err e) holds = holds

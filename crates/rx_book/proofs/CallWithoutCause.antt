@@ -31,7 +31,9 @@ use Rattle.rx_register.specs.Claims.{MayFollowInTurn, IsReady as IsReadyFor}
 use Rattle.rx_register.proofs.Laws.NoCause.{no_cause}
 use Rattle.rx_register.proofs.Laws.Paid.{call_room, call_mail_room, paid_room, within_limit}
 use Rattle.rx_register.proofs.Laws.Calls.{call_follows, call_fits, called_paid}
+use Rattle.rx_ground.specs.Gone.{Gathers}
 use Rattle.rx_ground.specs.Shown.{Ground}
+use Rattle.rx_ground.proofs.Laws.GoneStaysGone.{gone_forced, gathers_on, further_written}
 use Rattle.rx_ground.specs.Ties.{IsStanding, IsRoomier, IsReady, KeepsOlder, KeepsLeases, HasRoomToConnect}
 use Rattle.rx_ground.specs.Ties.{IsTied, AreTied, AreLeased, KeepsNodes, KeepsHeld}
 use Rattle.rx_ground.proofs.Laws.KeysKept.{KeepsKeys, keeps_on, keeps_settled, keeps_closed, keeps_held, leases_stay}
@@ -53,6 +55,7 @@ use Rattle.rx_book.specs.Shown.{tree_key_of, tree_res_key_of, ground_lease_key_o
 use Rattle.rx_book.proofs.ShownKeys.{key_finds, finding_key, res_key_finds, finding_res_key, has_key_is, has_res_key_is}
 use Rattle.rx_book.proofs.ShownKeys.{lease_key_finds, finding_lease_key, has_lease_key_is}
 use Rattle.rx_book.proofs.CausesByKey.{unstood}
+use Rattle.rx_book.proofs.ListOfClosed.{just_gone}
 
 -- histories ---------------------------------------------------------------------------------------
 
@@ -114,13 +117,15 @@ pub record SettlesTo {T : Type 0} (g : Ghosts T) (mid new : Ground T) : Type 0 w
   pub limit : new.register.limit ≡ mid.register.limit
   pub given : new.register.given ≡ mid.register.given
   pub leases : new.leases ≡ mid.leases
+  pub closed : Gathers mid.register.history mid.closed new.register.history new.closed
 
 -- it is so, by what settling promises
 pub settles_to : {T : Type 0} {g : Ghosts T} {mid new : Ground T} → IsStanding g new → new.register.base ≡ mid.register.base →
     IsForcedOn mid.register.base mid.register.history new.register.history →
     KeepsOlder new.register.history (length mid.register.history) mid.tree.nodes new.tree.nodes → new.tree.resources ≡ mid.tree.resources →
-    new.register.limit ≡ mid.register.limit → new.register.given ≡ mid.register.given → new.leases ≡ mid.leases → SettlesTo g mid new
-settles_to standing base on nodes resources limit given leases = record {
+    new.register.limit ≡ mid.register.limit → new.register.given ≡ mid.register.given → new.leases ≡ mid.leases →
+    Gathers mid.register.history mid.closed new.register.history new.closed → SettlesTo g mid new
+settles_to standing base on nodes resources limit given leases closed = record {
   standing = standing;
   base = base;
   forced = on;
@@ -129,6 +134,7 @@ settles_to standing base on nodes resources limit given leases = record {
   limit = limit;
   given = given;
   leases = leases;
+  closed = closed;
 }
 
 module _ {T : Type 0} (g : Ghosts T) (b : Ground T) (asked : Request) where
@@ -139,18 +145,20 @@ module _ {T : Type 0} (g : Ghosts T) (b : Ground T) (asked : Request) where
   outside = outside_of b.register.history asked.call
 
   pub let_in : IsStanding g b → IsPromised b.register → first_cause (stands (state_of g b) asked) ≡ None → IsReadyFor h asked.call →
-      HasRoomFor b.register asked.call → IsLetIn g b asked
-  let_in standing promised none ready has = record {
+      HasRoomFor b.register asked.call → b.closed ≡ [] → IsLetIn g b asked
+  let_in standing promised none ready has begun = record {
     standing = standing;
     none = none;
     may = record { lawful = promised.lawful; settled = standing.settled; no_cause = (unstood asked.call asked.is_known _ none).1; ready = ready };
     has = has;
+    begun = begun;
   }
 
   -- a call that takes no memory
   pub let_in_free : IsStanding g b → IsPromised b.register → first_cause (stands (state_of g b) asked) ≡ None → IsReadyFor h asked.call →
-      added_by h asked.call ≡ 0 → notes_added h asked.call ≡ 0 → IsLetIn g b asked
-  let_in_free standing promised none ready added noted = let_in standing promised none ready (paid_room b.register asked.call standing.paid added noted)
+      added_by h asked.call ≡ 0 → notes_added h asked.call ≡ 0 → b.closed ≡ [] → IsLetIn g b asked
+  let_in_free standing promised none ready added noted begun =
+      let_in standing promised none ready (paid_room b.register asked.call standing.paid added noted) begun
 
   module _ (l : IsLetIn g b asked) where
     -- its key is known
@@ -213,9 +221,9 @@ module _ {T : Type 0} (g : Ghosts T) (b : Ground T) (asked : Request) where
 
     -- and after what they force it is accepted
     pub accepts : (mid : Ground T) {new : Ground T} → Writes b.register outside mid.register → IsTied mid.register.base g mid.register.history mid.tree →
-        KeepsKeys b.tree mid.tree (length h) → KeepsLeases b.leases mid.leases (length h) → SettlesTo g mid new →
-        Accepts (state_of g b) asked (state_of g new)
-    accepts mid {new} w tied kept out s = record {
+        KeepsKeys b.tree mid.tree (length h) → KeepsLeases b.leases mid.leases (length h) →
+        Gathers h b.closed mid.register.history mid.closed → SettlesTo g mid new → Accepts (state_of g b) asked (state_of g new)
+    accepts mid {new} w tied kept out gathered s = record {
       no_cause = l.none;
       base = based;
       step = record { forced = goes_on; lawful = lawful; settled = subst (λ (c : Kept). IsSettled c new.register.history) based s.standing.settled };
@@ -225,6 +233,7 @@ module _ {T : Type 0} (g : Ghosts T) (b : Ground T) (asked : Request) where
       res_keys = λ k c older. finding_res_key b.tree k (all.held (tree_res_key_of k) (res_key_finds new.tree k c) older);
       lease_keys = λ k c older. finding_lease_key b.leases k (out.from (lease_key (ground_lease_key_of k))
           (ap (λ (ls : Slots TreeResKey). is_some (find ls (lease_key (ground_lease_key_of k)))) (sym s.leases) ∙ lease_key_finds new.leases k c) older);
+      closed = just_gone l.begun (gathers_on (further_written outside w) (gone_forced mid.register.base s.forced) gathered s.closed);
     }
       where
         based : new.register.base ≡ b.register.base
@@ -251,26 +260,36 @@ module _ {T : Type 0} (g : Ghosts T) (b : Ground T) (asked : Request) where
             (keeps_settled mid.register.history new.register.history mid.tree new.tree lawful_then tied s.nodes s.resources)
 
     pub accepts_written : {mid new : Ground T} → IsWritten g b asked.call mid → SettlesTo g mid new → Accepts (state_of g b) asked (state_of g new)
-    accepts_written {mid} w = accepts mid w.written w.tied.of_tree (record { nodes = w.nodes; held = w.held.from }) w.leases
+    accepts_written {mid} w = accepts mid w.written w.tied.of_tree (record { nodes = w.nodes; held = w.held.from }) w.leases w.closed
 
 -- a closing is written
 pub written_closed : {T : Type 0} {g : Ghosts T} {old : Ground T} (new : Ground T) (call : Call) →
     Writes old.register (outside_of old.register.history call) new.register →
     AreTied new.register.base g new.register.history new.tree new.hubs → AreLeased new.register.history new.tree.resources new.leases →
-    KeepsNodes new.register.history old.tree.nodes new.tree.nodes → new.tree.resources ≡ old.tree.resources → new.leases ≡ old.leases → IsWritten g old call new
-written_closed {old} new call written tied leased nodes resources leases =
+    KeepsNodes new.register.history old.tree.nodes new.tree.nodes → new.tree.resources ≡ old.tree.resources → new.leases ≡ old.leases →
+    Gathers old.register.history old.closed new.register.history new.closed → IsWritten g old call new
+written_closed {old} new call written tied leased nodes resources leases closed =
     let kept = keeps_closed new.register.history old.tree new.tree (length old.register.history) nodes resources in
-    record { written = written; tied = tied; leased = leased; nodes = kept.nodes; held = record { from = kept.held }; leases = leases_stay _ _ _ leases }
+    record {
+      written = written;
+      tied = tied;
+      leased = leased;
+      nodes = kept.nodes;
+      held = record { from = kept.held };
+      leases = leases_stay _ _ _ leases;
+      closed = closed;
+    }
 
 -- what changes no node is written
 pub written_held : {T : Type 0} {g : Ghosts T} {old : Ground T} (new : Ground T) (call : Call) →
     Writes old.register (outside_of old.register.history call) new.register →
     AreTied new.register.base g new.register.history new.tree new.hubs → AreLeased new.register.history new.tree.resources new.leases →
     new.tree.nodes ≡ old.tree.nodes → KeepsHeld old.tree new.tree (length old.register.history) →
-    KeepsLeases old.leases new.leases (length old.register.history) → IsWritten g old call new
-written_held {old} new call written tied leased nodes held leases =
+    KeepsLeases old.leases new.leases (length old.register.history) → Gathers old.register.history old.closed new.register.history new.closed →
+    IsWritten g old call new
+written_held {old} new call written tied leased nodes held leases closed =
     let kept = keeps_held old.tree new.tree (length old.register.history) nodes held in
-    record { written = written; tied = tied; leased = leased; nodes = kept.nodes; held = held; leases = leases }
+    record { written = written; tied = tied; leased = leased; nodes = kept.nodes; held = held; leases = leases; closed = closed }
 
 -- room --------------------------------------------------------------------------------------------
 
@@ -281,6 +300,7 @@ state_roomier g old new r = λ i. state_of g (record {
   tree = record { nodes = r.nodes i; resources = r.resources i; chain = old.tree.chain };
   hubs = r.hubs i;
   leases = r.leases i;
+  closed = r.closed i;
   space = old.space;
 })
 

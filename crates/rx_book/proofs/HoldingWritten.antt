@@ -18,7 +18,9 @@ use Rattle.rx_tree.specs.declared.node.ResKey.{ResKey as TreeResKey}
 use Rattle.rx_tree.specs.Resources.{is_held_at}
 use Rattle.rx_tree.proofs.Laws.Keys.{some_of}
 use Rattle.rx_register.specs.State.{IsPromised, Writes}
+use Rattle.rx_ground.specs.Gone.{Gathers}
 use Rattle.rx_ground.specs.Shown.{Ground}
+use Rattle.rx_ground.proofs.Laws.GoneStaysGone.{gathers_nothing, gathers_quiet}
 use Rattle.rx_ground.specs.Ties.{IsStanding, IsReady, AreTied, AreLeased, KeepsHeld}
 use Rattle.rx_ground.proofs.Laws.KeysKept.{leases_stay}
 use Rattle.rx_book.specs.declared.key.Key.{Key}
@@ -32,6 +34,7 @@ use Rattle.rx_book.proofs.ShownKeys.{has_key_is}
 use Rattle.rx_book.proofs.CallWithoutCause.{SettlesTo, let_in, one_ready, pays, accepts_written, written_held}
 use Rattle.rx_book.proofs.MadeKeyIsListed.{res_key_listed}
 use Rattle.rx_book.proofs.HoldingUnstood.{holding_unstood}
+use Rattle.rx_book.proofs.ListOfClosed.{standing_begun, accepts_begun}
 
 module _ {T : Type 0} (g : Ghosts T) (b : Ground T) (node : Key) (x : T) (standing : IsStanding g b) (promised : IsPromised b.register)
     (listed : has_key (keys_of b.tree) node ≡ true) (fresh : is_fresh_in g x ≡ true)
@@ -56,13 +59,14 @@ module _ {T : Type 0} (g : Ghosts T) (b : Ground T) (node : Key) (x : T) (standi
       ap (λ (k : Bool). first_cause (by_key k (causes (is_fresh_in g x)))) listed ∙ ap (λ (f : Bool). first_cause (by_key true (causes f))) fresh ∙
       holding_unstood b.register.base h b.register.limit node.number (g.tag_of x) alive (omega arith)
 
-  pub holding_let_in : IsLetIn g b (hold_request g (state_of g b) node x)
+  -- as where the list of what is closed was begun
+  holding_let_in : IsLetIn g (record b { closed = [] }) (hold_request g (state_of g b) node x)
   holding_let_in =
       let notes = standing.paid.notes in
-      let_in g b asked standing promised unstood tt (record { events = events; notes = omega arith })
+      let_in g (record b { closed = [] }) asked (standing_begun standing) promised unstood tt (record { events = events; notes = omega arith }) refl
 
   pub holding_ready : IsReady b.register (Accept node.number (g.tag_of x))
-  holding_ready = one_ready g b asked holding_let_in (Accept node.number (g.tag_of x)) refl
+  holding_ready = one_ready g (record b { closed = [] }) asked holding_let_in (Accept node.number (g.tag_of x)) refl
 
   module _ (new : Ground T) (w : Writes b.register (Accept node.number (g.tag_of x) ∷ []) new.register)
       (tied : AreTied new.register.base g new.register.history new.tree new.hubs)
@@ -74,11 +78,11 @@ module _ {T : Type 0} (g : Ghosts T) (b : Ground T) (node : Key) (x : T) (standi
         subst (λ (k : Kept). IsSettled k new.register.history) (sym w.base) (subst (IsSettled b.register.base) (sym w.history) rests)
 
     pub holding_standing : IsStanding g new
-    holding_standing = record { tied = tied; leased = leased; settled = settled; paid = pays g b asked holding_let_in new.register w }
+    holding_standing = record { tied = tied; leased = leased; settled = settled; paid = pays g (record b { closed = [] }) asked holding_let_in new.register w }
 
-    settles : SettlesTo g new new
+    settles : SettlesTo g (record new { closed = [] }) (record new { closed = [] })
     settles = record {
-      standing = holding_standing;
+      standing = standing_begun holding_standing;
       base = refl;
       forced = stays;
       nodes = record { from = λ key there l. there; still = λ key there o. there };
@@ -86,12 +90,21 @@ module _ {T : Type 0} (g : Ghosts T) (b : Ground T) (node : Key) (x : T) (standi
       limit = refl;
       given = refl;
       leases = refl;
+      closed = gathers_nothing new.register.history [];
     }
 
     pub holding_accepted : new.tree.nodes ≡ b.tree.nodes → KeepsHeld b.tree new.tree (length b.register.history) → new.leases ≡ b.leases →
-        Accepts (state_of g b) (hold_request g (state_of g b) node x) (state_of g new)
+        Accepts (state_of g b) (hold_request g (state_of g b) node x) (record (state_of g new) { closed = [] })
     holding_accepted nodes kept leases =
-        accepts_written g b asked holding_let_in (written_held new asked.call w tied leased nodes kept (leases_stay _ _ _ leases)) settles
+        let quiet = gathers_quiet (Accept node.number (g.tag_of x)) holding_ready.next
+        refl w refl in
+        accepts_begun (accepts_written g (record b { closed = [] }) asked holding_let_in
+        (written_held {old = record b { closed = [] }} (record new { closed = [] }) asked.call w tied leased nodes kept (leases_stay _ _ _ leases) quiet)
+        settles)
+
+    -- the list of what was closed stays
+    pub holding_gathers : new.closed ≡ b.closed → Gathers b.register.history b.closed new.register.history new.closed
+    holding_gathers same = gathers_quiet (Accept node.number (g.tag_of x)) holding_ready.next refl w same
 
     pub held_key : (res : TreeResKey) {k : ResKey} → k ≡ res_key_shown res → res.number ≡ length b.register.history → is_held_at new.tree res ≡ true →
         IsNewResKey (state_of g new) (length b.register.history) k

@@ -1,5 +1,6 @@
 pub mod ShownKeys
 pub mod AnswersOkOrErr
+pub mod ListOfClosed
 pub mod CausesByKey
 pub mod CallWithoutCause
 pub mod FreeCalls

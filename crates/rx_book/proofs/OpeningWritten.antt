@@ -20,6 +20,7 @@ use Rattle.rx_tree.specs.Tree.{IsPlaced}
 use Rattle.rx_register.specs.State.{Writes}
 use Rattle.rx_register.specs.Paid.{notes_added}
 use Rattle.rx_register.proofs.Laws.Calls.{call_fits}
+use Rattle.rx_ground.specs.Gone.{Gathers}
 use Rattle.rx_ground.specs.Shown.{Ground}
 use Rattle.rx_ground.specs.Memory.{TakesNoMemory}
 use Rattle.rx_ground.specs.Ties.{IsTied, IsReady, IsNewNode}
@@ -53,12 +54,12 @@ module _ {T : Type 0} (g : Ghosts T) (b : Ground T) (at : At) (kind : Kind) (a :
   module _ (mid new : Ground T) (key : TreeKey) (w : Writes b.register (Open (place_of at) kind ∷ []) mid.register)
       (tied : IsTied mid.register.base g mid.register.history mid.tree)
       (made : IsNewNode b.tree.nodes mid.tree.nodes (length b.register.history) key) (same : mid.tree.resources ≡ b.tree.resources)
-      (leases : mid.leases ≡ b.leases) (s : SettlesTo g mid new) where
+      (leases : mid.leases ≡ b.leases) (gathered : Gathers b.register.history b.closed mid.register.history mid.closed) (s : SettlesTo g mid new) where
     pub opening_accepted : Accepts (state_of g b) (open_request (state_of g b) at kind) (state_of g new)
     opening_accepted =
         accepts g b (open_request (state_of g b) at kind) a.let_in mid w tied
         (keeps_opened h b.tree mid.tree key a.let_in.may.lawful a.let_in.standing.tied.of_tree made same)
-        (leases_stay _ _ _ leases) s
+        (leases_stay _ _ _ leases) gathered s
 
     pub opened_key : (k : Key) → k ≡ key_shown key → IsNewKey (state_of g new) (length b.register.history) k
     opened_key k shown =

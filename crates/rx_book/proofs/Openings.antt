@@ -17,7 +17,7 @@ use Rattle.rx_tree.proofs.Laws.Keys.{some_of}
 use Rattle.rx_event.specs.Causes.{nodes_opened}
 use Rattle.rx_register.specs.State.{Writes}
 use Rattle.rx_register.proofs.Laws.OpeningForcesConnection.{opening_connects}
-use Rattle.rx_ground.specs.Shown.{Ground}
+use Rattle.rx_ground.specs.Shown.{Ground, list_room}
 use Rattle.rx_ground.specs.Memory.{TakesNoMemory}
 use Rattle.rx_ground.specs.Ties.{IsTied, HasRoomToConnect, is_there}
 use Rattle.rx_book.specs.declared.answer.At.{At}
@@ -31,15 +31,25 @@ pub opening_room : {T : Type 0} {old new : Ground T} {place : Place} {kind : Kin
     IsSettled old.register.base old.register.history →
     MayFollow old.register.base old.register.history (Open place kind) → Writes old.register (Open place kind ∷ []) new.register →
     nodes_opened old.register.history kind ≤ old.tree.nodes.room → nodes_opened old.register.history kind ≤ old.space →
-    old.tree.nodes.room ≤ new.tree.nodes.room + 1 → TakesNoMemory old new → HasRoomToConnect new.register.history new.tree.nodes.room new.space
-opening_room {old} {place} {kind} law settled next w room space left memory = λ g waits.
+    old.tree.nodes.room ≤ new.tree.nodes.room + 1 → TakesNoMemory old new → old.closed ≡ [] →
+    length new.closed + new.tree.nodes.count ≡ length old.closed + old.tree.nodes.count + 1 →
+    HasRoomToConnect new.register.history new.tree.nodes.room (list_room new)
+opening_room {old} {place} {kind} law settled next w room space left memory begun listed = λ g waits.
     let forces =
     opening_connects old.register.history place kind g law settled (may_subscribe old.register.base next)
     (subst (λ (k : List Event). IsConnectDue k g) w.history waits) in
     let two : nodes_opened old.register.history kind ≡ 2 = ap (λ (b : Bool). 1 + cond b 1 0) forces in
     let nodes = memory.nodes in
     let closing = memory.closing in
+    let none = ap (λ (keys : List Key). length keys) begun in
     (omega arith, omega arith)
+
+-- and for its node, where the list of what is closed was begun
+pub opening_space : {T : Type 0} (b : Ground T) (kind : Kind) → nodes_opened b.register.history kind ≤ b.space → b.closed ≡ [] → 0 < list_room b
+opening_space b kind space begun = let none = ap (λ (keys : List Key). length keys) begun in omega arith
+
+pub node_space : {T : Type 0} (b : Ground T) → 1 ≤ b.space → b.closed ≡ [] → 0 < list_room b
+node_space b space begun = let none = ap (λ (keys : List Key). length keys) begun in omega arith
 
 -- the node above
 module _ (base : Kept) {T : Type 0} (g : Ghosts T) (h : List Event) (tree : Tree T) (tied : IsTied base g h tree) (kind : Kind) where

@@ -1,5 +1,5 @@
 -- What callers see of a ground before a checkpoint and after it.
-use Rattle.std.proofs.Common.{◌≡◌, ℕ, None, Ok, Err, map, ap, length}
+use Rattle.std.proofs.Common.{◌≡◌, ℕ, None, Ok, Err, List, map, ap, length}
 use Rattle.rx_resource.specs.declared.Resource.{Ghosts}
 use Rattle.rx_event.specs.Kept.{shown}
 use Rattle.rx_event.specs.Bases.{base_of, Agree}
@@ -8,6 +8,7 @@ use Rattle.rx_event.specs.Refusals.{first_cause, IsRefusal}
 use Rattle.rx_event.proofs.Laws.Checkpoints.{kept_agrees}
 use Rattle.rx_event.specs.Causes.{checkpoint_causes}
 use Rattle.rx_register.specs.State.{IsPromised as IsRegisterPromised}
+use Rattle.rx_slots.specs.declared.Key.{Key}
 use Rattle.rx_slots.specs.Slots.{Slots}
 use Rattle.rx_tree.specs.declared.node.ResKey.{ResKey as TreeResKey}
 use Rattle.rx_tree.specs.Tree.{Tree}
@@ -16,7 +17,7 @@ use Rattle.rx_ground.specs.Checkpoints.{IsCheckpoint}
 use Rattle.rx_ground.specs.Ties.{IsStanding}
 use Rattle.rx_book.specs.Checkpoints.{Checkpoints, AnswersCheckpoint}
 use Rattle.rx_book.specs.State.{State}
-use Rattle.rx_book.specs.Shown.{state_of, keys_of, res_keys_of, lease_keys_of}
+use Rattle.rx_book.specs.Shown.{key_shown, state_of, keys_of, res_keys_of, lease_keys_of}
 
 pub checkpointed : {T : Type 0} (g : Ghosts T) (old new : Ground T) → IsRegisterPromised old.register → IsStanding g old →
     first_cause (checkpoint_causes old.register.history old.register.given) ≡ None → IsCheckpoint old new → Checkpoints (state_of g old) (state_of g new)
@@ -32,6 +33,7 @@ checkpointed {T = T} g old new promised standing no_cause checkpoint = record {
   held = ap (λ (t : Tree T). map (label_in g) (held_in t)) checkpoint.tree;
   waiting = ap (λ (t : Tree T). map (label_in g) (waiting_in t)) checkpoint.tree;
   given = checkpoint.register.given;
+  closed = ap (λ (keys : List Key). map key_shown keys) checkpoint.closed;
 }
   where
     agree : Agree old.register.base old.register.history (base_of old.register.base old.register.history)

@@ -1,6 +1,6 @@
 -- What the answers of calls say: one relation for each kind of answer, of the state before, what was asked, the state after, and
 -- the answer.
-use Rattle.std.specs.Prelude.{◌≡◌, ℕ, ◌+◌, ◌<◌, Bool, true, false, Option, Some, None, List, [], length, option_map, IsTrue, if◌then◌else◌}
+use Rattle.std.specs.Prelude.{◌≡◌, ℕ, ◌+◌, ◌<◌, Bool, true, false, Option, Some, None, List, [], length, map, option_map, IsTrue, if◌then◌else◌}
 use Rattle.std.specs.Prelude.{Result, IfOk, IfErr, OnOk, OnErr, IfSome, IfNone, MatchOption, ⊤}
 use Rattle.std.specs.List.{Contains}
 use Rattle.rx_resource.specs.declared.Resource.{Ghosts}
@@ -10,6 +10,7 @@ use Rattle.rx_event.specs.declared.event.Event.TheVariants.{Connect}
 use Rattle.rx_event.specs.Tree.{at}
 use Rattle.rx_event.specs.Calls.{IsStepOf}
 use Rattle.rx_event.specs.Refusals.{first_cause, IsRefusal}
+use Rattle.rx_ground.specs.Gone.{goes}
 use Rattle.rx_ground.specs.Shown.{label_of}
 use Rattle.rx_book.specs.declared.key.Key.{Key}
 use Rattle.rx_book.specs.declared.key.ResKey.{ResKey}
@@ -17,7 +18,7 @@ use Rattle.rx_book.specs.declared.key.LeaseKey.{LeaseKey}
 use Rattle.rx_book.specs.declared.answer.Opened.{Opened}
 use Rattle.rx_book.specs.declared.answer.OpenedUsing.{OpenedUsing}
 use Rattle.rx_book.specs.declared.answer.Refused.{Refused}
-use Rattle.rx_book.specs.State.{State, has_key, has_res_key, has_lease_key}
+use Rattle.rx_book.specs.State.{State, AreJust, has_key, has_res_key, has_lease_key}
 use Rattle.rx_book.specs.Requests.{Request, stands, take_request}
 
 abbrev pub makes_connection : Event → Bool
@@ -28,8 +29,8 @@ makes_connection _ = false
 abbrev pub connection_made : List Event → List Event → Option ℕ
 connection_made old new = if at makes_connection new (length old + 1) then Some (length old + 1) else None
 
--- an accepted call: no cause stood against it, the history goes on by a step of that call, and the base, the limit, the notes
--- handed out and the keys of all that is still there are as before
+-- an accepted call: no cause stood against it, the history goes on by a step of that call, the base, the limit, the notes handed out
+-- and the keys of all that is still there are as before, and the list of what was closed has just the nodes that went with it, each once
 pub record Accepts (old : State) (asked : Request) (new : State) : Type 0 where
   pub no_cause : first_cause (stands old asked) ≡ None
   pub base : new.base ≡ old.base
@@ -39,6 +40,7 @@ pub record Accepts (old : State) (asked : Request) (new : State) : Type 0 where
   pub keys : (k : Key) → Contains new.keys k → k.number < length old.history → Contains old.keys k
   pub res_keys : (k : ResKey) → Contains new.res_keys k → k.number < length old.history → Contains old.res_keys k
   pub lease_keys : (k : LeaseKey) → Contains new.lease_keys k → k.number < length old.history → Contains old.lease_keys k
+  pub closed : AreJust (goes old.history new.history) (map (λ k. k.number) new.closed)
 
 -- refusals ----------------------------------------------------------------------------------------
 

@@ -21,6 +21,7 @@ pub record Checkpoints (old new : State) : Type 0 where
   pub held : new.held ≡ old.held
   pub waiting : new.waiting ≡ old.waiting
   pub given : new.given ≡ 0
+  pub closed : new.closed ≡ old.closed
 
 -- made, with the number of events so far; or refused for the first cause, where none stands for want of memory, with nothing changed
 pub record AnswersCheckpoint (old new : State) (answer : Result ℕ Refusal) : Type 0 where

@@ -1,5 +1,5 @@
 -- What is asked by an opening of a node that holds a resource from then on, and what it answers: it is an opening, and then a holding.
-use Rattle.std.specs.Prelude.{◌≡◌, ◌+◌, ◌≤◌, ◌<◌, Bool, None, Result, IfOk, IfErr, OnErr, [], ◌∷◌, ◌++◌, length}
+use Rattle.std.specs.Prelude.{◌≡◌, ◌+◌, ◌≤◌, ◌<◌, Bool, None, Result, IfOk, IfErr, OnErr, [], ◌∷◌, ◌++◌, length, map}
 use Rattle.rx_resource.specs.declared.Resource.{Ghosts}
 use Rattle.rx_event.specs.declared.event.Kind.{Kind}
 use Rattle.rx_event.specs.declared.event.Event.TheVariants.{Accept}
@@ -9,11 +9,12 @@ use Rattle.rx_event.specs.Calls.{Opening}
 use Rattle.rx_event.specs.Refusals.{first_cause, IsRefusal}
 use Rattle.rx_event.specs.Totals.{debt}
 use Rattle.rx_ground.specs.OpeningHolding.{opening_holding_causes}
+use Rattle.rx_ground.specs.Gone.{goes}
 use Rattle.rx_ground.specs.Shown.{Ground}
 use Rattle.rx_book.specs.declared.answer.At.{At}
 use Rattle.rx_book.specs.declared.answer.OpenedHolding.{OpenedHolding}
 use Rattle.rx_book.specs.declared.answer.Refused.{Refused}
-use Rattle.rx_book.specs.State.{State}
+use Rattle.rx_book.specs.State.{State, AreJust}
 use Rattle.rx_book.specs.Requests.{place_of, is_known_place, is_fresh_in, open_request, hold_request}
 use Rattle.rx_book.specs.Answers.{Accepts, IsOpened, IsNewResKey}
 use Rattle.rx_book.specs.Shown.{state_of}
@@ -25,13 +26,15 @@ stands_holding s at kind is_fresh =
     by_key (is_known_place s.keys at) (opening_holding_causes s.base s.history s.limit is_fresh (place_of at) kind)
 
 module _ {T : Type 0} where
-  -- such a node was opened, with what that forces, and then the resource was held there, which comes last and closes no node
+  -- such a node was opened, with what that forces, and then the resource was held there, which comes last and closes no node, so that
+  -- what the opening closed is what the call closed
   pub record IsOpenedHolding (g : Ghosts T) (old : State) (at : At) (kind : Kind) (x : T) (new : State) (o : OpenedHolding) : Type 0 where
     pub middle : State
     pub opens : Accepts old (open_request old at kind) middle
-    pub holds : Accepts middle (hold_request g middle o.opened.key x) new
+    pub holds : Accepts middle (hold_request g middle o.opened.key x) (record new { closed = [] })
     pub last : new.history ≡ middle.history ++ Accept o.opened.key.number (g.tag_of x) ∷ []
     pub keys : new.keys ≡ middle.keys
+    pub closed : AreJust (goes old.history new.history) (map (λ k. k.number) new.closed)
     pub opened : IsOpened old new o.opened
     pub res : IsNewResKey new (length middle.history) o.res
 

@@ -54,4 +54,5 @@ module _ {T : Type 0} where
     held = map (label_in g) (held_in b.tree);
     waiting = map (label_in g) (waiting_in b.tree);
     given = b.register.given;
+    closed = map key_shown b.closed;
   }

@@ -22,7 +22,8 @@ use Rattle.rx_book.specs.declared.key.ResKey.{ResKey}
 use Rattle.rx_book.specs.declared.key.LeaseKey.{LeaseKey}
 
 -- a book: what a checkpoint kept, the history as one list with it, the limit on the events since, the keys of the open nodes, of the
--- held resources and of the leases out, the resources held and those waiting, and how many notes were handed out
+-- held resources and of the leases out, the resources held and those waiting, how many notes were handed out, and the keys of the
+-- nodes that the last call closed which was accepted, in the order in which it closed them
 pub record State : Type 0 where
   pub base : Kept
   pub history : List Event
@@ -33,6 +34,7 @@ pub record State : Type 0 where
   pub held : List Label
   pub waiting : List Label
   pub given : ℕ
+  pub closed : List Key
 
 abbrev pub has_key : List Key → Key → Bool
 has_key keys k = list_any (λ j. j.slot == k.slot && j.number == k.number) keys

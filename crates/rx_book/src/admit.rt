@@ -1,6 +1,6 @@
 //! The calls that may take memory: what stands against each, and room for it.
 
-ghost use Rattle.std.specs.Prelude.{◌≡◌, IfOk, IfErr, OnOk};
+ghost use Rattle.std.specs.Prelude.{◌≡◌, [], IfOk, IfErr, OnOk, OnErr};
 ghost use Rattle.rx_ground.specs.Reached.{MakesOnly};
 ghost use Rattle.rx_ground.specs.Ties.{IsStanding};
 ghost use Rattle.rx_book.specs.Answers.{IsCauseOrWant};
@@ -86,20 +86,24 @@ fn decide<R: Resource>(ground: &mut Ground<R>, wish: Wish) -> Result<Wanted, Ref
     }
 }
 
-/// Lets a call in: gets room for it, where nothing stands against it. Refused for what stands first, else
-/// for want of memory; then some of the room may have been gotten, and nothing else changed.
+/// Lets a call in: gets room for it, where nothing stands against it, and begins the list of what it closes.
+/// Refused for what stands first, else for want of memory; then some of the room may have been gotten, and
+/// nothing else changed.
 #[inline(always)]
 pub(crate) fn admit<R: Resource>(ground: &mut Ground<R>, wish: Wish) -> Result<(), Refusal>
     requires standing { IsStanding R.Resource ground.old }
     ensures ok { OnOk result (IsAdmitted R.Resource ground.new (request_for (state_of R.Resource ground.new) wish)) }
     ensures err { IfErr result
         (IsCauseOrWant (state_of R.Resource ground.old) (request_for (state_of R.Resource ground.old) wish)) }
-    ensures same { state_of R.Resource ground.new ≡ state_of R.Resource ground.old }
+    ensures same { OnErr result (state_of R.Resource ground.new ≡ state_of R.Resource ground.old) }
+    ensures begun { OnOk result
+        (state_of R.Resource ground.new ≡ record (state_of R.Resource ground.old) { closed = [] }) }
     ensures standing { IsStanding R.Resource ground.new }
 {
     let cost = decide(ground, wish)?;
     ground.make_room(cost)?;
     ground.promise();
+    ground.begin();
     Ok(())
 }
 
@@ -117,11 +121,14 @@ pub(crate) fn admit_item<R: Resource>(
         (λ way. MakesOnly ground.new.tree.nodes ground.new.hubs.hubs (tree_key_of leaf) way.only) }
     ensures err { IfErr result
         (IsCauseOrWant (state_of R.Resource ground.old) (next_request (state_of R.Resource ground.old) leaf value)) }
-    ensures same { state_of R.Resource ground.new ≡ state_of R.Resource ground.old }
+    ensures same { OnErr result (state_of R.Resource ground.new ≡ state_of R.Resource ground.old) }
+    ensures begun { OnOk result
+        (state_of R.Resource ground.new ≡ record (state_of R.Resource ground.old) { closed = [] }) }
     ensures standing { IsStanding R.Resource ground.new }
 {
     let way = ground.route(tree_key(leaf), value)?;
     ground.make_room(Wanted::of_item(way.reach))?;
     ground.promise();
+    ground.begin();
     Ok(way)
 }

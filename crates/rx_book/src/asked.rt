@@ -87,6 +87,7 @@ impl<R: Resource> Book<R> {
             return Err(why);
         }
         let place = self.ground.len();
+        self.ground.begin();
         write(&mut self.ground, asked);
         self.ground.settle();
         Ok(place)

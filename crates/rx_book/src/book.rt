@@ -25,8 +25,8 @@ use std::marker::Model;
 /// many kinds.
 ///
 /// To its callers it is a state: its history and limit, the keys of the open nodes, of the held
-/// resources and of the leases that are out, the resources that it holds and those that wait, and the
-/// number of notes handed out.
+/// resources and of the leases that are out, the resources that it holds and those that wait, the number
+/// of notes handed out, and the keys of the nodes that the last accepted call closed.
 /// A book that is dropped drops its resources unreleased.
 pub struct Book<R: Resource> {
     pub(crate) ground: Ground<R>,
@@ -56,7 +56,7 @@ impl<R: Resource> Book<R> {
     /// memory.
     pub fn new(alloc: Global, max_events: u64) -> Self
         requires { max_events ≤ 4294967295 }
-        ensures { result ≡ record { base = nothing_kept; history = []; limit = max_events; keys = []; res_keys = []; lease_keys = []; held = []; waiting = []; given = 0 } }
+        ensures { result ≡ record { base = nothing_kept; history = []; limit = max_events; keys = []; res_keys = []; lease_keys = []; held = []; waiting = []; given = 0; closed = [] } }
     {
         Book {
             ground: Ground::new(alloc, max_events),
@@ -80,6 +80,26 @@ impl<R: Resource> Book<R> {
         ensures given { self.new ≡ record self.old { given = if is_some result then self.old.given + 1 else self.old.given } }
     {
         self.ground.take_mail()
+    }
+
+    /// How many nodes the last call closed that was accepted, and what it forced; 0 before the first. A call
+    /// that is refused leaves it as it was, and so does [`Book::take_mail`], and a checkpoint. Of one that
+    /// comes to several, as [`Book::next_all`], [`Book::release_waiting`] and [`Book::shut`] do, it is the last
+    /// that counts.
+    pub fn closed_count(&self) -> usize
+        ensures { result ≡ length self.now.closed }
+    {
+        self.ground.closed_count()
+    }
+
+    /// The key that one of these nodes had, by its place in the order in which they were closed, from 0; None
+    /// beyond the last. What a forced end closed stands behind what the call closed itself. The key is nobody's
+    /// any more.
+    pub fn nth_closed(&self, n: usize) -> Option<Key>
+        ensures { result ≡ slice_get self.now.closed n }
+    {
+        let closed = self.ground.nth_closed(n)?;
+        Some(shown_key(closed))
     }
 
     /// How many nodes are open.

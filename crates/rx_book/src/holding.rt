@@ -69,6 +69,7 @@ impl<R: Resource> Book<R> {
     {
         self.ground.promise();
         let handed = self.ground.write_take()?;
+        self.ground.begin();
         self.ground.settle();
         self.ground.promise();
         Some(handed)

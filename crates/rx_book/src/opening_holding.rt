@@ -1,9 +1,10 @@
 //! Opening a node of any kind that holds a resource from then on, in one call.
 
-ghost use Rattle.std.specs.Prelude.{◌≡◌, ◌+◌, ◌<◌, ◌≤◌, [], ◌∷◌, ◌++◌, true, length, IfErr, IsTrue, OnOk};
+ghost use Rattle.std.specs.Prelude.{◌≡◌, ◌+◌, ◌<◌, ◌≤◌, [], ◌∷◌, ◌++◌, true, length, IfErr, IsTrue, OnOk, OnErr};
 ghost use Rattle.rx_event.specs.declared.event.Event.{Event};
 ghost use Rattle.rx_event.specs.Refusals.{IsRefusal};
 ghost use Rattle.rx_event.specs.Totals.{debt};
+ghost use Rattle.rx_ground.specs.Gone.{Gathers};
 ghost use Rattle.rx_ground.specs.Ties.{IsStanding};
 ghost use Rattle.rx_book.specs.State.{has_key};
 ghost use Rattle.rx_book.specs.Requests.{is_fresh_in, hold_request};
@@ -21,9 +22,9 @@ use rx_event::{Kind, Refusal};
 use rx_ground::Ground;
 use rx_resource::Resource;
 
-/// Lets such an opening in: gets room for it and for the holding, where nothing stands against it. Refused for
-/// what stands first, else for want of memory; then some of the room may have been gotten, and nothing else
-/// changed.
+/// Lets such an opening in: gets room for it and for the holding, where nothing stands against it, and begins the
+/// list of what both close. Refused for what stands first, else for want of memory; then some of the room may
+/// have been gotten, and nothing else changed.
 #[inline(always)]
 fn admit_holding<R: Resource>(
     ground: &mut Ground<R>,
@@ -34,7 +35,9 @@ fn admit_holding<R: Resource>(
     requires standing { IsStanding R.Resource ground.old }
     ensures ok { OnOk result (IsAdmittedHolding R.Resource ground.new at kind is_fresh) }
     ensures err { IfErr result (IsRefusal (stands_holding (state_of R.Resource ground.old) at kind is_fresh)) }
-    ensures same { state_of R.Resource ground.new ≡ state_of R.Resource ground.old }
+    ensures same { OnErr result (state_of R.Resource ground.new ≡ state_of R.Resource ground.old) }
+    ensures begun { OnOk result
+        (state_of R.Resource ground.new ≡ record (state_of R.Resource ground.old) { closed = [] }) }
     ensures standing { IsStanding R.Resource ground.new }
 {
     let spot = spot_of(at);
@@ -44,10 +47,12 @@ fn admit_holding<R: Resource>(
     let cost = ground.opening_holding_cost(spot.place, kind);
     ground.make_room(cost)?;
     ground.promise();
+    ground.begin();
     Ok(())
 }
 
-/// Holds a fresh resource at an open node, for which there is room. It forces nothing.
+/// Holds a fresh resource at an open node, for which there is room. It forces nothing, and the list of what was
+/// closed stays.
 #[inline(always)]
 fn write_holding<R: Resource>(ground: &mut Ground<R>, node: Key, resource: R) -> ResKey
     requires standing { IsStanding R.Resource ground.old }
@@ -57,7 +62,10 @@ fn write_holding<R: Resource>(ground: &mut Ground<R>, node: Key, resource: R) ->
     requires room { 0 < ground.old.tree.resources.room }
     ensures standing { IsStanding R.Resource ground.new }
     ensures accepted { Accepts (state_of R.Resource ground.old)
-        (hold_request R.Resource (state_of R.Resource ground.old) node resource) (state_of R.Resource ground.new) }
+        (hold_request R.Resource (state_of R.Resource ground.old) node resource)
+        (record (state_of R.Resource ground.new) { closed = [] }) }
+    ensures closed { Gathers ground.old.register.history ground.old.closed ground.new.register.history
+        ground.new.closed }
     ensures res { IsNewResKey (state_of R.Resource ground.new) (length ground.old.register.history) result }
     ensures history { ground.new.register.history ≡ ground.old.register.history ++
         Event.Accept node.number (R.tag_of resource) ∷ [] }

@@ -89,13 +89,14 @@ may_rebase g b reserved standing promised none same = record {
 -- the register over its base, with the hubs that forgot their ends, is a checkpoint
 pub checkpoint_made : {T : Type 0} {old new : Ground T} {reserved : ℕ} → Rebases old.register new.register reserved →
     reserved ≡ debt old.register.base old.register.history →
-    new.tree ≡ old.tree → new.hubs ≡ record old.hubs { hubs = map without_end old.hubs.hubs } → new.leases ≡ old.leases → new.space ≡ old.space →
-    IsCheckpoint old new
-checkpoint_made {old} {new} rebases same tree hubs leases space = record {
+    new.tree ≡ old.tree → new.hubs ≡ record old.hubs { hubs = map without_end old.hubs.hubs } → new.leases ≡ old.leases → new.closed ≡ old.closed →
+    new.space ≡ old.space → IsCheckpoint old new
+checkpoint_made {old} {new} rebases same tree hubs leases closed space = record {
   register = subst (Rebases old.register new.register) same rebases;
   tree = tree;
   hubs = hubs;
   leases = leases;
+  closed = closed;
   space = space;
 }
 

@@ -7,3 +7,4 @@ pub mod JustOpenHeldWaiting
 pub mod StaysHeld
 pub mod OwnedInTree
 pub mod OneStop
+pub mod GoneStaysGone

@@ -9,6 +9,7 @@ pub mod RegisterAfterWrite
 pub mod Memory
 pub mod HeldKept
 pub mod Newest
+pub mod MovedHaveGone
 pub mod NodeEnds
 pub mod TiedWhileSettling
 pub mod MarksMakeNothingDue

@@ -193,6 +193,7 @@ module _ {T : Type 0} where
         chain = refl;
         hubs = refl;
         leases = refl;
+        closed = refl;
       })
 
   pub standing_aside : (g : Ghosts T) (old new : Ground T) → SetsAside old new → IsStanding g old → IsStanding g new
@@ -212,6 +213,7 @@ module _ {T : Type 0} where
         chain = m.chain;
         hubs = m.hubs;
         leases = m.leases;
+        closed = m.closed;
       }) more
 
   -- room beside what closing everything needs, of which that for the events was set aside before

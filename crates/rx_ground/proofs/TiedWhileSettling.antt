@@ -37,7 +37,9 @@ use Rattle.rx_ground.specs.Ties.{AreLeased, AreRecords, AreTied, IsReady, WithCh
 use Rattle.rx_ground.specs.Memory.{TakesNoMemory}
 use Rattle.rx_ground.specs.Settling.{Settles}
 use Rattle.rx_ground.proofs.Memory.{memory_on}
-use Rattle.rx_ground.specs.Shown.{Ground}
+use Rattle.rx_ground.specs.Gone.{Gathers}
+use Rattle.rx_ground.specs.Shown.{Ground, list_room}
+use Rattle.rx_ground.proofs.Laws.GoneStaysGone.{IsFurther, gone_push, gone_forced, gathers_nothing, gathers_on}
 use Rattle.rx_ground.proofs.Records.{as_records, rechained}
 use Rattle.rx_hub.specs.declared.hub.HubDue.{HubDue}
 use Rattle.rx_hub.specs.declared.hub.HubDue.TheVariants.{Connect as ConnectDue, End as EndDue, Close as CloseDue}
@@ -135,7 +137,7 @@ pub record IsOnTheWay {T : Type 0} (g : Ghosts T) (start now : Ground T) : Type 
   pub tied : AreTied now.register.base g now.register.history now.tree now.hubs
   pub leased : AreLeased now.register.history now.tree.resources now.leases
   pub paid : IsPaid now.register
-  pub room : HasRoomToConnect now.register.history now.tree.nodes.room now.space
+  pub room : HasRoomToConnect now.register.history now.tree.nodes.room (list_room now)
   pub base : now.register.base ≡ start.register.base
   pub forced : IsForcedOn start.register.base start.register.history now.register.history
   pub grown : length start.register.history ≤ length now.register.history
@@ -147,10 +149,11 @@ pub record IsOnTheWay {T : Type 0} (g : Ghosts T) (start now : Ground T) : Type 
   pub limit : now.register.limit ≡ start.register.limit
   pub given : now.register.given ≡ start.register.given
   pub memory : TakesNoMemory start now
+  pub closed : Gathers start.register.history start.closed now.register.history now.closed
 
 pub way_starts : {T : Type 0} (g : Ghosts T) (b : Ground T) → AreTied b.register.base g b.register.history b.tree b.hubs →
     AreLeased b.register.history b.tree.resources b.leases → IsPaid b.register →
-    HasRoomToConnect b.register.history b.tree.nodes.room b.space → IsOnTheWay g b b
+    HasRoomToConnect b.register.history b.tree.nodes.room (list_room b) → IsOnTheWay g b b
 way_starts g b tied leased paid room = record {
   tied = tied;
   leased = leased;
@@ -168,6 +171,7 @@ way_starts g b tied leased paid room = record {
   limit = refl;
   given = refl;
   memory = record { events = refl; notes = refl; nodes = refl; resources = refl; hubs = refl; slots = refl; closing = refl };
+  closed = gathers_nothing b.register.history b.closed;
 }
 
 -- where nothing is forced any more the way is at its end
@@ -183,6 +187,7 @@ settled none w = record {
   given = w.given;
   hubs = w.hubs;
   leases = w.same_leases;
+  closed = w.closed;
   memory = w.memory;
 }
 
@@ -193,7 +198,7 @@ way_rechained {T = T} g start old new w kept tied = record {
   tied = tied;
   leased = subst (λ (b : Ground T). AreLeased b.register.history b.tree.resources b.leases) (sym kept.same) w.leased;
   paid = subst IsPaid (sym register) w.paid;
-  room = subst (λ (b : Ground T). HasRoomToConnect b.register.history b.tree.nodes.room b.space) (sym kept.same) w.room;
+  room = subst (λ (b : Ground T). HasRoomToConnect b.register.history b.tree.nodes.room (list_room b)) (sym kept.same) w.room;
   base = ap (λ (s : Register). s.base) register ∙ w.base;
   forced = subst (λ (s : Register). IsForcedOn start.register.base start.register.history s.history) (sym register) w.forced;
   grown = let l = ap (λ (s : Register). length s.history) register in let n = w.grown in omega arith;
@@ -213,14 +218,15 @@ way_rechained {T = T} g start old new w kept tied = record {
     slots = w.memory.slots;
     closing = w.memory.closing;
   });
+  closed = subst (λ (b : Ground T). Gathers start.register.history start.closed b.register.history b.closed) (sym kept.same) w.closed;
 }
   where
     register : new.register ≡ old.register
     register = ap (λ (b : Ground T). b.register) kept.same
 
 -- what comes next, if it is a Connect, has room
-pub next_room : {T : Type 0} (b : Ground T) (d : HubDue) → IsNext b d → HasRoomToConnect b.register.history b.tree.nodes.room b.space →
-    (n : ℕ) → d ≡ ConnectDue n → (0 < b.tree.nodes.room) × (0 < b.space)
+pub next_room : {T : Type 0} (b : Ground T) (d : HubDue) → IsNext b d → HasRoomToConnect b.register.history b.tree.nodes.room (list_room b) →
+    (n : ℕ) → d ≡ ConnectDue n → (0 < b.tree.nodes.room) × (0 < list_room b)
 next_room b d next room n is =
     room n (connect_due b.register.base (subst (λ (x : HubDue). IsForced b.register.base b.register.history (event_of x)) is next.forced))
 
@@ -236,6 +242,7 @@ pub record WritesNext {T : Type 0} (g : Ghosts T) (old new : Ground T) (d : HubD
   pub hubs : length new.hubs.hubs ≡ length old.hubs.hubs
   pub leases : new.leases ≡ old.leases
   pub memory : TakesNoMemory old new
+  pub closed : Gathers old.register.history old.closed new.register.history new.closed
 
 -- one event more
 pub way_on : {T : Type 0} {g : Ghosts T} {start old new : Ground T} {d : HubDue} → IsOnTheWay g start old → WritesNext g old new d → IsOnTheWay g start new
@@ -259,6 +266,8 @@ way_on {start} {old} {new} {d} w one = record {
   limit = one.written.limit ∙ w.limit;
   given = one.written.given ∙ w.given;
   memory = memory_on start old new w.memory one.memory;
+  closed = gathers_on (gone_forced start.register.base w.forced)
+      (subst (IsFurther old.register.history) (sym one.written.history) (gone_push old.register.history (event_of d))) w.closed one.closed;
 }
   where
     longer : length new.register.history ≡ length old.register.history + 1

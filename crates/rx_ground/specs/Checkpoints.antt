@@ -11,4 +11,5 @@ pub record IsCheckpoint {T : Type 0} (old new : Ground T) : Type 0 where
   pub tree : new.tree ≡ old.tree
   pub hubs : new.hubs ≡ record old.hubs { hubs = map without_end old.hubs.hubs }
   pub leases : new.leases ≡ old.leases
+  pub closed : new.closed ≡ old.closed
   pub space : new.space ≡ old.space

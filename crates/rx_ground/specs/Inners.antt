@@ -11,7 +11,7 @@ use Rattle.rx_slots.specs.Slots.{Slots, find}
 use Rattle.rx_tree.specs.declared.node.Node.{Node}
 use Rattle.rx_tree.specs.Tree.{Tree}
 use Rattle.rx_hub.specs.Hubs.{Hubs}
-use Rattle.rx_ground.specs.Ties.{Cuts, left_inside}
+use Rattle.rx_ground.specs.Ties.{Cuts, Moves, left_inside}
 
 -- the key of an open inner
 pub record IsInner (h : List Event) (nodes : Slots Node) (merging : ℕ) (inner : Key) : Type 0 where
@@ -57,3 +57,15 @@ module _ {T : Type 0} where
   pub record ClearsHubs (h : List Event) (place : Place) (old new : Tree T) (hubs left : Hubs) (replaces : Bool) : Type 0 where
     pub exchanged : replaces ≡ true → LeavesHubs h place old new hubs left
     pub same : replaces ≡ false → left ≡ hubs
+
+  -- the list goes on with such a node and all below it
+  pub record ListsReplaced (h : List Event) (place : Place) (old new : Tree T) (list longer : List Key) : Type 0 where
+    pub inner : Key
+    pub replaced : IsReplaced h old.nodes place inner
+    pub cuts : Cuts old new inner.number
+    pub moves : Moves old.nodes inner.number list longer
+
+  -- the list is that of what is closed for what is opened at this place, in the place of an open inner or not
+  pub record ListsWay (h : List Event) (place : Place) (old new : Tree T) (list longer : List Key) (replaces : Bool) : Type 0 where
+    pub exchanged : replaces ≡ true → ListsReplaced h place old new list longer
+    pub same : replaces ≡ false → longer ≡ list

@@ -2,6 +2,7 @@ pub mod FirstCause
 pub mod Reached
 pub mod Passing
 pub mod Memory
+pub mod Gone
 pub mod Shown
 pub mod Ties
 pub mod Settling

@@ -1,5 +1,5 @@
 -- What contracts see of a register, a tree, hubs and leases of one history, and of the resources that wait there.
-use Rattle.std.specs.Prelude.{ℕ, suc, List, [], ◌∷◌, Option, Some, None}
+use Rattle.std.specs.Prelude.{ℕ, suc, ◌-◌, List, [], ◌∷◌, Option, Some, None, map, length}
 use Rattle.std.proofs.Math.Bool.{not}
 use Rattle.std.specs.List.{filter}
 use Rattle.rx_resource.specs.declared.Resource.{Ghosts}
@@ -7,6 +7,7 @@ use Rattle.rx_resource.specs.declared.Life.{Life}
 use Rattle.rx_slots.specs.declared.Entry.{Entry}
 use Rattle.rx_slots.specs.declared.Key.{Key as SlotKey}
 use Rattle.rx_slots.specs.Slots.{Slots}
+use Rattle.rx_tree.specs.Closing.{Closed}
 use Rattle.rx_tree.specs.declared.node.ResKey.{ResKey}
 use Rattle.rx_tree.specs.declared.node.Stowed.{Stowed}
 use Rattle.rx_tree.specs.Tree.{Tree}
@@ -39,15 +40,28 @@ module _ {X : Type 0} where
   abbrev pub kept_in : Slots X → List (Kept X)
   kept_in slots = kept_from 0 slots.entries
 
--- a register, the tree, the hubs and the leases beside it, and for how many more nodes a closing has room
+-- the keys that closed nodes had
+abbrev pub closed_key : Closed → SlotKey
+closed_key c = c.key
+
+abbrev pub closed_keys : List Closed → List SlotKey
+closed_keys closed = map closed_key closed
+
+-- a register, the tree, the hubs and the leases beside it, the keys of the nodes that were closed since it was last begun, and for how
+-- many nodes beside those of the tree that list has room
 pub record Ground (T : Type 0) : Type 0 where
   pub register : Register
   pub tree : Tree T
   pub hubs : Hubs
   pub leases : Slots ResKey
+  pub closed : List SlotKey
   pub space : ℕ
 
 module _ {T : Type 0} where
+  -- for how many more nodes the list has room, beside those of the tree and those that it lists
+  abbrev pub list_room : Ground T → ℕ
+  list_room b = b.space - length b.closed
+
   -- the resources that a tree holds
   abbrev pub held_in : Tree T → List (Kept (Stowed T))
   held_in tree = filter (λ k. is_held tree.nodes k.value) (kept_in tree.resources)

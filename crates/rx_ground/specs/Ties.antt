@@ -1,8 +1,8 @@
 -- How a tree and hubs are tied to the history beside them, and what each write asks for and changes.
-use Rattle.std.specs.Prelude.{◌≡◌, ℕ, ◌+◌, ◌<◌, ◌≤◌, cond, map, length, Bool, true, false, ◌&&◌, Option, Some, None, is_some, IsSome, IfSome, List, []}
+use Rattle.std.specs.Prelude.{◌≡◌, ℕ, ◌+◌, ◌<◌, ◌≤◌, cond, map, length, Bool, true, false, ◌&&◌, Option, Some, None, is_some, IsSome, IfSome, IsTrue, List, [], ◌++◌, ◌≢◌}
 use Rattle.std.specs.Prelude.{slice_get}
 use Rattle.std.proofs.Math.Bool.{not}
-use Rattle.std.specs.List.{AllByRecursion, list_any, Contains}
+use Rattle.std.specs.List.{AllByRecursion, AllPairs, list_any, Contains}
 use Rattle.std.specs.Option.{option_map_or}
 use Rattle.rx_resource.specs.declared.Resource.{Ghosts}
 use Rattle.rx_resource.specs.declared.Life.TheVariants.{Live}
@@ -144,6 +144,7 @@ module _ {T : Type 0} where
     pub chain : new.tree.chain ≡ old.tree.chain
     pub hubs : new.hubs ≡ record old.hubs { room = new.hubs.room; slots = new.hubs.slots }
     pub leases : new.leases ≡ record old.leases { room = new.leases.room }
+    pub closed : new.closed ≡ old.closed
 
   -- other room is set aside for events, no less than closing everything needs, and nothing else changed
   pub record SetsAside (old new : Ground T) : Type 0 where
@@ -195,6 +196,14 @@ module _ {T : Type 0} where
     pub nodes : Rewrites old.nodes new.nodes key (λ node. with_marks (change node.marks) node)
     pub chain : new.chain ≡ with_due new.nodes key old.chain
     pub resources : new.resources ≡ old.resources
+
+-- the list goes on with the keys of the node of this number and of all below it, each once
+pub record Moves (nodes : Slots Node) (top : ℕ) (list longer : List Key) : Type 0 where
+  pub moved : List Key
+  pub listed : longer ≡ list ++ moved
+  pub each : (key : Key) → Contains moved key → IsSome (find nodes key) × IsTrue (is_below nodes top key.number)
+  pub every : (key : Key) → IsSome (find nodes key) → IsTrue (is_below nodes top key.number) → Contains moved key
+  pub once : AllPairs (λ a b. a ≢ b) moved
 
 -- of its leases, those out now that are older than this were out
 pub record KeepsLeases (old new : Slots ResKey) (number : ℕ) : Type 0 where

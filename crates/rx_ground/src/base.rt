@@ -1,11 +1,12 @@
 //! What a book stands on: the register of what happened, the tree of what is open, held and waiting, the
 //! hubs that were made, and the leases that are out.
 
-ghost use Rattle.std.specs.Prelude.{◌≡◌, ◌+◌, ◌-◌, ◌<◌, ◌≤◌, [], length, vec_capacity, option_map, IfSome, IsSome, OnOk};
+ghost use Rattle.std.specs.Prelude.{◌≡◌, ◌+◌, ◌-◌, ◌<◌, ◌≤◌, [], length, slice_get, vec_capacity, option_map, IfSome, IsSome, OnOk};
 ghost use Rattle.rx_register.specs.State.{IsPromised as IsRegisterPromised};
 ghost use Rattle.rx_tree.specs.Tree.{AreApart, IsPromised as IsTreePromised, parent_number};
 ghost use Rattle.rx_hub.specs.Hubs.{IsPromised as IsHubsPromised};
 ghost use Rattle.rx_slots.specs.Slots.{find};
+ghost use Rattle.rx_ground.specs.Shown.{closed_key};
 ghost use Rattle.rx_ground.specs.Ties.{IsRoomier, HasRoom, record_of};
 
 use rx_event::{Event, Marks};
@@ -25,21 +26,22 @@ pub struct Ground<R: Resource> {
     pub(crate) tree: Tree<R>,
     pub(crate) hubs: Hubs,
     pub(crate) leases: Leases,
-    // What a closing moves out, which then is done with.
+    // What was moved out since the list was last begun, in that order. It has room for all that the tree has
+    // beside, so that a closing takes no memory.
     pub(crate) closed: Vec<Closed>,
     // Where an item stands on its way. It has room for all hubs, so that an item takes no memory.
     pub(crate) route: Route,
 }
 
 impl<R: Resource> Model for Ground<R> {
-    ghost use Rattle.std.specs.Prelude.{◌≡◌, ◌+◌, ◌-◌, ◌≤◌, [], length, vec_capacity};
-    ghost use Rattle.rx_ground.specs.Shown.{Ground as Shown};
+    ghost use Rattle.std.specs.Prelude.{◌+◌, ◌-◌, ◌≤◌, length, vec_len, vec_capacity};
+    ghost use Rattle.rx_ground.specs.Shown.{Ground as Shown, closed_keys};
 
     ghost Value = { Shown R };
 
-    ghost view = { λ b. record { register = b.register; tree = b.tree; hubs = b.hubs; leases = b.leases; space = vec_capacity b.closed - b.tree.nodes.count } };
+    ghost view = { λ b. record { register = b.register; tree = b.tree; hubs = b.hubs; leases = b.leases; closed = closed_keys b.closed.items; space = vec_capacity b.closed - b.tree.nodes.count } };
 
-    ghost invariant = { λ b. (b.closed.items ≡ []) × (b.tree.nodes.count ≤ vec_capacity b.closed) ×
+    ghost invariant = { λ b. (vec_len b.closed + b.tree.nodes.count ≤ vec_capacity b.closed) ×
         (length b.hubs.hubs + b.hubs.room ≤ b.route.room) };
 }
 
@@ -83,6 +85,14 @@ pub(crate) fn parent<R: Resource>(tree: &Tree<R>, key: Key) -> Option<Key>
     }
 }
 
+// The key that a closed node had.
+#[inline(always)]
+fn key_of(closed: Closed) -> Key
+    ensures { result ≡ closed_key closed }
+{
+    closed.key()
+}
+
 // Twice the room that there was, no less than is wanted, and 4 at least.
 fn grown(room: usize, wanted: usize) -> usize
     ensures { wanted ≤ result }
@@ -92,20 +102,17 @@ fn grown(room: usize, wanted: usize) -> usize
     if twice < least { least } else { twice }
 }
 
-// Room for closing so many. Nothing is on the list, so it is made anew and nothing is copied.
+// Room for a list of so many, on which what it has stays.
 #[cold]
 #[inline(never)]
 fn grow_closed(closed: &mut Vec<Closed>, space: usize) -> Result<(), AllocError>
-    requires empty { closed.old.items ≡ [] }
     requires less { vec_capacity closed.old < space }
     ensures ok { OnOk result (space ≤ vec_capacity closed.new) }
-    ensures closed { closed.new.items ≡ [] }
+    ensures closed { closed.new.items ≡ closed.old.items }
     ensures capacity { vec_capacity closed.old ≤ vec_capacity closed.new }
 {
-    let alloc = *closed.allocator();
-    let fresh = Vec::with_capacity(alloc, grown(closed.capacity(), space))?;
-    *closed = fresh;
-    Ok(())
+    let additional = grown(closed.capacity(), space) - closed.len();
+    closed.reserve(additional)
 }
 
 // Room for so many nodes more, and for closing all there are then. Where none is wanted, none is asked for.
@@ -115,12 +122,11 @@ fn reserve_nodes<R: Resource>(
     closed: &mut Vec<Closed>,
     additional: usize,
 ) -> Result<(), AllocError>
-    requires empty { closed.old.items ≡ [] }
     ensures ok { OnOk result (additional ≤ tree.new.nodes.room) }
     ensures kept { tree.new ≡ record tree.old { nodes = record tree.old.nodes { room = tree.new.nodes.room } } }
     ensures room { tree.old.nodes.room ≤ tree.new.nodes.room }
     ensures space { OnOk result (additional ≤ vec_capacity closed.new - tree.new.nodes.count) }
-    ensures closed { closed.new.items ≡ [] }
+    ensures closed { closed.new.items ≡ closed.old.items }
     ensures capacity { vec_capacity closed.old ≤ vec_capacity closed.new }
 {
     if additional == 0 {
@@ -226,6 +232,32 @@ impl<R: Resource> Ground<R> {
         reserve_leases(&mut self.leases, wanted.leases)?;
         reserve_slots(&mut self.hubs, self.tree.slots())?;
         reserve_hubs(&mut self.hubs, &mut self.route, wanted.hubs)
+    }
+
+    /// Begins the list of what is closed anew. A caller does so before it writes an event from outside, so that
+    /// the list then has what that event closed, and what it forced.
+    #[inline(always)]
+    pub fn begin(&mut self)
+        ensures { self.new ≡ record self.old { closed = [] } }
+    {
+        self.closed.clear();
+    }
+
+    /// How many nodes were closed since the list was last begun.
+    #[inline(always)]
+    pub fn closed_count(&self) -> usize
+        ensures { result ≡ length self.now.closed }
+    {
+        self.closed.len()
+    }
+
+    /// The key of one of them, by its place in the order in which they were closed, from 0; None beyond the last.
+    #[inline(always)]
+    pub fn nth_closed(&self, n: usize) -> Option<Key>
+        ensures { result ≡ slice_get self.now.closed n }
+    {
+        let closed = self.closed.get(n)?;
+        Some(key_of(*closed))
     }
 
     /// How many events there are, which is the place of the next one.

@@ -37,6 +37,7 @@ impl<R: Resource> Ground<R> {
         ensures resources { result.tree.resources.entries ≡ [] }
         ensures hubs { result.hubs.hubs ≡ [] }
         ensures leases { result.leases.entries ≡ [] }
+        ensures closed { result.closed ≡ [] }
         ensures no_room { HasNoRoom result }
     {
         Ground {

@@ -17,6 +17,7 @@ ghost use Rattle.rx_event.specs.Causes.{forces_connect};
 ghost use Rattle.rx_register.specs.State.{Writes};
 ghost use Rattle.rx_ground.specs.FirstCause.{first_by_key};
 ghost use Rattle.rx_ground.specs.Memory.{TakesNoMemory};
+ghost use Rattle.rx_ground.specs.Shown.{list_room};
 ghost use Rattle.rx_ground.specs.Ties.{AreTied, AreLeased, IsReady, IsStanding, IsNewNode, KeepsOlder};
 ghost use Rattle.rx_ground.specs.Told.{IsHubTold, is_connected_manual};
 
@@ -179,6 +180,7 @@ impl<R: Resource> Ground<R> {
         ensures hubs { self.new.hubs.hubs ≡ self.old.hubs.hubs ++ new_hub result mode ∷ [] }
         ensures tree { self.new.tree ≡ self.old.tree }
         ensures leases { self.new.leases ≡ self.old.leases }
+        ensures closed { self.new.closed ≡ self.old.closed }
         ensures memory { TakesNoMemory self.old self.new }
     {
         self.register.promise();
@@ -196,7 +198,7 @@ impl<R: Resource> Ground<R> {
         requires leased { AreLeased self.old.register.history self.old.tree.resources self.old.leases }
         requires ready { IsReady self.old.register (Event.Connect hub) }
         requires room { 0 < self.old.tree.nodes.room }
-        requires space { 0 < self.old.space }
+        requires space { 0 < list_room self.old }
         ensures written { Writes self.old.register (Event.Connect hub ∷ []) self.new.register }
         ensures tied { AreTied self.new.register.base R.Resource self.new.register.history self.new.tree self.new.hubs }
         ensures leased { AreLeased self.new.register.history self.new.tree.resources self.new.leases }
@@ -208,6 +210,7 @@ impl<R: Resource> Ground<R> {
           hubs = hubs_after self.old.register.history (Event.Connect hub) result.slot self.old.hubs.hubs;
         } }
         ensures leases { self.new.leases ≡ self.old.leases }
+        ensures closed { self.new.closed ≡ self.old.closed }
         ensures memory { TakesNoMemory self.old self.new }
     {
         self.register.promise();

@@ -34,6 +34,7 @@ impl<R: Resource> Ground<R> {
         ensures kept { KeepsHeld self.old.tree self.new.tree (length self.old.register.history) }
         ensures hubs { self.new.hubs ≡ self.old.hubs }
         ensures leases { KeepsLeases self.old.leases self.new.leases (length self.old.register.history) }
+        ensures closed { self.new.closed ≡ self.old.closed }
         ensures memory { TakesNoMemory self.old self.new }
     {
         self.register.promise();
@@ -61,6 +62,7 @@ impl<R: Resource> Ground<R> {
         ensures kept { KeepsHeld self.old.tree self.new.tree (length self.old.register.history) }
         ensures hubs { self.new.hubs ≡ self.old.hubs }
         ensures leases { KeepsLeases self.old.leases self.new.leases (length self.old.register.history) }
+        ensures closed { self.new.closed ≡ self.old.closed }
         ensures memory { TakesNoMemory self.old self.new }
     {
         self.register.promise();

@@ -8,9 +8,12 @@
 //!
 //! # Vocabulary
 //!
-//! - A contract sees a [`Ground`] as its register, its tree, its hubs, and for how many more nodes a closing
-//!   has room (`specs/Shown`). `TakesNoMemory` says that each room fell by just what came, and rose by just
-//!   what went (`specs/Memory`). The rest is in `specs/Ties`.
+//! - A contract sees a [`Ground`] as its register, its tree, its hubs, its leases, the keys of the nodes that
+//!   were closed since its list of them was last begun, and for how many more nodes a closing has room
+//!   (`specs/Shown`). `TakesNoMemory` says that each room fell by just what came, and rose by just what went
+//!   (`specs/Memory`). The rest is in `specs/Ties`.
+//! - A node `has_gone` where it was made and is open no more. A list `Gathers` what goes from one history to a
+//!   later one: it goes on with the keys of just those nodes, each once (`specs/Gone`).
 //! - `IsTied` says that the tree is that of the history: a record, with the marks that the history gives,
 //!   for just the nodes that are open, and each resource that was accepted and not taken, live and with
 //!   its uses. `AreTied` says beside this that the hubs are those of the history, and that each key they
@@ -36,6 +39,8 @@
 //!   rules), and after it nothing is due.
 //! - Closing a node closes all below it; the resources that were held there then wait, and
 //!   [`Ground::write_take`] hands each of them out as an `rx_resource::Handed`, which can only be released.
+//! - Each write that closes nodes puts their keys on the list, in the order in which they leave the tree, and no
+//!   other write changes it. [`Ground::begin`] begins it anew.
 //! - What is closed leaves the hubs in the same step (`left_inside`): a subscriber is one no more, and of a
 //!   connection that ended by itself its hub keeps how (Publish, RefCount).
 //! - Not promised: that a call may be accepted. A caller shows `IsReady` of each event that it writes.

@@ -9,12 +9,14 @@ ghost use Rattle.rx_slots.specs.Slots.{find};
 ghost use Rattle.rx_tree.specs.Owed.{owed_in};
 ghost use Rattle.rx_tree.specs.Tree.{IsPlaced, is_on};
 ghost use Rattle.rx_register.specs.State.{Writes};
-ghost use Rattle.rx_ground.specs.Inners.{IsInner, HasNoInner, IsReplaced, ReplacesNone, MakesWay, ClearsHubs};
+ghost use Rattle.rx_ground.specs.Gone.{Gathers};
+ghost use Rattle.rx_ground.specs.Inners.{IsInner, HasNoInner, IsReplaced, ReplacesNone, MakesWay, ClearsHubs, ListsWay};
 ghost use Rattle.rx_ground.specs.Ties.{AreTied, AreLeased, IsReady, IsNewNode, IsUndue, Remarks, opened_marks};
 ghost use Rattle.rx_event.specs.declared.event.Kind.{Kind};
 ghost use Rattle.rx_hub.specs.After.{hubs_after, with_made};
 ghost use Rattle.rx_hub.specs.Hubs.{find_hub, AreBelow, IsFree};
 ghost use Rattle.rx_ground.specs.Memory.{TakesNoMemory};
+ghost use Rattle.rx_ground.specs.Shown.{list_room};
 
 use crate::base::Ground;
 use rx_event::{Event, Kind, Place};
@@ -131,6 +133,10 @@ impl<R: Resource> Ground<R> {
         ensures hubs { ClearsHubs self.old.register.history place self.old.tree self.new.tree
             self.old.hubs self.new.hubs result }
         ensures leases { self.new.leases ≡ self.old.leases }
+        ensures closed { ListsWay self.old.register.history place self.old.tree self.new.tree
+            self.old.closed self.new.closed result }
+        ensures listed { length self.new.closed + self.new.tree.nodes.count ≡
+            length self.old.closed + self.old.tree.nodes.count }
         ensures memory { TakesNoMemory self.old self.new }
     {
         let Place::Inner(_) = place else {
@@ -153,6 +159,10 @@ impl<R: Resource> Ground<R> {
         ensures hubs { ClearsHubs self.old.register.history place self.old.tree self.new.tree
             self.old.hubs self.new.hubs result }
         ensures leases { self.new.leases ≡ self.old.leases }
+        ensures closed { ListsWay self.old.register.history place self.old.tree self.new.tree
+            self.old.closed self.new.closed result }
+        ensures listed { length self.new.closed + self.new.tree.nodes.count ≡
+            length self.old.closed + self.old.tree.nodes.count }
         ensures memory { TakesNoMemory self.old self.new }
     {
         let Some(inner) = self.replaced(place, above) else {
@@ -173,7 +183,7 @@ impl<R: Resource> Ground<R> {
         requires ready { IsReady self.old.register (Event.Open place kind) }
         requires placed { IsPlaced self.old.tree.nodes (length self.old.register.history) (Event.Open place kind) above }
         requires room { 0 < self.old.tree.nodes.room }
-        requires space { 0 < self.old.space }
+        requires space { 0 < list_room self.old }
         requires slots { 0 < length self.old.hubs.hubs →
             self.old.tree.nodes.count + self.old.tree.nodes.room ≤ self.old.hubs.slots }
         ensures written { Writes self.old.register (Event.Open place kind ∷ []) self.new.register }
@@ -186,6 +196,10 @@ impl<R: Resource> Ground<R> {
           hubs = hubs_after self.old.register.history (Event.Open place kind) result.slot self.old.hubs.hubs;
         } }
         ensures leases { self.new.leases ≡ self.old.leases }
+        ensures closed { Gathers self.old.register.history self.old.closed self.new.register.history
+            self.new.closed }
+        ensures listed { length self.new.closed + self.new.tree.nodes.count ≡
+            length self.old.closed + self.old.tree.nodes.count + 1 }
         ensures memory { TakesNoMemory self.old self.new }
     {
         self.register.promise();

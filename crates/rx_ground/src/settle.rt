@@ -11,6 +11,8 @@ ghost use Rattle.rx_ground.specs.Ties.{AreTied, AreLeased, IsStanding, IsReady, 
 ghost use Rattle.rx_ground.specs.Ties.{HasRoomToConnect, is_there, key_due};
 ghost use Rattle.rx_ground.specs.Memory.{TakesNoMemory};
 ghost use Rattle.rx_ground.specs.Settling.{Settles};
+ghost use Rattle.rx_ground.specs.Gone.{Gathers};
+ghost use Rattle.rx_ground.specs.Shown.{list_room};
 
 use crate::base::Ground;
 use rx_flow::{Due, next_due};
@@ -76,7 +78,7 @@ impl<R: Resource> Ground<R> {
         requires leased { AreLeased self.old.register.history self.old.tree.resources self.old.leases }
         requires ready { IsReady self.old.register (event_of due) }
         requires there { is_there self.old.tree.nodes (key_due due) ≡ true }
-        requires room { (g : _) → due ≡ HubDue.Connect g → (0 < self.old.tree.nodes.room) × (0 < self.old.space) }
+        requires room { (g : _) → due ≡ HubDue.Connect g → (0 < self.old.tree.nodes.room) × (0 < list_room self.old) }
         ensures written { Writes self.old.register (event_of due ∷ []) self.new.register }
         ensures tied { AreTied self.new.register.base R.Resource self.new.register.history self.new.tree self.new.hubs }
         ensures leased { AreLeased self.new.register.history self.new.tree.resources self.new.leases }
@@ -85,6 +87,8 @@ impl<R: Resource> Ground<R> {
         ensures resources { self.new.tree.resources ≡ self.old.tree.resources }
         ensures hubs { length self.new.hubs.hubs ≡ length self.old.hubs.hubs }
         ensures leases { self.new.leases ≡ self.old.leases }
+        ensures closed { Gathers self.old.register.history self.old.closed self.new.register.history
+            self.new.closed }
         ensures memory { TakesNoMemory self.old self.new }
     {
         match due {
@@ -104,7 +108,7 @@ impl<R: Resource> Ground<R> {
             self.old.hubs }
         requires leased { AreLeased self.old.register.history self.old.tree.resources self.old.leases }
         requires paid { IsPaid self.old.register }
-        requires room { HasRoomToConnect self.old.register.history self.old.tree.nodes.room self.old.space }
+        requires room { HasRoomToConnect self.old.register.history self.old.tree.nodes.room (list_room self.old) }
         ensures standing { IsStanding R.Resource self.new }
         ensures base { self.new.register.base ≡ self.old.register.base }
         ensures forced { IsForcedOn self.old.register.base self.old.register.history self.new.register.history }
@@ -115,6 +119,8 @@ impl<R: Resource> Ground<R> {
         ensures given { self.new.register.given ≡ self.old.register.given }
         ensures hubs { length self.new.hubs.hubs ≡ length self.old.hubs.hubs }
         ensures leases { self.new.leases ≡ self.old.leases }
+        ensures closed { Gathers self.old.register.history self.old.closed self.new.register.history
+            self.new.closed }
         ensures memory { TakesNoMemory self.old self.new }
     {
         if self.is_calm() {
@@ -131,7 +137,7 @@ impl<R: Resource> Ground<R> {
             self.old.hubs }
         requires leased { AreLeased self.old.register.history self.old.tree.resources self.old.leases }
         requires paid { IsPaid self.old.register }
-        requires room { HasRoomToConnect self.old.register.history self.old.tree.nodes.room self.old.space }
+        requires room { HasRoomToConnect self.old.register.history self.old.tree.nodes.room (list_room self.old) }
         ensures { Settles R.Resource self.old self.new }
     {
         while let Some(due) = self.next_forced() {

@@ -15,7 +15,9 @@ ghost use Rattle.rx_tree.specs.Owed.{owed_in};
 ghost use Rattle.rx_tree.specs.Resources.{is_held_at, is_owned_at};
 ghost use Rattle.rx_register.specs.State.{Writes};
 ghost use Rattle.rx_ground.specs.Reached.{MakesOnly};
-ghost use Rattle.rx_ground.specs.Ties.{AreTied, AreLeased, IsReady, KeepsNodes, KeepsHeld, IsListed, Remarks, Cuts, left_inside};
+ghost use Rattle.rx_ground.specs.Gone.{Gathers};
+ghost use Rattle.rx_ground.specs.Ties.{AreTied, AreLeased, IsReady, KeepsNodes, KeepsHeld, IsListed, Remarks, Cuts, Moves};
+ghost use Rattle.rx_ground.specs.Ties.{left_inside};
 ghost use Rattle.rx_hub.specs.After.{end_by};
 ghost use Rattle.rx_ground.specs.Memory.{TakesNoMemory};
 
@@ -91,6 +93,7 @@ impl<R: Resource> Ground<R> {
         ensures kept { KeepsHeld self.old.tree self.new.tree (length self.old.register.history) }
         ensures hubs { self.new.hubs ≡ self.old.hubs }
         ensures leases { self.new.leases ≡ self.old.leases }
+        ensures closed { self.new.closed ≡ self.old.closed }
         ensures memory { TakesNoMemory self.old self.new }
     {
         self.register.promise();
@@ -119,6 +122,7 @@ impl<R: Resource> Ground<R> {
         ensures kept { KeepsHeld self.old.tree self.new.tree (length self.old.register.history) }
         ensures hubs { self.new.hubs ≡ self.old.hubs }
         ensures leases { self.new.leases ≡ self.old.leases }
+        ensures closed { self.new.closed ≡ self.old.closed }
         ensures memory { TakesNoMemory self.old self.new }
     {
         self.register.promise();
@@ -143,6 +147,7 @@ impl<R: Resource> Ground<R> {
         ensures kept { KeepsHeld self.old.tree self.new.tree (length self.old.register.history) }
         ensures hubs { self.new.hubs ≡ self.old.hubs }
         ensures leases { self.new.leases ≡ self.old.leases }
+        ensures closed { self.new.closed ≡ self.old.closed }
         ensures memory { TakesNoMemory self.old self.new }
     {
         self.register.promise();
@@ -166,6 +171,7 @@ impl<R: Resource> Ground<R> {
         ensures resources { self.new.tree.resources ≡ self.old.tree.resources }
         ensures hubs { self.new.hubs ≡ self.old.hubs }
         ensures leases { self.new.leases ≡ self.old.leases }
+        ensures closed { self.new.closed ≡ self.old.closed }
         ensures memory { TakesNoMemory self.old self.new }
     {
         self.register.promise();
@@ -192,6 +198,7 @@ impl<R: Resource> Ground<R> {
         ensures resources { self.new.tree.resources ≡ self.old.tree.resources }
         ensures hubs { self.new.hubs ≡ self.old.hubs }
         ensures leases { self.new.leases ≡ self.old.leases }
+        ensures closed { self.new.closed ≡ self.old.closed }
         ensures memory { TakesNoMemory self.old self.new }
     {
         self.register.promise();
@@ -208,8 +215,8 @@ impl<R: Resource> Ground<R> {
         self.register.write(Event::Item(leaf.number, value));
     }
 
-    /// Moves out a node and all below it, which gives their room back, and lets them leave the hubs. A
-    /// connection among them ended so if it ended by itself.
+    /// Moves out a node and all below it onto the list, which gives their room back, and lets them leave the
+    /// hubs. A connection among them ended so if it ended by itself.
     #[inline]
     pub(crate) fn cut(&mut self, node: Key, ended: Option<LastEnd>)
         requires tied { AreTied self.old.register.base R.Resource self.old.register.history self.old.tree
@@ -221,13 +228,17 @@ impl<R: Resource> Ground<R> {
         ensures room { self.old.tree.nodes.room ≤ self.new.tree.nodes.room }
         ensures hubs { self.new.hubs ≡ left_inside self.old.register.history node.number ended self.old.hubs }
         ensures leases { self.new.leases ≡ self.old.leases }
+        ensures closed { Moves self.old.tree.nodes node.number self.old.closed self.new.closed }
+        ensures listed { length self.new.closed + self.new.tree.nodes.count ≡
+            length self.old.closed + self.old.tree.nodes.count }
         ensures memory { TakesNoMemory self.old self.new }
     {
         self.register.promise();
         self.tree.promise();
+        let from = self.closed.len();
         self.tree.close_below(node, &mut self.closed);
-        self.hubs.leave_closed(&self.closed, ended);
-        self.closed.clear();
+        self.hubs
+            .leave_closed(&self.closed.as_slice()[from..], ended);
     }
 
     /// Ends an open node, and closes all below it. Of a connection its hub keeps how it ended.
@@ -245,6 +256,8 @@ impl<R: Resource> Ground<R> {
         ensures hubs { self.new.hubs ≡ left_inside self.old.register.history node.number
             (end_by (length self.old.register.history) (Event.End node.number terminal)) self.old.hubs }
         ensures leases { self.new.leases ≡ self.old.leases }
+        ensures closed { Gathers self.old.register.history self.old.closed self.new.register.history
+            self.new.closed }
         ensures memory { TakesNoMemory self.old self.new }
     {
         self.register.promise();
@@ -286,6 +299,8 @@ impl<R: Resource> Ground<R> {
         ensures resources { self.new.tree.resources ≡ self.old.tree.resources }
         ensures hubs { self.new.hubs ≡ left_inside self.old.register.history node.number None self.old.hubs }
         ensures leases { self.new.leases ≡ self.old.leases }
+        ensures closed { Gathers self.old.register.history self.old.closed self.new.register.history
+            self.new.closed }
         ensures memory { TakesNoMemory self.old self.new }
     {
         self.register.promise();
@@ -311,6 +326,7 @@ impl<R: Resource> Ground<R> {
         ensures waited { MatchOption result (waiting_in self.old.tree ≡ []) (IsListed R.Resource self.old.tree) }
         ensures hubs { self.new.hubs ≡ self.old.hubs }
         ensures leases { self.new.leases ≡ self.old.leases }
+        ensures closed { self.new.closed ≡ self.old.closed }
         ensures memory { TakesNoMemory self.old self.new }
     {
         self.register.promise();

@@ -49,7 +49,7 @@ book_of (Some k) = Some k.book
 -- a new book: nothing happened in it
 abbrev pub new_book : (max_events : ℕ) → State
 new_book max_events =
-    record { base = nothing_kept; history = []; limit = max_events; keys = []; res_keys = []; lease_keys = []; held = []; waiting = []; given = 0 }
+    record { base = nothing_kept; history = []; limit = max_events; keys = []; res_keys = []; lease_keys = []; held = []; waiting = []; given = 0; closed = [] }
 
 pub data IsMade (max_events : ℕ) (old new : Option State) (status : ℕ) : Type 0 where
   makes : old ≡ None → new ≡ Some (new_book max_events) → IsPromised (new_book max_events) → status ≡ 0 → IsMade max_events old new status

@@ -12,9 +12,10 @@ use Rattle.rx_ground.specs.Ties.{IsStanding, IsRoomier}
 use Rattle.rx_ground.proofs.Laws.OneStop.{MakesOnly-roomier}
 use Rattle.rx_book.specs.Requests.{stands, next_request}
 use Rattle.rx_book.specs.Shown.{state_of, tree_key_of}
-use Rattle.rx_book.proofs.AnswersOkOrErr.{refused_with}
-use Rattle.rx_book.proofs.Admitted.{within_limit, admitted_as, roomier_after, item_cost}
+use Rattle.rx_book.proofs.AnswersOkOrErr.{refused_with, on_refusal}
+use Rattle.rx_book.proofs.Admitted.{within_limit, admitted_as, roomier_after, state_begun, item_cost}
 use Rattle.rx_book.proofs.CallWithoutCause.{state_roomier}
+use Rattle.rx_book.proofs.ListOfClosed.{standing_begun}
 use Rattle.rx_book.proofs.CausesByKey.{first_by_key}
 use Rattle.rx_book.proofs.admit.admit_item.Given.{Over}
 use Rattle.rx_book.proofs.admit.admit_item.Goals as goal
@@ -29,7 +30,7 @@ returns-in_err-way-clause-err g c =
     refused_with _ c.from_residual.result why c.from_residual.ensures.1 (inl (first_by_key b.tree stand (Some why) c.args.leaf by_tree))
 
 pub returns-in_err-way-clause-same : goal.returns-in_err-way-clause-same
-returns-in_err-way-clause-same g c = ap (state_of g.R.Resource) c.in_err-way.ensures.kept
+returns-in_err-way-clause-same g c = on_refusal c.from_residual.result (ap (state_of g.R.Resource) c.in_err-way.ensures.kept)
 
 pub returns-in_err-way-clause-standing : goal.returns-in_err-way-clause-standing
 returns-in_err-way-clause-standing g c = subst (IsStanding g.R.Resource) (sym c.in_err-way.ensures.kept) c.requires.standing
@@ -78,26 +79,30 @@ returns-in_err-make_room-clause-err g c =
 pub returns-in_err-make_room-clause-same : goal.returns-in_err-make_room-clause-same
 returns-in_err-make_room-clause-same g c =
     let kept = roomier_after c.args.ground.now c.route.new.self c.make_room.new.self c.in_ok-way.ensures.kept c.in_err-make_room.ensures.kept in
-    state_roomier g.R.Resource c.args.ground.now c.make_room.new.self kept
+    on_refusal c.from_residual-in_err-make_room.result (state_roomier g.R.Resource c.args.ground.now c.make_room.new.self kept)
 
 -- room is all that changed
 roomier : (g : Over) (c : After-promise g) → IsRoomier c.args.ground.now c.make_room.new.self
 roomier g c = roomier_after c.args.ground.now c.route.new.self c.make_room.new.self c.in_ok-way.ensures.kept c.in_ok-make_room.ensures.kept
 
-pub returns-clause-same : goal.returns-clause-same
-returns-clause-same g c =
-    state_roomier g.R.Resource c.args.ground.now c.make_room.new.self (roomier g (goal.at.returns-clause-same g c).After-promise)
+pub returns-clause-begun : goal.returns-clause-begun
+returns-clause-begun g c =
+    state_begun g.R.Resource c.args.ground.now c.make_room.new.self (roomier g (goal.at.returns-clause-begun g c).After-promise) c.begin.ensures
+
+pub returns-clause-standing : goal.returns-clause-standing
+returns-clause-standing g c = subst (IsStanding g.R.Resource) (sym c.begin.ensures) (standing_begun c.in_ok-make_room.ensures.standing)
 
 pub returns-clause-only : goal.returns-clause-only
 returns-clause-only g c =
     let b = c.args.ground.now in
     let before : MakesOnly b.tree.nodes b.hubs.hubs (tree_key_of c.args.leaf) c.in_ok-way.way.only = rw c.tree_key.ensures at c.in_ok-way.ensures.only in
-    MakesOnly-roomier b c.make_room.new.self (tree_key_of c.args.leaf) c.in_ok-way.way.only
-    (roomier g (goal.at.returns-clause-only g c).After-promise) before
+    subst (λ (x : Ground g.row.R.Denot). MakesOnly x.tree.nodes x.hubs.hubs (tree_key_of c.args.leaf) c.in_ok-way.way.only) (sym c.begin.ensures)
+    (MakesOnly-roomier b c.make_room.new.self (tree_key_of c.args.leaf) c.in_ok-way.way.only
+    (roomier g (goal.at.returns-clause-only g c).After-promise) before)
 
 pub returns-clause-ok : goal.returns-clause-ok
 returns-clause-ok g c =
     let at = goal.at.returns-clause-ok g c in
     let m = c.in_ok-make_room.ensures in
-    admitted_as (λ s. next_request s c.args.leaf c.args.value) c.of_item.result tt (roomier g at.After-promise) m.standing c.promise.ensures.register
-    (none g at.After-of_item) (cost g at.After-of_item) m.ok
+    admitted_as (λ s. next_request s c.args.leaf c.args.value) c.of_item.result (λ s. refl) tt (roomier g at.After-promise) m.standing
+    c.promise.ensures.register (none g at.After-of_item) (cost g at.After-of_item) m.ok c.begin.ensures

@@ -1,12 +1,13 @@
 use Rattle.std.proofs.Common.{◌≡◌, true, List, [], ◌∷◌, map, refl, sym, ap, subst}
 use Rattle.std.proofs.lemmas.Bool.{not-false}
 use Rattle.rx_event.specs.declared.event.Event.{Event}
-use Rattle.rx_event.specs.declared.event.Event.TheVariants.{Close}
+use Rattle.rx_event.specs.declared.event.Event.TheVariants.{Close, Decline as Declined, Remove as Removed, Return as Returned}
 use Rattle.rx_event.specs.declared.refusal.Refusal.TheVariants.{Leased}
 use Rattle.rx_event.specs.Calls.{Removing, Disconnecting, outside_of}
 use Rattle.rx_event.specs.Causes.{causes}
 use Rattle.rx_register.specs.State.{Writes}
 use Rattle.rx_register.proofs.Laws.NoCause.{no_cause}
+use Rattle.rx_ground.proofs.Laws.GoneStaysGone.{gathers_quiet}
 use Rattle.rx_ground.proofs.Laws.KeysKept.{leases_stay}
 use Rattle.rx_book.proofs.CallWithoutCause.{one_ready, open_asked, owned_asked, out_asked, written_closed, written_held}
 use Rattle.rx_book.proofs.asked.write.Goals as goal
@@ -22,7 +23,7 @@ pub returns-in-End : goal.returns-in-End
 returns-in-End g c =
     let u = c.write_end.ensures in
     rw c.in-End.is (written_closed c.write_end.new.self _ (rw c.tree_key.ensures at u.written) u.tied u.leased u.kept
-    u.resources u.leases)
+    u.resources u.leases u.closed)
 
 pub write_end-requires-in-Abort-clause-ready : goal.write_end-requires-in-Abort-clause-ready
 write_end-requires-in-Abort-clause-ready g c κs within =
@@ -36,7 +37,7 @@ pub returns-in-Abort : goal.returns-in-Abort
 returns-in-Abort g c =
     let u = c.write_end-in-Abort.ensures in
     rw c.in-Abort.is (written_closed c.write_end-in-Abort.new.self _ (rw c.tree_key-in-Abort.ensures at u.written) u.tied
-    u.leased u.kept u.resources u.leases)
+    u.leased u.kept u.resources u.leases u.closed)
 
 pub write_decline-requires-clause-ready : goal.write_decline-requires-clause-ready
 write_decline-requires-clause-ready g c κs within =
@@ -49,8 +50,10 @@ write_decline-requires-clause-open g c κs within =
 pub returns-in-Decline : goal.returns-in-Decline
 returns-in-Decline g c =
     let u = c.write_decline.ensures in
-    rw c.in-Decline.is (written_closed c.write_decline.new.self _ (rw c.tree_key-in-Decline.ensures at u.written) u.tied
-    u.leased u.kept u.resources u.leases)
+    let w = rw c.tree_key-in-Decline.ensures at u.written in
+    let next = (one_ready g.R.Resource c.args.ground.now _ (rw c.in-Decline.is at c.requires.let_in) (Declined c.in-Decline.merging.number) refl).next in
+    rw c.in-Decline.is (written_closed c.write_decline.new.self _ w u.tied
+    u.leased u.kept u.resources u.leases (gathers_quiet (Declined c.in-Decline.merging.number) next refl w u.closed))
 
 pub write_end-requires-in-Fail-clause-ready : goal.write_end-requires-in-Fail-clause-ready
 write_end-requires-in-Fail-clause-ready g c κs within =
@@ -64,7 +67,7 @@ pub returns-in-Fail : goal.returns-in-Fail
 returns-in-Fail g c =
     let u = c.write_end-in-Fail.ensures in
     rw c.in-Fail.is (written_closed c.write_end-in-Fail.new.self _ (rw c.tree_key-in-Fail.ensures at u.written) u.tied u.leased
-    u.kept u.resources u.leases)
+    u.kept u.resources u.leases u.closed)
 
 pub write_close-requires-clause-ready : goal.write_close-requires-clause-ready
 write_close-requires-clause-ready g c κs within =
@@ -78,7 +81,7 @@ pub returns-in-Dispose : goal.returns-in-Dispose
 returns-in-Dispose g c =
     let u = c.write_close.ensures in
     rw c.in-Dispose.is (written_closed c.write_close.new.self _ (rw c.tree_key-in-Dispose.ensures at u.written) u.tied u.leased
-    u.kept u.resources u.leases)
+    u.kept u.resources u.leases u.closed)
 
 -- the hub's open connection is closed, and nothing else
 pub write_close-requires-in-Some-clause-ready : goal.write_close-requires-in-Some-clause-ready
@@ -93,7 +96,7 @@ returns-in-Some g c =
     ap (map (λ n. Close n)) (sym c.in-Some.ensures.number) in
     let mid = c.write_close-in-Some.new.self in
     let w = subst (λ (es : List Event). Writes b.register es mid.register) (sym closes) u.written in
-    rw c.in-Disconnect.is (written_closed mid _ w u.tied u.leased u.kept u.resources u.leases)
+    rw c.in-Disconnect.is (written_closed mid _ w u.tied u.leased u.kept u.resources u.leases u.closed)
 
 pub write_remove-requires-clause-ready : goal.write_remove-requires-clause-ready
 write_remove-requires-clause-ready g c κs within =
@@ -109,9 +112,11 @@ write_remove-requires-clause-owned g c κs within =
 pub returns-in-Remove : goal.returns-in-Remove
 returns-in-Remove g c =
     let u = c.write_remove.ensures in
+    let w = rw c.tree_res_key.ensures at u.written in
+    let next = (one_ready g.R.Resource c.args.ground.now _ (rw c.in-Remove.is at c.requires.let_in) (Removed c.in-Remove.res.number) refl).next in
     rw c.in-Remove.is
-    (written_held c.write_remove.new.self _ (rw c.tree_res_key.ensures at u.written) u.tied u.leased u.nodes u.kept
-    (leases_stay _ _ _ u.leases))
+    (written_held c.write_remove.new.self _ w u.tied u.leased u.nodes u.kept
+    (leases_stay _ _ _ u.leases) (gathers_quiet (Removed c.in-Remove.res.number) next refl w u.closed))
 
 pub write_return-requires-clause-ready : goal.write_return-requires-clause-ready
 write_return-requires-clause-ready g c κs within =
@@ -124,5 +129,7 @@ write_return-requires-clause-out g c κs within =
 pub returns-in-GiveBack : goal.returns-in-GiveBack
 returns-in-GiveBack g c =
     let u = c.write_return.ensures in
-    rw c.in-GiveBack.is (written_held c.write_return.new.self _ (rw c.ground_lease_key.ensures at u.written) u.tied u.leased
-    u.nodes u.kept u.leases)
+    let w = rw c.ground_lease_key.ensures at u.written in
+    let next = (one_ready g.R.Resource c.args.ground.now _ (rw c.in-GiveBack.is at c.requires.let_in) (Returned c.in-GiveBack.lease.number) refl).next in
+    rw c.in-GiveBack.is (written_held c.write_return.new.self _ w u.tied u.leased
+    u.nodes u.kept u.leases (gathers_quiet (Returned c.in-GiveBack.lease.number) next refl w u.closed))

@@ -1,5 +1,5 @@
 use Rattle.rx_book.proofs.CallWithoutCause.{pays, settles_to}
-use Rattle.rx_book.proofs.Openings.{opening_room}
+use Rattle.rx_book.proofs.Openings.{opening_room, opening_space}
 use Rattle.rx_book.proofs.OpeningWritten.{opening_ready, opening_placed, opening_accepted, opened_key, opened_connection, opening_spares}
 use Rattle.rx_book.proofs.opening.write_opening.Goals as goal
 
@@ -11,6 +11,11 @@ pub write_open-key-requires-clause-placed : goal.write_open-key-requires-clause-
 write_open-key-requires-clause-placed g c κs within =
     rw (c.spot_of-spot.ensures.place, c.spot_of-spot.ensures.above)
     (opening_placed g.R.Resource c.args.ground.now c.args.at c.args.kind c.requires.admitted)
+
+pub write_open-key-requires-clause-space : goal.write_open-key-requires-clause-space
+write_open-key-requires-clause-space g c κs within =
+    let a = c.requires.admitted in
+    opening_space c.args.ground.now c.args.kind a.room.space a.let_in.begun
 
 pub settle-requires-clause-paid : goal.settle-requires-clause-paid
 settle-requires-clause-paid g c κs within =
@@ -24,14 +29,15 @@ settle-requires-clause-room g c κs within =
     let next = (opening_ready g.R.Resource c.args.ground.now c.args.at c.args.kind a).next in
     opening_room a.let_in.may.lawful a.let_in.may.settled next
     (rw c.spot_of-spot.ensures.place at o.written) a.room.nodes a.room.space o.left o.memory
+    a.let_in.begun o.listed
 
 pub returns-clause-accepted : goal.returns-clause-accepted
 returns-clause-accepted g c =
     let o = c.write_open-key.ensures in
     let s = c.settle.ensures in
     opening_accepted g.R.Resource c.args.ground.now c.args.at c.args.kind c.requires.admitted c.write_open-key.new.self c.settle.new.self
-    c.write_open-key.result (rw c.spot_of-spot.ensures.place at o.written) o.tied.of_tree o.new o.resources o.leases
-    (settles_to s.standing s.base s.forced s.nodes s.resources s.limit s.given s.leases)
+    c.write_open-key.result (rw c.spot_of-spot.ensures.place at o.written) o.tied.of_tree o.new o.resources o.leases o.closed
+    (settles_to s.standing s.base s.forced s.nodes s.resources s.limit s.given s.leases s.closed)
 
 pub returns-clause-opened : goal.returns-clause-opened
 returns-clause-opened g c =
@@ -43,11 +49,11 @@ returns-clause-opened g c =
     let o = c.write_open-key.ensures in
     let s = c.settle.ensures in
     let w = rw c.spot_of-spot.ensures.place at o.written in
-    let settles = settles_to s.standing s.base s.forced s.nodes s.resources s.limit s.given s.leases in
+    let settles = settles_to s.standing s.base s.forced s.nodes s.resources s.limit s.given s.leases s.closed in
     let of = c.connection_of.ensures in
-    let key = opened_key R b c.args.at c.args.kind a mid new c.write_open-key.result w o.tied.of_tree o.new o.resources o.leases settles
+    let key = opened_key R b c.args.at c.args.kind a mid new c.write_open-key.result w o.tied.of_tree o.new o.resources o.leases o.closed settles
     c.shown_key.result c.shown_key.ensures in
-    let connection = opened_connection R b c.args.at c.args.kind a mid new c.write_open-key.result w o.tied.of_tree o.new o.resources o.leases settles
+    let connection = opened_connection R b c.args.at c.args.kind a mid new c.write_open-key.result w o.tied.of_tree o.new o.resources o.leases o.closed settles
     c.forces_connect-connects.result c.connection_of.result c.forces_connect-connects.ensures of.forced of.quiet in
     record { key = key; connection = connection; connected = of.known }
 
@@ -56,5 +62,5 @@ returns-clause-spare g c =
     let o = c.write_open-key.ensures in
     let s = c.settle.ensures in
     opening_spares g.R.Resource c.args.ground.now c.args.at c.args.kind c.requires.admitted c.write_open-key.new.self c.settle.new.self
-    c.write_open-key.result (rw c.spot_of-spot.ensures.place at o.written) o.tied.of_tree o.new o.resources o.leases
-    (settles_to s.standing s.base s.forced s.nodes s.resources s.limit s.given s.leases) s.memory
+    c.write_open-key.result (rw c.spot_of-spot.ensures.place at o.written) o.tied.of_tree o.new o.resources o.leases o.closed
+    (settles_to s.standing s.base s.forced s.nodes s.resources s.limit s.given s.leases s.closed) s.memory

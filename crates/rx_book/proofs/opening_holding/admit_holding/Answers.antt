@@ -1,6 +1,9 @@
-use Rattle.std.proofs.Common.{inl, inr}
+use Rattle.std.proofs.Common.{inl, inr, sym, subst}
+use Rattle.rx_ground.specs.Ties.{IsStanding}
+use Rattle.rx_book.proofs.Admitted.{state_begun}
+use Rattle.rx_book.proofs.ListOfClosed.{standing_begun}
 use Rattle.rx_book.proofs.AdmittedHolding.{first_stands, holding_within, few_notes, admitted_holding}
-use Rattle.rx_book.proofs.AnswersOkOrErr.{refused_with}
+use Rattle.rx_book.proofs.AnswersOkOrErr.{refused_with, on_refusal}
 use Rattle.rx_book.proofs.CallWithoutCause.{state_roomier}
 use Rattle.rx_book.proofs.opening_holding.admit_holding.Goals as goal
 
@@ -30,10 +33,13 @@ returns-in_err-make_room-clause-err g c =
 
 pub returns-in_err-make_room-clause-same : goal.returns-in_err-make_room-clause-same
 returns-in_err-make_room-clause-same g c =
-    state_roomier g.R.Resource c.args.ground.now c.make_room.new.self c.in_err-make_room.ensures.kept
+    on_refusal c.from_residual.result (state_roomier g.R.Resource c.args.ground.now c.make_room.new.self c.in_err-make_room.ensures.kept)
 
-pub returns-clause-same : goal.returns-clause-same
-returns-clause-same g c = state_roomier g.R.Resource c.args.ground.now c.make_room.new.self c.in_ok-make_room.ensures.kept
+pub returns-clause-begun : goal.returns-clause-begun
+returns-clause-begun g c = state_begun g.R.Resource c.args.ground.now c.make_room.new.self c.in_ok-make_room.ensures.kept c.begin.ensures
+
+pub returns-clause-standing : goal.returns-clause-standing
+returns-clause-standing g c = subst (IsStanding g.R.Resource) (sym c.begin.ensures) (standing_begun c.in_ok-make_room.ensures.standing)
 
 pub returns-clause-ok : goal.returns-clause-ok
 returns-clause-ok g c =
@@ -41,4 +47,4 @@ returns-clause-ok g c =
     let none = rw (c.spot_of-spot.ensures.place, c.spot_of-spot.ensures.above) at c.in_default.ensures in
     admitted_holding c.args.at c.args.kind c.args.is_fresh c.opening_holding_cost-cost.result m.kept m.standing c.promise.ensures.register
     (first_stands g.R.Resource c.args.ground.now c.args.at c.args.kind c.args.is_fresh _ none)
-    (rw c.spot_of-spot.ensures.place at c.opening_holding_cost-cost.ensures) m.ok
+    (rw c.spot_of-spot.ensures.place at c.opening_holding_cost-cost.ensures) m.ok c.begin.ensures

@@ -1,5 +1,5 @@
 use Rattle.rx_book.proofs.CallWithoutCause.{live_fresh, unused_fresh}
-use Rattle.rx_book.proofs.HoldingWritten.{holding_there, holding_ready, holding_standing, holding_accepted, held_key}
+use Rattle.rx_book.proofs.HoldingWritten.{holding_there, holding_ready, holding_standing, holding_accepted, holding_gathers, held_key}
 use Rattle.rx_book.proofs.opening_holding.write_holding.Goals as goal
 
 pub write_accept-res-requires-clause-ready : goal.write_accept-res-requires-clause-ready
@@ -33,6 +33,13 @@ returns-clause-accepted g c =
     let a = c.write_accept-res.ensures in
     holding_accepted g.R.Resource c.args.ground.now c.args.node c.args.resource q.standing c.promise.ensures.register q.known q.fresh q.events
     c.write_accept-res.new.self (rw c.tree_key.ensures at a.written) a.tied a.leased a.nodes a.kept a.leases
+
+pub returns-clause-closed : goal.returns-clause-closed
+returns-clause-closed g c =
+    let q = c.requires in
+    let a = c.write_accept-res.ensures in
+    holding_gathers g.R.Resource c.args.ground.now c.args.node c.args.resource q.standing c.promise.ensures.register q.known q.fresh q.events
+    c.write_accept-res.new.self (rw c.tree_key.ensures at a.written) a.tied a.leased a.closed
 
 pub returns-clause-history : goal.returns-clause-history
 returns-clause-history g c = let w = rw c.tree_key.ensures at c.write_accept-res.ensures.written in w.history

@@ -1,5 +1,7 @@
-use Rattle.std.proofs.Common.{refl, subst, ◌∙◌}
+use Rattle.std.proofs.Common.{refl, subst}
 use Rattle.std.specs.Prelude.{Ok}
+use Rattle.rx_event.specs.declared.event.Event.TheVariants.{Use}
+use Rattle.rx_ground.proofs.Laws.GoneStaysGone.{gathers_quiet}
 use Rattle.rx_ground.proofs.Laws.KeysKept.{leases_stay}
 use Rattle.rx_book.specs.State.{State}
 use Rattle.rx_book.specs.Requests.{apply_request}
@@ -7,6 +9,7 @@ use Rattle.rx_book.specs.Answers.{AnswersWord}
 use Rattle.rx_book.specs.Shown.{state_of}
 use Rattle.rx_book.proofs.AnswersOkOrErr.{answers_ok, passed_refusal}
 use Rattle.rx_book.proofs.CallWithoutCause.{one_ready, held_asked, pays, connects_none, written_held, accepts_written, settles_to}
+use Rattle.rx_book.proofs.ListOfClosed.{answers_begun, begun_at}
 use Rattle.rx_book.proofs.book.Book.apply.Goals as goal
 
 pub returns-in_err-admit : goal.returns-in_err-admit
@@ -41,7 +44,9 @@ returns g c =
     let s = c.settle.ensures in
     let l = c.in_ok-admit.ensures.ok.let_in in
     let w = rw c.tree_res_key.ensures at u.written in
-    let written = written_held mid _ w u.tied u.leased u.nodes u.kept (leases_stay _ _ _ u.leases) in
-    let done = accepts_written R b _ l written (settles_to s.standing s.base s.forced s.nodes s.resources s.limit s.given s.leases) in
-    subst (λ (x : State). AnswersWord x (apply_request x c.args.res) (state_of R c.settle.new.self) (Ok c.write_use-answer.result))
-    (c.in_ok-admit.ensures.same ∙ c.self.view_is) (answers_ok tt done)
+    let quiet = gathers_quiet (Use c.args.res.number) (one_ready R b _ l (Use c.args.res.number) refl).next refl w u.closed in
+    let written = written_held mid _ w u.tied u.leased u.nodes u.kept (leases_stay _ _ _ u.leases) quiet in
+    let done = accepts_written R b _ l written (settles_to s.standing s.base s.forced s.nodes s.resources s.limit s.given s.leases s.closed) in
+    answers_begun (λ word. word)
+    (subst (λ (x : State). AnswersWord x (apply_request x c.args.res) (state_of R c.settle.new.self) (Ok c.write_use-answer.result))
+    (begun_at c.in_ok-admit.ensures.begun c.self.view_is) (answers_ok tt done))

@@ -6,6 +6,7 @@ use Rattle.rx_event.specs.Kept.{Kept}
 use Rattle.rx_event.specs.Resources.{accepted_by}
 use Rattle.rx_event.proofs.Laws.Resources.{accepted_by_new}
 use Rattle.rx_event.proofs.Laws.StaysOpen.{accepted_stays}
+use Rattle.rx_ground.proofs.Laws.GoneStaysGone.{gathers_quiet}
 use Rattle.rx_ground.proofs.Laws.KeysKept.{leases_stay}
 use Rattle.rx_book.specs.State.{State}
 use Rattle.rx_book.specs.Requests.{hold_request}
@@ -15,6 +16,7 @@ use Rattle.rx_book.proofs.AnswersOkOrErr.{answers_ok, answers_err}
 use Rattle.rx_book.proofs.CallWithoutCause.{one_ready, open_asked, fresh_asked, live_fresh, unused_fresh, pays, connects_none}
 use Rattle.rx_book.proofs.CallWithoutCause.{written_held, accepts_written, settles_to}
 use Rattle.rx_book.proofs.MadeKeyIsListed.{res_key_listed}
+use Rattle.rx_book.proofs.ListOfClosed.{answers_begun, begun_at}
 use Rattle.rx_book.proofs.book.Book.hold.Given as given
 use Rattle.rx_book.proofs.book.Book.hold.Goals as goal
 use Rattle.rx_book.proofs.book.Book.hold.Goals.{In_default}
@@ -73,12 +75,14 @@ returns g c =
     let n = length h in
     let node = c.args.node.number in
     let tag = R.tag_of c.args.resource in
-    let written = written_held mid _ w a.tied a.leased a.nodes a.kept (leases_stay _ _ _ a.leases) in
-    let done = accepts_written R b _ l written (settles_to s.standing s.base s.forced s.nodes s.resources s.limit s.given s.leases) in
+    let quiet = gathers_quiet (Accept node tag) (one_ready R b _ l (Accept node tag) refl).next refl w a.closed in
+    let written = written_held mid _ w a.tied a.leased a.nodes a.kept (leases_stay _ _ _ a.leases) quiet in
+    let done = accepts_written R b _ l written (settles_to s.standing s.base s.forced s.nodes s.resources s.limit s.given s.leases s.closed) in
     let alive = accepted_stays b.register.base h new.register.history node tag l.may.lawful (one_ready R b _ l (Accept node tag) refl).next done.step.forced in
     let accepted = ap (λ (k : Kept). accepted_by k mid.register.history n) w.base ∙ ap (λ (k : List Event). accepted_by b.register.base k n) w.history ∙
     accepted_by_new b.register.base h (Accept node tag) l.may.lawful in
     let key = res_key_listed R mid new s.nodes n a.tied.of_tree c.write_accept-res.result c.shown_res_key.ensures s.resources
     a.number a.held accepted alive in
-    subst (λ (x : State). AnswersResKey x (hold_request R x c.args.node c.args.resource) c.args.resource (state_of R new) (Ok c.shown_res_key.result))
-    (c.admit.ensures.same ∙ c.self.view_is) (answers_ok key done)
+    answers_begun (λ is. is)
+    (subst (λ (x : State). AnswersResKey x (hold_request R x c.args.node c.args.resource) c.args.resource (state_of R new) (Ok c.shown_res_key.result))
+    (begun_at c.in_default.ensures.begun c.self.view_is) (answers_ok key done))

@@ -1,5 +1,7 @@
-use Rattle.std.proofs.Common.{length, refl, subst, ◌∙◌}
+use Rattle.std.proofs.Common.{length, refl, subst}
 use Rattle.std.specs.Prelude.{Ok}
+use Rattle.rx_event.specs.declared.event.Event.TheVariants.{Hub as Publish}
+use Rattle.rx_ground.proofs.Laws.GoneStaysGone.{gathers_quiet}
 use Rattle.rx_ground.proofs.Laws.KeysKept.{leases_stay, keeps_same}
 use Rattle.rx_book.specs.State.{State}
 use Rattle.rx_book.specs.Requests.{hub_request}
@@ -7,6 +9,7 @@ use Rattle.rx_book.specs.Answers.{AnswersPlaceOrWant}
 use Rattle.rx_book.specs.Shown.{state_of}
 use Rattle.rx_book.proofs.AnswersOkOrErr.{answers_ok, passed_refusal}
 use Rattle.rx_book.proofs.CallWithoutCause.{one_ready, pays, connects_none, accepts, settles_to}
+use Rattle.rx_book.proofs.ListOfClosed.{answers_begun, begun_at}
 use Rattle.rx_book.proofs.book.Book.hub.Goals as goal
 
 pub returns-in_err-admit : goal.returns-in_err-admit
@@ -37,6 +40,8 @@ returns g c =
     let kept = keeps_same b.tree mid.tree (length b.register.history) u.tree in
     let done =
     accepts R b _ l mid u.written u.tied.of_tree kept (leases_stay _ _ _ u.leases)
-    (settles_to s.standing s.base s.forced s.nodes s.resources s.limit s.given s.leases) in
-    subst (λ (x : State). AnswersPlaceOrWant x (hub_request c.args.mode) (state_of R new) (Ok c.write_hub-number.result))
-    (c.in_ok-admit.ensures.same ∙ c.self.view_is) (answers_ok u.number done)
+    (gathers_quiet (Publish c.args.mode) (one_ready R b _ l (Publish c.args.mode) refl).next refl u.written u.closed)
+    (settles_to s.standing s.base s.forced s.nodes s.resources s.limit s.given s.leases s.closed) in
+    answers_begun (λ place. place)
+    (subst (λ (x : State). AnswersPlaceOrWant x (hub_request c.args.mode) (state_of R new) (Ok c.write_hub-number.result))
+    (begun_at c.in_ok-admit.ensures.begun c.self.view_is) (answers_ok u.number done))

@@ -1,8 +1,10 @@
-use Rattle.std.proofs.Common.{true, refl, subst, ◌∙◌}
+use Rattle.std.proofs.Common.{true, refl, subst}
 use Rattle.std.specs.Prelude.{Ok}
 use Rattle.std.proofs.lemmas.Bool.{not-false}
 use Rattle.rx_event.specs.declared.refusal.Refusal.TheVariants.{Leased}
 use Rattle.rx_event.specs.Calls.{Leasing}
+use Rattle.rx_event.specs.declared.event.Event.TheVariants.{Lease}
+use Rattle.rx_ground.proofs.Laws.GoneStaysGone.{gathers_quiet}
 use Rattle.rx_event.specs.Causes.{causes}
 use Rattle.rx_register.proofs.Laws.NoCause.{no_cause}
 use Rattle.rx_book.specs.State.{State}
@@ -11,6 +13,7 @@ use Rattle.rx_book.specs.Answers.{AnswersLeaseKey}
 use Rattle.rx_book.specs.Shown.{state_of}
 use Rattle.rx_book.proofs.AnswersOkOrErr.{answers_ok, passed_refusal}
 use Rattle.rx_book.proofs.CallWithoutCause.{one_ready, owned_asked, pays, connects_none, written_held, accepts_written, lease_key_new, settles_to}
+use Rattle.rx_book.proofs.ListOfClosed.{answers_begun, begun_at}
 use Rattle.rx_book.proofs.book.Book.lease.Goals as goal
 
 pub returns-in_err-admit : goal.returns-in_err-admit
@@ -49,10 +52,12 @@ returns g c =
     let s = c.settle.ensures in
     let l = c.in_ok-admit.ensures.ok.let_in in
     let w = rw c.tree_res_key.ensures at u.written in
-    let written = written_held mid _ w u.tied u.leased u.nodes u.kept u.leases in
-    let done = accepts_written R b _ l written (settles_to s.standing s.base s.forced s.nodes s.resources s.limit s.given s.leases) in
+    let quiet = gathers_quiet (Lease c.args.res.number) (one_ready R b _ l (Lease c.args.res.number) refl).next refl w u.closed in
+    let written = written_held mid _ w u.tied u.leased u.nodes u.kept u.leases quiet in
+    let done = accepts_written R b _ l written (settles_to s.standing s.base s.forced s.nodes s.resources s.limit s.given s.leases s.closed) in
     let key =
     lease_key_new R mid new c.write_lease-lease.result c.shown_lease_key.ensures u.number u.out
     s.leases in
-    subst (λ (x : State). AnswersLeaseKey x (lease_request x c.args.res) (state_of R new) (Ok c.shown_lease_key.result))
-    (c.in_ok-admit.ensures.same ∙ c.self.view_is) (answers_ok key done)
+    answers_begun (λ is. is)
+    (subst (λ (x : State). AnswersLeaseKey x (lease_request x c.args.res) (state_of R new) (Ok c.shown_lease_key.result))
+    (begun_at c.in_ok-admit.ensures.begun c.self.view_is) (answers_ok key done))

@@ -1,12 +1,15 @@
-use Rattle.std.proofs.Common.{refl, subst, ◌∙◌, w64}
+use Rattle.std.proofs.Common.{refl, subst, w64}
 use Rattle.std.specs.Prelude.{Ok}
 use Rattle.std.proofs.lemmas.Int.{to_z-of_z}
+use Rattle.rx_event.specs.declared.event.Event.TheVariants.{Item}
+use Rattle.rx_ground.proofs.Laws.GoneStaysGone.{gathers_quiet}
 use Rattle.rx_book.specs.State.{State}
 use Rattle.rx_book.specs.Requests.{next_request}
 use Rattle.rx_book.specs.Answers.{AnswersPlaceOrWant}
 use Rattle.rx_book.specs.Shown.{state_of}
 use Rattle.rx_book.proofs.AnswersOkOrErr.{answers_ok, passed_refusal}
 use Rattle.rx_book.proofs.CallWithoutCause.{one_ready, open_asked, pays, connects_none, written_closed, accepts_written, settles_to}
+use Rattle.rx_book.proofs.ListOfClosed.{answers_begun, begun_at}
 use Rattle.rx_book.proofs.book.Book.next.Goals as goal
 
 pub returns-in_err-way : goal.returns-in_err-way
@@ -48,7 +51,10 @@ returns g c =
     let s = c.settle.ensures in
     let l = rw (to_z-of_z w64 c.args.value c.ranges.value) at c.in_ok-way.ensures.ok.let_in in
     let w = rw (c.tree_key.ensures, to_z-of_z w64 c.args.value c.ranges.value) at u.written in
-    let written = written_closed mid _ w u.tied u.leased u.kept u.resources u.leases in
-    let done = accepts_written R b _ l written (settles_to s.standing s.base s.forced s.nodes s.resources s.limit s.given s.leases) in
-    subst (λ (x : State). AnswersPlaceOrWant x (next_request x c.args.leaf c.args.value) (state_of R new) (Ok c.len-place.result))
-    (c.in_ok-way.ensures.same ∙ c.self.view_is) (answers_ok c.len-place.ensures done)
+    let next = (one_ready R b _ l (Item c.args.leaf.number c.args.value) refl).next in
+    let quiet = gathers_quiet (Item c.args.leaf.number c.args.value) next refl w u.closed in
+    let written = written_closed mid _ w u.tied u.leased u.kept u.resources u.leases quiet in
+    let done = accepts_written R b _ l written (settles_to s.standing s.base s.forced s.nodes s.resources s.limit s.given s.leases s.closed) in
+    answers_begun (λ place. place)
+    (subst (λ (x : State). AnswersPlaceOrWant x (next_request x c.args.leaf c.args.value) (state_of R new) (Ok c.len-place.result))
+    (begun_at c.in_ok-way.ensures.begun c.self.view_is) (answers_ok c.len-place.ensures done))

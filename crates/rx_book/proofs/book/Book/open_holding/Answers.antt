@@ -1,14 +1,18 @@
-use Rattle.std.proofs.Common.{refl, sym, ap, map, subst, ◌∙◌}
+use Rattle.std.proofs.Common.{refl, sym, ap, map, subst, ◌∙◌, ◌∷◌, []}
 use Rattle.std.specs.Prelude.{Ok}
 use Rattle.rx_event.specs.declared.event.Event.TheVariants.{Accept}
+use Rattle.rx_event.specs.Calls.{Opening, outside_of}
 use Rattle.rx_slots.specs.Slots.{Slots}
 use Rattle.rx_tree.specs.declared.node.Node.{Node}
 use Rattle.rx_ground.specs.Shown.{Kept, kept_in}
+use Rattle.rx_ground.proofs.Laws.GoneStaysGone.{IsFurther, gone_on, gathers_on}
 use Rattle.rx_book.specs.State.{State}
+use Rattle.rx_book.specs.Requests.{place_of}
 use Rattle.rx_book.specs.OpensHolding.{AnswersOpenedHolding}
 use Rattle.rx_book.specs.Shown.{key_shown, state_of}
 use Rattle.rx_book.proofs.HoldingUnstood.{fresh_with}
 use Rattle.rx_book.proofs.OpenedStaysOpened.{opened_after}
+use Rattle.rx_book.proofs.ListOfClosed.{begun_at, holding_begun, further_step, gathers_just, just_gone}
 use Rattle.rx_book.proofs.book.Book.open_holding.Goals as goal
 
 pub returns-in-Err : goal.returns-in-Err
@@ -38,8 +42,13 @@ returns g c =
     let none = rw c.is_fresh-fresh.ensures at c.in_default.ensures.ok.none in
     let accept = Accept c.write_opening-opened.result.key.number (R.tag_of c.args.resource) in
     let keys = ap (λ (nodes : Slots Node). map (λ (k : Kept Node). key_shown k.key) (kept_in nodes)) t.nodes in
-    subst (λ (x : State). AnswersOpenedHolding R x c.args.at c.args.kind c.args.resource (state_of R new)
-    (Ok (record { opened = c.write_opening-opened.result; res = c.write_holding-res.result }))) (c.in_default.ensures.same ∙ c.self.view_is)
+    let b = c.admit_holding.new.ground in
+    let outside = outside_of b.register.history (Opening (place_of c.args.at) c.args.kind) in
+    let further = further_step b.register.base b.register.history outside o.accepted.step.forced in
+    let onward = subst (IsFurther mid.register.history) (sym t.history) (gone_on mid.register.history (accept ∷ [])) in
+    let gathered = gathers_on further onward (gathers_just o.accepted.closed) t.closed in
+    holding_begun (subst (λ (x : State). AnswersOpenedHolding R x c.args.at c.args.kind c.args.resource (state_of R new)
+    (Ok (record { opened = c.write_opening-opened.result; res = c.write_holding-res.result }))) (begun_at c.in_default.ensures.begun c.self.view_is)
     (record {
       ok = record {
         middle = state_of R mid;
@@ -47,6 +56,7 @@ returns g c =
         holds = t.accepted;
         last = t.history;
         keys = keys;
+        closed = just_gone refl gathered;
         opened = opened_after (state_of R c.admit_holding.new.ground) (state_of R mid) (state_of R new) accept refl t.history keys o.opened;
         res = t.res;
       };
@@ -54,4 +64,4 @@ returns g c =
       refused = tt;
       back = tt;
       kept = tt;
-    })
+    }))

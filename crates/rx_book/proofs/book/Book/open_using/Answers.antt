@@ -13,6 +13,7 @@ use Rattle.rx_tree.specs.declared.node.Node.{Node}
 use Rattle.rx_register.specs.State.{State as Register, Writes}
 use Rattle.rx_register.proofs.Laws.Paid.{Writes-append}
 use Rattle.rx_ground.specs.Ties.{IsReady}
+use Rattle.rx_ground.proofs.Laws.GoneStaysGone.{gathers_quiet, gathers_then}
 use Rattle.rx_ground.proofs.Laws.KeysKept.{leases_stay, keeps_on, keeps_held, keeps_opened}
 use Rattle.rx_book.specs.State.{State}
 use Rattle.rx_book.specs.Requests.{using_request, place_of}
@@ -22,7 +23,8 @@ use Rattle.rx_book.specs.Steps.{IsLetIn}
 use Rattle.rx_book.proofs.ShownKeys.{is_known_place_is}
 use Rattle.rx_book.proofs.AnswersOkOrErr.{answers_ok, answers_err}
 use Rattle.rx_book.proofs.CallWithoutCause.{known, first_ready, second_ready, fresh_asked, live_fresh, unused_fresh, pays, connects_none, accepts, settles_to}
-use Rattle.rx_book.proofs.Openings.{placed_at}
+use Rattle.rx_book.proofs.Openings.{placed_at, node_space}
+use Rattle.rx_book.proofs.ListOfClosed.{answers_begun, opened_using_begun, begun_at}
 use Rattle.rx_book.proofs.MadeKeyIsListed.{key_listed, res_key_listed}
 use Rattle.rx_book.proofs.book.Book.open_using.Given as given
 use Rattle.rx_book.proofs.book.Book.open_using.Goals as goal
@@ -62,6 +64,11 @@ write_open-node-requires-clause-placed g c κs within =
     let there = sym (is_known_place_is b.tree c.args.at) ∙ known g.R.Resource b _ l in
     rw (c.spot_of-spot.ensures.place, c.spot_of-spot.ensures.above)
     (placed_at b.register.base g.R.Resource b.register.history b.tree l.standing.tied.of_tree Pass c.args.at there)
+
+pub write_open-node-requires-clause-space : goal.write_open-node-requires-clause-space
+write_open-node-requires-clause-space g c κs within =
+    let a = c.in_default.ensures.ok in
+    node_space c.admit.new.ground a.room.space a.let_in.begun
 
 pub write_accept-res-requires-clause-live : goal.write_accept-res-requires-clause-live
 write_accept-res-requires-clause-live g c κs within =
@@ -116,9 +123,11 @@ returns g c =
     let kept = keeps_on b.tree mid.tree last.tree (length h) (length mid.register.history) (omega arith) opened
     (keeps_held mid.tree last.tree (length mid.register.history) a.nodes a.kept) in
     let both = Writes-append b.register mid.register last.register (e ∷ []) (f ∷ []) w v in
+    let quiet = gathers_quiet f (holds g p mid.register w).next refl v a.closed in
+    let gathered = gathers_then (e ∷ []) (f ∷ []) w v o.closed quiet in
     let done =
-    accepts R b _ l last both a.tied.of_tree kept (leases_stay _ _ _ (a.leases ∙ o.leases))
-    (settles_to s.standing s.base s.forced s.nodes s.resources s.limit s.given s.leases) in
+    accepts R b _ l last both a.tied.of_tree kept (leases_stay _ _ _ (a.leases ∙ o.leases)) gathered
+    (settles_to s.standing s.base s.forced s.nodes s.resources s.limit s.given s.leases s.closed) in
     let alive =
     opened_using_stays b.register.base h new.register.history (place_of c.args.at) (R.tag_of c.args.resource) l.may.lawful (opens g p).next
     done.step.forced in
@@ -132,6 +141,7 @@ returns g c =
     ap (λ (k : List Event). accepted_by b.register.base k (length h + 1)) grown ∙ at_last in
     let res = res_key_listed R last new s.nodes (length h + 1) a.tied.of_tree c.write_accept-res.result c.shown_res_key.ensures
     s.resources (a.number ∙ longer) a.held accepted alive in
-    subst (λ (x : State). AnswersOpenedUsing x (using_request R x c.args.at c.args.resource) c.args.resource (state_of R new)
-    (Ok (record { key = c.shown_key.result; res = c.shown_res_key.result }))) (c.admit.ensures.same ∙ c.self.view_is)
-    (answers_ok (record { key = key; res = res }) done)
+    answers_begun opened_using_begun
+    (subst (λ (x : State). AnswersOpenedUsing x (using_request R x c.args.at c.args.resource) c.args.resource (state_of R new)
+    (Ok (record { key = c.shown_key.result; res = c.shown_res_key.result }))) (begun_at c.in_default.ensures.begun c.self.view_is)
+    (answers_ok (record { key = key; res = res }) done))

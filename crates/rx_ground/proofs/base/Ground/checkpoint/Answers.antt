@@ -17,4 +17,4 @@ returns-clause-standing g c =
     standing_after c.self.view_is c.promise.ensures.register c.requires.standing
     (checkpoint_made c.in_ok-rebase.ensures.ok
     (c.load-load.ensures.load.debt ∙ ap (λ (b : Ground _). debt b.register.base b.register.history) (sym c.self.view_is))
-    refl c.forget_ends.ensures refl refl)
+    refl c.forget_ends.ensures refl refl refl)

@@ -20,3 +20,6 @@ returns-then-is_calm-clause-nodes g c = (calm g c).nodes
 
 pub returns-then-is_calm-clause-memory : goal.returns-then-is_calm-clause-memory
 returns-then-is_calm-clause-memory g c = (calm g c).memory
+
+pub returns-then-is_calm-clause-closed : goal.returns-then-is_calm-clause-closed
+returns-then-is_calm-clause-closed g c = (calm g c).closed

@@ -38,6 +38,7 @@ loop-due-preserved g c =
             hubs = c.write_due.ensures.hubs;
             leases = c.write_due.ensures.leases;
             memory = c.write_due.ensures.memory;
+            closed = c.write_due.ensures.closed;
           });
     }
 

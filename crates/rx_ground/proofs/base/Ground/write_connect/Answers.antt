@@ -10,7 +10,7 @@ use Rattle.rx_tree.specs.declared.node.Stowed.{Stowed}
 use Rattle.rx_hub.specs.After.{hubs_after}
 use Rattle.rx_hub.specs.Hubs.{Hub, Hubs, connected}
 use Rattle.rx_hub.proofs.Laws.AfterReady.{ready_to_connect}
-use Rattle.rx_ground.specs.Shown.{Ground}
+use Rattle.rx_ground.specs.Shown.{Ground, closed_keys}
 use Rattle.rx_ground.specs.Ties.{AreLeased, AreTied, IsNewNode, KeepsOlder}
 use Rattle.rx_ground.proofs.StaysTied.{IsOpenedIn, OpensTop, found_still, tied_top}
 use Rattle.rx_ground.proofs.Records.{all_left}
@@ -132,8 +132,8 @@ pub returns-clause-memory : goal.returns-clause-memory
 returns-clause-memory g c =
     let old = c.self.inside in
     let room : 0 < old.tree.nodes.room = rw (← c.self.view_is) at c.requires.room in
-    let space : 0 < vec_capacity old.closed - old.tree.nodes.count = rw (← c.self.view_is) at c.requires.space in
-    let within = c.self.invariant.1 in
+    let space : 0 < (vec_capacity old.closed - old.tree.nodes.count) - length (closed_keys old.closed.items) = rw (← c.self.view_is) at c.requires.space in
+    let within = c.self.invariant.0 in
     let more = c.in-Ok.ensures.count in
     let less = c.in-Ok.ensures.had_room room in
     let hubs = ap (λ (s : Hubs). length s.hubs + s.room) c.connect.ensures ∙

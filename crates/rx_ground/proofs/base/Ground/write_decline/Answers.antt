@@ -33,7 +33,7 @@ marked g c =
 pub invariant_of-self : goal.invariant_of-self
 invariant_of-self g c =
     let count = ap (λ (s : Slots Node). s.count) (marked g c).nodes.rest in
-    (c.self.invariant.0, (let room = c.self.invariant.1 in omega arith), c.self.invariant.2)
+    ((let room = c.self.invariant.0 in omega arith), c.self.invariant.1)
 
 pub returns-clause-tied : goal.returns-clause-tied
 returns-clause-tied g c =

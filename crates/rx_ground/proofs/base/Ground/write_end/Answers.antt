@@ -1,4 +1,4 @@
-use Rattle.std.proofs.Common.{◌≡◌, ◌∷◌, [], refl, sym, ap, subst, ◌∙◌, arith, Option, Some, option_map, false, ◌+◌, ◌-◌, vec_capacity, length}
+use Rattle.std.proofs.Common.{◌≡◌, List, ◌∷◌, [], refl, sym, ap, subst, ◌∙◌, arith, Option, Some, option_map, false, ◌+◌, ◌-◌, vec_capacity, length}
 use Rattle.std.specs.Option.{option_map_or}
 use Rattle.rx_event.specs.declared.event.Event.{Event}
 use Rattle.rx_event.specs.declared.event.Event.TheVariants.{End}
@@ -9,8 +9,11 @@ use Rattle.rx_tree.specs.declared.node.Stowed.{Stowed}
 use Rattle.rx_hub.specs.After.{is_inside, end_by}
 use Rattle.rx_hub.specs.Hubs.{Hubs}
 use Rattle.rx_hub.proofs.Laws.AfterCases.{hubs_ended}
-use Rattle.rx_ground.specs.Shown.{Ground}
-use Rattle.rx_ground.specs.Ties.{AreLeased, IsTied, AreTied, record_of, left_inside}
+use Rattle.rx_event.proofs.Laws.Openness.{is_open_outside-end}
+use Rattle.rx_ground.specs.Gone.{Gathers}
+use Rattle.rx_ground.specs.Shown.{Ground, closed_keys}
+use Rattle.rx_ground.specs.Ties.{AreLeased, IsTied, AreTied, Moves, record_of, left_inside}
+use Rattle.rx_ground.proofs.MovedHaveGone.{gathers_closed}
 use Rattle.rx_ground.proofs.Memory.{written_memory, same_places}
 use Rattle.rx_ground.proofs.RegisterAfterWrite.{TellsOf, writes_told}
 use Rattle.rx_ground.proofs.NodeEnds.{IsReadyToEnd, IsEnded, record_read, above_counted, ended_tied}
@@ -70,7 +73,7 @@ ended g c = rw (written g c).history (ended_tied c.parent-above.result (ready g 
     c.promise-3.ensures.sound.apart (rw (c.is_some.ensures, c.source_of.ensures) at c.mark_end.ensures.marked) c.mark_end.ensures.none)
 
 pub invariant_of-self-2 : goal.invariant_of-self-2
-invariant_of-self-2 g c = let count = (ended g c).count in (c.self-2.invariant.0, (let room = c.self-2.invariant.1 in omega arith), c.self-2.invariant.2)
+invariant_of-self-2 g c = let count = (ended g c).count in ((let room = c.self-2.invariant.0 in omega arith), c.self-2.invariant.1)
 
 -- the hubs are left by what stands inside the node
 left_hubs : (g : Over) (c : goal.After-mark_end g) → c.self-2.inside.hubs ≡ left_inside c.self.inside.register.history c.args.node.number
@@ -140,3 +143,13 @@ returns-clause-leased g c =
 
 pub returns-clause-leases : goal.returns-clause-leases
 returns-clause-leases g c = rw (← c.self.view_is) (same_leases g c)
+
+pub returns-clause-closed : goal.returns-clause-closed
+returns-clause-closed g c =
+    let h = c.self.inside.register.history in
+    let list = closed_keys c.self.inside.closed.items in
+    let longer = closed_keys c.self-2.inside.closed.items in
+    let r = ready g (goal.at.returns-clause-closed g c).After-write in
+    let moves : Moves c.self.inside.tree.nodes c.args.node.number list longer = rw (← c.self-2.view_is) at c.cut.ensures.closed in
+    let gathers = gathers_closed r.law r.next r.tied r.sound r.cuts (is_open_outside-end h c.args.node.number c.args.terminal) moves in
+    rw (← c.self.view_is) (subst (λ (k : List Event). Gathers h list k longer) (sym (written g c).history) gathers)

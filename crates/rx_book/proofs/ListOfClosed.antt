@@ -1,0 +1,115 @@
+-- The list of what a call closes: begun anew it changes nothing else, and what goes on it has gone.
+use Rattle.std.proofs.Common.{◌≡◌, ℕ, List, [], ◌∷◌, ◌++◌, map, refl, sym, ap, subst, ◌∙◌}
+use Rattle.std.specs.Prelude.{Ok}
+use Rattle.rx_resource.specs.declared.Resource.{Ghosts}
+use Rattle.rx_event.specs.Kept.{Kept}
+use Rattle.rx_event.specs.declared.event.Event.{Event}
+use Rattle.rx_event.specs.Lawful.{IsForcedOn}
+use Rattle.rx_slots.specs.declared.Key.{Key as TreeKey}
+use Rattle.rx_ground.specs.declared.base.Wanted.{Wanted}
+use Rattle.rx_ground.specs.Gone.{goes, numbers_of, Gathers}
+use Rattle.rx_ground.specs.Shown.{Ground}
+use Rattle.rx_ground.specs.Ties.{IsStanding, HasRoomBeside}
+use Rattle.rx_ground.proofs.Laws.GoneStaysGone.{IsFurther, gone_on, gone_forced}
+use Rattle.rx_book.specs.declared.key.Key.{Key}
+use Rattle.rx_book.specs.State.{State, AreJust}
+use Rattle.rx_book.specs.Requests.{Request}
+use Rattle.rx_book.specs.Answers.{Accepts, Answers, IsOpened, IsOpenedUsing}
+use Rattle.rx_book.specs.declared.answer.Opened.{Opened}
+use Rattle.rx_book.specs.declared.answer.OpenedUsing.{OpenedUsing}
+use Rattle.rx_book.specs.declared.answer.At.{At}
+use Rattle.rx_book.specs.declared.answer.OpenedHolding.{OpenedHolding}
+use Rattle.rx_book.specs.OpensHolding.{AnswersOpenedHolding}
+use Rattle.rx_event.specs.declared.event.Kind.{Kind}
+use Rattle.rx_book.specs.Shown.{key_shown}
+use Rattle.rx_book.proofs.AnswersOkOrErr.{answers_ok}
+
+-- the list begun ----------------------------------------------------------------------------------
+
+-- the ground stands and has room as before
+pub standing_begun : {T : Type 0} {g : Ghosts T} {b : Ground T} → IsStanding g b → IsStanding g (record b { closed = [] })
+standing_begun s = record { tied = s.tied; leased = s.leased; settled = s.settled; paid = s.paid }
+
+pub room_begun : {T : Type 0} {b : Ground T} {wanted : Wanted} → HasRoomBeside b wanted → HasRoomBeside (record b { closed = [] }) wanted
+room_begun has = record {
+  events = has.events;
+  notes = has.notes;
+  nodes = has.nodes;
+  space = has.space;
+  resources = has.resources;
+  hubs = has.hubs;
+  slots = has.slots;
+  leases = has.leases;
+}
+
+-- and what is accepted then is accepted from before
+pub accepts_begun : {s new : State} {asked : Request} → Accepts (record s { closed = [] }) asked new → Accepts s asked new
+accepts_begun a = record {
+  no_cause = a.no_cause;
+  base = a.base;
+  step = a.step;
+  limit = a.limit;
+  given = a.given;
+  keys = a.keys;
+  res_keys = a.res_keys;
+  lease_keys = a.lease_keys;
+  closed = a.closed;
+}
+
+pub answers_begun : {A E : Type 0} {gives tells : A → Type 0} {refuses denies : E → Type 0} {s new : State} {asked : Request} {x : A} →
+    (gives x → tells x) → Answers gives refuses (record s { closed = [] }) asked new (Ok x) → Answers tells denies s asked new (Ok x)
+answers_begun also a = answers_ok (also a.ok) (accepts_begun a.accepted)
+
+pub opened_begun : {s new : State} {o : Opened} → IsOpened (record s { closed = [] }) new o → IsOpened s new o
+opened_begun o = record { key = o.key; connection = o.connection; connected = o.connected }
+
+pub opened_using_begun : {s new : State} {o : OpenedUsing} → IsOpenedUsing (record s { closed = [] }) new o → IsOpenedUsing s new o
+opened_using_begun o = record { key = o.key; res = o.res }
+
+pub holding_begun : {T : Type 0} {g : Ghosts T} {s new : State} {at : At} {kind : Kind} {x : T} {o : OpenedHolding} →
+    AnswersOpenedHolding g (record s { closed = [] }) at kind x new (Ok o) → AnswersOpenedHolding g s at kind x new (Ok o)
+holding_begun a = record {
+  ok = record {
+    middle = a.ok.middle;
+    opens = accepts_begun a.ok.opens;
+    holds = a.ok.holds;
+    last = a.ok.last;
+    keys = a.ok.keys;
+    closed = a.ok.closed;
+    opened = opened_begun a.ok.opened;
+    res = a.ok.res;
+  };
+  no_cause = a.no_cause;
+  refused = tt;
+  back = tt;
+  kept = tt;
+}
+
+-- the state that a caller sees has the list begun
+pub begun_at : {s t u : State} → t ≡ record s { closed = [] } → s ≡ u → t ≡ record u { closed = [] }
+begun_at begun seen = begun ∙ ap (λ (s : State). record s { closed = [] }) seen
+
+-- what goes on it ---------------------------------------------------------------------------------
+
+-- a step goes further
+pub further_step : (base : Kept) → (h es : List Event) {k : List Event} → IsForcedOn base (h ++ es) k → IsFurther h k
+further_step base h es forced n gone = gone_forced base forced n (gone_on h es n gone)
+
+shown_numbers : (keys : List TreeKey) → map (λ (k : Key). k.number) (map key_shown keys) ≡ numbers_of keys
+shown_numbers [] = refl
+shown_numbers (x ∷ xs) = ap (λ (ns : List ℕ). x.number ∷ ns) (shown_numbers xs)
+
+-- a list that was begun has just what has gone since
+pub just_gone : {h k : List Event} {list longer : List TreeKey} → list ≡ [] → Gathers h list k longer →
+    AreJust (goes h k) (map (λ (j : Key). j.number) (map key_shown longer))
+just_gone {h} {k} {list} {longer} begun gathers =
+    subst (AreJust (goes h k)) (sym same) (record { each = gathers.each; every = gathers.every; once = gathers.once })
+  where
+    same : map (λ (j : Key). j.number) (map key_shown longer) ≡ numbers_of gathers.gone
+    same = shown_numbers longer ∙ ap numbers_of (gathers.listed ∙ ap (λ (xs : List TreeKey). xs ++ gathers.gone) begun)
+
+pub gathers_just : {h k : List Event} {longer : List TreeKey} → AreJust (goes h k) (map (λ (j : Key). j.number) (map key_shown longer)) →
+    Gathers h [] k longer
+gathers_just {h} {k} {longer} just =
+    let told = subst (AreJust (goes h k)) (shown_numbers longer) just in
+    record { gone = longer; listed = refl; each = told.each; every = told.every; once = told.once }

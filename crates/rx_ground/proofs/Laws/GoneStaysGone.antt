@@ -1,0 +1,194 @@
+-- What has gone stays gone. So lists of what went go on from one history to the next, and an event that closes none adds none.
+use Rattle.std.proofs.Common.{◌≡◌, ◌≢◌, ℕ, ◌<◌, true, false, List, [], ◌∷◌, ◌++◌, length, IsTrue, refl, sym, ap, subst, ◌∙◌}
+use Rattle.std.proofs.Common.{inl, inr, ◌⊎◌, arith, length-append, append-nil, append_assoc}
+use Rattle.std.proofs.lemmas.List.{map-append}
+use Rattle.std.proofs.Math.Bool.{not}
+use Rattle.std.specs.List.{All, AllPairs, Contains}
+use Rattle.std.proofs.lemmas.Bool.{and_parts, and_from, both_ways, cases_Bool, cases_order, false_from_ne_true, not-true, not_from_false}
+use Rattle.std.proofs.lemmas.List.Elements.{All-contains, Contains-append_left, Contains-append_right, Contains-append_cases}
+use Rattle.rx_event.specs.Kept.{Kept}
+use Rattle.rx_event.specs.declared.event.Event.{Event}
+use Rattle.rx_event.specs.Events.{makes_node}
+use Rattle.rx_event.specs.Tree.{at, is_open}
+use Rattle.rx_event.specs.Lawful.{MayFollow, IsForcedOn, stays, more}
+use Rattle.rx_event.proofs.Laws.Places.{at-append, at_within, slice_get_last}
+use Rattle.rx_event.proofs.Laws.Openness.{open_old, shuts_none, is_open_kept}
+use Rattle.rx_event.proofs.Laws.Totals.{is_open_new}
+use Rattle.rx_slots.specs.declared.Key.{Key}
+use Rattle.rx_register.specs.State.{State as Register, Writes}
+use Rattle.rx_ground.specs.Gone.{has_gone, goes, numbers_of, Gathers}
+use Rattle.rx_ground.proofs.Laws.Members.{Contains-head, Contains-later, All-members, AllPairs-head, AllPairs-tail, AllPairs-nil}
+use Rattle.std.proofs.lemmas.List.Kept.{AllPairs-cons}
+
+-- histories ---------------------------------------------------------------------------------------
+
+-- what has gone in the one has gone in the other
+abbrev pub IsFurther : List Event → List Event → Type 0
+IsFurther h k = (n : ℕ) → has_gone h n ≡ true → has_gone k n ≡ true
+
+pub gone_push : (h : List Event) (e : Event) → IsFurther h (h ++ e ∷ [])
+gone_push h e n gone =
+    let parts = and_parts (at makes_node h n) (not (is_open h n)) gone in
+    let l = at_within makes_node h n parts.0 in
+    let shut = false_from_ne_true (is_open (h ++ e ∷ []) n) (λ o. both_ways (is_open h n) (not-true (is_open h n) parts.1) (open_old h e n l o)) in
+    and_from (at makes_node (h ++ e ∷ []) n) (not (is_open (h ++ e ∷ []) n)) (at-append makes_node h (e ∷ []) n l ∙ parts.0) (not_from_false _ shut)
+
+pub gone_on : (h es : List Event) → IsFurther h (h ++ es)
+gone_on h [] n gone = ap (λ (k : List Event). has_gone k n) (append-nil h) ∙ gone
+gone_on h (e ∷ es) n gone =
+    ap (λ (k : List Event). has_gone k n) (sym (append_assoc h (e ∷ []) es)) ∙ gone_on (h ++ e ∷ []) es n (gone_push h e n gone)
+
+pub gone_forced : (base : Kept) → {h k : List Event} → IsForcedOn base h k → IsFurther h k
+gone_forced base stays n gone = gone
+gone_forced base (more {k = k} {e = e} on f) n gone = gone_push k e n (gone_forced base on n gone)
+
+-- where an event makes a node open, what goes with it was open, and is open no more
+pub went : (h : List Event) (e : Event) → is_open (h ++ e ∷ []) (length h) ≡ makes_node e → (n : ℕ) → goes h (h ++ e ∷ []) n ≡ true →
+    (n < length h) × (is_open h n ≡ true) × (is_open (h ++ e ∷ []) n ≡ false)
+went h e opens n went_now = by_place (cases_order n (length h)) where
+  now : (has_gone (h ++ e ∷ []) n ≡ true) × (not (has_gone h n) ≡ true)
+  now = and_parts (has_gone (h ++ e ∷ []) n) (not (has_gone h n)) went_now
+
+  parts : (at makes_node (h ++ e ∷ []) n ≡ true) × (not (is_open (h ++ e ∷ []) n) ≡ true)
+  parts = and_parts (at makes_node (h ++ e ∷ []) n) (not (is_open (h ++ e ∷ []) n)) now.0
+
+  shut : is_open (h ++ e ∷ []) n ≡ false
+  shut = not-true (is_open (h ++ e ∷ []) n) parts.1
+
+  was_open : n < length h → (is_open h n ≡ true) ⊎ (is_open h n ≡ false) → is_open h n ≡ true
+  was_open l (inl alive) = alive
+  was_open l (inr closed) =
+      let made = sym (at-append makes_node h (e ∷ []) n l) ∙ parts.0 in
+      absurd (both_ways (has_gone h n) (not-true (has_gone h n) now.1) (and_from (at makes_node h n) (not (is_open h n)) made (not_from_false _ closed)))
+
+  at_end : n ≡ length h → ⊥
+  at_end same =
+      let made : makes_node e ≡ true = sym (ap (at makes_node (h ++ e ∷ [])) same ∙ made_last) ∙ parts.0 in
+      both_ways (is_open (h ++ e ∷ []) n) shut (ap (is_open (h ++ e ∷ [])) same ∙ opens ∙ made)
+    where
+      made_last : at makes_node (h ++ e ∷ []) (length h) ≡ makes_node e
+      made_last = rw (slice_get_last h e) refl
+
+  by_place : (n ≡ length h) ⊎ ((n < length h) ⊎ (length h < n)) → (n < length h) × (is_open h n ≡ true) × (is_open (h ++ e ∷ []) n ≡ false)
+  by_place (inl same) = absurd (at_end same)
+  by_place (inr (inl l)) = (l, was_open l (cases_Bool (is_open h n)), shut)
+  by_place (inr (inr g)) = absurd (let l = at_within makes_node (h ++ e ∷ []) n parts.0 in omega (arith, length-append h (e ∷ [])))
+
+-- lists -------------------------------------------------------------------------------------------
+
+module _ {X : Type 0} where
+  -- no two of either list, and none of the one with one of the other
+  pub AllPairs-append : (R : X → X → Type 0) (xs ys : List X) → AllPairs R xs → AllPairs R ys →
+      ((x y : X) → Contains xs x → Contains ys y → R x y) → AllPairs R (xs ++ ys)
+  AllPairs-append R [] ys first then across = then
+  AllPairs-append R (x ∷ xs) ys first then across = AllPairs-cons R x (xs ++ ys) (All-members (R x) (xs ++ ys) apart)
+      (AllPairs-append R xs ys (AllPairs-tail R x xs first) then (λ a b c d. across a b (Contains-later x xs a c) d))
+    where
+      apart : (y : X) → Contains (xs ++ ys) y → R x y
+      apart y c = by_list (Contains-append_cases xs ys y c) where
+        by_list : Contains xs y ⊎ Contains ys y → R x y
+        by_list (inl here) = AllPairs-head R x xs first y here
+        by_list (inr there) = across x y (Contains-head x xs) there
+
+-- lists of what goes ------------------------------------------------------------------------------
+
+-- where nothing goes the list stays
+pub gathers_same : (h k : List Event) (list : List Key) → ((n : ℕ) → goes h k n ≡ true → ⊥) → Gathers h list k list
+gathers_same h k list none = record {
+  gone = [];
+  listed = sym (append-nil list);
+  each = λ i d l. absurd (omega arith);
+  every = λ n now. absurd (none n now);
+  once = AllPairs-nil (λ m n. m ≢ n);
+}
+
+-- nothing goes with an event that closes none
+pub gathers_none : (h : List Event) (e : Event) (list : List Key) → ((n : ℕ) → n < length h → is_open (h ++ e ∷ []) n ≡ is_open h n) →
+    is_open (h ++ e ∷ []) (length h) ≡ makes_node e → Gathers h list (h ++ e ∷ []) list
+gathers_none h e list kept opens = gathers_same h (h ++ e ∷ []) list (λ n now.
+    let w = went h e opens n now in
+    both_ways (is_open (h ++ e ∷ []) n) w.2 (kept n w.0 ∙ w.1))
+
+-- nor where the history stays
+pub gathers_nothing : (h : List Event) (list : List Key) → Gathers h list h list
+gathers_nothing h list = gathers_same h h list (λ n now.
+    let parts = and_parts (has_gone h n) (not (has_gone h n)) now in
+    both_ways (has_gone h n) (not-true (has_gone h n) parts.1) parts.0)
+
+-- one list after the other
+module _ {h k j : List Event} {a b c : List Key} (further : IsFurther h k) (onward : IsFurther k j) (first : Gathers h a k b) (then : Gathers k b j c) where
+  abbrev numbers : List ℕ
+  numbers = numbers_of (first.gone ++ then.gone)
+
+  both : numbers ≡ numbers_of first.gone ++ numbers_of then.gone
+  both = map-append (λ (key : Key). key.number) first.gone then.gone
+
+  first_goes : (n : ℕ) → Contains (numbers_of first.gone) n → goes h k n ≡ true
+  first_goes n here = All-contains (λ m. goes h k m ≡ true) (numbers_of first.gone) n first.each here
+
+  then_goes : (n : ℕ) → Contains (numbers_of then.gone) n → goes k j n ≡ true
+  then_goes n here = All-contains (λ m. goes k j m ≡ true) (numbers_of then.gone) n then.each here
+
+  goes_first : (n : ℕ) → goes h k n ≡ true → goes h j n ≡ true
+  goes_first n now =
+      let parts = and_parts (has_gone k n) (not (has_gone h n)) now in
+      and_from (has_gone j n) (not (has_gone h n)) (onward n parts.0) parts.1
+
+  goes_then : (n : ℕ) → goes k j n ≡ true → goes h j n ≡ true
+  goes_then n now =
+      let parts = and_parts (has_gone j n) (not (has_gone k n)) now in
+      let stayed = false_from_ne_true (has_gone h n) (λ gone. both_ways (has_gone k n) (not-true (has_gone k n) parts.1) (further n gone)) in
+      and_from (has_gone j n) (not (has_gone h n)) parts.0 (not_from_false _ stayed)
+
+  goes_either : (n : ℕ) → goes h j n ≡ true → (goes h k n ≡ true) ⊎ (goes k j n ≡ true)
+  goes_either n now = by_test (cases_Bool (has_gone k n)) where
+    parts : (has_gone j n ≡ true) × (not (has_gone h n) ≡ true)
+    parts = and_parts (has_gone j n) (not (has_gone h n)) now
+
+    by_test : (has_gone k n ≡ true) ⊎ (has_gone k n ≡ false) → (goes h k n ≡ true) ⊎ (goes k j n ≡ true)
+    by_test (inl gone) = inl (and_from (has_gone k n) (not (has_gone h n)) gone parts.1)
+    by_test (inr stayed) = inr (and_from (has_gone j n) (not (has_gone k n)) parts.0 (not_from_false _ stayed))
+
+  pub gathers_on : Gathers h a j c
+  gathers_on = record {
+    gone = first.gone ++ then.gone;
+    listed = then.listed ∙ ap (λ (keys : List Key). keys ++ then.gone) first.listed ∙ append_assoc a first.gone then.gone;
+    each = subst (λ (ns : List ℕ). All (λ n. IsTrue (goes h j n)) ns) (sym both)
+        (All-members (λ n. IsTrue (goes h j n)) (numbers_of first.gone ++ numbers_of then.gone)
+        (λ n here. each n (Contains-append_cases (numbers_of first.gone) (numbers_of then.gone) n here)));
+    every = λ n now. subst (λ (ns : List ℕ). Contains ns n) (sym both) (every n (goes_either n now));
+    once = subst (λ (ns : List ℕ). AllPairs (λ m n. m ≢ n) ns) (sym both)
+        (AllPairs-append (λ m n. m ≢ n) (numbers_of first.gone) (numbers_of then.gone) first.once then.once apart);
+  }
+    where
+      each : (n : ℕ) → Contains (numbers_of first.gone) n ⊎ Contains (numbers_of then.gone) n → goes h j n ≡ true
+      each n (inl here) = goes_first n (first_goes n here)
+      each n (inr there) = goes_then n (then_goes n there)
+
+      every : (n : ℕ) → (goes h k n ≡ true) ⊎ (goes k j n ≡ true) → Contains (numbers_of first.gone ++ numbers_of then.gone) n
+      every n (inl now) = Contains-append_left (numbers_of first.gone) (numbers_of then.gone) n (first.every n now)
+      every n (inr now) = Contains-append_right (numbers_of first.gone) (numbers_of then.gone) n (then.every n now)
+
+      apart : (m n : ℕ) → Contains (numbers_of first.gone) m → Contains (numbers_of then.gone) n → m ≢ n
+      apart m n here there = λ same.
+          let went_first = and_parts (has_gone k m) (not (has_gone h m)) (first_goes m here) in
+          let went_then = and_parts (has_gone j n) (not (has_gone k n)) (then_goes n there) in
+          both_ways (has_gone k n) (not-true (has_gone k n) went_then.1) (ap (has_gone k) (sym same) ∙ went_first.0)
+
+-- what is written -------------------------------------------------------------------------------
+
+-- with an event that closes none the list stays
+pub gathers_quiet : {old new : Register} {list later : List Key} (e : Event) → MayFollow old.base old.history e → shuts_none e ≡ true →
+    Writes old (e ∷ []) new → later ≡ list → Gathers old.history list new.history later
+gathers_quiet {old} {new} {list} {later} e next quiet w same =
+    subst (λ (k : List Event). Gathers old.history list k later) (sym w.history)
+    (subst (Gathers old.history list (old.history ++ e ∷ [])) (sym same)
+    (gathers_none old.history e list (λ n l. is_open_kept old.history e n l quiet) (is_open_new old.base old.history e next)))
+
+pub further_written : {old new : Register} (es : List Event) → Writes old es new → IsFurther old.history new.history
+further_written {old} es w = subst (IsFurther old.history) (sym w.history) (gone_on old.history es)
+
+-- one write after the other
+pub gathers_then : {a b c : Register} {first then last : List Key} (es fs : List Event) → Writes a es b → Writes b fs c →
+    Gathers a.history first b.history then → Gathers b.history then c.history last → Gathers a.history first c.history last
+gathers_then es fs w v one two = gathers_on (further_written es w) (further_written fs v) one two
