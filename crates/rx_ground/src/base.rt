@@ -87,8 +87,8 @@ pub(crate) fn parent<R: Resource>(tree: &Tree<R>, key: Key) -> Option<Key>
 
 // The key that a closed node had.
 #[inline(always)]
-fn key_of(closed: Closed) -> Key
-    ensures { result ≡ closed_key closed }
+fn key_of(closed: &Closed) -> Key
+    ensures { result ≡ closed_key closed.now }
 {
     closed.key()
 }
@@ -257,7 +257,7 @@ impl<R: Resource> Ground<R> {
         ensures { result ≡ slice_get self.now.closed n }
     {
         let closed = self.closed.get(n)?;
-        Some(key_of(*closed))
+        Some(key_of(closed))
     }
 
     /// How many events there are, which is the place of the next one.
