@@ -3,6 +3,7 @@ pub mod PlacesApart
 pub mod PlaceKinds
 pub mod Origins
 pub mod StoreLemmas
+pub mod SlotsFit
 pub mod UseSteps
 pub mod WaitSteps
 pub mod CountLemmas

@@ -68,13 +68,15 @@ hub_in (Open place (Sub hub)) = hub
 hub_in (Connect hub) = hub
 hub_in _ = 0
 
--- the numbers in it
+-- the numbers in it, and the words
 abbrev pub origin_of : Event → Option Key → Origin
 origin_of made above =
     record {
       above = option_map_or (λ key. key.number) above 0;
-      slot = option_map_or (λ key. key.slot) above 0;
       hub = hub_in made;
+      slot = option_map_or (λ key. key.slot) above 0;
+      place = place_word made;
+      kind = kind_word made;
     }
 
 -- and what the words and the numbers tell

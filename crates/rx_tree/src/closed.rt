@@ -4,7 +4,7 @@ ghost use Rattle.std.specs.Prelude.{◌≡◌};
 ghost use Rattle.rx_event.specs.Events.{hub_connected, hub_subscribed};
 
 use crate::node::Node;
-use crate::origin::{KindWord, Origin, PlaceWord};
+use crate::origin::Origin;
 use rx_event::{Event, Marks};
 use rx_slots::Key;
 use std::marker::Model;
@@ -17,8 +17,6 @@ pub struct Closed {
     pub(crate) key: Key,
     pub(crate) origin: Origin,
     pub(crate) marks: Marks,
-    pub(crate) place: PlaceWord,
-    pub(crate) kind: KindWord,
 }
 
 impl Model for Closed {
@@ -28,7 +26,7 @@ impl Model for Closed {
 
     ghost use Rattle.rx_tree.specs.Record.{node_of};
 
-    ghost view = { λ m. record { key = m.key; node = node_of m.place m.kind m.origin m.marks } };
+    ghost view = { λ m. record { key = m.key; node = node_of m.origin.place m.origin.kind m.origin m.marks } };
 }
 
 impl Closed {
@@ -56,7 +54,7 @@ impl Closed {
     pub fn made(&self) -> Event
         ensures { result ≡ self.now.node.made }
     {
-        self.origin.made(self.place, self.kind)
+        self.origin.made()
     }
 
     /// The key of the node that it stood below; None for a root and for a connection.
@@ -64,7 +62,7 @@ impl Closed {
     pub fn parent(&self) -> Option<Key>
         ensures { result ≡ self.now.node.above }
     {
-        self.origin.above(self.place)
+        self.origin.above()
     }
 
     /// What it remembered of what happened below it.
@@ -80,7 +78,7 @@ impl Closed {
     pub fn connects(&self) -> Option<u64>
         ensures { result ≡ hub_connected self.now.node.made }
     {
-        self.origin.connects(self.place, self.kind)
+        self.origin.connects()
     }
 
     /// The hub that it subscribed to; None where it was no subscriber.
@@ -88,6 +86,6 @@ impl Closed {
     pub fn subscribes_to(&self) -> Option<u64>
         ensures { result ≡ hub_subscribed self.now.node.made }
     {
-        self.origin.subscribes_to(self.place, self.kind)
+        self.origin.subscribes_to()
     }
 }

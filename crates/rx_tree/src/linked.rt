@@ -5,11 +5,12 @@ ghost use Rattle.rx_event.specs.Events.{makes_node, parent_named, is_root, is_le
 ghost use Rattle.rx_event.specs.Events.{source_named, inner_named, notifier_named, hub_connected, hub_subscribed};
 ghost use Rattle.rx_event.specs.Marks.{terminal_due, after_child, after_source, after_notifier, after_inner, after_projection, after_firing, after_decline};
 ghost use Rattle.rx_tree.specs.Store.{alone, no_counts};
+ghost use Rattle.rx_tree.specs.Places.{slot_of};
 ghost use Rattle.rx_tree.specs.Tree.{with_marks};
 ghost use Rattle.rx_tree.specs.declared.links.Place.TheVariants.{Children, Held, Sibling, Noted};
 
 use crate::closed::Closed;
-use crate::links::{Link, LinkKinds, LinkSlots, Place};
+use crate::links::{Link, LinkKinds, LinkSlots, Place, PlaceKind};
 use crate::node::Node;
 use crate::origin::{KindWord, Origin, PlaceWord};
 use crate::store::Counts;
@@ -20,8 +21,8 @@ use std::marker::Model;
 /// The record of an open node as it stands in the tree, to be read in place: what made the node, its
 /// marks, and its links. It is seen as a record with the field `node`; its links are the tree's own.
 ///
-/// Numbers stand apart from kinds and words, which are a byte each, so that a record takes little
-/// memory.
+/// A slot is a word of 32 bits, and the kinds of links stand apart from their slots, a byte each, so that a
+/// record takes little memory.
 #[derive(Drop)]
 pub struct Record {
     origin: Origin,
@@ -31,8 +32,6 @@ pub struct Record {
     children: LinkSlots,
     held: LinkSlots,
     held_count: Counts,
-    place: PlaceWord,
-    kind: KindWord,
     sibling_kinds: LinkKinds,
     noted_kinds: LinkKinds,
     children_kinds: LinkKinds,
@@ -47,7 +46,7 @@ impl Model for Record {
     ghost use Rattle.rx_tree.specs.Record.{link_of, node_of};
 
     ghost view = { λ l. record {
-      node = node_of l.place l.kind l.origin l.marks;
+      node = node_of l.origin.place l.origin.kind l.origin l.marks;
       sibling = link_of l.sibling l.sibling_kinds;
       noted = link_of l.noted l.noted_kinds;
       children = link_of l.children l.children_kinds;
@@ -63,6 +62,8 @@ impl Record {
     pub(crate) fn alone(node: Node, slot: usize) -> Self
         requires makes { IsTrue (makes_node node.made) }
         requires named { parent_named node.made ≡ option_map (λ key. key.number) node.above }
+        requires fits { slot < 2 ^ 32 }
+        requires above_fits { IfSome node.above (λ key. key.slot < 2 ^ 32) }
         ensures node { result.node ≡ node }
         ensures sibling { result.sibling ≡ alone (Sibling slot) }
         ensures noted { result.noted ≡ alone (Noted slot) }
@@ -70,24 +71,22 @@ impl Record {
         ensures held { result.held ≡ alone (Held slot) }
         ensures held_count { result.held_count ≡ no_counts }
     {
-        let sibling = Link::alone(Place::Sibling(slot));
-        let noted = Link::alone(Place::Noted(slot));
-        let children = Link::alone(Place::Children(slot));
-        let held = Link::alone(Place::Held(slot));
+        let itself = LinkSlots {
+            next: slot as u32,
+            previous: slot as u32,
+        };
         Record {
             origin: Origin::of(node),
             marks: node.marks,
-            sibling: sibling.slots(),
-            noted: noted.slots(),
-            children: children.slots(),
-            held: held.slots(),
+            sibling: itself,
+            noted: itself,
+            children: itself,
+            held: itself,
             held_count: Counts::zero(),
-            place: PlaceWord::of(node.made),
-            kind: KindWord::of(node.made),
-            sibling_kinds: sibling.kinds(),
-            noted_kinds: noted.kinds(),
-            children_kinds: children.kinds(),
-            held_kinds: held.kinds(),
+            sibling_kinds: LinkKinds::both(PlaceKind::Sibling),
+            noted_kinds: LinkKinds::both(PlaceKind::Noted),
+            children_kinds: LinkKinds::both(PlaceKind::Children),
+            held_kinds: LinkKinds::both(PlaceKind::Held),
         }
     }
 
@@ -97,8 +96,8 @@ impl Record {
         ensures { result ≡ self.now.node }
     {
         Node {
-            made: self.origin.made(self.place, self.kind),
-            above: self.origin.above(self.place),
+            made: self.origin.made(),
+            above: self.origin.above(),
             marks: self.marks,
         }
     }
@@ -113,8 +112,6 @@ impl Record {
             key,
             origin: self.origin,
             marks: self.marks,
-            place: self.place,
-            kind: self.kind,
         }
     }
 
@@ -123,7 +120,7 @@ impl Record {
     pub fn made(&self) -> Event
         ensures { result ≡ self.now.node.made }
     {
-        self.origin.made(self.place, self.kind)
+        self.origin.made()
     }
 
     /// The key of the node that it stands below; None for a root and for a connection.
@@ -131,7 +128,7 @@ impl Record {
     pub fn parent(&self) -> Option<Key>
         ensures { result ≡ self.now.node.above }
     {
-        self.origin.above(self.place)
+        self.origin.above()
     }
 
     // The slot of that node.
@@ -140,7 +137,7 @@ impl Record {
     pub(crate) fn above_slot(&self) -> usize
         ensures { IfSome self.now.node.above (λ key. result ≡ key.slot) }
     {
-        self.origin.slot
+        self.origin.slot as usize
     }
 
     /// What it remembers of what happened below it.
@@ -188,7 +185,7 @@ impl Record {
     pub fn is_below(&self) -> bool
         ensures { result ≡ is_some self.now.node.above }
     {
-        match self.place {
+        match self.origin.place {
             PlaceWord::Root => false,
             PlaceWord::Source | PlaceWord::Inner | PlaceWord::Notifier => true,
         }
@@ -258,7 +255,7 @@ impl Record {
     pub fn is_leaf(&self) -> bool
         ensures { result ≡ is_leaf self.now.node.made }
     {
-        match self.kind {
+        match self.origin.kind {
             KindWord::Leaf => true,
             KindWord::Pass
             | KindWord::Flat
@@ -274,7 +271,7 @@ impl Record {
     pub fn is_merging(&self) -> bool
         ensures { result ≡ is_merging self.now.node.made }
     {
-        match self.kind {
+        match self.origin.kind {
             KindWord::Flat | KindWord::Switch => true,
             KindWord::Leaf | KindWord::Pass | KindWord::Until | KindWord::Sub | KindWord::Connect =>
                 false,
@@ -286,7 +283,7 @@ impl Record {
     pub fn is_switch(&self) -> bool
         ensures { result ≡ is_switch self.now.node.made }
     {
-        match self.kind {
+        match self.origin.kind {
             KindWord::Switch => true,
             KindWord::Leaf
             | KindWord::Pass
@@ -302,7 +299,7 @@ impl Record {
     pub fn is_until(&self) -> bool
         ensures { result ≡ is_until self.now.node.made }
     {
-        match self.kind {
+        match self.origin.kind {
             KindWord::Until => true,
             KindWord::Leaf
             | KindWord::Pass
@@ -318,7 +315,7 @@ impl Record {
     pub fn has_source(&self) -> bool
         ensures { result ≡ has_source self.now.node.made }
     {
-        match self.kind {
+        match self.origin.kind {
             KindWord::Leaf | KindWord::Sub => false,
             KindWord::Pass
             | KindWord::Flat
@@ -333,7 +330,7 @@ impl Record {
     pub fn is_connection(&self) -> bool
         ensures { result ≡ is_connect self.now.node.made }
     {
-        match self.kind {
+        match self.origin.kind {
             KindWord::Connect => true,
             KindWord::Leaf
             | KindWord::Pass
@@ -349,7 +346,7 @@ impl Record {
     pub fn connects(&self) -> Option<u64>
         ensures { result ≡ hub_connected self.now.node.made }
     {
-        self.origin.connects(self.place, self.kind)
+        self.origin.connects()
     }
 
     /// The hub that it subscribes to; None where it is no subscriber.
@@ -357,7 +354,7 @@ impl Record {
     pub fn subscribes_to(&self) -> Option<u64>
         ensures { result ≡ hub_subscribed self.now.node.made }
     {
-        self.origin.subscribes_to(self.place, self.kind)
+        self.origin.subscribes_to()
     }
 
     /// How it has to end, by its marks.
@@ -365,7 +362,7 @@ impl Record {
     pub fn terminal_due(&self) -> Option<Terminal>
         ensures { result ≡ terminal_due self.now.node.made self.now.node.marks }
     {
-        let other = match self.kind {
+        let other = match self.origin.kind {
             KindWord::Pass | KindWord::Connect => false,
             KindWord::Until => self.marks.fired,
             KindWord::Flat | KindWord::Switch => {
@@ -490,6 +487,8 @@ impl Record {
     #[inline(always)]
     #[tactic(auto, using(crate::proofs::PlaceKinds::links_back))]
     pub(crate) fn set_sibling(&mut self, link: Link)
+        requires next { slot_of link.next < 2 ^ 32 }
+        requires previous { slot_of link.previous < 2 ^ 32 }
         ensures { self.new ≡ record self.old { sibling = link } }
     {
         self.sibling = link.slots();
@@ -500,6 +499,7 @@ impl Record {
     #[inline(always)]
     #[tactic(auto, using(crate::proofs::PlaceKinds::leads_back))]
     pub(crate) fn set_sibling_next(&mut self, to: Place)
+        requires fits { slot_of to < 2 ^ 32 }
         ensures { self.new ≡ record self.old { sibling = record self.old.sibling { next = to } } }
     {
         self.sibling.next = to.slot();
@@ -510,6 +510,7 @@ impl Record {
     #[inline(always)]
     #[tactic(auto, using(crate::proofs::PlaceKinds::leads_back))]
     pub(crate) fn set_sibling_previous(&mut self, to: Place)
+        requires fits { slot_of to < 2 ^ 32 }
         ensures { self.new ≡ record self.old { sibling = record self.old.sibling { previous = to } } }
     {
         self.sibling.previous = to.slot();
@@ -528,6 +529,8 @@ impl Record {
     #[inline(always)]
     #[tactic(auto, using(crate::proofs::PlaceKinds::links_back))]
     pub(crate) fn set_noted(&mut self, link: Link)
+        requires next { slot_of link.next < 2 ^ 32 }
+        requires previous { slot_of link.previous < 2 ^ 32 }
         ensures { self.new ≡ record self.old { noted = link } }
     {
         self.noted = link.slots();
@@ -538,6 +541,7 @@ impl Record {
     #[inline(always)]
     #[tactic(auto, using(crate::proofs::PlaceKinds::leads_back))]
     pub(crate) fn set_noted_next(&mut self, to: Place)
+        requires fits { slot_of to < 2 ^ 32 }
         ensures { self.new ≡ record self.old { noted = record self.old.noted { next = to } } }
     {
         self.noted.next = to.slot();
@@ -548,6 +552,7 @@ impl Record {
     #[inline(always)]
     #[tactic(auto, using(crate::proofs::PlaceKinds::leads_back))]
     pub(crate) fn set_noted_previous(&mut self, to: Place)
+        requires fits { slot_of to < 2 ^ 32 }
         ensures { self.new ≡ record self.old { noted = record self.old.noted { previous = to } } }
     {
         self.noted.previous = to.slot();
@@ -566,6 +571,8 @@ impl Record {
     #[inline(always)]
     #[tactic(auto, using(crate::proofs::PlaceKinds::links_back))]
     pub(crate) fn set_children(&mut self, link: Link)
+        requires next { slot_of link.next < 2 ^ 32 }
+        requires previous { slot_of link.previous < 2 ^ 32 }
         ensures { self.new ≡ record self.old { children = link } }
     {
         self.children = link.slots();
@@ -576,6 +583,7 @@ impl Record {
     #[inline(always)]
     #[tactic(auto, using(crate::proofs::PlaceKinds::leads_back))]
     pub(crate) fn set_children_next(&mut self, to: Place)
+        requires fits { slot_of to < 2 ^ 32 }
         ensures { self.new ≡ record self.old { children = record self.old.children { next = to } } }
     {
         self.children.next = to.slot();
@@ -586,6 +594,7 @@ impl Record {
     #[inline(always)]
     #[tactic(auto, using(crate::proofs::PlaceKinds::leads_back))]
     pub(crate) fn set_children_previous(&mut self, to: Place)
+        requires fits { slot_of to < 2 ^ 32 }
         ensures { self.new ≡ record self.old { children = record self.old.children { previous = to } } }
     {
         self.children.previous = to.slot();
@@ -604,6 +613,8 @@ impl Record {
     #[inline(always)]
     #[tactic(auto, using(crate::proofs::PlaceKinds::links_back))]
     pub(crate) fn set_held(&mut self, link: Link)
+        requires next { slot_of link.next < 2 ^ 32 }
+        requires previous { slot_of link.previous < 2 ^ 32 }
         ensures { self.new ≡ record self.old { held = link } }
     {
         self.held = link.slots();
@@ -614,6 +625,7 @@ impl Record {
     #[inline(always)]
     #[tactic(auto, using(crate::proofs::PlaceKinds::leads_back))]
     pub(crate) fn set_held_next(&mut self, to: Place)
+        requires fits { slot_of to < 2 ^ 32 }
         ensures { self.new ≡ record self.old { held = record self.old.held { next = to } } }
     {
         self.held.next = to.slot();
@@ -624,6 +636,7 @@ impl Record {
     #[inline(always)]
     #[tactic(auto, using(crate::proofs::PlaceKinds::leads_back))]
     pub(crate) fn set_held_previous(&mut self, to: Place)
+        requires fits { slot_of to < 2 ^ 32 }
         ensures { self.new ≡ record self.old { held = record self.old.held { previous = to } } }
     {
         self.held.previous = to.slot();

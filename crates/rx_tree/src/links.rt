@@ -1,6 +1,6 @@
 //! Where a link of the tree leads.
 
-ghost use Rattle.std.specs.Prelude.{◌≡◌};
+ghost use Rattle.std.specs.Prelude.{◌≡◌, ◌<◌, ◌^◌};
 ghost use Rattle.rx_tree.specs.Places.{slot_of};
 ghost use Rattle.rx_tree.specs.Record.{kind_of, place_of, link_of};
 
@@ -59,7 +59,8 @@ impl Place {
 
     // Its slot, 0 where it has none.
     #[inline(always)]
-    pub(crate) fn slot(self) -> usize
+    pub(crate) fn slot(self) -> u32
+        requires fits { slot_of self < 2 ^ 32 }
         ensures { result ≡ slot_of self }
     {
         match self {
@@ -68,7 +69,7 @@ impl Place {
             | Place::Held(slot)
             | Place::Sibling(slot)
             | Place::Noted(slot)
-            | Place::Stored(slot) => slot,
+            | Place::Stored(slot) => slot as u32,
         }
     }
 }
@@ -99,11 +100,11 @@ pub(crate) struct Link {
     pub(crate) previous: Place,
 }
 
-/// The slots of a link's places.
+/// The slots of a link's places. Slots are below 2^29.
 #[derive(Clone, Copy)]
 pub(crate) struct LinkSlots {
-    pub(crate) next: usize,
-    pub(crate) previous: usize,
+    pub(crate) next: u32,
+    pub(crate) previous: u32,
 }
 
 /// The kinds of a link's places.
@@ -111,6 +112,19 @@ pub(crate) struct LinkSlots {
 pub(crate) struct LinkKinds {
     pub(crate) next: PlaceKind,
     pub(crate) previous: PlaceKind,
+}
+
+impl LinkKinds {
+    // Of a link whose places are of one kind.
+    #[inline(always)]
+    pub(crate) fn both(kind: PlaceKind) -> Self
+        ensures { result ≡ record { next = kind; previous = kind } }
+    {
+        LinkKinds {
+            next: kind,
+            previous: kind,
+        }
+    }
 }
 
 impl Link {
@@ -127,6 +141,8 @@ impl Link {
     // The slots of its places.
     #[inline(always)]
     pub(crate) fn slots(self) -> LinkSlots
+        requires next { slot_of self.next < 2 ^ 32 }
+        requires previous { slot_of self.previous < 2 ^ 32 }
         ensures { result ≡ record { next = slot_of self.next; previous = slot_of self.previous } }
     {
         LinkSlots {
@@ -154,8 +170,8 @@ impl LinkSlots {
         ensures { result ≡ link_of self kinds }
     {
         Link {
-            next: kinds.next.at(self.next),
-            previous: kinds.previous.at(self.previous),
+            next: kinds.next.at(self.next as usize),
+            previous: kinds.previous.at(self.previous as usize),
         }
     }
 }

@@ -1,6 +1,6 @@
 //! What made a node and what it stands below, as its record keeps them.
 
-ghost use Rattle.std.specs.Prelude.{◌≡◌};
+ghost use Rattle.std.specs.Prelude.{◌≡◌, ◌<◌, ◌^◌, IfSome};
 ghost use Rattle.rx_event.specs.Events.{hub_connected, hub_subscribed};
 ghost use Rattle.rx_tree.specs.Record.{made_of, above_of, place_word, kind_word, hub_in, origin_of, place_at};
 
@@ -79,13 +79,15 @@ impl KindWord {
     }
 }
 
-/// The numbers in what made a node: of the node above, of the slot where that stands, and of the hub;
-/// 0 where there is none.
+/// What made a node: the numbers of the node above, of the hub, and of the slot where the node above
+/// stands, each 0 where there is none, and the words that say what they are.
 #[derive(Clone, Copy)]
 pub(crate) struct Origin {
     pub(crate) above: u64,
-    pub(crate) slot: usize,
     pub(crate) hub: u64,
+    pub(crate) slot: u32,
+    pub(crate) place: PlaceWord,
+    pub(crate) kind: KindWord,
 }
 
 // The number of the hub that an event names, 0 where it names none.
@@ -103,32 +105,40 @@ fn hub_in(made: Event) -> u64
 }
 
 impl Origin {
-    // The numbers of a node.
+    // Of a node.
+    #[inline(always)]
     pub(crate) fn of(node: Node) -> Self
+        requires fits { IfSome node.above (λ key. key.slot < 2 ^ 32) }
         ensures { result ≡ origin_of node.made node.above }
     {
         let hub = hub_in(node.made);
+        let place = PlaceWord::of(node.made);
+        let kind = KindWord::of(node.made);
         match node.above {
             Some(key) => Origin {
                 above: key.number,
-                slot: key.slot,
                 hub,
+                slot: key.slot as u32,
+                place,
+                kind,
             },
             None => Origin {
                 above: 0,
-                slot: 0,
                 hub,
+                slot: 0,
+                place,
+                kind,
             },
         }
     }
 
-    // What made the node of these numbers and words.
+    // What made the node.
     #[inline(always)]
-    pub(crate) fn made(self, place: PlaceWord, kind: KindWord) -> Event
-        ensures { result ≡ made_of place kind self }
+    pub(crate) fn made(self) -> Event
+        ensures { result ≡ made_of self.place self.kind self }
     {
-        let place = place.at(self.above);
-        match kind {
+        let place = self.place.at(self.above);
+        match self.kind {
             KindWord::Leaf => Event::Open {
                 place,
                 kind: Kind::Leaf,
@@ -157,13 +167,12 @@ impl Origin {
         }
     }
 
-    // The hub that the node of these numbers and words connects; None where it is no connection.
+    // The hub that it connects; None where it is no connection.
     #[inline(always)]
-    pub(crate) fn connects(self, place: PlaceWord, kind: KindWord) -> Option<u64>
-        ensures { result ≡ hub_connected (made_of place kind self) }
+    pub(crate) fn connects(self) -> Option<u64>
+        ensures { result ≡ hub_connected (made_of self.place self.kind self) }
     {
-        let _place = place;
-        match kind {
+        match self.kind {
             KindWord::Connect => Some(self.hub),
             KindWord::Leaf
             | KindWord::Pass
@@ -176,11 +185,10 @@ impl Origin {
 
     // The hub that it subscribes to; None where it is no subscriber.
     #[inline(always)]
-    pub(crate) fn subscribes_to(self, place: PlaceWord, kind: KindWord) -> Option<u64>
-        ensures { result ≡ hub_subscribed (made_of place kind self) }
+    pub(crate) fn subscribes_to(self) -> Option<u64>
+        ensures { result ≡ hub_subscribed (made_of self.place self.kind self) }
     {
-        let _place = place;
-        match kind {
+        match self.kind {
             KindWord::Sub => Some(self.hub),
             KindWord::Leaf
             | KindWord::Pass
@@ -193,13 +201,13 @@ impl Origin {
 
     // The key of the node that it stands below.
     #[inline(always)]
-    pub(crate) fn above(self, place: PlaceWord) -> Option<Key>
-        ensures { result ≡ above_of place self }
+    pub(crate) fn above(self) -> Option<Key>
+        ensures { result ≡ above_of self.place self }
     {
-        match place {
+        match self.place {
             PlaceWord::Root => None,
             _ => Some(Key {
-                slot: self.slot,
+                slot: self.slot as usize,
                 number: self.above,
             }),
         }

@@ -64,6 +64,16 @@ impl<R: Drop> Store<R> {
         }
     }
 
+    // The slot of a node above fits a record. It does nothing.
+    #[inline(always)]
+    fn fits_above(&self, above: Option<Key>)
+        requires there { IfSome above (λ key. IsSome (find (nodes_of self.now) key)) }
+        ensures { IfSome above (λ key. key.slot < 2 ^ 32) }
+    {
+        let _above = above;
+        let _nodes = self.nodes.capacity();
+    }
+
     // Adds a record that stands on no ring and owes nothing.
     #[inline(always)]
     pub(crate) fn add_node(&mut self, number: u64, node: Node) -> Result<Key, AllocError>
@@ -73,6 +83,7 @@ impl<R: Drop> Store<R> {
         requires owes_nothing { node.marks.owed ≡ 0 }
         requires makes { IsTrue (makes_node node.made) }
         requires named { parent_named node.made ≡ option_map (λ key. key.number) node.above }
+        requires there { IfSome node.above (λ key. IsSome (find (nodes_of self.old) key)) }
         ensures ok { IfOk result (λ key. Inserts (nodes_of self.old) (nodes_of self.new) key number node) }
         ensures counted { OnOk result (IsCounted self.new) }
         ensures links { KeepsLinks self.old self.new }
@@ -83,6 +94,7 @@ impl<R: Drop> Store<R> {
             { nodes = record self.old.nodes { room = self.new.nodes.room } }) }
         ensures room { OnErr result (self.old.nodes.room ≤ self.new.nodes.room) }
     {
+        self.fits_above(node.above);
         let linked = Record::alone(node, self.nodes.next_slot());
         match self.nodes.insert(number, linked) {
             Ok(key) => Ok(key),

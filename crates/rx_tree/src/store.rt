@@ -2,7 +2,7 @@
 
 ghost use Rattle.std.specs.Prelude.{◌≡◌, ◌+◌, ◌<◌, ◌^◌, [], IsTrue};
 ghost use Rattle.rx_rings.specs.Rings.{set_step, Joins, PassesBy, Leaves, Merges};
-ghost use Rattle.rx_tree.specs.Places.{places};
+ghost use Rattle.rx_tree.specs.Places.{places, slot_of};
 ghost use Rattle.rx_tree.specs.Store.{alone, link_at, set_link_at, next_of, previous_of};
 ghost use Rattle.rx_tree.specs.Store.{is_there, no_counts, count_if, one_more, one_less, Relinks};
 ghost use Rattle.rx_tree.specs.declared.links.Place.TheVariants.{Roots, Due, Waiting, Children, Held, Sibling, Noted};
@@ -125,10 +125,23 @@ impl<R: Drop> Store<R> {
         }
     }
 
+    // The slot of a place where something stands fits a link. It does nothing.
+    #[inline(always)]
+    pub(crate) fn fits(&self, place: Place)
+        requires there { IsTrue (is_there self.now place) }
+        ensures { slot_of place < 2 ^ 32 }
+    {
+        let _place = place;
+        let _nodes = self.nodes.capacity();
+        let _resources = self.resources.capacity();
+    }
+
     // Writes what comes after a place and before it.
     #[inline(always)]
     fn set_link(&mut self, place: Place, link: Link)
         requires there { IsTrue (is_there self.old place) }
+        requires next { slot_of link.next < 2 ^ 32 }
+        requires previous { slot_of link.previous < 2 ^ 32 }
         ensures linked { (q : _) → link_at self.new q ≡ set_link_at place link self.old q }
         ensures rest { Relinks self.old self.new }
     {
@@ -148,6 +161,7 @@ impl<R: Drop> Store<R> {
     #[inline(always)]
     fn set_next(&mut self, place: Place, to: Place)
         requires there { IsTrue (is_there self.old place) }
+        requires fits { slot_of to < 2 ^ 32 }
         ensures next { (q : _) → next_of self.new q ≡ set_step places place to (next_of self.old) q }
         ensures previous { (q : _) → previous_of self.new q ≡ previous_of self.old q }
         ensures rest { Relinks self.old self.new }
@@ -168,6 +182,7 @@ impl<R: Drop> Store<R> {
     #[inline(always)]
     fn set_previous(&mut self, place: Place, to: Place)
         requires there { IsTrue (is_there self.old place) }
+        requires fits { slot_of to < 2 ^ 32 }
         ensures next { (q : _) → next_of self.new q ≡ next_of self.old q }
         ensures previous { (q : _) → previous_of self.new q ≡ set_step places place to (previous_of self.old) q }
         ensures rest { Relinks self.old self.new }
@@ -193,6 +208,8 @@ impl<R: Drop> Store<R> {
         ensures previous { (q : _) → previous_of self.new q ≡ set_step places other one (previous_of self.old) q }
         ensures rest { Relinks self.old self.new }
     {
+        self.fits(one);
+        self.fits(other);
         self.set_next(one, other);
         self.set_previous(other, one);
     }
@@ -208,6 +225,9 @@ impl<R: Drop> Store<R> {
         ensures rest { Relinks self.old self.new }
     {
         let last = self.link(end).previous;
+        self.fits(end);
+        self.fits(place);
+        self.fits(last);
         self.set_next(last, place);
         self.set_link(
             place,
@@ -243,6 +263,7 @@ impl<R: Drop> Store<R> {
             (next_of self.new) (previous_of self.new) place }
         ensures rest { Relinks self.old self.new }
     {
+        self.fits(place);
         self.pass_by(place);
         self.set_link(place, Link::alone(place));
     }
@@ -261,6 +282,7 @@ impl<R: Drop> Store<R> {
     {
         let link = self.link(from);
         let last = self.link(into).previous;
+        self.fits(from);
         self.tie(last, link.next);
         self.tie(link.previous, into);
         self.set_link(from, Link::alone(from));

@@ -1,0 +1,42 @@
+-- The slots of what stands in a store fit a link and a record.
+use Rattle.std.proofs.Common.{◌≡◌, ℕ, ◌+◌, ◌<◌, ◌≤◌, true, Option, Some, None, is_some, IsSome, IfSome, refl, sym, ap, ◌∙◌, arith, true≢false}
+use Rattle.rx_slots.specs.declared.Entry.{Entry}
+use Rattle.rx_slots.specs.declared.Key.{Key}
+use Rattle.rx_slots.specs.Slots.{Slots, entry_at, with_number, find, IsWithin}
+use Rattle.rx_slots.proofs.Laws.EntryByNumber.{with_number-same}
+use Rattle.rx_tree.specs.declared.links.Place.{Place}
+use Rattle.rx_tree.specs.declared.links.Place.TheVariants.{Roots, Due, Waiting, Children, Held, Sibling, Noted, Stored}
+use Rattle.rx_tree.specs.declared.store.Store.{Store}
+use Rattle.rx_tree.specs.Places.{slot_of}
+use Rattle.rx_tree.specs.Store.{nodes_of, resources_of, is_there}
+use Rattle.rx_tree.proofs.StoreLemmas.{within-project}
+
+module _ {X : Type 0} (s : Slots X) (within : IsWithin s) (most : s.count + s.room ≤ 536870912) where
+  slot_fits : (slot : ℕ) → is_some (entry_at s slot) ≡ true → slot < 4294967296
+  slot_fits slot there = of (entry_at s slot) refl where
+    of : (o : Option (Entry X)) → entry_at s slot ≡ o → slot < 4294967296
+    of None at = absurd (true≢false (sym there ∙ ap is_some at))
+    of (Some e) at =
+        let found = ap (λ o. is_some (with_number e.number o)) at ∙ ap is_some (with_number-same e.number e refl) in
+        let below = within (record { slot = slot; number = e.number }) found in
+        omega (arith, below, most)
+
+  pub above_fits : (above : Option Key) → IfSome above (λ key. IsSome (find s key)) → IfSome above (λ key. key.slot < 4294967296)
+  above_fits None there = tt
+  above_fits (Some key) there = let below = within key there in omega (arith, below, most)
+
+module _ {T : Type 0} (s : Store T) (nodes_in : IsWithin s.nodes) (nodes_most : s.nodes.count + s.nodes.room ≤ 536870912)
+    (resources_in : IsWithin s.resources) (resources_most : s.resources.count + s.resources.room ≤ 536870912) where
+  node_fits : (slot : ℕ) → is_some (entry_at (nodes_of s) slot) ≡ true → slot < 4294967296
+  node_fits = slot_fits (nodes_of s) (within-project (λ l. l.node) s.nodes nodes_in) nodes_most
+
+  pub place_fits : (p : Place) → is_there s p ≡ true → slot_of p < 4294967296
+  place_fits Roots there = omega arith
+  place_fits Due there = omega arith
+  place_fits Waiting there = omega arith
+  place_fits (Children slot) there = node_fits slot there
+  place_fits (Held slot) there = node_fits slot there
+  place_fits (Sibling slot) there = node_fits slot there
+  place_fits (Noted slot) there = node_fits slot there
+  place_fits (Stored slot) there =
+      slot_fits (resources_of s) (within-project (λ r. r.stowed) s.resources resources_in) resources_most slot there
