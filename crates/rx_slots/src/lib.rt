@@ -132,7 +132,8 @@ impl<T> Slots<T> {
         self.extend(additional)
     }
 
-    // Gets room for so many values more, and for as many free slots as there can be then.
+    // Gets room for so many values more, or for as many as fit the memory that this takes, and for as many
+    // free slots as there can be then.
     fn extend(&mut self, additional: usize) -> Result<(), AllocError>
         ensures ok { OnOk result (additional ≤ self.new.room) }
         ensures kept { self.new ≡ record self.old { room = self.new.room } }
@@ -142,8 +143,9 @@ impl<T> Slots<T> {
         if additional > MOST - len {
             return Err(AllocError);
         }
-        let capacity = self.capacity.max(len + additional);
-        self.cells.reserve(capacity - self.cells.len())?;
+        let wanted = self.capacity.max(len + additional);
+        self.cells.reserve(wanted - self.cells.len())?;
+        let capacity = self.cells.capacity().min(MOST);
         self.free.reserve(capacity - self.free.len())?;
         self.capacity = capacity;
         Ok(())
