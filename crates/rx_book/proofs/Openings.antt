@@ -18,7 +18,7 @@ use Rattle.rx_event.specs.Causes.{nodes_opened}
 use Rattle.rx_register.specs.State.{Writes}
 use Rattle.rx_register.proofs.Laws.OpeningForcesConnection.{opening_connects}
 use Rattle.rx_ground.specs.Shown.{Ground, list_room}
-use Rattle.rx_ground.specs.Memory.{TakesNoMemory}
+use Rattle.rx_ground.specs.Memory.{TakesNoMemory, TakesOneNode}
 use Rattle.rx_ground.specs.Ties.{IsTied, HasRoomToConnect, is_there}
 use Rattle.rx_book.specs.declared.answer.At.{At}
 use Rattle.rx_book.specs.declared.answer.At.TheVariants.{Root as AtRoot, Source as AtSource, Inner as AtInner, Notifier as AtNotifier}
@@ -31,10 +31,9 @@ pub opening_room : {T : Type 0} {old new : Ground T} {place : Place} {kind : Kin
     IsSettled old.register.base old.register.history →
     MayFollow old.register.base old.register.history (Open place kind) → Writes old.register (Open place kind ∷ []) new.register →
     nodes_opened old.register.history kind ≤ old.tree.nodes.room → nodes_opened old.register.history kind ≤ old.space →
-    old.tree.nodes.room ≤ new.tree.nodes.room + 1 → TakesNoMemory old new → old.closed ≡ [] →
-    length new.closed + new.tree.nodes.count ≡ length old.closed + old.tree.nodes.count + 1 →
+    TakesOneNode old new → TakesNoMemory old new → old.closed ≡ [] →
     HasRoomToConnect new.register.history new.tree.nodes.room (list_room new)
-opening_room {old} {place} {kind} law settled next w room space left memory begun listed = λ g waits.
+opening_room {old} {place} {kind} law settled next w room space one memory begun = λ g waits.
     let forces =
     opening_connects old.register.history place kind g law settled (may_subscribe old.register.base next)
     (subst (λ (k : List Event). IsConnectDue k g) w.history waits) in
@@ -42,6 +41,8 @@ opening_room {old} {place} {kind} law settled next w room space left memory begu
     let nodes = memory.nodes in
     let closing = memory.closing in
     let none = ap (λ (keys : List Key). length keys) begun in
+    let left = one.room in
+    let listed = one.listed in
     (omega arith, omega arith)
 
 -- and for its node, where the list of what is closed was begun

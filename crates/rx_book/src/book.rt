@@ -56,7 +56,18 @@ impl<R: Resource> Book<R> {
     /// memory.
     pub fn new(alloc: Global, max_events: u64) -> Self
         requires { max_events ≤ 4294967295 }
-        ensures { result ≡ record { base = nothing_kept; history = []; limit = max_events; keys = []; res_keys = []; lease_keys = []; held = []; waiting = []; given = 0; closed = [] } }
+        ensures { result ≡ record {
+          base = nothing_kept;
+          history = [];
+          limit = max_events;
+          keys = [];
+          res_keys = [];
+          lease_keys = [];
+          held = [];
+          waiting = [];
+          given = 0;
+          closed = [];
+        } }
     {
         Book {
             ground: Ground::new(alloc, max_events),
@@ -82,10 +93,10 @@ impl<R: Resource> Book<R> {
         self.ground.take_mail()
     }
 
-    /// How many nodes the last call closed that was accepted, and what it forced; 0 before the first. A call
-    /// that is refused leaves it as it was, and so does [`Book::take_mail`], and a checkpoint. Of one that
-    /// comes to several, as [`Book::next_all`], [`Book::release_waiting`] and [`Book::shut`] do, it is the last
-    /// that counts.
+    /// How many nodes the last accepted call closed, by itself and by what it forced; 0 before the first. A
+    /// refused call leaves the list of them as it was, and so do [`Book::take_mail`] and a checkpoint. A call
+    /// that comes to several others, as [`Book::next_all`], [`Book::release_waiting`] and [`Book::shut`] do,
+    /// leaves what the last of these closed.
     pub fn closed_count(&self) -> usize
         ensures { result ≡ length self.now.closed }
     {

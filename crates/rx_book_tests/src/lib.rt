@@ -1,7 +1,7 @@
 //! What no clause says of a book and its [`parts`], and no scenario shows: memory that is refused, just the memory that a call needs,
-//! closings where none is left, keys that are nobody's, boxes of two kinds, many items, which nodes a call closed, and
-//! what becomes of a book that is dropped. What operators do, over checkpoints too, and which calls are refused, stands in the scenarios
-//! that `rx_replay` compares, and worked examples with their events in `rx_crew_tests`.
+//! closings where none is left, keys that are nobody's, boxes of two kinds, many items, in which order nodes are closed,
+//! and what becomes of a book that is dropped. What operators do, over checkpoints too, and which calls are refused,
+//! stands in the scenarios that `rx_replay` compares, and worked examples with their events in `rx_crew_tests`.
 #![tactic(auto)]
 
 #[cfg(test)]

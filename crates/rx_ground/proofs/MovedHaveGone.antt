@@ -31,7 +31,8 @@ use Rattle.rx_ground.specs.Shown.{closed_key, closed_keys}
 use Rattle.rx_ground.specs.Ties.{AreRecords, IsTied, Cuts, Moves}
 use Rattle.rx_ground.proofs.Records.{AreLeft, cut_left}
 use Rattle.rx_ground.proofs.Laws.GoneStaysGone.{went}
-use Rattle.rx_ground.proofs.Laws.Members.{Contains-head, Contains-later, All-members, AllPairs-head, AllPairs-tail, AllPairs-nil, Contains-map, Contains-from_map, AllPairs-map}
+use Rattle.rx_ground.proofs.Laws.Members.{Contains-head, Contains-later, All-members, AllPairs-head, AllPairs-tail, AllPairs-nil}
+use Rattle.rx_ground.proofs.Laws.Members.{Contains-map, Contains-from_map, AllPairs-map}
 
 -- pairs of members, of which more is known
 pub AllPairs-by : {X : Type 0} (R S : X → X → Type 0) (xs : List X) → ((x y : X) → Contains xs x → Contains xs y → R x y → S x y) →
@@ -60,7 +61,8 @@ moves_subtree nodes top before after begins subtree = record {
       subst (λ (k : Key). IsSome (find nodes k) × IsTrue (is_below nodes top k.number)) m.2 (ap is_some is.found, is.below);
   every = λ key some below.
       let x = some_of (find nodes key) some in
-      Contains-map closed_key moved (record { key = key; node = x.0 }) ((subtree.exactly (record { key = key; node = x.0 })).1 (record { found = x.1; below = below }));
+      let one : Closed = record { key = key; node = x.0 } in
+      Contains-map closed_key moved one ((subtree.exactly one).1 (record { found = x.1; below = below }));
   once = AllPairs-map closed_key (λ a b. a ≢ b) moved subtree.once;
 }
   where
@@ -120,11 +122,11 @@ module _ {base : Kept} {h : List Event} {e : Event} {nodes left : Slots Node} {c
           ap (goes h (h ++ e ∷ [])) (sym m.2) ∙ moved_goes m.0 m.1
 
 -- it is so where the event closes a node and all below it
-pub gathers_closed : {base : Kept} {T : Type 0} {g : Ghosts T} {h : List Event} {e : Event} {old mid : Tree T} {n : ℕ} {list longer : List Key} →
+pub gathers_closed : {base : Kept} {T : Type 0} {g : Ghosts T} {h k : List Event} {e : Event} {old mid : Tree T} {n : ℕ} {list longer : List Key} →
     IsLawful base h → MayFollow base h e → IsTied base g h old → IsSound old.nodes → Cuts old mid n →
     ((m : ℕ) → is_open (h ++ e ∷ []) m ≡ (is_open h m && not (is_within h n m))) → Moves old.nodes n list longer →
-    Gathers h list (h ++ e ∷ []) longer
-gathers_closed {base} {h = h} {e = e} {old = old} {mid = mid} {n = n} law next tied sound cuts outside moves =
-    gathers_cut next tied.records
+    k ≡ h ++ e ∷ [] → Gathers h list k longer
+gathers_closed {base} {h = h} {e = e} {old = old} {mid = mid} {n = n} {list = list} {longer = longer} law next tied sound cuts outside moves grown =
+    subst (λ (k : List Event). Gathers h list k longer) (sym grown) (gathers_cut next tied.records
     (cut_left base h e law next old.nodes old.chain tied.records mid.nodes mid.chain n sound (λ m l. outside m) cuts.nodes cuts.chain)
-    cuts.nodes sound.apart moves
+    cuts.nodes sound.apart moves)

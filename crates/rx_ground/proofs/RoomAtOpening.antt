@@ -1,5 +1,6 @@
 -- What makes way for a node takes no memory, and leaves a ground that is ready for it.
-use Rattle.std.proofs.Common.{◌≡◌, ◌+◌, ◌<◌, ◌≤◌, ◌∙◌, ◌++◌, ◌∷◌, [], ℕ, Bool, true, false, List, Option, IfSome, length, sym, ap, subst, arith, inl, inr, ◌⊎◌}
+use Rattle.std.proofs.Common.{◌≡◌, ◌+◌, ◌-◌, ◌<◌, ◌≤◌, ◌∙◌, ◌++◌, ◌∷◌, [], ℕ, Bool, true, false, List, Option, IfSome, length}
+use Rattle.std.proofs.Common.{sym, ap, subst, arith, inl, inr, ◌⊎◌}
 use Rattle.std.proofs.lemmas.Bool.{cases_Bool}
 use Rattle.rx_event.proofs.Laws.Totals.{is_open_new}
 use Rattle.rx_resource.specs.declared.Resource.{Ghosts}
@@ -8,9 +9,11 @@ use Rattle.rx_event.specs.declared.event.Event.TheVariants.{Open}
 use Rattle.rx_event.specs.declared.event.Kind.{Kind}
 use Rattle.rx_event.specs.declared.event.Place.{Place}
 use Rattle.rx_event.specs.Lawful.{MayFollow, IsLawful}
-use Rattle.rx_register.specs.State.{IsPromised, Writes}
+use Rattle.rx_register.specs.State.{State as Register, IsPromised, Writes}
 use Rattle.rx_slots.specs.declared.Key.{Key}
-use Rattle.rx_slots.specs.Slots.{find}
+use Rattle.rx_slots.specs.Slots.{Slots, find}
+use Rattle.rx_tree.specs.declared.node.Closed.{Closed}
+use Rattle.rx_tree.specs.declared.node.ResKey.{ResKey}
 use Rattle.rx_tree.specs.Owed.{owed_in}
 use Rattle.rx_tree.specs.Tree.{Tree, IsSound}
 use Rattle.rx_hub.specs.After.{hubs_after, with_made}
@@ -18,13 +21,18 @@ use Rattle.rx_hub.specs.Hubs.{Hubs}
 use Rattle.rx_ground.specs.Gone.{Gathers}
 use Rattle.rx_ground.specs.Inners.{MakesWay, ClearsHubs, ListsReplaced, ListsWay}
 use Rattle.rx_ground.specs.Memory.{TakesNoMemory}
-use Rattle.rx_ground.specs.Shown.{Ground}
+use Rattle.rx_ground.specs.Shown.{Ground, closed_keys}
 use Rattle.rx_ground.specs.Ties.{AreTied}
 use Rattle.rx_ground.proofs.Memory.{written_memory}
 use Rattle.rx_ground.proofs.HubsAtOpening.{hubs_opened}
 use Rattle.rx_ground.proofs.ReadyToOpen.{IsReadyToOpen, IsOpenedBelow, few_above, none_closed, way_left}
 use Rattle.rx_ground.proofs.MovedHaveGone.{gathers_cut}
 use Rattle.rx_ground.proofs.Laws.GoneStaysGone.{gathers_none}
+
+-- a ground of these parts, whose list has room for so many
+abbrev pub ground_of : {T : Type 0} → Register → Tree T → Hubs → Slots ResKey → List Closed → ℕ → Ground T
+ground_of register tree hubs leases list most =
+    record { register = register; tree = tree; hubs = hubs; leases = leases; closed = closed_keys list; space = most - tree.nodes.count }
 
 module _ {T : Type 0} where
   -- what making way for a node leaves of a ground
@@ -37,7 +45,6 @@ module _ {T : Type 0} where
     pub room : old.tree.nodes.room ≤ left.tree.nodes.room
     pub memory : TakesNoMemory old left
     pub lists : ListsWay old.register.history place old.tree left.tree old.closed left.closed replaces
-    pub listed : length left.closed + left.tree.nodes.count ≡ length old.closed + old.tree.nodes.count
 
   -- so it is ready for the node, which may be opened
   pub record IsWayMade (g : Ghosts T) (place : Place) (kind : Kind) (old left : Ground T) (replaces : Bool) : Type 0 where
@@ -108,16 +115,18 @@ module _ {T : Type 0} where
 
   -- what was closed for the node has gone after it, and nothing else went
   pub gathers_opened : {g : Ghosts T} {place : Place} {kind : Kind} {old left : Ground T} {replaces : Bool} → IsWayMade g place kind old left replaces →
-      Gathers old.register.history old.closed (old.register.history ++ Open place kind ∷ []) left.closed
-  gathers_opened {place = place} {kind = kind} {old = old} {left = left} {replaces = replaces} w = by_test (cases_Bool replaces) where
-    exchanged : ListsReplaced old.register.history place old.tree left.tree old.closed left.closed →
-        Gathers old.register.history old.closed (old.register.history ++ Open place kind ∷ []) left.closed
-    exchanged x = gathers_cut w.ready.next w.ready.tied.of_tree.records (way_left w.ready) x.cuts.nodes w.ready.sound.apart x.moves
+      {h : List Event} → h ≡ old.register.history ++ Open place kind ∷ [] → Gathers old.register.history old.closed h left.closed
+  gathers_opened {place = place} {kind = kind} {old = old} {left = left} {replaces = replaces} w grown =
+      subst (λ (k : List Event). Gathers old.register.history old.closed k left.closed) (sym grown) (by_test (cases_Bool replaces))
+    where
+      exchanged : ListsReplaced old.register.history place old.tree left.tree old.closed left.closed →
+          Gathers old.register.history old.closed (old.register.history ++ Open place kind ∷ []) left.closed
+      exchanged x = gathers_cut w.ready.next w.ready.tied.of_tree.records (way_left w.ready) x.cuts.nodes w.ready.sound.apart x.moves
 
-    by_test : (replaces ≡ true) ⊎ (replaces ≡ false) →
-        Gathers old.register.history old.closed (old.register.history ++ Open place kind ∷ []) left.closed
-    by_test (inl takes) = exchanged (w.stays.lists.exchanged takes)
-    by_test (inr leaves) =
-        subst (Gathers old.register.history old.closed (old.register.history ++ Open place kind ∷ [])) (sym (w.stays.lists.same leaves))
-        (gathers_none old.register.history (Open place kind) old.closed (none_closed old.register.history place kind (w.ready.way.none leaves))
-        (is_open_new old.register.base old.register.history (Open place kind) w.ready.next))
+      by_test : (replaces ≡ true) ⊎ (replaces ≡ false) →
+          Gathers old.register.history old.closed (old.register.history ++ Open place kind ∷ []) left.closed
+      by_test (inl takes) = exchanged (w.stays.lists.exchanged takes)
+      by_test (inr leaves) =
+          subst (Gathers old.register.history old.closed (old.register.history ++ Open place kind ∷ [])) (sym (w.stays.lists.same leaves))
+          (gathers_none old.register.history (Open place kind) old.closed (none_closed old.register.history place kind (w.ready.way.none leaves))
+          (is_open_new old.register.base old.register.history (Open place kind) w.ready.next))

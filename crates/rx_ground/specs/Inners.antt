@@ -1,6 +1,6 @@
 -- The inner observables of a Switch: one at most is open, and one that is opened takes its place (Switch: it unsubscribes from
 -- the previous inner). No public clause cites this module.
-use Rattle.std.specs.Prelude.{◌≡◌, ℕ, Bool, true, false, List, None, IsSome}
+use Rattle.std.specs.Prelude.{◌≡◌, ℕ, ◌+◌, Bool, true, false, List, None, IsSome, length}
 use Rattle.rx_event.specs.declared.event.Place.{Place}
 use Rattle.rx_event.specs.declared.event.Place.TheVariants.{Inner}
 use Rattle.rx_event.specs.declared.event.Event.{Event}
@@ -69,3 +69,4 @@ module _ {T : Type 0} where
   pub record ListsWay (h : List Event) (place : Place) (old new : Tree T) (list longer : List Key) (replaces : Bool) : Type 0 where
     pub exchanged : replaces ≡ true → ListsReplaced h place old new list longer
     pub same : replaces ≡ false → longer ≡ list
+    pub counted : length longer + new.nodes.count ≡ length list + old.nodes.count

@@ -1,5 +1,5 @@
 -- What a call that takes no memory leaves of the room.
-use Rattle.std.specs.Prelude.{◌≡◌, ◌+◌, length}
+use Rattle.std.specs.Prelude.{◌≡◌, ◌+◌, ◌≤◌, length}
 use Rattle.rx_event.specs.Notes.{notes}
 use Rattle.rx_ground.specs.Shown.{Ground}
 
@@ -13,6 +13,11 @@ pub record TakesNoMemory {T : Type 0} (old new : Ground T) : Type 0 where
   pub hubs : length new.hubs.hubs + new.hubs.room ≡ length old.hubs.hubs + old.hubs.room
   pub slots : new.hubs.slots ≡ old.hubs.slots
   pub closing : new.tree.nodes.count + new.space ≡ old.tree.nodes.count + old.space
+
+-- an opening took one place of the nodes at most, and one of the list of what is closed and the nodes together
+pub record TakesOneNode {T : Type 0} (old new : Ground T) : Type 0 where
+  pub room : old.tree.nodes.room ≤ new.tree.nodes.room + 1
+  pub listed : length new.closed + new.tree.nodes.count ≡ length old.closed + old.tree.nodes.count + 1
 
 -- there is no room for events, nodes, resources, leases, hubs and closings
 pub record HasNoRoom {T : Type 0} (b : Ground T) : Type 0 where

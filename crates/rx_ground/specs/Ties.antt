@@ -1,6 +1,6 @@
 -- How a tree and hubs are tied to the history beside them, and what each write asks for and changes.
-use Rattle.std.specs.Prelude.{◌≡◌, ℕ, ◌+◌, ◌<◌, ◌≤◌, cond, map, length, Bool, true, false, ◌&&◌, Option, Some, None, is_some, IsSome, IfSome, IsTrue, List, [], ◌++◌, ◌≢◌}
-use Rattle.std.specs.Prelude.{slice_get}
+use Rattle.std.specs.Prelude.{◌≡◌, ℕ, ◌+◌, ◌<◌, ◌≤◌, cond, map, length, Bool, true, false, ◌&&◌, Option, Some, None, is_some, IsSome, IfSome, List, []}
+use Rattle.std.specs.Prelude.{◌≢◌, ◌++◌, IsTrue, slice_get}
 use Rattle.std.proofs.Math.Bool.{not}
 use Rattle.std.specs.List.{AllByRecursion, AllPairs, list_any, Contains}
 use Rattle.std.specs.Option.{option_map_or}

@@ -1,7 +1,8 @@
 //! What a book stands on: the register of what happened, the tree of what is open, held and waiting, the
 //! hubs that were made, and the leases that are out.
 
-ghost use Rattle.std.specs.Prelude.{◌≡◌, ◌+◌, ◌-◌, ◌<◌, ◌≤◌, [], length, slice_get, vec_capacity, option_map, IfSome, IsSome, OnOk};
+ghost use Rattle.std.specs.Prelude.{◌≡◌, ◌+◌, ◌-◌, ◌<◌, ◌≤◌, [], length, slice_get, vec_capacity};
+ghost use Rattle.std.specs.Prelude.{option_map, IfSome, IsSome, OnOk};
 ghost use Rattle.rx_register.specs.State.{IsPromised as IsRegisterPromised};
 ghost use Rattle.rx_tree.specs.Tree.{AreApart, IsPromised as IsTreePromised, parent_number};
 ghost use Rattle.rx_hub.specs.Hubs.{IsPromised as IsHubsPromised};
@@ -39,7 +40,14 @@ impl<R: Resource> Model for Ground<R> {
 
     ghost Value = { Shown R };
 
-    ghost view = { λ b. record { register = b.register; tree = b.tree; hubs = b.hubs; leases = b.leases; closed = closed_keys b.closed.items; space = vec_capacity b.closed - b.tree.nodes.count } };
+    ghost view = { λ b. record {
+      register = b.register;
+      tree = b.tree;
+      hubs = b.hubs;
+      leases = b.leases;
+      closed = closed_keys b.closed.items;
+      space = vec_capacity b.closed - b.tree.nodes.count;
+    } };
 
     ghost invariant = { λ b. (vec_len b.closed + b.tree.nodes.count ≤ vec_capacity b.closed) ×
         (length b.hubs.hubs + b.hubs.room ≤ b.route.room) };

@@ -15,7 +15,7 @@ ghost use Rattle.rx_ground.specs.Ties.{AreTied, AreLeased, IsReady, IsNewNode, I
 ghost use Rattle.rx_event.specs.declared.event.Kind.{Kind};
 ghost use Rattle.rx_hub.specs.After.{hubs_after, with_made};
 ghost use Rattle.rx_hub.specs.Hubs.{find_hub, AreBelow, IsFree};
-ghost use Rattle.rx_ground.specs.Memory.{TakesNoMemory};
+ghost use Rattle.rx_ground.specs.Memory.{TakesNoMemory, TakesOneNode};
 ghost use Rattle.rx_ground.specs.Shown.{list_room};
 
 use crate::base::Ground;
@@ -135,8 +135,6 @@ impl<R: Resource> Ground<R> {
         ensures leases { self.new.leases ≡ self.old.leases }
         ensures closed { ListsWay self.old.register.history place self.old.tree self.new.tree
             self.old.closed self.new.closed result }
-        ensures listed { length self.new.closed + self.new.tree.nodes.count ≡
-            length self.old.closed + self.old.tree.nodes.count }
         ensures memory { TakesNoMemory self.old self.new }
     {
         let Place::Inner(_) = place else {
@@ -161,8 +159,6 @@ impl<R: Resource> Ground<R> {
         ensures leases { self.new.leases ≡ self.old.leases }
         ensures closed { ListsWay self.old.register.history place self.old.tree self.new.tree
             self.old.closed self.new.closed result }
-        ensures listed { length self.new.closed + self.new.tree.nodes.count ≡
-            length self.old.closed + self.old.tree.nodes.count }
         ensures memory { TakesNoMemory self.old self.new }
     {
         let Some(inner) = self.replaced(place, above) else {
@@ -191,15 +187,13 @@ impl<R: Resource> Ground<R> {
         ensures leased { AreLeased self.new.register.history self.new.tree.resources self.new.leases }
         ensures new { IsNewNode self.old.tree.nodes self.new.tree.nodes (length self.old.register.history) result }
         ensures resources { self.new.tree.resources ≡ self.old.tree.resources }
-        ensures left { self.old.tree.nodes.room ≤ self.new.tree.nodes.room + 1 }
+        ensures left { TakesOneNode self.old self.new }
         ensures hubs { self.new.hubs ≡ record self.old.hubs {
           hubs = hubs_after self.old.register.history (Event.Open place kind) result.slot self.old.hubs.hubs;
         } }
         ensures leases { self.new.leases ≡ self.old.leases }
         ensures closed { Gathers self.old.register.history self.old.closed self.new.register.history
             self.new.closed }
-        ensures listed { length self.new.closed + self.new.tree.nodes.count ≡
-            length self.old.closed + self.old.tree.nodes.count + 1 }
         ensures memory { TakesNoMemory self.old self.new }
     {
         self.register.promise();

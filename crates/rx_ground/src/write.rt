@@ -16,8 +16,8 @@ ghost use Rattle.rx_tree.specs.Resources.{is_held_at, is_owned_at};
 ghost use Rattle.rx_register.specs.State.{Writes};
 ghost use Rattle.rx_ground.specs.Reached.{MakesOnly};
 ghost use Rattle.rx_ground.specs.Gone.{Gathers};
-ghost use Rattle.rx_ground.specs.Ties.{AreTied, AreLeased, IsReady, KeepsNodes, KeepsHeld, IsListed, Remarks, Cuts, Moves};
-ghost use Rattle.rx_ground.specs.Ties.{left_inside};
+ghost use Rattle.rx_ground.specs.Ties.{AreTied, AreLeased, IsReady, KeepsNodes, KeepsHeld, IsListed};
+ghost use Rattle.rx_ground.specs.Ties.{Remarks, Cuts, Moves, left_inside};
 ghost use Rattle.rx_hub.specs.After.{end_by};
 ghost use Rattle.rx_ground.specs.Memory.{TakesNoMemory};
 

@@ -29,7 +29,7 @@ settle-requires-clause-room g c κs within =
     let next = (opening_ready g.R.Resource c.args.ground.now c.args.at c.args.kind a).next in
     opening_room a.let_in.may.lawful a.let_in.may.settled next
     (rw c.spot_of-spot.ensures.place at o.written) a.room.nodes a.room.space o.left o.memory
-    a.let_in.begun o.listed
+    a.let_in.begun
 
 pub returns-clause-accepted : goal.returns-clause-accepted
 returns-clause-accepted g c =

@@ -7,8 +7,7 @@ use Rattle.rx_register.specs.State.{State, Writes}
 use Rattle.rx_hub.specs.After.{is_inside}
 use Rattle.rx_hub.specs.Hubs.{Hubs}
 use Rattle.rx_hub.proofs.Laws.AfterCases.{hubs_closed}
-use Rattle.rx_ground.specs.Gone.{Gathers}
-use Rattle.rx_ground.specs.Shown.{Ground, closed_keys}
+use Rattle.rx_ground.specs.Shown.{Ground}
 use Rattle.rx_ground.specs.Ties.{AreLeased, IsTied, AreTied, KeepsNodes, Cuts, Moves, left_inside}
 use Rattle.rx_ground.proofs.MovedHaveGone.{gathers_closed}
 use Rattle.rx_ground.proofs.Memory.{written_memory}
@@ -121,11 +120,8 @@ returns-clause-leases g c =
 pub returns-clause-closed : goal.returns-clause-closed
 returns-clause-closed g c =
     let h = c.self.inside.register.history in
-    let list = closed_keys c.self.inside.closed.items in
-    let longer = closed_keys c.self-2.inside.closed.items in
     let tied : IsTied c.self.inside.register.base g.R.Resource h c.self.inside.tree = rw (← c.self.view_is) at c.requires.tied.of_tree in
     let next : MayFollow c.self.inside.register.base h (Close c.args.node.number) = rw (← c.self.view_is) at c.requires.ready.next in
-    let told : Moves c.self.inside.tree.nodes c.args.node.number list c.cut.new.self.closed = rw (← c.self.view_is) at c.cut.ensures.closed in
-    let moves : Moves c.self.inside.tree.nodes c.args.node.number list longer = rw (← c.self-2.view_is) at told in
-    let gathers = gathers_closed c.promise.ensures.lawful next tied c.promise-2.ensures.sound (cut_tree g c) (is_open_outside-close h c.args.node.number) moves in
-    rw (← c.self.view_is) (subst (λ (k : List Event). Gathers h list k longer) (sym (grown g c)) gathers)
+    let told : Moves c.self.inside.tree.nodes c.args.node.number _ c.cut.new.self.closed = rw (← c.self.view_is) at c.cut.ensures.closed in
+    rw (← c.self.view_is) (gathers_closed c.promise.ensures.lawful next tied c.promise-2.ensures.sound (cut_tree g c)
+    (is_open_outside-close h c.args.node.number) (rw (← c.self-2.view_is) at told) (grown g c))

@@ -1,4 +1,4 @@
-use Rattle.std.proofs.Common.{◌≡◌, List, ◌∷◌, [], refl, sym, ap, subst, ◌∙◌, arith, Option, Some, option_map, false, ◌+◌, ◌-◌, vec_capacity, length}
+use Rattle.std.proofs.Common.{◌≡◌, ◌∷◌, [], refl, sym, ap, subst, ◌∙◌, arith, Option, Some, option_map, false, ◌+◌, ◌-◌, vec_capacity, length}
 use Rattle.std.specs.Option.{option_map_or}
 use Rattle.rx_event.specs.declared.event.Event.{Event}
 use Rattle.rx_event.specs.declared.event.Event.TheVariants.{End}
@@ -10,9 +10,8 @@ use Rattle.rx_hub.specs.After.{is_inside, end_by}
 use Rattle.rx_hub.specs.Hubs.{Hubs}
 use Rattle.rx_hub.proofs.Laws.AfterCases.{hubs_ended}
 use Rattle.rx_event.proofs.Laws.Openness.{is_open_outside-end}
-use Rattle.rx_ground.specs.Gone.{Gathers}
-use Rattle.rx_ground.specs.Shown.{Ground, closed_keys}
-use Rattle.rx_ground.specs.Ties.{AreLeased, IsTied, AreTied, Moves, record_of, left_inside}
+use Rattle.rx_ground.specs.Shown.{Ground}
+use Rattle.rx_ground.specs.Ties.{AreLeased, IsTied, AreTied, record_of, left_inside}
 use Rattle.rx_ground.proofs.MovedHaveGone.{gathers_closed}
 use Rattle.rx_ground.proofs.Memory.{written_memory, same_places}
 use Rattle.rx_ground.proofs.RegisterAfterWrite.{TellsOf, writes_told}
@@ -146,10 +145,6 @@ returns-clause-leases g c = rw (← c.self.view_is) (same_leases g c)
 
 pub returns-clause-closed : goal.returns-clause-closed
 returns-clause-closed g c =
-    let h = c.self.inside.register.history in
-    let list = closed_keys c.self.inside.closed.items in
-    let longer = closed_keys c.self-2.inside.closed.items in
     let r = ready g (goal.at.returns-clause-closed g c).After-write in
-    let moves : Moves c.self.inside.tree.nodes c.args.node.number list longer = rw (← c.self-2.view_is) at c.cut.ensures.closed in
-    let gathers = gathers_closed r.law r.next r.tied r.sound r.cuts (is_open_outside-end h c.args.node.number c.args.terminal) moves in
-    rw (← c.self.view_is) (subst (λ (k : List Event). Gathers h list k longer) (sym (written g c).history) gathers)
+    rw (← c.self.view_is) (gathers_closed r.law r.next r.tied r.sound r.cuts (is_open_outside-end _ c.args.node.number c.args.terminal)
+    (rw (← c.self-2.view_is) at c.cut.ensures.closed) (written g c).history)

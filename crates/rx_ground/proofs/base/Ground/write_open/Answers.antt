@@ -1,17 +1,14 @@
-use Rattle.std.proofs.Common.{is_some, ◌≡◌, List, length, refl, sym, subst, ◌∙◌, arith, ◌∷◌, [], ◌+◌, ◌-◌, ◌<◌, ap, vec_capacity}
-use Rattle.rx_event.specs.declared.event.Event.{Event}
+use Rattle.std.proofs.Common.{is_some, ◌≡◌, refl, subst, ◌∙◌, arith, ◌∷◌, [], ◌+◌, ◌<◌, ap, vec_capacity}
 use Rattle.rx_event.specs.declared.event.Event.TheVariants.{Open}
 use Rattle.rx_slots.specs.Slots.{Slots}
 use Rattle.rx_register.specs.State.{State, Writes}
 use Rattle.rx_tree.specs.declared.node.Node.{Node}
 use Rattle.rx_hub.specs.Hubs.{Hubs}
-use Rattle.rx_ground.specs.Gone.{Gathers}
-use Rattle.rx_ground.specs.Shown.{closed_keys}
 use Rattle.rx_ground.specs.Ties.{AreLeased}
 use Rattle.rx_ground.proofs.RegisterAfterWrite.{writes_silent}
 use Rattle.rx_ground.proofs.ReadyToOpen.{IsOpenedBelow, stands_below, opened_new, owes_above, above_there_still, quiet_above, newest_left, placed_left, way_resources}
 use Rattle.rx_ground.proofs.HubsAtOpening.{rest_same, joined_left, ready_left, older_left, all_opened, as_many_opened}
-use Rattle.rx_ground.proofs.RoomAtOpening.{IsWayMade, way_made, few_children, hubs_told, slot_within, left_memory, gathers_opened}
+use Rattle.rx_ground.proofs.RoomAtOpening.{ground_of, IsWayMade, way_made, few_children, hubs_told, slot_within, left_memory, gathers_opened}
 use Rattle.rx_ground.proofs.HubsAfterEvent.{tied_written}
 use Rattle.rx_ground.proofs.HubsBesideTree.{slot_free, some_hub}
 use Rattle.rx_ground.proofs.Leases.{leased_quiet}
@@ -20,39 +17,12 @@ use Rattle.rx_ground.proofs.base.Ground.write_open.Goals as goal
 use Rattle.rx_ground.proofs.base.Ground.write_open.Goals.{After-open, After-join}
 
 -- way is made in what the call finds
-way : (g : Over) (c : goal.After-open-arg-1 g) → IsWayMade g.R.Resource c.args.place c.args.kind
-    (let b = c.self.inside in
-    record {
-      register = b.register;
-      tree = b.tree;
-      hubs = b.hubs;
-      leases = b.leases;
-      closed = closed_keys b.closed.items;
-      space = vec_capacity b.closed - b.tree.nodes.count;
-    })
-    (let b = c.self-2.inside in
-    record {
-      register = b.register;
-      tree = b.tree;
-      hubs = b.hubs;
-      leases = b.leases;
-      closed = closed_keys b.closed.items;
-      space = vec_capacity b.closed - b.tree.nodes.count;
-    })
-    c.exchange-replaces.result
+way : (g : Over) (c : goal.After-open-arg-1 g) → (let b = c.self.inside in let l = c.self-2.inside in
+    IsWayMade g.R.Resource c.args.place c.args.kind (ground_of b.register b.tree b.hubs b.leases b.closed.items (vec_capacity b.closed))
+    (ground_of l.register l.tree l.hubs l.leases l.closed.items (vec_capacity l.closed)) c.exchange-replaces.result)
 way g c = let e = c.exchange-replaces.ensures in
     way_made c.self.view_is c.self-2.view_is c.promise.ensures.lawful c.requires.ready.next c.requires.tied c.promise-2.ensures.sound
-    (record {
-      way = e.way;
-      hubs = e.hubs;
-      register = e.register;
-      leases = e.leases;
-      owed = e.owed;
-      room = e.room;
-      memory = e.memory;
-      lists = e.closed;
-      listed = e.listed;
-    })
+    (record { way = e.way; hubs = e.hubs; register = e.register; leases = e.leases; owed = e.owed; room = e.room; memory = e.memory; lists = e.closed })
 
 pub open-requires-clause-newest : goal.open-requires-clause-newest
 open-requires-clause-newest g c κs within = newest_left (way g c).ready c.len-number.result c.len-number.ensures
@@ -146,8 +116,7 @@ returns-clause-resources g c = rw (← c.self.view_is) (same_resources g c)
 pub returns-clause-memory : goal.returns-clause-memory
 returns-clause-memory g c = let m = c.mark_opened.ensures in
     let stays = (way g (at_opening g c)).stays in
-    let space : 0 < (vec_capacity c.self.inside.closed - c.self.inside.tree.nodes.count) - length (closed_keys c.self.inside.closed.items) =
-    rw (← c.self.view_is) at c.requires.space in
+    let space = rw (← c.self.view_is) at c.requires.space in
     let closing = stays.memory.closing in
     let within = c.self-2.invariant.0 in
     let more = c.in-Ok.ensures.count in
@@ -163,7 +132,9 @@ returns-clause-left g c =
     let more = (way g (at_opening g c)).stays.room in
     let less = place_taken g (goal.at.returns-clause-left g c).After-open in
     let kept = ap (λ (s : Slots Node). s.room) c.mark_opened.ensures.rest in
-    rw (← c.self.view_is) (omega arith)
+    let listed = (way g (at_opening g c)).stays.lists.counted in let count = c.in-Ok.ensures.count in
+    let same = ap (λ (s : Slots Node). s.count) c.mark_opened.ensures.rest in
+    rw (← c.self.view_is) (record { room = omega arith; listed = omega arith })
 
 pub returns-clause-leased : goal.returns-clause-leased
 returns-clause-leased g c =
@@ -176,15 +147,4 @@ pub returns-clause-leases : goal.returns-clause-leases
 returns-clause-leases g c = rw (← c.self.view_is) (way g (at_opening g c)).stays.leases
 
 pub returns-clause-closed : goal.returns-clause-closed
-returns-clause-closed g c =
-    let list = closed_keys c.self.inside.closed.items in
-    let longer = closed_keys c.self-2.inside.closed.items in
-    rw (← c.self.view_is) (subst (λ (k : List Event). Gathers c.self.inside.register.history list k longer) (sym (written g c).history)
-    (gathers_opened (way g (at_opening g c))))
-
-pub returns-clause-listed : goal.returns-clause-listed
-returns-clause-listed g c =
-    let listed = (way g (at_opening g c)).stays.listed in
-    let more = c.in-Ok.ensures.count in
-    let count = ap (λ (s : Slots Node). s.count) c.mark_opened.ensures.rest in
-    rw (← c.self.view_is) (omega arith)
+returns-clause-closed g c = rw (← c.self.view_is) (gathers_opened (way g (at_opening g c)) (written g c).history)
