@@ -11,6 +11,12 @@ use rx_note::Note;
 use serde_json::Value;
 use std::alloc::{AllocError, Global};
 
+// Room for a piece, so that its text need not grow: for one that has a number and no name, and for what a note has
+// beside its name.
+const PIECE: usize = 32;
+
+const NOTE: usize = 48;
+
 fn refusal_name(why: Refusal) -> &'static str
     ensures { result.now ≡ refusal_name why }
 {
@@ -53,7 +59,9 @@ pub fn refused_text(alloc: Global, why: Cause) -> Result<String, AllocError>
     ensures { IfOk result (λ s. string_bytes s ≡ refused_text why) }
 {
     let name = cause_name(why);
-    format!(in alloc; "{{\"refused\":\"{name}\"}}")
+    let mut text = String::with_capacity(alloc, PIECE)?;
+    write!(text, "{{\"refused\":\"{name}\"}}")?;
+    Ok(text)
 }
 
 /// The answer to a line that is faulty, with which member, and why. Err where memory is refused.
@@ -70,7 +78,9 @@ pub fn faulty_text(alloc: Global, told: String) -> Result<String, AllocError>
 pub fn ok_text(alloc: Global, place: u64) -> Result<String, AllocError>
     ensures { IfOk result (λ s. string_bytes s ≡ ok_text place) }
 {
-    format!(in alloc; "{{\"ok\":{place}")
+    let mut text = String::with_capacity(alloc, PIECE)?;
+    write!(text, "{{\"ok\":{place}")?;
+    Ok(text)
 }
 
 // The front of a note, which has the name of the node that it goes to.
@@ -78,7 +88,9 @@ pub fn ok_text(alloc: Global, place: u64) -> Result<String, AllocError>
 fn to_text(alloc: Global, to: &str) -> Result<String, AllocError>
     ensures { IfOk result (λ s. string_bytes s ≡ to_text to.now) }
 {
-    format!(in alloc; "{{\"to\":\"{to}\"")
+    let mut text = String::with_capacity(alloc, to.len().saturating_add(NOTE))?;
+    write!(text, "{{\"to\":\"{to}\"")?;
+    Ok(text)
 }
 
 #[tactic(auto, unfolding(crate::specs::Pieces::next_text))]
