@@ -2,20 +2,27 @@
 use Rattle.std.specs.Prelude.{◌≡◌, ℕ, ◌&&◌, ◌||◌, List, [], ◌∷◌, codes, string_bytes, Bool, false, Option, Some, None, is_some}
 use Rattle.std.specs.Prelude.{option_map, option_and_then, if◌then◌else◌}
 use Rattle.std.specs.Str.{bytes_eq}
-use Rattle.std.specs.Option.{option_map_or}
+use Rattle.std.specs.Option.{option_map_or, option_or}
 use Rattle.serde_json.specs.Data.{Data}
 use Rattle.serde_json.specs.Find.{get, as_str}
 use Rattle.rx_device.specs.Input.{IsJsonOf}
-use Rattle.rx_scenario.specs.Scenario.{Name, Command, Action, command as command_of_step, cancel, command_of}
-use Rattle.rx_scenario.specs.Reading.{is_object_of, name_in, action_in}
+use Rattle.rx_scenario.specs.Scenario.{Name, Site, Sort, Command, Action, command, cancel, site_of, sort_of, command_of}
+use Rattle.rx_scenario.specs.Reading.{is_object_of, name_in, site_in, kind_in, action_in}
+use Rattle.rx_line.specs.declared.order.Task.{Task as TaskInCode}
+use Rattle.rx_line.specs.declared.order.Task.TheVariants.{Command as CommandThere, OpenHolding}
 use Rattle.rx_line.specs.declared.order.Order.{Order as OrderInCode}
 use Rattle.rx_line.specs.declared.order.Unread.{Unread}
 use Rattle.rx_line.specs.declared.order.Unread.TheVariants.{Faulty, Memory}
-use Rattle.rx_line.specs.declared.order.Order.TheVariants.{Command as CommandThere, Query as QueryThere, List as ListThere, Dump as DumpThere}
+use Rattle.rx_line.specs.declared.order.Order.TheVariants.{Task as TaskThere, Query as QueryThere, List as ListThere, Dump as DumpThere}
 
--- a command of the book; whether a node is open; what is open and held; the history so far
+-- what a line has the book do: a command, as in a scenario, or the opening of a node that holds a resource from then on
+pub data Task : Type 0 where
+  plain : Command → Task
+  open_holding : (name : Name) → Site → Sort → (res : Name) → Task
+
+-- a task of the book; whether a node is open; what is open and held; the history so far
 pub data Order : Type 0 where
-  command : Command → Order
+  task : Task → Order
   query : (node : Name) → Order
   list : Order
   dump : Order
@@ -41,27 +48,46 @@ unfoldable pub is_timed : Data → Bool
 is_timed d = is_some (get (codes "label") d) || is_some (get (codes "at") d) || is_some (get (codes "after") d) || is_some (get (codes "then") d)
 
 abbrev pub only_command : Action → Option Command
-only_command (command_of_step c) = Some c
+only_command (command c) = Some c
 only_command (cancel label) = None
 
 -- a command as in a scenario, that comes now
 unfoldable pub command_in : Data → Option Command
 command_in d = if is_timed d then None else option_and_then only_command (action_in d)
 
--- a command, or a question about a node
-abbrev pub command_or_query : Option Command → Option Name → Option Order
-command_or_query (Some c) asked = Some (command c)
-command_or_query None asked = option_map query asked
+-- an `open` that may have the member `res`, and has none that only steps have
+unfoldable pub is_opening : Data → Bool
+is_opening d =
+    is_object_of
+    (codes "do" ∷ codes "name" ∷ codes "place" ∷ codes "of" ∷ codes "kind" ∷ codes "hub" ∷ codes "connection" ∷ codes "res" ∷ []) d
+    && does (codes "open") d
+
+-- the members of a command that opens a node, and the resource that this holds
+unfoldable pub holding_in : Data → Option Task
+holding_in d =
+    if is_opening d
+    then
+    option_and_then (λ n. option_and_then (λ s. option_and_then (λ k. option_map (open_holding n s k)
+    (name_in (codes "res") d)) (kind_in d)) (site_in d)) (name_in (codes "name") d)
+    else None
+
+-- a command, or an opening with a resource
+unfoldable pub task_in : Data → Option Task
+task_in d = option_or (option_map plain (command_in d)) (holding_in d)
 
 unfoldable pub order_in : Data → Option Order
 order_in d =
     if is_word (codes "list") d then Some list
     else if is_word (codes "dump") d then Some dump
-    else command_or_query (command_in d) (query_in d)
+    else option_or (option_map task (task_in d)) (option_map query (query_in d))
 
 -- what the code's values stand for
+abbrev pub task_of : TaskInCode → Task
+task_of (CommandThere c) = plain (command_of c)
+task_of (OpenHolding n s k r) = open_holding (string_bytes n) (site_of s) (sort_of k) (string_bytes r)
+
 abbrev pub order_of : OrderInCode → Order
-order_of (CommandThere c) = command (command_of c)
+order_of (TaskThere t) = task (task_of t)
 order_of (QueryThere node) = query (string_bytes node)
 order_of ListThere = list
 order_of DumpThere = dump

@@ -2,9 +2,9 @@
 //!
 //! # Vocabulary
 //!
-//! - A **line** is the JSON text of one command of a scenario, of `is`, `list` or `dump`, or of an array of such;
-//!   [`read_line`] reads it as a JSON value, and [`order_of`] such a value as an [`Order`]. Which values are orders,
-//!   and which order, is defined in `specs/Orders.antt`.
+//! - A **line** is the JSON text of one task, of `is`, `list` or `dump`, or of an array of such; [`read_line`] reads
+//!   it as a JSON value, and [`order_of`] such a value as an [`Order`]. A [`Task`] is a command of a scenario, or an
+//!   `open` with the member `res`. Which values are orders, and which order, is defined in `specs/Orders.antt`.
 //! - An **answer** is written of pieces, which are defined in `specs/Pieces.antt`: what was accepted, refused or
 //!   faulty, and a note that an observer is told.
 //! - [`Names`] is a space of names, each of which stands for one number (`specs/Names.antt`).
@@ -26,6 +26,6 @@ mod pieces;
 mod wanted;
 
 pub use names::{Names, Spot, Twice};
-pub use order::{Order, Unread, order_of, read_line};
+pub use order::{Order, Task, Unread, order_of, read_line};
 pub use outcome::{Cause, Outcome};
 pub use pieces::{faulty_text, note_text, ok_text, put, refused_text};

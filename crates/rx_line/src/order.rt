@@ -6,21 +6,38 @@ ghost use Rattle.serde_json.specs.Data.{Data};
 ghost use Rattle.rx_scenario.specs.Scenario.{command_of};
 ghost use Rattle.rx_device.specs.Input.{IsJsonOf};
 ghost use Rattle.rx_device.specs.Part.{data_of, part_data};
+ghost use Rattle.rx_device.specs.Gives.{Gives};
 ghost use Rattle.rx_line.specs.Orders.{query, does, is_word, is_query, query_in, is_timed, command_in};
-ghost use Rattle.rx_line.specs.Orders.{order_in, order_of, IsUnread};
+ghost use Rattle.rx_line.specs.Orders.{is_opening, holding_in, task_in, task_of, order_in, order_of, IsUnread};
 
 use crate::wanted::fault_of;
 use json::{Scratch, Value};
 use rx_device::{Part, ScriptError, ShapeError, parse_in_place};
-use rx_scenario::{Action, Command, action_in, is_name, is_object_of};
+use rx_scenario::{
+    Action, Command, Site, Sort, action_in, is_object_of, kind_in, name_in, site_in,
+};
 use serde_json::Error;
 use std::alloc::{AllocError, Global};
+
+/// What a line has the book do.
+#[derive(Drop)]
+pub enum Task {
+    /// A command, as in a scenario.
+    Command(Command),
+    /// Opens a node that holds a resource from then on.
+    OpenHolding {
+        name: String,
+        place: Site,
+        kind: Sort,
+        res: String,
+    },
+}
 
 /// What a value asks for.
 #[derive(Drop)]
 pub enum Order {
-    /// A command of the book.
-    Command(Command),
+    /// A task of the book.
+    Task(Task),
     /// Whether the node of this name is open.
     Query(String),
     /// What is open and held.
@@ -91,20 +108,18 @@ fn is_query(value: Part<'_, '_>) -> bool
 }
 
 // The node that a value asks about.
-#[tactic(auto, unfolding(crate::specs::Orders::query_in, rx_scenario::specs::Reading::name_in))]
+#[tactic(auto, unfolding(crate::specs::Orders::query_in))]
 fn query_in(alloc: Global, value: Part<'_, '_>) -> Result<Option<String>, AllocError>
     ensures { IfOk result (λ n. option_map string_bytes n ≡ query_in (part_data value.entry)) }
 {
     if !is_query(value) {
         return Ok(None);
     }
-    let Some(name) = value.get("node").and_then(Part::as_str) else {
-        return Ok(None);
-    };
-    if !is_name(name) {
-        return Ok(None);
+    match name_in(alloc, value, "node") {
+        Ok(node) => Ok(Some(node)),
+        Err(ShapeError::Shape) => Ok(None),
+        Err(ShapeError::Memory) => Err(AllocError),
     }
-    Ok(Some(String::from_str(alloc, name)?))
 }
 
 // Whether a member is one of a step, and of no line.
@@ -134,7 +149,69 @@ fn command_in(alloc: Global, value: Part<'_, '_>) -> Result<Option<Command>, All
     }
 }
 
-// What a value asks for that is no command.
+// Whether a value is an `open` that may have the member `res`, and has none that only steps have.
+#[tactic(auto, unfolding(crate::specs::Orders::is_opening))]
+fn is_opening(value: Part<'_, '_>) -> bool
+    ensures { result ≡ is_opening (part_data value.entry) }
+{
+    is_object_of(
+        value,
+        &[
+            "do",
+            "name",
+            "place",
+            "of",
+            "kind",
+            "hub",
+            "connection",
+            "res",
+        ],
+    ) && does(value, "open")
+}
+
+// The opening of a node that holds a resource, from its members.
+#[tactic(auto, unfolding(crate::specs::Orders::holding_in))]
+fn holding_of(alloc: Global, value: Part<'_, '_>) -> Result<Task, ShapeError>
+    ensures { Gives task_of result (holding_in (part_data value.entry)) }
+{
+    if !is_opening(value) {
+        return Err(ShapeError::Shape);
+    }
+    let name = name_in(alloc, value, "name")?;
+    let place = site_in(alloc, value)?;
+    let kind = kind_in(alloc, value)?;
+    let res = name_in(alloc, value, "res")?;
+    Ok(Task::OpenHolding {
+        name,
+        place,
+        kind,
+        res,
+    })
+}
+
+// The opening of a node that holds a resource, which a value is.
+fn holding_in(alloc: Global, value: Part<'_, '_>) -> Result<Option<Task>, AllocError>
+    ensures { IfOk result (λ t. option_map task_of t ≡ holding_in (part_data value.entry)) }
+{
+    match holding_of(alloc, value) {
+        Ok(task) => Ok(Some(task)),
+        Err(ShapeError::Shape) => Ok(None),
+        Err(ShapeError::Memory) => Err(AllocError),
+    }
+}
+
+// The task that a value is.
+#[tactic(auto, unfolding(crate::specs::Orders::task_in))]
+fn task_in(alloc: Global, value: Part<'_, '_>) -> Result<Option<Task>, AllocError>
+    ensures { IfOk result (λ t. option_map task_of t ≡ task_in (part_data value.entry)) }
+{
+    match command_in(alloc, value)? {
+        Some(command) => Ok(Some(Task::Command(command))),
+        None => holding_in(alloc, value),
+    }
+}
+
+// What a value asks for that is no task.
 fn query_order(alloc: Global, value: Part<'_, '_>) -> Result<Option<Order>, AllocError>
     ensures { IfOk result (λ o. option_map order_of o ≡ option_map query (query_in (part_data value.entry))) }
 {
@@ -155,8 +232,8 @@ fn order_in(alloc: Global, value: Part<'_, '_>) -> Result<Option<Order>, AllocEr
     if is_word(value, "dump") {
         return Ok(Some(Order::Dump));
     }
-    match command_in(alloc, value)? {
-        Some(command) => Ok(Some(Order::Command(command))),
+    match task_in(alloc, value)? {
+        Some(task) => Ok(Some(Order::Task(task))),
         None => query_order(alloc, value),
     }
 }
@@ -182,8 +259,8 @@ pub fn read_line<'a>(
     }
 }
 
-/// What a value asks for: an object, `do` with the members of its command, `is` with a `node`, or `list` or `dump`
-/// alone.
+/// What a value asks for: an object, `do` with the members of its command, to which `open` adds `res`, `is` with a
+/// `node`, or `list` or `dump` alone.
 ///
 /// # Errors
 ///

@@ -11,7 +11,7 @@ const CODE: &str = "a whole number from 0 to 4294967295 is expected";
 // The commands, and the members of each besides `do`.
 static MEMBERS: [(&str, &str); 21] = [
     ("using", "name, place, of, res"),
-    ("open", "name, place, of, kind, hub, connection"),
+    ("open", "name, place, of, kind, hub, connection, res"),
     ("hold", "node, res"),
     ("apply", "res, word"),
     ("remove", "res"),
@@ -157,6 +157,7 @@ fn member_fault(object: Part<'_, '_>, command: &str, member: &str) -> Option<&'s
         "place" | "kind" | "mode" => words_fault(object, member),
         "hub" if command == "open" => sub_fault(object, member, false),
         "connection" => sub_fault(object, member, true),
+        "res" => name_fault(object, member, command == "open"),
         _ => name_fault(object, member, command == "connect" && member == "name"),
     }
 }

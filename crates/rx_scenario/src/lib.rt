@@ -13,8 +13,8 @@
 //! # Promised, and not
 //!
 //! - [`scenario_of`] gives the scenario that a value is, and `Shape` where it is none, exactly; so does
-//!   [`action_in`] for what one step does. That `Memory` is given only where memory was refused is
-//!   tested above.
+//!   [`action_in`] for what one step does, and [`name_in`], [`site_in`] and [`kind_in`] for members of
+//!   it. That `Memory` is given only where memory was refused is tested above.
 //! - [`has_checkpoint`] says whether any of these steps makes a checkpoint, those that follow others and
 //!   those that are never executed included (`specs/Checkpoints.antt`).
 //! - There are the commands `using`, `open`, `hold`, `apply`, `remove`, `lease`, `return`, `next`,
@@ -27,5 +27,5 @@ mod reading;
 mod scenario;
 
 pub use checkpoints::has_checkpoint;
-pub use reading::{action_in, is_name, is_object_of, scenario_of};
+pub use reading::{action_in, is_name, is_object_of, kind_in, name_in, scenario_of, site_in};
 pub use scenario::{Action, Command, Scenario, Site, Sort, Step, Ticks};
