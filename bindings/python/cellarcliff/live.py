@@ -32,6 +32,11 @@ NO_MEMORY = b'{"refused":"NoMemory"}'  # as the program says it: the line was no
 GONE = b'{"faulty":"the book is gone"}'
 
 
+def _hands_in(words: Dict[str, Any]) -> bool:
+    """Whether the command has a resource of the caller's held."""
+    return words.get("do") in ("using", "hold") or words.get("do") == "open" and "res" in words
+
+
 class Refused(Exception):
     """The book refuses the line, or calls it faulty; nothing has changed."""
 
@@ -164,17 +169,18 @@ class Book:
     def send(self, do: str, *, observer: Optional[Observer] = None, release: Optional[Release] = None,
              **members: Any) -> Dict[str, Any]:
         """Sends one command of docs/reference/scenario.md, and answers its answer. `observer` receives the notes of the node that it
-        opens: a root, a FlatMap or a Switch. `release` is called once for the resource of a `using` or `hold`, even if that is
-        refused. Raises Refused. If an interrupt cuts the call off, the line is carried out all the same."""
-        if do in ("using", "hold") and release is None:
-            raise TypeError(f"{do}: release= is missing, which releases the resource")
-        return self._ask(_Asked({"do": do, **members}, observer, release))
+        opens: a root, a FlatMap or a Switch. `release` is called once for the resource of a `using` or `hold`, or of an `open` that
+        has `res`, even if that is refused. Raises Refused. If an interrupt cuts the call off, the line is carried out all the same."""
+        words = {"do": do, **members}
+        if _hands_in(words) != (release is not None):
+            raise TypeError(f"{do}: release= belongs to a resource, and releases it")
+        return self._ask(_Asked(words, observer, release))
 
     def send_all(self, *commands: Dict[str, Any]) -> List[Dict[str, Any]]:
         """Sends several commands in one line, each as a dict, as {"do": "end", "node": "b"}, and answers their answers; for one that
-        is refused nothing is raised. A `using` or a `hold`, and what has an observer, goes by `send`."""
-        if any(it.get("do") in ("using", "hold") for it in commands):
-            raise TypeError("send_all: using and hold go by send, with release=")
+        is refused nothing is raised. What has a resource held, and what has an observer, goes by `send`."""
+        if any(map(_hands_in, commands)):
+            raise TypeError("send_all: what has a resource held goes by send, with release=")
         asked = _Asked(list(commands), None, None)
         self._take(asked)
         return [answer for _, answer in asked.pairs()]
@@ -183,9 +189,9 @@ class Book:
         """A node, with a resource of the same name."""
         return self.send("using", observer=observer, release=release, name=name, res=name, **(place or {"place": "root"}))
 
-    def open(self, name: str, observer: Optional[Observer] = None, **members: Any) -> Dict[str, Any]:
-        """A node of a `kind`, at a `place`, `of` another."""
-        return self.send("open", observer=observer, name=name, **members)
+    def open(self, name: str, observer: Optional[Observer] = None, release: Optional[Release] = None, **members: Any) -> Dict[str, Any]:
+        """A node of a `kind`, at a `place`, `of` another; with `release`, which needs `res`, one that holds a resource."""
+        return self.send("open", observer=observer, release=release, name=name, **members)
 
     def hold(self, node: str, res: str, release: Release) -> Dict[str, Any]:
         """Lets a node hold one more resource."""

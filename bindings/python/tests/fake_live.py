@@ -48,6 +48,8 @@ class Lines:
             self.bind(words["name"], node)
             if connection is not None and "connection" in words:
                 self.bind(words["connection"], connection)
+            if "res" in words:
+                book.hold(node, self.tag(words["res"]))
         elif do == "hold":
             book.hold(self.node(words["node"]), self.tag(words["res"]))
         elif do == "next":

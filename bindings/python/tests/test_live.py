@@ -98,6 +98,17 @@ class Live(unittest.TestCase):
             book.send("dispose", node="a")
         self.assertEqual(told, ["s", "a", "r"])
 
+    def test_a_node_is_opened_with_its_resource(self):
+        told = []
+        with self.book() as book:
+            book.open("a", release=lambda: told.append("r"), place="root", kind="leaf", res="r")
+            self.assertRaises(Refused, book.open, "b", None, lambda: told.append("s"), place="source", of="no", kind="leaf", res="s")
+            self.assertEqual(told, ["s"])
+            self.assertRaises(TypeError, book.open, "b", place="root", kind="leaf", res="t")
+            self.assertRaises(TypeError, book.open, "b", None, lambda: None, place="root", kind="leaf")
+            book.send("end", node="a")
+        self.assertEqual(told, ["s", "r"])
+
     def test_a_call_that_is_interrupted_leaves_every_answer_with_its_line(self):
         told = []
         with self.book() as book:

@@ -12,6 +12,7 @@ use Rattle.rx_event.specs.declared.mail.Mail.{Mail}
 use Rattle.rx_event.specs.declared.event.Event.{Event}
 use Rattle.rx_event.specs.declared.refusal.Refusal.{Refusal}
 use Rattle.rx_event.specs.Calls.{Call, Holding, Leasing, GivingBack}
+use Rattle.rx_event.specs.Refusals.{IsRefusal}
 use Rattle.rx_event.specs.Resources.{is_out}
 use Rattle.rx_event.proofs.Laws.Leases.{is_out_past}
 use Rattle.rx_scenario.specs.Scenario.{Name}
@@ -19,7 +20,7 @@ use Rattle.rx_resource.specs.declared.Life.{Life}
 use Rattle.rx_resource.specs.declared.Life.TheVariants.{Live}
 use Rattle.rx_book.specs.declared.key.LeaseKey.{LeaseKey}
 use Rattle.rx_book.specs.State.{State, IsPromised, is_kept}
-use Rattle.rx_book.specs.Requests.{Request, is_live}
+use Rattle.rx_book.specs.Requests.{Request, is_live, stands}
 use Rattle.rx_book.specs.Answers.{Accepts, IsCauseOrWant}
 use Rattle.rx_line.specs.declared.names.Spot.{Spot}
 use Rattle.rx_line.specs.declared.names.Names.{Names}
@@ -28,7 +29,7 @@ use Rattle.rx_line.specs.declared.outcome.Cause.TheVariants.{Book}
 use Rattle.rx_line.specs.declared.outcome.Outcome.{Outcome}
 use Rattle.rx_line.specs.declared.outcome.Outcome.TheVariants.{Accepted, Refused}
 use Rattle.rx_live.specs.Session.{Session, IsSound, IsPlaced, has_resource, lease_of, lease_key_at}
-use Rattle.rx_live.specs.Given.{AreOpenSame, IsAlike, GivesNames, IsUnchanged, BindsResource, BindsLease, BindsHub}
+use Rattle.rx_live.specs.Given.{AreOpenSame, IsAlike, GivesBy, GivesNames, IsUnchanged, BindsResource, BindsLease, BindsHub}
 use Rattle.rx_book.proofs.Laws.LastsThroughSteps.{keeps_resources, keeps_leases, kept_same, out_same, kept_held, kept_past, out_leased, out_returned}
 use Rattle.rx_live.proofs.Soundness.{accepted_longer}
 
@@ -127,23 +128,35 @@ sound_alike old new sound alike nodes hubs resources leases = record {
 -- outcomes -------------------------------------------------------------------------------------------
 
 -- the book refuses
+module _ {A : Type 0} (stand : State → A → Refusal → Bool) (accepts : State → A → State → Type 0) where
+  pub refused_by : {s t : Session} {asked : Option A} {call : A} {taken : Bool} (bound : Session → Type 0) (why : Refusal)
+      (result : Result Outcome AllocError) →
+      asked ≡ Some call → taken ≡ false → IsRefusal (stand s.book call) why → IsUnchanged s t → IfOk result (λ o. o ≡ Refused (Book why)) →
+      IfOk result (λ o. GivesBy stand accepts s asked taken bound o t)
+  refused_by bound why (Err e) known is cause unchanged told = told
+  refused_by {s} {t} {asked} {call} {taken} bound why (Ok o) known is cause unchanged told =
+      subst (λ (p : Outcome). GivesBy stand accepts s asked taken bound p t) (sym told)
+      (subst (λ (j : Option A). GivesBy stand accepts s j taken bound (Refused (Book why)) t) (sym known)
+      (subst (λ (b : Bool). GivesBy stand accepts s (Some call) b bound (Refused (Book why)) t) (sym is)
+      (record { gives = (cause, unchanged.alike); sound = unchanged.sound })))
+
+  -- it accepts
+  pub accepted_by : {s t : Session} (asked : Option A) {call : A} (taken : Bool) (bound : Session → Type 0) →
+      asked ≡ Some call → taken ≡ false → accepts s.book call t.book → bound t → IsSound t → GivesBy stand accepts s asked taken bound Accepted t
+  accepted_by {s} {t} asked {call} taken bound known is did binds sound =
+      subst (λ (j : Option A). GivesBy stand accepts s j taken bound Accepted t) (sym known)
+      (subst (λ (b : Bool). GivesBy stand accepts s (Some call) b bound Accepted t) (sym is) (record { gives = (did, binds); sound = sound }))
+
+-- of one call
 pub given_refused : {s t : Session} {asked : Option Request} {call : Request} {taken : Bool} (bound : Session → Type 0) (why : Refusal)
     (result : Result Outcome AllocError) →
     asked ≡ Some call → taken ≡ false → IsCauseOrWant s.book call why → IsUnchanged s t → IfOk result (λ o. o ≡ Refused (Book why)) →
     IfOk result (λ o. GivesNames s asked taken bound o t)
-given_refused bound why (Err e) known is cause unchanged told = told
-given_refused {s} {t} {asked} {call} {taken} bound why (Ok o) known is cause unchanged told =
-    subst (λ (p : Outcome). GivesNames s asked taken bound p t) (sym told)
-    (subst (λ (j : Option Request). GivesNames s j taken bound (Refused (Book why)) t) (sym known)
-    (subst (λ (b : Bool). GivesNames s (Some call) b bound (Refused (Book why)) t) (sym is)
-    (record { gives = (cause, unchanged.alike); sound = unchanged.sound })))
+given_refused = refused_by stands Accepts
 
--- it accepts
 pub given_accepted : {s t : Session} (asked : Option Request) {call : Request} (taken : Bool) (bound : Session → Type 0) →
     asked ≡ Some call → taken ≡ false → Accepts s.book call t.book → bound t → IsSound t → GivesNames s asked taken bound Accepted t
-given_accepted {s} {t} asked {call} taken bound known is accepts binds sound =
-    subst (λ (j : Option Request). GivesNames s j taken bound Accepted t) (sym known)
-    (subst (λ (b : Bool). GivesNames s (Some call) b bound Accepted t) (sym is) (record { gives = (accepts, binds); sound = sound }))
+given_accepted = accepted_by stands Accepts
 
 -- a resource -----------------------------------------------------------------------------------------
 

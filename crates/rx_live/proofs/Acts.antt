@@ -6,7 +6,11 @@ use Rattle.std.specs.Str.{bytes_eq}
 use Rattle.std.specs.Option.{option_map_or}
 use Rattle.rx_scenario.specs.Scenario.{Name, Command, using, open_node, hold, apply, remove, lease, give_back, next, end}
 use Rattle.rx_scenario.specs.Scenario.{abort, decline, fail, dispose, make_hub, connect, disconnect, drain, checkpoint}
-use Rattle.rx_book.specs.Requests.{Request, hub_request}
+use Rattle.rx_event.specs.declared.refusal.Refusal.{Refusal}
+use Rattle.rx_book.specs.State.{State}
+use Rattle.rx_book.specs.Requests.{Request, stands, hub_request}
+use Rattle.rx_book.specs.Answers.{Accepts}
+use Rattle.rx_line.specs.Orders.{Task, plain, open_holding}
 use Rattle.rx_line.specs.declared.outcome.Cause.{Cause}
 use Rattle.rx_line.specs.declared.outcome.Cause.TheVariants.{NoName, NameTaken, Book}
 use Rattle.rx_line.specs.declared.outcome.Outcome.TheVariants.{Accepted, Refused}
@@ -15,22 +19,42 @@ use Rattle.rx_live.specs.Session.{Session, hub_of, has_resource}
 use Rattle.rx_live.specs.Carried.{Carries, Goes}
 use Rattle.rx_live.specs.Given.{IsAlike, Gives, NamesOne, BindsHub}
 use Rattle.rx_live.specs.Promise.{Act, released, with_held, Leads, no_act, hands_in, IsKept}
-use Rattle.rx_live.specs.Lines.{Runs, handed_by, IsCarried, Ends, GoesOn, no_line, one_line, IsFresh}
+use Rattle.rx_live.specs.Openings.{holder_causes, OpensHolder}
+use Rattle.rx_live.specs.Lines.{Runs, Does, handed_by, IsCarried, Ends, GoesOn, no_line, one_line, IsFresh}
 use Rattle.rx_live.proofs.AcceptedBindsNames.{or_false, alike_same}
 use Rattle.rx_live.proofs.Laws.HeldStaysHeld.{leads_on, leads_same, alike_held, fresh_held}
 use Rattle.rx_live.proofs.SessionAfterCheckpoint.{refused_same}
 
 -- what an accepted command says -----------------------------------------------------------------------
 
-pub record HasGiven (taken : Bool) (bound : Type 0) : Type 0 where
+pub record HasGiven {A : Type 0} (did : A → Type 0) (taken : Bool) (bound : Type 0) : Type 0 where
+  pub call : A
+  pub does : did call
   pub free : taken ≡ false
   pub binds : bound
 
-gave : (old new : Session) (asked : Option Request) (taken : Bool) (bound : Session → Type 0) → Gives old asked taken bound Accepted new →
-    HasGiven taken (bound new)
-gave old new None taken bound gives = let e = gives.0 in absurd (cc)
-gave old new (Some call) true bound gives = let e = gives.0 in absurd (cc)
-gave old new (Some call) false bound gives = record { free = refl; binds = gives.1 }
+module _ {A : Type 0} (stand : State → A → Refusal → Bool) (accepts : State → A → State → Type 0) where
+  pub gave_by : (old new : Session) (asked : Option A) (taken : Bool) (bound : Session → Type 0) → Gives stand accepts old asked taken bound Accepted new →
+      HasGiven (λ call. accepts old.book call new.book) taken (bound new)
+  gave_by old new None taken bound gives = let e = gives.0 in absurd (cc)
+  gave_by old new (Some call) true bound gives = let e = gives.0 in absurd (cc)
+  gave_by old new (Some call) false bound gives = record { call = call; does = gives.0; free = refl; binds = gives.1 }
+
+  gave_none_by : (old new : Session) (asked : Option A) (taken : Bool) (bound : Session → Type 0) (why : Cause) →
+      Gives stand accepts old asked taken bound (Refused why) new → IsAlike old new
+  gave_none_by old new None taken bound why gives = gives.1
+  gave_none_by old new (Some call) true bound why gives = gives.1
+  gave_none_by old new (Some call) false bound NoName gives = absurd gives
+  gave_none_by old new (Some call) false bound NameTaken gives = absurd gives
+  gave_none_by old new (Some call) false bound (Book cause) gives = gives.1
+
+pub gave : (old new : Session) (asked : Option Request) (taken : Bool) (bound : Session → Type 0) → Gives stands Accepts old asked taken bound Accepted new →
+    HasGiven (λ call. Accepts old.book call new.book) taken (bound new)
+gave = gave_by stands Accepts
+
+gave_none : (old new : Session) (asked : Option Request) (taken : Bool) (bound : Session → Type 0) (why : Cause) →
+    Gives stands Accepts old asked taken bound (Refused why) new → IsAlike old new
+gave_none = gave_none_by stands Accepts
 
 went : (old new : Session) (asked : Option Request) → Carries old asked Accepted new → new ≡ record old { book = new.book }
 went old new None carries = let e = carries.0 in absurd (cc)
@@ -59,7 +83,7 @@ by_goes old new asked goes =
     no_act (same_held old new (ap (λ (s : Session). s.resources) is) (ap (λ (s : Session). s.unnamed) is))
 
 -- a command that is carried out hands in what it is to hand in, which was not held
-pub runs_hands : (old new : Session) (c : Command) → Runs old c Accepted new → Leads (has_resource old) (handed_by c) (has_resource new)
+runs_hands : (old new : Session) (c : Command) → Runs old c Accepted new → Leads (has_resource old) (handed_by (plain c)) (has_resource new)
 runs_hands old new (using name site res) runs =
     let given = gave old new _ _ _ runs.gives in
     let free = (or_false _ (has_resource old res) given.free).1 in
@@ -94,17 +118,25 @@ runs_hands old new (disconnect hub) runs = by_goes old new _ runs
 runs_hands old new drain runs = no_act (λ n. ap (λ (s : Session). has_resource s n) runs.1)
 runs_hands old new checkpoint runs = no_act (same_held old new (ap (λ (s : Session). s.resources) runs.rest) (ap (λ (s : Session). s.unnamed) runs.rest))
 
+-- and so does a task
+does_hands : (old new : Session) (t : Task) → Does old t Accepted new → Leads (has_resource old) (handed_by t) (has_resource new)
+does_hands old new (plain c) does = runs_hands old new c does
+does_hands old new (open_holding name site sort res) does =
+    let given = gave_by holder_causes OpensHolder old new _ _ _ does.gives in
+    let free = (or_false _ (has_resource old res) given.free).1 in
+    hands_in res free (no_act (one_held old new res _ given.binds.resource (ap (λ (s : Session). s.unnamed) given.binds.opened.rest)))
+
 -- all of a carried line
-pub carried_leads : (old new : Session) (c : Command) (text : List ℕ) (acts : List Act) → IsCarried old c text acts new →
+pub carried_leads : (old new : Session) (t : Task) (text : List ℕ) (acts : List Act) → IsCarried old t text acts new →
     Leads (has_resource old) acts (has_resource new)
-carried_leads old new c text acts carried =
+carried_leads old new t text acts carried =
     let tells = carried.tells in
     let told : (n : Name) → has_resource tells.mid n ≡ has_resource carried.done n = λ n. ap (λ (s : Session). has_resource s n) tells.tells.rest in
     let after =
     leads_same (has_resource carried.done) (has_resource tells.mid) (has_resource carried.left) (map released tells.names) told tells.releases.leads in
-    let all = leads_on (runs_hands old carried.done c carried.runs) after in
+    let all = leads_on (does_hands old carried.done t carried.does) after in
     subst (λ (done : List Act). Leads (has_resource old) done (has_resource new)) (sym carried.acts_are)
-    (subst (λ (last : Name → Bool). Leads (has_resource old) (handed_by c ++ map released tells.names) last)
+    (subst (λ (last : Name → Bool). Leads (has_resource old) (handed_by t ++ map released tells.names) last)
     (λ i n. sym (alike_held carried.left new carried.alike n) i) all)
 
 -- sessions --------------------------------------------------------------------------------------------
@@ -121,14 +153,6 @@ session_kept first last new acts text fresh goes ends =
 
 -- a refused command ----------------------------------------------------------------------------------
 
-gave_none : (old new : Session) (asked : Option Request) (taken : Bool) (bound : Session → Type 0) (why : Cause) →
-    Gives old asked taken bound (Refused why) new → IsAlike old new
-gave_none old new None taken bound why gives = gives.1
-gave_none old new (Some call) true bound why gives = gives.1
-gave_none old new (Some call) false bound NoName gives = absurd gives
-gave_none old new (Some call) false bound NameTaken gives = absurd gives
-gave_none old new (Some call) false bound (Book cause) gives = gives.1
-
 went_none : (old new : Session) (asked : Option Request) (why : Cause) → Carries old asked (Refused why) new → new ≡ old
 went_none old new None why carries = carries.1
 went_none old new (Some call) NoName carries = absurd carries
@@ -138,22 +162,26 @@ went_none old new (Some call) (Book cause) carries = carries.1
 same_alike : (old new : Session) → new ≡ old → IsAlike old new
 same_alike old new same = subst (λ (s : Session). IsAlike old s) (sym same) (alike_same old)
 
-pub refused_alike : (old new : Session) (c : Command) (why : Cause) → Runs old c (Refused why) new → IsAlike old new
-refused_alike old new (using name site res) why runs = gave_none old new _ _ _ why runs.gives
-refused_alike old new (open_node name site sort) why runs = gave_none old new _ _ _ why runs.gives
-refused_alike old new (hold node res) why runs = gave_none old new _ _ _ why runs.gives
-refused_alike old new (lease res name) why runs = gave_none old new _ _ _ why runs.gives
-refused_alike old new (give_back name) why runs = gave_none old new _ _ _ why runs.gives
-refused_alike old new (make_hub name mode) why runs = gave_none old new (Some (hub_request mode)) (is_some (hub_of old name)) (BindsHub old name) why runs.gives
-refused_alike old new (connect hub name) why runs = gave_none old new _ _ _ why runs.gives
-refused_alike old new (apply res word) why runs = same_alike old new (went_none old new _ why runs.carries)
-refused_alike old new (remove res) why runs = same_alike old new (went_none old new _ why runs.carries)
-refused_alike old new (next node value) why runs = same_alike old new (went_none old new _ why runs.carries)
-refused_alike old new (end node terminal) why runs = same_alike old new (went_none old new _ why runs.carries)
-refused_alike old new (abort node code) why runs = same_alike old new (went_none old new _ why runs.carries)
-refused_alike old new (decline node) why runs = same_alike old new (went_none old new _ why runs.carries)
-refused_alike old new (fail node code) why runs = same_alike old new (went_none old new _ why runs.carries)
-refused_alike old new (dispose node) why runs = same_alike old new (went_none old new _ why runs.carries)
-refused_alike old new (disconnect hub) why runs = same_alike old new (went_none old new _ why runs.carries)
-refused_alike old new drain why runs = same_alike old new runs.1
-refused_alike old new checkpoint why runs = same_alike old new (refused_same old new why runs)
+command_alike : (old new : Session) (c : Command) (why : Cause) → Runs old c (Refused why) new → IsAlike old new
+command_alike old new (using name site res) why runs = gave_none old new _ _ _ why runs.gives
+command_alike old new (open_node name site sort) why runs = gave_none old new _ _ _ why runs.gives
+command_alike old new (hold node res) why runs = gave_none old new _ _ _ why runs.gives
+command_alike old new (lease res name) why runs = gave_none old new _ _ _ why runs.gives
+command_alike old new (give_back name) why runs = gave_none old new _ _ _ why runs.gives
+command_alike old new (make_hub name mode) why runs = gave_none old new (Some (hub_request mode)) (is_some (hub_of old name)) (BindsHub old name) why runs.gives
+command_alike old new (connect hub name) why runs = gave_none old new _ _ _ why runs.gives
+command_alike old new (apply res word) why runs = same_alike old new (went_none old new _ why runs.carries)
+command_alike old new (remove res) why runs = same_alike old new (went_none old new _ why runs.carries)
+command_alike old new (next node value) why runs = same_alike old new (went_none old new _ why runs.carries)
+command_alike old new (end node terminal) why runs = same_alike old new (went_none old new _ why runs.carries)
+command_alike old new (abort node code) why runs = same_alike old new (went_none old new _ why runs.carries)
+command_alike old new (decline node) why runs = same_alike old new (went_none old new _ why runs.carries)
+command_alike old new (fail node code) why runs = same_alike old new (went_none old new _ why runs.carries)
+command_alike old new (dispose node) why runs = same_alike old new (went_none old new _ why runs.carries)
+command_alike old new (disconnect hub) why runs = same_alike old new (went_none old new _ why runs.carries)
+command_alike old new drain why runs = same_alike old new runs.1
+command_alike old new checkpoint why runs = same_alike old new (refused_same old new why runs)
+
+pub refused_alike : (old new : Session) (t : Task) (why : Cause) → Does old t (Refused why) new → IsAlike old new
+refused_alike old new (plain c) why does = command_alike old new c why does
+refused_alike old new (open_holding name site sort res) why does = gave_none_by holder_causes OpensHolder old new _ _ _ why does.gives

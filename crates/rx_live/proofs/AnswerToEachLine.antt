@@ -3,8 +3,8 @@ use Rattle.std.proofs.Common.{◌≡◌, ℕ, List, [], ◌++◌, codes, map, Op
 use Rattle.std.proofs.Common.{Ok, Err, refl, ap, ◌∙◌, append_assoc, subst, Bool, true, false}
 use Rattle.std.specs.Prelude.{IfOk, OnOk, is_some}
 use Rattle.std.specs.declared.alloc.AllocError.{AllocError}
-use Rattle.rx_scenario.specs.Scenario.{Name, Command}
-use Rattle.rx_line.specs.Orders.{Order, command, query, list, dump}
+use Rattle.rx_scenario.specs.Scenario.{Name}
+use Rattle.rx_line.specs.Orders.{Task, Order, task, query, list, dump}
 use Rattle.rx_line.specs.Pieces.{refused_text, faulty_text, name_text, member_text}
 use Rattle.rx_line.specs.declared.outcome.Cause.{Cause}
 use Rattle.rx_line.specs.declared.outcome.Outcome.TheVariants.{Accepted, Refused}
@@ -15,7 +15,7 @@ use Rattle.rx_live.specs.Listed.{all_names}
 use Rattle.rx_live.specs.Openings.{front_text}
 use Rattle.rx_live.specs.Renewals.{Renews, IsFullByOpen}
 use Rattle.rx_live.specs.Dumps.{query_text, dump_text}
-use Rattle.rx_live.specs.Lines.{Runs, handed_by, TellsAll, CarriesOut, refuses, carries, is_faulty, is_refused}
+use Rattle.rx_live.specs.Lines.{Does, handed_by, TellsAll, CarriesOut, refuses, carries, is_faulty, is_refused}
 use Rattle.rx_live.specs.Lines.{as_it_was, renewed, FindsFull, is_carried, is_queried, is_listed, is_dumped, AnswersAsked, Ends, IsClosed}
 use Rattle.rx_live.specs.Taken.{Answered, IsFullByAge, Writes, Tries}
 use Rattle.rx_live.proofs.Laws.HeldStaysHeld.{leads_same, alike_held, renewed_held}
@@ -29,15 +29,15 @@ behind b f p q r s =
     ap (λ (t : List ℕ). t ++ q ++ r ++ s) (append_assoc b f p) ∙ ap (λ (t : List ℕ). t ++ r ++ s) (append_assoc b (f ++ p) q)
     ∙ ap (λ (t : List ℕ). t ++ s) (append_assoc b (f ++ p ++ q) r) ∙ append_assoc b (f ++ p ++ q ++ r) s
 
--- a command that is carried out
-pub carried_out : {old : Session} (done new : Session) (c : Command) (begun front text : List ℕ) → Runs old c Accepted done →
-    front ≡ front_text old c done → TellsAll done (begun ++ front) new text → Writes (λ t. CarriesOut old c t new) begun text
-carried_out {old} done new c begun front text runs is tells =
+-- a task that is carried out
+pub carried_out : {old : Session} (done new : Session) (k : Task) (begun front text : List ℕ) → Does old k Accepted done →
+    front ≡ front_text old k done → TellsAll done (begun ++ front) new text → Writes (λ t. CarriesOut old k t new) begun text
+carried_out {old} done new k begun front text does is tells =
     let notes : List ℕ = member_text (codes "notes") (map told_text tells.told) in
     let names : List ℕ = member_text (codes "release") (map name_text tells.names) in
     let late : List ℕ = late_text (is_late new) in
-    let answer : List ℕ = front_text old c done ++ notes ++ names ++ late ++ codes "}" in
-    let all : TellsAll done (front_text old c done) new answer = record {
+    let answer : List ℕ = front_text old k done ++ notes ++ names ++ late ++ codes "}" in
+    let all : TellsAll done (front_text old k done) new answer = record {
       mid = tells.mid;
       told = tells.told;
       tells = tells.tells;
@@ -50,30 +50,30 @@ carried_out {old} done new c begun front text runs is tells =
     } in
     record {
       answer = answer;
-      is = carries (handed_by c ++ map released all.names) (record { done = done; runs = runs; left = new; tells = all; alike = alike_same new; acts_are = refl });
+      is = carries (handed_by k ++ map released all.names) (record { done = done; does = does; left = new; tells = all; alike = alike_same new; acts_are = refl });
       written = tells.written ∙ behind begun front notes names late (codes "}")
           ∙ ap (λ (t : List ℕ). begun ++ (t ++ notes ++ names ++ late ++ codes "}")) is;
     }
 
 -- what is asked
-answered_one : (old new : Session) (asked : Option Order) (text : List ℕ) (c : Command) → asked ≡ Some (command c) → CarriesOut old c text new →
+answered_one : (old new : Session) (asked : Option Order) (text : List ℕ) (t : Task) → asked ≡ Some (task t) → CarriesOut old t text new →
     Answered old asked new text
-answered_one old new asked text c order (refuses why runs alive is) =
-    record { acts = []; answer = is_refused c why order runs alive is; leads = no_act (alike_held old new (refused_alike old new c why runs)) }
-answered_one old new asked text c order (carries acts carried) =
-    record { acts = acts; answer = is_carried c order carried; leads = carried_leads old new c text acts carried }
+answered_one old new asked text t order (refuses why does alive is) =
+    record { acts = []; answer = is_refused t why order does alive is; leads = no_act (alike_held old new (refused_alike old new t why does)) }
+answered_one old new asked text t order (carries acts carried) =
+    record { acts = acts; answer = is_carried t order carried; leads = carried_leads old new t text acts carried }
 
 written_as : (p q : List ℕ → Type 0) (begun text : List ℕ) → ((t : List ℕ) → p t → q t) → Writes p begun text → Writes q begun text
 written_as p q begun text goes w = record { answer = w.answer; is = goes w.answer w.is; written = w.written }
 
--- an attempt at a command is one at what is asked
-pub tried_command : (old new : Session) (asked : Option Order) (c : Command) (begun text : List ℕ) (result : Result Bool AllocError) → asked ≡ Some (command c) →
-    IfOk result (Tries (λ t. CarriesOut old c t new) (FindsFull old c new) begun text) →
+-- an attempt at a task is one at what is asked
+pub tried_task : (old new : Session) (asked : Option Order) (k : Task) (begun text : List ℕ) (result : Result Bool AllocError) → asked ≡ Some (task k) →
+    IfOk result (Tries (λ t. CarriesOut old k t new) (FindsFull old k new) begun text) →
     IfOk result (Tries (Answered old asked new) (IsFullByAge old asked new) begun text)
-tried_command old new asked c begun text (Err e) order tried = tried
-tried_command old new asked c begun text (Ok true) order tried =
-    written_as (λ t. CarriesOut old c t new) (Answered old asked new) begun text (λ t. answered_one old new asked t c order) tried
-tried_command old new asked c begun text (Ok false) order tried = (record { c = c; order = order; full = tried.0 }, tried.1)
+tried_task old new asked k begun text (Err e) order tried = tried
+tried_task old new asked k begun text (Ok true) order tried =
+    written_as (λ t. CarriesOut old k t new) (Answered old asked new) begun text (λ t. answered_one old new asked t k order) tried
+tried_task old new asked k begun text (Ok false) order tried = (record { t = k; order = order; full = tried.0 }, tried.1)
 
 -- an answer that changed nothing
 pub tried_said : (old : Session) (asked : Option Order) (begun answer text : List ℕ) (result : Result Bool AllocError) → Answered old asked old answer →
@@ -116,7 +116,7 @@ sent_again {old} {mid} aged new asked begun text full renews wrote sound =
     written_as (Answered aged asked new) (λ t. AnswersAsked old asked t new) begun text
     (λ t answered. record {
       aged = aged;
-      ages = renewed mid full.c full.order full.full renews;
+      ages = renewed mid full.t full.order full.full renews;
       acts = answered.acts;
       answer = answered.answer;
       leads = leads_same (has_resource old) (has_resource aged) (has_resource new) answered.acts same answered.leads;
@@ -140,6 +140,6 @@ ended {old} left new front after text sound is notes closing closed = record {
 }
 
 -- one that is refused
-pub refused_out : (old new : Session) (c : Command) (why : Cause) (begun answer text : List ℕ) → Runs old c (Refused why) new → IsFullByOpen old why →
-    answer ≡ refused_text why → text ≡ begun ++ answer → Writes (λ t. CarriesOut old c t new) begun text
-refused_out old new c why begun answer text runs alive is written = record { answer = answer; is = refuses why runs alive is; written = written }
+pub refused_out : (old new : Session) (k : Task) (why : Cause) (begun answer text : List ℕ) → Does old k (Refused why) new → IsFullByOpen old why →
+    answer ≡ refused_text why → text ≡ begun ++ answer → Writes (λ t. CarriesOut old k t new) begun text
+refused_out old new k why begun answer text does alive is written = record { answer = answer; is = refuses why does alive is; written = written }

@@ -1,5 +1,5 @@
 -- The notes of a session's events, and those that its answers tell.
-use Rattle.std.proofs.Common.{◌≡◌, ℕ, ◌≤◌, Bool, true, false, List, [], ◌∷◌, ◌++◌, drop, length, Option}
+use Rattle.std.proofs.Common.{◌≡◌, ℕ, ◌≤◌, Bool, List, [], ◌∷◌, ◌++◌, drop, length, Option}
 use Rattle.std.proofs.Common.{Some, None, refl, sym, ap, ◌∙◌, arith, subst, append_assoc}
 use Rattle.std.specs.Prelude.{is_some}
 use Rattle.std.specs.Option.{option_to_list}
@@ -13,11 +13,11 @@ use Rattle.rx_event.specs.Calls.{Call, outside_of, IsStepOf}
 use Rattle.rx_event.specs.Lawful.{IsForcedOn, stays, more}
 use Rattle.rx_event.proofs.Laws.Counts.{notes-push}
 use Rattle.serde_json.specs.Data.{Data, Items}
-use Rattle.rx_line.specs.Orders.{Order}
+use Rattle.rx_line.specs.Orders.{Task, plain, open_holding, Order}
 use Rattle.rx_scenario.specs.Scenario.{Command, using, open_node, hold, apply, remove, lease, give_back, next, end, abort}
 use Rattle.rx_scenario.specs.Scenario.{decline, fail, dispose, make_hub, connect, disconnect, drain, checkpoint}
 use Rattle.rx_book.specs.State.{State}
-use Rattle.rx_book.specs.Requests.{Request, hub_request, take_request}
+use Rattle.rx_book.specs.Requests.{Request, stands, hub_request, take_request}
 use Rattle.rx_book.specs.Answers.{Accepts}
 use Rattle.rx_line.specs.declared.outcome.Outcome.TheVariants.{Accepted}
 use Rattle.rx_live.specs.Session.{Session, hub_of}
@@ -25,13 +25,15 @@ use Rattle.rx_live.specs.Carried.{Carries, Goes}
 use Rattle.rx_live.specs.Given.{IsAlike, Gives, BindsHub}
 use Rattle.rx_live.specs.Answers.{to_tell, Takes, none_taken, one_taken}
 use Rattle.rx_live.specs.Renewals.{Renews}
-use Rattle.rx_live.specs.Lines.{Runs, IsCarried, IsAnswer, is_faulty, is_refused, is_carried, is_queried, is_listed, is_dumped}
+use Rattle.rx_live.specs.Openings.{holder_causes, OpensHolder}
+use Rattle.rx_live.specs.Lines.{Runs, Does, IsCarried, IsAnswer, is_faulty, is_refused, is_carried, is_queried, is_listed, is_dumped}
 use Rattle.rx_live.specs.Lines.{GoesOn, no_line, one_line, IsFresh, IsAged, as_it_was, renewed, AnswersAsked, AnswersOne, is_taken, is_put_off}
 use Rattle.rx_live.specs.Lines.{AnswersEach, none_left, one_more, AnswersValue, one_asked, many_asked, IsAnswered, no_json, is_json}
 use Rattle.rx_live.specs.Promise.{Act}
 use Rattle.rx_live.specs.Sessions.{told_by, written_of, written_by, told_one, written_one, told_each, written_each}
 use Rattle.rx_live.specs.Sessions.{told_value, written_value, told_line, written_line, told_in, written_in}
-use Rattle.rx_live.proofs.Acts.{refused_alike}
+use Rattle.rx_live.proofs.Acts.{gave, gave_by, refused_alike}
+use Rattle.rx_live.proofs.OpenedNodesHold.{opening, holding}
 
 -- a history that goes on ------------------------------------------------------------------------------
 
@@ -88,12 +90,10 @@ owes_call old new asked accepts untold behind =
 
 -- a command -------------------------------------------------------------------------------------------
 
-owes_given : (old new : Session) (asked : Option Request) (taken : Bool) (bound : Session → Type 0) → Gives old asked taken bound Accepted new →
-    (bound new → new.untold ≡ old.untold) →
-    IsBehind old → Owes old new
-owes_given old new None taken bound gives untold behind = let e = gives.0 in absurd (cc)
-owes_given old new (Some call) true bound gives untold behind = let e = gives.0 in absurd (cc)
-owes_given old new (Some call) false bound gives untold behind = owes_call old new call gives.0 (untold gives.1) behind
+owes_given : (old new : Session) (asked : Option Request) (taken : Bool) (bound : Session → Type 0) →
+    Gives stands Accepts old asked taken bound Accepted new → (bound new → new.untold ≡ old.untold) → IsBehind old → Owes old new
+owes_given old new asked taken bound gives untold behind =
+    let given = gave old new asked taken bound gives in owes_call old new given.call given.does (untold given.binds) behind
 
 owes_carried : (old new : Session) (asked : Option Request) → Goes old asked Accepted new → IsBehind old → Owes old new
 owes_carried old new asked goes = by_asked asked goes.carries where
@@ -106,12 +106,12 @@ owes_same old new same behind =
     owes_more old new (subst (λ (s : Session). GoesOnNoted old.book.history s.book.history) (sym same) (noted_none old.book.history))
     (ap (λ (s : Session). s.book.given) same) (ap (λ (s : Session). s.untold) same) behind
 
--- a command goes on with the notes, or begins anew behind a checkpoint
-data RunsNoted (old new : Session) (c : Command) : Type 0 where
-  goes_on : ((before after : List Mail) → written_of c before after ≡ drop (length before) after) → Owes old new → RunsNoted old new c
-  begins : ((before after : List Mail) → written_of c before after ≡ after) → Renews old new → RunsNoted old new c
+-- a task goes on with the notes, or begins anew behind a checkpoint
+data DoesNoted (old new : Session) (t : Task) : Type 0 where
+  goes_on : ((before after : List Mail) → written_of t before after ≡ drop (length before) after) → Owes old new → DoesNoted old new t
+  begins : ((before after : List Mail) → written_of t before after ≡ after) → Renews old new → DoesNoted old new t
 
-noted_run : (old new : Session) (c : Command) → Runs old c Accepted new → IsBehind old → RunsNoted old new c
+noted_run : (old new : Session) (c : Command) → Runs old c Accepted new → IsBehind old → DoesNoted old new (plain c)
 noted_run old new (using name site res) runs behind =
     goes_on (λ b a. refl) (owes_given old new _ _ _ runs.gives (λ binds. ap (λ (s : Session). s.untold) binds.rest) behind)
 noted_run old new (hold node res) runs behind =
@@ -138,6 +138,17 @@ noted_run old new (dispose node) runs behind = goes_on (λ b a. refl) (owes_carr
 noted_run old new (disconnect hub) runs behind = goes_on (λ b a. refl) (owes_carried old new _ runs behind)
 noted_run old new drain runs behind = goes_on (λ b a. refl) (owes_same old new runs.1 behind)
 noted_run old new checkpoint runs behind = begins (λ b a. refl) runs
+
+noted_do : (old new : Session) (t : Task) → Does old t Accepted new → IsBehind old → DoesNoted old new t
+noted_do old new (plain c) does behind = noted_run old new c does behind
+noted_do old new (open_holding name site sort res) does behind =
+    let given = gave_by holder_causes OpensHolder old new _ _ _ does.gives in
+    let did = given.does in
+    let goes : GoesOnNoted old.book.history new.book.history =
+    noted_on (noted_step old.book.base old.book.history did.middle.history (opening did) did.opens.step)
+    (noted_step did.middle.base did.middle.history new.book.history (holding did) did.holds.step) in
+    goes_on (λ b a. refl) (owes_more old new goes (did.holds.given ∙ did.opens.given)
+    (ap (λ (s : Session). s.untold) given.binds.opened.rest) behind)
 
 -- what is released -----------------------------------------------------------------------------------
 
@@ -169,8 +180,8 @@ begun_silent old new renews =
     nil_last (option_to_list new.untold) (notes new.book.history)
     (ap (λ (g : ℕ). option_to_list new.untold ++ drop g (notes new.book.history)) (sym renews.book.given) ∙ renews.untold)
 
--- what was told and released after the command was carried out
-module _ (old new : Session) (c : Command) (text : List ℕ) (acts : List Act) (carried : IsCarried old c text acts new) where
+-- what was told and released after the task was carried out
+module _ (old new : Session) (t : Task) (text : List ℕ) (acts : List Act) (carried : IsCarried old t text acts new) where
   later : Owes carried.tells.mid carried.left
   later = owes_more carried.tells.mid carried.left (noted_takes carried.tells.releases.takes) (given_takes carried.tells.releases.takes)
       (ap (λ (s : Session). s.untold) carried.tells.releases.rest) carried.tells.sound.kept.given
@@ -186,16 +197,16 @@ module _ (old new : Session) (c : Command) (text : List ℕ) (acts : List Act) (
       ∙ append_assoc mails (to_tell carried.tells.mid) later.goes.rest
       ∙ ap (λ (ms : List Mail). mails ++ ms) (sym later.owed ∙ sym (alike_tells carried.left new carried.alike))
 
-  carried_balances : IsBehind old → Balances old new (written_of c (notes old.book.history) (notes new.book.history)) carried.tells.tells.mails
-  carried_balances behind = by_run (noted_run old carried.done c carried.runs behind) where
+  carried_balances : IsBehind old → Balances old new (written_of t (notes old.book.history) (notes new.book.history)) carried.tells.tells.mails
+  carried_balances behind = by_run (noted_do old carried.done t carried.does behind) where
     before : List Mail
     before = notes old.book.history
 
-    by_run : RunsNoted old carried.done c → Balances old new (written_of c (notes old.book.history) (notes new.book.history)) carried.tells.tells.mails
+    by_run : DoesNoted old carried.done t → Balances old new (written_of t (notes old.book.history) (notes new.book.history)) carried.tells.tells.mails
     by_run (goes_on is one) =
         let all : notes new.book.history ≡ before ++ (one.goes.rest ++ later.goes.rest) =
         all_notes ∙ ap (λ (ms : List Mail). ms ++ later.goes.rest) one.goes.is ∙ append_assoc before one.goes.rest later.goes.rest in
-        let wrote : written_of c before (notes new.book.history) ≡ one.goes.rest ++ later.goes.rest =
+        let wrote : written_of t before (notes new.book.history) ≡ one.goes.rest ++ later.goes.rest =
         is before (notes new.book.history) ∙ ap (drop (length before)) all ∙ drop_at before (one.goes.rest ++ later.goes.rest) (length before) refl in
         record {
           is = ap (λ (ms : List Mail). to_tell old ++ ms) wrote
@@ -203,7 +214,7 @@ module _ (old new : Session) (c : Command) (text : List ℕ) (acts : List Act) (
               ∙ last_told (to_tell old ++ one.goes.rest) one.owed;
         }
     by_run (begins is renews) =
-        let wrote : written_of c before (notes new.book.history) ≡ later.goes.rest =
+        let wrote : written_of t before (notes new.book.history) ≡ later.goes.rest =
         is before (notes new.book.history) ∙ all_notes ∙ ap (λ (ms : List Mail). ms ++ later.goes.rest) (begun_silent old carried.done renews) in
         record { is = (λ i. renews.told i ++ wrote i) ∙ last_told [] renews.untold }
 
@@ -214,8 +225,8 @@ idle old new same = record { is = append-nil (to_tell old) ∙ sym same }
 answer_balances : (old new : Session) (asked : Option Order) (text : List ℕ) (acts : List Act) → IsBehind old → (answer : IsAnswer old asked text acts new) →
     Balances old new (written_by old new asked text acts answer) (told_by old new asked text acts answer)
 answer_balances old new asked text acts behind (is_faulty told faulty is) = idle old old refl
-answer_balances old new asked text acts behind (is_refused c why order runs by_open is) = idle old new (alike_tells old new (refused_alike old new c why runs))
-answer_balances old new asked text acts behind (is_carried c order carried) = carried_balances old new c text acts carried behind
+answer_balances old new asked text acts behind (is_refused t why order does by_open is) = idle old new (alike_tells old new (refused_alike old new t why does))
+answer_balances old new asked text acts behind (is_carried t order carried) = carried_balances old new t text acts carried behind
 answer_balances old new asked text acts behind (is_queried node order is) = idle old old refl
 answer_balances old new asked text acts behind (is_listed order) = idle old old refl
 answer_balances old new asked text acts behind (is_dumped order is) = idle old old refl

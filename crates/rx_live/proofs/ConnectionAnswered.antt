@@ -1,5 +1,5 @@
 -- What the answer to an opening says of the connection that it made.
-use Rattle.std.proofs.Common.{◌≡◌, ℕ, ◌+◌, ◌==◌, ◌≤◌, ◌++◌, Bool, true, false, List, [], ◌∷◌, length, Option, Some, None}
+use Rattle.std.proofs.Common.{◌≡◌, ℕ, ◌+◌, ◌==◌, ◌≤◌, ◌++◌, Bool, true, false, List, [], ◌∷◌, length, Some, None}
 use Rattle.std.proofs.Common.{refl, sym, ap, ◌∙◌, arith, inl, inr, ◌⊎◌}
 use Rattle.std.specs.Prelude.{is_some, slice_get, if◌then◌else◌}
 use Rattle.std.specs.Option.{option_map_or}
@@ -9,15 +9,15 @@ use Rattle.rx_event.specs.Tree.{at}
 use Rattle.rx_scenario.specs.Scenario.{Command, using, open_node, hold, apply, remove, lease, give_back, next, end, abort}
 use Rattle.rx_scenario.specs.Scenario.{decline, fail, dispose, make_hub, connect, disconnect, drain, checkpoint}
 use Rattle.rx_book.specs.State.{State}
-use Rattle.rx_book.specs.Requests.{Request}
 use Rattle.rx_book.specs.Answers.{makes_connection, connection_made}
+use Rattle.rx_line.specs.Orders.{Task, plain, open_holding}
 use Rattle.rx_line.specs.Pieces.{ok_text}
 use Rattle.rx_line.specs.declared.outcome.Outcome.TheVariants.{Accepted}
 use Rattle.rx_live.specs.Session.{Session, IsSound}
-use Rattle.rx_live.specs.Given.{Gives}
-use Rattle.rx_live.specs.Lines.{Runs}
-use Rattle.rx_live.specs.Openings.{connected_by, said_if, front_text}
+use Rattle.rx_live.specs.Lines.{Runs, Does}
+use Rattle.rx_live.specs.Openings.{holder_causes, OpensHolder, connected_by, said_if, front_text}
 use Rattle.rx_live.specs.Taken.{connects_at}
+use Rattle.rx_live.proofs.Acts.{gave, gave_by}
 
 pub nothing_said : (b : Bool) → said_if b [] ≡ []
 nothing_said true = refl
@@ -49,16 +49,10 @@ made_since old new begun same =
     (le-ltb behind new.base.at_length (omega (arith, start)))
     ∙ made_or_not (at makes_connection new.history behind) behind
 
-base_given : (old new : Session) (asked : Option Request) (taken : Bool) (bound : Session → Type 0) → Gives old asked taken bound Accepted new →
-    new.book.base ≡ old.book.base
-base_given old new None taken bound gives = let e = gives.0 in absurd (cc)
-base_given old new (Some call) true bound gives = let e = gives.0 in absurd (cc)
-base_given old new (Some call) false bound gives = gives.0.base
-
 -- a command that opens nothing says nothing of it
 same_said : (old done : Session) (c : Command) → IsSound old → Runs old c Accepted done →
-    (connects_at done.book (length old.book.history + 1) ≡ is_some (connection_made old.book.history done.book.history)) ⊎ (connected_by c ≡ [])
-same_said old done (open_node name site sort) sound runs = inl (made_since old.book done.book sound.kept.begun (base_given old done _ _ _ runs.gives))
+    (connects_at done.book (length old.book.history + 1) ≡ is_some (connection_made old.book.history done.book.history)) ⊎ (connected_by (plain c) ≡ [])
+same_said old done (open_node name site sort) sound runs = inl (made_since old.book done.book sound.kept.begun (gave old done _ _ _ runs.gives).does.base)
 same_said old done (using name site res) sound runs = inr refl
 same_said old done (hold node res) sound runs = inr refl
 same_said old done (apply res word) sound runs = inr refl
@@ -77,17 +71,24 @@ same_said old done (disconnect hub) sound runs = inr refl
 same_said old done drain sound runs = inr refl
 same_said old done checkpoint sound runs = inr refl
 
-pub front_said : (old done : Session) (c : Command) (begun said text : List ℕ) (behind : ℕ) → IsSound old → Runs old c Accepted done →
-    begun ≡ ok_text (length old.book.history) → said ≡ connected_by c → behind ≡ length old.book.history + 1 →
-    text ≡ begun ++ said_if (connects_at done.book behind) said → text ≡ front_text old c done
-front_said old done c begun said text behind sound runs is of place written =
+same_by : (old done : Session) (t : Task) → IsSound old → Does old t Accepted done →
+    (connects_at done.book (length old.book.history + 1) ≡ is_some (connection_made old.book.history done.book.history)) ⊎ (connected_by t ≡ [])
+same_by old done (plain c) sound does = same_said old done c sound does
+same_by old done (open_holding name site sort res) sound does =
+    let did = (gave_by holder_causes OpensHolder old done _ _ _ does.gives).does in
+    inl (made_since old.book done.book sound.kept.begun (did.holds.base ∙ did.opens.base))
+
+pub front_said : (old done : Session) (t : Task) (begun said text : List ℕ) (behind : ℕ) → IsSound old → Does old t Accepted done →
+    begun ≡ ok_text (length old.book.history) → said ≡ connected_by t → behind ≡ length old.book.history + 1 →
+    text ≡ begun ++ said_if (connects_at done.book behind) said → text ≡ front_text old t done
+front_said old done t begun said text behind sound does is of place written =
     written ∙ (λ i. is i ++ said_if (connects_at done.book (place i)) (of i))
-    ∙ ap (λ (t : List ℕ). ok_text (length old.book.history) ++ t) (by_case (same_said old done c sound runs))
+    ∙ ap (λ (t : List ℕ). ok_text (length old.book.history) ++ t) (by_case (same_by old done t sound does))
   where
     by_case : (connects_at done.book (length old.book.history + 1) ≡ is_some (connection_made old.book.history done.book.history))
-        ⊎ (connected_by c ≡ []) →
-        said_if (connects_at done.book (length old.book.history + 1)) (connected_by c)
-        ≡ said_if (is_some (connection_made old.book.history done.book.history)) (connected_by c)
-    by_case (inl same) = ap (λ (b : Bool). said_if b (connected_by c)) same
+        ⊎ (connected_by t ≡ []) →
+        said_if (connects_at done.book (length old.book.history + 1)) (connected_by t)
+        ≡ said_if (is_some (connection_made old.book.history done.book.history)) (connected_by t)
+    by_case (inl same) = ap (λ (b : Bool). said_if b (connected_by t)) same
     by_case (inr none) =
-        said_alike (connects_at done.book (length old.book.history + 1)) (is_some (connection_made old.book.history done.book.history)) (connected_by c) none
+        said_alike (connects_at done.book (length old.book.history + 1)) (is_some (connection_made old.book.history done.book.history)) (connected_by t) none

@@ -5,6 +5,7 @@ pub mod NamesOfOpenNodes
 pub mod Tellings
 pub mod Drops
 pub mod OpenedNodesGetNames
+pub mod OpenedNodesHold
 pub mod ClosedNamesForgotten
 pub mod SessionAfterCheckpoint
 pub mod Listings

@@ -1,9 +1,9 @@
 -- Nodes that are opened and connected, and the names that they get.
-use Rattle.std.proofs.Common.{◌≡◌, ℕ, ◌+◌, ◌==◌, ◌<◌, Bool, true, false, cond, List, length, Option, Some}
+use Rattle.std.proofs.Common.{◌≡◌, ℕ, ◌+◌, ◌==◌, ◌<◌, ◌≤◌, Bool, true, false, cond, List, length, Option, Some}
 use Rattle.std.proofs.Common.{None, option_map, Result, Ok, Err, refl, sym, ap, ◌∙◌, arith, subst}
 use Rattle.std.specs.Prelude.{IfSome, OnErr, is_some}
 use Rattle.std.proofs.Math.Bool.{◌||◌}
-use Rattle.std.proofs.lemmas.Bool.{or_parts}
+use Rattle.std.proofs.lemmas.Bool.{or_parts, ne_eqb}
 use Rattle.std.specs.Str.{bytes_eq}
 use Rattle.std.specs.Option.{option_map_or}
 use Rattle.std.proofs.lemmas.Option.{none-some, same_Some}
@@ -11,6 +11,7 @@ use Rattle.rx_event.specs.declared.event.Event.{Event}
 use Rattle.rx_event.specs.declared.event.Kind.{Kind}
 use Rattle.rx_event.specs.Tree.{at}
 use Rattle.rx_scenario.specs.Scenario.{Name}
+use Rattle.rx_book.specs.declared.key.Key.{Key}
 use Rattle.rx_book.specs.declared.answer.At.{At}
 use Rattle.rx_book.specs.declared.answer.Opened.{Opened}
 use Rattle.rx_book.specs.State.{State, IsPromised}
@@ -97,6 +98,15 @@ made_number h k n is = by_test (at makes_connection k (length h + 1)) is where
   by_test true one = sym (same_Some (length h + 1) n one)
   by_test false one = absurd (none-some n one)
 
+-- and what was made has no name yet
+pub made_unnamed : (h k : List Event) {old new : Names} {name : Name} {spot : Spot} → IsPlaced h old → Binds old name spot new → spot.number ≡ length h →
+    (made : Option Key) → option_map (λ key. key.number) made ≡ connection_made h k → IfSome made (λ key. name_of new key.number ≡ None)
+made_unnamed h k placed binds is None e = tt
+made_unnamed h k {old} {new} {name} {spot} placed binds is (Some key) e =
+    let n : key.number ≡ length h + 1 = made_number h k key.number (sym e) in
+    let apart : (spot.number == key.number) ≡ false = ne_eqb spot.number key.number (omega (arith, is)) in
+    binds.names key.number ∙ ap (λ (b : Bool). cond b (Some name) (name_of old key.number)) apart ∙ placed key.number (omega arith)
+
 -- an opened node -------------------------------------------------------------------------------------
 
 nodes_sound : {s : Session} {asked : Request} {book : State} (t : Names) → IsSound s → IsPromised book → IsPaired t → IsPlaced book.history t →
@@ -120,7 +130,7 @@ module _ {s : Session} {mid t : Names} (sound : IsSound s) (same : AreOpenSame s
   all_same : AreOpenSame s.untold s.book s.nodes t
   all_same = open_on s.untold s.book s.nodes mid t same (open_same s.untold s.book mid t room)
 
-  placed : IsPlaced s.book.history t
+  pub placed : IsPlaced s.book.history t
   placed = placed_open s.untold s.book.history s.book s.nodes t all_same sound.nodes
 
   module _ {book : State} {name : Name} {with_node new : Names} (node : NamesOne t name (length s.book.history) with_node)
@@ -190,12 +200,9 @@ module _ {s : Session} {mid t : Names} (sound : IsSound s) (same : AreOpenSame s
             ∙ sound.unnamed n is;
       }
 
-pub unnamed_used : (s : Session) (more : Names) → IsSound s → AreSame s.resources more → name_of more (length s.book.history + 1) ≡ None
-unnamed_used s more sound grown =
-    grown.names (length s.book.history + 1)
-    ∙
-    none_of (name_of s.resources (length s.book.history + 1))
-    (sound.resources (length s.book.history + 1) ∙ kept_past s.book.history (length s.book.history + 1) (omega arith))
+-- a number that is not given yet has no name
+pub unnamed_past : (s : Session) (more : Names) (n : ℕ) → IsSound s → AreSame s.resources more → length s.book.history ≤ n → name_of more n ≡ None
+unnamed_past s more n sound grown past = grown.names n ∙ none_of (name_of s.resources n) (sound.resources n ∙ kept_past s.book.history n past)
 
 -- a connection ---------------------------------------------------------------------------------------
 

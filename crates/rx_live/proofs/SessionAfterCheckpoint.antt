@@ -36,8 +36,8 @@ use Rattle.rx_live.specs.Session.{Session, IsSound}
 use Rattle.rx_live.specs.Given.{AreOpenSame, IsAlike}
 use Rattle.rx_live.specs.Answers.{to_tell}
 use Rattle.rx_live.specs.Renewals.{AreOpen, Renews, renewing_causes, Renewing, IsFullByOpen, may_renew}
-use Rattle.rx_scenario.specs.Scenario.{Command}
-use Rattle.rx_live.specs.Lines.{Runs, FindsFull}
+use Rattle.rx_line.specs.Orders.{Task}
+use Rattle.rx_live.specs.Lines.{Does, FindsFull}
 use Rattle.rx_live.specs.Taken.{is_full}
 
 -- what is kept ----------------------------------------------------------------------------------------
@@ -165,10 +165,10 @@ full_why : (why : Cause) → is_full why ≡ true → why ≡ Book Full
 full_why (Book Full) e = refl
 full_why _ e = absurd (cc)
 
-pub full_by_age : (old new : Session) (c : Command) (why : Cause) → Runs old c (Refused why) new → IsAlike old new →
-    (is_full why && may_renew new) ≡ true → FindsFull old c new
-full_by_age old new c why runs alike both = record {
-  runs = subst (λ (w : Cause). Runs old c (Refused w) new) (full_why why (and_parts (is_full why) (may_renew new) both).0) runs;
+pub full_by_age : (old new : Session) (t : Task) (why : Cause) → Does old t (Refused why) new → IsAlike old new →
+    (is_full why && may_renew new) ≡ true → FindsFull old t new
+full_by_age old new t why does alike both = record {
+  does = subst (λ (w : Cause). Does old t (Refused w) new) (full_why why (and_parts (is_full why) (may_renew new) both).0) does;
   alike = alike;
   aged = subst (λ (b : State). may_renew (record old { book = b }) ≡ true) alike.book (and_parts (is_full why) (may_renew new) both).1;
 }

@@ -2,12 +2,14 @@
 -- answers, and where that accepts it the names are bound.
 use Rattle.std.specs.Prelude.{◌≡◌, ℕ, ◌⊎◌, Bool, true, false, Option, Some, None, length, is_some}
 use Rattle.rx_event.specs.declared.mail.Mail.{Mail}
+use Rattle.rx_event.specs.declared.refusal.Refusal.{Refusal}
 use Rattle.rx_event.specs.Calls.{Holding}
+use Rattle.rx_event.specs.Refusals.{IsRefusal}
 use Rattle.rx_scenario.specs.Scenario.{Name}
 use Rattle.rx_book.specs.declared.key.Key.{Key}
 use Rattle.rx_book.specs.State.{State, has_key}
-use Rattle.rx_book.specs.Requests.{Request}
-use Rattle.rx_book.specs.Answers.{Accepts, IsCauseOrWant}
+use Rattle.rx_book.specs.Requests.{Request, stands}
+use Rattle.rx_book.specs.Answers.{Accepts}
 use Rattle.rx_line.specs.declared.names.Spot.{Spot}
 use Rattle.rx_line.specs.declared.names.Names.{Names}
 use Rattle.rx_line.specs.Names.{spot_of, name_of, AreSame, Binds, Forgets}
@@ -34,28 +36,37 @@ pub record IsAlike (old new : Session) : Type 0 where
   pub untold : new.untold ≡ old.untold
   pub unnamed : new.unnamed ≡ old.unnamed
 
--- what is asked of the book, whether a name is taken, and what becomes of names where the book accepts it
-abbrev pub Gives : Session → Option Request → (taken : Bool) → (Session → Type 0) → Outcome → Session → Type 0
-Gives old None taken bound outcome new = (outcome ≡ Refused NoName) × IsAlike old new
-Gives old (Some asked) true bound outcome new = (outcome ≡ Refused NameTaken) × IsAlike old new
-Gives old (Some asked) false bound Accepted new = Accepts old.book asked new.book × bound new
-Gives old (Some asked) false bound (Refused NoName) new = ⊥
-Gives old (Some asked) false bound (Refused NameTaken) new = ⊥
-Gives old (Some asked) false bound (Refused (Book why)) new = IsCauseOrWant old.book asked why × IsAlike old new
+module _ {A : Type 0} (stand : State → A → Refusal → Bool) (accepts : State → A → State → Type 0) where
+  -- what is asked of the book, whether a name is taken, and what becomes of names where the book accepts it
+  abbrev pub Gives : Session → Option A → (taken : Bool) → (Session → Type 0) → Outcome → Session → Type 0
+  Gives old None taken bound outcome new = (outcome ≡ Refused NoName) × IsAlike old new
+  Gives old (Some asked) true bound outcome new = (outcome ≡ Refused NameTaken) × IsAlike old new
+  Gives old (Some asked) false bound Accepted new = accepts old.book asked new.book × bound new
+  Gives old (Some asked) false bound (Refused NoName) new = ⊥
+  Gives old (Some asked) false bound (Refused NameTaken) new = ⊥
+  Gives old (Some asked) false bound (Refused (Book why)) new = IsRefusal (stand old.book asked) why × IsAlike old new
 
--- and it leaves the session sound
-pub record GivesNames (old : Session) (asked : Option Request) (taken : Bool) (bound : Session → Type 0) (outcome : Outcome) (new : Session) : Type 0 where
-  pub gives : Gives old asked taken bound outcome new
-  pub sound : IsSound new
+  -- and it leaves the session sound
+  pub record GivesBy (old : Session) (asked : Option A) (taken : Bool) (bound : Session → Type 0) (outcome : Outcome) (new : Session) : Type 0 where
+    pub gives : Gives old asked taken bound outcome new
+    pub sound : IsSound new
+
+-- by one call of the book
+abbrev pub GivesNames : Session → Option Request → (taken : Bool) → (Session → Type 0) → Outcome → Session → Type 0
+GivesNames = GivesBy stands Accepts
 
 -- a call that was not carried out, for want of memory
 pub record IsUnchanged (old new : Session) : Type 0 where
   pub alike : IsAlike old new
   pub sound : IsSound new
 
--- requests: what the book holds in the place of a resource is fresh, and its tag is the place of its acceptance
+-- requests: what the book holds in the place of a resource is fresh
+abbrev pub hold_tagged : State → Key → (tag : ℕ) → Request
+hold_tagged s node tag = record { call = Holding node.number tag; is_known = has_key s.keys node; is_fresh = true }
+
+-- its tag is the place of its acceptance
 abbrev pub hold_asked : State → Key → Request
-hold_asked s node = record { call = Holding node.number (length s.history); is_known = has_key s.keys node; is_fresh = true }
+hold_asked s node = hold_tagged s node (length s.history)
 
 -- one name more is bound, to this number
 pub record NamesOne (old : Names) (name : Name) (number : ℕ) (new : Names) : Type 0 where

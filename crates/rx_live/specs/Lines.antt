@@ -8,7 +8,7 @@ use Rattle.rx_book.specs.Requests.{decline_request, fail_request, dispose_reques
 use Rattle.serde_json.specs.Data.{Data, Items, no_items, item}
 use Rattle.serde_json.specs.Find.{as_array}
 use Rattle.rx_device.specs.Input.{IsJsonOf}
-use Rattle.rx_line.specs.Orders.{Order, command, query, list, dump, order_in, IsOrderOf}
+use Rattle.rx_line.specs.Orders.{Task, plain, open_holding, Order, task, query, list, dump, order_in, IsOrderOf}
 use Rattle.rx_line.specs.Names.{AreNone}
 use Rattle.rx_line.specs.Pieces.{refused_text, faulty_text, name_text, member_text, joined}
 use Rattle.rx_line.specs.declared.outcome.Cause.{Cause}
@@ -18,7 +18,7 @@ use Rattle.rx_live.specs.Session.{Session, node_of, resource_of, lease_of, hub_o
 use Rattle.rx_live.specs.Carried.{Goes}
 use Rattle.rx_live.specs.Given.{IsAlike, GivesNames, BindsResource, BindsLease, BindsHub, FreesLease, hold_asked}
 use Rattle.rx_live.specs.Openings.{open_asked, using_asked, connection_of, is_node, is_open_taken, is_using_taken, BindsNode, BindsUsing, BindsConnection}
-use Rattle.rx_live.specs.Openings.{front_text}
+use Rattle.rx_live.specs.Openings.{GivesHolder, holder_asked, is_holder_taken, BindsHolder, front_text}
 use Rattle.rx_event.specs.declared.refusal.Refusal.TheVariants.{Full, NoMemory}
 use Rattle.rx_line.specs.declared.outcome.Cause.TheVariants.{Book}
 use Rattle.rx_live.specs.Renewals.{Renews, Renewing, IsFullByOpen, may_renew}
@@ -53,10 +53,17 @@ Runs old (disconnect hub) o new = Goes old (option_map (λ g. disconnect_request
 Runs old drain o new = (o ≡ Accepted) × (new ≡ old)
 Runs old checkpoint o new = Renewing old o new
 
+-- what a task comes to
+abbrev pub Does : Session → Task → Outcome → Session → Type 0
+Does old (plain c) o new = Runs old c o new
+Does old (open_holding name site sort res) o new =
+    GivesHolder old (holder_asked old site sort) (is_holder_taken old name (connection_of sort) res) (BindsHolder old name (connection_of sort) res) o new
+
 -- what it hands in where it is carried out
-abbrev pub handed_by : Command → List Act
-handed_by (using name site res) = handed_in res ∷ []
-handed_by (hold node res) = handed_in res ∷ []
+abbrev pub handed_by : Task → List Act
+handed_by (plain (using name site res)) = handed_in res ∷ []
+handed_by (plain (hold node res)) = handed_in res ∷ []
+handed_by (open_holding name site sort res) = handed_in res ∷ []
 handed_by _ = []
 
 -- its answer ------------------------------------------------------------------------------------------
@@ -74,40 +81,40 @@ pub record TellsAll (old : Session) (begun : List ℕ) (new : Session) (text : L
   pub written : text ≡
       begun ++ member_text (codes "notes") (map told_text told) ++ member_text (codes "release") (map name_text names) ++ late_text (is_late new) ++ codes "}"
 
--- a command that was carried out, what was told, and the names that it hands in and that are released
-pub record IsCarried (old : Session) (c : Command) (text : List ℕ) (acts : List Act) (new : Session) : Type 0 where
+-- a task that was carried out, what was told, and the names that it hands in and that are released
+pub record IsCarried (old : Session) (t : Task) (text : List ℕ) (acts : List Act) (new : Session) : Type 0 where
   pub done : Session
-  pub runs : Runs old c Accepted done
+  pub does : Does old t Accepted done
   pub left : Session
-  pub tells : TellsAll done (front_text old c done) left text
+  pub tells : TellsAll done (front_text old t done) left text
   pub alike : IsAlike left new
-  pub acts_are : acts ≡ handed_by c ++ map released tells.names
+  pub acts_are : acts ≡ handed_by t ++ map released tells.names
 
--- what a command comes to: it is refused, or carried out
-pub data CarriesOut (old : Session) (c : Command) (text : List ℕ) (new : Session) : Type 0 where
-  refuses : (why : Cause) → Runs old c (Refused why) new → IsFullByOpen old why → text ≡ refused_text why → CarriesOut old c text new
-  carries : (acts : List Act) → IsCarried old c text acts new → CarriesOut old c text new
+-- it is refused, or carried out
+pub data CarriesOut (old : Session) (t : Task) (text : List ℕ) (new : Session) : Type 0 where
+  refuses : (why : Cause) → Does old t (Refused why) new → IsFullByOpen old why → text ≡ refused_text why → CarriesOut old t text new
+  carries : (acts : List Act) → IsCarried old t text acts new → CarriesOut old t text new
 
 -- what is asked, or nothing where that is faulty, with what its answer hands in and releases
 pub data IsAnswer (old : Session) (asked : Option Order) (text : List ℕ) : List Act → Session → Type 0 where
   is_faulty : (told : List ℕ) → asked ≡ None → text ≡ faulty_text told → IsAnswer old asked text [] old
-  is_refused : {new : Session} (c : Command) (why : Cause) → asked ≡ Some (command c) → Runs old c (Refused why) new → IsFullByOpen old why →
+  is_refused : {new : Session} (t : Task) (why : Cause) → asked ≡ Some (task t) → Does old t (Refused why) new → IsFullByOpen old why →
       text ≡ refused_text why → IsAnswer old asked text [] new
-  is_carried : {new : Session} {acts : List Act} (c : Command) → asked ≡ Some (command c) → IsCarried old c text acts new → IsAnswer old asked text acts new
+  is_carried : {new : Session} {acts : List Act} (t : Task) → asked ≡ Some (task t) → IsCarried old t text acts new → IsAnswer old asked text acts new
   is_queried : (node : Name) → asked ≡ Some (query node) → text ≡ query_text old node → IsAnswer old asked text [] old
   is_listed : asked ≡ Some list → IsAnswer old asked text [] old
   is_dumped : asked ≡ Some dump → text ≡ dump_text old → IsAnswer old asked text [] old
 
--- a command found the history full by its age: it is refused Full, and a checkpoint makes room
-pub record FindsFull (old : Session) (c : Command) (mid : Session) : Type 0 where
-  pub runs : Runs old c (Refused (Book Full)) mid
+-- a task found the history full by its age: it is refused Full, and a checkpoint makes room
+pub record FindsFull (old : Session) (t : Task) (mid : Session) : Type 0 where
+  pub does : Does old t (Refused (Book Full)) mid
   pub alike : IsAlike old mid
   pub aged : may_renew old ≡ true
 
--- before it is taken: nothing, or a checkpoint, where its command found the history full by its age
+-- before it is taken: nothing, or a checkpoint, where its task found the history full by its age
 pub data IsAged (asked : Option Order) (old : Session) : Session → Type 0 where
   as_it_was : IsAged asked old old
-  renewed : {new : Session} (mid : Session) (c : Command) → asked ≡ Some (command c) → FindsFull old c mid → Renews mid new → IsAged asked old new
+  renewed : {new : Session} (mid : Session) (t : Task) → asked ≡ Some (task t) → FindsFull old t mid → Renews mid new → IsAged asked old new
 
 -- it was not taken: nothing but a checkpoint took place
 pub record WaitsFor (asked : Option Order) (old new : Session) : Type 0 where

@@ -4,7 +4,7 @@ use Rattle.std.specs.Prelude.{◌≡◌, Bool, true, false, cond, List, [], ◌�
 use Rattle.std.specs.Str.{bytes_eq}
 use Rattle.rx_scenario.specs.Scenario.{Name}
 
--- a `using` or a `hold` was answered `ok` and names it; it stands in a `release`
+-- a `using`, a `hold` or an `open` was answered `ok` and names it as its resource; it stands in a `release`
 pub data Act : Type 0 where
   handed_in : Name → Act
   released : Name → Act

@@ -2,12 +2,12 @@
 use Rattle.std.specs.Prelude.{◌≡◌, ℕ, List, [], ◌++◌, drop, length, map, Option}
 use Rattle.rx_event.specs.declared.mail.Mail.{Mail}
 use Rattle.rx_event.specs.Notes.{notes}
-use Rattle.rx_scenario.specs.Scenario.{Command, checkpoint}
+use Rattle.rx_scenario.specs.Scenario.{checkpoint}
 use Rattle.rx_live.specs.Session.{Session}
 use Rattle.rx_live.specs.Promise.{Act, released, IsKept}
 use Rattle.rx_live.specs.Answers.{to_tell}
 use Rattle.serde_json.specs.Data.{Data, Items}
-use Rattle.rx_line.specs.Orders.{Order, order_in}
+use Rattle.rx_line.specs.Orders.{Task, plain, Order, order_in}
 use Rattle.rx_live.specs.Lines.{IsAnswer, is_carried, AnswersOne, is_taken, is_put_off, AnswersEach, none_left, one_more}
 use Rattle.rx_live.specs.Lines.{AnswersValue, one_asked, many_asked, IsAnswered, no_json, is_json, GoesOn, no_line, one_line, Ends, IsFresh}
 
@@ -21,17 +21,17 @@ AreNamesKept =
 
 -- the notes that an answer tells
 abbrev pub told_by : (old new : Session) (asked : Option Order) (text : List ℕ) (acts : List Act) → IsAnswer old asked text acts new → List Mail
-told_by old new asked text acts (is_carried c order carried) = carried.tells.tells.mails
+told_by old new asked text acts (is_carried t order carried) = carried.tells.tells.mails
 told_by old _ asked text acts _ = []
 
--- of the notes before and after a command those of the events that it writes: behind a checkpoint all are
-abbrev pub written_of : Command → (before after : List Mail) → List Mail
-written_of checkpoint before after = after
+-- of the notes before and after a task those of the events that it writes: behind a checkpoint all are
+abbrev pub written_of : Task → (before after : List Mail) → List Mail
+written_of (plain checkpoint) before after = after
 written_of _ before after = drop (length before) after
 
 -- the notes of the events that it writes
 abbrev pub written_by : (old new : Session) (asked : Option Order) (text : List ℕ) (acts : List Act) → IsAnswer old asked text acts new → List Mail
-written_by old new asked text acts (is_carried c order carried) = written_of c (notes old.book.history) (notes new.book.history)
+written_by old new asked text acts (is_carried t order carried) = written_of t (notes old.book.history) (notes new.book.history)
 written_by old _ asked text acts _ = []
 
 -- of an array's elements, in order

@@ -3,11 +3,10 @@ use Rattle.std.specs.Prelude.{◌≡◌, ℕ, Bool, true, false, List, [], ◌++
 use Rattle.std.specs.Option.{option_map_or}
 use Rattle.rx_event.specs.Kept.{event_since}
 use Rattle.rx_event.specs.declared.refusal.Refusal.TheVariants.{Full}
-use Rattle.rx_scenario.specs.Scenario.{Command}
 use Rattle.rx_book.specs.State.{State}
 use Rattle.rx_book.specs.Answers.{makes_connection}
 use Rattle.serde_json.specs.Data.{Data, Items}
-use Rattle.rx_line.specs.Orders.{Order, command}
+use Rattle.rx_line.specs.Orders.{Task, Order, task}
 use Rattle.rx_line.specs.Pieces.{joined}
 use Rattle.rx_line.specs.declared.outcome.Cause.{Cause}
 use Rattle.rx_line.specs.declared.outcome.Cause.TheVariants.{Book}
@@ -31,11 +30,11 @@ abbrev pub Tries : (is_answer : List ℕ → Type 0) (finds : Type 0) (begun tex
 Tries is_answer finds begun text true = Writes is_answer begun text
 Tries is_answer finds begun text false = finds × (text ≡ begun)
 
--- the command that is asked found the history full by its age
+-- the task that is asked found the history full by its age
 pub record IsFullByAge (old : Session) (asked : Option Order) (new : Session) : Type 0 where
-  pub c : Command
-  pub order : asked ≡ Some (command c)
-  pub full : FindsFull old c new
+  pub t : Task
+  pub order : asked ≡ Some (task t)
+  pub full : FindsFull old t new
 
 -- what is asked was answered
 pub record Answered (old : Session) (asked : Option Order) (new : Session) (text : List ℕ) : Type 0 where

@@ -22,6 +22,9 @@ const MOST_ELEMENTS: usize = 100_000_000;
 // The room that an answer needs at least, where it says that there was no memory, with the comma before it.
 const SHARE: u32 = 23;
 
+// The room for an answer with a note, which need not grow then.
+const ANSWER: usize = 128;
+
 // The room that so many answers need at least, with the bracket that closes them.
 fn room_for(count: usize) -> Option<u32>
     ensures { IfSome result (λ room. room ≡ 23 * count + 1) }
@@ -104,7 +107,7 @@ fn send_one(engine: &mut Engine, value: Part<'_, '_>) -> Result<String, AllocErr
     ensures err { OnErr result (WaitsFor (order_in (part_data value.entry)) (session_of engine.old) (session_of engine.new)) }
     ensures sound { IsSound (session_of engine.new) }
 {
-    let mut text = String::new(engine.alloc);
+    let mut text = String::with_capacity(engine.alloc, ANSWER)?;
     send(engine, value, &mut text, 0)?;
     Ok(text)
 }

@@ -2,6 +2,7 @@
 
 ghost use Rattle.std.specs.Prelude.{◌≡◌, ◌+◌, ◌++◌, length, option_map, string_bytes, IfOk};
 ghost use Rattle.rx_scenario.specs.Scenario.{sort_of, command_of};
+ghost use Rattle.rx_line.specs.Orders.{plain, task_of};
 ghost use Rattle.rx_book.specs.Answers.{makes_connection};
 ghost use Rattle.rx_live.specs.Openings.{connected_text, connected_as, connected_by, said_if};
 ghost use Rattle.rx_live.specs.Taken.{connects_at};
@@ -9,7 +10,7 @@ ghost use Rattle.rx_live.specs.Room.{HasRoom};
 
 use crate::engine::Engine;
 use rx_book::Event;
-use rx_line::put;
+use rx_line::{Task, put};
 use rx_scenario::{Command, Sort};
 use std::alloc::{AllocError, Global};
 
@@ -35,10 +36,9 @@ fn connected_as(alloc: Global, kind: &Sort) -> Result<String, AllocError>
     }
 }
 
-/// What is answered where the command opens a subscriber and this makes a connection; else nothing. Err where
-/// memory is refused.
-pub fn connected_by(alloc: Global, command: &Command) -> Result<String, AllocError>
-    ensures { IfOk result (λ s. string_bytes s ≡ connected_by (command_of command.now)) }
+// What is answered where a command opens a subscriber and this makes a connection.
+fn connected_plain(alloc: Global, command: &Command) -> Result<String, AllocError>
+    ensures { IfOk result (λ s. string_bytes s ≡ connected_by (plain (command_of command.now))) }
 {
     match command {
         Command::Open {
@@ -47,6 +47,22 @@ pub fn connected_by(alloc: Global, command: &Command) -> Result<String, AllocErr
             kind,
         } => connected_as(alloc, kind),
         _ => Ok(String::new(alloc)),
+    }
+}
+
+/// What is answered where the task opens a subscriber and this makes a connection; else nothing. Err where
+/// memory is refused.
+pub fn connected_by(alloc: Global, task: &Task) -> Result<String, AllocError>
+    ensures { IfOk result (λ s. string_bytes s ≡ connected_by (task_of task.now)) }
+{
+    match task {
+        Task::Command(command) => connected_plain(alloc, command),
+        Task::OpenHolding {
+            name: _,
+            place: _,
+            kind,
+            res: _,
+        } => connected_as(alloc, kind),
     }
 }
 

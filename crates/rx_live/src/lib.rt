@@ -2,12 +2,12 @@
 //!
 //! # Vocabulary
 //!
-//! - A **line** is one command as JSON, or `is`, `list` or `dump`, or an array of such; what each asks for is
+//! - A **line** is one task as JSON, or `is`, `list` or `dump`, or an array of such; what each asks for is
 //!   defined in `rx_line`. Its **answer** is one JSON object, or an array of them.
 //! - A **session** is what a [`Live`] is to contracts: its book, which names are bound, and what was taken
 //!   from the book and is still to be told (`specs/Session.antt`).
-//! - A resource's name is **held** from the answer of the `using` or the `hold` that hands it in until it
-//!   stands in a `release`. The handing in and the release are the **acts** of a line (`specs/Promise.antt`).
+//! - A resource's name is **held** from the answer of the `using`, the `hold` or the `open` that hands it in
+//!   until it stands in a `release`. The handing in and the release are the **acts** of a line (`specs/Promise.antt`).
 //!
 //! - A line finds the history full **by its age** where a checkpoint makes room; it is then taken again behind
 //!   one (`specs/Renewals.antt`). What finds no memory in an answer is **late**, and a later answer tells it.
@@ -43,6 +43,7 @@ mod connected;
 mod deeds;
 mod dumping;
 mod engine;
+mod holder;
 mod holding;
 mod lines;
 mod listing;

@@ -23,8 +23,8 @@ use rx_line::{Cause, Names, Outcome, Spot, Twice};
 use rx_scenario::{Site, Sort};
 use std::alloc::AllocError;
 
-// The place that a site stands for.
-fn place_at(engine: &Engine, site: &Site) -> Option<At>
+/// The place that a site stands for.
+pub fn place_at(engine: &Engine, site: &Site) -> Option<At>
     ensures { result ≡ place_at (session_of engine.now) (site_of site.now) }
 {
     match site {
@@ -35,8 +35,8 @@ fn place_at(engine: &Engine, site: &Site) -> Option<At>
     }
 }
 
-// The kind that a sort stands for; None where the name of a subscriber's hub is not bound.
-fn kind_of(engine: &Engine, sort: &Sort) -> Option<Kind>
+/// The kind that a sort stands for; None where the name of a subscriber's hub is not bound.
+pub fn kind_of(engine: &Engine, sort: &Sort) -> Option<Kind>
     ensures { result ≡ kind_of (session_of engine.now) (sort_of sort.now) }
 {
     match sort {
@@ -49,8 +49,8 @@ fn kind_of(engine: &Engine, sort: &Sort) -> Option<Kind>
     }
 }
 
-// The name for the connection that a subscriber's opening may make.
-fn connection_name(sort: Sort) -> Option<String>
+/// The name for the connection that a subscriber's opening may make.
+pub fn connection_name(sort: Sort) -> Option<String>
     ensures { option_map string_bytes result ≡ connection_of (sort_of sort) }
 {
     match sort {
@@ -118,8 +118,8 @@ fn is_same(name: &str, other: &Option<String>) -> bool
     }
 }
 
-// Whether a node's name is taken, or that of the connection that may come with it.
-fn are_taken(
+/// Whether a node's name is taken, or that of the connection that may come with it.
+pub fn are_taken(
     book: &Book<Token>,
     nodes: &mut Names,
     untold: &Option<Mail>,
@@ -144,8 +144,8 @@ fn are_taken(
     is_other_taken(book, nodes, untold, other)
 }
 
-// A name, where there is one, twice.
-fn twice(name: Option<String>) -> Result<Option<Twice>, AllocError>
+/// A name, where there is one, twice.
+pub fn twice(name: Option<String>) -> Result<Option<Twice>, AllocError>
     ensures { IfOk result (λ t. t ≡ option_map string_bytes name) }
 {
     match name {
@@ -154,7 +154,8 @@ fn twice(name: Option<String>) -> Result<Option<Twice>, AllocError>
     }
 }
 
-fn spot_of(key: Key) -> Spot
+/// Where a node lies.
+pub fn spot_of(key: Key) -> Spot
     ensures { result ≡ record { slot = key.slot; number = key.number } }
 {
     Spot {
@@ -163,8 +164,8 @@ fn spot_of(key: Key) -> Spot
     }
 }
 
-// Binds a name to a node that was made, where there are both.
-fn bind_made(nodes: &mut Names, name: Option<Twice>, made: Option<Key>)
+/// Binds a name to a node that was made, where there are both.
+pub fn bind_made(nodes: &mut Names, name: Option<Twice>, made: Option<Key>)
     requires room { 0 < room_of nodes.old }
     requires free { IfSome name (λ n. spot_of nodes.old n ≡ None) }
     requires unnamed { IfSome made (λ k. name_of nodes.old k.number ≡ None) }

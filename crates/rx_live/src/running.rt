@@ -1,21 +1,22 @@
-//! Commands, one after another.
+//! Tasks, one after another.
 
 ghost use Rattle.std.specs.Prelude.{IfOk, OnErr};
 ghost use Rattle.rx_scenario.specs.Scenario.{command_of};
+ghost use Rattle.rx_line.specs.Orders.{task_of};
 ghost use Rattle.rx_live.specs.Session.{session_of, IsSound};
 ghost use Rattle.rx_live.specs.Given.{IsUnchanged};
-ghost use Rattle.rx_live.specs.Lines.{Runs};
+ghost use Rattle.rx_live.specs.Lines.{Runs, Does};
 
 use crate::deeds::Deed;
 use crate::engine::Engine;
 use crate::renewing::renew;
-use crate::{calls, holding, opening};
-use rx_line::Outcome;
+use crate::{calls, holder, holding, opening};
+use rx_line::{Outcome, Task};
 use rx_scenario::Command;
 use std::alloc::AllocError;
 
-/// Carries a command out. Err where memory is refused, and then nothing has changed.
-pub fn run(engine: &mut Engine, command: Command) -> Result<Outcome, AllocError>
+// Carries a command out.
+fn run(engine: &mut Engine, command: Command) -> Result<Outcome, AllocError>
     requires { IsSound (session_of engine.old) }
     ensures ok { IfOk result (λ o. Runs (session_of engine.old) (command_of command) o (session_of engine.new)) }
     ensures err { OnErr result (IsUnchanged (session_of engine.old) (session_of engine.new)) }
@@ -44,5 +45,23 @@ pub fn run(engine: &mut Engine, command: Command) -> Result<Outcome, AllocError>
         Command::Disconnect { hub } => calls::disconnect(engine, hub.as_str()),
         Command::Drain => Ok(Outcome::Accepted),
         Command::Checkpoint => renew(engine),
+    }
+}
+
+/// Carries a task out. Err where memory is refused, and then nothing has changed.
+pub fn act(engine: &mut Engine, task: Task) -> Result<Outcome, AllocError>
+    requires { IsSound (session_of engine.old) }
+    ensures ok { IfOk result (λ o. Does (session_of engine.old) (task_of task) o (session_of engine.new)) }
+    ensures err { OnErr result (IsUnchanged (session_of engine.old) (session_of engine.new)) }
+    ensures sound { IsSound (session_of engine.new) }
+{
+    match task {
+        Task::Command(command) => run(engine, command),
+        Task::OpenHolding {
+            name,
+            place,
+            kind,
+            res,
+        } => holder::open_holding(engine, name, &place, kind, res),
     }
 }

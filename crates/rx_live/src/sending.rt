@@ -1,9 +1,8 @@
 //! What is asked, and its answer.
 
 ghost use Rattle.std.specs.Prelude.{◌≡◌, ◌+◌, ◌++◌, ◌&&◌, true, codes, length, string_bytes, IfOk, OnOk, OnErr};
-ghost use Rattle.rx_scenario.specs.Scenario.{command_of};
 ghost use Rattle.rx_device.specs.Part.{part_data};
-ghost use Rattle.rx_line.specs.Orders.{order_in};
+ghost use Rattle.rx_line.specs.Orders.{task_of, order_in};
 ghost use Rattle.rx_live.specs.Session.{session_of, IsSound};
 ghost use Rattle.rx_live.specs.Given.{IsUnchanged, IsAlike};
 ghost use Rattle.rx_live.specs.Answers.{late_text};
@@ -19,13 +18,14 @@ use crate::engine::Engine;
 use crate::listing::list_text;
 use crate::query::query_text;
 use crate::renewing::renew;
-use crate::running::run;
+use crate::running::act;
 use crate::telling::{ROOM, tell_notes, tell_releases};
 use rx_book::Refusal;
 use rx_device::Part;
-use rx_line::{Cause, Order, Outcome, Unread, faulty_text, ok_text, order_of, put, refused_text};
+use rx_line::{
+    Cause, Order, Outcome, Task, Unread, faulty_text, ok_text, order_of, put, refused_text,
+};
 use rx_listing::is_since;
-use rx_scenario::Command;
 use std::alloc::AllocError;
 
 // The greatest place at which a book makes a checkpoint.
@@ -100,30 +100,30 @@ fn push_answer(text: &mut String, answer: &str, rest: u32) -> Result<(), AllocEr
     Ok(())
 }
 
-// Carries a command out, and writes its answer. False where it finds the history full by its age. Err where memory
+// Carries a task out, and writes its answer. False where it finds the history full by its age. Err where memory
 // is refused. In both nothing has changed.
 fn carry_out(
     engine: &mut Engine,
-    command: Command,
+    task: Task,
     text: &mut String,
     rest: u32,
 ) -> Result<bool, AllocError>
     requires sound { IsSound (session_of engine.old) }
     requires room { HasRoom rest text.old }
-    ensures ok { IfOk result (Tries (λ t. CarriesOut (session_of engine.old) (command_of command) t (session_of engine.new))
-        (FindsFull (session_of engine.old) (command_of command) (session_of engine.new)) (string_bytes text.old) (string_bytes text.new)) }
+    ensures ok { IfOk result (Tries (λ t. CarriesOut (session_of engine.old) (task_of task) t (session_of engine.new))
+        (FindsFull (session_of engine.old) (task_of task) (session_of engine.new)) (string_bytes text.old) (string_bytes text.new)) }
     ensures err { OnErr result (IsUnchanged (session_of engine.old) (session_of engine.new)) }
     ensures blank { OnErr result (string_bytes text.new ≡ string_bytes text.old) }
     ensures sound { IsSound (session_of engine.new) }
     ensures room { HasRoom rest text.new }
 {
-    let connected = connected_by(engine.alloc, &command)?;
+    let connected = connected_by(engine.alloc, &task)?;
     let said = connected.as_str();
     let placed = ok_text(engine.alloc, engine.book.len())?;
     let front = placed.as_str();
     make_place(text, front, said, rest)?;
     let behind = engine.place_behind();
-    match run(engine, command)? {
+    match act(engine, task)? {
         Outcome::Accepted => {
             put(text, front);
             push_connected(engine, text, said, behind, rest);
@@ -171,7 +171,7 @@ fn answer(
     ensures room { HasRoom rest text.new }
 {
     match order_of(engine.alloc, value) {
-        Ok(Order::Command(command)) => carry_out(engine, command, text, rest),
+        Ok(Order::Task(task)) => carry_out(engine, task, text, rest),
         Ok(Order::Query(node)) => say(text, query_text(engine, node.as_str())?, rest),
         Ok(Order::List) => say(text, list_text(engine)?, rest),
         Ok(Order::Dump) => say(text, dump_text(engine)?, rest),

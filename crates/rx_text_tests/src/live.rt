@@ -1,6 +1,7 @@
 //! A live book, line by line.
 
 mod arrays;
+mod holders;
 mod lasting;
 mod listed;
 mod session;

@@ -4,12 +4,13 @@ use rx_live::Live;
 use rx_scarce::{MOST_BLOCKS, Scarce};
 use std::alloc::{AllocError, Global};
 
-const LINES: [&str; 11] = [
+const LINES: [&str; 12] = [
     r#"{"do":"using","name":"a","place":"root","res":"r"}"#,
     r#"{"do":"open","name":"b","place":"source","of":"a","kind":"leaf"}"#,
     r#"{"do":"hold","node":"b","res":"s"}"#,
     r#"{"do":"lease","res":"s","name":"l"}"#,
     r#"{"do":"hub","name":"h","mode":"auto"}"#,
+    r#"{"do":"open","name":"c","place":"root","kind":"sub","hub":"h","connection":"d","res":"t"}"#,
     r#"{"do":"next","node":"b","value":5}"#,
     r#"{"do":"checkpoint"}"#,
     r#"{"do":"next","node":"b","value":6}"#,

@@ -1,4 +1,4 @@
-use Rattle.std.proofs.Common.{◌≡◌, ℕ, ◌+◌, Bool, false, Some, length, sym, ap, ◌∙◌, subst, option_map, string_bytes}
+use Rattle.std.proofs.Common.{arith, ◌≡◌, ℕ, ◌+◌, Bool, false, Some, length, sym, ap, ◌∙◌, subst, option_map, string_bytes}
 use Rattle.std.proofs.Math.Bool.{◌||◌}
 use Rattle.rx_event.specs.Calls.{OpeningUsing}
 use Rattle.rx_scenario.specs.Scenario.{Name, site_of}
@@ -12,7 +12,7 @@ use Rattle.rx_live.specs.Session.{session_of, has_resource}
 use Rattle.rx_live.specs.Given.{NamesOne}
 use Rattle.rx_live.specs.Openings.{place_at, using_asked, using_at, is_node, is_using_taken, BindsUsing}
 use Rattle.rx_live.proofs.AcceptedBindsNames.{is_new, given_accepted, given_refused}
-use Rattle.rx_live.proofs.OpenedNodesGetNames.{unchanged_room, unchanged_rooms, unnamed_used, on_err, with_book, used_bound, used_sound}
+use Rattle.rx_live.proofs.OpenedNodesGetNames.{unchanged_room, unchanged_rooms, unnamed_past, on_err, with_book, used_bound, used_sound}
 use Rattle.rx_live.proofs.opening.using.Goals as goal
 
 abbrev asked : State → At → (tag : ℕ) → (fresh : Bool) → Request
@@ -36,7 +36,8 @@ returns-in_err-make_room-2-clause-err c =
 pub bind-requires-in-Ok-clause-unnamed : goal.bind-requires-in-Ok-clause-unnamed
 bind-requires-in-Ok-clause-unnamed c =
     let s = session_of c.args.engine.now in
-    ap (name_of c.make_room-2.new.self) c.in-Ok.ensures.ok.res.number ∙ unnamed_used s c.make_room-2.new.self c.requires c.make_room-2.ensures.same
+    ap (name_of c.make_room-2.new.self) c.in-Ok.ensures.ok.res.number
+    ∙ unnamed_past s c.make_room-2.new.self (length s.book.history + 1) c.requires c.make_room-2.ensures.same (omega arith)
 
 pub returns-in-Err-clause-err : goal.returns-in-Err-clause-err
 returns-in-Err-clause-err c =

@@ -1,20 +1,19 @@
 use Rattle.std.proofs.Common.{◌≡◌, Some, None, subst, string_bytes, ap, ◌∙◌}
-use Rattle.rx_scenario.specs.Scenario.{command_of}
 use Rattle.rx_device.specs.Part.{part_data}
 use Rattle.rx_line.specs.declared.order.Order.{Order as OrderInCode}
 use Rattle.rx_line.specs.declared.order.Unread.{Unread}
-use Rattle.rx_line.specs.Orders.{command, query, list, dump, order_in, order_of, IsUnread}
+use Rattle.rx_line.specs.Orders.{task, query, list, dump, order_in, task_of, order_of, IsUnread}
 use Rattle.rx_live.specs.Session.{session_of}
 use Rattle.rx_live.specs.Dumps.{query_text}
-use Rattle.rx_live.proofs.AnswerToEachLine.{tried_command, tried_said, answered_queried, answered_listed, answered_dumped, answered_faulty}
+use Rattle.rx_live.proofs.AnswerToEachLine.{tried_task, tried_said, answered_queried, answered_listed, answered_dumped, answered_faulty}
 use Rattle.rx_live.proofs.sending.answer.Goals as goal
 
-pub returns-in-Ok-Command-clause-ok : goal.returns-in-Ok-Command-clause-ok
-returns-in-Ok-Command-clause-ok c =
+pub returns-in-Ok-Task-clause-ok : goal.returns-in-Ok-Task-clause-ok
+returns-in-Ok-Task-clause-ok c =
     let asked = order_in (part_data c.args.value) in
-    let order : asked ≡ Some (command (command_of c.in-Ok-Command.command)) =
-    subst (λ (o : OrderInCode). asked ≡ Some (order_of o)) c.in-Ok-Command.field-0-is c.in-Ok-Command.ensures.ok in
-    tried_command (session_of c.args.engine.now) (session_of c.carry_out.new.engine) asked (command_of c.in-Ok-Command.command)
+    let order : asked ≡ Some (task (task_of c.in-Ok-Task.task)) =
+    subst (λ (o : OrderInCode). asked ≡ Some (order_of o)) c.in-Ok-Task.field-0-is c.in-Ok-Task.ensures.ok in
+    tried_task (session_of c.args.engine.now) (session_of c.carry_out.new.engine) asked (task_of c.in-Ok-Task.task)
     (string_bytes c.args.text.now) (string_bytes c.carry_out.new.text) c.carry_out.result order c.carry_out.ensures.ok
 
 pub returns-in_ok-query_text-in-Ok-Query-clause-ok : goal.returns-in_ok-query_text-in-Ok-Query-clause-ok

@@ -1,11 +1,11 @@
 use Rattle.std.proofs.Common.{◌≡◌, ℕ, ◌++◌, List, subst, string_bytes, refl, sym, ap, ◌∙◌, append_assoc}
-use Rattle.rx_scenario.specs.Scenario.{Command, command_of}
+use Rattle.rx_line.specs.Orders.{Task, task_of}
 use Rattle.rx_line.specs.declared.outcome.Outcome.{Outcome}
 use Rattle.rx_line.specs.declared.outcome.Outcome.TheVariants.{Accepted, Refused}
 use Rattle.rx_line.specs.Pieces.{ok_text}
 use Rattle.rx_live.specs.Session.{session_of}
 use Rattle.rx_live.specs.Openings.{said_if, front_text}
-use Rattle.rx_live.specs.Lines.{Runs, TellsAll}
+use Rattle.rx_live.specs.Lines.{Does, TellsAll}
 use Rattle.rx_live.specs.Taken.{connects_at}
 use Rattle.rx_live.proofs.Acts.{refused_alike}
 use Rattle.rx_live.proofs.OpenedNodesGetNames.{on_err}
@@ -17,10 +17,10 @@ use Rattle.rx_live.proofs.sending.carry_out.Goals as goal
 pub returns-then-is_full_by_age-clause-ok : goal.returns-then-is_full_by_age-clause-ok
 returns-then-is_full_by_age-clause-ok c =
     let old = session_of c.args.engine.now in
-    let new = session_of c.run.new.engine in
-    let runs : Runs old (command_of c.args.command) (Refused c.in-Refused.why) new =
-    subst (λ (o : Outcome). Runs old (command_of c.args.command) o new) c.in-Refused.is c.in_ok-run.ensures.ok in (
-      full_by_age old new (command_of c.args.command) c.in-Refused.why runs (refused_alike old new (command_of c.args.command) c.in-Refused.why runs)
+    let new = session_of c.act.new.engine in
+    let runs : Does old (task_of c.args.task) (Refused c.in-Refused.why) new =
+    subst (λ (o : Outcome). Does old (task_of c.args.task) o new) c.in-Refused.is c.in_ok-act.ensures.ok in (
+      full_by_age old new (task_of c.args.task) c.in-Refused.why runs (refused_alike old new (task_of c.args.task) c.in-Refused.why runs)
           (sym c.is_full_by_age.ensures ∙ c.if-is_full_by_age.true),
       c.make_place.ensures.same,
     )
@@ -28,10 +28,10 @@ returns-then-is_full_by_age-clause-ok c =
 pub returns-in-Accepted-clause-ok : goal.returns-in-Accepted-clause-ok
 returns-in-Accepted-clause-ok c =
     let old = session_of c.args.engine.now in
-    let done = session_of c.run.new.engine in
-    let runs : Runs old (command_of c.args.command) Accepted done =
-    subst (λ (o : Outcome). Runs old (command_of c.args.command) o done) c.in-Accepted.is c.in_ok-run.ensures.ok in
-    let asked : Command = command_of c.args.command in
+    let done = session_of c.act.new.engine in
+    let runs : Does old (task_of c.args.task) Accepted done =
+    subst (λ (o : Outcome). Does old (task_of c.args.task) o done) c.in-Accepted.is c.in_ok-act.ensures.ok in
+    let asked : Task = task_of c.args.task in
     let begun : List ℕ = string_bytes c.args.text.now in
     let placed : List ℕ = c.as_str-front.result.now in
     let said : List ℕ = c.as_str-said.result.now in
@@ -48,12 +48,12 @@ returns-in-Accepted-clause-ok c =
 pub returns-clause-ok : goal.returns-clause-ok
 returns-clause-ok c =
     let old = session_of c.args.engine.now in
-    let new = session_of c.run.new.engine in
+    let new = session_of c.act.new.engine in
     let why = c.in-Refused.why in
-    let runs : Runs old (command_of c.args.command) (Refused why) new =
-    subst (λ (o : Outcome). Runs old (command_of c.args.command) o new) c.in-Refused.is c.in_ok-run.ensures.ok in
-    refused_out old new (command_of c.args.command) why (string_bytes c.args.text.now) (string_bytes c.in_ok-told-in-Refused.told) (string_bytes c.push_answer.new.text) runs
-    (full_by_open old new why c.requires.sound.kept (refused_alike old new (command_of c.args.command) why runs)
+    let runs : Does old (task_of c.args.task) (Refused why) new =
+    subst (λ (o : Outcome). Does old (task_of c.args.task) o new) c.in-Refused.is c.in_ok-act.ensures.ok in
+    refused_out old new (task_of c.args.task) why (string_bytes c.args.text.now) (string_bytes c.in_ok-told-in-Refused.told) (string_bytes c.push_answer.new.text) runs
+    (full_by_open old new why c.requires.sound.kept (refused_alike old new (task_of c.args.task) why runs)
     (sym c.is_full_by_age.ensures ∙ c.if-is_full_by_age.false))
     c.in_ok-told-in-Refused.ensures
     (c.in_ok-push_answer-in-Refused.ensures.ok ∙ (λ i. c.make_place.ensures.same i ++ c.as_str.ensures.value i))
@@ -61,17 +61,17 @@ returns-clause-ok c =
 pub returns-in_err-told-in-Refused-clause-err : goal.returns-in_err-told-in-Refused-clause-err
 returns-in_err-told-in-Refused-clause-err c =
     let old = session_of c.args.engine.now in
-    let new = session_of c.run.new.engine in
-    let runs : Runs old (command_of c.args.command) (Refused c.in-Refused.why) new =
-    subst (λ (o : Outcome). Runs old (command_of c.args.command) o new) c.in-Refused.is c.in_ok-run.ensures.ok in
+    let new = session_of c.act.new.engine in
+    let runs : Does old (task_of c.args.task) (Refused c.in-Refused.why) new =
+    subst (λ (o : Outcome). Does old (task_of c.args.task) o new) c.in-Refused.is c.in_ok-act.ensures.ok in
     on_err c.from_residual-in_err-told-in-Refused.result _
-    (record { alike = refused_alike old new (command_of c.args.command) c.in-Refused.why runs; sound = c.run.ensures.sound })
+    (record { alike = refused_alike old new (task_of c.args.task) c.in-Refused.why runs; sound = c.act.ensures.sound })
 
 pub returns-in_err-push_answer-in-Refused-clause-err : goal.returns-in_err-push_answer-in-Refused-clause-err
 returns-in_err-push_answer-in-Refused-clause-err c =
     let old = session_of c.args.engine.now in
-    let new = session_of c.run.new.engine in
-    let runs : Runs old (command_of c.args.command) (Refused c.in-Refused.why) new =
-    subst (λ (o : Outcome). Runs old (command_of c.args.command) o new) c.in-Refused.is c.in_ok-run.ensures.ok in
+    let new = session_of c.act.new.engine in
+    let runs : Does old (task_of c.args.task) (Refused c.in-Refused.why) new =
+    subst (λ (o : Outcome). Does old (task_of c.args.task) o new) c.in-Refused.is c.in_ok-act.ensures.ok in
     on_err c.from_residual-in_err-push_answer-in-Refused.result _
-    (record { alike = refused_alike old new (command_of c.args.command) c.in-Refused.why runs; sound = c.run.ensures.sound })
+    (record { alike = refused_alike old new (task_of c.args.task) c.in-Refused.why runs; sound = c.act.ensures.sound })

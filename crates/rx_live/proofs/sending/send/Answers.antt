@@ -33,7 +33,7 @@ returns-in_err-is_done-clause-err c =
     on_err c.from_residual-in_err-is_done.result _
     (record {
       aged = session_of c.make_room.new.engine;
-      ages = renewed mid full.0.c full.0.order full.0.full c.in_ok-make_room.ensures.ok;
+      ages = renewed mid full.0.t full.0.order full.0.full c.in_ok-make_room.ensures.ok;
       alike = c.in_err-is_done.ensures.err;
     })
 

@@ -1,0 +1,116 @@
+-- A node that holds a resource from its opening on, and the names that both get.
+use Rattle.std.proofs.Common.{◌≡◌, ℕ, ◌+◌, ◌-◌, ◌==◌, ◌<◌, [], ◌∷◌, Bool, true, false, cond, length, length-append, Option, Some}
+use Rattle.std.proofs.Common.{option_map, refl, sym, ap, ◌∙◌, arith, subst}
+use Rattle.std.specs.Prelude.{is_some}
+use Rattle.rx_event.specs.declared.event.Event.{Event}
+use Rattle.rx_event.specs.declared.event.Event.TheVariants.{Accept}
+use Rattle.rx_event.specs.Kept.{Kept}
+use Rattle.rx_event.specs.Lawful.{IsLawful}
+use Rattle.rx_event.specs.Calls.{Call}
+use Rattle.rx_event.specs.Causes.{by_key}
+use Rattle.rx_event.specs.declared.event.Place.{Place}
+use Rattle.rx_event.specs.declared.event.Kind.{Kind}
+use Rattle.rx_event.specs.declared.refusal.Refusal.{Refusal}
+use Rattle.rx_event.specs.declared.refusal.Refusal.TheVariants.{Full}
+use Rattle.rx_ground.specs.OpeningHolding.{opening_holding_causes}
+use Rattle.rx_book.specs.declared.answer.At.{At}
+use Rattle.rx_scenario.specs.Scenario.{Name}
+use Rattle.rx_book.specs.declared.answer.Opened.{Opened}
+use Rattle.rx_book.specs.State.{State, is_kept, IsPromised}
+use Rattle.rx_book.specs.Requests.{place_of, is_known_place, open_request}
+use Rattle.rx_book.specs.OpensHolding.{stands_holding}
+use Rattle.rx_book.specs.Answers.{IsOpened, connection_made}
+use Rattle.rx_book.proofs.Laws.StepsContinue.{step_longer}
+use Rattle.rx_book.proofs.Laws.LastsThroughSteps.{kept_same, out_same, kept_held}
+use Rattle.rx_line.specs.declared.names.Names.{Names}
+use Rattle.rx_line.specs.Names.{spot_of, name_of, IsPaired, AreSame, Binds}
+use Rattle.rx_live.specs.Session.{Session, IsSound, IsPlaced, has_resource}
+use Rattle.rx_live.specs.Given.{AreOpenSame, NamesOne, hold_tagged}
+use Rattle.rx_live.specs.Openings.{Holder, holder_at, opening_with_causes, holder_causes, OpensHolder, BindsMade, BindsHolder}
+use Rattle.rx_live.proofs.AcceptedBindsNames.{bound_after, some_cond, not_unnamed, placed_longer, placed_bound}
+use Rattle.rx_live.proofs.NamesOfOpenNodes.{made_placed, made_within}
+use Rattle.rx_live.proofs.OpenedNodesGetNames.{placed, opened_bound}
+
+-- what stands against it ----------------------------------------------------------------------------
+
+same_causes : (s : State) (place : Place) (kind : Kind) (why : Refusal) →
+    opening_holding_causes s.base s.history s.limit true place kind why ≡ opening_with_causes s place kind why
+same_causes s place kind Full = refl
+same_causes s place kind _ = refl
+
+-- as the book says it of a resource that is fresh
+pub causes_of : (s : State) (at : At) (kind : Kind) {fresh : Bool} → fresh ≡ true → stands_holding s at kind fresh ≡ holder_causes s (holder_at at kind)
+causes_of s at kind fresh =
+    ap (λ (b : Bool). stands_holding s at kind b) fresh
+    ∙ (λ i. by_key (is_known_place s.keys at) (λ why. same_causes s (place_of at) kind why i))
+
+-- the two steps ---------------------------------------------------------------------------------------
+
+module _ {old new : State} {asked : Holder} (o : OpensHolder old asked new) where
+  abbrev pub opening : Call
+  opening = (open_request old asked.place asked.kind).call
+
+  abbrev pub holding : Call
+  holding = (hold_tagged o.middle o.key o.key.number).call
+
+  -- the acceptance is the last event, and stands behind the opening
+  pub last_place : length new.history ≡ length o.middle.history + 1
+  last_place = ap (length {A = Event}) o.last ∙ length-append o.middle.history (Accept o.key.number o.key.number ∷ [])
+
+  pub behind_opening : length old.history < length o.middle.history
+  behind_opening = let steps = step_longer old.base old.history o.middle.history opening o.opens.step in omega arith
+
+  pub longer : length old.history < length new.history
+  longer = let l = last_place in let b = behind_opening in omega arith
+
+  -- what is accepted is kept, and all that was
+  kept_after : (r : ℕ) → is_kept new.history r ≡ cond (length o.middle.history == r) true (is_kept old.history r)
+  kept_after r =
+      let law : IsLawful o.middle.base o.middle.history =
+      subst (λ (b : Kept). IsLawful b o.middle.history) (sym o.opens.base) o.opens.step.lawful in
+      kept_held law o.holds.step r ∙ ap (λ (b : Bool). cond (length o.middle.history == r) true b) (kept_same opening o.opens.step refl r)
+
+-- the names -------------------------------------------------------------------------------------------
+
+-- as some of closed nodes are forgotten, and as room is made
+module _ {s : Session} {mid t : Names} (sound : IsSound s) (same : AreOpenSame s.untold s.book s.nodes mid) (room : AreSame mid t)
+    {book : State} {asked : Holder} (o : OpensHolder s.book asked book)
+    {name res : Name} {with_node new more resources : Names} (node : NamesOne t name (length s.book.history) with_node)
+    {opened : Opened} (is_opened : IsOpened s.book book opened) (connection : Option Name)
+    (made : BindsMade with_node connection (option_map (λ k. k.number) opened.connected) new)
+    (grown : AreSame s.resources more) (held : NamesOne more res (length o.middle.history) resources) where
+  pub holder_bound : BindsHolder s name connection res (record s { book = book; nodes = new; resources = resources })
+  holder_bound = record {
+    opened = opened_bound sound same room node is_opened connection made;
+    resource = record {
+      spot = held.spot;
+      is = held.is ∙ (let l = last_place o in omega arith);
+      binds = bound_after s.resources more resources res held.spot grown held.binds;
+    };
+  }
+
+  pub holder_sound : IsPromised book → IsPaired new → IsPaired resources → has_resource s res ≡ false →
+      IsSound (record s { book = book; nodes = new; resources = resources })
+  holder_sound kept pairs paired free =
+      let binds : Binds s.resources res held.spot resources = bound_after s.resources more resources res held.spot grown held.binds in
+      let more_events : length s.book.history < length book.history = longer o in
+      let one : IsPlaced book.history with_node =
+      placed_bound book.history (placed_longer s.book.history book.history t (placed sound same room) (omega arith)) node.binds
+      (let n : node.spot.number ≡ length s.book.history = node.is in omega arith) in
+      let two : IsPlaced book.history new =
+      made_placed book.history with_node new connection (connection_made s.book.history book.history)
+      (subst (λ (m : Option ℕ). BindsMade with_node connection m new) is_opened.connection made) one (made_within s.book.history book.history) in
+      record {
+        kept = kept;
+        node_pairs = pairs;
+        hub_pairs = sound.hub_pairs;
+        resource_pairs = paired;
+        lease_pairs = sound.lease_pairs;
+        nodes = two;
+        hubs = placed_longer s.book.history book.history s.hubs sound.hubs (omega arith);
+        resources = λ r. ap is_some (binds.names r) ∙ some_cond (held.spot.number == r) res (name_of s.resources r)
+            ∙ (λ i. cond (held.is i == r) true (sound.resources r i)) ∙ sym (kept_after o r);
+        leases = λ l. sound.leases l ∙ sym (out_same (opening o) o.opens.step refl l) ∙ sym (out_same (holding o) o.holds.step refl l);
+        unnamed = λ n is. binds.spots n ∙ ap (λ (b : Bool). cond b (Some held.spot) (spot_of s.resources n)) (not_unnamed s res n free is)
+            ∙ sound.unnamed n is;
+      }
