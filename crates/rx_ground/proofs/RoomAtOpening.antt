@@ -12,7 +12,7 @@ use Rattle.rx_event.specs.Lawful.{MayFollow, IsLawful}
 use Rattle.rx_register.specs.State.{State as Register, IsPromised, Writes}
 use Rattle.rx_slots.specs.declared.Key.{Key}
 use Rattle.rx_slots.specs.Slots.{Slots, find}
-use Rattle.rx_tree.specs.declared.node.Closed.{Closed}
+use Rattle.rx_tree.specs.Closing.{Closed}
 use Rattle.rx_tree.specs.declared.node.ResKey.{ResKey}
 use Rattle.rx_tree.specs.Owed.{owed_in}
 use Rattle.rx_tree.specs.Tree.{Tree, IsSound}
