@@ -13,7 +13,6 @@ use Rattle.rx_tree.specs.declared.links.Place.TheVariants.{Due, Waiting, Childre
 use Rattle.rx_tree.specs.declared.node.Node.{Node}
 use Rattle.rx_tree.specs.declared.node.Stowed.{Stowed}
 use Rattle.rx_tree.specs.declared.store.Store.{Store}
-use Rattle.rx_tree.specs.Closing.{Closed}
 use Rattle.rx_tree.specs.Cuts.{still_open, waiting_home, LetsWait}
 use Rattle.rx_tree.specs.Resources.{is_owned, is_lent}
 use Rattle.rx_rings.specs.Rings.{is_among, without, Steps, set_step, AreRings, PassesBy, Leaves, Merges}
@@ -37,15 +36,6 @@ use Rattle.rx_tree.proofs.TieSteps.{rings_same, rises_without, rises_same, tied_
 use Rattle.rx_tree.proofs.There.{end_stands, slot_stands}
 
 module _ {T : Type 0} where
-  -- what is said of a record that was found
-  pub took_of : {s0 s1 s2 s3 : Store T} (key : Key) {node : Node} → find (nodes_of s0) key ≡ Some node → Relinks s0 s1 → Relinks s1 s2 → Relinks s2 s3 →
-      (result : Option Closed) → option_map (λ m. m.node) result ≡ find (nodes_of s3) key → (P : Type 0) → OnSome result P → P
-  took_of key {node} found r1 r2 r3 result value P took =
-      of result (value ∙ ap (λ m. find m key) (r3.nodes ∙ r2.nodes ∙ r1.nodes) ∙ found) took where
-        of : (o : Option Closed) → option_map (λ m. m.node) o ≡ Some node → OnSome o P → P
-        of None same some = absurd (true≢false (sym (ap is_some same)))
-        of (Some m) same some = some
-
   -- what stood on a ring of resources waits
   module _ (s t : Store T) (tied : IsTied s) (slot : ℕ) where
     abbrev old_home : Place → Option Place

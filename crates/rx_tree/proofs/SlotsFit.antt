@@ -1,5 +1,9 @@
 -- The slots of what stands in a store fit a link and a record.
-use Rattle.std.proofs.Common.{◌≡◌, ℕ, ◌+◌, ◌<◌, ◌≤◌, true, Option, Some, None, is_some, IsSome, IfSome, refl, sym, ap, ◌∙◌, arith, true≢false}
+use Rattle.std.proofs.Common.{◌≡◌, ℕ, ◌+◌, ◌<◌, ◌≤◌, cond, true, length, get_or, count_by, Option, Some, None, is_some, IsSome, IfSome}
+use Rattle.std.proofs.Common.{refl, sym, ap, ◌∙◌, inl, inr, arith, true≢false}
+use Rattle.std.proofs.lemmas.Bool.{cases_lt}
+use Rattle.std.proofs.lemmas.List.{get_or_past}
+use Rattle.std.proofs.lemmas.List.Sums.{get_or-le-sum_by}
 use Rattle.rx_slots.specs.declared.Entry.{Entry}
 use Rattle.rx_slots.specs.declared.Key.{Key}
 use Rattle.rx_slots.specs.Slots.{Slots, entry_at, with_number, find, IsWithin}
@@ -10,6 +14,18 @@ use Rattle.rx_tree.specs.declared.store.Store.{Store}
 use Rattle.rx_tree.specs.Places.{slot_of}
 use Rattle.rx_tree.specs.Store.{nodes_of, resources_of, is_there}
 use Rattle.rx_tree.proofs.StoreLemmas.{within-project}
+
+module _ {X : Type 0} (s : Slots X) where
+  -- where something stands at a slot, there are some
+  pub some_count : (slot : ℕ) → is_some (entry_at s slot) ≡ true → s.count ≡ count_by is_some s.entries → 0 < s.count
+  some_count slot there counted =
+      elim (cases_lt slot (length s.entries)) [
+        | inl below ↦ let one : cond {A = ℕ} (is_some (get_or s.entries slot None)) 1 0 ≡ 1 = ap (λ b. cond {A = ℕ} b 1 0) there in
+            let least : cond {A = ℕ} (is_some (get_or s.entries slot None)) 1 0 ≤ count_by is_some s.entries =
+            get_or-le-sum_by (λ x. cond {A = ℕ} (is_some x) 1 0) s.entries slot None below in
+            omega (arith, one, least, counted)
+        | inr past ↦ absurd (true≢false (sym there ∙ ap is_some (get_or_past s.entries slot None past)))
+      ]
 
 module _ {X : Type 0} (s : Slots X) (within : IsWithin s) (most : s.count + s.room ≤ 536870912) where
   slot_fits : (slot : ℕ) → is_some (entry_at s slot) ≡ true → slot < 4294967296

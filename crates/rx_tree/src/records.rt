@@ -18,7 +18,6 @@ ghost use Rattle.std.proofs.Math.Bool.{not};
 ghost use Rattle.std.specs.Option.{option_map_or, option_and_then};
 ghost use Rattle.rx_tree.specs.declared.links.Place.TheVariants.{Children, Held, Sibling, Noted, Stored as At};
 
-use crate::closed::Closed;
 use crate::linked::Record;
 use crate::links::{Link, Place};
 use crate::node::{Node, Stowed};
@@ -234,28 +233,27 @@ impl<R: Drop> Store<R> {
     // Takes out a record that its siblings pass by, which is on no chain and on whose rings nothing
     // stands. What it owned waits from then on, or leases alone hold it.
     #[inline(always)]
-    pub(crate) fn take_node(&mut self, key: Key) -> Option<Closed>
+    pub(crate) fn take_node(&mut self, key: Key)
         requires counted { IsCounted self.old }
+        requires open { IsSome (find (nodes_of self.old) key) }
         requires noted { link_at self.old (Noted key.slot) ≡ alone (Noted key.slot) }
         requires children { link_at self.old (Children key.slot) ≡ alone (Children key.slot) }
         requires held { link_at self.old (Held key.slot) ≡ alone (Held key.slot) }
-        ensures value { option_map (λ m. m.node) result ≡ find (nodes_of self.old) key }
-        ensures key { IfSome result (λ m. m.key ≡ key) }
-        ensures taken { OnSome result (Takes_out (nodes_of self.old) (nodes_of self.new) key) }
-        ensures counted { OnSome result (IsCounted self.new) }
-        ensures links { OnSome result ((q : _) → link_at self.new q ≡
-            set_link_at (Sibling key.slot) (alone (Sibling key.slot)) self.old q) }
+        ensures taken { Takes_out (nodes_of self.old) (nodes_of self.new) key }
+        ensures counted { IsCounted self.new }
+        ensures links { (q : _) → link_at self.new q ≡ set_link_at (Sibling key.slot) (alone (Sibling key.slot)) self.old q }
         ensures resources { self.new.resources ≡ self.old.resources }
     {
         // No more resources are held and wait than there are slots, so their count fits.
         let _slots = self.resources.slot_count();
-        let linked = self.nodes.take(key)?;
+        let Some(linked) = self.nodes.take(key) else {
+            unreachable!()
+        };
         let count = linked.held_count();
         let owed = linked.owed();
         self.waiting_count.free += count.free;
         self.waiting_count.lent += count.lent;
         self.owed -= owed;
-        Some(linked.closed(key))
     }
 
     // How many resources a slot's node owns.

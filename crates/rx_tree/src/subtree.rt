@@ -1,6 +1,6 @@
 //! How a node is closed with all below it: one childless node after another.
 
-ghost use Rattle.std.specs.Prelude.{◌≡◌, ◌+◌, ◌<◌, ◌≤◌, ◌^◌, IsSome, IfSome, IsTrue, None, option_map, is_some, true, vec_len, vec_capacity};
+ghost use Rattle.std.specs.Prelude.{◌≡◌, ◌+◌, ◌<◌, ◌≤◌, ◌^◌, IsSome, IfSome, IsTrue, None, is_some, true, vec_len, vec_capacity};
 ghost use Rattle.rx_slots.specs.Slots.{find, entry_at};
 ghost use Rattle.rx_tree.specs.Cuts.{Descends, LetsWait, CutsLeaf, still_open};
 ghost use Rattle.rx_rings.specs.Rings.{Leaves};
@@ -102,13 +102,11 @@ impl<R: Drop> Store<R> {
 
     // Takes out the record of a node without children.
     #[inline(always)]
-    fn take_leaf(&mut self, key: Key) -> Option<Closed>
+    fn take_leaf(&mut self, key: Key)
         requires tied { IsTied self.old }
         requires open { IsSome (find (nodes_of self.old) key) }
         requires counted { IsCounted self.old }
         requires childless { next_of self.old (Children key.slot) ≡ Children key.slot }
-        ensures value { option_map (λ m. m.node) result ≡ find (nodes_of self.old) key }
-        ensures key { IfSome result (λ m. m.key ≡ key) }
         ensures taken { Takes_out (nodes_of self.old) (nodes_of self.new) key }
         ensures tied { IsTied self.new }
         ensures counted { IsCounted self.new }
@@ -118,7 +116,7 @@ impl<R: Drop> Store<R> {
         self.let_wait(key.slot);
         self.unnote(key.slot);
         self.pass_by(Place::Sibling(key.slot));
-        self.take_node(key)
+        self.take_node(key);
     }
 
     // Moves out a node without children that is this one or stands below it, and gives the key of its
@@ -142,11 +140,15 @@ impl<R: Drop> Store<R> {
         ensures list_room { vec_capacity closed.new ≡ vec_capacity closed.old }
     {
         let key = self.leaf_below(from);
-        let Some(leaf) = self.take_leaf(key) else {
+        // It is copied while it stands in its place.
+        let Some(leaf) = self.nodes.get(key) else {
             unreachable!()
         };
+        // It is one of those that the list has room for.
+        let _count = self.nodes.len();
         let above = leaf.parent();
-        closed.push_reserved(leaf);
+        closed.push_reserved(leaf.closed(key));
+        self.take_leaf(key);
         if key.number == top.number {
             None
         } else {

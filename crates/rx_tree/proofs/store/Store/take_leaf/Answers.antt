@@ -3,7 +3,7 @@ use Rattle.rx_slots.specs.Slots.{find, entry_at}
 use Rattle.rx_tree.specs.Store.{project, nodes_of}
 use Rattle.rx_tree.proofs.Laws.Keys.{some_of}
 use Rattle.rx_tree.proofs.LeafSteps.{noted_before, noted_after, noted_loop, sibling_before, sibling_after, noted_alone, children_alone, held_alone}
-use Rattle.rx_tree.proofs.LeafSteps.{taken, leaf_tied, leaf_chain, took_of}
+use Rattle.rx_tree.proofs.LeafSteps.{taken, leaf_tied, leaf_chain}
 use Rattle.rx_tree.proofs.CountSteps.{counted_relinked}
 use Rattle.rx_tree.proofs.There.{slot_stands}
 use Rattle.rx_tree.proofs.store.Store.take_leaf.Goals as goal
@@ -58,10 +58,8 @@ returns-clause-tied g c =
     let h = some_of (find (nodes_of c.args.self.now) c.args.key) c.requires.«open» in
     leaf_tied c.args.self.now c.let_wait.new.self c.args.key h.0 h.1 c.let_wait.ensures.waits c.let_wait.ensures.rest c.requires.childless c.unnote.new.self
     c.unnote.ensures.leaves c.unnote.ensures.rest c.pass_by.new.self c.pass_by.ensures.passes c.pass_by.ensures.rest c.take_node.new.self
-    (took_of c.args.key h.1 c.let_wait.ensures.rest
-    c.unnote.ensures.rest c.pass_by.ensures.rest c.take_node.result c.take_node.ensures.value _ c.take_node.ensures.taken)
-    (took_of c.args.key h.1 c.let_wait.ensures.rest
-    c.unnote.ensures.rest c.pass_by.ensures.rest c.take_node.result c.take_node.ensures.value _ c.take_node.ensures.links)
+    c.take_node.ensures.taken
+    c.take_node.ensures.links
     (ap (project (λ r. r.stowed)) c.take_node.ensures.resources)
 
 pub returns-clause-chain : goal.returns-clause-chain
@@ -69,10 +67,8 @@ returns-clause-chain g c =
     let h = some_of (find (nodes_of c.args.self.now) c.args.key) c.requires.«open» in
     leaf_chain c.args.self.now c.let_wait.new.self c.args.key h.0 h.1 c.let_wait.ensures.waits c.let_wait.ensures.rest c.requires.childless c.unnote.new.self
     c.unnote.ensures.leaves c.unnote.ensures.rest c.pass_by.new.self c.pass_by.ensures.passes c.pass_by.ensures.rest c.take_node.new.self
-    (took_of c.args.key h.1 c.let_wait.ensures.rest
-    c.unnote.ensures.rest c.pass_by.ensures.rest c.take_node.result c.take_node.ensures.value _ c.take_node.ensures.taken)
-    (took_of c.args.key h.1 c.let_wait.ensures.rest
-    c.unnote.ensures.rest c.pass_by.ensures.rest c.take_node.result c.take_node.ensures.value _ c.take_node.ensures.links)
+    c.take_node.ensures.taken
+    c.take_node.ensures.links
     (ap (project (λ r. r.stowed)) c.take_node.ensures.resources)
 
 pub returns-clause-taken : goal.returns-clause-taken
@@ -80,10 +76,8 @@ returns-clause-taken g c =
     let h = some_of (find (nodes_of c.args.self.now) c.args.key) c.requires.«open» in
     taken c.args.self.now c.let_wait.new.self c.args.key h.0 h.1 c.let_wait.ensures.waits c.let_wait.ensures.rest c.requires.childless c.unnote.new.self
     c.unnote.ensures.leaves c.unnote.ensures.rest c.pass_by.new.self c.pass_by.ensures.passes c.pass_by.ensures.rest c.take_node.new.self
-    (took_of c.args.key h.1 c.let_wait.ensures.rest
-    c.unnote.ensures.rest c.pass_by.ensures.rest c.take_node.result c.take_node.ensures.value _ c.take_node.ensures.taken)
-    (took_of c.args.key h.1 c.let_wait.ensures.rest
-    c.unnote.ensures.rest c.pass_by.ensures.rest c.take_node.result c.take_node.ensures.value _ c.take_node.ensures.links)
+    c.take_node.ensures.taken
+    c.take_node.ensures.links
     (ap (project (λ r. r.stowed)) c.take_node.ensures.resources)
 
 pub take_node-requires-clause-counted : goal.take_node-requires-clause-counted

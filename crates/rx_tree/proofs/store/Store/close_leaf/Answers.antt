@@ -1,0 +1,15 @@
+use Rattle.std.proofs.Common.{◌∙◌, sym, arith}
+use Rattle.rx_tree.specs.Store.{nodes_of}
+use Rattle.rx_tree.proofs.InPlace.{there_project}
+use Rattle.rx_tree.proofs.SlotsFit.{some_count}
+use Rattle.rx_tree.proofs.There.{slot_stands}
+use Rattle.rx_tree.proofs.store.Store.close_leaf.Goals as goal
+
+pub push_reserved-requires : goal.push_reserved-requires
+push_reserved-requires g c =
+    let s = c.args.self.now in
+    let key = c.leaf_below-key.result in
+    let there = there_project (λ l. l.node) s.nodes key.slot (slot_stands (nodes_of s) key c.leaf_below-key.ensures.there) in
+    let some = some_count s.nodes key.slot there (sym c.len-count.ensures.value ∙ c.len-count.ensures.counted) in
+    let room = c.requires.room in
+    omega (arith, some, room)
