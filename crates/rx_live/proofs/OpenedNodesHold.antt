@@ -1,5 +1,5 @@
 -- A node that holds a resource from its opening on, and the names that both get.
-use Rattle.std.proofs.Common.{◌≡◌, ℕ, ◌+◌, ◌-◌, ◌==◌, ◌<◌, [], ◌∷◌, Bool, true, false, cond, length, length-append, Option, Some}
+use Rattle.std.proofs.Common.{◌≡◌, ℕ, ◌+◌, ◌==◌, ◌<◌, [], ◌∷◌, Bool, true, false, cond, length, length-append, Option, Some}
 use Rattle.std.proofs.Common.{option_map, refl, sym, ap, ◌∙◌, arith, subst}
 use Rattle.std.specs.Prelude.{is_some}
 use Rattle.rx_event.specs.declared.event.Event.{Event}
