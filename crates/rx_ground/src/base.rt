@@ -110,7 +110,7 @@ fn grown(room: usize, wanted: usize) -> usize
     if twice < least { least } else { twice }
 }
 
-// Room for a list of so many, on which what it has stays.
+// Room for a list of so many, on which what it has stays. One that has nothing is made anew, and nothing is copied.
 #[cold]
 #[inline(never)]
 fn grow_closed(closed: &mut Vec<Closed>, space: usize) -> Result<(), AllocError>
@@ -119,8 +119,14 @@ fn grow_closed(closed: &mut Vec<Closed>, space: usize) -> Result<(), AllocError>
     ensures closed { closed.new.items ≡ closed.old.items }
     ensures capacity { vec_capacity closed.old ≤ vec_capacity closed.new }
 {
-    let additional = grown(closed.capacity(), space) - closed.len();
-    closed.reserve(additional)
+    let capacity = grown(closed.capacity(), space);
+    if !closed.is_empty() {
+        return closed.reserve(capacity - closed.len());
+    }
+    let alloc = *closed.allocator();
+    let fresh = Vec::with_capacity(alloc, capacity)?;
+    *closed = fresh;
+    Ok(())
 }
 
 // Room for so many nodes more, and for closing all there are then. Where none is wanted, none is asked for.
