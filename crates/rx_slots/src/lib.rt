@@ -332,6 +332,7 @@ impl<T> Slots<T> {
     pub fn slot_count(&self) -> usize
         ensures value { result ≡ slot_count self.now }
         ensures at_most { result ≤ self.now.count + self.now.room }
+        ensures most { result ≤ 2 ^ 29 }
     {
         self.cells.len()
     }

@@ -419,7 +419,7 @@ impl<R: Drop> Store<R> {
     fn free_one(&mut self, slot: usize, owned: bool)
         requires there { IsTrue owned → IsTrue (is_there self.old (Held slot)) }
         requires some { 0 < (cond owned (held_count_at self.old slot) self.old.waiting_count).lent }
-        requires fits { (cond owned (held_count_at self.old slot) self.old.waiting_count).free + 1 < 2 ^ 64 }
+        requires fits { (cond owned (held_count_at self.old slot) self.old.waiting_count).free + 1 < 2 ^ 32 }
         ensures held { (q : _) → held_count_at self.new q ≡
             cond (owned && slot == q) (freed (held_count_at self.old slot)) (held_count_at self.old q) }
         ensures waiting { self.new.waiting_count ≡ cond owned self.old.waiting_count (freed self.old.waiting_count) }

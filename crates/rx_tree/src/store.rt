@@ -13,11 +13,11 @@ use crate::node::Stowed;
 use rx_slots::Slots;
 use std::alloc::Global;
 
-/// How many resources are so that have no lease out, and how many that have one.
+/// How many resources are so that have no lease out, and how many that have one: no more than there are slots.
 #[derive(Clone, Copy)]
 pub(crate) struct Counts {
-    pub(crate) free: u64,
-    pub(crate) lent: u64,
+    pub(crate) free: u32,
+    pub(crate) lent: u32,
 }
 
 impl Counts {
@@ -30,7 +30,7 @@ impl Counts {
 
     // One more, of those that have a lease out or of the others.
     pub(crate) fn more(self, lent: bool) -> Self
-        requires { count_if lent self + 1 < 2 ^ 64 }
+        requires { count_if lent self + 1 < 2 ^ 32 }
         ensures { result ≡ one_more lent self }
     {
         let mut counts = self;

@@ -641,14 +641,14 @@ impl<R: Resource> Tree<R> {
     pub fn waiting(&self) -> u64
         ensures { result ≡ waiting_count self.now }
     {
-        self.store.waiting_count.free
+        u64::from(self.store.waiting_count.free)
     }
 
     /// How many resources leases alone hold.
     pub fn lent_alone(&self) -> u64
         ensures { result ≡ lent_alone_count self.now }
     {
-        self.store.waiting_count.lent
+        u64::from(self.store.waiting_count.lent)
     }
 
     /// Takes out a resource that waits, with its number; None where none waits. It takes no memory.

@@ -15,7 +15,7 @@ overflow_add-count g c =
     let few = count_fits a b c.requires.counted c.in-Ok.key c.args.number c.args.stowed came c.requires.owned c.requires.free in
     let count = ap (λ n. n.free) c.held_count-count.ensures in
     let slots = c.slot_count-slots.ensures.value in
-    let fits = c.slot_count-slots.type_inv in
+    let fits = c.slot_count-slots.ensures.most in
     omega (arith, few, count, slots, fits)
 
 pub returns-in-Ok-clause-ok : goal.returns-in-Ok-clause-ok

@@ -43,7 +43,7 @@ more-requires g c =
     (ap not (same_here c.in-Some.stored.now.stowed.leases 0 c.if-not-lent.true)) in
     let same = ap (λ n. n.lent) (c.less.ensures ∙ ap (one_less false) c.held_count-count.ensures) in
     let slots = c.slot_count-slots.ensures.value in
-    let fits = c.slot_count-slots.type_inv in
+    let fits = c.slot_count-slots.ensures.most in
     omega (arith, few, same, slots, fits)
 
 pub returns-then-not-lent-clause-counted : goal.returns-then-not-lent-clause-counted

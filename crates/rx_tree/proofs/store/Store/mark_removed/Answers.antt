@@ -36,7 +36,7 @@ more-self-requires g c =
     let same = ap (count_if (is_lent c.in-Some.stored.now.stowed)) c.set_held_count.ensures.waiting in
     let longer = ap (λ r. length r.entries) c.set_held_count.ensures.resources in
     let slots = c.slot_count-slots.ensures.value in
-    let fits = c.slot_count-slots.type_inv in
+    let fits = c.slot_count-slots.ensures.most in
     omega (arith, few, same, longer, slots, fits)
 
 pub returns-in-Some-clause-rewrites : goal.returns-in-Some-clause-rewrites

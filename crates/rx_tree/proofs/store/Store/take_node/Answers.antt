@@ -24,7 +24,7 @@ overflow_add-self g c =
     let few = out_fits a b c.requires.counted c.args.key c.in-Some.linked (sym c.take.ensures.value ∙ c.in-Some.is)
     (changes-project (λ l. l.node) _ _ c.args.key.slot _ c.in-Some.ensures.changes) false in
     let slots = c.slot_count-slots.ensures.value in
-    let fits = c.slot_count-slots.type_inv in
+    let fits = c.slot_count-slots.ensures.most in
     let same = ap (λ (k : Counts). k.free) c.held_count-count.ensures in
     omega (arith, few, slots, fits, same)
 
@@ -35,7 +35,7 @@ overflow_add-self-2 g c =
     let few = out_fits a b c.requires.counted c.args.key c.in-Some.linked (sym c.take.ensures.value ∙ c.in-Some.is)
     (changes-project (λ l. l.node) _ _ c.args.key.slot _ c.in-Some.ensures.changes) true in
     let slots = c.slot_count-slots.ensures.value in
-    let fits = c.slot_count-slots.type_inv in
+    let fits = c.slot_count-slots.ensures.most in
     let same = ap (λ (k : Counts). k.lent) c.held_count-count.ensures in
     omega (arith, few, slots, fits, same)
 

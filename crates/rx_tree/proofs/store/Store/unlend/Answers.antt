@@ -43,7 +43,7 @@ free_one-requires-clause-fits g c =
     let few = last_fits a b c.requires.counted c.args.key c.in-Some.stored.now.stowed found change lent c.owns-owned.result own
     (ap not (same_here (c.in-Some.stored.now.stowed.leases - 1) 0 c.if-last.true)) in
     let slots = c.slot_count-slots.ensures.value in
-    let fits = c.slot_count-slots.type_inv in
+    let fits = c.slot_count-slots.ensures.most in
     omega (arith, few, slots, fits)
 
 pub returns-then-last-clause-counted : goal.returns-then-last-clause-counted
