@@ -13,6 +13,7 @@ use Rattle.rx_live.specs.Promise.{released, no_act}
 use Rattle.rx_live.specs.Answers.{told_text, WritesNotes, is_late, late_text}
 use Rattle.rx_live.specs.Listed.{all_names}
 use Rattle.rx_live.specs.Openings.{front_text}
+use Rattle.rx_live.specs.Closings.{closed_names, SaysClosed}
 use Rattle.rx_live.specs.Renewals.{Renews, IsFullByOpen}
 use Rattle.rx_live.specs.Dumps.{query_text, dump_text}
 use Rattle.rx_live.specs.Lines.{Does, handed_by, TellsAll, CarriesOut, refuses, carries, is_faulty, is_refused}
@@ -30,14 +31,15 @@ behind b f p q r s =
     ∙ ap (λ (t : List ℕ). t ++ s) (append_assoc b (f ++ p ++ q) r) ∙ append_assoc b (f ++ p ++ q ++ r) s
 
 -- a task that is carried out
-pub carried_out : {old : Session} (done new : Session) (k : Task) (begun front text : List ℕ) → Does old k Accepted done →
-    front ≡ front_text old k done → TellsAll done (begun ++ front) new text → Writes (λ t. CarriesOut old k t new) begun text
-carried_out {old} done new k begun front text does is tells =
+pub carried_out : {old : Session} (done new : Session) (k : Task) (begun front said text : List ℕ) → Does old k Accepted done →
+    front ≡ front_text old k done → SaysClosed (closed_names old k done) said → TellsAll done (begun ++ (front ++ said)) new text →
+    Writes (λ t. CarriesOut old k t new) begun text
+carried_out {old} done new k begun front said text does is closed tells =
     let notes : List ℕ = member_text (codes "notes") (map told_text tells.told) in
     let names : List ℕ = member_text (codes "release") (map name_text tells.names) in
     let late : List ℕ = late_text (is_late new) in
-    let answer : List ℕ = front_text old k done ++ notes ++ names ++ late ++ codes "}" in
-    let all : TellsAll done (front_text old k done) new answer = record {
+    let answer : List ℕ = front_text old k done ++ said ++ notes ++ names ++ late ++ codes "}" in
+    let all : TellsAll done (front_text old k done ++ said) new answer = record {
       mid = tells.mid;
       told = tells.told;
       tells = tells.tells;
@@ -50,9 +52,9 @@ carried_out {old} done new k begun front text does is tells =
     } in
     record {
       answer = answer;
-      is = carries (handed_by k ++ map released all.names) (record { done = done; does = does; left = new; tells = all; alike = alike_same new; acts_are = refl });
-      written = tells.written ∙ behind begun front notes names late (codes "}")
-          ∙ ap (λ (t : List ℕ). begun ++ (t ++ notes ++ names ++ late ++ codes "}")) is;
+      is = carries (handed_by k ++ map released all.names) (record { done = done; does = does; said = said; closed = closed; left = new; tells = all; alike = alike_same new; acts_are = refl });
+      written = tells.written ∙ behind begun (front ++ said) notes names late (codes "}")
+          ∙ ap (λ (t : List ℕ). begun ++ (t ++ said ++ notes ++ names ++ late ++ codes "}")) is;
     }
 
 -- what is asked

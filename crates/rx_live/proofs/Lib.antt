@@ -10,6 +10,7 @@ pub mod ClosedNamesForgotten
 pub mod SessionAfterCheckpoint
 pub mod Listings
 pub mod EntriesWritten
+pub mod ClosedNamed
 pub mod Acts
 pub mod AnswersTellNotes
 pub mod ClosedSessionIsSound

@@ -1,5 +1,7 @@
 pub mod Session
 pub mod Carried
+pub mod ClosedAt
+pub mod Closings
 pub mod Deeds
 pub mod Given
 pub mod Openings

@@ -23,6 +23,7 @@ use Rattle.rx_event.specs.declared.refusal.Refusal.TheVariants.{Full, NoMemory}
 use Rattle.rx_line.specs.declared.outcome.Cause.TheVariants.{Book}
 use Rattle.rx_live.specs.Renewals.{Renews, Renewing, IsFullByOpen, may_renew}
 use Rattle.rx_live.specs.Promise.{Act, handed_in, released, Leads}
+use Rattle.rx_live.specs.Closings.{closed_names, SaysClosed}
 use Rattle.rx_live.specs.Dumps.{query_text, dump_text}
 use Rattle.rx_live.specs.Answers.{Told, told_text, TellsNotes, IsTold, ReleasesNames, IsReleased, is_late, late_text}
 
@@ -81,12 +82,14 @@ pub record TellsAll (old : Session) (begun : List ℕ) (new : Session) (text : L
   pub written : text ≡
       begun ++ member_text (codes "notes") (map told_text told) ++ member_text (codes "release") (map name_text names) ++ late_text (is_late new) ++ codes "}"
 
--- a task that was carried out, what was told, and the names that it hands in and that are released
+-- a task that was carried out, what was closed and told, and the names that it hands in and that are released
 pub record IsCarried (old : Session) (t : Task) (text : List ℕ) (acts : List Act) (new : Session) : Type 0 where
   pub done : Session
   pub does : Does old t Accepted done
+  pub said : List ℕ
+  pub closed : SaysClosed (closed_names old t done) said
   pub left : Session
-  pub tells : TellsAll done (front_text old t done) left text
+  pub tells : TellsAll done (front_text old t done ++ said) left text
   pub alike : IsAlike left new
   pub acts_are : acts ≡ handed_by t ++ map released tells.names
 

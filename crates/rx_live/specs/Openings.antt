@@ -1,5 +1,5 @@
 -- What a command asks that opens a node or connects a hub, and which names it gives.
-use Rattle.std.specs.Prelude.{◌≡◌, ℕ, ◌+◌, ◌-◌, ◌++◌, ◌||◌, Bool, false, true, List, [], ◌∷◌, codes, Option, Some, None, length, is_some}
+use Rattle.std.specs.Prelude.{◌≡◌, ℕ, ◌+◌, ◌-◌, ◌++◌, ◌||◌, Bool, false, true, List, [], ◌∷◌, codes, map, Option, Some, None, length, is_some}
 use Rattle.std.specs.Prelude.{option_map, option_and_then}
 use Rattle.std.specs.Str.{bytes_eq}
 use Rattle.std.specs.Option.{option_map_or}
@@ -17,7 +17,8 @@ use Rattle.rx_scenario.specs.Scenario.{open_node}
 use Rattle.rx_book.specs.declared.key.Key.{Key}
 use Rattle.rx_book.specs.declared.answer.At.{At}
 use Rattle.rx_book.specs.declared.answer.At.TheVariants.{Root as AtRoot, Source as AtSource, Inner as AtInner, Notifier as AtNotifier}
-use Rattle.rx_book.specs.State.{State}
+use Rattle.rx_ground.specs.Gone.{goes}
+use Rattle.rx_book.specs.State.{State, AreJust}
 use Rattle.rx_book.specs.Requests.{Request, open_request, place_of, is_known_place}
 use Rattle.rx_book.specs.Answers.{Accepts, connection_made}
 use Rattle.rx_line.specs.declared.names.Names.{Names}
@@ -93,7 +94,8 @@ pub record OpensHolder (old : State) (asked : Holder) (new : State) : Type 0 whe
   pub opens : Accepts old (open_request old asked.place asked.kind) middle
   pub key : Key
   pub is : key.number ≡ length old.history
-  pub holds : Accepts middle (hold_tagged middle key key.number) new
+  pub holds : Accepts middle (hold_tagged middle key key.number) (record new { closed = [] })
+  pub closed : AreJust (goes old.history new.history) (map (λ k. k.number) new.closed)
   pub last : new.history ≡ middle.history ++ Accept key.number key.number ∷ []
 
 abbrev pub GivesHolder : Session → Option Holder → (taken : Bool) → (Session → Type 0) → Outcome → Session → Type 0

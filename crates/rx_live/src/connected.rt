@@ -84,9 +84,9 @@ fn connects_at(engine: &Engine, place: u64) -> bool
 
 /// Writes this, where there is anything to write and the event at the place is a connection. It takes no memory.
 pub fn push_connected(engine: &Engine, text: &mut String, said: &str, place: u64, rest: u32)
-    requires room { HasRoom (length said.now + (rest + 15)) text.old }
+    requires room { HasRoom (length said.now + (rest + 29)) text.old }
     ensures text { string_bytes text.new ≡ string_bytes text.old ++ said_if (connects_at engine.now.book place) said.now }
-    ensures room { HasRoom (rest + 15) text.new }
+    ensures room { HasRoom (rest + 29) text.new }
 {
     if said.is_empty() {
         return;

@@ -38,6 +38,7 @@
 
 mod arrays;
 mod calls;
+mod closed;
 mod closing;
 mod connected;
 mod deeds;

@@ -11,6 +11,7 @@ ghost use Rattle.rx_live.specs.Lines.{TellsAll, CarriesOut, FindsFull, WaitsFor,
 ghost use Rattle.rx_live.specs.Taken.{is_full, IsFullByAge, Answered, Writes, Tries};
 ghost use Rattle.rx_live.specs.Room.{HasRoom};
 
+use crate::closed::{closing_of, push_closed};
 use crate::closing::{close, push_names};
 use crate::connected::{connected_by, push_connected};
 use crate::dumping::dump_text;
@@ -60,7 +61,7 @@ fn tell(engine: &mut Engine, text: &mut String, rest: u32)
 // Gets room for the front of an answer, for what may be said behind it and for what closes it.
 fn make_place(text: &mut String, front: &str, said: &str, rest: u32) -> Result<(), AllocError>
     ensures same { string_bytes text.new ≡ string_bytes text.old }
-    ensures ok { OnOk result (HasRoom (length front.now + (length said.now + (rest + 15))) text.new) }
+    ensures ok { OnOk result (HasRoom (length front.now + (length said.now + (rest + 29))) text.new) }
     ensures kept { HasRoom rest text.old → HasRoom rest text.new }
 {
     let wanted = front.len().saturating_add(said.len());
@@ -123,10 +124,12 @@ fn carry_out(
     let front = placed.as_str();
     make_place(text, front, said, rest)?;
     let behind = engine.place_behind();
+    let closing = closing_of(engine, &task);
     match act(engine, task)? {
         Outcome::Accepted => {
             put(text, front);
             push_connected(engine, text, said, behind, rest);
+            push_closed(engine, text, closing, rest);
             tell(engine, text, rest);
             Ok(true)
         }

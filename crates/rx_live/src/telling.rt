@@ -16,8 +16,8 @@ use std::alloc::AllocError;
 /// `rest` keeps room for so many bytes more behind the answer.
 pub const ROOM: usize = 32;
 
-// Writes a piece of an array, and what leads to it; a piece that finds no room is not written.
-fn push_piece(text: &mut String, lead: &str, piece: &str, rest: u32) -> Result<(), AllocError>
+/// Writes a piece of an array, and what leads to it; a piece that finds no room is not written.
+pub fn push_piece(text: &mut String, lead: &str, piece: &str, rest: u32) -> Result<(), AllocError>
     ensures ok { OnOk result (string_bytes text.new ≡ string_bytes text.old ++ lead.now ++ piece.now) }
     ensures err { OnErr result (string_bytes text.new ≡ string_bytes text.old) }
     ensures room { KeepsRoom rest text.old text.new }

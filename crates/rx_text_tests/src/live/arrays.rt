@@ -14,7 +14,7 @@ const LINES: [Row; 4] = [
             {\"do\":\"end\",\"node\":\"b\"},{\"do\":\"is\",\"node\":\"a\"}]",
         "[{\"ok\":3,\"notes\":[{\"to\":\"a\",\"next\":5}]},{\"refused\":\"NoName\"},\
             {\"faulty\":\"a command is an object\"},{\"faulty\":\"a command is an object\"},\
-            {\"ok\":4,\"notes\":[{\"to\":\"a\",\"completed\":true}],\"release\":[\"r\"]},{\"ok\":7,\"open\":false}]",
+            {\"ok\":4,\"closed\":[\"a\"],\"notes\":[{\"to\":\"a\",\"completed\":true}],\"release\":[\"r\"]},{\"ok\":7,\"open\":false}]",
     ),
     (" [ ] ", "[]"),
     ("", r#"{"closed":true}"#),

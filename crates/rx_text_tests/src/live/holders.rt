@@ -44,11 +44,11 @@ const ENDED: [Row; 8] = [
     ),
     (
         r#"{"do":"end","node":"t"}"#,
-        r#"{"ok":7,"notes":[{"to":"a","completed":true}],"release":["q"]}"#,
+        r#"{"ok":7,"closed":["a"],"notes":[{"to":"a","completed":true}],"release":["q"]}"#,
     ),
     (
         r#"{"do":"dispose","node":"s"}"#,
-        r#"{"ok":10,"release":["r"]}"#,
+        r#"{"ok":10,"closed":["c"],"release":["r"]}"#,
     ),
     (
         r#"{"do":"open","name":"s","place":"root","kind":"leaf","res":"r"}"#,

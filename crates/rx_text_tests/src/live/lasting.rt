@@ -28,7 +28,7 @@ const ENDED: [Row; 3] = [
     ),
     (
         r#"{"do":"end","node":"b"}"#,
-        r#"{"ok":103,"notes":[{"to":"a","completed":true}],"release":["r"]}"#,
+        r#"{"ok":103,"closed":["a"],"notes":[{"to":"a","completed":true}],"release":["r"]}"#,
     ),
     ("", r#"{"closed":true}"#),
 ];

@@ -137,7 +137,10 @@ const BY_HAND: [Row; 8] = [
     (CHECKPOINT, r#"{"ok":17}"#),
     CLOSING,
     (r#"{"do":"dispose","node":"b"}"#, r#"{"ok":19}"#),
-    (r#"{"do":"dispose","node":"d"}"#, r#"{"ok":20}"#),
+    (
+        r#"{"do":"dispose","node":"d"}"#,
+        r#"{"ok":20,"closed":["c"]}"#,
+    ),
     (r#"{"do":"connect","hub":"m","name":"e"}"#, r#"{"ok":22}"#),
     (LIST, CONNECTED),
     (CHECKPOINT, r#"{"ok":23}"#),

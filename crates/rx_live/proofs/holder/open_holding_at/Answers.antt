@@ -101,7 +101,8 @@ returns-in-Ok-clause-ok c =
       opens = did.opens;
       key = key;
       is = did.opened.key.number;
-      holds = subst (λ (r : Request). Accepts middle r book) (λ i. asked (tag i) (fresh i)) did.holds;
+      holds = subst (λ (r : Request). Accepts middle r (record book { closed = [] })) (λ i. asked (tag i) (fresh i)) did.holds;
+      closed = did.closed;
       last = did.last ∙ ap (λ (n : ℕ). middle.history ++ Accept key.number n ∷ []) tag;
     } in
     let number : spot.number ≡ length s.book.history = ap (λ (p : Spot). p.number) c.spot_of.ensures ∙ did.opened.key.number in

@@ -1,10 +1,13 @@
-use Rattle.std.proofs.Common.{◌≡◌, ℕ, ◌++◌, List, subst, string_bytes, refl, sym, ap, ◌∙◌, append_assoc}
+use Rattle.std.specs.Prelude.{if◌then◌else◌}
+use Rattle.rx_scenario.specs.Scenario.{Name}
+use Rattle.std.proofs.Common.{◌≡◌, ℕ, ◌++◌, List, [], subst, string_bytes, refl, sym, ap, ◌∙◌, append_assoc}
 use Rattle.rx_line.specs.Orders.{Task, task_of}
 use Rattle.rx_line.specs.declared.outcome.Outcome.{Outcome}
 use Rattle.rx_line.specs.declared.outcome.Outcome.TheVariants.{Accepted, Refused}
 use Rattle.rx_line.specs.Pieces.{ok_text}
 use Rattle.rx_live.specs.Session.{session_of}
 use Rattle.rx_live.specs.Openings.{said_if, front_text}
+use Rattle.rx_live.specs.Closings.{names_closed, closed_names, SaysClosed}
 use Rattle.rx_live.specs.Lines.{Does, TellsAll}
 use Rattle.rx_live.specs.Taken.{connects_at}
 use Rattle.rx_live.proofs.Acts.{refused_alike}
@@ -39,10 +42,17 @@ returns-in-Accepted-clause-ok c =
     let front : placed ++ led ≡ front_text old asked done =
     front_said old done asked placed said (placed ++ led) c.place_behind-behind.result c.requires.sound runs
     (c.as_str-front.ensures.value ∙ c.in_ok-placed.ensures ∙ ap ok_text c.len.ensures) (c.as_str-said.ensures.value ∙ c.in_ok-connected.ensures) c.place_behind-behind.ensures refl in
-    let written : string_bytes c.push_connected.new.text ≡ begun ++ (placed ++ led) =
+    let wrote = c.push_closed.ensures.said in
+    let said_closed : List ℕ = wrote.said in
+    let connected : string_bytes c.push_connected.new.text ≡ begun ++ (placed ++ led) =
     c.push_connected.ensures.text ∙ ap (λ (t : List ℕ). t ++ led) (c.put.ensures.bytes ∙ ap (λ (t : List ℕ). t ++ placed) c.make_place.ensures.same)
     ∙ append_assoc begun placed led in
-    carried_out done (session_of c.tell.new.engine) asked begun (placed ++ led) (string_bytes c.tell.new.text) runs front
+    let written : string_bytes c.push_closed.new.text ≡ begun ++ (placed ++ led ++ said_closed) =
+    wrote.written ∙ ap (λ (t : List ℕ). t ++ said_closed) connected ∙ append_assoc begun (placed ++ led) said_closed in
+    let says : SaysClosed (closed_names old asked done) said_closed =
+    subst (λ (ns : List Name). SaysClosed ns said_closed)
+    (λ i. if c.closing_of-closing.ensures.call i then names_closed done (c.closing_of-closing.ensures.asked i) else []) wrote.says in
+    carried_out done (session_of c.tell.new.engine) asked begun (placed ++ led) said_closed (string_bytes c.tell.new.text) runs front says
     (subst (λ (t : List ℕ). TellsAll done t (session_of c.tell.new.engine) (string_bytes c.tell.new.text)) written c.tell.ensures.tells)
 
 pub returns-clause-ok : goal.returns-clause-ok

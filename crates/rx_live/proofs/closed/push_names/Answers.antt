@@ -1,0 +1,50 @@
+use Rattle.std.proofs.Common.{◌≡◌, ℕ, ◌++◌, List, Option, Some, option_map, length, string_bytes, sym, ap, ◌∙◌, arith}
+use Rattle.rx_scenario.specs.Scenario.{Name}
+use Rattle.rx_line.specs.Pieces.{name_text, joined}
+use Rattle.rx_listing.specs.Parts.{is_nil, led_text}
+use Rattle.rx_live.specs.Session.{session_of}
+use Rattle.rx_live.specs.ClosedAt.{closed_at, closed_texts}
+use Rattle.rx_live.proofs.EntriesWritten.{entry_same, entry_nil, entry_written}
+use Rattle.rx_live.proofs.closed.push_names.Goals.{in-Some+in_ok-push_led, in_default}
+use Rattle.rx_live.proofs.closed.push_names.Goals as goal
+
+pub places-preserved : goal.places-preserved
+places-preserved c =
+    let s = session_of c.args.engine.now in
+    let entry : ℕ → Option (List ℕ) = λ n. option_map name_text (closed_at s c.args.asked n) in
+    let k = c.places.place in
+    let begun = string_bytes c.args.text.now in
+    elim c.match-closed_at.branch [
+      | in-Some+in_ok-push_led w ↦
+          let there : entry k ≡ Some (name_text w.in-Some.name.now) =
+          ap (option_map name_text) (sym c.closed_at.ensures ∙ ap (option_map (λ s. s.now)) w.in-Some.is) in
+          record {
+            first = w.is_first-is ∙ entry_nil entry k there;
+            written = ap string_bytes w.text-is ∙ entry_written entry k c.places.is_first begun there
+                c.places.invariant.first c.places.invariant.written w.in_ok-push_led.ensures;
+          }
+      | in_default w ↦
+          let same = entry_same entry k (ap (option_map name_text) (sym c.closed_at.ensures ∙ ap (option_map (λ s. s.now)) w.in_default.is)) in
+          record {
+            first = w.is_first-is ∙ c.places.invariant.first ∙ ap is_nil same;
+            written = ap string_bytes w.text-is ∙ c.places.invariant.written ∙ ap (λ (texts : List (List ℕ)). begun ++ joined texts) same;
+          }
+    ]
+
+pub returns-clause-first : goal.returns-clause-first
+returns-clause-first c =
+    let s = session_of c.args.engine.now in
+    let len = c.closed_count-place-end.ensures in
+    let over = c.places-test.false in
+    let most = c.places.auto.place-end in
+    let all : c.places.place ≡ length s.book.closed = omega arith in
+    c.places.invariant.first ∙ ap (λ (n : ℕ). is_nil (closed_texts s c.args.asked n)) all
+
+pub returns-clause-text : goal.returns-clause-text
+returns-clause-text c =
+    let s = session_of c.args.engine.now in
+    let len = c.closed_count-place-end.ensures in
+    let over = c.places-test.false in
+    let most = c.places.auto.place-end in
+    let all : c.places.place ≡ length s.book.closed = omega arith in
+    c.places.invariant.written ∙ ap (λ (n : ℕ). string_bytes c.args.text.now ++ joined (closed_texts s c.args.asked n)) all

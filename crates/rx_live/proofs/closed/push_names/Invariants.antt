@@ -1,0 +1,12 @@
+use Rattle.std.proofs.Common.{◌≡◌, ◌++◌, string_bytes}
+use Rattle.rx_line.specs.Pieces.{joined}
+use Rattle.rx_listing.specs.Parts.{is_nil}
+use Rattle.rx_live.specs.Session.{session_of}
+use Rattle.rx_live.specs.ClosedAt.{closed_texts}
+use Rattle.rx_live.proofs.closed.push_names.Given as goal
+
+abbrev pub invariant-places : goal.invariant-places
+invariant-places l = record {
+  first : l.is_first ≡ is_nil (closed_texts (session_of l.engine) l.asked l.place);
+  written : string_bytes l.text ≡ string_bytes l.fn.text ++ joined (closed_texts (session_of l.engine) l.asked l.place);
+}
