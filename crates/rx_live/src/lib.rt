@@ -22,6 +22,8 @@
 //! - The commands of an array are carried out and answered one after the other, each as in a line of its own
 //!   (`AnswersEach` there). One for which memory is refused is answered so, and the next is taken.
 //! - The answer to the opening of a subscriber says whether that made a connection.
+//! - The answer to a task names the nodes that it closed, those without a name and the one that it asks for left out,
+//!   or in want of memory says that it names none (`specs/Closings.antt`).
 //! - A line that is refused `Full` finds no event in the history since its last checkpoint. After a checkpoint
 //!   each name of a node is that of an open one. `dump` is answered with the dump of the history and the names of
 //!   its numbers, or with the place of the checkpoint that took events away, and `is` with whether a node of that

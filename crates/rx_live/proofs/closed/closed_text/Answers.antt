@@ -1,4 +1,4 @@
-use Rattle.std.proofs.Common.{string_bytes, sym, ◌∙◌}
+use Rattle.std.proofs.Common.{string_bytes}
 use Rattle.rx_live.specs.Session.{session_of}
 use Rattle.rx_live.proofs.ClosedNamed.{no_member, whole_member}
 use Rattle.rx_live.proofs.closed.closed_text.Goals as goal
@@ -12,4 +12,4 @@ pub returns : goal.returns
 returns c =
     whole_member (session_of c.args.engine.now) c.args.asked (string_bytes c.push_str.new.self) (string_bytes c.push_names.new.text)
     (string_bytes c.in_ok-text.text) c.if-is_none.false c.in_ok-is_none.ensures.first c.in_ok-text.ensures.ok c.in_ok-is_none.ensures.text
-    c.in_ok-push_str.ensures
+    c.in_ok-push_str.ensures.bytes

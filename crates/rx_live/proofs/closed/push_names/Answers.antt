@@ -1,7 +1,6 @@
 use Rattle.std.proofs.Common.{◌≡◌, ℕ, ◌++◌, List, Option, Some, option_map, length, string_bytes, sym, ap, ◌∙◌, arith}
-use Rattle.rx_scenario.specs.Scenario.{Name}
 use Rattle.rx_line.specs.Pieces.{name_text, joined}
-use Rattle.rx_listing.specs.Parts.{is_nil, led_text}
+use Rattle.rx_listing.specs.Parts.{is_nil}
 use Rattle.rx_live.specs.Session.{session_of}
 use Rattle.rx_live.specs.ClosedAt.{closed_at, closed_texts}
 use Rattle.rx_live.proofs.EntriesWritten.{entry_same, entry_nil, entry_written}
