@@ -1,21 +1,11 @@
 -- The tests that compute decide what callers may do.
-use Rattle.std.proofs.Common.{◌≡◌, ℕ, Bool, true, false, nat_lt, List, [], ◌∷◌, Some, None, refl, sym, ap, ◌∙◌, slice_get}
-use Rattle.std.proofs.Math.Bool.{not, ◌&&◌, ◌||◌}
-use Rattle.std.specs.List.{list_any}
-use Rattle.std.specs.Option.{option_and_then}
-use Rattle.rx_event.specs.declared.event.Event.{Event}
-use Rattle.rx_event.specs.declared.event.Event.TheVariants.{Open}
-use Rattle.rx_event.specs.Events.{makes_resource, makes_lease, node_of_accept, is_remove_of, is_return_of, is_take_of, removed_of, returned_of, taken_of}
-use Rattle.rx_event.specs.Tree.{at, is_open, parent}
-use Rattle.rx_event.specs.Resources.{is_owned, is_out, leases_of, is_leased, is_held, is_taken, is_waiting}
-use Rattle.rx_event.proofs.Laws.Parents.{ancestors_step}
+use Rattle.rx_audit.proofs.Common.{◌≡◌, ℕ, Bool, true, false, nat_lt, List, Some, None, refl, sym, ap, ◌∙◌, slice_get, not, ◌&&◌, ◌||◌, list_any}
+use Rattle.rx_audit.proofs.Common.{option_and_then, Event, Open, makes_resource, makes_lease, removed_of, returned_of, taken_of, at, is_open, parent, leases_of}
+use Rattle.rx_audit.proofs.Common.{ancestors_step, is_key, connects_later, is_in_order_at, list_any-same}
+use Rattle.rx_event.specs.Events.{node_of_accept, is_remove_of, is_return_of, is_take_of}
+use Rattle.rx_event.specs.Resources.{is_owned, is_out, is_leased, is_held, is_taken, is_waiting}
 use Rattle.rx_event.proofs.Laws.Resources.{held_is}
-use Rattle.rx_audit.specs.Rules.{is_key, was_removed, was_returned, was_taken}
-use Rattle.rx_audit.specs.Allowing.{connects_later, is_in_order_at}
-
-list_any-same : {X : Type 0} (p q : X → Bool) → ((x : X) → p x ≡ q x) → (xs : List X) → list_any p xs ≡ list_any q xs
-list_any-same p q same [] = refl
-list_any-same p q same (x ∷ xs) = rw (same x, list_any-same p q same xs) refl
+use Rattle.rx_audit.specs.Rules.{was_removed, was_returned, was_taken}
 
 removed_key : (r : ℕ) (e : Event) → is_key (removed_of e) r ≡ is_remove_of r e
 removed_key r (Open place kind) = refl

@@ -1,24 +1,16 @@
 -- A pass that closes what stands below closed nodes.
-use Rattle.std.proofs.Common.{◌≡◌, ℕ, zero, suc, ◌+◌, ◌-◌, ◌<◌, ◌≤◌, Bool, true, false, List, [], ◌∷◌, ◌++◌, length, Option, Some, None, refl, sym, ap, ◌∙◌}
-use Rattle.std.proofs.Common.{arith, cond, inl, inr, ◌⊎◌, get_or, set, get_or-set_other, get_or-set_same, ◌≢◌, length-append, drop, slice_get, ◌==◌, nat_lt}
-use Rattle.std.proofs.Math.ListN.{length-set, get_or-append}
+use Rattle.rx_audit.proofs.Common.{◌≡◌, ℕ, zero, suc, ◌+◌, ◌-◌, ◌<◌, ◌≤◌, Bool, true, false, List, [], ◌∷◌, ◌++◌, length, Option, Some, None, refl, sym, ap}
+use Rattle.rx_audit.proofs.Common.{◌∙◌, arith, cond, inl, inr, ◌⊎◌, get_or, set, get_or-set_other, get_or-set_same, ◌≢◌, length-append, drop, slice_get, ◌==◌}
+use Rattle.rx_audit.proofs.Common.{nat_lt, length-set, cases_Bool, cases_order, both_ways, false≢true, and_parts, and_from, eq-eqb, eqb-true, ltb-true, lt-ltb}
+use Rattle.rx_audit.proofs.Common.{Event, ◌&&◌, none-some, same_Some, list_any, option_and_then, option_map_or, Root, Source, Inner, Notifier, Open}
+use Rattle.rx_audit.proofs.Common.{inner_named, is_switch, is_inner_of, makes_node, parent, is_open, is_switched_inner, at, shuts, parent-lt, parent_open}
+use Rattle.rx_audit.proofs.Common.{is_open_step, is_open_within, IsMarked, mark_count, stays_open, last_below, keyed, IsNoted, IsClosingBelow, AreClosed}
+use Rattle.rx_audit.proofs.Common.{inner_named_at, false_from_ne_true, or_true, cases_lt}
+use Rattle.std.proofs.Math.ListN.{get_or-append}
 use Rattle.std.proofs.lemmas.List.{get_or_push}
 use Rattle.std.proofs.lemmas.List.Sums.{sum_by-set}
-use Rattle.std.proofs.lemmas.Bool.{cases_Bool, cases_order, both_ways, false≢true, and_parts, and_from, eq-eqb, eqb-true, ltb-true, lt-ltb}
-use Rattle.rx_event.specs.declared.event.Event.{Event}
-use Rattle.std.proofs.Math.Bool.{◌&&◌, ◌||◌}
-use Rattle.std.proofs.lemmas.Option.{none-some, same_Some}
-use Rattle.std.specs.List.{list_any}
-use Rattle.std.specs.Option.{option_and_then, option_map_or}
-use Rattle.rx_event.specs.declared.event.Place.TheVariants.{Root, Source, Inner, Notifier}
-use Rattle.rx_event.specs.declared.event.Event.TheVariants.{Open}
-use Rattle.rx_event.specs.Events.{inner_named, is_switch, is_inner_of, makes_node}
-use Rattle.rx_event.specs.Tree.{parent, is_open, is_shut, is_switched_inner, at, shuts}
-use Rattle.rx_event.proofs.Laws.Parents.{parent-lt}
-use Rattle.rx_event.proofs.Laws.Openness.{parent_open, is_open_step, is_open_within}
-use Rattle.rx_audit.specs.Tables.{IsMarked, mark_count}
-use Rattle.rx_audit.specs.Rules.{stays_open}
-use Rattle.rx_audit.specs.Latest.{last_below, keyed, IsNoted, IsClosingBelow, AreClosed, inner_named_at, ShutsNone, IsShutAlone}
+use Rattle.rx_event.specs.Tree.{is_shut}
+use Rattle.rx_audit.specs.Latest.{ShutsNone, IsShutAlone}
 use Rattle.rx_audit.proofs.Latest.{last_none, last_holds, key_is, is_key_of}
 use Rattle.rx_audit.proofs.StaysOpen.{stays_closed, shut_closed, below_closed, below_open, top_open}
 
@@ -213,16 +205,12 @@ pub record IsPassing (h : List Event) (e : Event) (i : ℕ) (marks : List Bool) 
   pub closed : (k : ℕ) → k < length todo → get_or marks (get_or todo k 0) false ≡ false
   pub within : (k : ℕ) → k < length todo → get_or todo k 0 < length h
 
-not_true : (b : Bool) → (b ≡ true → ⊥) → b ≡ false
-not_true true n = absurd (n refl)
-not_true false n = refl
-
 pub passing_starts : (h : List Event) (e : Event) (marks : List Bool) (top : ℕ) → IsMarked marks (is_open h) → top < length h
     → shuts h top e ≡ true → ((n : ℕ) → is_open h n ≡ true → shuts h n e ≡ true → n ≡ top) → IsPassing h e 0 (set marks top false) (top ∷ [])
 passing_starts h e marks top tied inside shut alone = record {
   kept = λ n y. sym (tied n) ∙ (cleared marks top n y).1;
   sound = λ n z. by_gone n (uncleared marks top n z);
-  unshut = λ n y. let w = cleared marks top n y in not_true (shuts h n e) (λ s. w.0 (alone n (sym (tied n) ∙ w.1) s));
+  unshut = λ n y. let w = cleared marks top n y in false_from_ne_true (shuts h n e) (λ s. w.0 (alone n (sym (tied n) ∙ w.1) s));
   pending = λ c q below y. by_parent q (above c q below y);
   closed = λ k l. by_first k l;
   within = λ k l. in_first k l;
@@ -249,19 +237,12 @@ passing_starts h e marks top tied inside shut alone = record {
     by_order (inr (inr g)) = inl (other q (omega arith) y)
 
   by_first : (k : ℕ) → k < length (top ∷ []) → get_or (set marks top false) (get_or (top ∷ []) k 0) false ≡ false
-  by_first zero l = not_true (get_or (set marks top false) top false) (λ y. (cleared marks top top y).0 refl)
+  by_first zero l = false_from_ne_true (get_or (set marks top false) top false) (λ y. (cleared marks top top y).0 refl)
   by_first (suc k) l = absurd (omega arith)
 
   in_first : (k : ℕ) → k < length (top ∷ []) → get_or (top ∷ []) k 0 < length h
   in_first zero l = inside
   in_first (suc k) l = absurd (omega arith)
-
-split_at : (k i : ℕ) → (k < i) ⊎ (i ≤ k)
-split_at k i = by_order (cases_order k i) where
-  by_order : (k ≡ i) ⊎ ((k < i) ⊎ (i < k)) → (k < i) ⊎ (i ≤ k)
-  by_order (inl same) = inr (omega arith)
-  by_order (inr (inl l)) = inl l
-  by_order (inr (inr g)) = inr (omega arith)
 
 pub passing_more : {h : List Event} {e : Event} {i p : ℕ} (old new : List Bool) (before after : List ℕ) → i < length before → p ≡ get_or before i 0
     → IsPassing h e i old before → IsClosingBelow h p 0 old new before after → IsPassing h e (i + 1) new after
@@ -270,8 +251,8 @@ passing_more {h} {e} {i} {p} old new before after l is so_far w = record {
   sound = λ n z. by_old n z (cases_Bool (get_or old n false));
   unshut = λ n y. so_far.unshut n (w.kept n y);
   pending = λ c q below y. by_pending c q below y (so_far.pending c q below (w.kept c y));
-  closed = λ k m. by_closed k m (split_at k (length before));
-  within = λ k m. by_within k m (split_at k (length before));
+  closed = λ k m. by_closed k m (cases_lt k (length before));
+  within = λ k m. by_within k m (cases_lt k (length before));
 } where
   gone_p : get_or old p false ≡ false
   gone_p = ap (λ q. get_or old q false) is ∙ so_far.closed i l
@@ -301,7 +282,7 @@ passing_more {h} {e} {i} {p} old new before after l is so_far w = record {
     by_place (inr (inr g)) = later g
 
   by_closed : (k : ℕ) → k < length after → (k < length before) ⊎ (length before ≤ k) → get_or new (get_or after k 0) false ≡ false
-  by_closed k m (inl b) = ap (λ n. get_or new n false) (w.same k b) ∙ not_true (get_or new (get_or before k 0) false)
+  by_closed k m (inl b) = ap (λ n. get_or new n false) (w.same k b) ∙ false_from_ne_true (get_or new (get_or before k 0) false)
       (λ y. both_ways (get_or old (get_or before k 0) false) (so_far.closed k b) (w.kept (get_or before k 0) y))
   by_closed k m (inr g) = w.closed k g m
 
@@ -335,10 +316,7 @@ passing_ends h e i marks todo over w n = by_mark (cases_Bool (get_or marks n fal
 any_at : (p : Event → Bool) (h : List Event) (i : ℕ) (e : Event) → slice_get h i ≡ Some e → p e ≡ true → list_any p h ≡ true
 any_at p [] i e at_i y = absurd (none-some e at_i)
 any_at p (x ∷ h) zero e at_i y = rw (same_Some x e at_i, y) refl
-any_at p (x ∷ h) (suc i) e at_i y = rw (any_at p h i e at_i y) (or_yes (p x)) where
-  or_yes : (b : Bool) → (b || true) ≡ true
-  or_yes true = refl
-  or_yes false = refl
+any_at p (x ∷ h) (suc i) e at_i y = rw (any_at p h i e at_i y) (or_true (p x))
 
 at_drop : (h : List Event) (n i : ℕ) → slice_get (drop n h) i ≡ slice_get h (n + i)
 at_drop h zero i = let same : 0 + i ≡ i = omega arith in ap (slice_get h) (sym same)
@@ -361,8 +339,7 @@ older_closed h f n c l inner shut = by_event (slice_get h c) refl inner where
       is_open_step h n ∙ rw gone (and_not (at makes_node h n))
     where
       and_not : (b : Bool) → ((b && false) && option_map_or (is_open h) (parent h n) true) ≡ false
-      and_not true = refl
-      and_not false = refl
+      and_not b = grind arith
   by_event (Some (Open Root kind)) at_c named = absurd (none-some f named)
   by_event (Some (Open (Source g) kind)) at_c named = absurd (none-some f named)
   by_event (Some (Open (Notifier g) kind)) at_c named = absurd (none-some f named)
@@ -391,7 +368,7 @@ inner_of_named h f n y = by_event (slice_get h n) y where
 -- no inner of it, or a youngest one that is closed or no younger than it
 pub inner_none : (h : List Event) (f v : ℕ) → v ≡ last_below (keyed (inner_named_at h) f) (length h)
     → (0 < v → f < v - 1 → is_open h (v - 1) ≡ false) → ShutsNone h (λ n. is_switched_inner h f n)
-inner_none h f v is shut n o = not_true (is_switched_inner h f n) refute where
+inner_none h f v is shut n o = false_from_ne_true (is_switched_inner h f n) refute where
   refute : is_switched_inner h f n ≡ true → ⊥
   refute s =
       let parts = and_parts (nat_lt f n && at is_switch h f) (at (is_inner_of f) h n) s in
@@ -457,7 +434,7 @@ alone_number h n o = record {
 }
 
 pub none_number : (h : List Event) (n : ℕ) → is_open h n ≡ false → ShutsNone h (λ k. n == k)
-none_number h n closed k o = not_true (n == k) (λ same. both_ways (is_open h k) (ap (is_open h) (sym (eqb-true n k same)) ∙ closed) o)
+none_number h n closed k o = false_from_ne_true (n == k) (λ same. both_ways (is_open h k) (ap (is_open h) (sym (eqb-true n k same)) ∙ closed) o)
 
 -- what is listed in the end ---------------------------------------------------------------------------
 

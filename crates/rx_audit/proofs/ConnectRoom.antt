@@ -1,32 +1,18 @@
 -- Which openings force a connection, for which there has to be room.
-use Rattle.std.proofs.Common.{◌≡◌, ℕ, ◌+◌, ◌<◌, ◌≤◌, true, false, List, [], ◌∷◌, ◌++◌, length, Some}
-use Rattle.std.proofs.Common.{refl, sym, ap, ◌∙◌, arith, inl, inr, ◌⊎◌, slice_get, nat_le, length-append}
-use Rattle.std.proofs.Math.Bool.{not, ◌&&◌, ◌||◌}
-use Rattle.std.specs.List.{list_any}
-use Rattle.std.specs.Option.{option_map_or}
-use Rattle.std.proofs.lemmas.Bool.{cases_Bool, both_ways, false≢true, and_parts, and_from, eq-eqb, le-leb, leb-true}
-use Rattle.std.proofs.lemmas.Option.{slice_get_within}
-use Rattle.rx_event.specs.Kept.{nothing_kept}
-use Rattle.rx_event.specs.declared.event.Place.{Place}
-use Rattle.rx_event.specs.declared.event.Place.TheVariants.{Root, Source, Inner, Notifier}
-use Rattle.rx_event.specs.declared.event.Kind.{Kind}
-use Rattle.rx_event.specs.declared.event.Kind.TheVariants.{Leaf, Pass, Flat, Switch, Until, Sub}
-use Rattle.rx_event.specs.declared.event.Event.{Event}
-use Rattle.rx_event.specs.declared.event.Event.TheVariants.{Open, Connect}
-use Rattle.rx_event.specs.Events.{is_auto_hub, is_connect_of, is_subscriber_of}
-use Rattle.rx_event.specs.Tree.{at, places, is_open, open_nodes, open_connections, shuts}
-use Rattle.rx_event.specs.Forced.{IsConnectDue, IsSettled}
-use Rattle.rx_event.specs.Allowed.{IsFree}
-use Rattle.rx_event.specs.Lawful.{IsLawful}
+use Rattle.rx_audit.proofs.Common.{◌≡◌, ℕ, ◌+◌, ◌<◌, ◌≤◌, true, false, List, [], ◌∷◌, ◌++◌, length, Some, refl, sym, ap, ◌∙◌, arith, inl, inr, ◌⊎◌, slice_get}
+use Rattle.rx_audit.proofs.Common.{nat_le, length-append, not, ◌&&◌, ◌||◌, list_any, option_map_or, cases_Bool, both_ways, false≢true, and_parts, and_from}
+use Rattle.rx_audit.proofs.Common.{eq-eqb, le-leb, leb-true, slice_get_within, nothing_kept, Place, Root, Source, Inner, Notifier, Kind, Leaf, Pass, Flat}
+use Rattle.rx_audit.proofs.Common.{Switch, Sub, Event, Open, Connect, is_auto_hub, is_connect_of, is_subscriber_of, at, places, is_open, open_nodes, shuts}
+use Rattle.rx_audit.proofs.Common.{IsConnectDue, IsSettled, IsFree, IsLawful, slice_get_last, at-append, at_within, is_open_within, open_old, leaves_room}
+use Rattle.rx_audit.proofs.Common.{open_allowed, has_key, open_connected, or_left, or_right, or_cases, not-true, not_from_false, false_from_ne_true}
+use Rattle.rx_event.specs.declared.event.Kind.TheVariants.{Until}
+use Rattle.rx_event.specs.Tree.{open_connections}
 use Rattle.rx_event.proofs.Laws.Lists.{filter_nonempty}
-use Rattle.rx_event.proofs.Laws.Places.{slice_get_last, at-append, at_within}
-use Rattle.rx_event.proofs.Laws.Openness.{is_open_within, is_open_cut, is_open_last, is_open_made, is_cut, is_cut_none, is_cut_inner}
+use Rattle.rx_event.proofs.Laws.Openness.{is_open_cut, is_open_last, is_open_made, is_cut, is_cut_none, is_cut_inner}
 use Rattle.rx_event.proofs.Laws.Hubs.{at_connect}
-use Rattle.rx_event.proofs.Laws.Openness.{open_old}
 use Rattle.rx_event.proofs.Laws.Waits.{settled_connected, kept_unsubscribed, kept_subscribed, cut_alone, spares, at_before}
-use Rattle.rx_audit.specs.Allowing.{needs_connection, leaves_room, open_allowed}
-use Rattle.rx_audit.specs.Rules.{has_key, open_connected}
-use Rattle.rx_audit.proofs.TestsDecideRules.{left, right, either, not_not, is_false, not_true, filter_none, connected_key, find_number}
+use Rattle.rx_audit.specs.Allowing.{needs_connection}
+use Rattle.rx_audit.proofs.TestsDecideRules.{filter_none, connected_key, find_number}
 use Rattle.rx_audit.proofs.KeysInRange.{any_found}
 use Rattle.rx_audit.proofs.TestsDecideAllowed.{open_free}
 
@@ -34,14 +20,14 @@ use Rattle.rx_audit.proofs.TestsDecideAllowed.{open_free}
 connection_stays : (h : List Event) (place : Place) (kind : Kind) (c g : ℕ) → slice_get h c ≡ Some (Connect g) → is_open h c ≡ true
     → is_open (h ++ Open place kind ∷ []) c ≡ true
 connection_stays h place kind c g made alive =
-    let whole : shuts h c (Open place kind) ≡ false = not_true (shuts h c (Open place kind)) (λ y. spares nothing_kept h (Open place kind) c g refl made y) in
+    let whole : shuts h c (Open place kind) ≡ false = false_from_ne_true _ (λ y. spares nothing_kept h (Open place kind) c g refl made y) in
     let uncut : is_cut h (Open place kind) c ≡ false = cut_alone h (Open place kind) c g made ∙ whole in
     is_open_cut h (Open place kind) c (is_open_within h c alive) ∙ rw (alive, uncut) refl
 
 -- where none is open after it, none was
 none_before : (h : List Event) (place : Place) (kind : Kind) (g : ℕ)
     → open_connections (h ++ Open place kind ∷ []) g ≡ [] → has_key (open_connected h) h g ≡ false
-none_before h place kind g none = not_true (has_key (open_connected h) h g) (λ y.
+none_before h place kind g none = false_from_ne_true (has_key (open_connected h) h g) (λ y.
     let f = find_number (λ n. at (is_connect_of g) h n && is_open h n) (length h) (sym (connected_key h g) ∙ y) in
     let p : (at (is_connect_of g) h f.number ≡ true) × (is_open h f.number ≡ true) = and_parts _ _ f.holds in
     let l = f.within in
@@ -94,7 +80,7 @@ needs_due h place (Sub k) free needs =
         waits = λ t x. (let l = x.later in let w = slice_get_within (h ++ Open place (Sub k) ∷ []) x.place _ x.ended in
             omega (arith, length-append h (Open place (Sub k) ∷ [])));
         unconnected = filter_none (λ n. at (is_connect_of k) (h ++ Open place (Sub k) ∷ []) n && is_open (h ++ Open place (Sub k) ∷ []) n)
-            (places (h ++ Open place (Sub k) ∷ [])) (not_true _ (λ y. unconnected k (not_not (has_key (open_connected h) h k) p.1) y));
+            (places (h ++ Open place (Sub k) ∷ [])) (false_from_ne_true _ (λ y. unconnected k (not-true (has_key (open_connected h) h k) p.1) y));
       },
     )
   where
@@ -119,10 +105,10 @@ needs_due h place _ free needs = absurd (false≢true needs)
 pub room_fits : (h : List Event) (place : Place) (kind : Kind) → IsLawful nothing_kept h → IsSettled nothing_kept h → leaves_room h (Open place kind) ≡ true
     → (g : ℕ) → IsConnectDue (h ++ Open place kind ∷ []) g → length (open_nodes h) + 2 ≤ 1048576
 unfolding leaves_room
-room_fits h place kind law settled y g d = by_case (either (nat_le (length (open_nodes h)) 1048574) (not (needs_connection h (Open place kind))) y) where
+room_fits h place kind law settled y g d = by_case (or_cases (nat_le (length (open_nodes h)) 1048574) (not (needs_connection h (Open place kind))) y) where
   by_case : (nat_le (length (open_nodes h)) 1048574 ≡ true) ⊎ (not (needs_connection h (Open place kind)) ≡ true) → length (open_nodes h) + 2 ≤ 1048576
   by_case (inl few) = let l = leb-true (length (open_nodes h)) 1048574 few in omega arith
-  by_case (inr none) = absurd (both_ways _ (not_not (needs_connection h (Open place kind)) none) (connect_needs h place kind law settled g d))
+  by_case (inr none) = absurd (both_ways _ (not-true (needs_connection h (Open place kind)) none) (connect_needs h place kind law settled g d))
 
 pub fits_room : (h : List Event) (place : Place) (kind : Kind) → IsLawful nothing_kept h → IsSettled nothing_kept h → open_allowed h place kind ≡ true
     → ((g : ℕ) → IsConnectDue (h ++ Open place kind ∷ []) g → length (open_nodes h) + 2 ≤ 1048576) → leaves_room h (Open place kind) ≡ true
@@ -130,8 +116,8 @@ unfolding leaves_room
 fits_room h place kind law settled may fits = by_need (cases_Bool (needs_connection h (Open place kind))) where
   by_need : (needs_connection h (Open place kind) ≡ true) ⊎ (needs_connection h (Open place kind) ≡ false)
       → (nat_le (length (open_nodes h)) 1048574 || not (needs_connection h (Open place kind))) ≡ true
-  by_need (inr none) = right (nat_le (length (open_nodes h)) 1048574) (not (needs_connection h (Open place kind))) (is_false _ none)
+  by_need (inr none) = or_right (nat_le (length (open_nodes h)) 1048574) (not (needs_connection h (Open place kind))) (not_from_false _ none)
   by_need (inl needs) =
       let d = needs_due h place kind (open_free h place kind may) needs in
       let l = fits d.0 d.1 in
-      left (nat_le (length (open_nodes h)) 1048574) (not (needs_connection h (Open place kind))) (le-leb (length (open_nodes h)) 1048574 (omega arith))
+      or_left (nat_le (length (open_nodes h)) 1048574) (not (needs_connection h (Open place kind))) (le-leb (length (open_nodes h)) 1048574 (omega arith))

@@ -1,22 +1,15 @@
 -- The tests that compute decide what is due, what is forced, and what is settled.
-use Rattle.std.proofs.Common.{◌≡◌, ℕ, Bool, true, false, List, [], length, Option, Some, None, refl, sym, ap, ◌∙◌, ◌==◌, cond, slice_get}
-use Rattle.std.proofs.Math.Bool.{not, ◌&&◌}
-use Rattle.std.specs.Option.{option_map_or}
-use Rattle.std.proofs.lemmas.Bool.{and_parts, both_ways, false≢true, eqb-true}
-use Rattle.std.proofs.lemmas.Option.{none-some}
-use Rattle.rx_event.specs.Kept.{nothing_kept}
-use Rattle.rx_event.specs.declared.event.Event.{Event}
-use Rattle.rx_event.specs.declared.event.Event.TheVariants.{Connect, Close}
-use Rattle.rx_event.specs.Events.{is_subscriber_of, is_connect_of, is_auto_hub}
-use Rattle.rx_event.specs.Tree.{at, places, parent, is_open, is_open_child_of, has_open_child, open_subscribers}
-use Rattle.rx_event.specs.Forced.{IsConnectDue, IsDue, left}
-use Rattle.rx_event.proofs.Laws.Parents.{parent_within}
-use Rattle.rx_event.proofs.Laws.Places.{at_within}
-use Rattle.rx_audit.specs.Rules.{is_key, hub_subscribed_at, hub_connected_at, is_cut, open_subscribed, open_connected, open_waiting, has_key, connect_due}
-use Rattle.rx_audit.specs.Rules.{any_connect_due, is_left, close_due}
+use Rattle.rx_audit.proofs.Common.{◌≡◌, ℕ, Bool, true, false, List, [], length, Option, Some, None, refl, sym, ap, ◌∙◌, ◌==◌, cond, slice_get, not, ◌&&◌}
+use Rattle.rx_audit.proofs.Common.{option_map_or, and_parts, both_ways, false≢true, eqb-true, none-some, nothing_kept, Event, Connect, Close, is_subscriber_of}
+use Rattle.rx_audit.proofs.Common.{is_connect_of, is_auto_hub, at, places, parent, is_open, is_open_child_of, has_open_child, open_subscribers, IsConnectDue}
+use Rattle.rx_audit.proofs.Common.{IsDue, left, parent_within, at_within, is_key, hub_subscribed_at, hub_connected_at, is_cut, open_subscribed, open_connected}
+use Rattle.rx_audit.proofs.Common.{open_waiting, has_key, connect_due, any_connect_due, close_due, and_from, not-true, not_from_false, false_from_ne_true}
+use Rattle.rx_audit.specs.Rules.{is_left}
 use Rattle.rx_audit.proofs.KeysInRange.{any_found}
-use Rattle.rx_audit.proofs.TestsDecideRules.{both, not_not, is_false, not_true, key_is, is_key_of, FoundNumber, find_number, subscriber_at, at_subscriber}
-use Rattle.rx_audit.proofs.TestsDecideRules.{connection_at, at_connection, cut_ended, is_cut_of, filter_none, none_filtered, subscribed_key, connected_key}
+use Rattle.rx_audit.proofs.TestsDecideRules.{FoundNumber, find_number, subscriber_at, at_subscriber, connection_at, at_connection, cut_ended, is_cut_of}
+use Rattle.rx_audit.proofs.TestsDecideRules.{filter_none, none_filtered, subscribed_key, connected_key}
+use Rattle.rx_event.proofs.Laws.Common.{number_itself}
+use Rattle.rx_audit.proofs.Latest.{is_key_of, key_is}
 
 -- connections ------------------------------------------------------------------------------------------
 
@@ -36,7 +29,7 @@ connect_is_due h g e =
     let w = and_parts (at is_auto_hub h g && has_key (open_waiting h) h g) (not (has_key (open_connected h) h g)) e in
     let v = and_parts (at is_auto_hub h g) (has_key (open_waiting h) h g) w.0 in
     let s = find_number (λ k. is_key (open_waiting h k) g) (length h) v.1 in
-    let q = waiting_is h s.number g (key_is (open_waiting h s.number) g s.holds) in
+    let q = waiting_is h s.number g (is_key_of (open_waiting h s.number) g s.holds) in
     record {
       auto = v.0;
       subscriber = s.number;
@@ -44,20 +37,20 @@ connect_is_due h g e =
       subscribed = q.1;
       waits = λ t d. both_ways (is_cut h s.number) q.0 (is_cut_of h s.number t d);
       unconnected = filter_none (λ n. at (is_connect_of g) h n && is_open h n) (places h)
-          (sym (connected_key h g) ∙ not_not (has_key (open_connected h) h g) w.1);
+          (sym (connected_key h g) ∙ not-true (has_key (open_connected h) h g) w.1);
     }
 
 pub connect_due_of : (h : List Event) (g : ℕ) → IsConnectDue h g → connect_due h g ≡ true
 unfolding connect_due
 connect_due_of h g d =
     let s = d.subscriber in
-    let uncut : is_cut h s ≡ false = not_true (is_cut h s) (λ c. let w = cut_ended h s c in d.waits w.0 w.1) in
+    let uncut : is_cut h s ≡ false = false_from_ne_true (is_cut h s) (λ c. let w = cut_ended h s c in d.waits w.0 w.1) in
     let waits = is_waiting h s g uncut d.subscribed (at_subscriber h s g d.subscribes) in
     let here : has_key (open_waiting h) h g ≡ true =
-    any_found (λ k. is_key (open_waiting h k) g) (length h) s (at_within (is_subscriber_of g) h s d.subscribes) (is_key_of (open_waiting h s) g waits) in
+    any_found (λ k. is_key (open_waiting h k) g) (length h) s (at_within (is_subscriber_of g) h s d.subscribes) (key_is (open_waiting h s) g waits) in
     let none = none_filtered (λ n. at (is_connect_of g) h n && is_open h n) (places h) d.unconnected in
-    both (at is_auto_hub h g && has_key (open_waiting h) h g) (not (has_key (open_connected h) h g))
-    (both (at is_auto_hub h g) (has_key (open_waiting h) h g) d.auto here) (is_false (has_key (open_connected h) h g) (connected_key h g ∙ none))
+    and_from (at is_auto_hub h g && has_key (open_waiting h) h g) (not (has_key (open_connected h) h g))
+    (and_from (at is_auto_hub h g) (has_key (open_waiting h) h g) d.auto here) (not_from_false (has_key (open_connected h) h g) (connected_key h g ∙ none))
 
 pub some_connect_due : (h : List Event) → any_connect_due h ≡ true → (g : ℕ) × IsConnectDue h g
 unfolding any_connect_due
@@ -75,14 +68,12 @@ no_connect_due h none g d = both_ways (any_connect_due h) none (any_connect_due_
 -- some child is open
 pub child_closed : (h : List Event) (f : ℕ) → not (has_open_child h f) ≡ true → (c : ℕ) → parent h c ≡ Some f → is_open h c ≡ false
 child_closed h f e c below =
-    not_true (is_open h c) (λ o. both_ways (has_open_child h f) (not_not (has_open_child h f) e)
+    false_from_ne_true (is_open h c) (λ o. both_ways (has_open_child h f) (not-true (has_open_child h f) e)
     (any_found (is_open_child_of h f) (length h) c (parent_within h c f below)
-    (both (is_open h c) (option_map_or (λ q. q == f) (parent h c) false) o (rw below (self f))))) where
-      self : (n : ℕ) → (n == n) ≡ true
-      self n = is_key_of (Some n) n refl
+    (and_from (is_open h c) (option_map_or (λ q. q == f) (parent h c) false) o (rw below (number_itself f)))))
 
 pub no_child_open : (h : List Event) (f : ℕ) → ((c : ℕ) → parent h c ≡ Some f → is_open h c ≡ false) → not (has_open_child h f) ≡ true
-no_child_open h f closed = is_false (has_open_child h f) (not_true (has_open_child h f) (λ e. open_one (find_number (is_open_child_of h f) (length h) e))) where
+no_child_open h f closed = not_from_false _ (false_from_ne_true (has_open_child h f) (λ e. open_one (find_number (is_open_child_of h f) (length h) e))) where
   below : (o : Option ℕ) → option_map_or (λ q. q == f) o false ≡ true → o ≡ Some f
   below None e = absurd (false≢true e)
   below (Some q) e = ap (λ n. Some n) (eqb-true q f e)
@@ -94,14 +85,14 @@ no_child_open h f closed = is_false (has_open_child h f) (not_true (has_open_chi
 
 is_left_of : (h : List Event) (g : ℕ) → at is_auto_hub h g ≡ true → open_subscribers h g ≡ [] → is_left h g ≡ true
 is_left_of h g a none =
-    both (at is_auto_hub h g) (not (has_key (open_subscribed h) h g)) a
-    (is_false (has_key (open_subscribed h) h g) (subscribed_key h g ∙ none_filtered (λ n. at (is_subscriber_of g) h n && is_open h n) (places h) none))
+    and_from (at is_auto_hub h g) (not (has_key (open_subscribed h) h g)) a
+    (not_from_false (has_key (open_subscribed h) h g) (subscribed_key h g ∙ none_filtered (λ n. at (is_subscriber_of g) h n && is_open h n) (places h) none))
 
 leaves : (h : List Event) (c g : ℕ) → is_open h c ≡ true → slice_get h c ≡ Some (Connect g) → is_left h g ≡ true → IsDue nothing_kept h (Close c)
 leaves h c g o at_c l =
     let w = and_parts (at is_auto_hub h g) (not (has_key (open_subscribed h) h g)) l in
     left o at_c w.0 (filter_none (λ n. at (is_subscriber_of g) h n && is_open h n)
-    (places h) (sym (subscribed_key h g) ∙ not_not (has_key (open_subscribed h) h g) w.1))
+    (places h) (sym (subscribed_key h g) ∙ not-true (has_key (open_subscribed h) h g) w.1))
 
 leaves_at : (h : List Event) (c : ℕ) → is_open h c ≡ true → option_map_or (is_left h) (hub_connected_at h c) false ≡ true → IsDue nothing_kept h (Close c)
 leaves_at h c o e = by_hub (hub_connected_at h c) refl e where
@@ -116,10 +107,10 @@ close_is_due h c e = let w = and_parts (is_open h c) (option_map_or (is_left h) 
 pub close_due_of : (h : List Event) (c : ℕ) → IsDue nothing_kept h (Close c) → close_due h c ≡ true
 unfolding close_due
 close_due_of h c (left {g = g} o at_c a none) =
-    both (is_open h c) (option_map_or (is_left h) (hub_connected_at h c) false) o
+    and_from (is_open h c) (option_map_or (is_left h) (hub_connected_at h c) false) o
     (ap (λ o. option_map_or (is_left h) o false) (at_connection h c g at_c) ∙ is_left_of h g a none)
 
 -- forced -------------------------------------------------------------------------------------------------
 
 unconnected : (h : List Event) → ((g : ℕ) → ¬ IsConnectDue h g) → not (any_connect_due h) ≡ true
-unconnected h none = is_false (any_connect_due h) (not_true (any_connect_due h) (λ e. let w = some_connect_due h e in none w.0 w.1))
+unconnected h none = not_from_false (any_connect_due h) (false_from_ne_true (any_connect_due h) (λ e. let w = some_connect_due h e in none w.0 w.1))

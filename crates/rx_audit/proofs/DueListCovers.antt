@@ -1,28 +1,12 @@
 -- The list of the nodes that may have to end.
-use Rattle.std.proofs.Common.{◌≡◌, ℕ, ◌<◌, Bool, true, false, List, [], ◌∷◌, ◌++◌, length, take, Option, Some, None, refl, sym, ap, ◌∙◌, arith, inl, inr, ◌⊎◌}
-use Rattle.std.proofs.Common.{slice_get, length-append, cond, nat_lt, zero-add, ◌+◌}
-use Rattle.std.proofs.Math.Bool.{◌&&◌, ◌||◌}
-use Rattle.std.proofs.lemmas.Bool.{cases_order, both_ways, false≢true, and_parts, lt-ltb}
-use Rattle.std.proofs.lemmas.Option.{none-some, same_Some}
-use Rattle.std.specs.List.{list_any, count_by}
-use Rattle.std.specs.Option.{option_map, option_map_or}
-use Rattle.std.specs.Prelude.{is_some}
-use Rattle.rx_event.specs.Kept.{nothing_kept}
-use Rattle.rx_note.specs.declared.note.Terminal.{Terminal}
-use Rattle.rx_event.specs.declared.event.Event.{Event}
-use Rattle.rx_event.specs.declared.event.Event.TheVariants.{End}
-use Rattle.rx_event.specs.declared.marks.Marks.{Marks}
-use Rattle.std.proofs.lemmas.List.Sums.{sum_by-cons}
-use Rattle.rx_event.specs.Tree.{is_open, has_open_child, is_open_child_of, places}
-use Rattle.rx_event.specs.Marks.{open_children, marks_of, terminal_due, due_at}
-use Rattle.rx_event.specs.Lawful.{IsLawful, MayFollow}
-use Rattle.rx_event.proofs.Laws.Openness.{is_open_within}
-use Rattle.rx_event.proofs.Laws.Openness.{open_old}
-use Rattle.rx_event.proofs.Laws.Places.{slice_get-append, slice_get_last}
-use Rattle.rx_event.proofs.Laws.Stands.{event_at}
+use Rattle.rx_audit.proofs.Common.{◌≡◌, ℕ, ◌<◌, Bool, true, false, List, [], ◌∷◌, ◌++◌, length, take, Option, Some, None, refl, sym, ap, ◌∙◌, arith, inl, inr}
+use Rattle.rx_audit.proofs.Common.{◌⊎◌, slice_get, length-append, cond, nat_lt, ◌+◌, ◌||◌, cases_order, both_ways, false≢true, and_parts, lt-ltb, none-some}
+use Rattle.rx_audit.proofs.Common.{same_Some, list_any, count_by, option_map, option_map_or, is_some, nothing_kept, Terminal, Event, End, Marks, sum_by-cons}
+use Rattle.rx_audit.proofs.Common.{is_open, has_open_child, is_open_child_of, places, open_children, marks_of, terminal_due, due_at, IsLawful, MayFollow}
+use Rattle.rx_audit.proofs.Common.{is_open_within, open_old, slice_get-append, slice_get_last, event_at, IsNoted, IsUntouched, touched_by, due_made, node_due}
+use Rattle.rx_audit.proofs.Common.{IsCovered, and_false}
+use Rattle.std.proofs.Common.{zero-add}
 use Rattle.rx_event.proofs.Laws.MarksTouched.{quiet_new}
-use Rattle.rx_audit.specs.Latest.{IsNoted}
-use Rattle.rx_audit.specs.Marking.{IsUntouched, touched_by, due_made, node_due, IsCovered}
 use Rattle.rx_audit.proofs.ClosingBelow.{noted_more, noted_last}
 use Rattle.rx_audit.proofs.Marking.{marks_apart}
 
@@ -32,10 +16,7 @@ due_closed h n closed = rw closed refl
 
 pub due_nowhere : (h : List Event) (n : ℕ) → slice_get h n ≡ None → node_due h n ≡ false
 unfolding node_due
-due_nowhere h n none = rw none (and_no (is_open h n)) where
-  and_no : (b : Bool) → (b && false) ≡ false
-  and_no true = refl
-  and_no false = refl
+due_nowhere h n none = rw none (and_false (is_open h n))
 
 pub due_made_at : (h : List Event) (n : ℕ) (made : Event) → is_open h n ≡ true → slice_get h n ≡ Some made → node_due h n ≡ due_made h n made
 unfolding node_due

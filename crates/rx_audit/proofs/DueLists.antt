@@ -1,40 +1,21 @@
 -- What has to end or to close after one more event is on the list.
-use Rattle.std.proofs.Common.{◌≡◌, ℕ, zero, suc, ◌+◌, ◌-◌, ◌<◌, ◌≤◌, Bool, true, false, List, [], ◌∷◌, ◌++◌}
-use Rattle.std.proofs.Common.{length, Some, None, refl, sym, ap, ◌∙◌, arith, inl, inr, ◌⊎◌, get_or, slice_get}
-use Rattle.std.proofs.Math.Bool.{◌&&◌, ◌||◌}
-use Rattle.std.specs.Option.{option_and_then, option_map_or}
-use Rattle.std.proofs.lemmas.Bool.{cases_order, both_ways, false≢true, and_parts, eq-eqb}
-use Rattle.std.proofs.lemmas.Option.{slice_get_within, same_Some, none-some}
-use Rattle.rx_note.specs.declared.note.Terminal.{Terminal}
-use Rattle.rx_event.specs.Kept.{nothing_kept}
-use Rattle.rx_event.specs.declared.event.Event.{Event}
-use Rattle.rx_event.specs.declared.event.Event.TheVariants.{Connect, End, Close}
-use Rattle.rx_event.specs.Events.{is_subscriber_of, is_connect_of}
-use Rattle.rx_event.specs.Tree.{at, is_open}
-use Rattle.rx_event.specs.Marks.{marks_of}
-use Rattle.rx_event.specs.Forced.{connecting, cut, left, due, IsDue, IsConnected, IsSettled, SourceEnded}
-use Rattle.rx_event.specs.Lawful.{IsLawful, MayFollow}
+use Rattle.rx_audit.proofs.Common.{◌≡◌, ℕ, zero, suc, ◌+◌, ◌-◌, ◌<◌, ◌≤◌, Bool, true, false, List, [], ◌∷◌, ◌++◌, length, Some, None, refl, sym, ap, ◌∙◌, arith}
+use Rattle.rx_audit.proofs.Common.{inl, inr, ◌⊎◌, get_or, slice_get, ◌&&◌, ◌||◌, option_and_then, option_map_or, cases_order, both_ways, and_parts, eq-eqb}
+use Rattle.rx_audit.proofs.Common.{slice_get_within, same_Some, none-some, Terminal, nothing_kept, Event, Connect, End, Close, is_subscriber_of, is_connect_of}
+use Rattle.rx_audit.proofs.Common.{at, is_open, marks_of, connecting, cut, left, due, IsDue, IsSettled, SourceEnded, IsLawful, MayFollow, is_open_within}
+use Rattle.rx_audit.proofs.Common.{at_within, event_at, subscriber_hub, open_old, last_connection, Hubs, keyed, IsNoted, AreClosed, last_below, node_due}
+use Rattle.rx_audit.proofs.Common.{due_made, IsCovered, AreHubs, Subscribers, on_list, AreLinked, AreOpenListed, number_of, IsLostNoted, acts, Keeps, HasAll}
+use Rattle.rx_audit.proofs.Common.{hub_connected_at, is_cut, close_due, any_connect_due, hub_subscribed_at, hub_ended, false_from_ne_true}
+use Rattle.rx_event.specs.Forced.{IsConnected}
 use Rattle.rx_event.specs.Claims.Connections.{EndsSource, HowLeft, left_before, subscriber_gone, connected_now}
-use Rattle.rx_event.proofs.Laws.Openness.{is_open_within}
-use Rattle.rx_event.proofs.Laws.Places.{at_within}
-use Rattle.rx_event.proofs.Laws.Stands.{event_at}
-use Rattle.rx_event.proofs.Laws.Hubs.{subscriber_hub}
-use Rattle.rx_event.proofs.Laws.Openness.{open_old}
 use Rattle.rx_event.proofs.Laws.MarksDue.{due_at_forced, settled_by_marks}
-use Rattle.rx_event.proofs.Laws.Connections.{last_connection, source_ended_or_now, left_or_now}
-use Rattle.rx_audit.specs.declared.hubs.Hubs.{Hubs}
-use Rattle.rx_audit.specs.Latest.{keyed, IsNoted, AreClosed, last_below}
-use Rattle.rx_audit.specs.Marking.{node_due, due_made, IsCovered}
-use Rattle.rx_audit.specs.HubTables.{AreHubs}
-use Rattle.rx_audit.specs.declared.subscribers.Subscribers.{Subscribers}
-use Rattle.rx_audit.specs.Listed.{on_list, AreLinked, AreOpenListed, number_of}
+use Rattle.rx_event.proofs.Laws.Connections.{source_ended_or_now, left_or_now}
 use Rattle.rx_audit.proofs.ClosingBelow.{noted_more, noted_last}
-use Rattle.rx_audit.specs.DueList.{IsLostNoted, acts, Keeps, HasAll, HasCut, HasLeft, HasEnded, HasLost, lost_connection}
-use Rattle.rx_audit.specs.Rules.{hub_connected_at, is_cut, close_due, any_connect_due, hub_subscribed_at, hub_ended}
+use Rattle.rx_audit.specs.DueList.{HasCut, HasLeft, HasEnded, HasLost, lost_connection}
 use Rattle.rx_audit.proofs.Latest.{last_none, key_is, is_key_of}
 use Rattle.rx_audit.proofs.Neighbours.{last_unique}
 use Rattle.rx_audit.proofs.StaysOpen.{is_open_older}
-use Rattle.rx_audit.proofs.TestsDecideRules.{not_true, cut_ended, is_cut_of, at_subscriber, connection_at, at_connection}
+use Rattle.rx_audit.proofs.TestsDecideRules.{cut_ended, is_cut_of, at_subscriber, connection_at, at_connection}
 use Rattle.rx_audit.proofs.Due.{some_connect_due, close_is_due, close_due_of}
 use Rattle.rx_audit.proofs.DueListCovers.{due_parts, due_made_at, some_due, none_is_due}
 
@@ -79,7 +60,7 @@ open_word {h} law g c known w inside made alive =
     connects k at_k = ap (λ o. option_map_or (is_connect_of g) o false) at_k ∙ eq-eqb g g refl
 
     later : (j : ℕ) → suc c ≤ j → j < length h → keyed (hub_connected_at h) g j ≡ false
-    later j l m = not_true _ (λ y.
+    later j l m = false_from_ne_true _ (λ y.
         let le = last_connection h law g c j (connects c made) alive (connects j (connection_at h j g (is_key_of (hub_connected_at h j) g y))) in
         absurd (omega arith))
 
@@ -154,20 +135,13 @@ acts_unsettled h n whole y settled = by_case (acts_parts h n y) where
   by_case (inr (inr l)) = settled.none (Close n) (due whole (close_is_due h n l))
 
 yes_first : (a b c d : Bool) → a ≡ true → (a || (b && c) || d) ≡ true
-yes_first true b c d y = refl
-yes_first false b c d y = absurd (false≢true y)
+yes_first a b c d e = grind arith
 
 yes_second : (a b c d : Bool) → b ≡ true → c ≡ true → (a || (b && c) || d) ≡ true
-yes_second true b c d y z = refl
-yes_second false true true d y z = refl
-yes_second false false c d y z = absurd (false≢true y)
-yes_second false true false d y z = absurd (false≢true z)
+yes_second a b c d e e2 = grind arith
 
 yes_third : (a b c d : Bool) → d ≡ true → (a || (b && c) || d) ≡ true
-yes_third true b c d y = refl
-yes_third false true true d y = refl
-yes_third false true false d y = y
-yes_third false false c d y = y
+yes_third a b c d e = grind arith
 
 acts_by_marks : (h : List Event) (n : ℕ) → node_due h n ≡ true → acts h n ≡ true
 unfolding acts
@@ -187,7 +161,7 @@ none_acts_settled h whole none = settled_by_marks nothing_kept h whole
     (λ n t o ended. none n (acts_by_cut h n o (is_cut_of h n t ended)))
     (λ c d. none c (acts_by_closing h c (close_due_of h c d)))
     (λ n made o is. none_is_due made (marks_of nothing_kept h n) n
-    (not_true (due_made h n made) (λ y. none n (acts_by_marks h n (due_made_at h n made o is ∙ y)))))
+    (false_from_ne_true (due_made h n made) (λ y. none n (acts_by_marks h n (due_made_at h n made o is ∙ y)))))
 
 -- the list has all, so it has each part
 pub marks_noted : (h : List Event) (list : List ℕ) → HasAll h list → IsCovered h list

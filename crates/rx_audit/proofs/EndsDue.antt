@@ -1,38 +1,21 @@
 -- What operators must do, by marks and by the words of hubs.
-use Rattle.std.proofs.Common.{◌≡◌, ◌↔◌, ℕ, suc, ◌-◌, ◌<◌, ◌≤◌, Bool, true, false, List, length, Option}
-use Rattle.std.proofs.Common.{Some, None, refl, sym, ap, ◌∙◌, arith, inl, inr, ◌⊎◌, IsTrue, get_or, slice_get}
-use Rattle.std.proofs.Math.Bool.{not, ◌&&◌, ◌||◌}
-use Rattle.std.proofs.lemmas.Bool.{cases_Bool, cases_order, both_ways, false≢true, and_parts, ltb-true}
-use Rattle.std.proofs.lemmas.Option.{none-some, same_Some, slice_get_within}
-use Rattle.std.specs.Option.{option_and_then, option_map, option_map_or}
-use Rattle.rx_event.specs.Kept.{nothing_kept}
-use Rattle.rx_note.specs.declared.note.Terminal.{Terminal}
-use Rattle.rx_note.specs.declared.note.Terminal.TheVariants.{Completed}
-use Rattle.rx_event.specs.declared.event.Event.{Event}
-use Rattle.rx_event.specs.declared.event.Event.TheVariants.{Connect, Item, Decline, End, Close}
-use Rattle.rx_event.specs.declared.marks.Marks.{Marks}
-use Rattle.rx_event.specs.Tree.{is_open}
-use Rattle.rx_event.specs.Marks.{marks_of, terminal_due, due_at}
-use Rattle.rx_event.specs.Sames.{same_terminal}
-use Rattle.rx_event.specs.Forced.{connecting, due, cut, IsDue, IsForced, IsConnectDue, SourceEnded}
-use Rattle.rx_event.specs.Lawful.{IsLawful}
+use Rattle.rx_audit.proofs.Common.{◌≡◌, ◌↔◌, ℕ, suc, ◌-◌, ◌<◌, ◌≤◌, Bool, true, false, List, length, Option, Some, None, refl, sym, ap, ◌∙◌, arith, inl, inr}
+use Rattle.rx_audit.proofs.Common.{◌⊎◌, IsTrue, get_or, slice_get, not, ◌&&◌, ◌||◌, cases_Bool, cases_order, both_ways, false≢true, and_parts, ltb-true}
+use Rattle.rx_audit.proofs.Common.{none-some, same_Some, slice_get_within, option_and_then, option_map, option_map_or, nothing_kept, Terminal, Completed, Event}
+use Rattle.rx_audit.proofs.Common.{Connect, Item, Decline, End, Close, Marks, is_open, marks_of, terminal_due, due_at, same_terminal, connecting, due, cut}
+use Rattle.rx_audit.proofs.Common.{IsDue, IsForced, IsConnectDue, SourceEnded, IsLawful, is_open_within, event_at, subscriber_hub, Hubs, last_below, keyed}
+use Rattle.rx_audit.proofs.Common.{IsUntouched, leaf_of, ends_so, AreHubs, hub_subscribed_at, hub_ended, hub_ended_at, is_cut, any_connect_due, close_due}
+use Rattle.rx_audit.proofs.Common.{connect_due, and_false, and_from, or_left, or_right, or_cases, not-true, not_from_false, false_from_ne_true}
 use Rattle.rx_event.specs.Claims.Connections.{EndsConnection, EndsLast}
-use Rattle.rx_event.proofs.Laws.Openness.{is_open_within}
 use Rattle.rx_event.proofs.Laws.Lawful.{due_open}
 use Rattle.rx_event.proofs.Laws.Steps.{forced_kind}
-use Rattle.rx_event.proofs.Laws.Stands.{event_at}
-use Rattle.rx_event.proofs.Laws.Hubs.{subscriber_hub}
 use Rattle.rx_event.proofs.Laws.MarksDue.{due_at_due}
 use Rattle.rx_event.proofs.Laws.OneEnd.{due_by_marks_alone}
 use Rattle.rx_event.proofs.Laws.Connections.{cut_by_last}
-use Rattle.rx_audit.specs.declared.hubs.Hubs.{Hubs}
-use Rattle.rx_audit.specs.Latest.{last_below, keyed}
-use Rattle.rx_audit.specs.Marking.{IsUntouched, leaf_of, ends_so, forced_end}
-use Rattle.rx_audit.specs.HubTables.{AreHubs, terminal_of_word, ends_last_so, cut_so, ends_now, forced_now}
-use Rattle.rx_audit.specs.Rules.{hub_subscribed_at, hub_ended, hub_ended_at, is_cut, any_connect_due, close_due, connect_due}
+use Rattle.rx_audit.specs.Marking.{forced_end}
+use Rattle.rx_audit.specs.HubTables.{terminal_of_word, ends_last_so, cut_so, ends_now, forced_now}
 use Rattle.rx_audit.proofs.Latest.{last_holds, last_none, key_is, is_key_of}
-use Rattle.rx_audit.proofs.TestsDecideRules.{both, left, right, either, not_not, is_false, not_true, terminal_is}
-use Rattle.rx_audit.proofs.TestsDecideRules.{terminal_self, subscriber_at, connection_at, at_connection, is_cut_of}
+use Rattle.rx_audit.proofs.TestsDecideRules.{terminal_is, terminal_self, subscriber_at, connection_at, at_connection, is_cut_of}
 use Rattle.rx_audit.proofs.Due.{connect_is_due, connect_due_of, some_connect_due, any_connect_due_of, no_connect_due, close_is_due, close_due_of}
 use Rattle.rx_audit.proofs.HubWords.{cut_word, uncut}
 
@@ -64,10 +47,7 @@ forced_closed h n t closed = rw closed refl
 
 pub forced_nowhere : (h : List Event) (n : ℕ) (t : Terminal) → slice_get h n ≡ None → forced_end h n t ≡ false
 unfolding forced_end
-forced_nowhere h n t none = rw none (and_no (is_open h n)) where
-  and_no : (b : Bool) → (b && false) ≡ false
-  and_no true = refl
-  and_no false = refl
+forced_nowhere h n t none = rw none (and_false (is_open h n))
 
 pub forced_made : (h : List Event) (n : ℕ) (t : Terminal) (made : Event) → is_open h n ≡ true → slice_get h n ≡ Some made
     → forced_end h n t ≡ ends_so made (marks_of nothing_kept h n) t
@@ -146,7 +126,7 @@ module _ (h : List Event) (law : IsLawful nothing_kept h) (size : ℕ) (known : 
   unfold_cut : (s : ℕ) (t : Terminal) → is_open h s ≡ true → is_cut h s ≡ true
       → ends_last_so h known.ended.items s t ≡ true → cut_so h known.ended.items s t ≡ true
   unfolding cut_so
-  unfold_cut s t o c e = both (is_open h s && is_cut h s) (ends_last_so h known.ended.items s t) (both (is_open h s) (is_cut h s) o c) e
+  unfold_cut s t o c e = and_from (is_open h s && is_cut h s) (ends_last_so h known.ended.items s t) (and_from (is_open h s) (is_cut h s) o c) e
 
   pub cut_due_of : (s : ℕ) (t : Terminal) → is_open h s ≡ true → SourceEnded h s t → cut_so h known.ended.items s t ≡ true
   cut_due_of s t o x =
@@ -164,7 +144,7 @@ module _ (h : List Event) (law : IsLawful nothing_kept h) (size : ℕ) (known : 
 
   pub ends_due_now : (n : ℕ) (t : Terminal) → ends_now h known.ended.items n t ≡ true → IsDue nothing_kept h (End n t)
   unfolding ends_now
-  ends_due_now n t y = by_case (either (forced_end h n t) (cut_so h known.ended.items n t) y) where
+  ends_due_now n t y = by_case (or_cases (forced_end h n t) (cut_so h known.ended.items n t) y) where
     by_case : (forced_end h n t ≡ true) ⊎ (cut_so h known.ended.items n t ≡ true) → IsDue nothing_kept h (End n t)
     by_case (inl m) = marks_due n t m
     by_case (inr c) = cut_due n t c
@@ -176,10 +156,10 @@ module _ (h : List Event) (law : IsLawful nothing_kept h) (size : ℕ) (known : 
     o = due_open nothing_kept d
 
     by_cut : (cut_so h known.ended.items n t ≡ true) ⊎ (cut_so h known.ended.items n t ≡ false) → (forced_end h n t || cut_so h known.ended.items n t) ≡ true
-    by_cut (inl c) = right (forced_end h n t) (cut_so h known.ended.items n t) c
+    by_cut (inl c) = or_right (forced_end h n t) (cut_so h known.ended.items n t) c
     by_cut (inr c) =
         let made = event_at h n (is_open_within h n o) in
-        left (forced_end h n t) (cut_so h known.ended.items n t)
+        or_left (forced_end h n t) (cut_so h known.ended.items n t)
         (forced_made h n t made.0 o made.1 ∙ ends_due made.0 (marks_of nothing_kept h n) n t
         (due_by_marks_alone law o made.1 (λ x. both_ways _ c (cut_due_of n t o x)) d))
 
@@ -188,20 +168,20 @@ module _ (h : List Event) (law : IsLawful nothing_kept h) (size : ℕ) (known : 
   forced_is (Connect g) y = connecting (connect_is_due h g y)
   forced_is (End n t) y =
       let p = and_parts (not (any_connect_due h)) (ends_now h known.ended.items n t) y in
-      due (no_connect_due h (not_not (any_connect_due h) p.0)) (ends_due_now n t p.1)
+      due (no_connect_due h (not-true (any_connect_due h) p.0)) (ends_due_now n t p.1)
   forced_is (Close c) y =
       let p = and_parts (not (any_connect_due h)) (close_due h c) y in
-      due (no_connect_due h (not_not (any_connect_due h) p.0)) (close_is_due h c p.1)
+      due (no_connect_due h (not-true (any_connect_due h) p.0)) (close_is_due h c p.1)
   forced_is _ y = absurd (false≢true y)
 
   none_waits : ((g : ℕ) → ¬ IsConnectDue h g) → not (any_connect_due h) ≡ true
-  none_waits none = is_false (any_connect_due h) (not_true (any_connect_due h) (λ y. let d = some_connect_due h y in none d.0 d.1))
+  none_waits none = not_from_false (any_connect_due h) (false_from_ne_true (any_connect_due h) (λ y. let d = some_connect_due h y in none d.0 d.1))
 
   pub forced_of : (e : Event) → IsForced nothing_kept h e → forced_now h known.ended.items e ≡ true
   forced_of (Connect g) (connecting d) = connect_due_of h g d
   forced_of (Connect g) (due n d) = elim d [ ]
-  forced_of (End n t) (due none d) = both (not (any_connect_due h)) (ends_now h known.ended.items n t) (none_waits none) (ends_due_of n t d)
-  forced_of (Close c) (due none d) = both (not (any_connect_due h)) (close_due h c) (none_waits none) (close_due_of h c d)
+  forced_of (End n t) (due none d) = and_from (not (any_connect_due h)) (ends_now h known.ended.items n t) (none_waits none) (ends_due_of n t d)
+  forced_of (Close c) (due none d) = and_from (not (any_connect_due h)) (close_due h c) (none_waits none) (close_due_of h c d)
   forced_of (Decline f) q = absurd (false≢true (forced_kind nothing_kept q))
   forced_of _ f = absurd (false≢true (forced_kind nothing_kept f))
 
@@ -215,10 +195,10 @@ pub some_waits : (h : List Event) (o : Option ℕ) (g : ℕ) (b : Bool)
 some_waits h o g b waits is same = by_due (cases_Bool (connect_due h g)) where
   by_due : (connect_due h g ≡ true) ⊎ (connect_due h g ≡ false) → b ≡ any_connect_due h
   by_due (inl y) = same ∙ y ∙ sym (any_connect_due_of h g (connect_is_due h g y))
-  by_due (inr z) = same ∙ z ∙ sym (not_true (any_connect_due h) (λ y.
+  by_due (inr z) = same ∙ z ∙ sym (false_from_ne_true (any_connect_due h) (λ y.
       let d = some_connect_due h y in
       let at_g : d.0 ≡ g = same_Some d.0 g (sym (waits d.0 d.1) ∙ is) in
       both_ways (connect_due h g) z (ap (connect_due h) (sym at_g) ∙ connect_due_of h d.0 d.1)))
 
 pub none_waits_at : (h : List Event) (o : Option ℕ) → ((k : ℕ) → IsConnectDue h k → o ≡ Some k) → o ≡ None → false ≡ any_connect_due h
-none_waits_at h o waits is = sym (not_true (any_connect_due h) (λ y. let d = some_connect_due h y in none-some d.0 (sym is ∙ waits d.0 d.1)))
+none_waits_at h o waits is = sym (false_from_ne_true (any_connect_due h) (λ y. let d = some_connect_due h y in none-some d.0 (sym is ∙ waits d.0 d.1)))

@@ -1,13 +1,7 @@
 -- What flows up from a list of nodes is what is visited from them.
-use Rattle.std.proofs.Common.{◌≡◌, ℕ, zero, suc, ◌+◌, ◌≤◌, List, [], ◌∷◌, ◌++◌, length, false, Option, Some, None, slice_get, refl, sym, ap, ◌∙◌, arith}
-use Rattle.std.specs.List.{sum_by}
-use Rattle.std.proofs.lemmas.List.Sums.{sum_by-append, sum_by-cons}
-use Rattle.rx_event.specs.declared.event.Event.{Event}
-use Rattle.std.specs.Prelude.{is_some}
-use Rattle.std.specs.Option.{option_map_or}
-use Rattle.std.proofs.lemmas.Bool.{false≢true}
-use Rattle.rx_event.specs.Climb.{Stop, stop_at, onward_from, onward_unless, visited, onward}
-use Rattle.rx_audit.specs.Flow.{flow}
+use Rattle.rx_audit.proofs.Common.{◌≡◌, ℕ, zero, suc, ◌+◌, ◌≤◌, List, [], ◌∷◌, ◌++◌, length, false, Option, Some, None, slice_get, refl, sym, ap, ◌∙◌, arith}
+use Rattle.rx_audit.proofs.Common.{sum_by, sum_by-append, sum_by-cons, Event, is_some, option_map_or, false≢true, Stop, stop_at, visited, onward, flow}
+use Rattle.rx_event.specs.Climb.{onward_from, onward_unless}
 
 pub sum_by-mono : (f g : ℕ → ℕ) → ((n : ℕ) → f n ≤ g n) → (xs : List ℕ) → sum_by f xs ≤ sum_by g xs
 sum_by-mono f g le [] = omega arith

@@ -1,23 +1,14 @@
 -- What one event adds to what was found.
-use Rattle.std.proofs.Common.{◌≡◌, ℕ, zero, suc, ◌+◌, ◌*◌, nat_lt, ◌⊎◌, inl, inr, ◌<◌, Bool, true, false, List, [], ◌∷◌}
-use Rattle.std.proofs.Common.{◌++◌, length, Option, Some, None, refl, sym, ap, ◌∙◌, arith, get_or, cond, count_by, replicate, take, drop}
+use Rattle.rx_audit.proofs.Common.{◌≡◌, ℕ, zero, suc, ◌+◌, ◌*◌, nat_lt, ◌⊎◌, inl, inr, ◌<◌, Bool, true, false, List, [], ◌∷◌, ◌++◌, length, Option, Some, None}
+use Rattle.rx_audit.proofs.Common.{refl, sym, ap, ◌∙◌, arith, get_or, cond, count_by, replicate, take, drop, ◌||◌, list_any, sum_by, option_and_then}
+use Rattle.rx_audit.proofs.Common.{sum_by-cons, Event, Stop, climb, is_firing_of, is_projection_to, is_open, leases_of, is_open_past, IsMarked, marks_with}
+use Rattle.rx_audit.proofs.Common.{mark_count, is_key, Visit, times, IsOften, IsReached, cases_Bool, lt-ltb, or_false}
 use Rattle.std.proofs.Math.Seq.{take-append_seam}
-use Rattle.std.proofs.Math.Bool.{◌||◌}
-use Rattle.std.specs.List.{list_any, filter_map, sum_by, cons_option}
-use Rattle.std.specs.Option.{option_and_then}
+use Rattle.std.specs.List.{filter_map, cons_option}
 use Rattle.std.proofs.lemmas.List.Folds.{list_any-append}
-use Rattle.std.proofs.lemmas.List.Sums.{sum_by-cons}
-use Rattle.rx_event.specs.declared.event.Event.{Event}
-use Rattle.rx_event.specs.Climb.{Stop, Delivery, Projection, Firing, climb}
-use Rattle.rx_event.specs.Moments.{is_firing_of, is_projection_to}
-use Rattle.rx_event.specs.Tree.{is_open}
-use Rattle.rx_event.specs.Resources.{leases_of}
-use Rattle.rx_event.proofs.Laws.Openness.{is_open_past}
-use Rattle.rx_audit.specs.Tables.{IsMarked, IsTable, marks_with, mark_count}
-use Rattle.rx_audit.specs.Rules.{is_key, fired_by, projected_by}
-use Rattle.rx_audit.specs.declared.reach.Visit.{Visit}
-use Rattle.rx_audit.specs.Flow.{times, IsOften, IsReached}
-use Rattle.std.proofs.lemmas.Bool.{cases_Bool, lt-ltb}
+use Rattle.rx_event.specs.Climb.{Delivery, Projection, Firing}
+use Rattle.rx_audit.specs.Tables.{IsTable}
+use Rattle.rx_audit.specs.Rules.{fired_by, projected_by}
 use Rattle.rx_audit.proofs.Keys.{length-marks_with, marks_with_at}
 
 -- firings and projections --------------------------------------------------------------------------
@@ -97,10 +88,6 @@ table_more key ms h e tied n l =
     let m : n < length ms = omega (arith, length-marks_with ms (key e)) in
     marks_with_at ms (key e) n m ∙ ap (λ b. b || is_key (key e) n) (tied n m)
     ∙ sym (list_any-append (λ x. is_key (key x) n) h (e ∷ []) ∙ ap (λ b. list_any (λ x. is_key (key x) n) h || b) (or_false (is_key (key e) n)))
-  where
-    or_false : (b : Bool) → (b || false) ≡ b
-    or_false true = refl
-    or_false false = refl
 
 -- the list of a vector, after a slice of the same length was written back
 pub back : {X : Type 0} (len : ℕ) (new old : List X) → len ≡ length old → length new ≡ length old → take len (new ++ drop (length new) old) ≡ new

@@ -1,33 +1,20 @@
 -- What the words of a hub tell: whether it has a connection, subscribers, one that waits, and who of them is cut.
-use Rattle.std.proofs.Common.{◌≡◌, ℕ, zero, suc, ◌-◌, ◌<◌, ◌≤◌, Bool, true, false, List, [], ◌∷◌, length, Option}
-use Rattle.std.proofs.Common.{Some, None, cond, refl, sym, ap, ◌∙◌, arith, inl, inr, ◌⊎◌, get_or, slice_get, drop, nat_lt}
-use Rattle.std.proofs.Math.Bool.{not, ◌&&◌, ◌||◌}
-use Rattle.std.specs.List.{list_any, range_with_len}
-use Rattle.std.specs.Option.{option_map_or, option_and_then}
-use Rattle.std.proofs.lemmas.Bool.{cases_Bool, cases_order, both_ways, false≢true, and_parts, lt-ltb, ltb-true, eq-eqb}
-use Rattle.std.proofs.lemmas.Option.{none-some, slice_get_within}
-use Rattle.rx_event.specs.Kept.{nothing_kept}
-use Rattle.rx_event.specs.declared.event.Event.{Event}
-use Rattle.rx_event.specs.Events.{is_subscriber_of, is_connect_of}
-use Rattle.rx_event.specs.Tree.{at, is_open}
-use Rattle.rx_event.specs.Lawful.{IsLawful}
-use Rattle.rx_event.proofs.Laws.Openness.{is_open_within}
-use Rattle.rx_event.proofs.Laws.Connections.{last_connection}
-use Rattle.rx_audit.specs.declared.subscribers.Subscribers.{Subscribers}
-use Rattle.rx_audit.specs.Tables.{IsMarked}
-use Rattle.rx_audit.specs.Latest.{last_below, keyed}
-use Rattle.rx_audit.specs.Listed.{on_list, AreLinked, AreOpenListed}
-use Rattle.rx_audit.specs.Rules.{is_key, joins, hub_connected_at, hub_subscribed_at, hub_ended, hub_ended_at}
-use Rattle.rx_audit.specs.Rules.{open_connected, open_subscribed, open_waiting, has_key, ends_source, is_cut}
+use Rattle.rx_audit.proofs.Common.{◌≡◌, ℕ, zero, suc, ◌-◌, ◌<◌, ◌≤◌, Bool, true, false, List, [], ◌∷◌, length, Option, Some, None, cond, refl, sym, ap, ◌∙◌}
+use Rattle.rx_audit.proofs.Common.{arith, inl, inr, ◌⊎◌, get_or, slice_get, drop, nat_lt, not, ◌&&◌, ◌||◌, list_any, range_with_len, option_map_or}
+use Rattle.rx_audit.proofs.Common.{option_and_then, cases_Bool, cases_order, both_ways, false≢true, and_parts, lt-ltb, ltb-true, eq-eqb, none-some}
+use Rattle.rx_audit.proofs.Common.{slice_get_within, nothing_kept, Event, is_subscriber_of, is_connect_of, at, is_open, IsLawful, is_open_within}
+use Rattle.rx_audit.proofs.Common.{last_connection, Subscribers, IsMarked, last_below, keyed, on_list, AreLinked, AreOpenListed, is_key, joins}
+use Rattle.rx_audit.proofs.Common.{hub_connected_at, hub_subscribed_at, hub_ended, hub_ended_at, open_connected, open_subscribed, open_waiting, has_key}
+use Rattle.rx_audit.proofs.Common.{ends_source, is_cut, and_false, false_from_ne_true}
 use Rattle.rx_audit.proofs.Latest.{last_le, last_holds, last_none, key_is, is_key_of}
 use Rattle.rx_audit.proofs.KeysInRange.{any_found}
-use Rattle.rx_audit.proofs.TestsDecideRules.{find_after, find_number, any_after, not_true, subscribed_key, subscriber_at, at_subscriber, connection_at}
+use Rattle.rx_audit.proofs.TestsDecideRules.{find_after, find_number, any_after, subscribed_key, subscriber_at, at_subscriber, connection_at}
 
 -- some number passes where the word of the last is none
 pub any_last : (p : ℕ → Bool) (k : ℕ) → list_any p (range_with_len 0 k) ≡ nat_lt 0 (last_below p k)
 any_last p k = by_word (last_below p k) refl where
   by_word : (v : ℕ) → last_below p k ≡ v → list_any p (range_with_len 0 k) ≡ nat_lt 0 v
-  by_word zero e = not_true _ (λ y. let f = find_number p k y in both_ways (p f.number) (last_none p k f.number (omega arith) f.within) f.holds)
+  by_word zero e = false_from_ne_true _ (λ y. let f = find_number p k y in both_ways (p f.number) (last_none p k f.number (omega arith) f.within) f.holds)
   by_word (suc j) e = any_found p k j (let l = last_le p k in omega arith) (last_holds p k j e) ∙ sym (lt-ltb 0 (suc j) (omega arith))
 
 -- subscribers ---------------------------------------------------------------------------------------
@@ -61,7 +48,7 @@ cut_word h s g word hub is = by_order (cases_order (suc s) word) where
   ended_key k e at_k = ap (λ o. is_key (option_and_then (hub_ended h) o) g) at_k ∙ sym (ap (λ o. joins o (hub_ended h e)) hub)
 
   none : word ≤ suc s → nat_lt (suc s) word ≡ list_any (ends_source h s) (drop (suc s) h)
-  none l = not_true (nat_lt (suc s) word) (λ y. let m = ltb-true (suc s) word y in omega arith) ∙ sym (not_true _ (λ y.
+  none l = false_from_ne_true (nat_lt (suc s) word) (λ y. let m = ltb-true (suc s) word y in omega arith) ∙ sym (false_from_ne_true _ (λ y.
       let f = find_after (ends_source h s) (suc s) h y in
       let after = f.after in
       let within = slice_get_within h f.place f.event f.found in
@@ -89,12 +76,12 @@ past_word s word = by_order (cases_order (suc s) word) where
   some l = rw (lt-ltb 0 word (omega arith), lt-ltb s (word - 1) (omega arith)) (sym (lt-ltb (suc s) word l))
 
   none : word ≤ suc s → (nat_lt 0 word && nat_lt s (word - 1)) ≡ nat_lt (suc s) word
-  none l = not_true _ (λ y.
+  none l = false_from_ne_true _ (λ y.
       let p = and_parts (nat_lt 0 word) (nat_lt s (word - 1)) y in
       let a = ltb-true 0 word p.0 in
       let b = ltb-true s (word - 1) p.1 in
       absurd (omega arith))
-      ∙ sym (not_true (nat_lt (suc s) word) (λ y. let a = ltb-true (suc s) word y in absurd (omega arith)))
+      ∙ sym (false_from_ne_true (nat_lt (suc s) word) (λ y. let a = ltb-true (suc s) word y in absurd (omega arith)))
 
   by_order : (suc s ≡ word) ⊎ ((suc s < word) ⊎ (word < suc s)) → (nat_lt 0 word && nat_lt s (word - 1)) ≡ nat_lt (suc s) word
   by_order (inl same) = none (omega arith)
@@ -104,7 +91,7 @@ past_word s word = by_order (cases_order (suc s) word) where
 -- what subscribes to no hub is not cut
 pub uncut : (h : List Event) (s : ℕ) → hub_subscribed_at h s ≡ None → false ≡ is_cut h s
 unfolding is_cut
-uncut h s none = sym (not_true _
+uncut h s none = sym (false_from_ne_true _
     (λ y. let f = find_after (ends_source h s) (suc s) h y in false≢true (sym (ap (λ o. joins o (hub_ended h f.event)) none) ∙ f.holds)))
 
 -- one that waits --------------------------------------------------------------------------------------
@@ -134,7 +121,7 @@ waited_word {h} s g last ended w listed is_last is_ended = by_word last refl whe
 
   none : (nat_lt 0 last && not (nat_lt last ended)) ≡ false → ((k : ℕ) → is_key (open_waiting h k) g ≡ true → ⊥)
       → (nat_lt 0 last && not (nat_lt last ended)) ≡ has_key (open_waiting h) h g
-  none z refute = z ∙ sym (not_true (has_key (open_waiting h) h g)
+  none z refute = z ∙ sym (false_from_ne_true (has_key (open_waiting h) h g)
       (λ y. let f = find_number (λ k. is_key (open_waiting h k) g) (length h) y in refute f.number f.holds))
 
   by_word : (v : ℕ) → last ≡ v → (nat_lt 0 last && not (nat_lt last ended)) ≡ has_key (open_waiting h) h g
@@ -156,7 +143,7 @@ waited_word {h} s g last ended w listed is_last is_ended = by_word last refl whe
     over : ended ≤ last → (nat_lt 0 last && not (nat_lt last ended)) ≡ has_key (open_waiting h) h g
     over l =
         let some : nat_lt 0 last ≡ true = lt-ltb 0 last (omega arith) in
-        let past : nat_lt last ended ≡ false = not_true (nat_lt last ended) (λ y. let m = ltb-true last ended y in omega arith) in
+        let past : nat_lt last ended ≡ false = false_from_ne_true (nat_lt last ended) (λ y. let m = ltb-true last ended y in omega arith) in
         let whole : is_cut h j ≡ false = sym (cut_word h j g ended hub is_ended) ∙ ap (λ (v : ℕ). nat_lt v ended) (sym e) ∙ past in
         let key : is_key (open_waiting h j) g ≡ true = rw (whole, parts.1, hub) (eq-eqb g g refl) in
         rw (some, past) (sym (any_found (λ k. is_key (open_waiting h k) g) (length h) j (is_open_within h j parts.1) key))
@@ -164,16 +151,12 @@ waited_word {h} s g last ended w listed is_last is_ended = by_word last refl whe
     by_order : (last ≡ ended) ⊎ ((last < ended) ⊎ (ended < last)) → (nat_lt 0 last && not (nat_lt last ended)) ≡ has_key (open_waiting h) h g
     by_order (inl same) = over (omega arith)
     by_order (inr (inr l)) = over (omega arith)
-    by_order (inr (inl l)) = none (rw (lt-ltb last ended l) (and_no (nat_lt 0 last))) (λ k y.
+    by_order (inr (inl l)) = none (rw (lt-ltb last ended l) (and_false (nat_lt 0 last))) (λ k y.
         let m = waits k y in
         let within = is_open_within h k ((and_parts (at (is_subscriber_of g) h k) (is_open h k) (sym (on_open h s g k listed) ∙ m.1)).1) in
         let below : k < last = below_top k within m.1 in
         both_ways (is_cut h k) m.0 (sym (cut_word h k g ended m.2 is_ended) ∙ lt-ltb (suc k) ended (omega arith)))
       where
-        and_no : (b : Bool) → (b && false) ≡ false
-        and_no true = refl
-        and_no false = refl
-
         below_top : (k : ℕ) → k < length h → on_list h s.listed.items g k ≡ true → k < last
         below_top k within on = by_place (cases_order k last) where
           none_here : last ≤ k → k < last
@@ -201,7 +184,7 @@ connected_word h live g word law tied is = by_word word refl where
     by_open (inl o) = (o, is_key_of (hub_connected_at h k) g (sym (ap (λ b. is_key (cond b (hub_connected_at h k) None) g) o) ∙ y))
 
   none : ((k : ℕ) → is_key (open_connected h k) g ≡ true → ⊥) → has_key (open_connected h) h g ≡ false
-  none refute = not_true (has_key (open_connected h) h g)
+  none refute = false_from_ne_true (has_key (open_connected h) h g)
       (λ y. let f = find_number (λ k. is_key (open_connected h k) g) (length h) y in refute f.number f.holds)
 
   by_word : (v : ℕ) → word ≡ v → (nat_lt 0 word && get_or live (word - 1) false) ≡ has_key (open_connected h) h g

@@ -1,29 +1,16 @@
 -- What is kept of the hubs, after one more event.
-use Rattle.std.proofs.Common.{◌≡◌, ℕ, zero, suc, ◌+◌, ◌<◌, ◌≤◌, Bool, true, false, List, [], ◌∷◌, ◌++◌, length}
-use Rattle.std.proofs.Common.{Option, Some, None, cond, refl, ap, ◌∙◌, arith, inl, inr, ◌⊎◌, slice_get, filter, length-append}
-use Rattle.std.specs.List.{range_with_len}
-use Rattle.std.specs.Option.{option_map_or, option_and_then, option_or}
+use Rattle.rx_audit.proofs.Common.{◌≡◌, ℕ, zero, suc, ◌+◌, ◌<◌, ◌≤◌, Bool, true, false, List, [], ◌∷◌, ◌++◌, length, Option, Some, None, cond, refl, ap, ◌∙◌}
+use Rattle.rx_audit.proofs.Common.{arith, inl, inr, ◌⊎◌, slice_get, filter, length-append, range_with_len, option_map_or, option_and_then, option_or, none-some}
+use Rattle.rx_audit.proofs.Common.{Terminal, nothing_kept, Event, Open, Connect, End, makes_hub, hub_connected, hub_subscribed, at, places, hubs, connecting}
+use Rattle.rx_audit.proofs.Common.{IsConnectDue, IsSettled, IsLawful, MayFollow, slice_get-append, slice_get_last, at-append, is_open_within, may_end, Hubs}
+use Rattle.rx_audit.proofs.Common.{table_with, AreHubs, hub_connected_at, hub_ended, hub_ended_at}
 use Rattle.std.proofs.lemmas.List.Elements.{filter-append}
-use Rattle.std.proofs.lemmas.Option.{none-some}
-use Rattle.rx_note.specs.declared.note.Terminal.{Terminal}
-use Rattle.rx_event.specs.Kept.{nothing_kept}
-use Rattle.rx_event.specs.declared.event.Event.{Event}
-use Rattle.rx_event.specs.declared.event.Event.TheVariants.{Open, Connect, End}
-use Rattle.rx_event.specs.Events.{makes_hub, hub_connected, hub_subscribed}
-use Rattle.rx_event.specs.Tree.{at, places, hubs}
-use Rattle.rx_event.specs.Forced.{connecting, IsConnectDue, IsSettled}
-use Rattle.rx_event.specs.Lawful.{IsLawful, MayFollow}
-use Rattle.rx_event.proofs.Laws.Places.{slice_get-append, slice_get_last, at-append}
-use Rattle.rx_event.proofs.Laws.Openness.{is_open_within}
-use Rattle.rx_event.proofs.Laws.Lawful.{may_end, ended_after}
+use Rattle.rx_event.proofs.Laws.Lawful.{ended_after}
 use Rattle.rx_event.proofs.Laws.Calm.{opened_settled}
 use Rattle.rx_event.proofs.Laws.Sums.{places-push}
 use Rattle.rx_event.proofs.Laws.Connections.{waited_or_now}
-use Rattle.rx_audit.specs.declared.hubs.Hubs.{Hubs}
-use Rattle.rx_audit.specs.Latest.{table_with}
-use Rattle.rx_audit.specs.HubTables.{AreHubs}
-use Rattle.rx_audit.specs.Rules.{hub_connected_at, hub_ended, hub_ended_at}
 use Rattle.rx_audit.proofs.Latest.{latest_with, length-table_with, one_longer}
+use Rattle.rx_event.proofs.Laws.OpenAfter.{filter_below}
 
 -- connections ---------------------------------------------------------------------------------------
 
@@ -52,16 +39,10 @@ ended_last h e next = ap (option_and_then (hub_ended (h ++ e ∷ []))) (slice_ge
 
 -- how many --------------------------------------------------------------------------------------------
 
-filter_same : (p q : ℕ → Bool) (s n : ℕ) → ((k : ℕ) → k < s + n → p k ≡ q k) → filter p (range_with_len s n) ≡ filter q (range_with_len s n)
-filter_same p q s zero same = refl
-filter_same p q s (suc n) same =
-    let rest = filter_same p q (s + 1) n (λ k l. same k (omega arith)) in
-    (λ i. cond (same s (omega arith) i) (s ∷ rest i) (rest i))
-
 pub hub_count-push : (h : List Event) (e : Event) → length (hubs (h ++ e ∷ [])) ≡ length (hubs h) + cond (makes_hub e) 1 0
 hub_count-push h e = by_test (makes_hub e) refl where
   before : filter (at makes_hub (h ++ e ∷ [])) (places h) ≡ hubs h
-  before = filter_same (at makes_hub (h ++ e ∷ [])) (at makes_hub h) 0 (length h) (λ k l. at-append makes_hub h (e ∷ []) k (omega arith))
+  before = filter_below (at makes_hub (h ++ e ∷ [])) (at makes_hub h) 0 (length h) (λ k l. at-append makes_hub h (e ∷ []) k (omega arith))
 
   last : at makes_hub (h ++ e ∷ []) (length h) ≡ makes_hub e
   last = ap (λ o. option_map_or makes_hub o false) (slice_get_last h e)

@@ -1,19 +1,7 @@
 -- Marks and counts by a key.
-use Rattle.std.proofs.Common.{◌≡◌, ℕ, zero, suc, ◌+◌, ◌-◌, ◌<◌, ◌≤◌, Bool, true, false, List, [], ◌∷◌, length, Option, Some, None, refl, sym, arith, ◌==◌, ◌≢◌}
-use Rattle.std.proofs.Common.{get_or, set, get_or-set_other, get_or-set_same, ◌⊎◌, inl, inr, cond, add-zero}
-use Rattle.std.proofs.Math.Bool.{◌||◌}
-use Rattle.std.proofs.Math.ListN.{length-set}
-use Rattle.std.proofs.lemmas.Bool.{cases_order, eq-eqb, ne_eqb}
-use Rattle.rx_audit.specs.Tables.{marks_with, counts_with, counts_less}
-use Rattle.rx_audit.specs.Rules.{is_key}
-
-or_false : (b : Bool) → (b || false) ≡ b
-or_false true = refl
-or_false false = refl
-
-or_true : (b : Bool) → (b || true) ≡ true
-or_true true = refl
-or_true false = refl
+use Rattle.rx_audit.proofs.Common.{◌≡◌, ℕ, zero, suc, ◌+◌, ◌-◌, ◌<◌, ◌≤◌, Bool, true, false, List, [], ◌∷◌, length, Option, Some, None, refl, sym, arith, ◌==◌}
+use Rattle.rx_audit.proofs.Common.{◌≢◌, get_or, set, get_or-set_other, get_or-set_same, ◌⊎◌, inl, inr, cond, add-zero, ◌||◌, length-set, cases_order, eq-eqb}
+use Rattle.rx_audit.proofs.Common.{ne_eqb, marks_with, counts_with, counts_less, is_key, or_false, or_true}
 
 pub length-marks_with : (ms : List Bool) (k : Option ℕ) → length (marks_with ms k) ≡ length ms
 length-marks_with ms None = refl

@@ -1,27 +1,11 @@
 -- What is kept of the nodes and the hubs: of no events, and with another list of what may be due.
+use Rattle.rx_audit.proofs.Common.{Hubs, HasAll, hub_connected_at, hub_ended, hub_ended_at, nothing_kept, IsLawful, Event, ◌≡◌, ℕ, zero, suc, ◌<◌, ◌≤◌, Bool}
+use Rattle.rx_audit.proofs.Common.{List, [], ◌∷◌, length, Option, Some, None, refl, sym, ◌∙◌, arith, inl, inr, ◌⊎◌, get_or, slice_get, option_and_then}
+use Rattle.rx_audit.proofs.Common.{both_ways, false≢true, cases_lt, none-some, End, is_open, is_open_past, Nodes, AreChildren, last_below, keyed, AreLinked}
+use Rattle.rx_audit.proofs.Common.{AreHubs, IsFollowed, IsKnown, false_from_ne_true}
 use Rattle.rx_audit.proofs.KeysInRange.{connected_below}
-use Rattle.rx_audit.proofs.TestsDecideRules.{not_true}
 use Rattle.rx_audit.proofs.Neighbours.{last_unique}
 use Rattle.rx_audit.proofs.Latest.{is_key_of}
-use Rattle.rx_audit.specs.declared.hubs.Hubs.{Hubs}
-use Rattle.rx_audit.specs.DueList.{HasAll}
-use Rattle.rx_audit.specs.Rules.{hub_connected_at, hub_ended, hub_ended_at}
-use Rattle.rx_event.specs.Kept.{nothing_kept}
-use Rattle.rx_event.specs.Lawful.{IsLawful}
-use Rattle.rx_event.specs.declared.event.Event.{Event}
-use Rattle.std.proofs.Common.{◌≡◌, ℕ, zero, suc, ◌<◌, ◌≤◌, Bool, List, [], ◌∷◌, length, Option}
-use Rattle.std.proofs.Common.{Some, None, refl, sym, ◌∙◌, arith, inl, inr, ◌⊎◌, get_or, slice_get}
-use Rattle.std.specs.Option.{option_and_then}
-use Rattle.std.proofs.lemmas.Bool.{both_ways, false≢true, cases_lt}
-use Rattle.std.proofs.lemmas.Option.{none-some}
-use Rattle.rx_event.specs.declared.event.Event.TheVariants.{End}
-use Rattle.rx_event.specs.Tree.{is_open}
-use Rattle.rx_event.proofs.Laws.Openness.{is_open_past}
-use Rattle.rx_audit.specs.declared.advance.Nodes.{Nodes}
-use Rattle.rx_audit.specs.Latest.{AreChildren, last_below, keyed}
-use Rattle.rx_audit.specs.Listed.{AreLinked}
-use Rattle.rx_audit.specs.HubTables.{AreHubs}
-use Rattle.rx_audit.specs.Standing.{IsFollowed, IsKnown}
 use Rattle.rx_audit.proofs.DueLists.{acts_open}
 
 pub followed_nothing : (size : ℕ) (nodes : Nodes) → AreChildren [] size nodes.children → AreLinked [] size nodes.subscribers → AreHubs [] size nodes.hubs
@@ -64,7 +48,7 @@ past_list (x ∷ xs) (suc n) l = past_list xs n (omega arith)
 
 none_keyed : (h : List Event) (key : ℕ → Option ℕ) (g : ℕ) → ((k : ℕ) → key k ≡ Some g → ⊥) → last_below (keyed key g) (length h) ≡ 0
 none_keyed h key g none = last_unique (keyed key g) (length h) 0 (omega arith)
-    (λ j l m. not_true _ (λ y. none j (is_key_of (key j) g y))) (λ j e. absurd (omega arith))
+    (λ j l m. false_from_ne_true _ (λ y. none j (is_key_of (key j) g y))) (λ j e. absurd (omega arith))
 
 ended_below : (h : List Event) → IsLawful nothing_kept h → (k g : ℕ) → hub_ended_at h k ≡ Some g → g < length h
 ended_below h law k g named = by_event (slice_get h k) named where

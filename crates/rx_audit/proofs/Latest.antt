@@ -1,18 +1,11 @@
 -- The last number with a key.
-use Rattle.std.proofs.Common.{◌≡◌, ℕ, zero, suc, ◌<◌, ◌≤◌, Bool, true, false, List, Option, Some, None, refl, sym, ap, ◌∙◌, arith, cond, inl, inr, ◌⊎◌, ◌==◌}
-use Rattle.std.proofs.Common.{[], ◌∷◌, ◌++◌, length, get_or, set, get_or-set_other, get_or-set_same, ◌≢◌, length-append, nat_lt}
-use Rattle.std.proofs.lemmas.Bool.{cases_Bool, cases_order, false≢true, eq-eqb, eqb-true, ne_eqb, ltb-true}
-use Rattle.std.proofs.lemmas.Option.{none-some, same_Some}
-use Rattle.rx_audit.specs.Rules.{is_key}
-use Rattle.std.proofs.Math.ListN.{length-set}
-use Rattle.std.specs.Option.{option_and_then}
-use Rattle.rx_event.specs.declared.event.Event.{Event}
-use Rattle.rx_event.specs.Events.{parent_named, inner_named}
-use Rattle.rx_event.specs.Tree.{parent, if_less}
-use Rattle.rx_event.proofs.Laws.Places.{slice_get-append, slice_get_last}
+use Rattle.rx_audit.proofs.Common.{◌≡◌, ℕ, zero, suc, ◌<◌, ◌≤◌, Bool, true, false, List, Option, Some, None, refl, sym, ap, ◌∙◌, arith, cond, inl, inr, ◌⊎◌}
+use Rattle.rx_audit.proofs.Common.{◌==◌, [], ◌∷◌, ◌++◌, length, get_or, set, get_or-set_other, get_or-set_same, ◌≢◌, length-append, nat_lt, cases_Bool}
+use Rattle.rx_audit.proofs.Common.{cases_order, false≢true, eq-eqb, eqb-true, ne_eqb, ltb-true, none-some, same_Some, is_key, length-set, option_and_then}
+use Rattle.rx_audit.proofs.Common.{Event, parent_named, inner_named, parent, if_less, slice_get-append, slice_get_last, last_below, keyed, inner_named_at}
+use Rattle.rx_audit.proofs.Common.{table_with, link_with, AreChildren, Children}
 use Rattle.rx_event.proofs.Laws.Parents.{parent-append}
-use Rattle.rx_audit.specs.Latest.{last_below, keyed, IsLatest, IsLinked, inner_named_at, table_with, link_with, AreChildren}
-use Rattle.rx_audit.specs.declared.children.Children.{Children}
+use Rattle.rx_audit.specs.Latest.{IsLatest, IsLinked}
 use Rattle.std.proofs.lemmas.List.{set_past}
 
 pub last_le : (p : ℕ → Bool) (k : ℕ) → last_below p k ≤ k

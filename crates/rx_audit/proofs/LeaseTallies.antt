@@ -1,18 +1,12 @@
 -- How many leases of each resource an event leaves out.
-use Rattle.std.proofs.Common.{◌≡◌, ℕ, ◌+◌, ◌-◌, ◌<◌, ◌≤◌, true, false, List, [], ◌∷◌, ◌++◌, length, get_or, Option, Some, None, cond, slice_get}
-use Rattle.std.proofs.Common.{refl, ap, ◌∙◌, arith}
-use Rattle.std.specs.Option.{option_and_then, option_map_or}
-use Rattle.std.proofs.lemmas.Bool.{false≢true}
-use Rattle.rx_event.specs.Kept.{nothing_kept}
-use Rattle.rx_event.specs.declared.event.Event.{Event}
-use Rattle.rx_event.specs.declared.event.Event.TheVariants.{Lease, Return}
-use Rattle.rx_event.specs.Events.{makes_lease, leased_of, returned_of}
-use Rattle.rx_event.specs.Resources.{leases_of}
-use Rattle.rx_event.specs.Lawful.{IsLawful, MayFollow}
+use Rattle.rx_audit.proofs.Common.{◌≡◌, ℕ, ◌+◌, ◌-◌, ◌<◌, ◌≤◌, true, false, List, [], ◌∷◌, ◌++◌, length, get_or, Option, Some, None, cond, slice_get, refl, ap}
+use Rattle.rx_audit.proofs.Common.{◌∙◌, arith, option_and_then, option_map_or, false≢true, nothing_kept, Event, Lease, Return, makes_lease, returned_of}
+use Rattle.rx_audit.proofs.Common.{leases_of, IsLawful, MayFollow, counts_with, counts_less, is_key}
+use Rattle.rx_event.specs.Events.{leased_of}
 use Rattle.rx_event.proofs.Laws.Leases.{out_lease, leases_of_kept, leases_of_still, leases_of-return}
 use Rattle.rx_event.proofs.Laws.Steps.{may_return}
-use Rattle.rx_audit.specs.Tables.{IsTally, counts_with, counts_less}
-use Rattle.rx_audit.specs.Rules.{is_key, resource_of}
+use Rattle.rx_audit.specs.Tables.{IsTally}
+use Rattle.rx_audit.specs.Rules.{resource_of}
 use Rattle.rx_audit.proofs.Keys.{length-counts_with, counts_with_at, counts_few, length-counts_less, counts_less_at, counts_less_few}
 
 -- a lease is one of some resource

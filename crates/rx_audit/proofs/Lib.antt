@@ -1,3 +1,4 @@
+pub mod Common
 pub mod StaysOpen
 pub mod Keys
 pub mod LeaseTallies

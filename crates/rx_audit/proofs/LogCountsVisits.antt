@@ -1,15 +1,11 @@
 -- The log of visits, followed entry by entry, says how often each node is visited.
-use Rattle.std.proofs.Common.{◌≡◌, ℕ, suc, ◌+◌, ◌*◌, ◌-◌, ◌<◌, ◌≤◌, List, [], ◌∷◌, length, take, drop, get_or, refl, sym, ap, ◌∙◌, arith, take-append-drop}
-use Rattle.std.specs.List.{sum_by}
-use Rattle.std.proofs.Math.Nat.{mul-le-mul_left}
+use Rattle.rx_audit.proofs.Common.{◌≡◌, ℕ, suc, ◌+◌, ◌*◌, ◌-◌, ◌<◌, ◌≤◌, List, [], ◌∷◌, length, take, drop, get_or, refl, sym, ap, ◌∙◌, arith, take-append-drop}
+use Rattle.rx_audit.proofs.Common.{sum_by, mul-le-mul_left, sum_by-append, sum_by-cons, sum_by_more, Event, visited, onward, climb, visits, most_visits, Visit}
+use Rattle.rx_audit.proofs.Common.{flow, times, IsOften, IsReached}
 use Rattle.std.proofs.Math.Seq.{drop-cons}
 use Rattle.std.proofs.lemmas.List.{drop_all}
-use Rattle.std.proofs.lemmas.List.Sums.{sum_by-append, sum_by-cons, sum_by_more}
-use Rattle.rx_event.specs.declared.event.Event.{Event}
-use Rattle.rx_event.specs.Climb.{visited, onward, climb, visits, most_visits}
-use Rattle.rx_audit.specs.declared.reach.Visit.{Visit}
-use Rattle.rx_audit.specs.Flow.{flow, times, IsOften, IsReached}
 use Rattle.rx_audit.proofs.FlowIsVisits.{sum_by-mono, flow-more, visits_many, IsWhole, visits_whole}
+use Rattle.rx_audit.proofs.VisitLogEntries.{count_all}
 
 times-mono : (f g : ℕ → ℕ) → ((n : ℕ) → f n ≤ g n) → (log : List Visit) → sum_by (times f) log ≤ sum_by (times g) log
 times-mono f g le [] = omega arith
@@ -28,10 +24,6 @@ pub record IsFlowing (h : List Event) (leaf i : ℕ) (log : List Visit) (so_many
   pub total : so_many ≡ sum_by (times (λ n. 1)) log
   pub few : so_many ≤ 1048576
   pub often : IsOften log
-
-count_all : (xs : List ℕ) → sum_by (λ n. 1) xs ≡ length xs
-count_all [] = refl
-count_all (x ∷ xs) = let s = sum_by-cons (λ n. 1) x xs in let r = count_all xs in omega arith
 
 -- the entry that is followed next, apart from those behind it
 next_entry : (f : ℕ → ℕ) (log : List Visit) (i : ℕ) (v : Visit) → i < length log → v ≡ get_or log i v

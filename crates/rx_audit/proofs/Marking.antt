@@ -1,36 +1,20 @@
 -- The marks of the open nodes, one event after the other.
-use Rattle.std.proofs.Common.{◌≡◌, ℕ, ◌+◌, ◌<◌, ◌≤◌, Bool, true, false, List, [], ◌∷◌, ◌++◌, length, Option, Some, None, refl, sym, ap}
-use Rattle.std.proofs.Common.{◌∙◌, arith, inl, inr, ◌⊎◌, ◌==◌, ◌≢◌, get_or, set, get_or-set_other, get_or-set_same, slice_get, length-append}
-use Rattle.std.proofs.lemmas.Bool.{false≢true, cases_Bool, cases_order, both_ways, eqb-true, and_parts, lt-ltb, and_from}
-use Rattle.std.proofs.lemmas.Option.{none-some, same_Some}
-use Rattle.std.proofs.Math.ListN.{length-set}
-use Rattle.std.specs.Option.{option_map_or}
-use Rattle.rx_event.specs.Kept.{nothing_kept}
-use Rattle.rx_note.specs.declared.note.Terminal.{Terminal}
-use Rattle.rx_event.specs.declared.event.Place.TheVariants.{Source, Inner, Notifier}
-use Rattle.rx_event.specs.declared.event.Kind.{Kind}
-use Rattle.rx_event.specs.declared.event.Event.{Event}
-use Rattle.rx_event.specs.declared.event.Event.TheVariants.{Open, Item, Decline, End, Close}
-use Rattle.rx_event.specs.declared.marks.Marks.{Marks}
-use Rattle.rx_event.specs.Events.{is_merging, is_switch, is_source_of, is_inner_of}
-use Rattle.rx_event.specs.Tree.{at, parent, places, is_open, is_switched_inner, is_open_child_of}
-use Rattle.std.specs.Prelude.{is_some}
+use Rattle.rx_audit.proofs.Common.{◌≡◌, ℕ, ◌+◌, ◌<◌, ◌≤◌, Bool, true, false, List, [], ◌∷◌, ◌++◌, length, Option, Some, None, refl, sym, ap, ◌∙◌, arith, inl}
+use Rattle.rx_audit.proofs.Common.{inr, ◌⊎◌, ◌==◌, ◌≢◌, get_or, set, get_or-set_other, get_or-set_same, slice_get, length-append, false≢true, cases_Bool}
+use Rattle.rx_audit.proofs.Common.{cases_order, both_ways, eqb-true, and_parts, lt-ltb, and_from, none-some, same_Some, length-set, option_map_or, nothing_kept}
+use Rattle.rx_audit.proofs.Common.{Terminal, Source, Inner, Notifier, Kind, Event, Open, Item, Decline, End, Close, Marks, is_merging, is_switch, is_source_of}
+use Rattle.rx_audit.proofs.Common.{is_inner_of, at, parent, places, is_open, is_switched_inner, is_open_child_of, is_some, length-range_with_len, open_old}
+use Rattle.rx_audit.proofs.Common.{marks_of, blank_marks, after_source, after_notifier, after_inner, after_decline, after_child, open_children, owed, MayFollow}
+use Rattle.rx_audit.proofs.Common.{IsLawful, parent_open, is_open_within, may_end, event_at, touched_by, IsKept, IsUntouched}
 use Rattle.std.proofs.lemmas.List.Sums.{count_by-le-length}
-use Rattle.std.proofs.lemmas.List.FromFn.{length-range_with_len}
-use Rattle.rx_event.proofs.Laws.Openness.{open_old}
-use Rattle.rx_event.specs.Marks.{marks_of, blank_marks, touches, after_source, after_notifier, after_inner, after_decline, after_child, open_children}
-use Rattle.rx_event.specs.Moments.{owed}
-use Rattle.rx_event.specs.Lawful.{MayFollow, IsLawful}
-use Rattle.rx_event.proofs.Laws.Openness.{parent_open, is_open_within}
-use Rattle.rx_event.proofs.Laws.Lawful.{may_end}
+use Rattle.rx_event.specs.Marks.{touches}
 use Rattle.rx_event.proofs.Laws.Steps.{may_name, may_decline, may_open}
 use Rattle.rx_event.proofs.Laws.Switches.{inner_above}
-use Rattle.rx_event.proofs.Laws.Stands.{event_at}
 use Rattle.rx_event.proofs.Laws.MarksNew.{marks-new}
 use Rattle.rx_event.proofs.Laws.MarksEnds.{marks_closed}
-use Rattle.rx_event.proofs.Laws.MarksTouched.{marks_untouched, marks-source_at, marks-notifier_at, marks-inner_at_flat}
-use Rattle.rx_event.proofs.Laws.MarksTouched.{marks-inner_at_first, marks-inner_at_next, marks-decline_at, marks-end_at, child_counted}
-use Rattle.rx_audit.specs.Marking.{touched_by, IsKept, IsTop, IsUntouched}
+use Rattle.rx_event.proofs.Laws.MarksTouched.{marks_untouched, marks-source_at, marks-notifier_at, marks-inner_at_flat, marks-inner_at_first}
+use Rattle.rx_event.proofs.Laws.MarksTouched.{marks-inner_at_next, marks-decline_at, marks-end_at, child_counted}
+use Rattle.rx_audit.specs.Marking.{IsTop}
 
 abbrev is_close : Event → Bool
 is_close (Close c) = true

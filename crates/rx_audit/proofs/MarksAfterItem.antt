@@ -1,32 +1,15 @@
 -- An item in a history without hubs: what it does to marks, and what is due after it.
-use Rattle.std.proofs.Common.{◌≡◌, ℕ, ℤ, ◌+◌, ◌<◌, Bool, true, false, List, [], ◌∷◌, ◌++◌, length}
-use Rattle.std.proofs.Common.{Option, Some, None, refl, sym, ap, ◌∙◌, arith, inl, inr, ◌⊎◌, ◌==◌, cond}
-use Rattle.std.proofs.Math.Bool.{◌||◌, ◌&&◌}
-use Rattle.std.proofs.lemmas.Bool.{cases_Bool, false≢true, eq-eqb, eqb-true}
-use Rattle.std.proofs.lemmas.Option.{none-some, same_Some}
-use Rattle.std.specs.List.{list_any, sum_by, count_by}
-use Rattle.std.specs.Option.{option_or}
-use Rattle.std.specs.Prelude.{is_some}
-use Rattle.rx_event.specs.Kept.{nothing_kept}
-use Rattle.rx_note.specs.declared.note.Terminal.{Terminal}
-use Rattle.rx_event.specs.declared.event.Kind.TheVariants.{Flat, Switch}
-use Rattle.rx_event.specs.declared.event.Event.{Event}
-use Rattle.rx_event.specs.declared.event.Event.TheVariants.{Open, Item}
-use Rattle.rx_event.specs.declared.marks.Marks.{Marks}
-use Rattle.rx_event.specs.Tree.{is_open}
-use Rattle.rx_event.specs.Climb.{stop_at, climb, stops}
-use Rattle.rx_event.specs.Moments.{owed, is_fired, is_firing_of, is_projection_to}
-use Rattle.rx_event.specs.Marks.{marks_of, terminal_due, completed_if, is_over}
-use Rattle.rx_event.specs.Lawful.{IsLawful, MayFollow}
-use Rattle.rx_event.proofs.Laws.Openness.{is_open_within, open_before}
-use Rattle.rx_event.proofs.Laws.Places.{slice_get-append}
-use Rattle.rx_event.proofs.Laws.Stands.{event_at}
+use Rattle.rx_audit.proofs.Common.{◌≡◌, ℕ, ℤ, ◌+◌, ◌<◌, Bool, true, false, List, [], ◌∷◌, ◌++◌, length, Option, Some, None, refl, sym, ap, ◌∙◌, arith, inl, inr}
+use Rattle.rx_audit.proofs.Common.{◌⊎◌, ◌==◌, cond, ◌||◌, ◌&&◌, cases_Bool, false≢true, eq-eqb, eqb-true, none-some, same_Some, list_any, sum_by, count_by}
+use Rattle.rx_audit.proofs.Common.{option_or, is_some, nothing_kept, Terminal, Flat, Switch, Event, Open, Item, Marks, is_open, stop_at, climb, owed}
+use Rattle.rx_audit.proofs.Common.{is_firing_of, is_projection_to, marks_of, terminal_due, IsLawful, MayFollow, is_open_within, slice_get-append, event_at}
+use Rattle.rx_audit.proofs.Common.{Visit, IsReached, is_key, IsNoted, leaf_of, IsKept, IsCovered, IsVisited, visited_marks, fired_key, projected_key, due_made}
+use Rattle.rx_audit.proofs.Common.{or_false}
+use Rattle.rx_event.specs.Climb.{stops}
+use Rattle.rx_event.specs.Moments.{is_fired}
+use Rattle.rx_event.specs.Marks.{completed_if, is_over}
+use Rattle.rx_event.proofs.Laws.Openness.{open_before}
 use Rattle.rx_event.proofs.Laws.MarksAfter.{marks-item}
-use Rattle.rx_audit.specs.declared.reach.Visit.{Visit}
-use Rattle.rx_audit.specs.Flow.{IsReached}
-use Rattle.rx_audit.specs.Rules.{is_key}
-use Rattle.rx_audit.specs.Latest.{IsNoted}
-use Rattle.rx_audit.specs.Marking.{leaf_of, IsKept, IsCovered, IsVisited, visited_marks, fired_key, projected_key, due_made}
 use Rattle.rx_audit.proofs.FoundAfterEvent.{same_any, firing_stops, projection_stops, times_cond}
 use Rattle.rx_audit.proofs.VisitsChangeMarks.{with_two, same_two}
 use Rattle.rx_audit.proofs.DueListCovers.{due_parts, due_made_at}
@@ -80,10 +63,6 @@ still_due (Open place Flat) m k y = merging_still m.child_terminal (is_over (wit
 still_due (Open place Switch) m k y = merging_still m.child_terminal (is_over (with_two m m.fired (m.owed + k))) (is_over m)
     (over_still m.source_completed (m.open_children == 0) (m.owed == 0) (m.owed + k == 0) (none_owed m.owed k)) y
 still_due _ m k y = y
-
-or_false : (b : Bool) → (b || false) ≡ b
-or_false true = refl
-or_false false = refl
 
 covered_visit : {h : List Event} {leaf : ℕ} (v : ℤ) {log : List Visit} {old new : List Marks} (before after : List ℕ) → IsLawful nothing_kept h
     → MayFollow nothing_kept h (Item leaf v)

@@ -1,10 +1,8 @@
 -- Lists that lead from one number that passes a test to its neighbours: one number less, and one more.
-use Rattle.std.proofs.Common.{◌≡◌, ◌≢◌, ℕ, zero, suc, ◌-◌, ◌<◌, ◌≤◌, Bool, true, false, List, length, refl}
-use Rattle.std.proofs.Common.{sym, ap, ◌∙◌, arith, inl, inr, ◌⊎◌, get_or, set, get_or-set_other, get_or-set_same}
-use Rattle.std.proofs.Math.ListN.{length-set}
-use Rattle.std.proofs.lemmas.Bool.{cases_order, cases_Bool, both_ways}
-use Rattle.rx_audit.specs.Latest.{last_below, table_with}
-use Rattle.rx_audit.specs.Listed.{IsNext, IsRow, number_of}
+use Rattle.rx_audit.proofs.Common.{◌≡◌, ◌≢◌, ℕ, zero, suc, ◌-◌, ◌<◌, ◌≤◌, Bool, true, false, List, length, refl, sym, ap, ◌∙◌, arith, inl, inr, ◌⊎◌, get_or}
+use Rattle.rx_audit.proofs.Common.{set, get_or-set_other, get_or-set_same, length-set, cases_order, cases_Bool, both_ways, last_below, table_with, IsRow}
+use Rattle.rx_audit.proofs.Common.{number_of}
+use Rattle.rx_audit.specs.Listed.{IsNext}
 use Rattle.rx_audit.proofs.Latest.{last_le, last_holds, last_none, last_same}
 
 -- the last number below the bound is told by what stands after it

@@ -1,23 +1,10 @@
 -- Which subscribers are on the lists of their hubs after one more event.
-use Rattle.std.proofs.Common.{◌≡◌, ℕ, ◌<◌, Bool, true, false, List, [], ◌∷◌, ◌++◌, length, Some, refl, sym, ap, subst, ◌∙◌, arith, inl, inr, ◌⊎◌, get_or}
-use Rattle.std.specs.Option.{option_map_or}
-use Rattle.std.proofs.lemmas.Bool.{cases_Bool, cases_order, both_ways, false≢true}
-use Rattle.rx_event.specs.Kept.{nothing_kept}
-use Rattle.rx_event.specs.declared.event.Kind.TheVariants.{Sub}
-use Rattle.rx_event.specs.declared.event.Event.{Event}
-use Rattle.rx_event.specs.declared.event.Event.TheVariants.{Open}
-use Rattle.rx_event.specs.Events.{is_subscriber_of, makes_hub}
-use Rattle.rx_event.specs.Tree.{at, is_open}
-use Rattle.std.proofs.lemmas.Option.{same_Some}
-use Rattle.rx_event.specs.Allowed.{IsHubbed}
-use Rattle.rx_event.specs.Lawful.{MayFollow}
-use Rattle.rx_event.proofs.Laws.Places.{at-append, at_within, slice_get_last}
+use Rattle.rx_audit.proofs.Common.{◌≡◌, ℕ, ◌<◌, Bool, true, false, List, [], ◌∷◌, ◌++◌, length, Some, refl, sym, ap, subst, ◌∙◌, arith, inl, inr, ◌⊎◌, get_or}
+use Rattle.rx_audit.proofs.Common.{option_map_or, cases_Bool, cases_order, both_ways, false≢true, nothing_kept, Sub, Event, Open, is_subscriber_of, makes_hub}
+use Rattle.rx_audit.proofs.Common.{at, is_open, same_Some, IsHubbed, MayFollow, at-append, at_within, slice_get_last, Subscribers, AreClosed, AreOpenListed}
+use Rattle.rx_audit.proofs.Common.{AreLetGo, stays_open}
 use Rattle.rx_event.proofs.Laws.Hubs.{may_subscribe, subscriber_found}
 use Rattle.rx_event.proofs.Laws.Totals.{is_open_new}
-use Rattle.rx_audit.specs.declared.subscribers.Subscribers.{Subscribers}
-use Rattle.rx_audit.specs.Latest.{AreClosed}
-use Rattle.rx_audit.specs.Listed.{AreOpenListed, AreLetGo}
-use Rattle.rx_audit.specs.Rules.{stays_open}
 use Rattle.rx_audit.proofs.StaysOpen.{is_open_older, stays_closed}
 use Rattle.rx_audit.proofs.Latest.{one_longer}
 

@@ -1,24 +1,17 @@
 -- The marks of nodes that stay open.
-use Rattle.std.proofs.Common.{◌≡◌, ℕ, ◌<◌, Bool, true, false, List, [], ◌∷◌, ◌++◌, length, Option, Some, None, refl}
-use Rattle.std.proofs.Common.{sym, ◌∙◌, arith, ◌≢◌, get_or, set, get_or-set_other, get_or-set_same, ◌⊎◌, inl, inr, length-append, nat_lt}
-use Rattle.std.proofs.Math.Bool.{not, ◌&&◌}
-use Rattle.std.proofs.lemmas.Bool.{cases_order, ltb-true}
-use Rattle.std.proofs.lemmas.Option.{cond_some, option_and_then_some}
-use Rattle.std.specs.List.{list_all}
-use Rattle.std.specs.Option.{option_map_or, option_and_then}
-use Rattle.rx_event.specs.declared.event.Event.{Event}
-use Rattle.rx_event.specs.Events.{makes_node, parent_named}
-use Rattle.rx_event.specs.Tree.{parent, ancestors, is_open, is_standing, shuts, if_less}
-use Rattle.rx_event.proofs.Laws.Places.{slice_get_last}
-use Rattle.rx_event.proofs.Laws.Parents.{ancestors_step, option_map_or-same}
-use Rattle.rx_event.proofs.Laws.Openness.{is_open_step, is_open-push, is_open_past, is_shut_last}
-use Rattle.rx_audit.specs.Tables.{IsMarked}
-use Rattle.rx_audit.specs.Rules.{stays_open, opens}
+use Rattle.rx_audit.proofs.Common.{◌≡◌, ℕ, ◌<◌, Bool, true, false, List, [], ◌∷◌, ◌++◌, length, Option, Some, None, refl, sym, ◌∙◌, arith, ◌≢◌, get_or, set}
+use Rattle.rx_audit.proofs.Common.{get_or-set_other, get_or-set_same, ◌⊎◌, inl, inr, length-append, nat_lt, not, ◌&&◌, cases_order, ltb-true}
+use Rattle.rx_audit.proofs.Common.{option_and_then_some, list_all, option_map_or, option_and_then, Event, makes_node, parent_named, parent, ancestors, is_open}
+use Rattle.rx_audit.proofs.Common.{shuts, if_less, slice_get_last, ancestors_step, is_open_step, is_open_past, IsMarked, stays_open, and_false, and_true}
+use Rattle.std.proofs.lemmas.Option.{cond_some}
+use Rattle.rx_event.specs.Tree.{is_standing}
+use Rattle.rx_event.proofs.Laws.Parents.{option_map_or-same}
+use Rattle.rx_event.proofs.Laws.Openness.{is_open-push, is_shut_last}
+use Rattle.rx_audit.specs.Rules.{opens}
+use Rattle.rx_event.proofs.Laws.Common.{and_same}
 
 shared : (a o b l : Bool) → ((a && o) && (b && l)) ≡ (((a && o) && b) && (o && l))
-shared false o b l = refl
-shared true false b l = refl
-shared true true b l = refl
+shared a o b l = grind arith
 
 -- a node stays open where it is open, is not shut, and its parent stays open
 pub stays_open_step : (h : List Event) (e : Event) (n : ℕ) → stays_open h e n
@@ -30,14 +23,6 @@ stays_open_step h e n = rw (is_open_step h n, ancestors_step h n) (by_parent (pa
       ≡ (((is_standing h n && option_map_or (is_open h) o true) && not (shuts h n e)) && option_map_or (stays_open h e) o true)
   by_parent None = shared (is_standing h n) true (not (shuts h n e)) true
   by_parent (Some p) = shared (is_standing h n) (is_open h p) (not (shuts h n e)) (list_all (λ a. not (shuts h a e)) (ancestors h p))
-
-and_false : (b : Bool) → (b && false) ≡ false
-and_false true = refl
-and_false false = refl
-
-and_true : (b : Bool) → (b && true) ≡ b
-and_true true = refl
-and_true false = refl
 
 pub stays_closed : (h : List Event) (e : Event) (n : ℕ) → is_open h n ≡ false → stays_open h e n ≡ false
 unfolding stays_open
@@ -65,14 +50,10 @@ is_open_newest : (h : List Event) (e : Event) → is_open (h ++ e ∷ []) (lengt
 unfolding parent
 is_open_newest h e =
     rw (is_open_step (h ++ e ∷ []) (length h), is_shut_last h e, slice_get_last h e)
-    (same_parts (makes_node e) _ _
+    (and_same (makes_node e) _ _
     (option_map_or-same (is_open (h ++ e ∷ [])) (stays_open h e)
     (option_and_then (if_less (length h)) (parent_named e)) true (λ p o. is_open_older h e p (less (parent_named e) p o))))
   where
-    same_parts : (a b c : Bool) → b ≡ c → ((a && true) && b) ≡ (a && c)
-    same_parts true b c e = e
-    same_parts false b c e = refl
-
     less : (o : Option ℕ) (p : ℕ) → option_and_then (if_less (length h)) o ≡ Some p → p < length h
     less o p e = option_and_then_some (if_less (length h)) o p e
         (λ x a b. let w = cond_some (nat_lt x (length h)) x p b in rw (← w.1) (ltb-true x (length h) w.0))

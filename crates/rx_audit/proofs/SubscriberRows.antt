@@ -1,36 +1,22 @@
 -- The lists of the subscribers of each hub: one taken off, and a new one.
-use Rattle.std.proofs.Common.{◌≡◌, ◌≢◌, ℕ, zero, suc, ◌+◌, ◌-◌, ◌<◌, ◌≤◌, Bool, true, false, List, [], ◌∷◌, ◌++◌, length, replicate}
-use Rattle.std.proofs.Common.{Some, None, cond, refl, sym, ap, ◌∙◌, arith, inl, inr, ◌⊎◌, get_or, set, get_or-set_other, get_or-set_same}
-use Rattle.std.proofs.Math.ListN.{length-set}
-use Rattle.std.proofs.lemmas.List.{length-replicate}
-use Rattle.std.proofs.Math.Bool.{◌&&◌}
-use Rattle.std.specs.List.{sum_by}
-use Rattle.std.proofs.lemmas.List.Sums.{sum_by_push, sum_by-cons}
-use Rattle.std.specs.Option.{option_map_or}
-use Rattle.std.proofs.lemmas.Bool.{cases_Bool, cases_order, both_ways, false≢true, and_parts, eq-eqb, ne_eqb}
-use Rattle.std.proofs.lemmas.Option.{none-some, slice_get_past}
-use Rattle.rx_event.specs.declared.event.Event.{Event}
-use Rattle.rx_event.specs.Events.{is_subscriber_of, hub_subscribed}
-use Rattle.rx_event.specs.Tree.{at, is_open, open_subscribers}
-use Rattle.rx_event.specs.Claims.Connections.{falling}
-use Rattle.rx_event.proofs.Laws.Places.{at-append, at_within, slice_get_last}
+use Rattle.rx_audit.proofs.Common.{◌≡◌, ◌≢◌, ℕ, zero, suc, ◌+◌, ◌-◌, ◌<◌, ◌≤◌, Bool, true, false, List, [], ◌∷◌, ◌++◌, length, replicate, Some, None, cond}
+use Rattle.rx_audit.proofs.Common.{refl, sym, ap, ◌∙◌, arith, inl, inr, ◌⊎◌, get_or, set, get_or-set_other, get_or-set_same, length-set, length-replicate, ◌&&◌}
+use Rattle.rx_audit.proofs.Common.{sum_by, sum_by-cons, option_map_or, cases_Bool, cases_order, both_ways, false≢true, and_parts, ne_eqb, none-some, Event}
+use Rattle.rx_audit.proofs.Common.{is_subscriber_of, hub_subscribed, at, is_open, open_subscribers, falling, at-append, at_within, slice_get_last, Subscribers}
+use Rattle.rx_audit.proofs.Common.{last_below, table_with, on_list, IsRow, number_of, AreLinked, AreOpenListed, hub_subscribed_at, and_false}
+use Rattle.rx_audit.proofs.Common.{false_from_ne_true, subscribed_event}
+use Rattle.std.proofs.lemmas.List.Sums.{sum_by_push}
+use Rattle.std.proofs.lemmas.Option.{slice_get_past}
 use Rattle.rx_event.proofs.Laws.Connections.{one_hub, sum_by-falling}
-use Rattle.rx_audit.specs.declared.subscribers.Subscribers.{Subscribers}
-use Rattle.rx_audit.specs.Latest.{last_below, table_with}
-use Rattle.rx_audit.specs.Listed.{on_list, IsRow, number_of, hub_if_last, listed_hub, AreLinked, AreOpenListed}
-use Rattle.rx_audit.specs.Rules.{hub_subscribed_at}
+use Rattle.rx_audit.specs.Listed.{hub_if_last, listed_hub}
 use Rattle.rx_audit.proofs.Latest.{last_le, last_holds, one_longer, length-table_with}
 use Rattle.rx_audit.proofs.ClosingBelow.{within_marks, cleared}
-use Rattle.rx_audit.proofs.TestsDecideRules.{not_true, same_subscribed, subscriber_at, at_subscriber}
+use Rattle.rx_audit.proofs.TestsDecideRules.{same_subscribed, subscriber_at, at_subscriber}
 use Rattle.rx_audit.proofs.Neighbours.{row_less, row_more, row_apart}
 
 -- a mark that was taken away is gone
 pub mark_gone : (ms : List Bool) (c : ℕ) → get_or (set ms c false) c false ≡ false
-mark_gone ms c = not_true _ (λ y. (cleared ms c c y).0 refl)
-
-and_no : (a : Bool) → (a && false) ≡ false
-and_no true = refl
-and_no false = refl
+mark_gone ms c = false_from_ne_true _ (λ y. (cleared ms c c y).0 refl)
 
 at_past : (q : Event → Bool) (h : List Event) (n : ℕ) → length h ≤ n → at q h n ≡ false
 at_past q h n l = ap (λ o. option_map_or q o false) (slice_get_past h n l)
@@ -74,7 +60,7 @@ module _ (h : List Event) (size : ℕ) (old new : Subscribers) (w : AreLinked h 
 
   on_gone : (g : ℕ) → on_list h new.listed.items g s ≡ false
   on_gone g = ap (λ b. at (is_subscriber_of g) h s && b) (ap (λ (ms : List Bool). get_or ms s false) is_listed ∙ mark_gone old.listed.items s)
-      ∙ and_no (at (is_subscriber_of g) h s)
+      ∙ and_false (at (is_subscriber_of g) h s)
 
   on_was : (g k : ℕ) → on_list h new.listed.items g k ≡ true → on_list h old.listed.items g k ≡ true
   on_was g k y = sym (on_other g k (λ same. both_ways _ (ap (on_list h new.listed.items g) same ∙ on_gone g) y)) ∙ y
@@ -104,7 +90,7 @@ rows_still {h} {size} {old} new s w none listed last before after = record {
   after_size = ap length after ∙ w.after_size;
 } where
   out : (g : ℕ) → on_list h old.listed.items g s ≡ false
-  out g = not_true _ (λ y.
+  out g = false_from_ne_true _ (λ y.
       let p : (at (is_subscriber_of g) h s ≡ true) × (get_or old.listed.items s false ≡ true) = and_parts _ _ y in
       let hub : listed_hub h old.listed.items s ≡ Some g = ap (λ b. cond b (hub_subscribed_at h s) None) p.1 ∙ at_subscriber h s g p.0 in
       none-some g (sym none ∙ hub))
@@ -181,7 +167,7 @@ rows_less {h} {size} {old} {new} g s w hub listed last before after = record {
   other : (j : ℕ) → j ≢ g → IsRow (on_list h new.listed.items j) (length h) (get_or new.last.items j 0) new.before.items new.after.items
   other j apart = rw (last_apart j apart)
       (row_apart new.before.items new.after.items
-      (on_same h size old new w s listed j (not_true _ (λ y. apart (on_one h old.listed.items g s s y here refl)))) (omega arith)
+      (on_same h size old new w s listed j (false_from_ne_true _ (λ y. apart (on_one h old.listed.items g s s y here refl)))) (omega arith)
       (on_within h old.listed.items j) (λ k y. before_apart j k apart y) (λ k y. after_apart j k apart y) (w.rows j))
 
   by_hub : (j : ℕ) → (j ≡ g) ⊎ ((j < g) ⊎ (g < j))
@@ -208,9 +194,6 @@ on_longer h e old new j out same k = by_order (cases_order k (length h)) where
       let last : at (is_subscriber_of j) (h ++ e ∷ []) k ≡ false = at_past (is_subscriber_of j) (h ++ e ∷ []) k (omega arith) in
       let past : at (is_subscriber_of j) h k ≡ false = at_past (is_subscriber_of j) h k (omega arith) in
       rw (last, past) refl
-
-pub subscribes_so : (e : Event) (g : ℕ) → hub_subscribed e ≡ Some g → is_subscriber_of g e ≡ true
-subscribes_so e g hub = sym (same_subscribed e g) ∙ rw hub (eq-eqb g g refl)
 
 pub subscribes_none : (e : Event) (g : ℕ) → hub_subscribed e ≡ None → is_subscriber_of g e ≡ false
 subscribes_none e g hub = sym (same_subscribed e g) ∙ rw hub refl
@@ -248,7 +231,7 @@ rows_more {h} e {size} {g} {old} {new} w room inside hub put = record {
   after_size = ap length put.after ∙ length-table_with (set old.after.items (length h) 0) _ _ ∙ length-set old.after.items (length h) 0 ∙ w.after_size;
 } where
   subscribes : is_subscriber_of g e ≡ true
-  subscribes = subscribes_so e g hub
+  subscribes = subscribed_event e g hub
 
   marks_same : (k : ℕ) → k < length h → get_or new.listed.items k false ≡ get_or old.listed.items k false
   marks_same k l = ap (λ (ms : List Bool). get_or ms k false) put.listed ∙ get_or-set_other old.listed.items (length h) k true false (omega arith)

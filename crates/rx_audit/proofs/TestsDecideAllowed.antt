@@ -1,37 +1,22 @@
 -- The tests that compute decide which events callers may add.
-use Rattle.std.proofs.Common.{◌≡◌, ℕ, ℤ, zero, suc, cond, count_by, get_or, ◌+◌, ◌<◌, ◌≤◌, Bool, true, false, List, [], ◌∷◌, ◌++◌, length, Option}
-use Rattle.std.proofs.Common.{Some, None, refl, sym, ap, ◌∙◌, arith, ◌==◌, slice_get, inl, inr, ◌⊎◌, nat_lt, nat_le, IsTrue}
-use Rattle.std.specs.Bool.{MatchBool}
-use Rattle.std.proofs.Math.Bool.{not, ◌&&◌, ◌||◌}
-use Rattle.std.specs.List.{list_any, list_all, range_with_len}
-use Rattle.std.proofs.lemmas.List.Sums.{sum_by-cons, length-filter}
-use Rattle.std.specs.Option.{option_map_or}
-use Rattle.std.proofs.lemmas.Bool.{and_parts, false≢true, ltb-true, lt-ltb, eqb-true, eq-eqb, leb-true, le-leb, lt-leb}
-use Rattle.rx_event.specs.Kept.{nothing_kept}
-use Rattle.rx_note.specs.declared.note.Terminal.{Terminal}
-use Rattle.rx_note.specs.declared.note.Terminal.TheVariants.{Completed, Error}
-use Rattle.rx_event.specs.declared.event.Place.{Place}
-use Rattle.rx_event.specs.declared.event.Place.TheVariants.{Root, Source, Inner, Notifier}
-use Rattle.rx_event.specs.declared.event.Kind.{Kind}
-use Rattle.rx_event.specs.declared.event.Kind.TheVariants.{Pass, Sub}
+use Rattle.rx_audit.proofs.Common.{◌≡◌, ℕ, ℤ, zero, suc, cond, count_by, get_or, ◌+◌, ◌<◌, ◌≤◌, Bool, true, false, List, [], ◌∷◌, ◌++◌, length, Option, Some}
+use Rattle.rx_audit.proofs.Common.{None, refl, sym, ap, ◌∙◌, arith, ◌==◌, slice_get, inl, inr, ◌⊎◌, nat_lt, nat_le, IsTrue, MatchBool, not, ◌&&◌, ◌||◌}
+use Rattle.rx_audit.proofs.Common.{list_any, list_all, range_with_len, sum_by-cons, option_map_or, and_parts, false≢true, ltb-true, lt-ltb, eqb-true, eq-eqb}
+use Rattle.rx_audit.proofs.Common.{leb-true, le-leb, nothing_kept, Terminal, Completed, Error, Place, Root, Source, Inner, Notifier, Kind, Pass, Sub, Event}
+use Rattle.rx_audit.proofs.Common.{Open, Connect, Accept, Lease, Return, Item, Decline, End, Close, makes_hub, is_merging, is_source_of, is_connect_of, at}
+use Rattle.rx_audit.proofs.Common.{places, hubs, is_open, open_nodes, ancestors, has_open_child, is_open_past, visits, most_visits, owed, IsConnectDue, IsFree}
+use Rattle.rx_audit.proofs.Common.{IsHubbed, IsAllowed, accepted, IsMarked, mark_count, hub_connected_at, has_key, open_connected, is_owing, connects_later}
+use Rattle.rx_audit.proofs.Common.{is_in_order_at, allowed_simply, item_allowed, open_allowed, and_from, or_left, or_right, or_cases, not-true, not_from_false}
+use Rattle.std.proofs.lemmas.List.Sums.{length-filter}
+use Rattle.std.proofs.lemmas.Bool.{lt-leb}
 use Rattle.rx_event.specs.declared.event.Mode.{Mode}
-use Rattle.rx_event.specs.declared.event.Event.{Event}
-use Rattle.rx_event.specs.declared.event.Event.TheVariants.{Open, Hub, Connect, Accept, Use, Remove, Lease, Return, Item, Decline, End, Close, Take}
-use Rattle.rx_event.specs.Events.{makes_hub, has_source, is_leaf, is_merging, is_until, is_root, is_manual_hub, is_source_of, is_notifier_of, is_connect_of}
-use Rattle.rx_event.specs.Tree.{at, places, hubs, is_open, open_nodes, ancestors, has_open_child}
-use Rattle.rx_event.proofs.Laws.Openness.{is_open_past}
-use Rattle.rx_event.specs.Climb.{visits, most_visits}
-use Rattle.rx_event.specs.Moments.{owed}
-use Rattle.rx_event.specs.Forced.{IsConnectDue}
-use Rattle.rx_event.specs.Allowed.{most_nodes, most_hubs, IsFree, IsInOrderAt, IsInOrder, IsHubbed, may_abort, IsAllowed, opened, published, connected}
-use Rattle.rx_event.specs.Allowed.{accepted, used, removed, leased, returned, emitted, declined, leaf_ended, aborted, projection_failed, root_closed}
-use Rattle.rx_event.specs.Allowed.{disconnected, taken}
-use Rattle.rx_audit.specs.Tables.{IsMarked, mark_count}
-use Rattle.rx_audit.specs.Rules.{hub_connected_at, has_key, open_connected, is_owing}
-use Rattle.rx_audit.specs.Allowing.{connects_later, is_in_order_at, is_in_order, is_hubbed, is_free, failure_allowed}
-use Rattle.rx_audit.specs.Allowing.{failing_allowed, end_allowed, close_allowed, connect_allowed, decline_allowed, allowed_simply, item_allowed, open_allowed}
-use Rattle.rx_audit.proofs.TestsDecideRules.{both, left, right, either, not_not, is_false, connection_at}
-use Rattle.rx_audit.proofs.TestsDecideRules.{at_connection, filter_none, none_filtered, connected_key}
+use Rattle.rx_event.specs.declared.event.Event.TheVariants.{Hub, Use, Remove, Take}
+use Rattle.rx_event.specs.Events.{has_source, is_leaf, is_until, is_root, is_manual_hub, is_notifier_of}
+use Rattle.rx_event.specs.Allowed.{most_nodes, most_hubs, IsInOrderAt, IsInOrder, may_abort, opened, published, connected, used, removed, leased, returned}
+use Rattle.rx_event.specs.Allowed.{emitted, declined, leaf_ended, aborted, projection_failed, root_closed, disconnected, taken}
+use Rattle.rx_audit.specs.Allowing.{is_in_order, is_hubbed, is_free, failure_allowed, failing_allowed, end_allowed, close_allowed, connect_allowed}
+use Rattle.rx_audit.specs.Allowing.{decline_allowed}
+use Rattle.rx_audit.proofs.TestsDecideRules.{connection_at, at_connection, filter_none, none_filtered, connected_key}
 use Rattle.rx_audit.proofs.Due.{child_closed, no_child_open}
 
 -- items ------------------------------------------------------------------------------------------------
@@ -60,7 +45,7 @@ item_may h l v e =
 pub item_may_of : (h : List Event) (l : ℕ) (v : ℤ) → IsAllowed nothing_kept h (Item l v) → item_allowed h l ≡ true
 unfolding item_allowed most_visits
 item_may_of h l v (emitted o m few) =
-    both (is_open h l && at is_leaf h l) (nat_le (visits h l) 1048576) (both (is_open h l) (at is_leaf h l) o m) (le-leb (visits h l) 1048576 few)
+    and_from (is_open h l && at is_leaf h l) (nat_le (visits h l) 1048576) (and_from (is_open h l) (at is_leaf h l) o m) (le-leb (visits h l) 1048576 few)
 
 -- what is owed -----------------------------------------------------------------------------------------
 
@@ -86,7 +71,7 @@ abort_at h n = by_event (slice_get h n) where
 
 end_may : (h : List Event) (n : ℕ) (t : Terminal) → end_allowed h n t ≡ true → IsAllowed nothing_kept h (End n t)
 unfolding end_allowed
-end_may h n t e = by_kind (either (at is_leaf h n) (failing_allowed h n t) w.1) where
+end_may h n t e = by_kind (or_cases (at is_leaf h n) (failing_allowed h n t) w.1) where
   w : (is_open h n ≡ true) × ((at is_leaf h n || failing_allowed h n t) ≡ true)
   w = and_parts (is_open h n) (at is_leaf h n || failing_allowed h n t) e
 
@@ -97,7 +82,7 @@ end_may h n t e = by_kind (either (at is_leaf h n) (failing_allowed h n t) w.1) 
 
   by_terminal : (t : Terminal) → failing_allowed h n t ≡ true → IsAllowed nothing_kept h (End n t)
   by_terminal Completed m = absurd (false≢true m)
-  by_terminal (Error c) m = by_cause c (either (at has_source h n && not (has_open_child h n)) (at is_merging h n && is_owing h n) m)
+  by_terminal (Error c) m = by_cause c (or_cases (at has_source h n && not (has_open_child h n)) (at is_merging h n && is_owing h n) m)
 
   by_kind : (at is_leaf h n ≡ true) ⊎ (failing_allowed h n t ≡ true) → IsAllowed nothing_kept h (End n t)
   by_kind (inl m) = leaf_ended w.0 m
@@ -105,21 +90,21 @@ end_may h n t e = by_kind (either (at is_leaf h n) (failing_allowed h n t) w.1) 
 
 failing : (h : List Event) (n c : ℕ) → is_open h n ≡ true → failure_allowed h n ≡ true → end_allowed h n (Error c) ≡ true
 unfolding end_allowed
-failing h n c o e = both (is_open h n) (at is_leaf h n || failing_allowed h n (Error c)) o (right (at is_leaf h n) (failure_allowed h n) e)
+failing h n c o e = and_from (is_open h n) (at is_leaf h n || failing_allowed h n (Error c)) o (or_right (at is_leaf h n) (failure_allowed h n) e)
 
 end_may_of : (h : List Event) (n : ℕ) (t : Terminal) → IsAllowed nothing_kept h (End n t) → end_allowed h n t ≡ true
 unfolding end_allowed
-end_may_of h n t (leaf_ended o m) = both (is_open h n) (at is_leaf h n || failing_allowed h n t) o (left (at is_leaf h n) (failing_allowed h n t) m)
+end_may_of h n t (leaf_ended o m) = and_from (is_open h n) (at is_leaf h n || failing_allowed h n t) o (or_left (at is_leaf h n) (failing_allowed h n t) m)
 end_may_of h n (Error c) (aborted o m closed) =
-    failing h n c o (left (at has_source h n && not (has_open_child h n)) (at is_merging h n && is_owing h n)
-    (both (at has_source h n) (not (has_open_child h n)) (abort_at h n ∙ m) (no_child_open h n closed)))
+    failing h n c o (or_left (at has_source h n && not (has_open_child h n)) (at is_merging h n && is_owing h n)
+    (and_from (at has_source h n) (not (has_open_child h n)) (abort_at h n ∙ m) (no_child_open h n closed)))
 end_may_of h n (Error c) (projection_failed o m w) =
-    failing h n c o (right (at has_source h n && not (has_open_child h n))
-    (at is_merging h n && is_owing h n) (both (at is_merging h n) (is_owing h n) m (is_owed h n w)))
+    failing h n c o (or_right (at has_source h n && not (has_open_child h n))
+    (at is_merging h n && is_owing h n) (and_from (at is_merging h n) (is_owing h n) m (is_owed h n w)))
 
 close_may : (h : List Event) (n : ℕ) → close_allowed h n ≡ true → IsAllowed nothing_kept h (Close n)
 unfolding close_allowed
-close_may h n e = by_kind (either (at is_root h n) (option_map_or (at is_manual_hub h) (hub_connected_at h n) false) w.1) where
+close_may h n e = by_kind (or_cases (at is_root h n) (option_map_or (at is_manual_hub h) (hub_connected_at h n) false) w.1) where
   w : (is_open h n ≡ true) × ((at is_root h n || option_map_or (at is_manual_hub h) (hub_connected_at h n) false) ≡ true)
   w = and_parts (is_open h n) (at is_root h n || option_map_or (at is_manual_hub h) (hub_connected_at h n) false) e
 
@@ -134,11 +119,11 @@ close_may h n e = by_kind (either (at is_root h n) (option_map_or (at is_manual_
 close_may_of : (h : List Event) (n : ℕ) → IsAllowed nothing_kept h (Close n) → close_allowed h n ≡ true
 unfolding close_allowed
 close_may_of h n (root_closed o m) =
-    both (is_open h n) (at is_root h n || option_map_or (at is_manual_hub h) (hub_connected_at h n) false) o
-    (left (at is_root h n) (option_map_or (at is_manual_hub h) (hub_connected_at h n) false) m)
+    and_from (is_open h n) (at is_root h n || option_map_or (at is_manual_hub h) (hub_connected_at h n) false) o
+    (or_left (at is_root h n) (option_map_or (at is_manual_hub h) (hub_connected_at h n) false) m)
 close_may_of h n (disconnected {g = g} o at_n m) =
-    both (is_open h n) (at is_root h n || option_map_or (at is_manual_hub h) (hub_connected_at h n) false) o
-    (right (at is_root h n) (option_map_or (at is_manual_hub h) (hub_connected_at h n) false)
+    and_from (is_open h n) (at is_root h n || option_map_or (at is_manual_hub h) (hub_connected_at h n) false) o
+    (or_right (at is_root h n) (option_map_or (at is_manual_hub h) (hub_connected_at h n) false)
     (ap (λ o. option_map_or (at is_manual_hub h) o false) (at_connection h n g at_n) ∙ m))
 
 connect_may : (h : List Event) (g : ℕ) → connect_allowed h g ≡ true → IsAllowed nothing_kept h (Connect g)
@@ -147,14 +132,14 @@ connect_may h g e =
     let a = and_parts (at is_manual_hub h g && not (has_key (open_connected h) h g)) (nat_lt (length (open_nodes h)) 1048576) e in
     let b = and_parts (at is_manual_hub h g) (not (has_key (open_connected h) h g)) a.0 in
     connected b.0 (filter_none (λ n. at (is_connect_of g) h n && is_open h n) (places h)
-    (sym (connected_key h g) ∙ not_not (has_key (open_connected h) h g) b.1)) (ltb-true (length (open_nodes h)) 1048576 a.1)
+    (sym (connected_key h g) ∙ not-true (has_key (open_connected h) h g) b.1)) (ltb-true (length (open_nodes h)) 1048576 a.1)
 
 connect_may_of : (h : List Event) (g : ℕ) → IsAllowed nothing_kept h (Connect g) → connect_allowed h g ≡ true
 unfolding connect_allowed most_nodes
 connect_may_of h g (connected m none few) =
-    both (at is_manual_hub h g && not (has_key (open_connected h) h g)) (nat_lt (length (open_nodes h)) 1048576)
-    (both (at is_manual_hub h g) (not (has_key (open_connected h) h g)) m
-    (is_false (has_key (open_connected h) h g) (connected_key h g ∙ none_filtered (λ n. at (is_connect_of g) h n && is_open h n) (places h) none)))
+    and_from (at is_manual_hub h g && not (has_key (open_connected h) h g)) (nat_lt (length (open_nodes h)) 1048576)
+    (and_from (at is_manual_hub h g) (not (has_key (open_connected h) h g)) m
+    (not_from_false (has_key (open_connected h) h g) (connected_key h g ∙ none_filtered (λ n. at (is_connect_of g) h n && is_open h n) (places h) none)))
     (lt-ltb (length (open_nodes h)) 1048576 few)
 
 decline_may : (h : List Event) (f : ℕ) → decline_allowed h f ≡ true → IsAllowed nothing_kept h (Decline f)
@@ -164,7 +149,7 @@ decline_may h f e = let a = and_parts (is_open h f && at is_merging h f) (is_owi
 
 decline_may_of : (h : List Event) (f : ℕ) → IsAllowed nothing_kept h (Decline f) → decline_allowed h f ≡ true
 unfolding decline_allowed
-decline_may_of h f (declined o m w) = both (is_open h f && at is_merging h f) (is_owing h f) (both (is_open h f) (at is_merging h f) o m) (is_owed h f w)
+decline_may_of h f (declined o m w) = and_from (is_open h f && at is_merging h f) (is_owing h f) (and_from _ _ o m) (is_owed h f w)
 
 hub_may : (h : List Event) (mode : Mode) → nat_lt (length (hubs h)) 1024 ≡ true → IsAllowed nothing_kept h (Hub mode)
 unfolding most_hubs
@@ -208,7 +193,7 @@ simply_may_of h (Item l v) no_open no_item a = absurd (no_item l v refl)
 
 all_at : (q : ℕ → Bool) (xs : List ℕ) (a : ℕ) → list_all q xs ≡ true → list_any (λ x. a == x) xs ≡ true → q a ≡ true
 all_at q [] a all any = absurd (false≢true any)
-all_at q (x ∷ xs) a all any = by_first (all_at q xs a w.1) (either (a == x) (list_any (λ x. a == x) xs) any) where
+all_at q (x ∷ xs) a all any = by_first (all_at q xs a w.1) (or_cases (a == x) (list_any (λ x. a == x) xs) any) where
   w : (q x ≡ true) × (list_all q xs ≡ true)
   w = and_parts (q x) (list_all q xs) all
 
@@ -219,8 +204,8 @@ all_at q (x ∷ xs) a all any = by_first (all_at q xs a w.1) (either (a == x) (l
 all_of : (q : ℕ → Bool) (xs : List ℕ) → ((a : ℕ) → list_any (λ x. a == x) xs ≡ true → q a ≡ true) → list_all q xs ≡ true
 all_of q [] each = refl
 all_of q (x ∷ xs) each =
-    both (q x) (list_all q xs) (each x (left (x == x) (list_any (λ y. x == y) xs) (eq-eqb x x refl)))
-    (all_of q xs (λ a m. each a (right (a == x) (list_any (λ y. a == y) xs) m)))
+    and_from (q x) (list_all q xs) (each x (or_left (x == x) (list_any (λ y. x == y) xs) (eq-eqb x x refl)))
+    (all_of q xs (λ a m. each a (or_right (a == x) (list_any (λ y. a == y) xs) m)))
 
 in_order_at : (h : List Event) (g p : ℕ) → is_in_order_at h g p ≡ true → IsInOrderAt h g p
 unfolding is_in_order_at
@@ -252,27 +237,27 @@ hubbed h place (Sub g) e = let w = and_parts (at makes_hub h g) (is_in_order h g
 hubbed h place _ e = tt
 
 hubbed_of : (h : List Event) (place : Place) (kind : Kind) → IsHubbed h place kind → is_hubbed h place kind ≡ true
-hubbed_of h place (Sub g) o = both (at makes_hub h g) (is_in_order h g place) o.0 (in_order_of h g place o.1)
+hubbed_of h place (Sub g) o = and_from (at makes_hub h g) (is_in_order h g place) o.0 (in_order_of h g place o.1)
 hubbed_of h place _ o = refl
 
 free : (h : List Event) (place : Place) → is_free h place ≡ true → IsFree nothing_kept h place
 free h Root e = tt
 free h (Source p) e = let a = and_parts (is_open h p && at has_source h p) (not (list_any (is_source_of p) h)) e in
-    let b = and_parts (is_open h p) (at has_source h p) a.0 in (b.0, b.1, not_not (list_any (is_source_of p) h) a.1)
+    let b = and_parts (is_open h p) (at has_source h p) a.0 in (b.0, b.1, not-true (list_any (is_source_of p) h) a.1)
 free h (Inner p) e = let a = and_parts (is_open h p && at is_merging h p) (is_owing h p) e in
     let b = and_parts (is_open h p) (at is_merging h p) a.0 in (b.0, b.1, owes h p a.1)
 free h (Notifier p) e = let a = and_parts (is_open h p && at is_until h p) (not (list_any (is_notifier_of p) h)) e in
-    let b = and_parts (is_open h p) (at is_until h p) a.0 in (b.0, b.1, not_not (list_any (is_notifier_of p) h) a.1)
+    let b = and_parts (is_open h p) (at is_until h p) a.0 in (b.0, b.1, not-true (list_any (is_notifier_of p) h) a.1)
 
 free_of : (h : List Event) (place : Place) → IsFree nothing_kept h place → is_free h place ≡ true
 free_of h Root o = refl
 free_of h (Source p) o =
-    both (is_open h p && at has_source h p) (not (list_any (is_source_of p) h))
-    (both (is_open h p) (at has_source h p) o.0 o.1) (is_false (list_any (is_source_of p) h) o.2)
-free_of h (Inner p) o = both (is_open h p && at is_merging h p) (is_owing h p) (both (is_open h p) (at is_merging h p) o.0 o.1) (is_owed h p o.2)
+    and_from (is_open h p && at has_source h p) (not (list_any (is_source_of p) h))
+    (and_from (is_open h p) (at has_source h p) o.0 o.1) (not_from_false (list_any (is_source_of p) h) o.2)
+free_of h (Inner p) o = and_from (is_open h p && at is_merging h p) (is_owing h p) (and_from (is_open h p) (at is_merging h p) o.0 o.1) (is_owed h p o.2)
 free_of h (Notifier p) o =
-    both (is_open h p && at is_until h p) (not (list_any (is_notifier_of p) h))
-    (both (is_open h p) (at is_until h p) o.0 o.1) (is_false (list_any (is_notifier_of p) h) o.2)
+    and_from (is_open h p && at is_until h p) (not (list_any (is_notifier_of p) h))
+    (and_from (is_open h p) (at is_until h p) o.0 o.1) (not_from_false (list_any (is_notifier_of p) h) o.2)
 
 pub open_may : (h : List Event) (place : Place) (kind : Kind) → open_allowed h place kind ≡ true
     → ((g : ℕ) → IsConnectDue (h ++ Open place kind ∷ []) g → length (open_nodes h) + 2 ≤ 1048576) → IsAllowed nothing_kept h (Open place kind)
@@ -286,8 +271,8 @@ open_may h place kind e fits =
 pub open_may_of : (h : List Event) (place : Place) (kind : Kind) → IsAllowed nothing_kept h (Open place kind) → open_allowed h place kind ≡ true
 unfolding open_allowed most_nodes
 open_may_of h place kind (opened f o few fits) =
-    both (is_free h place && is_hubbed h place kind) (nat_lt (length (open_nodes h)) 1048576)
-    (both (is_free h place) (is_hubbed h place kind) (free_of h place f) (hubbed_of h place kind o)) (lt-ltb (length (open_nodes h)) 1048576 (omega arith))
+    and_from (is_free h place && is_hubbed h place kind) (nat_lt (length (open_nodes h)) 1048576)
+    (and_from (is_free h place) (is_hubbed h place kind) (free_of h place f) (hubbed_of h place kind o)) (lt-ltb (length (open_nodes h)) 1048576 (omega arith))
 
 pub open_fits : (h : List Event) (place : Place) (kind : Kind) → IsAllowed nothing_kept h (Open place kind)
     → (g : ℕ) → IsConnectDue (h ++ Open place kind ∷ []) g → length (open_nodes h) + 2 ≤ 1048576

@@ -1,56 +1,15 @@
 -- The tests that compute decide the rules: ends, sources and connections.
-use Rattle.std.proofs.Common.{◌≡◌, ℕ, zero, suc, ◌+◌, ◌<◌, ◌≤◌, Bool, true, false, List, []}
-use Rattle.std.proofs.Common.{◌∷◌, Option, Some, None, refl, sym, ap, ◌∙◌, arith, cond, drop, slice_get, inl, inr, ◌⊎◌}
-use Rattle.std.proofs.Math.Bool.{not, ◌&&◌, ◌||◌}
-use Rattle.std.specs.List.{list_any, range_with_len, filter}
-use Rattle.std.specs.Option.{option_map_or, option_and_then}
-use Rattle.std.proofs.lemmas.Bool.{cases_Bool, or_parts, eqb-true, eq-eqb, false≢true}
-use Rattle.std.proofs.lemmas.Option.{same_Some, none-some, option_and_then_some}
+use Rattle.rx_audit.proofs.Common.{◌≡◌, ℕ, zero, suc, ◌+◌, ◌<◌, ◌≤◌, Bool, true, false, List, [], ◌∷◌, Option, Some, None, refl, sym, ap, ◌∙◌, arith, cond}
+use Rattle.rx_audit.proofs.Common.{drop, slice_get, inl, inr, ◌⊎◌, ◌&&◌, ◌||◌, list_any, range_with_len, filter, option_map_or, option_and_then, cases_Bool}
+use Rattle.rx_audit.proofs.Common.{eqb-true, eq-eqb, false≢true, none-some, option_and_then_some, Terminal, Completed, Error, Sub, Event, Open, Connect, End}
+use Rattle.rx_audit.proofs.Common.{is_subscriber_of, is_connect_of, hub_subscribed, hub_connected, at, places, is_open, SourceEnded, same_terminal, is_key}
+use Rattle.rx_audit.proofs.Common.{hub_subscribed_at, hub_connected_at, joins, ends_source, is_cut, open_subscribed, open_connected, has_key, subscribed_event}
+use Rattle.rx_audit.proofs.Common.{connected_event, list_any-same, and_true, and_false}
+use Rattle.std.proofs.lemmas.Bool.{or_parts}
 use Rattle.std.proofs.lemmas.Map.Keys.{any_passes_from_place}
-use Rattle.rx_note.specs.declared.note.Terminal.{Terminal}
-use Rattle.rx_note.specs.declared.note.Terminal.TheVariants.{Completed, Error}
-use Rattle.rx_event.specs.declared.event.Kind.TheVariants.{Sub}
-use Rattle.rx_event.specs.declared.event.Event.{Event}
-use Rattle.rx_event.specs.declared.event.Event.TheVariants.{Open, Connect, End}
-use Rattle.rx_event.specs.Events.{is_subscriber_of, is_connect_of, hub_subscribed, hub_connected}
-use Rattle.rx_event.specs.Tree.{at, places, is_open}
-use Rattle.rx_event.specs.Forced.{SourceEnded}
-use Rattle.rx_event.specs.Sames.{same_terminal}
-use Rattle.rx_audit.specs.Rules.{is_key, hub_subscribed_at, hub_connected_at, joins, ends_source, is_cut, open_subscribed, open_connected, has_key}
+use Rattle.rx_audit.proofs.Latest.{is_key_of}
 
 -- tests ----------------------------------------------------------------------------------------------
-
-pub both : (a b : Bool) → a ≡ true → b ≡ true → (a && b) ≡ true
-both a b e f = rw (e, f) refl
-
-pub left : (a b : Bool) → a ≡ true → (a || b) ≡ true
-left a b e = rw e refl
-
-pub right : (a b : Bool) → b ≡ true → (a || b) ≡ true
-right true b e = refl
-right false b e = e
-
-pub either : (a b : Bool) → (a || b) ≡ true → (a ≡ true) ⊎ (b ≡ true)
-either true b e = inl refl
-either false b e = inr e
-
-pub not_not : (b : Bool) → not b ≡ true → b ≡ false
-not_not false e = refl
-not_not true e = absurd (false≢true e)
-
-pub is_false : (b : Bool) → b ≡ false → not b ≡ true
-is_false b e = rw e refl
-
-pub not_true : (b : Bool) → (b ≡ true → ⊥) → b ≡ false
-not_true true n = absurd (n refl)
-not_true false n = refl
-
-pub key_is : (o : Option ℕ) (n : ℕ) → is_key o n ≡ true → o ≡ Some n
-key_is None n e = absurd (false≢true e)
-key_is (Some r) n e = ap (λ k. Some k) (eqb-true r n e)
-
-pub is_key_of : (o : Option ℕ) (n : ℕ) → o ≡ Some n → is_key o n ≡ true
-is_key_of o n e = rw e (eq-eqb n n refl)
 
 pub terminal_is : (u t : Terminal) → same_terminal u t ≡ true → u ≡ t
 terminal_is Completed Completed e = refl
@@ -109,17 +68,9 @@ find_number q n e = let f = find_from q 0 n e in record { number = f.number; wit
 
 -- ends -----------------------------------------------------------------------------------------------
 
-subscribed_is : (e : Event) (g : ℕ) → hub_subscribed e ≡ Some g → is_subscriber_of g e ≡ true
-subscribed_is (Open place (Sub k)) g s = eq-eqb k g (same_Some k g s)
-subscribed_is _ g s = cc
-
 is_subscribed : (e : Event) (g : ℕ) → is_subscriber_of g e ≡ true → hub_subscribed e ≡ Some g
 is_subscribed (Open place (Sub k)) g s = ap (λ n. Some n) (eqb-true k g s)
 is_subscribed _ g s = absurd (false≢true s)
-
-connected_is : (e : Event) (g : ℕ) → hub_connected e ≡ Some g → e ≡ Connect g
-connected_is (Connect k) g s = ap (λ n. Connect n) (same_Some k g s)
-connected_is _ g s = cc
 
 same_connected : (e : Event) (g : ℕ) → is_key (hub_connected e) g ≡ is_connect_of g e
 same_connected (Open place kind) g = refl
@@ -131,7 +82,7 @@ same_subscribed _ g = refl
 
 pub subscriber_at : (h : List Event) (s g : ℕ) → hub_subscribed_at h s ≡ Some g → at (is_subscriber_of g) h s ≡ true
 subscriber_at h s g e =
-    option_and_then_some hub_subscribed (slice_get h s) g e (λ x a b. ap (λ o. option_map_or (is_subscriber_of g) o false) a ∙ subscribed_is x g b)
+    option_and_then_some hub_subscribed (slice_get h s) g e (λ x a b. ap (λ o. option_map_or (is_subscriber_of g) o false) a ∙ subscribed_event x g b)
 
 pub at_subscriber : (h : List Event) (s g : ℕ) → at (is_subscriber_of g) h s ≡ true → hub_subscribed_at h s ≡ Some g
 at_subscriber h s g e = by_event (slice_get h s) e where
@@ -140,7 +91,7 @@ at_subscriber h s g e = by_event (slice_get h s) e where
   by_event (Some x) e = is_subscribed x g e
 
 pub connection_at : (h : List Event) (c g : ℕ) → hub_connected_at h c ≡ Some g → slice_get h c ≡ Some (Connect g)
-connection_at h c g e = option_and_then_some hub_connected (slice_get h c) g e (λ x a b. a ∙ ap (λ y. Some y) (connected_is x g b))
+connection_at h c g e = option_and_then_some hub_connected (slice_get h c) g e (λ x a b. a ∙ ap (λ y. Some y) (connected_event x g b))
 
 pub at_connection : (h : List Event) (c g : ℕ) → slice_get h c ≡ Some (Connect g) → hub_connected_at h c ≡ Some g
 at_connection h c g e = ap (option_and_then hub_connected) e
@@ -149,7 +100,7 @@ at_connection h c g e = ap (option_and_then hub_connected) e
 
 joined : (o p : Option ℕ) → joins o p ≡ true → (g : ℕ) × ((o ≡ Some g) × (p ≡ Some g))
 joined None p e = absurd (false≢true e)
-joined (Some g) p e = (g, (refl, key_is p g e))
+joined (Some g) p e = (g, (refl, is_key_of p g e))
 
 joins_of : (o p : Option ℕ) (g : ℕ) → o ≡ Some g → p ≡ Some g → joins o p ≡ true
 joins_of o p g e f = rw (e, f) (eq-eqb g g refl)
@@ -200,18 +151,6 @@ none_filtered q (x ∷ xs) e = by_first (none_filtered q xs) (cases_Bool (q x)) 
   by_first : (filter q xs ≡ [] → list_any q xs ≡ false) → (q x ≡ true) ⊎ (q x ≡ false) → (q x || list_any q xs) ≡ false
   by_first rest (inl y) = absurd (no_cons x (filter q xs) (rw y at e))
   by_first rest (inr n) = rw n (rest (rw n at e))
-
-list_any-same : {X : Type 0} (p q : X → Bool) → ((x : X) → p x ≡ q x) → (xs : List X) → list_any p xs ≡ list_any q xs
-list_any-same p q same [] = refl
-list_any-same p q same (x ∷ xs) = rw (same x, list_any-same p q same xs) refl
-
-and_true : (b : Bool) → (b && true) ≡ b
-and_true true = refl
-and_true false = refl
-
-and_false : (b : Bool) → (b && false) ≡ false
-and_false true = refl
-and_false false = refl
 
 pub guarded : (key : Event → Option ℕ) (test : ℕ → Event → Bool) (g : ℕ) → ((e : Event) → is_key (key e) g ≡ test g e)
     → (b : Bool) (o : Option Event) → is_key (cond b (option_and_then key o) None) g ≡ (option_map_or (test g) o false && b)

@@ -1,32 +1,15 @@
 -- From the tests to the verdict.
-use Rattle.std.proofs.Common.{◌≡◌, ℕ, ℤ, zero, suc, ◌+◌, ◌<◌, ◌≤◌, Bool, true, false, List, [], ◌∷◌, ◌++◌, length, take, Option, Some, None, refl, sym, ap}
-use Rattle.std.proofs.Common.{subst, ◌∙◌, arith, ◌==◌, slice_get, get_or, IsTrue, ◌↔◌, length-append, drop, take-append-drop}
-use Rattle.std.proofs.Math.Bool.{◌&&◌}
-use Rattle.std.specs.Option.{option_map_or}
-use Rattle.std.proofs.lemmas.Bool.{and_parts, both_ways, false≢true, eqb-true, eq-eqb}
-use Rattle.rx_event.specs.Kept.{nothing_kept}
-use Rattle.rx_event.specs.declared.event.Place.{Place}
-use Rattle.rx_event.specs.declared.event.Kind.{Kind}
-use Rattle.rx_event.specs.declared.event.Kind.TheVariants.{Pass}
-use Rattle.rx_event.specs.declared.event.Event.{Event}
-use Rattle.rx_event.specs.declared.event.Event.TheVariants.{Open, Accept, Item}
-use Rattle.rx_event.specs.Tree.{at, is_open}
-use Rattle.rx_event.specs.Forced.{IsForced, IsSettled, due}
-use Rattle.rx_event.specs.Allowed.{IsAllowed, accepted}
-use Rattle.rx_event.specs.Lawful.{IsLawful, MayFollow, forced, allowed, opened_with as accepted_with}
+use Rattle.rx_audit.proofs.Common.{◌≡◌, ℕ, ℤ, zero, suc, ◌+◌, ◌<◌, ◌≤◌, Bool, true, false, List, [], ◌∷◌, ◌++◌, length, take, Option, Some, None, refl, sym, ap}
+use Rattle.rx_audit.proofs.Common.{subst, ◌∙◌, arith, ◌==◌, slice_get, get_or, IsTrue, ◌↔◌, length-append, drop, take-append-drop, ◌&&◌, option_map_or}
+use Rattle.rx_audit.proofs.Common.{and_parts, both_ways, false≢true, eqb-true, eq-eqb, nothing_kept, Place, Kind, Pass, Event, Open, Accept, Item, at, is_open}
+use Rattle.rx_audit.proofs.Common.{IsForced, IsSettled, due, IsAllowed, accepted, IsLawful, MayFollow, none-some, same_Some, Nodes, IsFollowed, IsKnown}
+use Rattle.rx_audit.proofs.Common.{IsFound, IsClimbed, IsReached, leaf_of, Visit, allowed_simply, item_allowed, open_allowed, leaves_room, and_from}
+use Rattle.rx_event.specs.Lawful.{forced, allowed, opened_with as accepted_with}
 use Rattle.rx_event.proofs.Laws.Lawful.{IsLawful-push}
 use Rattle.std.proofs.lemmas.List.{take_more}
-use Rattle.std.proofs.lemmas.Option.{none-some, same_Some}
 use Rattle.rx_audit.specs.declared.found.Found.{Found}
-use Rattle.rx_audit.specs.declared.advance.Nodes.{Nodes}
-use Rattle.rx_audit.specs.Standing.{IsFollowed, IsKnown}
-use Rattle.rx_audit.specs.Found.{IsFound, IsClimbed}
-use Rattle.rx_audit.specs.Flow.{IsReached}
-use Rattle.rx_audit.specs.Marking.{leaf_of}
-use Rattle.rx_audit.specs.declared.reach.Visit.{Visit}
 use Rattle.rx_audit.specs.Verdict.{IsFoundUnlawful}
-use Rattle.rx_audit.specs.Allowing.{opens_pass, opened_with, allowed_simply, item_allowed, open_allowed, leaves_room}
-use Rattle.rx_audit.proofs.TestsDecideRules.{both}
+use Rattle.rx_audit.specs.Allowing.{opens_pass, opened_with}
 use Rattle.rx_audit.proofs.ConnectRoom.{room_fits, fits_room}
 use Rattle.rx_audit.proofs.TestsDecideAllowed.{open_may, open_may_of, open_fits, item_may, item_may_of, simply_may, simply_may_of}
 
@@ -46,7 +29,7 @@ open_test {h} e place kind b is_e law settled is = rw is_e (to, back) where
   back : IsAllowed nothing_kept h (Open place kind) → b ≡ true
   back a =
       let may = open_may_of h place kind a in
-      is ∙ ap (λ x. open_allowed h place kind && leaves_room h x) is_e ∙ both (open_allowed h place kind) (leaves_room h (Open place kind)) may
+      is ∙ ap (λ x. open_allowed h place kind && leaves_room h x) is_e ∙ and_from (open_allowed h place kind) (leaves_room h (Open place kind)) may
       (fits_room h place kind law settled may (open_fits h place kind a))
 
 -- items and the rest -------------------------------------------------------------------------------------
@@ -82,8 +65,8 @@ opened_first h _ e = absurd (false≢true e)
 first_opened : (h : List Event) (n : ℕ) (place : Place) → slice_get h n ≡ Some (Open place Pass)
     → length h ≡ n + 1 → is_open h n ≡ true → (at opens_pass h n && (length h == n + 1) && is_open h n) ≡ true
 first_opened h n place at_n len o =
-    both (at opens_pass h n && (length h == n + 1)) (is_open h n)
-    (both (at opens_pass h n) (length h == n + 1) (ap (λ o. option_map_or opens_pass o false) at_n) (eq-eqb (length h) (n + 1) len)) o
+    and_from (at opens_pass h n && (length h == n + 1)) (is_open h n)
+    (and_from (at opens_pass h n) (length h == n + 1) (ap (λ o. option_map_or opens_pass o false) at_n) (eq-eqb (length h) (n + 1) len)) o
 
 -- where they have nothing left to do, just what callers may do may follow
 pub settled_answer : (h : List Event) (e : Event) (b : Bool) → IsSettled nothing_kept h → (IsTrue b) ↔ IsAllowed nothing_kept h e

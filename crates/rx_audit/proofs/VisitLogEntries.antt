@@ -1,12 +1,7 @@
 -- The log of visits, entry by entry.
-use Rattle.std.proofs.Common.{◌≡◌, ℕ, zero, suc, ◌+◌, ◌*◌, ◌<◌, ◌≤◌, List, [], ◌∷◌, ◌++◌}
-use Rattle.std.proofs.Common.{length, take, drop, set, get_or, Some, slice_get, refl, sym, ap, arith, length-take-le}
-use Rattle.std.specs.List.{sum_by}
-use Rattle.std.proofs.Math.Nat.{mul-le-mul_left}
-use Rattle.std.proofs.lemmas.Option.{same_Some, none-some}
-use Rattle.std.proofs.lemmas.List.Sums.{sum_by-cons, sum_by_more}
-use Rattle.rx_audit.specs.declared.reach.Visit.{Visit}
-use Rattle.rx_audit.specs.Flow.{times, IsOften}
+use Rattle.rx_audit.proofs.Common.{◌≡◌, ℕ, zero, suc, ◌+◌, ◌*◌, ◌<◌, ◌≤◌, List, [], ◌∷◌, ◌++◌, length, take, drop, set, get_or, Some, slice_get, refl, sym, ap}
+use Rattle.rx_audit.proofs.Common.{arith, sum_by, mul-le-mul_left, same_Some, none-some, sum_by-cons, sum_by_more, Visit, times, IsOften}
+use Rattle.std.proofs.Common.{length-take-le}
 
 -- an entry with so many more
 pub entry_more : (log : List Visit) (k at more : ℕ) (v : Visit) → k ≤ at → slice_get log at ≡ Some v → (number : ℕ → ℕ)
@@ -57,7 +52,7 @@ pub times_more : (count : ℕ) (nodes : List ℕ) (i d : ℕ) (number : ℕ → 
     → count * sum_by number (take (i + 1) nodes) ≡ count * sum_by number (take i nodes) + count * number (get_or nodes i d)
 times_more count nodes i d number l = let s = sum_by_more number nodes i d l in rw s (omega arith)
 
-count_all : (xs : List ℕ) → sum_by (λ n. 1) xs ≡ length xs
+pub count_all : (xs : List ℕ) → sum_by (λ n. 1) xs ≡ length xs
 count_all [] = refl
 count_all (x ∷ xs) = let s = sum_by-cons (λ n. 1) x xs in let r = count_all xs in omega arith
 

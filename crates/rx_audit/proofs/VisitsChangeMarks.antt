@@ -1,33 +1,13 @@
 -- What the visits of an item do to the marks of nodes.
-use Rattle.std.proofs.Common.{◌≡◌, ℕ, zero, suc, ◌+◌, ◌<◌, Bool, true, false, List, [], ◌∷◌, ◌++◌, length, take, Option, Some, None}
-use Rattle.std.proofs.Common.{refl, sym, ap, ◌∙◌, arith, inl, inr, ◌⊎◌, ◌==◌, ◌≢◌, get_or, get_or-set_other, get_or-set_same, cond, add-zero}
-use Rattle.std.proofs.Math.Bool.{◌||◌}
-use Rattle.std.proofs.Math.ListN.{length-set}
-use Rattle.std.proofs.lemmas.Bool.{cases_order, false≢true, eq-eqb, eqb-true, ne_eqb, or_cases}
-use Rattle.std.specs.List.{list_any, sum_by}
+use Rattle.rx_audit.proofs.Common.{◌≡◌, ℕ, zero, ◌+◌, ◌<◌, Bool, true, false, List, [], ◌∷◌, ◌++◌, length, take, Option, Some, None, refl, sym, ap, ◌∙◌, arith}
+use Rattle.rx_audit.proofs.Common.{inl, inr, ◌⊎◌, ◌==◌, ◌≢◌, get_or, get_or-set_other, get_or-set_same, cond, add-zero, ◌||◌, length-set, cases_order}
+use Rattle.rx_audit.proofs.Common.{false≢true, eq-eqb, eqb-true, ne_eqb, or_cases, list_any, sum_by, sum_by_more, Event, Marks, blank_marks, Visit, is_key}
+use Rattle.rx_audit.proofs.Common.{IsNoted, fired_key, projected_key, visited_marks, IsVisited, or_false, or_true}
 use Rattle.std.proofs.lemmas.List.Folds.{list_any_more}
-use Rattle.std.proofs.lemmas.List.Sums.{sum_by_more}
-use Rattle.rx_event.specs.declared.event.Event.{Event}
-use Rattle.rx_event.specs.declared.marks.Marks.{Marks}
-use Rattle.rx_event.specs.Marks.{blank_marks}
-use Rattle.rx_audit.specs.declared.reach.Visit.{Visit}
-use Rattle.rx_audit.specs.Rules.{is_key}
-use Rattle.rx_audit.specs.Latest.{IsNoted}
-use Rattle.rx_audit.specs.Marking.{fired_key, projected_key, fired_marks, owing, owed_marks, noted_with, visited_marks, IsVisited}
+use Rattle.rx_audit.specs.Marking.{fired_marks, owing, owed_marks, noted_with}
 use Rattle.rx_audit.proofs.ClosingBelow.{noted_more, noted_last}
 use Rattle.rx_audit.proofs.Latest.{is_key_of}
-
-or_false : (b : Bool) → (b || false) ≡ b
-or_false true = refl
-or_false false = refl
-
-or_true : (b : Bool) → (b || true) ≡ true
-or_true true = refl
-or_true false = refl
-
-or_assoc : (a b c : Bool) → ((a || b) || c) ≡ (a || (b || c))
-or_assoc true b c = refl
-or_assoc false b c = refl
+use Rattle.rx_event.proofs.Laws.Common.{or_assoc}
 
 -- marks with these two fields
 abbrev pub with_two : Marks → Bool → ℕ → Marks
@@ -164,10 +144,5 @@ visited_more {h} log i v {old} {ms} before todo l e w = record {
       ∙ ap (λ (x : Marks). with_two x x.fired (x.owed + cond (is_key (projected_key h v.node) n) v.count 0)) two
       ∙ ap (λ (x : Marks). with_two x (x.fired || is_key (fired_key h v.node) n) (x.owed + cond (is_key (projected_key h v.node) n) v.count 0)) three
       ∙ same_two o _ _ _ _
-      (or_assoc o.fired (list_any (fires_at h n) (take i log)) (is_key (fired_key h v.node) n) ∙ ap (λ b. o.fired || b) (sym (any_more n)))
+      (sym (or_assoc o.fired (list_any (fires_at h n) (take i log)) (is_key (fired_key h v.node) n)) ∙ ap (λ b. o.fired || b) (sym (any_more n)))
       (let s = sum_more n in omega arith)
-
-pub same_default : {X : Type 0} (xs : List X) (i : ℕ) (d e : X) → i < length xs → get_or xs i d ≡ get_or xs i e
-same_default [] i d e l = absurd (omega arith)
-same_default (x ∷ xs) zero d e l = refl
-same_default (x ∷ xs) (suc i) d e l = same_default xs i d e (omega arith)

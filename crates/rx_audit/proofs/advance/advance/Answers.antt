@@ -1,8 +1,4 @@
-use Rattle.std.proofs.Common.{◌≡◌, ℕ, ◌++◌, [], ◌∷◌, length, subst, ap, ◌∙◌, arith}
-use Rattle.rx_audit.specs.declared.children.Children.{Children}
-use Rattle.rx_audit.specs.Latest.{AreChildren}
-use Rattle.rx_audit.specs.Listed.{AreLinked}
-use Rattle.rx_audit.specs.HubTables.{AreHubs}
+use Rattle.rx_audit.proofs.Common.{◌≡◌, ℕ, ◌++◌, [], ◌∷◌, length, subst, ap, ◌∙◌, arith, Children, AreChildren, AreLinked, AreHubs}
 use Rattle.rx_audit.proofs.DueLists.{IsOneMore, all_after}
 use Rattle.rx_audit.proofs.advance.advance.Goals as goal
 

@@ -1,4 +1,4 @@
-use Rattle.std.proofs.Common.{sym, ◌∙◌}
+use Rattle.rx_audit.proofs.Common.{sym, ◌∙◌}
 use Rattle.rx_audit.proofs.MarksAfterItem.{item_of}
 use Rattle.rx_audit.proofs.advance.keep.Goals as goal
 

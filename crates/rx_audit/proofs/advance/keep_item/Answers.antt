@@ -1,6 +1,5 @@
-use Rattle.std.proofs.Common.{arith}
+use Rattle.rx_audit.proofs.Common.{arith, IsVisited}
 use Rattle.std.proofs.lemmas.Result.{on_ok_weaker}
-use Rattle.rx_audit.specs.Marking.{IsVisited}
 use Rattle.rx_audit.proofs.DueLists.{marks_noted}
 use Rattle.rx_audit.proofs.MarksAfterItem.{item_kept, item_covered}
 use Rattle.rx_audit.proofs.advance.keep_item.Goals as goal

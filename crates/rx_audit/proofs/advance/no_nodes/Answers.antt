@@ -1,4 +1,4 @@
-use Rattle.std.proofs.Common.{sym, ◌∙◌}
+use Rattle.rx_audit.proofs.Common.{sym, ◌∙◌}
 use Rattle.rx_audit.proofs.KnownNodesAndHubs.{followed_nothing}
 use Rattle.rx_audit.proofs.advance.no_nodes.Goals as goal
 

@@ -1,6 +1,4 @@
-use Rattle.std.proofs.Common.{ℕ, ◌++◌, [], ◌∷◌, subst, ◌∙◌, arith}
-use Rattle.rx_audit.specs.Listed.{AreLinked}
-use Rattle.rx_audit.specs.HubTables.{AreHubs}
+use Rattle.rx_audit.proofs.Common.{ℕ, ◌++◌, [], ◌∷◌, subst, ◌∙◌, arith, AreLinked, AreHubs}
 use Rattle.rx_audit.proofs.OpenListed.{hub_older, open_listed_after}
 use Rattle.rx_audit.proofs.advance.relink.Goals as goal
 

@@ -1,4 +1,4 @@
-use Rattle.std.proofs.Common.{sym, ◌∙◌}
+use Rattle.rx_audit.proofs.Common.{sym, ◌∙◌}
 use Rattle.rx_audit.proofs.DueListCovers.{child_marked}
 use Rattle.rx_audit.proofs.allowed.has_child.Goals as goal
 

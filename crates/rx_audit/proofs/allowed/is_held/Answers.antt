@@ -1,4 +1,4 @@
-use Rattle.std.proofs.Common.{sym, ◌∙◌}
+use Rattle.rx_audit.proofs.Common.{sym, ◌∙◌}
 use Rattle.rx_audit.proofs.Allowing.{owned_held, leased_held}
 use Rattle.rx_audit.proofs.allowed.is_held.Goals as goal
 

@@ -1,5 +1,4 @@
-use Rattle.std.proofs.Common.{sym, ◌∙◌}
-use Rattle.rx_event.proofs.Laws.Parents.{parent-lt}
+use Rattle.rx_audit.proofs.Common.{sym, ◌∙◌, parent-lt}
 use Rattle.rx_audit.proofs.Allowing.{order_above, order_top, order_broken}
 use Rattle.rx_audit.proofs.allowed.is_in_order_at.Goals as goal
 

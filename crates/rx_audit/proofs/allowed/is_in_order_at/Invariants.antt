@@ -1,5 +1,4 @@
-use Rattle.std.proofs.Common.{◌≡◌}
-use Rattle.rx_audit.specs.Allowing.{is_in_order_at}
+use Rattle.rx_audit.proofs.Common.{◌≡◌, is_in_order_at}
 use Rattle.rx_audit.proofs.allowed.is_in_order_at.Given as goal
 
 abbrev pub invariant-loop-g : goal.invariant-loop-g

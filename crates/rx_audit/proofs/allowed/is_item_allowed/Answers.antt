@@ -1,9 +1,4 @@
-use Rattle.std.proofs.Common.{◌≡◌, Bool, IsTrue, ◌<◌, sym}
-use Rattle.std.proofs.lemmas.Result.{IfOk-weaker}
-use Rattle.std.specs.Bool.{MatchBool}
-use Rattle.rx_event.specs.Climb.{visits}
-use Rattle.rx_audit.specs.Flow.{IsReached}
-use Rattle.rx_audit.specs.Allowing.{item_allowed}
+use Rattle.rx_audit.proofs.Common.{◌≡◌, Bool, IsTrue, ◌<◌, sym, IfOk-weaker, MatchBool, visits, IsReached, item_allowed}
 use Rattle.rx_audit.proofs.TestsDecideAllowed.{item_test, climb_test, no_item}
 use Rattle.rx_audit.proofs.allowed.is_item_allowed.Goals as goal
 

@@ -1,6 +1,4 @@
-use Rattle.std.proofs.Common.{sym, ◌∙◌, arith}
-use Rattle.rx_event.specs.Events.{makes_resource}
-use Rattle.rx_event.proofs.Laws.Places.{at_within}
+use Rattle.rx_audit.proofs.Common.{sym, ◌∙◌, arith, makes_resource, at_within}
 use Rattle.rx_audit.proofs.Allowing.{leased_there, not_leased}
 use Rattle.rx_audit.proofs.allowed.is_leased.Goals as goal
 

@@ -1,7 +1,4 @@
-use Rattle.std.proofs.Common.{sym, ap, ◌∙◌, arith}
-use Rattle.std.proofs.Math.Bool.{not}
-use Rattle.rx_event.specs.Events.{makes_lease}
-use Rattle.rx_event.proofs.Laws.Places.{at_within}
+use Rattle.rx_audit.proofs.Common.{sym, ap, ◌∙◌, arith, not, makes_lease, at_within}
 use Rattle.rx_audit.proofs.Allowing.{out_there, not_out}
 use Rattle.rx_audit.proofs.allowed.is_out.Goals as goal
 

@@ -1,6 +1,4 @@
-use Rattle.std.proofs.Common.{nat_lt, ap, ◌∙◌}
-use Rattle.rx_event.specs.declared.marks.Marks.{Marks}
-use Rattle.rx_audit.specs.Rules.{is_owing}
+use Rattle.rx_audit.proofs.Common.{nat_lt, ap, ◌∙◌, Marks, is_owing}
 use Rattle.rx_audit.proofs.allowed.is_owing.Goals as goal
 
 pub returns : goal.returns

@@ -1,4 +1,4 @@
-use Rattle.std.proofs.Common.{sym, ◌∙◌}
+use Rattle.rx_audit.proofs.Common.{sym, ◌∙◌}
 use Rattle.rx_audit.proofs.Allowing.{owned_at, not_owned}
 use Rattle.rx_audit.proofs.allowed.is_owned.Goals as goal
 

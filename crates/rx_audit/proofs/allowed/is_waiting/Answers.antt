@@ -1,6 +1,4 @@
-use Rattle.std.proofs.Common.{sym}
-use Rattle.rx_event.specs.Events.{makes_resource}
-use Rattle.rx_event.proofs.Laws.Places.{at_within}
+use Rattle.rx_audit.proofs.Common.{sym, makes_resource, at_within}
 use Rattle.rx_audit.proofs.Allowing.{waiting_at, not_waiting}
 use Rattle.rx_audit.proofs.allowed.is_waiting.Goals as goal
 

@@ -1,4 +1,4 @@
-use Rattle.std.proofs.Common.{◌∙◌}
+use Rattle.rx_audit.proofs.Common.{◌∙◌}
 use Rattle.rx_audit.proofs.TestsDecideAllowed.{open_counted}
 use Rattle.rx_audit.proofs.allowed.open_count.Goals as goal
 

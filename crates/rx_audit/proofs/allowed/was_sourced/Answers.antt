@@ -1,5 +1,4 @@
-use Rattle.std.proofs.Common.{ap, ◌∙◌}
-use Rattle.rx_event.specs.declared.marks.Marks.{Marks}
+use Rattle.rx_audit.proofs.Common.{ap, ◌∙◌, Marks}
 use Rattle.rx_audit.proofs.allowed.was_sourced.Goals as goal
 
 pub returns : goal.returns

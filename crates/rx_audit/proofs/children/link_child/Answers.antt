@@ -1,5 +1,4 @@
-use Rattle.std.proofs.Common.{◌≡◌, suc, ◌+◌, length, ap, ◌∙◌, arith}
-use Rattle.rx_audit.specs.Latest.{table_with, link_with}
+use Rattle.rx_audit.proofs.Common.{◌≡◌, suc, ◌+◌, length, ap, ◌∙◌, arith, table_with, link_with}
 use Rattle.rx_audit.proofs.Latest.{children_more}
 use Rattle.rx_audit.proofs.children.link_child.Goals as goal
 

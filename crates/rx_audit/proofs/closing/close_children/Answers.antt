@@ -1,12 +1,8 @@
-use Rattle.std.proofs.Common.{◌≡◌, suc, ◌-◌, false, Some, length, ◌∙◌, arith, set}
-use Rattle.std.proofs.lemmas.List.{get_or_read}
-use Rattle.rx_event.specs.Tree.{parent}
-use Rattle.rx_event.proofs.Laws.Parents.{parent_within}
-use Rattle.rx_audit.specs.Latest.{last_below, keyed, IsClosingBelow}
+use Rattle.rx_audit.proofs.Common.{◌≡◌, suc, ◌-◌, false, Some, length, ◌∙◌, arith, set, get_or_read, parent, parent_within, last_below, keyed, IsClosingBelow}
 use Rattle.rx_audit.proofs.Latest.{last_le}
 use Rattle.rx_audit.proofs.ClosingBelow.{closing_none, closing_note, closing_next, gone_here, child_below, here_is}
-use Rattle.rx_audit.proofs.closing.close_children.Goals as goal
 use Rattle.rx_audit.proofs.closing.close_children.Goals.{then-marks-c+in_ok-push, else-marks-c}
+use Rattle.rx_audit.proofs.closing.close_children.Goals as goal
 
 pub loop-next-init : goal.loop-next-init
 loop-next-init c =

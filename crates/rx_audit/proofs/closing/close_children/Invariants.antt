@@ -1,6 +1,4 @@
-use Rattle.std.proofs.Common.{◌≡◌, ◌-◌, ◌<◌, ◌≤◌, Some, length}
-use Rattle.rx_event.specs.Tree.{parent}
-use Rattle.rx_audit.specs.Latest.{IsClosingBelow}
+use Rattle.rx_audit.proofs.Common.{◌≡◌, ◌-◌, ◌<◌, ◌≤◌, Some, length, parent, IsClosingBelow}
 use Rattle.rx_audit.proofs.closing.close_children.Given as goal
 
 abbrev pub invariant-loop-next : goal.invariant-loop-next

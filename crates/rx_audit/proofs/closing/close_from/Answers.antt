@@ -1,5 +1,4 @@
-use Rattle.std.proofs.Common.{◌≡◌, ◌++◌, [], ◌∷◌, get_or, refl, ap, ◌∙◌, arith}
-use Rattle.std.proofs.lemmas.List.{get_or_read}
+use Rattle.rx_audit.proofs.Common.{◌≡◌, ◌++◌, [], ◌∷◌, get_or, refl, ap, ◌∙◌, arith, get_or_read}
 use Rattle.rx_audit.proofs.ClosingBelow.{passing_starts, passing_more, passing_ends, count_cleared, noted_first, noted_on, closed_listed}
 use Rattle.rx_audit.proofs.closing.close_from.Goals as goal
 

@@ -1,7 +1,4 @@
-use Rattle.std.proofs.Common.{◌≡◌, ℕ, ◌+◌, ◌-◌, true, false, length, get_or}
-use Rattle.rx_event.specs.Tree.{is_open}
-use Rattle.rx_audit.specs.Latest.{IsNoted}
-use Rattle.rx_audit.specs.Tables.{mark_count}
+use Rattle.rx_audit.proofs.Common.{◌≡◌, ℕ, ◌+◌, ◌-◌, true, false, length, get_or, is_open, IsNoted, mark_count}
 use Rattle.rx_audit.proofs.ClosingBelow.{IsPassing}
 use Rattle.rx_audit.proofs.closing.close_from.Given as goal
 

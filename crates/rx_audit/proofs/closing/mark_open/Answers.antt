@@ -1,5 +1,4 @@
-use Rattle.std.proofs.Common.{◌≡◌, false, length, get_or, ◌∙◌, arith}
-use Rattle.rx_event.proofs.Laws.Openness.{is_open_past}
+use Rattle.rx_audit.proofs.Common.{◌≡◌, false, length, get_or, ◌∙◌, arith, is_open_past}
 use Rattle.rx_audit.proofs.StaysOpen.{marked_after, stays_closed}
 use Rattle.rx_audit.proofs.ClosingBelow.{count_set}
 use Rattle.rx_audit.proofs.closing.mark_open.Goals as goal

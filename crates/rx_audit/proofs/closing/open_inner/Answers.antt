@@ -1,13 +1,8 @@
-use Rattle.std.proofs.Common.{◌≡◌, ◌-◌, true, length, sym, ◌∙◌, arith}
-use Rattle.std.proofs.lemmas.List.{get_or_read}
-use Rattle.rx_event.specs.Tree.{at}
-use Rattle.rx_event.specs.Events.{is_switch}
-use Rattle.rx_event.proofs.Laws.Places.{at_within}
-use Rattle.rx_audit.specs.Latest.{keyed, inner_named_at}
+use Rattle.rx_audit.proofs.Common.{◌≡◌, ◌-◌, true, length, sym, ◌∙◌, arith, get_or_read, at, is_switch, at_within, keyed, inner_named_at}
 use Rattle.rx_audit.proofs.Latest.{last_le}
 use Rattle.rx_audit.proofs.ClosingBelow.{inner_none, inner_alone}
-use Rattle.rx_audit.proofs.closing.open_inner.Goals as goal
 use Rattle.rx_audit.proofs.closing.open_inner.Goals.{else-f-c-via-then-f-c+else-marks-c, else-f-c-via-else-f-c}
+use Rattle.rx_audit.proofs.closing.open_inner.Goals as goal
 
 pub returns-then-youngest-eq0 : goal.returns-then-youngest-eq0
 returns-then-youngest-eq0 c =

@@ -1,4 +1,4 @@
-use Rattle.std.proofs.Common.{sym, ◌∙◌}
+use Rattle.rx_audit.proofs.Common.{sym, ◌∙◌}
 use Rattle.rx_audit.proofs.ClosingBelow.{alone_number, none_number}
 use Rattle.rx_audit.proofs.closing.open_number.Goals as goal
 

@@ -1,6 +1,4 @@
-use Rattle.std.proofs.Common.{sym, ap, ◌∙◌}
-use Rattle.std.specs.Prelude.{is_some}
-use Rattle.rx_event.specs.Marks.{terminal_due}
+use Rattle.rx_audit.proofs.Common.{sym, ap, ◌∙◌, is_some, terminal_due}
 use Rattle.rx_audit.proofs.DueListCovers.{due_closed, due_nowhere, due_made_at}
 use Rattle.rx_audit.proofs.duties.node_due.Goals as goal
 

@@ -1,4 +1,4 @@
-use Rattle.std.proofs.Common.{sym}
+use Rattle.rx_audit.proofs.Common.{sym}
 use Rattle.rx_audit.proofs.DueLists.{keeps_more, lost_one, lost_none}
 use Rattle.rx_audit.proofs.duties.note_connection.Goals as goal
 

@@ -1,4 +1,4 @@
-use Rattle.std.proofs.Common.{sym, ◌∙◌}
+use Rattle.rx_audit.proofs.Common.{sym, ◌∙◌}
 use Rattle.rx_audit.proofs.DueLists.{ended_one, ended_none}
 use Rattle.rx_audit.proofs.duties.note_cut.Goals as goal
 

@@ -1,4 +1,4 @@
-use Rattle.std.proofs.Common.{length, arith}
+use Rattle.rx_audit.proofs.Common.{length, arith}
 use Rattle.rx_audit.proofs.ClosingBelow.{noted_last}
 use Rattle.rx_audit.proofs.DueLists.{keeps_more, keeps_on, any_default, lost_more, lost_all}
 use Rattle.rx_audit.proofs.duties.note_left.Goals as goal

@@ -1,5 +1,4 @@
-use Rattle.std.proofs.Common.{ℕ, ◌<◌, get_or}
-use Rattle.rx_audit.specs.DueList.{Keeps, IsLostNoted}
+use Rattle.rx_audit.proofs.Common.{ℕ, ◌<◌, get_or, Keeps, IsLostNoted}
 use Rattle.rx_audit.proofs.duties.note_left.Given as goal
 
 abbrev pub invariant-loop-s : goal.invariant-loop-s

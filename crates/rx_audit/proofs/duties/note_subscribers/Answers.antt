@@ -1,4 +1,4 @@
-use Rattle.std.proofs.Common.{length}
+use Rattle.rx_audit.proofs.Common.{length}
 use Rattle.rx_audit.proofs.DueLists.{keeps_more, keeps_on, noted_starts, noted_down}
 use Rattle.rx_audit.proofs.SubscriberRows.{walk_first, walk_less, walk_next}
 use Rattle.rx_audit.proofs.duties.note_subscribers.Goals as goal

@@ -1,7 +1,4 @@
-use Rattle.std.proofs.Common.{◌≡◌, ℕ, suc, ◌≤◌, true}
-use Rattle.rx_audit.specs.DueList.{Keeps}
-use Rattle.rx_audit.specs.Latest.{IsNoted}
-use Rattle.rx_audit.specs.Listed.{on_list}
+use Rattle.rx_audit.proofs.Common.{◌≡◌, ℕ, suc, ◌≤◌, true, Keeps, IsNoted, on_list}
 use Rattle.rx_audit.proofs.duties.note_subscribers.Given as goal
 
 abbrev pub invariant-loop-next : goal.invariant-loop-next

@@ -1,4 +1,4 @@
-use Rattle.std.proofs.Common.{sym}
+use Rattle.rx_audit.proofs.Common.{sym}
 use Rattle.rx_audit.proofs.DueListCovers.{covered_more, covered_same}
 use Rattle.rx_audit.proofs.DueLists.{keeps_more}
 use Rattle.rx_audit.proofs.duties.note_touched.Goals as goal

@@ -1,5 +1,4 @@
-use Rattle.std.proofs.Common.{sym, arith, refl}
-use Rattle.std.proofs.lemmas.Bool.{false≢true}
+use Rattle.rx_audit.proofs.Common.{sym, arith, refl, false≢true}
 use Rattle.rx_audit.proofs.DueListCovers.{noted_none}
 use Rattle.rx_audit.proofs.Due.{no_connect_due}
 use Rattle.rx_audit.proofs.KnownNodesAndHubs.{known_due}

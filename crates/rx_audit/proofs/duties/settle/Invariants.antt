@@ -1,7 +1,4 @@
-use Rattle.std.proofs.Common.{◌≡◌, ℕ, ◌≤◌, true, take, length}
-use Rattle.rx_audit.specs.DueList.{acts}
-use Rattle.rx_audit.specs.Latest.{IsNoted}
-use Rattle.rx_audit.specs.Standing.{IsKnown}
+use Rattle.rx_audit.proofs.Common.{◌≡◌, ℕ, ◌≤◌, true, take, length, acts, IsNoted, IsKnown}
 use Rattle.rx_audit.proofs.duties.settle.Given as goal
 
 abbrev pub invariant-loop-left : goal.invariant-loop-left

@@ -1,4 +1,4 @@
-use Rattle.std.proofs.Common.{length, ◌∙◌}
+use Rattle.rx_audit.proofs.Common.{length, ◌∙◌}
 use Rattle.rx_audit.proofs.KnownNodesAndHubs.{connection_word}
 use Rattle.rx_audit.proofs.HubWords.{connected_word}
 use Rattle.rx_audit.proofs.forced.is_connected.Goals as goal

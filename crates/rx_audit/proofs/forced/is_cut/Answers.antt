@@ -1,4 +1,4 @@
-use Rattle.std.proofs.Common.{length, sym, ◌∙◌}
+use Rattle.rx_audit.proofs.Common.{length, sym, ◌∙◌}
 use Rattle.rx_audit.proofs.KnownNodesAndHubs.{ended_word}
 use Rattle.rx_audit.proofs.HubWords.{past_word, cut_word, uncut}
 use Rattle.rx_audit.proofs.forced.is_cut.Goals as goal

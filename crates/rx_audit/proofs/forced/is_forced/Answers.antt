@@ -1,4 +1,4 @@
-use Rattle.std.proofs.Common.{length}
+use Rattle.rx_audit.proofs.Common.{length}
 use Rattle.rx_audit.proofs.EndsDue.{forced_answer}
 use Rattle.rx_audit.proofs.forced.is_forced.Goals as goal
 

@@ -1,4 +1,4 @@
-use Rattle.std.proofs.Common.{length, ◌∙◌}
+use Rattle.rx_audit.proofs.Common.{length, ◌∙◌}
 use Rattle.rx_audit.proofs.KnownNodesAndHubs.{ended_word}
 use Rattle.rx_audit.proofs.HubWords.{waited_word}
 use Rattle.rx_audit.proofs.forced.is_waited_for.Goals as goal

@@ -1,5 +1,4 @@
-use Rattle.std.proofs.Common.{sym, ap, ◌∙◌}
-use Rattle.rx_audit.specs.Marking.{ends_so}
+use Rattle.rx_audit.proofs.Common.{sym, ap, ◌∙◌, ends_so}
 use Rattle.rx_audit.proofs.EndsDue.{forced_closed, forced_nowhere, forced_made}
 use Rattle.rx_audit.proofs.forced.node_ends_so.Goals as goal
 

@@ -1,4 +1,4 @@
-use Rattle.std.proofs.Common.{length, arith}
+use Rattle.rx_audit.proofs.Common.{length, arith}
 use Rattle.rx_audit.proofs.LeaseTallies.{leases_found, leases_long, leases_few}
 use Rattle.rx_audit.proofs.found.find_leases.Goals as goal
 

@@ -1,6 +1,4 @@
-use Rattle.std.proofs.Common.{◌≡◌, length, arith, ap, ◌∙◌, length-append}
-use Rattle.rx_event.specs.declared.event.Event.{Event}
-use Rattle.rx_event.specs.Events.{removed_of, returned_of, taken_of}
+use Rattle.rx_audit.proofs.Common.{◌≡◌, length, arith, ap, ◌∙◌, length-append, Event, removed_of, returned_of, taken_of}
 use Rattle.rx_audit.proofs.FoundAfterEvent.{back, table_field}
 use Rattle.rx_audit.proofs.found.follow.Goals as goal
 

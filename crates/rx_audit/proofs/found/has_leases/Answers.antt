@@ -1,4 +1,4 @@
-use Rattle.std.proofs.Common.{nat_lt, get_or, ap, ◌∙◌, arith}
+use Rattle.rx_audit.proofs.Common.{nat_lt, get_or, ap, ◌∙◌, arith}
 use Rattle.rx_audit.proofs.found.has_leases.Goals as goal
 
 pub returns : goal.returns

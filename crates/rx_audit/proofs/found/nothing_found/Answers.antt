@@ -1,5 +1,4 @@
-use Rattle.std.proofs.Common.{false, length, arith, refl, sym, ap, ◌∙◌}
-use Rattle.std.proofs.lemmas.List.{length-replicate}
+use Rattle.rx_audit.proofs.Common.{false, length, arith, refl, sym, ap, ◌∙◌, length-replicate}
 use Rattle.rx_audit.proofs.FoundAfterEvent.{no_table, none_marked, no_tally, nothing_leased, nothing_live}
 use Rattle.rx_audit.proofs.found.nothing_found.Goals as goal
 

@@ -1,4 +1,4 @@
-use Rattle.std.proofs.Common.{false, get_or, ap, ◌∙◌, arith}
+use Rattle.rx_audit.proofs.Common.{false, get_or, ap, ◌∙◌, arith}
 use Rattle.rx_audit.proofs.found.was_returned.Goals as goal
 
 pub returns : goal.returns

@@ -1,6 +1,4 @@
-use Rattle.std.proofs.Common.{◌≡◌, ℕ, suc, ◌+◌, length, cond, ap, ◌∙◌, arith}
-use Rattle.std.specs.Option.{option_or}
-use Rattle.rx_audit.specs.Latest.{table_with}
+use Rattle.rx_audit.proofs.Common.{◌≡◌, ℕ, suc, ◌+◌, length, cond, ap, ◌∙◌, arith, option_or, table_with}
 use Rattle.rx_audit.proofs.HubsAfter.{hubs_more, hub_count_few, one_at_most}
 use Rattle.rx_audit.proofs.hubs.note_hubs.Goals as goal
 

@@ -1,13 +1,7 @@
-use Rattle.std.proofs.Common.{◌≡◌, sym, ap, ◌∙◌, arith}
-use Rattle.rx_event.specs.Kept.{nothing_kept}
-use Rattle.rx_event.specs.declared.event.Event.TheVariants.{Open}
-use Rattle.rx_event.specs.declared.marks.Marks.{Marks}
-use Rattle.rx_event.specs.Marks.{marks_of, open_children, after_source, after_notifier, after_inner, after_decline, after_child}
-use Rattle.rx_event.specs.Moments.{owed}
-use Rattle.rx_event.specs.Events.{is_source_of}
-use Rattle.rx_event.specs.Tree.{at}
-use Rattle.rx_audit.proofs.Marking.{source_changes, notifier_changes, inner_changes, decline_changes}
-use Rattle.rx_audit.proofs.Marking.{end_changes, children_few, inner_owes, decline_owes, end_counted}
+use Rattle.rx_audit.proofs.Common.{◌≡◌, sym, ap, ◌∙◌, arith, nothing_kept, Open, Marks, marks_of, open_children, after_source, after_notifier, after_inner}
+use Rattle.rx_audit.proofs.Common.{after_decline, after_child, owed, is_source_of, at}
+use Rattle.rx_audit.proofs.Marking.{source_changes, notifier_changes, inner_changes, decline_changes, end_changes, children_few, inner_owes, decline_owes}
+use Rattle.rx_audit.proofs.Marking.{end_counted}
 use Rattle.rx_audit.proofs.nodes.changed.Goals as goal
 
 pub after_source-requires : goal.after_source-requires

@@ -1,7 +1,7 @@
-use Rattle.std.proofs.Common.{sym, ◌∙◌}
+use Rattle.rx_audit.proofs.Common.{sym, ◌∙◌}
 use Rattle.rx_audit.proofs.Marking.{touched_open, kept_more, kept_same}
-use Rattle.rx_audit.proofs.nodes.remark.Goals as goal
 use Rattle.rx_audit.proofs.nodes.remark.Goals.{in-Some, in_default}
+use Rattle.rx_audit.proofs.nodes.remark.Goals as goal
 
 pub changed-value-requires-clause-is : goal.changed-value-requires-clause-is
 changed-value-requires-clause-is c =

@@ -1,6 +1,6 @@
-use Rattle.std.proofs.Common.{◌<◌, length, get_or, arith}
-use Rattle.rx_audit.specs.declared.reach.Visit.{Visit}
-use Rattle.rx_audit.proofs.VisitsChangeMarks.{visited_none, visited_more, same_default}
+use Rattle.rx_audit.proofs.Common.{◌<◌, length, get_or, arith, Visit}
+use Rattle.std.proofs.lemmas.List.{get_or_default}
+use Rattle.rx_audit.proofs.VisitsChangeMarks.{visited_none, visited_more}
 use Rattle.rx_audit.proofs.nodes.remark_visits.Goals as goal
 
 pub loop-visit-init : goal.loop-visit-init
@@ -15,5 +15,5 @@ loop-visit-preserved c =
     let v : Visit = get_or log i d in
     let l : i < length log = omega arith in
     rw (c.in_ok-owe.ensures, c.in_ok-fire.ensures.marks, c.in_ok-fire.ensures.due, c.fired_at.ensures, c.projected_at.ensures)
-    (visited_more log i v c.args.due.now.items c.loop-visit.due.items l (same_default log i d v l)
+    (visited_more log i v c.args.due.now.items c.loop-visit.due.items l (get_or_default log i d v l)
     c.loop-visit.invariant)

@@ -1,5 +1,4 @@
-use Rattle.std.proofs.Common.{take}
-use Rattle.rx_audit.specs.Marking.{IsVisited}
+use Rattle.rx_audit.proofs.Common.{take, IsVisited}
 use Rattle.rx_audit.proofs.nodes.remark_visits.Given as goal
 
 abbrev pub invariant-loop-visit : goal.invariant-loop-visit

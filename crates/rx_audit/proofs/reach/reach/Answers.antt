@@ -1,8 +1,4 @@
-use Rattle.std.proofs.Common.{◌≡◌, ◌+◌, ◌*◌, ◌<◌, length, drop, sym, ap, ◌∙◌, arith}
-use Rattle.std.specs.List.{sum_by}
-use Rattle.std.proofs.lemmas.Option.{same_Some}
-use Rattle.rx_audit.specs.declared.reach.Visit.{Visit}
-use Rattle.rx_audit.specs.Flow.{times}
+use Rattle.rx_audit.proofs.Common.{◌≡◌, ◌+◌, ◌*◌, ◌<◌, length, drop, sym, ap, ◌∙◌, arith, sum_by, same_Some, Visit, times}
 use Rattle.rx_audit.proofs.VisitLogEntries.{read_at, entry_more, entry_within, often_set, often_push}
 use Rattle.rx_audit.proofs.reach.reach.Goals as goal
 

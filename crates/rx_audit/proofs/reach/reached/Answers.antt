@@ -1,4 +1,4 @@
-use Rattle.std.proofs.Common.{◌≡◌, ◌+◌, ◌*◌, ◌≤◌, length, refl, ◌∙◌, arith}
+use Rattle.rx_audit.proofs.Common.{◌≡◌, ◌+◌, ◌*◌, ◌≤◌, length, refl, ◌∙◌, arith}
 use Rattle.rx_audit.proofs.VisitLogEntries.{read_at}
 use Rattle.rx_audit.proofs.LogCountsVisits.{IsEntry, HasSpread, flow_ends, flow_step, flow_over, length_few, few_left}
 use Rattle.rx_audit.proofs.reach.reached.Goals as goal

@@ -1,4 +1,4 @@
-use Rattle.std.proofs.Common.{◌∙◌, arith}
+use Rattle.rx_audit.proofs.Common.{◌∙◌, arith}
 use Rattle.rx_audit.proofs.VisitLogEntries.{taken_few, times_more}
 use Rattle.rx_audit.proofs.reach.spread.Goals as goal
 

@@ -1,6 +1,4 @@
-use Rattle.std.proofs.Common.{◌≡◌, ℕ, ◌+◌, ◌*◌, ◌≤◌, take, drop, length}
-use Rattle.std.specs.List.{sum_by}
-use Rattle.rx_audit.specs.Flow.{times, IsOften}
+use Rattle.rx_audit.proofs.Common.{◌≡◌, ℕ, ◌+◌, ◌*◌, ◌≤◌, take, drop, length, sum_by, times, IsOften}
 use Rattle.rx_audit.proofs.reach.spread.Given as goal
 
 abbrev pub invariant-loop-m : goal.invariant-loop-m

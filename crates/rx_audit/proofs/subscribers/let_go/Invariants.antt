@@ -1,5 +1,4 @@
-use Rattle.std.proofs.Common.{length}
-use Rattle.rx_audit.specs.Listed.{AreLinked, AreLetGo}
+use Rattle.rx_audit.proofs.Common.{length, AreLinked, AreLetGo}
 use Rattle.rx_audit.proofs.subscribers.let_go.Given as goal
 
 abbrev pub invariant-loop-s : goal.invariant-loop-s

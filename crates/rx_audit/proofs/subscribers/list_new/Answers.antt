@@ -1,7 +1,5 @@
-use Rattle.std.proofs.Common.{◌≡◌, suc, ◌+◌, set, length, sym, ap, ◌∙◌, arith}
-use Rattle.rx_audit.specs.Latest.{table_with}
-use Rattle.rx_audit.specs.Listed.{number_of}
-use Rattle.rx_audit.proofs.SubscriberRows.{rows_more, rows_same, subscribes_so, subscribes_none}
+use Rattle.rx_audit.proofs.Common.{◌≡◌, suc, ◌+◌, set, length, sym, ap, ◌∙◌, arith, table_with, number_of, subscribed_event}
+use Rattle.rx_audit.proofs.SubscriberRows.{rows_more, rows_same, subscribes_none}
 use Rattle.rx_audit.proofs.subscribers.list_new.Goals as goal
 
 pub returns-in-Some-clause-linked : goal.returns-in-Some-clause-linked
@@ -10,7 +8,7 @@ returns-in-Some-clause-linked c =
     let old = c.args.subs.now in
     let next : length h + 1 ≡ suc (length h) = omega arith in
     rows_more c.args.event c.requires.linked c.requires.room
-    (c.requires.hubbed c.in-Some.g (subscribes_so c.args.event c.in-Some.g (sym c.in-Some.ensures))) (sym c.in-Some.ensures) (record {
+    (c.requires.hubbed c.in-Some.g (subscribed_event c.args.event c.in-Some.g (sym c.in-Some.ensures))) (sym c.in-Some.ensures) (record {
       listed = c.put_last.ensures.listed;
       last = c.put_last.ensures.last ∙ ap (set old.last.items c.in-Some.g) next;
       before = c.put_last.ensures.before;

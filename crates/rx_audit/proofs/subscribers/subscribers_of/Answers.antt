@@ -1,4 +1,4 @@
-use Rattle.std.proofs.Common.{length}
+use Rattle.rx_audit.proofs.Common.{length}
 use Rattle.rx_audit.proofs.SubscriberRows.{walk_starts, walk_first, walk_less, walk_next, walk_more}
 use Rattle.rx_audit.proofs.subscribers.subscribers_of.Goals as goal
 

@@ -1,8 +1,4 @@
-use Rattle.std.proofs.Common.{◌≡◌, ℕ, suc, ◌+◌, true}
-use Rattle.std.specs.List.{sum_by}
-use Rattle.rx_event.specs.Tree.{open_subscribers}
-use Rattle.rx_event.specs.Claims.Connections.{falling}
-use Rattle.rx_audit.specs.Listed.{on_list}
+use Rattle.rx_audit.proofs.Common.{◌≡◌, ℕ, suc, ◌+◌, true, sum_by, open_subscribers, falling, on_list}
 use Rattle.rx_audit.proofs.subscribers.subscribers_of.Given as goal
 
 abbrev pub invariant-loop-next : goal.invariant-loop-next

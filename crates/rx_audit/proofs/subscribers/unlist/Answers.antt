@@ -1,8 +1,7 @@
-use Rattle.std.proofs.Common.{List, Bool, false, set, length, sym, ap, ◌∙◌}
-use Rattle.rx_audit.specs.declared.subscribers.Subscribers.{Subscribers}
+use Rattle.rx_audit.proofs.Common.{List, Bool, false, set, length, sym, ap, ◌∙◌, Subscribers}
 use Rattle.rx_audit.proofs.SubscriberRows.{rows_less, rows_still}
-use Rattle.rx_audit.proofs.subscribers.unlist.Goals as goal
 use Rattle.rx_audit.proofs.subscribers.unlist.Goals.{in-Some, in_default}
+use Rattle.rx_audit.proofs.subscribers.unlist.Goals as goal
 
 pub returns-clause-linked : goal.returns-clause-linked
 returns-clause-linked c =

@@ -1,8 +1,4 @@
-use Rattle.std.proofs.Common.{length, arith}
-use Rattle.rx_event.specs.declared.event.Place.TheVariants.{Root}
-use Rattle.rx_event.specs.declared.event.Kind.TheVariants.{Leaf}
-use Rattle.rx_event.specs.declared.event.Event.{Event}
-use Rattle.rx_event.specs.declared.event.Event.TheVariants.{Open}
+use Rattle.rx_audit.proofs.Common.{length, arith, Root, Leaf, Event, Open}
 use Rattle.rx_event.proofs.Laws.Begin.{IsLawful_nothing}
 use Rattle.rx_audit.proofs.TestsToVerdict.{unlawful_here, lawful_more, found_more, followed_more, known_from}
 use Rattle.rx_audit.proofs.verdict.first_unlawful.Goals as goal

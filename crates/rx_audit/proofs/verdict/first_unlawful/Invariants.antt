@@ -1,8 +1,4 @@
-use Rattle.std.proofs.Common.{length, take}
-use Rattle.rx_event.specs.Kept.{nothing_kept}
-use Rattle.rx_event.specs.Lawful.{IsLawful}
-use Rattle.rx_audit.specs.Found.{IsFound}
-use Rattle.rx_audit.specs.Standing.{IsFollowed}
+use Rattle.rx_audit.proofs.Common.{length, take, nothing_kept, IsLawful, IsFound, IsFollowed}
 use Rattle.rx_audit.proofs.verdict.first_unlawful.Given as goal
 
 abbrev pub invariant-loop-i : goal.invariant-loop-i

@@ -1,10 +1,4 @@
-use Rattle.std.proofs.Common.{◌≡◌, Bool, IsTrue, ◌↔◌, refl}
-use Rattle.std.proofs.lemmas.Result.{IfOk-weaker}
-use Rattle.rx_event.specs.Kept.{nothing_kept}
-use Rattle.rx_event.specs.Allowed.{IsAllowed}
-use Rattle.rx_audit.specs.Allowing.{item_allowed}
-use Rattle.rx_audit.specs.Flow.{IsReached}
-use Rattle.rx_audit.specs.Found.{IsClimbed}
+use Rattle.rx_audit.proofs.Common.{◌≡◌, Bool, IsTrue, ◌↔◌, refl, IfOk-weaker, nothing_kept, IsAllowed, item_allowed, IsReached, IsClimbed}
 use Rattle.rx_audit.proofs.TestsToVerdict.{item_answer, simple_answer, item_climbs, no_item_climbs}
 use Rattle.rx_audit.proofs.verdict.is_allowed.Goals as goal
 

@@ -1,9 +1,4 @@
-use Rattle.std.proofs.Common.{Bool, IsTrue, ◌↔◌, sym, ◌∙◌}
-use Rattle.std.proofs.lemmas.Bool.{false≢true}
-use Rattle.std.proofs.lemmas.Result.{IfOk-weaker}
-use Rattle.rx_event.specs.Kept.{nothing_kept}
-use Rattle.rx_event.specs.Allowed.{IsAllowed}
-use Rattle.rx_event.specs.Lawful.{MayFollow}
+use Rattle.rx_audit.proofs.Common.{Bool, IsTrue, ◌↔◌, sym, ◌∙◌, false≢true, IfOk-weaker, nothing_kept, IsAllowed, MayFollow}
 use Rattle.rx_audit.proofs.TestsToVerdict.{settled_answer, unsettled_climbs}
 use Rattle.rx_audit.proofs.verdict.may_follow.Goals as goal
 

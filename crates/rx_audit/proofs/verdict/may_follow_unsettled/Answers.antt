@@ -1,4 +1,4 @@
-use Rattle.std.proofs.lemmas.Bool.{both_ways}
+use Rattle.rx_audit.proofs.Common.{both_ways}
 use Rattle.rx_audit.proofs.TestsToVerdict.{forced_follows, unforced_follows}
 use Rattle.rx_audit.proofs.verdict.may_follow_unsettled.Goals as goal
 
