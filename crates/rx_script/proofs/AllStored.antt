@@ -1,16 +1,7 @@
 -- Where no checkpoint was made, as at the beginning, the book stores the whole history.
-use Rattle.std.proofs.Common.{◌≡◌, List, [], ◌∷◌, ◌++◌, length, refl, sym, ap, subst, ◌∙◌, append-nil, arith}
-use Rattle.rx_event.specs.declared.event.Event.{Event}
-use Rattle.rx_event.specs.Kept.{Kept, nothing_kept, shown}
-use Rattle.rx_event.specs.Bases.{base_of}
-use Rattle.rx_event.specs.Moments.{moments}
-use Rattle.rx_event.specs.Notes.{notes}
-use Rattle.rx_event.proofs.Laws.Begin.{IsLawful_nothing, shown_nothing, empty_base}
-use Rattle.rx_register.proofs.Laws.Empty.{settled_empty}
-use Rattle.rx_book.specs.State.{State}
-use Rattle.rx_report.specs.declared.tallies.Tallies.{Tallies}
-use Rattle.rx_report.specs.Tallies.{AreCountsOf, AreNotesOf}
-use Rattle.rx_script.specs.Engine.{IsHistoryOf}
+use Rattle.rx_script.proofs.Common.{◌≡◌, List, [], ◌∷◌, ◌++◌, length, refl, sym, ap, subst, ◌∙◌, append-nil, arith, Event, Kept, nothing_kept, shown, base_of}
+use Rattle.rx_script.proofs.Common.{moments, notes, IsLawful_nothing, shown_nothing, settled_empty, State, Tallies, AreCountsOf, AreNotesOf, IsHistoryOf}
+use Rattle.rx_event.proofs.Laws.Begin.{empty_base}
 use Rattle.rx_script.proofs.WholeHistory.{kept_length}
 
 -- nothing is kept of nothing

@@ -1,25 +1,13 @@
 -- The calls that steps make: none is the taking of a resource, and every step but a drain and a checkpoint makes one where no cause of the scenario's
 -- own stands.
-use Rattle.std.proofs.Common.{◌≡◌, ◌⊎◌, inl, inr, ℕ, Bool, true, false, List, [], ◌∷◌, Option, Some, None, cond, slice_get, refl, sym, subst}
-use Rattle.std.proofs.Math.Bool.{◌||◌}
-use Rattle.std.specs.Prelude.{is_none, option_map}
-use Rattle.std.specs.Option.{option_and_then}
-use Rattle.std.proofs.lemmas.Bool.{false≢true, or_parts}
-use Rattle.std.proofs.lemmas.Option.{same_Some, none-some}
-use Rattle.rx_event.specs.declared.event.Event.{Event}
-use Rattle.rx_event.specs.declared.event.Place.{Place}
-use Rattle.rx_event.specs.declared.event.Place.TheVariants.{Root, Source, Inner, Notifier}
-use Rattle.rx_event.specs.declared.event.Kind.{Kind}
-use Rattle.rx_event.specs.declared.event.Kind.TheVariants.{Leaf, Pass, Flat, Switch, Until, Sub}
-use Rattle.rx_event.specs.Calls.{Call, Opening, OpeningUsing, Holding, Applying, Removing, Leasing, GivingBack}
-use Rattle.rx_event.specs.Calls.{Emitting, Ending, Aborting, Declining, Failing, Disposing, Publishing, Connecting, Disconnecting}
-use Rattle.rx_register.specs.Claims.{IsReady}
-use Rattle.rx_agenda.specs.declared.answer.Cause.TheVariants.{NoName, NameTaken, NoStock}
-use Rattle.rx_agenda.specs.Bindings.{Binding, bound, is_unbound}
-use Rattle.rx_scenario.specs.Scenario.{Name, Site, root, source, inner, notifier, Sort, leaf, pass, flat, switch}
-use Rattle.rx_scenario.specs.Scenario.{until, sub, Command, using, open_node, hold, apply, remove, lease, give_back}
-use Rattle.rx_scenario.specs.Scenario.{next, end, abort, decline, fail, dispose, make_hub, connect, disconnect, drain, checkpoint}
-use Rattle.rx_script.specs.Stage.{Ware, Stage, is_unbound_site, is_unbound_hub, is_empty, takes_name, own_cause, place_at, kind_at, front, call_of, after}
+use Rattle.rx_script.proofs.Common.{◌≡◌, ◌⊎◌, inl, inr, ℕ, Bool, true, false, List, [], ◌∷◌, Option, Some, None, cond, slice_get, refl, sym, subst, ◌||◌}
+use Rattle.rx_script.proofs.Common.{is_none, option_map, option_and_then, false≢true, or_parts, same_Some, none-some, Event, Place, Root, Source, Inner}
+use Rattle.rx_script.proofs.Common.{Notifier, Kind, Leaf, Pass, Flat, Switch, Until, Sub, Call, Opening, OpeningUsing, Holding, Applying, Removing, Leasing}
+use Rattle.rx_script.proofs.Common.{GivingBack, Emitting, Ending, Aborting, Declining, Failing, Disposing, Publishing, Connecting, Disconnecting, IsReady}
+use Rattle.rx_script.proofs.Common.{NoName, NameTaken, NoStock, Binding, bound, is_unbound, Name, Site, root, source, inner, notifier, Sort, leaf, pass, flat}
+use Rattle.rx_script.proofs.Common.{switch, until, sub, Command, using, open_node, hold, apply, remove, lease, give_back, next, end, abort, decline, fail}
+use Rattle.rx_script.proofs.Common.{dispose, make_hub, connect, disconnect, drain, checkpoint, Ware, Stage, is_unbound_site, is_unbound_hub, is_empty}
+use Rattle.rx_script.proofs.Common.{takes_name, own_cause, place_at, kind_at, front, call_of, after}
 
 -- what is called ---------------------------------------------------------------------------------------------------------------------
 
@@ -155,20 +143,4 @@ not_called s checkpoint own uncalled = inr refl
 
 pub history-after : (s : Stage) (step : Command) (k : List Event) → (after s step k).history ≡ k
 history-after s (using name site res) k = refl
-history-after s (open_node name site sort) k = refl
-history-after s (hold node res) k = refl
-history-after s (apply res word) k = refl
-history-after s (remove res) k = refl
-history-after s (lease res name) k = refl
-history-after s (give_back name) k = refl
-history-after s (next node value) k = refl
-history-after s (end node t) k = refl
-history-after s (abort node code) k = refl
-history-after s (decline node) k = refl
-history-after s (fail node code) k = refl
-history-after s (dispose node) k = refl
-history-after s (make_hub name mode) k = refl
-history-after s (connect hub name) k = refl
-history-after s (disconnect hub) k = refl
-history-after s drain k = refl
-history-after s checkpoint k = refl
+history-after s _ k = refl

@@ -1,29 +1,10 @@
 -- A checkpoint, carried out by an engine: what is to be reported is gathered, and then the book lets its events go.
-use Rattle.std.proofs.Common.{◌≡◌, ◌++◌, ℕ, List, [], length, drop, refl, sym, ap, subst, ◌∙◌, arith, append-nil}
-use Rattle.std.specs.List.{Contains}
+use Rattle.rx_script.proofs.Common.{◌≡◌, ◌++◌, ℕ, List, [], length, drop, refl, sym, ap, subst, ◌∙◌, arith, append-nil, Contains, Event, nothing_kept, shown}
+use Rattle.rx_script.proofs.Common.{notes, is_open, is_held, is_out, alike_of, base_length, checkpoints_agree, Key, ResKey, LeaseKey, State, IsPromised}
+use Rattle.rx_script.proofs.Common.{Checkpoints, Accepted, checkpoint, Tallies, AreNotesOf, AreTalliesOf, GoesOn, Gathers, IsNodeKey, IsHeldKey, IsLeaseKey}
+use Rattle.rx_script.proofs.Common.{Engine, limited, Executes, checkpointed, stage_of, IsHistoryOf, IsSound, Carries}
 use Rattle.std.proofs.Math.Seq.{drop-append_seam}
-use Rattle.rx_event.specs.declared.event.Event.{Event}
-use Rattle.rx_event.specs.Kept.{nothing_kept, shown}
-use Rattle.rx_event.specs.Notes.{notes}
-use Rattle.rx_event.specs.Tree.{is_open}
-use Rattle.rx_event.specs.Resources.{is_held, is_out}
-use Rattle.rx_event.proofs.Laws.SameTree.{alike_of}
 use Rattle.rx_event.proofs.Laws.SameForcedAndAllowed.{agree_back, settled_too}
-use Rattle.rx_event.proofs.Laws.Bases.{base_length}
-use Rattle.rx_event.proofs.Laws.Checkpoints.{checkpoints_agree}
-use Rattle.rx_book.specs.declared.key.Key.{Key}
-use Rattle.rx_book.specs.declared.key.ResKey.{ResKey}
-use Rattle.rx_book.specs.declared.key.LeaseKey.{LeaseKey}
-use Rattle.rx_book.specs.State.{State, IsPromised}
-use Rattle.rx_book.specs.Checkpoints.{Checkpoints}
-use Rattle.rx_agenda.specs.declared.answer.Answer.TheVariants.{Accepted}
-use Rattle.rx_scenario.specs.Scenario.{checkpoint}
-use Rattle.rx_report.specs.declared.tallies.Tallies.{Tallies}
-use Rattle.rx_report.specs.Tallies.{AreNotesOf, AreTalliesOf, GoesOn, Gathers}
-use Rattle.rx_report.specs.Keys.{IsNodeKey, IsHeldKey, IsLeaseKey}
-use Rattle.rx_script.specs.declared.engine.Engine.{Engine}
-use Rattle.rx_script.specs.Course.{limited, Executes, checkpointed}
-use Rattle.rx_script.specs.Engine.{stage_of, IsHistoryOf, IsSound, Carries}
 use Rattle.rx_script.proofs.EngineCarriesOut.{stored_lawful, history_lawful, history_agrees}
 use Rattle.rx_script.proofs.WholeHistory.{shown_length, kept_length, notes_whole}
 

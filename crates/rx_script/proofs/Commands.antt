@@ -1,35 +1,16 @@
 -- Each command, carried out by an engine.
-use Rattle.std.proofs.Common.{◌≡◌, ℕ, ℤ, List, Bool, true, false, refl, sym, ap, subst, ◌∙◌, cond, inl, inr}
-use Rattle.std.specs.Prelude.{◌≢◌, Some, None, Result, Ok, Err, IfOk, is_none, option_map}
-use Rattle.std.proofs.Math.Bool.{not}
+use Rattle.rx_script.proofs.Common.{◌≡◌, ℕ, List, Bool, true, false, refl, sym, ap, subst, ◌∙◌, cond, inl, inr, ◌≢◌, Some, None, Result, Ok, Err, IfOk, is_none}
+use Rattle.rx_script.proofs.Common.{option_map, not, Kept, Event, Refusal, Gone, NoMemory, is_open, is_held, Call, Applying, Removing, Emitting, Ending}
+use Rattle.rx_script.proofs.Common.{Aborting, Declining, Failing, Disposing, first_cause, IsRefusal, Key, ResKey, State, IsPromised, has_key, has_res_key}
+use Rattle.rx_script.proofs.Common.{causes, by_key, by_res_key, Request, stands, Accepts, Answer, Accepted, Refused, NoName, Book, Engine, Name, Command, apply}
+use Rattle.rx_script.proofs.Common.{remove, next, end, abort, decline, fail, dispose, Stage, own_cause, call_of, front_is_fresh, after, bound, is_unbound}
+use Rattle.rx_script.proofs.Common.{key_of, IsSound, Carries, IsNodeKey, IsHeldKey, key_of-holds}
+use Rattle.std.proofs.Common.{ℤ}
 use Rattle.std.specs.declared.alloc.AllocError.{AllocError}
-use Rattle.rx_event.specs.Kept.{Kept}
 use Rattle.rx_note.specs.declared.note.Terminal.{Terminal}
-use Rattle.rx_event.specs.declared.event.Event.{Event}
-use Rattle.rx_event.specs.declared.refusal.Refusal.{Refusal}
-use Rattle.rx_event.specs.declared.refusal.Refusal.TheVariants.{Gone, NoMemory}
-use Rattle.rx_event.specs.Tree.{is_open}
-use Rattle.rx_event.specs.Resources.{is_held}
-use Rattle.rx_event.specs.Calls.{Call, Applying, Removing, Emitting, Ending, Aborting, Declining, Failing, Disposing}
-use Rattle.rx_event.specs.Refusals.{first_cause, IsRefusal}
-use Rattle.rx_book.specs.declared.key.Key.{Key}
-use Rattle.rx_book.specs.declared.key.ResKey.{ResKey}
-use Rattle.rx_book.specs.State.{State, IsPromised, has_key, has_res_key}
-use Rattle.rx_event.specs.Causes.{causes, by_key, by_res_key, by_key_of}
-use Rattle.rx_book.specs.Requests.{Request, stands, node_request, res_request}
-use Rattle.rx_book.specs.Answers.{Accepts}
-use Rattle.rx_agenda.specs.declared.answer.Answer.{Answer}
-use Rattle.rx_agenda.specs.declared.answer.Answer.TheVariants.{Accepted, Refused}
-use Rattle.rx_agenda.specs.declared.answer.Cause.TheVariants.{NoName, Book}
-use Rattle.rx_script.specs.declared.engine.Engine.{Engine}
-use Rattle.rx_scenario.specs.Scenario.{Name, Command, apply, remove, next, end, abort, decline, fail, dispose}
-use Rattle.rx_script.specs.Stage.{Stage, own_cause, call_of, front_is_fresh, after}
-use Rattle.rx_agenda.specs.Bindings.{bound, is_unbound}
-use Rattle.rx_agenda.specs.Names.{key_of}
-use Rattle.rx_script.specs.Engine.{IsSound, Carries}
-use Rattle.rx_report.specs.Keys.{IsNodeKey, IsHeldKey}
-use Rattle.rx_report.proofs.Laws.{has_key-is_open, has_res_key-is_held}
-use Rattle.rx_agenda.proofs.Laws.{key_of-holds}
+use Rattle.rx_event.specs.Causes.{by_key_of}
+use Rattle.rx_book.specs.Requests.{node_request, res_request}
+use Rattle.rx_script.proofs.KeysByNumber.{has_key-is_open, has_res_key-is_held}
 use Rattle.rx_script.proofs.NamesStandForKeys.{node_bound, node_unbound, res_bound, res_unbound}
 use Rattle.rx_script.proofs.EngineCarriesOut.{Agrees, first_cause-by_key, with, refused_own, refused_there, accepted_plain, stored_stage}
 
@@ -57,64 +38,28 @@ pub record IsNodeStep (step : Command) (name : Name) (call : ℕ → Call) : Typ
       causes base h limit true (call n) ≡ causes base h limit is_fresh (call n)
 
 pub next_step : (node : Name) (value : ℤ) → IsNodeStep (next node value) node (λ n. Emitting n value)
-next_step node value = record {
-  own = λ s. refl;
-  called = λ s. refl;
-  binds_none = λ s k. refl;
-  gone = λ b h limit f n. refl;
-  by_node = λ n known stand. refl;
-  any_front = λ b h limit f n. refl;
-}
+next_step node value =
+    record { own = λ s. refl; called = λ s. refl; binds_none = λ s k. refl; gone = λ b h l f n. refl; by_node = λ n k s. refl; any_front = λ b h l f n. refl }
 
 pub end_step : (node : Name) (t : Terminal) → IsNodeStep (end node t) node (λ n. Ending n t)
-end_step node t = record {
-  own = λ s. refl;
-  called = λ s. refl;
-  binds_none = λ s k. refl;
-  gone = λ b h limit f n. refl;
-  by_node = λ n known stand. refl;
-  any_front = λ b h limit f n. refl;
-}
+end_step node t =
+    record { own = λ s. refl; called = λ s. refl; binds_none = λ s k. refl; gone = λ b h l f n. refl; by_node = λ n k s. refl; any_front = λ b h l f n. refl }
 
 pub abort_step : (node : Name) (code : ℕ) → IsNodeStep (abort node code) node (λ n. Aborting n code)
-abort_step node code = record {
-  own = λ s. refl;
-  called = λ s. refl;
-  binds_none = λ s k. refl;
-  gone = λ b h limit f n. refl;
-  by_node = λ n known stand. refl;
-  any_front = λ b h limit f n. refl;
-}
+abort_step node code =
+    record { own = λ s. refl; called = λ s. refl; binds_none = λ s k. refl; gone = λ b h l f n. refl; by_node = λ n k s. refl; any_front = λ b h l f n. refl }
 
 pub decline_step : (node : Name) → IsNodeStep (decline node) node Declining
-decline_step node = record {
-  own = λ s. refl;
-  called = λ s. refl;
-  binds_none = λ s k. refl;
-  gone = λ b h limit f n. refl;
-  by_node = λ n known stand. refl;
-  any_front = λ b h limit f n. refl;
-}
+decline_step node =
+    record { own = λ s. refl; called = λ s. refl; binds_none = λ s k. refl; gone = λ b h l f n. refl; by_node = λ n k s. refl; any_front = λ b h l f n. refl }
 
 pub fail_step : (node : Name) (code : ℕ) → IsNodeStep (fail node code) node (λ n. Failing n code)
-fail_step node code = record {
-  own = λ s. refl;
-  called = λ s. refl;
-  binds_none = λ s k. refl;
-  gone = λ b h limit f n. refl;
-  by_node = λ n known stand. refl;
-  any_front = λ b h limit f n. refl;
-}
+fail_step node code =
+    record { own = λ s. refl; called = λ s. refl; binds_none = λ s k. refl; gone = λ b h l f n. refl; by_node = λ n k s. refl; any_front = λ b h l f n. refl }
 
 pub dispose_step : (node : Name) → IsNodeStep (dispose node) node Disposing
-dispose_step node = record {
-  own = λ s. refl;
-  called = λ s. refl;
-  binds_none = λ s k. refl;
-  gone = λ b h limit f n. refl;
-  by_node = λ n known stand. refl;
-  any_front = λ b h limit f n. refl;
-}
+dispose_step node =
+    record { own = λ s. refl; called = λ s. refl; binds_none = λ s k. refl; gone = λ b h l f n. refl; by_node = λ n k s. refl; any_front = λ b h l f n. refl }
 
 module _ {R : Type 0} (e : Engine R) {step : Command} {name : Name} {call : ℕ → Call} (is_step : IsNodeStep step name call) (sound : IsSound e) where
   pub node_nameless : key_of e.nodes name ≡ None → Carries e step (Refused NoName) (with e e.book e.stock)

@@ -1,16 +1,11 @@
 -- A course of a scenario that makes no checkpoint is at none.
-use Rattle.std.proofs.Common.{◌≡◌, ℕ, zero, suc, ◌<◌, false, List, [], ◌∷◌, ◌++◌, Some, map, slice_get, refl, ap, ◌∙◌, arith}
-use Rattle.std.specs.List.{AllByRecursion}
-use Rattle.rx_event.specs.declared.event.Event.{Event}
-use Rattle.rx_agenda.specs.declared.answer.Answer.{Answer}
-use Rattle.rx_agenda.specs.Order.{Placed, Executed, done_in, IsHeld, by_scenario, by_step, IsInOrder}
-use Rattle.rx_scenario.specs.Scenario.{Command, using, checkpoint, Action, command, Step, steps_of, Script}
-use Rattle.rx_scenario.specs.Checkpoints.{has_checkpoint, makes_checkpoint}
-use Rattle.rx_scenario.proofs.Laws.{list_of-steps_of}
+use Rattle.rx_script.proofs.Common.{◌≡◌, ℕ, zero, suc, ◌<◌, false, List, [], ◌∷◌, ◌++◌, Some, map, slice_get, refl, ap, ◌∙◌, arith, AllByRecursion, Event}
+use Rattle.rx_script.proofs.Common.{Answer, Placed, Executed, done_in, Command, using, checkpoint, Action, command, Step, steps_of, Script, has_checkpoint}
+use Rattle.rx_script.proofs.Common.{list_of-steps_of, Ware, Stage, after, Manner, Executes, refused, refused_by_book, accepted, drained, checkpointed, Does}
+use Rattle.rx_script.proofs.Common.{does, leaves, Plays, none_played, one_played, Course, IsCourseIn}
+use Rattle.rx_agenda.specs.Order.{IsHeld, by_scenario, by_step, IsInOrder}
+use Rattle.rx_scenario.specs.Checkpoints.{makes_checkpoint}
 use Rattle.rx_scenario.proofs.Laws.Checkpoints.{is_checkpoint-makes, has_checkpoint-followers, makes_checkpoint-at}
-use Rattle.rx_script.specs.Stage.{Ware, Stage, after}
-use Rattle.rx_script.specs.Course.{Manner, Executes, refused, refused_by_book, accepted, drained}
-use Rattle.rx_script.specs.Course.{checkpointed, Does, does, leaves, Plays, none_played, one_played, Course, IsCourseIn}
 
 -- the executed steps ---------------------------------------------------------------------------------
 

@@ -1,16 +1,10 @@
 -- What the steps of an agenda lead to is a course: they come in the order of the comparison.
-use Rattle.std.proofs.Common.{◌≡◌, ℕ, List, [], ◌∷◌, ◌++◌, map, refl, sym, ap, subst, ◌∙◌}
-use Rattle.std.proofs.lemmas.List.{map-append}
-use Rattle.rx_scenario.specs.Scenario.{Action, Step, Script}
-use Rattle.rx_agenda.specs.declared.answer.Answer.{Answer}
-use Rattle.rx_agenda.specs.Agenda.{Agenda}
+use Rattle.rx_script.proofs.Common.{◌≡◌, ℕ, List, [], ◌∷◌, ◌++◌, map, refl, sym, ap, subst, ◌∙◌, map-append, Action, Step, Script, Answer, Agenda, Executed}
+use Rattle.rx_script.proofs.Common.{done_in, Ware, Stage, start, Manner, Does, does, leaves, Plays, none_played, one_played, IsCourseIn, Progress, begin}
+use Rattle.rx_script.proofs.Common.{Performs, executes, cancels, Advances, Leads, not_begun, advanced, Ends}
 use Rattle.rx_agenda.specs.Come.{Acts, does_command, does_cancel, HaveCome, none_yet, one_more}
-use Rattle.rx_agenda.specs.Order.{Executed, done_in}
 use Rattle.rx_agenda.specs.Claims.{IsOrderOf}
 use Rattle.rx_agenda.proofs.Laws.{runs_in_order}
-use Rattle.rx_script.specs.Stage.{Ware, Stage, start}
-use Rattle.rx_script.specs.Course.{Manner, Does, does, leaves, Plays, none_played, one_played, IsCourseIn}
-use Rattle.rx_script.specs.Progress.{Progress, begin, Performs, executes, cancels, Advances, Leads, not_begun, advanced, Ends}
 
 -- a step and its answer
 abbrev pub answer_in : Step × Answer → Answer

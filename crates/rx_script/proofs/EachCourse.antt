@@ -1,32 +1,20 @@
 -- Each scenario with a stock has a canonical course, and so just one.
-use Rattle.std.proofs.Common.{◌≡◌, ◌⊎◌, inl, inr, ℕ, zero, suc, ◌<◌, List, [], ◌∷◌, ◌++◌, Option}
-use Rattle.std.proofs.Common.{Some, None, refl, sym, ap, subst, ◌∙◌, arith, append_assoc, append-nil}
-use Rattle.std.specs.Option.{option_and_then}
-use Rattle.rx_event.specs.Kept.{nothing_kept}
-use Rattle.rx_event.specs.Forced.{IsSettled}
-use Rattle.rx_event.specs.Lawful.{IsLawful}
-use Rattle.rx_event.specs.declared.refusal.Refusal.{Refusal}
-use Rattle.rx_event.specs.Calls.{Call, outside_of}
-use Rattle.rx_event.proofs.Laws.Begin.{IsLawful_nothing}
-use Rattle.rx_register.proofs.Laws.Empty.{settled_empty}
+use Rattle.rx_script.proofs.Common.{◌≡◌, ◌⊎◌, inl, inr, ℕ, zero, suc, ◌<◌, List, [], ◌∷◌, ◌++◌, Option, Some, None, refl, sym, ap, subst, ◌∙◌, arith}
+use Rattle.rx_script.proofs.Common.{append_assoc, append-nil, option_and_then, nothing_kept, IsSettled, IsLawful, Refusal, Call, outside_of, IsLawful_nothing}
+use Rattle.rx_script.proofs.Common.{settled_empty, Answer, Accepted, Refused, Cause, Book, bound, Agenda, empty_agenda, with_steps, followed_by, next_step}
+use Rattle.rx_script.proofs.Common.{Cancels, taken_off, none_waits, Name, Command, drain, checkpoint, Action, command, cancel, Step, list_of, Script, Ware}
+use Rattle.rx_script.proofs.Common.{Stage, own_cause, call_of, front_is_fresh, after, in_one_order, cause_in, Executes, refused, refused_by_book, accepted}
+use Rattle.rx_script.proofs.Common.{drained, checkpointed, Course, IsCanonicalCourseOf, HasOneCourse, Progress, begin, Performs, executes, cancels, Advances}
+use Rattle.rx_script.proofs.Common.{Leads, not_begun, advanced, Ends}
 use Rattle.rx_time.specs.Schedule.{item_of}
-use Rattle.rx_agenda.specs.declared.answer.Answer.{Answer}
-use Rattle.rx_agenda.specs.declared.answer.Answer.TheVariants.{Accepted, Refused}
-use Rattle.rx_agenda.specs.declared.answer.Cause.{Cause}
-use Rattle.rx_agenda.specs.declared.answer.Cause.TheVariants.{NoStep, Book}
-use Rattle.rx_agenda.specs.Bindings.{bound}
-use Rattle.rx_agenda.specs.Agenda.{Agenda, empty_agenda, with_steps, followed_by, next_step, without_ticket, Cancels, taken_off, none_waits}
-use Rattle.rx_scenario.specs.Scenario.{Name, Command, drain, checkpoint, Action, command, cancel, Step, list_of, Script}
-use Rattle.rx_script.specs.Stage.{Ware, Stage, own_cause, call_of, front_is_fresh, after}
-use Rattle.rx_script.specs.Course.{in_one_order, cause_in, Executes, refused, refused_by_book}
-use Rattle.rx_script.specs.Course.{accepted, drained, checkpointed, Course, IsCanonicalCourseOf, HasOneCourse}
-use Rattle.rx_script.specs.Progress.{Progress, begin, Performs, executes, cancels, Advances, Leads, not_begun, advanced, Ends}
+use Rattle.rx_agenda.specs.declared.answer.Cause.TheVariants.{NoStep}
+use Rattle.rx_agenda.specs.Agenda.{without_ticket}
 use Rattle.rx_script.proofs.CoursesInOrder.{course_in_order}
 use Rattle.rx_script.proofs.CallsOfSteps.{call_ready, not_called, history-after}
 use Rattle.rx_script.proofs.StepsInOneOrder.{FirstStep, ordered_step, OrderedDrain, ordered_drain}
 use Rattle.rx_script.proofs.OneCourse.{one_canonical_course}
-use Rattle.rx_script.proofs.StepsToCome.{to_come, IsOrderly, IsLeft, IsNoMore, empty-orderly}
-use Rattle.rx_script.proofs.StepsToCome.{with_steps-orderly, followed-total, followed-orderly, next_left, cancelled_left}
+use Rattle.rx_script.proofs.StepsToCome.{to_come, IsOrderly, IsLeft, IsNoMore, empty-orderly, with_steps-orderly, followed-total, followed-orderly, next_left}
+use Rattle.rx_script.proofs.StepsToCome.{cancelled_left}
 
 -- a command --------------------------------------------------------------------------------------------------------------------------
 

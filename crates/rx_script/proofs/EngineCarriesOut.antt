@@ -1,35 +1,13 @@
 -- An engine carries out a step: it is refused by the scenario, refused by the book, or accepted. The book goes by its stored history,
 -- and the course by the whole one.
-use Rattle.std.proofs.Common.{◌≡◌, ◌≤◌, ◌+◌, ◌++◌, ℕ, List, [], Bool, true, false, refl, sym, ap, subst, ◌∙◌, arith, append_assoc, length}
-use Rattle.std.specs.Prelude.{Some, None}
-use Rattle.std.proofs.lemmas.Option.{none-some}
-use Rattle.rx_event.specs.declared.event.Event.{Event}
-use Rattle.rx_event.specs.declared.refusal.Refusal.{Refusal}
-use Rattle.rx_event.specs.declared.refusal.Refusal.TheVariants.{Gone}
-use Rattle.rx_event.specs.Kept.{nothing_kept, shown, stored}
-use Rattle.rx_event.specs.Bases.{Agree}
-use Rattle.rx_event.specs.Totals.{taken_count}
-use Rattle.rx_event.specs.Lawful.{IsLawful}
-use Rattle.rx_event.specs.Calls.{Call, IsStepOf}
-use Rattle.rx_event.specs.Refusals.{first_cause}
-use Rattle.rx_book.specs.State.{State, IsPromised, Continues}
-use Rattle.rx_event.specs.Causes.{by_key, causes}
-use Rattle.rx_book.specs.Requests.{Request, stands}
-use Rattle.rx_book.specs.Answers.{Accepts, connection_made}
-use Rattle.rx_agenda.specs.declared.answer.Answer.{Answer}
-use Rattle.rx_agenda.specs.declared.answer.Answer.TheVariants.{Accepted, Refused}
-use Rattle.rx_agenda.specs.declared.answer.Cause.{Cause}
-use Rattle.rx_agenda.specs.declared.answer.Cause.TheVariants.{Book}
-use Rattle.rx_script.specs.declared.engine.Engine.{Engine}
-use Rattle.rx_scenario.specs.Scenario.{Command, drain, checkpoint}
-use Rattle.rx_script.specs.Stage.{Stage, own_cause, call_of, after, front_is_fresh}
-use Rattle.rx_book.specs.Drains.{Drains}
-use Rattle.rx_script.specs.Course.{limited, Executes, refused, refused_by_book, accepted, drained}
-use Rattle.rx_script.specs.Shelf.{Shelf}
-use Rattle.rx_report.specs.declared.tallies.Tallies.{Tallies}
-use Rattle.rx_report.specs.Tallies.{AreTalliesOf}
-use Rattle.rx_script.specs.Engine.{stage_of, IsHistoryOf, IsSound, Carries}
-use Rattle.rx_book.proofs.Laws.StepsContinue.{step_taken, accepted_continues}
+use Rattle.rx_script.proofs.Common.{◌≡◌, ◌≤◌, ◌+◌, ◌++◌, ℕ, List, [], Bool, true, false, refl, sym, ap, subst, ◌∙◌, arith, append_assoc, length, Some, None}
+use Rattle.rx_script.proofs.Common.{none-some, Event, Refusal, Gone, nothing_kept, shown, Agree, taken_count, IsLawful, Call, IsStepOf, first_cause, State}
+use Rattle.rx_script.proofs.Common.{IsPromised, Continues, by_key, causes, Request, stands, Accepts, connection_made, Answer, Accepted, Refused, Cause, Book}
+use Rattle.rx_script.proofs.Common.{Engine, Command, drain, checkpoint, Stage, own_cause, call_of, after, front_is_fresh, Drains, limited, Executes, refused}
+use Rattle.rx_script.proofs.Common.{refused_by_book, accepted, drained, Shelf, Tallies, AreTalliesOf, stage_of, IsHistoryOf, IsSound, Carries}
+use Rattle.rx_script.proofs.Common.{accepted_continues}
+use Rattle.rx_event.specs.Kept.{stored}
+use Rattle.rx_book.proofs.Laws.StepsContinue.{step_taken}
 use Rattle.rx_script.proofs.GivenKeysStay.{HasKeys, keys_kept}
 use Rattle.rx_script.proofs.SameRows.{same_row}
 use Rattle.rx_script.proofs.SameNames.{own_kept, call_kept, after_kept, connection_past, with_history}

@@ -1,45 +1,28 @@
 -- The keys that a book gave stay so, as it goes on.
-use Rattle.std.proofs.Common.{length, arith}
-use Rattle.std.specs.List.{All}
-use Rattle.rx_book.specs.declared.key.Key.{Key}
-use Rattle.rx_book.specs.declared.key.ResKey.{ResKey}
-use Rattle.rx_book.specs.declared.key.LeaseKey.{LeaseKey}
-use Rattle.rx_book.specs.State.{State, IsPromised, Continues}
-use Rattle.rx_report.specs.Keys.{IsNodeKey, IsHeldKey, IsLeaseKey}
-use Rattle.rx_script.specs.declared.engine.Engine.{Engine}
-use Rattle.rx_script.specs.Engine.{IsSound}
-use Rattle.rx_report.proofs.Laws.{numbered, key_kept}
+use Rattle.rx_script.proofs.Common.{length, arith, All, Key, ResKey, LeaseKey, State, IsPromised, Continues, IsNodeKey, IsHeldKey, IsLeaseKey, Engine, IsSound}
+use Rattle.rx_script.proofs.KeysByNumber.{numbered, key_kept}
 
 -- a key that a book gave stays so
 node_key_kept : (old new : State) (k : Key) → IsPromised old → IsPromised new → Continues old new → IsNodeKey old k → IsNodeKey new k
-node_key_kept old new k before after goes known =
-    let longer = goes.longer in
-    let within = known.within in
-    record {
-      within = omega arith;
-      found = key_kept (length old.history) k (numbered (λ (j : Key). j.number) old.keys before.keys)
-          (numbered (λ (j : Key). j.number) new.keys after.keys) goes.keys known.within known.found;
-    }
+node_key_kept old new k before after goes known = record {
+  within = (let longer = goes.longer in let within = known.within in omega arith);
+  found = key_kept (length old.history) k (numbered (λ (j : Key). j.number) old.keys before.keys)
+      (numbered (λ (j : Key). j.number) new.keys after.keys) goes.keys known.within known.found;
+}
 
 held_key_kept : (old new : State) (k : ResKey) → IsPromised old → IsPromised new → Continues old new → IsHeldKey old k → IsHeldKey new k
-held_key_kept old new k before after goes known =
-    let longer = goes.longer in
-    let within = known.within in
-    record {
-      within = omega arith;
-      found = key_kept (length old.history) k (numbered (λ (j : ResKey). j.number) old.res_keys before.res_keys)
-          (numbered (λ (j : ResKey). j.number) new.res_keys after.res_keys) goes.res_keys known.within known.found;
-    }
+held_key_kept old new k before after goes known = record {
+  within = (let longer = goes.longer in let within = known.within in omega arith);
+  found = key_kept (length old.history) k (numbered (λ (j : ResKey). j.number) old.res_keys before.res_keys)
+      (numbered (λ (j : ResKey). j.number) new.res_keys after.res_keys) goes.res_keys known.within known.found;
+}
 
 lease_key_kept : (old new : State) (k : LeaseKey) → IsPromised old → IsPromised new → Continues old new → IsLeaseKey old k → IsLeaseKey new k
-lease_key_kept old new k before after goes known =
-    let longer = goes.longer in
-    let within = known.within in
-    record {
-      within = omega arith;
-      found = key_kept (length old.history) k (numbered (λ (j : LeaseKey). j.number) old.lease_keys before.lease_keys)
-          (numbered (λ (j : LeaseKey). j.number) new.lease_keys after.lease_keys) goes.lease_keys known.within known.found;
-    }
+lease_key_kept old new k before after goes known = record {
+  within = (let longer = goes.longer in let within = known.within in omega arith);
+  found = key_kept (length old.history) k (numbered (λ (j : LeaseKey). j.number) old.lease_keys before.lease_keys)
+      (numbered (λ (j : LeaseKey). j.number) new.lease_keys after.lease_keys) goes.lease_keys known.within known.found;
+}
 
 -- the names of an engine are bound to keys that this book gave
 pub record HasKeys {R : Type 0} (e : Engine R) (book : State) : Type 0 where

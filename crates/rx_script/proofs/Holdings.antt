@@ -1,40 +1,19 @@
 -- The commands that hand a resource in, carried out by an engine.
-use Rattle.std.proofs.Common.{◌≡◌, ◌∷◌, [], List, Bool, true, false, refl, sym, ap, ◌∙◌, length, arith}
-use Rattle.std.specs.Prelude.{◌≢◌, ◌||◌, Some, None, is_none, is_some, slice_get, drop}
-use Rattle.std.proofs.Math.Bool.{not}
-use Rattle.rx_event.specs.declared.refusal.Refusal.{Refusal}
-use Rattle.rx_event.specs.declared.refusal.Refusal.TheVariants.{NoMemory, Gone}
-use Rattle.rx_event.specs.Tree.{is_open}
-use Rattle.rx_event.specs.Calls.{Call, OpeningUsing, Holding}
-use Rattle.rx_event.specs.Refusals.{first_cause, IsRefusal}
-use Rattle.rx_book.specs.declared.key.Key.{Key}
-use Rattle.rx_book.specs.declared.key.ResKey.{ResKey}
-use Rattle.rx_book.specs.declared.answer.At.{At}
+use Rattle.rx_script.proofs.Common.{◌≡◌, ◌∷◌, [], List, Bool, true, false, refl, sym, ap, ◌∙◌, length, arith, ◌≢◌, ◌||◌, Some, None, is_none, is_some}
+use Rattle.rx_script.proofs.Common.{slice_get, drop, not, Refusal, NoMemory, Gone, is_open, Call, OpeningUsing, Holding, first_cause, IsRefusal, Key, ResKey}
+use Rattle.rx_script.proofs.Common.{At, State, IsPromised, has_key, causes, by_key, Request, place_of, is_known_place, stands, Accepts, IsNewResKey, Accepted}
+use Rattle.rx_script.proofs.Common.{Refused, NoName, NameTaken, NoStock, Book, Named, Engine, Name, Site, using, hold, Ware, is_empty, own_cause, front}
+use Rattle.rx_script.proofs.Common.{front_is_fresh, bound, is_unbound, Shelf, key_of, IsNodeKey, IsHeldKey, at_of, IsSound, Carries, key_of-holds}
+use Rattle.rx_script.proofs.Common.{accepted_continues}
 use Rattle.rx_book.specs.declared.answer.OpenedUsing.{OpenedUsing}
-use Rattle.rx_book.specs.State.{State, IsPromised, has_key}
-use Rattle.rx_event.specs.Causes.{causes, by_key}
-use Rattle.rx_book.specs.Requests.{Request, place_of, is_known_place, stands}
-use Rattle.rx_book.specs.Answers.{Accepts, IsNewResKey, IsOpenedUsing}
-use Rattle.rx_agenda.specs.declared.answer.Answer.TheVariants.{Accepted, Refused}
-use Rattle.rx_agenda.specs.declared.answer.Cause.TheVariants.{NoName, NameTaken, NoStock, Book}
-use Rattle.rx_agenda.specs.declared.names.Named.{Named}
-use Rattle.rx_script.specs.declared.engine.Engine.{Engine}
-use Rattle.rx_scenario.specs.Scenario.{Name, Site, using, hold}
-use Rattle.rx_script.specs.Stage.{Ware, is_empty, own_cause, front, front_is_fresh}
-use Rattle.rx_agenda.specs.Bindings.{bound, is_unbound}
-use Rattle.rx_script.specs.Shelf.{Shelf}
-use Rattle.rx_agenda.specs.Names.{key_of}
-use Rattle.rx_report.specs.Keys.{IsNodeKey, IsHeldKey}
-use Rattle.rx_script.specs.Engine.{at_of, IsSound, Carries}
-use Rattle.rx_report.proofs.Laws.{has_key-is_open}
-use Rattle.rx_agenda.proofs.Laws.{key_of-holds}
+use Rattle.rx_book.specs.Answers.{IsOpenedUsing}
+use Rattle.rx_script.proofs.KeysByNumber.{has_key-is_open}
 use Rattle.rx_script.proofs.NamesStandForKeys.{node_bound, node_unbound}
-use Rattle.rx_book.proofs.Laws.StepsContinue.{accepted_continues}
 use Rattle.rx_script.proofs.GivenKeysStay.{keys_kept}
 use Rattle.rx_script.proofs.EngineCarriesOut.{Agrees, first_cause-by_key, with, refused_own, refused_there, accepted_to, stored_stage}
 use Rattle.rx_script.proofs.Commands.{cause_of}
-use Rattle.rx_script.proofs.Openings.{is_bound-nodes, is_bound-resources, IsPlaced, site_placed, site_nameless}
-use Rattle.rx_script.proofs.Openings.{Binds, numbers_bound, all_bound, new_node_key, new_held_key}
+use Rattle.rx_script.proofs.Openings.{is_bound-nodes, is_bound-resources, IsPlaced, site_placed, site_nameless, Binds, numbers_bound, all_bound, new_node_key}
+use Rattle.rx_script.proofs.Openings.{new_held_key}
 
 -- a stock with a resource in front
 module _ {R : Type 0} (e : Engine R) (w : Ware) (rest : List Ware) (stocked : e.stock.wares ≡ w ∷ rest) where

@@ -1,27 +1,11 @@
 -- The commands of hubs, carried out by an engine.
-use Rattle.std.proofs.Common.{◌≡◌, ℕ, List, true, false, String, Global, string_bytes, refl, sym, ap, subst, ◌∙◌, map, length, arith}
-use Rattle.std.specs.Prelude.{◌≢◌, Option, Some, None, is_none, is_some, option_map}
-use Rattle.std.specs.List.{All}
-use Rattle.rx_event.specs.declared.event.Mode.{Mode}
-use Rattle.rx_event.specs.declared.refusal.Refusal.{Refusal}
-use Rattle.rx_event.specs.declared.refusal.Refusal.TheVariants.{NoMemory}
-use Rattle.rx_event.specs.Refusals.{IsRefusal}
-use Rattle.rx_book.specs.declared.key.Key.{Key}
-use Rattle.rx_book.specs.State.{State, IsPromised}
-use Rattle.rx_book.specs.Requests.{stands, hub_request, connect_request, disconnect_request}
-use Rattle.rx_book.specs.Answers.{Accepts, IsNewKey}
-use Rattle.rx_agenda.specs.declared.answer.Answer.TheVariants.{Accepted, Refused}
-use Rattle.rx_agenda.specs.declared.answer.Cause.TheVariants.{NoName, NameTaken, Book}
-use Rattle.rx_agenda.specs.declared.names.Named.{Named}
-use Rattle.rx_script.specs.declared.engine.Engine.{Engine}
-use Rattle.rx_scenario.specs.Scenario.{Name, make_hub, connect, disconnect}
-use Rattle.rx_agenda.specs.Bindings.{bound, is_unbound}
-use Rattle.rx_script.specs.Stage.{own_cause, with_connection}
-use Rattle.rx_agenda.specs.Names.{key_of}
-use Rattle.rx_report.specs.Keys.{node_binding, IsNodeKey}
-use Rattle.rx_script.specs.Engine.{is_taken, with_named, IsSound, Carries}
-use Rattle.rx_agenda.proofs.Laws.{bound-numbers}
-use Rattle.rx_book.proofs.Laws.StepsContinue.{accepted_continues}
+use Rattle.rx_script.proofs.Common.{◌≡◌, ℕ, List, true, false, String, Global, string_bytes, refl, sym, ap, subst, ◌∙◌, map, length, arith, ◌≢◌, Option, Some}
+use Rattle.rx_script.proofs.Common.{None, is_none, is_some, option_map, All, Mode, Refusal, NoMemory, IsRefusal, Key, State, IsPromised, stands, Accepts}
+use Rattle.rx_script.proofs.Common.{IsNewKey, Accepted, Refused, NoName, NameTaken, Book, Named, Engine, Name, make_hub, connect, disconnect, bound, is_unbound}
+use Rattle.rx_script.proofs.Common.{own_cause, with_connection, key_of, node_binding, IsNodeKey, with_named, IsSound, Carries, bound-numbers}
+use Rattle.rx_script.proofs.Common.{accepted_continues}
+use Rattle.rx_book.specs.Requests.{hub_request, connect_request, disconnect_request}
+use Rattle.rx_script.specs.Engine.{is_taken}
 use Rattle.rx_script.proofs.GivenKeysStay.{keys_kept}
 use Rattle.rx_script.proofs.EngineCarriesOut.{Agrees, with, refused_own, refused_there, accepted_to, accepted_plain, stored_stage}
 use Rattle.rx_script.proofs.Commands.{cause_of}

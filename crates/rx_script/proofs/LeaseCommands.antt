@@ -1,32 +1,12 @@
 -- The commands that give a lease out and back, carried out by an engine.
-use Rattle.std.proofs.Common.{◌≡◌, ℕ, List, Bool, true, false, refl, sym, ap, ◌∙◌, length, arith}
-use Rattle.std.specs.Prelude.{◌≢◌, Some, None, is_none, is_some}
-use Rattle.rx_event.specs.Kept.{Kept}
-use Rattle.rx_event.specs.declared.event.Event.{Event}
-use Rattle.rx_event.specs.declared.refusal.Refusal.{Refusal}
-use Rattle.rx_event.specs.declared.refusal.Refusal.TheVariants.{NoMemory}
-use Rattle.rx_event.specs.Resources.{is_held, is_out}
-use Rattle.rx_event.specs.Calls.{Leasing, GivingBack}
-use Rattle.rx_event.specs.Refusals.{first_cause, IsRefusal}
-use Rattle.rx_book.specs.declared.key.ResKey.{ResKey}
-use Rattle.rx_book.specs.declared.key.LeaseKey.{LeaseKey}
-use Rattle.rx_book.specs.State.{State, IsPromised, has_res_key, has_lease_key}
-use Rattle.rx_event.specs.Causes.{causes, by_res_key, by_lease_key}
-use Rattle.rx_book.specs.Requests.{stands, lease_request, give_back_request}
-use Rattle.rx_book.specs.Answers.{Accepts, IsNewLeaseKey}
-use Rattle.rx_agenda.specs.declared.answer.Answer.TheVariants.{Accepted, Refused}
-use Rattle.rx_agenda.specs.declared.answer.Cause.TheVariants.{NoName, NameTaken, Book}
-use Rattle.rx_agenda.specs.declared.names.Named.{Named}
-use Rattle.rx_script.specs.declared.engine.Engine.{Engine}
-use Rattle.rx_scenario.specs.Scenario.{Name, lease, give_back}
-use Rattle.rx_script.specs.Stage.{own_cause, front_is_fresh}
-use Rattle.rx_agenda.specs.Bindings.{bound, is_unbound}
-use Rattle.rx_agenda.specs.Names.{key_of}
-use Rattle.rx_report.specs.Keys.{IsHeldKey, IsLeaseKey}
-use Rattle.rx_script.specs.Engine.{IsSound, Carries}
-use Rattle.rx_report.proofs.Laws.{has_res_key-is_held, has_lease_key-is_out}
-use Rattle.rx_agenda.proofs.Laws.{key_of-holds}
-use Rattle.rx_book.proofs.Laws.StepsContinue.{accepted_continues}
+use Rattle.rx_script.proofs.Common.{◌≡◌, ℕ, List, Bool, true, false, refl, sym, ap, ◌∙◌, length, arith, ◌≢◌, Some, None, is_none, is_some, Kept, Event, Refusal}
+use Rattle.rx_script.proofs.Common.{NoMemory, is_held, is_out, Leasing, GivingBack, first_cause, IsRefusal, ResKey, LeaseKey, State, IsPromised, has_res_key}
+use Rattle.rx_script.proofs.Common.{has_lease_key, causes, by_res_key, stands, Accepts, IsNewLeaseKey, Accepted, Refused, NoName, NameTaken, Book, Named}
+use Rattle.rx_script.proofs.Common.{Engine, Name, lease, give_back, own_cause, front_is_fresh, bound, is_unbound, key_of, IsHeldKey, IsLeaseKey, IsSound}
+use Rattle.rx_script.proofs.Common.{Carries, key_of-holds, accepted_continues}
+use Rattle.rx_event.specs.Causes.{by_lease_key}
+use Rattle.rx_book.specs.Requests.{lease_request, give_back_request}
+use Rattle.rx_script.proofs.KeysByNumber.{has_res_key-is_held, has_lease_key-is_out}
 use Rattle.rx_script.proofs.NamesStandForKeys.{res_bound, res_unbound, lease_bound, lease_unbound}
 use Rattle.rx_script.proofs.GivenKeysStay.{keys_kept}
 use Rattle.rx_script.proofs.EngineCarriesOut.{Agrees, with, refused_own, refused_there, accepted_to, accepted_plain, stored_stage}

@@ -1,3 +1,11 @@
+pub mod Common
+pub mod KeysByNumber
+pub mod Texts
+pub mod LinesMade
+pub mod LeasesOut
+pub mod EventsCounted
+pub mod TakenUp
+pub mod TalliesOfWholeHistory
 pub mod NamesStandForKeys
 pub mod GivenKeysStay
 pub mod OneMoreStep

@@ -1,13 +1,8 @@
 -- Names that stand for other numbers.
-use Rattle.std.proofs.Common.{◌≡◌, ℕ, Bool, true, false, List, [], ◌∷◌, Option, Some, None, cond, map, refl, sym, ap, subst, ◌∙◌}
-use Rattle.std.specs.Prelude.{is_some, is_none, option_map, find}
-use Rattle.std.specs.Str.{bytes_eq}
-use Rattle.std.specs.List.{AllByRecursion}
-use Rattle.std.proofs.lemmas.List.{map-append}
-use Rattle.std.proofs.lemmas.Option.{same_Some, none-some}
-use Rattle.rx_event.proofs.Laws.Lists.{AllByRecursion-both}
-use Rattle.rx_scenario.specs.Scenario.{Name}
-use Rattle.rx_agenda.specs.Bindings.{Binding, bound, is_unbound, is_bound, with_binding}
+use Rattle.rx_script.proofs.Common.{◌≡◌, ℕ, Bool, true, false, List, [], ◌∷◌, Option, Some, None, cond, map, refl, sym, ap, subst, ◌∙◌, is_some, is_none}
+use Rattle.rx_script.proofs.Common.{option_map, bytes_eq, AllByRecursion, map-append, same_Some, none-some, AllByRecursion-both, Name, Binding, bound}
+use Rattle.rx_script.proofs.Common.{is_unbound, is_bound, with_binding}
+use Rattle.std.specs.Prelude.{find}
 
 abbrev pub renamed : (ℕ → ℕ) → Binding → Binding
 renamed r b = record { name = b.name; number = r b.number }

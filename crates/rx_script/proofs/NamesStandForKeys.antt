@@ -1,15 +1,7 @@
 -- What the names of nodes, of resources and of leases stand for.
-use Rattle.std.proofs.Common.{◌≡◌, List, map, ap, ◌∙◌}
-use Rattle.std.specs.Prelude.{Some, None, option_map}
-use Rattle.rx_book.specs.declared.key.Key.{Key}
-use Rattle.rx_book.specs.declared.key.ResKey.{ResKey}
-use Rattle.rx_book.specs.declared.key.LeaseKey.{LeaseKey}
-use Rattle.rx_scenario.specs.Scenario.{Name}
-use Rattle.rx_agenda.specs.declared.names.Named.{Named}
-use Rattle.rx_agenda.specs.Bindings.{bound}
-use Rattle.rx_agenda.specs.Names.{key_of}
+use Rattle.rx_script.proofs.Common.{◌≡◌, List, map, ap, ◌∙◌, Some, None, option_map, Key, ResKey, LeaseKey, Name, Named, bound, key_of, node_binding}
+use Rattle.rx_script.proofs.Common.{res_binding, lease_binding}
 use Rattle.rx_agenda.proofs.Laws.{bound-keys}
-use Rattle.rx_report.specs.Keys.{node_binding, res_binding, lease_binding}
 
 pub bound-nodes : (names : List (Named Key)) (name : Name) → bound (map node_binding names) name ≡ option_map (λ k. k.number) (key_of names name)
 bound-nodes names name = bound-keys (λ k. k.number) names name

@@ -1,37 +1,17 @@
 -- Opening a node, carried out by an engine.
-use Rattle.std.proofs.Common.{◌≡◌, ℕ, List, true, false, String, Global, string_bytes, refl, sym, ap, subst, ◌∙◌, map, length, arith}
-use Rattle.std.specs.Prelude.{◌≢◌, Option, Some, None, is_none, is_some, option_map, option_and_then}
-use Rattle.std.specs.List.{All}
-use Rattle.rx_event.specs.declared.event.Kind.{Kind}
-use Rattle.rx_event.specs.declared.event.Kind.TheVariants.{Sub}
-use Rattle.rx_event.specs.declared.refusal.Refusal.{Refusal}
-use Rattle.rx_event.specs.declared.refusal.Refusal.TheVariants.{NoMemory}
-use Rattle.rx_event.specs.Calls.{Opening}
-use Rattle.rx_event.specs.Refusals.{IsRefusal}
-use Rattle.rx_book.specs.declared.key.Key.{Key}
-use Rattle.rx_book.specs.declared.answer.At.{At}
+use Rattle.rx_script.proofs.Common.{◌≡◌, ℕ, List, true, false, String, Global, string_bytes, refl, sym, ap, subst, ◌∙◌, map, length, arith, ◌≢◌, Option, Some}
+use Rattle.rx_script.proofs.Common.{None, is_none, is_some, option_map, option_and_then, All, Kind, Sub, Refusal, NoMemory, Opening, IsRefusal, Key, At, State}
+use Rattle.rx_script.proofs.Common.{IsPromised, causes, Request, place_of, is_known_place, stands, Accepts, IsOpened, Accepted, Refused, NoName, NameTaken}
+use Rattle.rx_script.proofs.Common.{Book, Named, Engine, Name, Site, Sort, leaf, pass, flat, switch, until, sub, open_node, Binding, with_binding}
+use Rattle.rx_script.proofs.Common.{is_unbound_hub, connection_name, own_cause, kind_at, with_connection, key_of, node_binding, IsNodeKey, at_of, kind_of}
+use Rattle.rx_script.proofs.Common.{is_taken_beside, with_named, IsSound, Carries, bound-numbers, accepted_continues}
 use Rattle.rx_book.specs.declared.answer.Opened.{Opened}
-use Rattle.rx_book.specs.State.{State, IsPromised}
-use Rattle.rx_event.specs.Causes.{causes}
-use Rattle.rx_book.specs.Requests.{Request, place_of, is_known_place, stands, open_request}
-use Rattle.rx_book.specs.Answers.{Accepts, IsOpened}
-use Rattle.rx_agenda.specs.declared.answer.Answer.TheVariants.{Accepted, Refused}
-use Rattle.rx_agenda.specs.declared.answer.Cause.TheVariants.{NoName, NameTaken, Book}
-use Rattle.rx_agenda.specs.declared.names.Named.{Named}
-use Rattle.rx_script.specs.declared.engine.Engine.{Engine}
-use Rattle.rx_scenario.specs.Scenario.{Name, Site, Sort, leaf, pass, flat, switch, until, sub, open_node}
-use Rattle.rx_agenda.specs.Bindings.{Binding, with_binding}
-use Rattle.rx_script.specs.Stage.{is_unbound_hub, connection_name, own_cause, kind_at, with_connection}
-use Rattle.rx_agenda.specs.Names.{key_of}
-use Rattle.rx_report.specs.Keys.{node_binding, IsNodeKey}
-use Rattle.rx_script.specs.Engine.{at_of, kind_of, is_taken_beside, with_named, IsSound, Carries}
-use Rattle.rx_agenda.proofs.Laws.{bound-numbers}
-use Rattle.rx_book.proofs.Laws.StepsContinue.{accepted_continues}
+use Rattle.rx_book.specs.Requests.{open_request}
 use Rattle.rx_script.proofs.GivenKeysStay.{keys_kept}
 use Rattle.rx_script.proofs.EngineCarriesOut.{Agrees, first_cause-by_key, with, refused_own, refused_there, accepted_to, stored_stage}
 use Rattle.rx_script.proofs.Commands.{cause_of}
-use Rattle.rx_script.proofs.Openings.{is_bound-nodes, taken_beside-bound, named_bound, all_named, forced_node_key}
-use Rattle.rx_script.proofs.Openings.{IsPlaced, site_placed, site_nameless, new_node_key, Binds, numbers_bound, all_bound}
+use Rattle.rx_script.proofs.Openings.{is_bound-nodes, taken_beside-bound, named_bound, all_named, forced_node_key, IsPlaced, site_placed, site_nameless}
+use Rattle.rx_script.proofs.Openings.{new_node_key, Binds, numbers_bound, all_bound}
 
 -- kinds --------------------------------------------------------------------------------------------
 

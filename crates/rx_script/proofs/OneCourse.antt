@@ -1,27 +1,13 @@
 -- A scenario and a stock have one canonical course.
-use Rattle.std.proofs.Common.{◌≡◌, ℕ, zero, suc, List, [], ◌∷◌, ◌++◌, map, Option, Some, None, refl, sym, ap, subst, ◌∙◌, arith}
-use Rattle.std.proofs.Common.{append_assoc, append-nil, slice_get}
-use Rattle.std.specs.Prelude.{option_map}
+use Rattle.rx_script.proofs.Common.{◌≡◌, ℕ, zero, suc, List, [], ◌∷◌, ◌++◌, map, Option, Some, None, refl, sym, ap, subst, ◌∙◌, arith, append_assoc, append-nil}
+use Rattle.rx_script.proofs.Common.{slice_get, option_map, same_Some, none-some, nothing_kept, Event, waiting_resources, IsSettled, Call, Taking, outside_of}
+use Rattle.rx_script.proofs.Common.{first_forced, IsFirstStep, first_is_forced, Command, checkpoint, Action, command, cancel, Step, Script, Answer, Accepted}
+use Rattle.rx_script.proofs.Common.{Refused, Cause, Book, Placed, Executed, done_in, Ware, Stage, start, own_cause, call_of, after, in_one_order, cause_in}
+use Rattle.rx_script.proofs.Common.{DrainsInOrder, nothing_left, least_taken, Executes, refused, refused_by_book, accepted, drained, checkpointed, Does, does}
+use Rattle.rx_script.proofs.Common.{leaves, Plays, none_played, one_played, Course, IsCanonicalCourseOf}
 use Rattle.std.specs.Option.{option_or}
-use Rattle.std.proofs.lemmas.Option.{same_Some, none-some}
-use Rattle.rx_event.specs.Kept.{nothing_kept}
-use Rattle.rx_event.specs.declared.event.Event.{Event}
-use Rattle.rx_event.specs.Resources.{waiting_resources}
-use Rattle.rx_event.specs.Forced.{IsSettled}
-use Rattle.rx_event.specs.Calls.{Call, Taking, outside_of}
-use Rattle.rx_event.specs.Canonical.{first_forced, IsFirstStep}
-use Rattle.rx_event.proofs.Laws.InOrder.{first_is_forced}
 use Rattle.rx_event.proofs.Laws.Finishes.{one_finish}
-use Rattle.rx_scenario.specs.Scenario.{Command, checkpoint, Action, command, cancel, Step, Script}
-use Rattle.rx_agenda.specs.declared.answer.Answer.{Answer}
-use Rattle.rx_agenda.specs.declared.answer.Answer.TheVariants.{Accepted, Refused}
-use Rattle.rx_agenda.specs.declared.answer.Cause.{Cause}
-use Rattle.rx_agenda.specs.declared.answer.Cause.TheVariants.{Book}
-use Rattle.rx_agenda.specs.Order.{Placed, Executed, done_in}
 use Rattle.rx_agenda.proofs.Laws.{Agrees, determined_so_far, cancel_alike}
-use Rattle.rx_script.specs.Stage.{Ware, Stage, start, own_cause, call_of, after}
-use Rattle.rx_script.specs.Course.{in_one_order, cause_in, DrainsInOrder, nothing_left, least_taken, Executes, refused, refused_by_book, accepted, drained}
-use Rattle.rx_script.specs.Course.{checkpointed, Does, does, leaves, Plays, none_played, one_played, Course, IsCanonicalCourseOf}
 
 -- one step ---------------------------------------------------------------------------------------------------------------------------
 

@@ -1,20 +1,17 @@
 -- One more step of a course.
-use Rattle.std.proofs.Common.{◌≡◌, ◌≤◌, ◌+◌, ◌++◌, ◌∷◌, [], ℕ, List, length, map, string_bytes, String, Global, refl, sym, ap, subst, ◌∙◌, arith}
-use Rattle.std.specs.Prelude.{Result, Ok, Err, IfOk, Some, None, sum_by}
-use Rattle.rx_event.specs.declared.event.Event.{Event}
+use Rattle.rx_script.proofs.Common.{◌≡◌, ◌≤◌, ◌+◌, ◌++◌, ◌∷◌, [], ℕ, List, length, map, string_bytes, String, Global, refl, sym, ap, subst, ◌∙◌, arith, Result}
+use Rattle.rx_script.proofs.Common.{Ok, Err, IfOk, Some, None, Event, step_of, list_of, list_of-steps_of, Answer, Engine, Cancels, followed_by, next_step}
+use Rattle.rx_script.proofs.Common.{limited, Performs, executes, cancels, Advances, Leads, not_begun, advanced, Ends, stage_of, MovesOn, IsSound, Carries}
+use Rattle.rx_script.proofs.Common.{agenda_of, size_left}
+use Rattle.std.specs.Prelude.{sum_by}
 use Rattle.rx_scenario.specs.declared.scenario.Action.TheVariants.{Command as CommandThere, Cancel}
 use Rattle.rx_scenario.specs.declared.scenario.Command.{Command as CommandInCode}
 use Rattle.rx_scenario.specs.declared.scenario.Step.{Step as StepInCode, out-Step}
-use Rattle.rx_scenario.specs.Scenario.{command_of, step_of, list_of, labels_in}
-use Rattle.rx_scenario.proofs.Laws.{step_of-parts, list_of-steps_of, length-labels_in}
+use Rattle.rx_scenario.specs.Scenario.{command_of, labels_in}
+use Rattle.rx_scenario.proofs.Laws.{step_of-parts, length-labels_in}
 use Rattle.rx_agenda.specs.declared.agenda.Agenda.{Agenda as AgendaInCode}
-use Rattle.rx_agenda.specs.declared.answer.Answer.{Answer}
-use Rattle.rx_script.specs.declared.engine.Engine.{Engine}
-use Rattle.rx_agenda.specs.Agenda.{Cancels, followed_by, next_step}
-use Rattle.rx_script.specs.Course.{limited}
-use Rattle.rx_script.specs.Progress.{Performs, executes, cancels, Advances, Leads, not_begun, advanced, Ends}
-use Rattle.rx_script.specs.Engine.{stage_of, MovesOn, IsSound, Carries, Performed, Followed}
-use Rattle.rx_agenda.specs.Shown.{agenda_of, size_of, size_left}
+use Rattle.rx_script.specs.Engine.{Performed, Followed}
+use Rattle.rx_agenda.specs.Shown.{size_of}
 
 pub IfOk-map : {T E : Type 0} {A B : T → Type 0} (r : Result T E) → ((x : T) → A x → B x) → IfOk r A → IfOk r B
 IfOk-map (Ok x) f here = f x here

@@ -1,39 +1,18 @@
 -- Names that commands bind, places where nodes are opened, and what is known of a name that is new.
-use Rattle.std.proofs.Common.{◌≡◌, ◌<◌, ◌+◌, ◌++◌, ◌∷◌, [], ℕ, List, Bool, true, false, cond}
-use Rattle.std.proofs.Common.{String, Global, string_bytes, refl, sym, ap, subst, ◌∙◌, map, length, arith}
-use Rattle.std.specs.Prelude.{◌||◌, Option, Some, None, IfSome, is_none, is_some, option_map}
-use Rattle.std.specs.Str.{bytes_eq}
-use Rattle.std.specs.Option.{option_map_or}
-use Rattle.std.proofs.Math.Bool.{not}
-use Rattle.std.specs.List.{All}
-use Rattle.std.proofs.lemmas.List.{map-append}
+use Rattle.rx_script.proofs.Common.{◌≡◌, ◌<◌, ◌+◌, ◌++◌, ◌∷◌, [], ℕ, List, Bool, true, false, cond, String, Global, string_bytes, refl, sym, ap, subst, ◌∙◌}
+use Rattle.rx_script.proofs.Common.{map, length, arith, ◌||◌, Option, Some, None, is_none, is_some, option_map, bytes_eq, option_map_or, not, All, map-append}
+use Rattle.rx_script.proofs.Common.{Event, Place, Source, Inner, Notifier, at, is_open, at_within, outside_of, Key, ResKey, LeaseKey, At, State, has_key}
+use Rattle.rx_script.proofs.Common.{has_res_key, has_lease_key, is_gone, Request, place_of, is_known_place, Accepts, IsNewKey, IsNewResKey, IsNewLeaseKey}
+use Rattle.rx_script.proofs.Common.{IsOpened, makes_connection, Named, Engine, Name, Site, root, source, inner, notifier, Binding, bound, is_bound, is_unbound}
+use Rattle.rx_script.proofs.Common.{with_binding, Stage, is_unbound_site, place_at, with_connection, name_of, key_of, node_binding, res_binding, lease_binding}
+use Rattle.rx_script.proofs.Common.{IsNodeKey, IsHeldKey, IsLeaseKey, number_binding, at_of, is_taken_beside, with_named, IsSound, key_of-holds, bound-numbers}
+use Rattle.rx_script.proofs.Common.{or_parts}
+use Rattle.std.specs.Prelude.{IfSome}
 use Rattle.std.proofs.lemmas.List.Elements.{All-push}
-use Rattle.rx_event.specs.declared.event.Event.{Event}
-use Rattle.rx_event.specs.declared.event.Place.{Place}
-use Rattle.rx_event.specs.declared.event.Place.TheVariants.{Source, Inner, Notifier}
-use Rattle.rx_event.specs.Tree.{at, is_open}
-use Rattle.rx_event.proofs.Laws.Places.{at_within}
-use Rattle.rx_event.specs.Calls.{outside_of}
-use Rattle.rx_book.specs.declared.key.Key.{Key}
-use Rattle.rx_book.specs.declared.key.ResKey.{ResKey}
-use Rattle.rx_book.specs.declared.key.LeaseKey.{LeaseKey}
-use Rattle.rx_book.specs.declared.answer.At.{At}
 use Rattle.rx_book.specs.declared.answer.At.TheVariants.{Root as AtRoot, Source as AtSource, Inner as AtInner, Notifier as AtNotifier}
-use Rattle.rx_book.specs.State.{State, has_key, has_res_key, has_lease_key}
-use Rattle.rx_event.specs.Causes.{is_gone}
-use Rattle.rx_book.specs.Requests.{Request, place_of, is_known_place}
-use Rattle.rx_book.specs.Answers.{Accepts, IsNewKey, IsNewResKey, IsNewLeaseKey, IsOpened, makes_connection}
-use Rattle.rx_agenda.specs.declared.names.Named.{Named}
-use Rattle.rx_script.specs.declared.engine.Engine.{Engine}
-use Rattle.rx_scenario.specs.Scenario.{Name, Site, root, source, inner, notifier}
-use Rattle.rx_agenda.specs.Bindings.{Binding, bound, is_bound, is_unbound, with_binding}
-use Rattle.rx_script.specs.Stage.{Stage, is_unbound_site, place_at, with_connection}
-use Rattle.rx_agenda.specs.Names.{name_of, key_of}
-use Rattle.rx_report.specs.Keys.{node_binding, res_binding, lease_binding, IsNodeKey, IsHeldKey, IsLeaseKey}
-use Rattle.rx_agenda.specs.Shown.{number_binding}
-use Rattle.rx_script.specs.Engine.{at_of, is_taken, is_taken_beside, with_named, IsSound}
-use Rattle.rx_agenda.proofs.Laws.{key_of-bind, none_there, key_of-holds, bound-numbers}
-use Rattle.rx_report.proofs.Laws.{has_key-is_open, has_key-contained, has_res_key-contained, has_lease_key-contained}
+use Rattle.rx_script.specs.Engine.{is_taken}
+use Rattle.rx_agenda.proofs.Laws.{key_of-bind, none_there}
+use Rattle.rx_script.proofs.KeysByNumber.{has_key-is_open, has_key-contained, has_res_key-contained, has_lease_key-contained}
 use Rattle.rx_script.proofs.NamesStandForKeys.{bound-nodes, bound-resources, bound-leases, node_bound, node_unbound}
 use Rattle.rx_book.proofs.Laws.StepsContinue.{step_longer}
 use Rattle.rx_script.proofs.EngineCarriesOut.{stored_stage}
@@ -186,12 +165,9 @@ pub free_behind : (names between : List (Named Key)) (x : Named Key) (name : Opt
     → is_taken_beside names (name_of x) name ≡ false → is_taken between name ≡ false
 free_behind names between x None pushed free beside = refl
 free_behind names between x (Some n) pushed free beside =
-    let parts = neither (is_some (key_of names n)) (bytes_eq (name_of x) n) beside in
+    let parts = or_parts (is_some (key_of names n)) (bytes_eq (name_of x) n) beside in
     ap (λ l. is_some (key_of l n)) pushed ∙ ap is_some (key_of-bind x names n (none_there (key_of names (name_of x)) free))
-    ∙ ap (λ b. is_some (cond b (Some x.key) (key_of names n))) parts.1 ∙ parts.0 where
-      neither : (a b : Bool) → (a || b) ≡ false → (a ≡ false) × (b ≡ false)
-      neither false b none = (refl, none)
-      neither true b none = absurd (cc)
+    ∙ ap (λ b. is_some (cond b (Some x.key) (key_of names n))) parts.1 ∙ parts.0
 
 pub named_bound : (names : List (Named Key)) (name : Option (String Global)) (made : Option Key)
     → map node_binding (with_named names name made) ≡ with_connection (map node_binding names) (option_map string_bytes name) (option_map (λ k. k.number) made)

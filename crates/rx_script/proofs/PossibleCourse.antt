@@ -1,14 +1,8 @@
 -- A canonical course is a course of its scenario, wherever the limit of events leaves it room.
-use Rattle.std.proofs.Common.{◌≡◌, ℕ, ◌+◌, ◌≤◌, List, [], ◌∙◌, arith}
-use Rattle.rx_event.specs.Kept.{nothing_kept}
-use Rattle.rx_event.specs.declared.event.Event.{Event}
-use Rattle.rx_event.specs.Resources.{waiting_resources}
-use Rattle.rx_book.specs.Drains.{Takes, none_taken, next_taken}
-use Rattle.rx_agenda.specs.declared.answer.Answer.{Answer}
-use Rattle.rx_scenario.specs.Scenario.{Command, Action, Step}
-use Rattle.rx_script.specs.Stage.{Stage, front_is_fresh}
-use Rattle.rx_script.specs.Course.{limited, in_one_order, DrainsInOrder, nothing_left, least_taken, Executes, refused, refused_by_book, accepted, drained}
-use Rattle.rx_script.specs.Course.{checkpointed, Does, does, leaves, Plays, none_played, one_played, CanonicalCoursesArePossible}
+use Rattle.rx_script.proofs.Common.{◌≡◌, ℕ, ◌+◌, ◌≤◌, List, [], ◌∙◌, arith, nothing_kept, Event, waiting_resources, Takes, none_taken, next_taken, Answer}
+use Rattle.rx_script.proofs.Common.{Command, Action, Step, Stage, front_is_fresh, limited, in_one_order, DrainsInOrder, nothing_left, least_taken, Executes}
+use Rattle.rx_script.proofs.Common.{refused, refused_by_book, accepted, drained, checkpointed, Does, does, leaves, Plays, none_played, one_played}
+use Rattle.rx_script.specs.Course.{CanonicalCoursesArePossible}
 use Rattle.rx_script.proofs.StepsInOneOrder.{roomy, roomy_first}
 
 -- what is drained in order is drained ------------------------------------------------------------------------------------------------

@@ -1,28 +1,13 @@
 -- What a step binds, it binds at two stages that are the same but for numbers to numbers of the same things.
-use Rattle.std.proofs.Common.{◌≡◌, ℕ, ◌+◌, ◌-◌, ◌<◌, Bool, true, false, List, [], ◌∷◌, ◌++◌, length, drop, Option, Some}
-use Rattle.std.proofs.Common.{None, cond, map, slice_get, refl, sym, ap, subst, ◌∙◌, arith, append_assoc, length-append}
-use Rattle.std.specs.Prelude.{option_map}
-use Rattle.std.specs.Option.{option_and_then, option_map_or}
-use Rattle.std.proofs.lemmas.Bool.{false≢true}
-use Rattle.std.proofs.lemmas.Option.{slice_get_within, same_Some, none-some}
-use Rattle.rx_event.specs.Kept.{nothing_kept}
-use Rattle.rx_event.specs.declared.event.Place.{Place}
-use Rattle.rx_event.specs.declared.event.Kind.{Kind}
-use Rattle.rx_event.specs.declared.event.Kind.TheVariants.{Pass}
-use Rattle.rx_event.specs.declared.event.Event.{Event}
-use Rattle.rx_event.specs.declared.event.Event.TheVariants.{Open, Hub, Connect, Accept, Lease}
-use Rattle.rx_event.specs.Events.{makes_node, makes_hub, makes_resource, makes_lease}
-use Rattle.rx_event.specs.Tree.{at}
-use Rattle.rx_event.specs.Forced.{IsSettled}
-use Rattle.rx_event.specs.Lawful.{IsForcedOn, stays, more, IsStep}
-use Rattle.rx_event.specs.Calls.{Call, Opening, OpeningUsing, Holding, Leasing, Publishing, Connecting, IsStepOf}
-use Rattle.rx_event.specs.Renumbered.{event_by, is_named, AreSameBy, AreSameSince}
-use Rattle.rx_event.proofs.Laws.Places.{slice_get-append, slice_get_last, at_within}
-use Rattle.rx_book.specs.Answers.{makes_connection, connection_made}
-use Rattle.rx_agenda.specs.Bindings.{Binding, bound, with_binding}
-use Rattle.rx_scenario.specs.Scenario.{Name, Command, using, open_node, hold, apply, remove, lease, give_back, next}
-use Rattle.rx_scenario.specs.Scenario.{end, abort, decline, fail, dispose, make_hub, connect, disconnect, drain, checkpoint}
-use Rattle.rx_script.specs.Stage.{Ware, Stage, connection_name, place_at, kind_at, front, call_of, with_connection, after}
+use Rattle.rx_script.proofs.Common.{◌≡◌, ℕ, ◌+◌, ◌-◌, ◌<◌, Bool, true, false, List, [], ◌∷◌, ◌++◌, length, drop, Option, Some, None, cond, map, slice_get, refl}
+use Rattle.rx_script.proofs.Common.{sym, ap, subst, ◌∙◌, arith, append_assoc, length-append, option_map, option_and_then, option_map_or, false≢true}
+use Rattle.rx_script.proofs.Common.{slice_get_within, same_Some, none-some, nothing_kept, Place, Kind, Pass, Event, Open, Hub, Connect, Accept, Lease}
+use Rattle.rx_script.proofs.Common.{makes_node, makes_hub, makes_resource, makes_lease, at, IsSettled, IsForcedOn, stays, more, Call, Opening, OpeningUsing}
+use Rattle.rx_script.proofs.Common.{Holding, Leasing, Publishing, Connecting, IsStepOf, event_by, is_named, AreSameBy, AreSameSince, slice_get-append}
+use Rattle.rx_script.proofs.Common.{slice_get_last, at_within, makes_connection, connection_made, Binding, bound, with_binding, Name, Command, using, open_node}
+use Rattle.rx_script.proofs.Common.{hold, lease, make_hub, connect, checkpoint, Ware, Stage, connection_name, place_at, kind_at, front, call_of}
+use Rattle.rx_script.proofs.Common.{with_connection, after}
+use Rattle.rx_event.specs.Lawful.{IsStep}
 use Rattle.rx_script.proofs.NamesForOtherNumbers.{renamed, AllNumbers, all_numbers, renamed-same, with_binding-renamed, with_binding-all}
 use Rattle.rx_script.proofs.SameStages.{AreSameStages}
 
@@ -104,75 +89,57 @@ module _ (r s q t : ℕ → ℕ) (x y : Stage) (k j : List Event) (a : AreSameSt
 -- one more name ----------------------------------------------------------------------------------------------------------------------
 
 module _ (q t : ℕ → ℕ) (x y : Stage) (a : AreSameStages q t x y) where
-  with_node : (name : Name) (n m : ℕ) → at makes_node x.history n ≡ true → q n ≡ m
-      → AreSameStages q t (record x { nodes = with_binding x.nodes name n }) (record y { nodes = with_binding y.nodes name m })
-  with_node name n m made number = record {
+  -- names that stand for the same, each for what it has to
+  abbrev Names : (Event → Bool) → List Binding → List Binding → Type 0
+  Names p bindings others = (others ≡ map (renamed q) bindings) × AllNumbers (λ n. at p x.history n ≡ true) bindings
+
+  with_names : {nodes nodes_there hubs hubs_there resources resources_there leases leases_there : List Binding} {stock stock_there : List Ware}
+      → Names makes_node nodes nodes_there → Names makes_hub hubs hubs_there → Names makes_resource resources resources_there
+      → Names makes_lease leases leases_there → stock_there ≡ stock
+      → AreSameStages q t (record x { nodes = nodes; hubs = hubs; resources = resources; leases = leases; stock = stock })
+      (record y { nodes = nodes_there; hubs = hubs_there; resources = resources_there; leases = leases_there; stock = stock_there })
+  with_names n h r l same = record {
     histories = a.histories;
     settled = a.settled;
     settled_there = a.settled_there;
-    nodes = with_binding-renamed q x.nodes y.nodes name n m a.nodes number;
-    hubs = a.hubs;
-    resources = a.resources;
-    leases = a.leases;
-    stock = a.stock;
-    nodes_made = with_binding-all (λ i. at makes_node x.history i ≡ true) x.nodes name n a.nodes_made made;
-    hubs_made = a.hubs_made;
-    resources_made = a.resources_made;
-    leases_made = a.leases_made;
+    nodes = n.0;
+    hubs = h.0;
+    resources = r.0;
+    leases = l.0;
+    stock = same;
+    nodes_made = n.1;
+    hubs_made = h.1;
+    resources_made = r.1;
+    leases_made = l.1;
   }
+
+  one_more : (p : Event → Bool) (bindings others : List Binding) → Names p bindings others → (name : Name) (n m : ℕ) → at p x.history n ≡ true → q n ≡ m
+      → Names p (with_binding bindings name n) (with_binding others name m)
+  one_more p bindings others names name n m made number =
+      (with_binding-renamed q bindings others name n m names.0 number, with_binding-all (λ i. at p x.history i ≡ true) bindings name n names.1 made)
+
+  with_node : (name : Name) (n m : ℕ) → at makes_node x.history n ≡ true → q n ≡ m
+      → AreSameStages q t (record x { nodes = with_binding x.nodes name n }) (record y { nodes = with_binding y.nodes name m })
+  with_node name n m made number = with_names (one_more makes_node x.nodes y.nodes (a.nodes, a.nodes_made) name n m made number)
+      (a.hubs, a.hubs_made) (a.resources, a.resources_made) (a.leases, a.leases_made) a.stock
 
   with_hub : (name : Name) (n m : ℕ) → at makes_hub x.history n ≡ true → q n ≡ m
       → AreSameStages q t (record x { hubs = with_binding x.hubs name n }) (record y { hubs = with_binding y.hubs name m })
-  with_hub name n m made number = record {
-    histories = a.histories;
-    settled = a.settled;
-    settled_there = a.settled_there;
-    nodes = a.nodes;
-    hubs = with_binding-renamed q x.hubs y.hubs name n m a.hubs number;
-    resources = a.resources;
-    leases = a.leases;
-    stock = a.stock;
-    nodes_made = a.nodes_made;
-    hubs_made = with_binding-all (λ i. at makes_hub x.history i ≡ true) x.hubs name n a.hubs_made made;
-    resources_made = a.resources_made;
-    leases_made = a.leases_made;
-  }
+  with_hub name n m made number = with_names (a.nodes, a.nodes_made) (one_more makes_hub x.hubs y.hubs (a.hubs, a.hubs_made) name n m made number)
+      (a.resources, a.resources_made) (a.leases, a.leases_made) a.stock
 
   -- of a resource, which the stock loses
   with_resource : (name : Name) (n m : ℕ) → at makes_resource x.history n ≡ true → q n ≡ m
       → AreSameStages q t (record x { resources = with_binding x.resources name n; stock = drop 1 x.stock })
       (record y { resources = with_binding y.resources name m; stock = drop 1 y.stock })
-  with_resource name n m made number = record {
-    histories = a.histories;
-    settled = a.settled;
-    settled_there = a.settled_there;
-    nodes = a.nodes;
-    hubs = a.hubs;
-    resources = with_binding-renamed q x.resources y.resources name n m a.resources number;
-    leases = a.leases;
-    stock = ap (λ (l : List Ware). drop 1 l) a.stock;
-    nodes_made = a.nodes_made;
-    hubs_made = a.hubs_made;
-    resources_made = with_binding-all (λ i. at makes_resource x.history i ≡ true) x.resources name n a.resources_made made;
-    leases_made = a.leases_made;
-  }
+  with_resource name n m made number = with_names (a.nodes, a.nodes_made) (a.hubs, a.hubs_made)
+      (one_more makes_resource x.resources y.resources (a.resources, a.resources_made) name n m made number)
+      (a.leases, a.leases_made) (ap (λ (l : List Ware). drop 1 l) a.stock)
 
   with_lease : (name : Name) (n m : ℕ) → at makes_lease x.history n ≡ true → q n ≡ m
       → AreSameStages q t (record x { leases = with_binding x.leases name n }) (record y { leases = with_binding y.leases name m })
-  with_lease name n m made number = record {
-    histories = a.histories;
-    settled = a.settled;
-    settled_there = a.settled_there;
-    nodes = a.nodes;
-    hubs = a.hubs;
-    resources = a.resources;
-    leases = with_binding-renamed q x.leases y.leases name n m a.leases number;
-    stock = a.stock;
-    nodes_made = a.nodes_made;
-    hubs_made = a.hubs_made;
-    resources_made = a.resources_made;
-    leases_made = with_binding-all (λ i. at makes_lease x.history i ≡ true) x.leases name n a.leases_made made;
-  }
+  with_lease name n m made number = with_names (a.nodes, a.nodes_made) (a.hubs, a.hubs_made) (a.resources, a.resources_made)
+      (one_more makes_lease x.leases y.leases (a.leases, a.leases_made) name n m made number) a.stock
 
   with_connection-same : (o : Option Name) (c d : Option ℕ) → d ≡ option_map q c → ((n : ℕ) → c ≡ Some n → at makes_node x.history n ≡ true)
       → AreSameStages q t (record x { nodes = with_connection x.nodes o c }) (record y { nodes = with_connection y.nodes o d })
@@ -414,22 +381,12 @@ module _ (r s : ℕ → ℕ) (x y : Stage) (k j : List Event) (a : AreSameStages
   after_same (using name site res) called = after_using name res (using_call (place_at x site) (front x) call called)
   after_same (open_node name site sort) called = after_open name (connection_name sort) (open_call (place_at x site) (kind_at x sort) call called)
   after_same (hold node res) called = after_hold res (hold_call (bound x.nodes node) (front x) call called)
-  after_same (apply res word) called = base
-  after_same (remove res) called = base
   after_same (lease res name) called = after_lease name (lease_call (bound x.resources res) call called)
-  after_same (give_back name) called = base
-  after_same (next node value) called = base
-  after_same (end node t) called = base
-  after_same (abort node code) called = base
-  after_same (decline node) called = base
-  after_same (fail node code) called = base
-  after_same (dispose node) called = base
   after_same (make_hub name mode) called =
       let made : slice_get k (length x.history) ≡ Some (Hub mode) =
       new_event x.history k [] (Hub mode) (subst (λ (z : Call). IsStepOf nothing_kept x.history z k) (sym (same_Some (Publishing mode) call called)) step) in
       with_hub since.reads since.reads_back X Y base name (length x.history) (length y.history) (one_there (Hub mode) makes_hub refl made)
       (next_number (Hub mode) refl made)
   after_same (connect hub name) called = after_connect name (connect_call (bound x.hubs hub) call called)
-  after_same (disconnect hub) called = base
-  after_same drain called = base
   after_same checkpoint called = absurd (none-some call called)
+  after_same _ called = base

@@ -1,19 +1,10 @@
 -- Two stages that differ in their histories alone: the same causes of the scenario's own stand, a step makes the same call, and binds
 -- the same names where it adds the same events.
-use Rattle.std.proofs.Common.{◌≡◌, ℕ, suc, ◌+◌, false, List, [], ◌∷◌, ◌++◌, length, Some, None, cond, refl, sym, ap, ◌∙◌, arith}
-use Rattle.std.proofs.Math.Bool.{◌||◌}
-use Rattle.std.specs.Prelude.{slice_get, drop, option_map}
-use Rattle.std.specs.Option.{option_and_then, option_map_or}
-use Rattle.rx_event.specs.declared.event.Event.{Event}
-use Rattle.rx_event.specs.declared.event.Place.{Place}
-use Rattle.rx_event.specs.Calls.{Opening, OpeningUsing}
-use Rattle.rx_book.specs.Answers.{makes_connection, connection_made}
-use Rattle.rx_agenda.specs.declared.answer.Cause.TheVariants.{NoName, NameTaken, NoStock}
-use Rattle.rx_agenda.specs.Bindings.{with_binding}
-use Rattle.rx_scenario.specs.Scenario.{Site, root, source, inner, notifier, Sort, leaf, pass, flat, switch, until}
-use Rattle.rx_scenario.specs.Scenario.{sub, Command, using, open_node, hold, lease, make_hub, connect, checkpoint}
-use Rattle.rx_script.specs.Stage.{Stage, is_unbound_site, is_unbound_hub, connection_name, with_connection}
-use Rattle.rx_script.specs.Stage.{lacks_name, takes_name, lacks_stock, own_cause, place_at, kind_at, front, call_of, after}
+use Rattle.rx_script.proofs.Common.{◌≡◌, ℕ, suc, ◌+◌, false, List, [], ◌∷◌, ◌++◌, length, Some, None, cond, refl, sym, ap, ◌∙◌, arith, ◌||◌, slice_get, drop}
+use Rattle.rx_script.proofs.Common.{option_map, option_and_then, option_map_or, Event, Place, Opening, OpeningUsing, makes_connection, connection_made, NoName}
+use Rattle.rx_script.proofs.Common.{NameTaken, NoStock, with_binding, Site, root, Sort, sub, Command, using, open_node, hold, lease, make_hub, connect}
+use Rattle.rx_script.proofs.Common.{checkpoint, Stage, is_unbound_site, is_unbound_hub, connection_name, with_connection, lacks_name, takes_name, lacks_stock}
+use Rattle.rx_script.proofs.Common.{own_cause, place_at, kind_at, front, call_of, after}
 
 -- a stage with another history, in which so many events came before the last checkpoint
 abbrev pub with_history : Stage → List Event → ℕ → Stage
@@ -22,31 +13,19 @@ with_history s h n = record s { history = h; checked = n }
 module _ (s : Stage) (h : List Event) (n : ℕ) where
   site_kept : (site : Site) → is_unbound_site (with_history s h n) site ≡ is_unbound_site s site
   site_kept root = refl
-  site_kept (source name) = refl
-  site_kept (inner name) = refl
-  site_kept (notifier name) = refl
+  site_kept _ = refl
 
   hub_kept : (sort : Sort) → is_unbound_hub (with_history s h n) sort ≡ is_unbound_hub s sort
   hub_kept (sub hub connection) = refl
-  hub_kept leaf = refl
-  hub_kept pass = refl
-  hub_kept flat = refl
-  hub_kept switch = refl
-  hub_kept until = refl
+  hub_kept _ = refl
 
   place_kept : (site : Site) → place_at (with_history s h n) site ≡ place_at s site
   place_kept root = refl
-  place_kept (source name) = refl
-  place_kept (inner name) = refl
-  place_kept (notifier name) = refl
+  place_kept _ = refl
 
   kind_kept : (sort : Sort) → kind_at (with_history s h n) sort ≡ kind_at s sort
   kind_kept (sub hub connection) = refl
-  kind_kept leaf = refl
-  kind_kept pass = refl
-  kind_kept flat = refl
-  kind_kept switch = refl
-  kind_kept until = refl
+  kind_kept _ = refl
 
   lacks_kept : (step : Command) → lacks_name (with_history s h n) step ≡ lacks_name s step
   lacks_kept (using name site res) = site_kept site
@@ -72,60 +51,16 @@ module _ (s : Stage) (h : List Event) (n : ℕ) where
   -- what it binds, where both histories are of one length, and go on to these with the same connection
   pub after_kept : (step : Command) → (step ≡ checkpoint → ⊥) → (h_then k_then : List Event) → length h ≡ length s.history
       → connection_made h h_then ≡ connection_made s.history k_then → after (with_history s h n) step h_then ≡ with_history (after s step k_then) h_then n
-  after_kept (using name site res) plain h_then k_then long made = λ i. record {
-    history = h_then;
-    checked = n;
-    nodes = with_binding s.nodes name (long i);
-    hubs = s.hubs;
-    resources = with_binding s.resources res (long i + 1);
-    leases = s.leases;
-    stock = drop 1 s.stock;
-  }
-  after_kept (open_node name site sort) plain h_then k_then long made = λ i. record {
-    history = h_then;
-    checked = n;
-    nodes = with_connection (with_binding s.nodes name (long i)) (connection_name sort) (made i);
-    hubs = s.hubs;
-    resources = s.resources;
-    leases = s.leases;
-    stock = s.stock;
-  }
-  after_kept (hold node res) plain h_then k_then long made = λ i. record {
-    history = h_then;
-    checked = n;
-    nodes = s.nodes;
-    hubs = s.hubs;
-    resources = with_binding s.resources res (long i);
-    leases = s.leases;
-    stock = drop 1 s.stock;
-  }
-  after_kept (lease res name) plain h_then k_then long made = λ i. record {
-    history = h_then;
-    checked = n;
-    nodes = s.nodes;
-    hubs = s.hubs;
-    resources = s.resources;
-    leases = with_binding s.leases name (long i);
-    stock = s.stock;
-  }
-  after_kept (make_hub name mode) plain h_then k_then long made = λ i. record {
-    history = h_then;
-    checked = n;
-    nodes = s.nodes;
-    hubs = with_binding s.hubs name (long i);
-    resources = s.resources;
-    leases = s.leases;
-    stock = s.stock;
-  }
-  after_kept (connect hub name) plain h_then k_then long made = λ i. record {
-    history = h_then;
-    checked = n;
-    nodes = with_connection s.nodes name (Some (long i));
-    hubs = s.hubs;
-    resources = s.resources;
-    leases = s.leases;
-    stock = s.stock;
-  }
+  after_kept (using name site res) plain h_then k_then long made = λ i. with_history
+      (record s { nodes = with_binding s.nodes name (long i); resources = with_binding s.resources res (long i + 1); stock = drop 1 s.stock }) h_then n
+  after_kept (open_node name site sort) plain h_then k_then long made = λ i. with_history
+      (record s { nodes = with_connection (with_binding s.nodes name (long i)) (connection_name sort) (made i) }) h_then n
+  after_kept (hold node res) plain h_then k_then long made =
+      λ i. with_history (record s { resources = with_binding s.resources res (long i); stock = drop 1 s.stock }) h_then n
+  after_kept (lease res name) plain h_then k_then long made = λ i. with_history (record s { leases = with_binding s.leases name (long i) }) h_then n
+  after_kept (make_hub name mode) plain h_then k_then long made = λ i. with_history (record s { hubs = with_binding s.hubs name (long i) }) h_then n
+  after_kept (connect hub name) plain h_then k_then long made =
+      λ i. with_history (record s { nodes = with_connection s.nodes name (Some (long i)) }) h_then n
   after_kept checkpoint plain h_then k_then long made = absurd (plain refl)
   after_kept _ plain h_then k_then long made = refl
 

@@ -1,36 +1,18 @@
 -- Stages that are the same but for numbers are reported the same, line by line.
-use Rattle.std.proofs.Common.{◌≡◌, ℕ, ◌+◌, Bool, true, false, List, [], ◌∷◌, ◌++◌, length, Option}
-use Rattle.std.proofs.Common.{Some, None, cond, map, filter, slice_get, refl, sym, ap, ◌∙◌, arith}
-use Rattle.std.specs.Prelude.{flat_map, unwrap_or}
-use Rattle.std.specs.Option.{option_and_then, option_map_or}
-use Rattle.std.proofs.lemmas.Bool.{false≢true}
-use Rattle.std.proofs.lemmas.List.{length-map}
+use Rattle.rx_script.proofs.Common.{◌≡◌, ℕ, ◌+◌, Bool, true, false, List, [], ◌∷◌, ◌++◌, length, Option, Some, None, cond, map, filter, slice_get, refl, sym}
+use Rattle.rx_script.proofs.Common.{ap, ◌∙◌, arith, flat_map, unwrap_or, option_and_then, option_map_or, false≢true, length-map, nothing_kept, Root, Source}
+use Rattle.rx_script.proofs.Common.{Inner, Notifier, Leaf, Event, Open, Accept, makes_node, makes_resource, at, places, is_held, held_count, waiting_count}
+use Rattle.rx_script.proofs.Common.{event_by, is_named, AreSameBy, accepted_count-parts, accepted_tag, Answer, Binding, node_line, res_line, totals_line}
+use Rattle.rx_script.proofs.Common.{closed_line, Held, Waiting, Taken, refused_lines, is_told, node_shown, node_lines, account_of, res_lines, totals_of, Stage}
+use Rattle.rx_script.proofs.Common.{unclosed_report, report}
 use Rattle.std.proofs.lemmas.List.Sums.{length-filter}
-use Rattle.rx_event.specs.Kept.{nothing_kept}
-use Rattle.rx_event.specs.declared.event.Place.TheVariants.{Root, Source, Inner, Notifier}
-use Rattle.rx_event.specs.declared.event.Kind.TheVariants.{Leaf}
-use Rattle.rx_event.specs.declared.event.Event.{Event}
-use Rattle.rx_event.specs.declared.event.Event.TheVariants.{Open, Accept}
-use Rattle.rx_event.specs.Events.{makes_node, makes_resource}
-use Rattle.rx_event.specs.Tree.{at, places}
-use Rattle.rx_event.specs.Resources.{is_held, held_resources}
-use Rattle.rx_event.specs.Totals.{held_count, waiting_count}
-use Rattle.rx_event.specs.Renumbered.{event_by, is_named, AreSameBy}
+use Rattle.rx_event.specs.Resources.{held_resources}
 use Rattle.rx_event.specs.Claims.Seen.{CallersSeeTheSame}
 use Rattle.rx_event.proofs.Laws.Resources.{is_held_within, held_resource}
-use Rattle.rx_event.proofs.Laws.Totals.{accepted_count-parts}
 use Rattle.rx_event.proofs.Laws.ReadShown.{made_at, resource_named, resource_made}
 use Rattle.rx_event.proofs.Laws.TreeRead.{node_named}
 use Rattle.rx_event.proofs.Laws.RisingLists.{same_list}
 use Rattle.rx_event.proofs.Laws.ReadSeen.{callers_see}
-use Rattle.rx_book.specs.State.{accepted_tag}
-use Rattle.rx_agenda.specs.declared.answer.Answer.{Answer}
-use Rattle.rx_agenda.specs.Bindings.{Binding}
-use Rattle.rx_report.specs.Text.{node_line, res_line, totals_line, closed_line}
-use Rattle.rx_report.specs.declared.line.Whereabouts.TheVariants.{Held, Waiting, Taken}
-use Rattle.rx_report.specs.Lines.{refused_lines, is_told, node_shown, node_lines, account_of, res_lines, totals_of}
-use Rattle.rx_script.specs.Stage.{Stage}
-use Rattle.rx_script.specs.Report.{unclosed_report, report}
 use Rattle.rx_script.proofs.NamesForOtherNumbers.{renamed, AllNumbers}
 use Rattle.rx_script.proofs.SameStages.{AreSameStages}
 

@@ -1,40 +1,25 @@
 -- The same cause comes first against a call in two stored histories that agree, where the limits end at one place.
-use Rattle.std.proofs.Common.{◌≡◌, ℕ, ◌+◌, ◌*◌, Bool, true, false, List, [], ◌∷◌, length, Option}
-use Rattle.std.proofs.Common.{Some, cond, refl, sym, ap, ◌∙◌, inl, inr, ◌⊎◌, ◌==◌, nat_lt, count_by}
-use Rattle.std.proofs.Math.Bool.{not, ◌&&◌, ◌||◌}
-use Rattle.std.specs.List.{list_any, AllByRecursion, range_with_len}
-use Rattle.std.specs.Option.{option_map_or}
-use Rattle.std.proofs.lemmas.Bool.{false≢true, cases_Bool}
-use Rattle.rx_event.specs.Kept.{Kept}
-use Rattle.rx_event.specs.Bases.{Agree}
-use Rattle.rx_event.specs.declared.event.Mode.{Mode}
-use Rattle.rx_event.specs.declared.event.Place.{Place}
-use Rattle.rx_event.specs.declared.event.Place.TheVariants.{Root, Source, Inner, Notifier}
-use Rattle.rx_event.specs.declared.event.Kind.{Kind}
-use Rattle.rx_event.specs.declared.event.Kind.TheVariants.{Sub}
-use Rattle.rx_event.specs.declared.event.Event.{Event}
-use Rattle.rx_event.specs.declared.event.Event.TheVariants.{Hub}
-use Rattle.rx_event.specs.declared.refusal.Refusal.{Refusal}
-use Rattle.rx_event.specs.declared.refusal.Refusal.TheVariants.{Full, Gone, WrongKind, PlaceTaken, NothingOwed, NotRoot, NoHub, HubOrder, Connected}
-use Rattle.rx_event.specs.declared.refusal.Refusal.TheVariants.{NotConnected, NoLease, NotHeld, Leased, HasChild, TooMany}
-use Rattle.rx_event.specs.Events.{makes_hub, has_source, is_leaf, is_merging, is_until, is_root, is_auto_hub, is_manual_hub}
-use Rattle.rx_event.specs.Tree.{at, ancestors, parent, is_open, is_open_child_of, has_open_child}
-use Rattle.rx_event.specs.Climb.{most_visits}
-use Rattle.rx_event.specs.Moments.{is_projection, owed}
-use Rattle.rx_event.specs.Allowed.{most_nodes, most_hubs, may_abort}
-use Rattle.rx_event.specs.Totals.{debt, open_count}
-use Rattle.rx_event.specs.Lawful.{IsLawful}
-use Rattle.rx_event.specs.Refusals.{first_cause}
-use Rattle.rx_event.specs.Calls.{Opening, OpeningUsing, Holding, Applying, Removing, Leasing, GivingBack, Emitting, Ending, Aborting, Declining, Failing}
-use Rattle.rx_event.specs.Calls.{Disposing, Publishing, Connecting, Disconnecting, Taking, Call}
+use Rattle.rx_script.proofs.Common.{◌≡◌, ℕ, ◌+◌, Bool, true, false, List, [], ◌∷◌, length, Option, Some, cond, refl, sym, ap, ◌∙◌, inl, inr, ◌⊎◌, ◌==◌, nat_lt}
+use Rattle.rx_script.proofs.Common.{count_by, not, ◌&&◌, ◌||◌, list_any, AllByRecursion, range_with_len, option_map_or, false≢true, cases_Bool, Kept, Agree}
+use Rattle.rx_script.proofs.Common.{Mode, Place, Root, Source, Inner, Notifier, Kind, Sub, Event, Hub, Refusal, Full, Gone, makes_hub, at, ancestors, parent}
+use Rattle.rx_script.proofs.Common.{is_open, most_visits, owed, most_nodes, most_hubs, debt, open_count, IsLawful, first_cause, Opening, OpeningUsing, Holding}
+use Rattle.rx_script.proofs.Common.{Applying, Removing, Leasing, GivingBack, Emitting, Ending, Aborting, Declining, Failing, Disposing, Publishing, Connecting}
+use Rattle.rx_script.proofs.Common.{Disconnecting, Call, Alike, alike_of, connections_alike, is_gone, is_over, added_by, causes, arith}
+use Rattle.std.proofs.Common.{◌*◌}
+use Rattle.rx_event.specs.declared.refusal.Refusal.TheVariants.{WrongKind, PlaceTaken, NothingOwed, NotRoot, NoHub, HubOrder, Connected, NotConnected, NoLease}
+use Rattle.rx_event.specs.declared.refusal.Refusal.TheVariants.{NotHeld, Leased, HasChild, TooMany}
+use Rattle.rx_event.specs.Events.{has_source, is_leaf, is_merging, is_until, is_root, is_auto_hub, is_manual_hub}
+use Rattle.rx_event.specs.Tree.{is_open_child_of, has_open_child}
+use Rattle.rx_event.specs.Moments.{is_projection}
+use Rattle.rx_event.specs.Allowed.{may_abort}
 use Rattle.rx_event.proofs.Laws.Openness.{ancestors_open}
-use Rattle.rx_event.proofs.Laws.SameTree.{Alike, alike_of, alike_back, at_alike, at_hub_alike, parent_alike, ancestors_alike}
-use Rattle.rx_event.proofs.Laws.SameTree.{connections_alike, visits_alike, stops_alike}
+use Rattle.rx_event.proofs.Laws.SameTree.{alike_back, at_alike, at_hub_alike, parent_alike, ancestors_alike, visits_alike, stops_alike}
 use Rattle.rx_event.proofs.Laws.SameForcedAndAllowed.{hubs_alike, hub_is}
 use Rattle.rx_event.proofs.Laws.Steps.{named_below}
 use Rattle.rx_event.proofs.Laws.Checkpoints.{same_debt}
-use Rattle.rx_event.specs.Causes.{has_connection, is_without_hub, forces_connect, connects_up_to, is_out_of_order, is_gone, is_wrong_place}
-use Rattle.rx_event.specs.Causes.{is_taken_place, is_unowed_place, is_crowded, is_over, nodes_opened, end_at, added_by, opening_causes, using_causes, causes}
+use Rattle.rx_event.specs.Causes.{has_connection, is_without_hub, forces_connect, connects_up_to, is_out_of_order, is_wrong_place, is_taken_place}
+use Rattle.rx_event.specs.Causes.{is_unowed_place, is_crowded, nodes_opened, end_at}
+use Rattle.std.proofs.lemmas.Bool.{not-false}
 
 same_first : (p q : Refusal → Bool) → ((why : Refusal) → p why ≡ q why) → first_cause p ≡ first_cause q
 same_first p q same = λ i. first_cause (λ why. same why i)
@@ -46,9 +31,7 @@ gone_first p q hub gone also = by_gone p gone ∙ ap (λ b. cond {A = Option Ref
   by_gone x is = rw is refl
 
 same_test : (x y : Bool) → (x ≡ true → y ≡ true) → (y ≡ true → x ≡ true) → x ≡ y
-same_test true y there back = sym (there refl)
-same_test false true there back = back refl
-same_test false false there back = refl
+same_test x y e e2 = grind arith
 
 auto_is : (e : Event) → is_auto_hub e ≡ true → (mode : Mode) × (e ≡ Hub mode)
 auto_is (Hub mode) is = (mode, refl)
@@ -65,10 +48,6 @@ same_any p q (n ∷ ns) all = λ i. all.0 i || same_any p q ns all.1 i
 each_same : (P : ℕ → Type 0) (p q : ℕ → Bool) → ((n : ℕ) → P n → p n ≡ q n) → (ns : List ℕ) → AllByRecursion P ns → AllByRecursion (λ n. p n ≡ q n) ns
 each_same P p q same [] all = tt
 each_same P p q same (n ∷ ns) all = (same n all.0, each_same P p q same ns all.1)
-
-open_where : (b : Bool) → not b ≡ false → b ≡ true
-open_where true is = refl
-open_where false is = absurd (false≢true (sym is))
 
 module _ (b : Kept) (h : List Event) (c : Kept) (k : List Event) (a : Agree b h c k) (law : IsLawful b h) where
   -- what the rows rest on ------------------------------------------------------------------------
@@ -99,9 +78,9 @@ module _ (b : Kept) (h : List Event) (c : Kept) (k : List Event) (a : Agree b h 
 
   open_place : (place : Place) → is_gone h place ≡ false → OpenPlace place
   open_place Root is = tt
-  open_place (Source p) is = open_where (is_open h p) is
-  open_place (Inner p) is = open_where (is_open h p) is
-  open_place (Notifier p) is = open_where (is_open h p) is
+  open_place (Source p) is = not-false (is_open h p) is
+  open_place (Inner p) is = not-false (is_open h p) is
+  open_place (Notifier p) is = not-false (is_open h p) is
 
   wrong_same : (place : Place) → OpenPlace place → is_wrong_place h place ≡ is_wrong_place k place
   wrong_same Root o = refl
@@ -172,50 +151,6 @@ module _ (b : Kept) (h : List Event) (c : Kept) (k : List Event) (a : Agree b h 
     opened_same : (kind : Kind) → nodes_opened h kind ≡ nodes_opened k kind
     opened_same kind = λ i. 1 + cond (forces_same kind i) 1 0
 
-    opening_same : (place : Place) (kind : Kind) → first_cause (opening_causes b h n place kind) ≡ first_cause (opening_causes c k m place kind)
-    opening_same place kind = by_gone (cases_Bool (is_gone h place)) where
-      by_cause : OpenPlace place → (why : Refusal) → opening_causes b h n place kind why ≡ opening_causes c k m place kind why
-      by_cause o NoHub = without_same kind
-      by_cause o Gone = gone_same place
-      by_cause o WrongKind = wrong_same place o
-      by_cause o PlaceTaken = taken_same place o
-      by_cause o NothingOwed = unowed_same place o
-      by_cause o HubOrder = order_same place kind o
-      by_cause o TooMany = crowded_same (nodes_opened h kind) (nodes_opened k kind) (opened_same kind)
-      by_cause o Full = over_same (added_by h (Opening place kind)) (added_by k (Opening place kind))
-          (λ i. 1 + end_at place + 2 * cond (forces_same kind i) 1 0)
-      by_cause o _ = refl
-
-      by_gone : (is_gone h place ≡ true) ⊎ (is_gone h place ≡ false)
-          → first_cause (opening_causes b h n place kind) ≡ first_cause (opening_causes c k m place kind)
-      by_gone (inl gone) =
-          gone_first (opening_causes b h n place kind) (opening_causes c k m place kind) (without_same kind) gone (sym (gone_same place) ∙ gone)
-      by_gone (inr here) = same_first (opening_causes b h n place kind) (opening_causes c k m place kind) (by_cause (open_place place here))
-
-    using_same : (fresh : Bool) (place : Place) (tag : ℕ) → first_cause (using_causes b h n fresh place tag) ≡ first_cause (using_causes c k m fresh place tag)
-    using_same fresh place tag = by_gone (cases_Bool (is_gone h place)) where
-      by_cause : OpenPlace place → (why : Refusal) → using_causes b h n fresh place tag why ≡ using_causes c k m fresh place tag why
-      by_cause o Gone = gone_same place
-      by_cause o WrongKind = wrong_same place o
-      by_cause o PlaceTaken = taken_same place o
-      by_cause o NothingOwed = unowed_same place o
-      by_cause o TooMany = crowded_same 1 1 refl
-      by_cause o Full = over_same (added_by h (OpeningUsing place tag)) (added_by k (OpeningUsing place tag)) refl
-      by_cause o _ = refl
-
-      by_gone : (is_gone h place ≡ true) ⊎ (is_gone h place ≡ false)
-          → first_cause (using_causes b h n fresh place tag) ≡ first_cause (using_causes c k m fresh place tag)
-      by_gone (inl gone) = gone_first (using_causes b h n fresh place tag) (using_causes c k m fresh place tag) refl gone (sym (gone_same place) ∙ gone)
-      by_gone (inr here) = same_first (using_causes b h n fresh place tag) (using_causes c k m fresh place tag) (by_cause (open_place place here))
-
-    -- a row of a call at one node: a closed node is gone in both
-    at_node : (node : ℕ) (p q : Refusal → Bool) → p NoHub ≡ false → q NoHub ≡ false → p Gone ≡ not (is_open h node) → q Gone ≡ not (is_open k node)
-        → (is_open h node ≡ true → (why : Refusal) → p why ≡ q why) → first_cause p ≡ first_cause q
-    at_node node p q no_hub also gone gone_too rest = by_open (cases_Bool (is_open h node)) where
-      by_open : (is_open h node ≡ true) ⊎ (is_open h node ≡ false) → first_cause p ≡ first_cause q
-      by_open (inl o) = same_first p q (rest o)
-      by_open (inr closed) = gone_first p q (no_hub ∙ sym also) (gone ∙ ap not closed) (gone_too ∙ ap not (sym (alike.same_open node) ∙ closed))
-
     module _ (fresh : Bool) where
       abbrev Here : Call → Refusal → Bool
       Here call = causes b h n fresh call
@@ -223,88 +158,93 @@ module _ (b : Kept) (h : List Event) (c : Kept) (k : List Event) (a : Agree b h 
       abbrev There : Call → Refusal → Bool
       There call = causes c k m fresh call
 
+      -- the node that a call names is open
+      abbrev NamesOpen : Call → Type 0
+      NamesOpen (Opening place kind) = OpenPlace place
+      NamesOpen (OpeningUsing place tag) = OpenPlace place
+      NamesOpen (Holding node tag) = is_open h node ≡ true
+      NamesOpen (Emitting leaf v) = is_open h leaf ≡ true
+      NamesOpen (Ending leaf t) = is_open h leaf ≡ true
+      NamesOpen (Aborting node code) = is_open h node ≡ true
+      NamesOpen (Declining f) = is_open h f ≡ true
+      NamesOpen (Failing f code) = is_open h f ≡ true
+      NamesOpen (Disposing root) = is_open h root ≡ true
+      NamesOpen _ = Unit {0}
+
+      -- then each cause stands in both
+      same_cause : (call : Call) → NamesOpen call → (why : Refusal) → Here call why ≡ There call why
+      same_cause (Opening place kind) o NoHub = without_same kind
+      same_cause (Opening place kind) o Gone = gone_same place
+      same_cause (Opening place kind) o WrongKind = wrong_same place o
+      same_cause (Opening place kind) o PlaceTaken = taken_same place o
+      same_cause (Opening place kind) o NothingOwed = unowed_same place o
+      same_cause (Opening place kind) o HubOrder = order_same place kind o
+      same_cause (Opening place kind) o TooMany = crowded_same (nodes_opened h kind) (nodes_opened k kind) (opened_same kind)
+      same_cause (Opening place kind) o Full = over_same (added_by h (Opening place kind)) (added_by k (Opening place kind))
+          (λ i. 1 + end_at place + 2 * cond (forces_same kind i) 1 0)
+      same_cause (OpeningUsing place tag) o Gone = gone_same place
+      same_cause (OpeningUsing place tag) o WrongKind = wrong_same place o
+      same_cause (OpeningUsing place tag) o PlaceTaken = taken_same place o
+      same_cause (OpeningUsing place tag) o NothingOwed = unowed_same place o
+      same_cause (OpeningUsing place tag) o TooMany = crowded_same 1 1 refl
+      same_cause (OpeningUsing place tag) o Full = over_same (added_by h (OpeningUsing place tag)) (added_by k (OpeningUsing place tag)) refl
+      same_cause (Holding node tag) o Gone = ap not (alike.same_open node)
+      same_cause (Holding node tag) o Full = over_same 3 3 refl
+      same_cause (Applying r) o NotHeld = ap not (a.held r)
+      same_cause (Applying r) o Full = over_same 1 1 refl
+      same_cause (Removing r) o NotHeld = ap not (a.held r)
+      same_cause (Removing r) o Leased = ap not (a.owned r)
+      same_cause (Leasing r) o NotHeld = ap not (a.held r)
+      same_cause (Leasing r) o Leased = ap not (a.owned r)
+      same_cause (Leasing r) o Full = over_same 2 2 refl
+      same_cause (GivingBack l) o NoLease = ap not (a.out l)
+      same_cause (Emitting leaf v) o Gone = ap not (alike.same_open leaf)
+      same_cause (Emitting leaf v) o WrongKind = ap not (on_open is_leaf leaf o)
+      same_cause (Emitting leaf v) o TooMany = ap (λ (x : ℕ). nat_lt most_visits x) (visits_alike h k alike (named_below b h law) leaf o)
+      same_cause (Emitting leaf v) o Full = over_same (added_by h (Emitting leaf v)) (added_by k (Emitting leaf v))
+          (λ i. 1 + count_by is_projection (stops_alike h k alike (named_below b h law) leaf o i))
+      same_cause (Ending leaf t) o Gone = ap not (alike.same_open leaf)
+      same_cause (Ending leaf t) o WrongKind = ap not (on_open is_leaf leaf o)
+      same_cause (Aborting node code) o Gone = ap not (alike.same_open node)
+      same_cause (Aborting node code) o WrongKind = ap not (on_open may_abort node o)
+      same_cause (Aborting node code) o HasChild = children_same node
+      same_cause (Declining f) o Gone = ap not (alike.same_open f)
+      same_cause (Declining f) o WrongKind = ap not (on_open is_merging f o)
+      same_cause (Declining f) o NothingOwed = ap (λ (x : ℕ). x == 0) (owes_same f o)
+      same_cause (Failing f code) o Gone = ap not (alike.same_open f)
+      same_cause (Failing f code) o WrongKind = ap not (on_open is_merging f o)
+      same_cause (Failing f code) o NothingOwed = ap (λ (x : ℕ). x == 0) (owes_same f o)
+      same_cause (Disposing root) o Gone = ap not (alike.same_open root)
+      same_cause (Disposing root) o NotRoot = ap not (on_open is_root root o)
+      same_cause (Publishing mode) o TooMany = ap (λ (ns : List ℕ). nat_lt most_hubs (length ns + 1)) (hubs_alike h k alike)
+      same_cause (Publishing mode) o Full = over_same 1 1 refl
+      same_cause (Connecting g) o NoHub = ap not (on_hubs makes_hub hub_is g)
+      same_cause (Connecting g) o WrongKind = ap not (on_hubs is_manual_hub manual_is g)
+      same_cause (Connecting g) o Connected = connection_same g
+      same_cause (Connecting g) o TooMany = crowded_same 1 1 refl
+      same_cause (Connecting g) o Full = over_same 2 2 refl
+      same_cause (Disconnecting g) o NoHub = ap not (on_hubs makes_hub hub_is g)
+      same_cause (Disconnecting g) o WrongKind = ap not (on_hubs is_manual_hub manual_is g)
+      same_cause (Disconnecting g) o NotConnected = ap not (connection_same g)
+      same_cause _ o _ = refl
+
+      -- a row of a call at one place or node: what is closed is gone in both
+      at_place : (call : Call) (place : Place) → Here call NoHub ≡ There call NoHub → Here call Gone ≡ is_gone h place → There call Gone ≡ is_gone k place
+          → (OpenPlace place → NamesOpen call) → first_cause (Here call) ≡ first_cause (There call)
+      at_place call place hub gone also names = by_gone (cases_Bool (is_gone h place)) where
+        by_gone : (is_gone h place ≡ true) ⊎ (is_gone h place ≡ false) → first_cause (Here call) ≡ first_cause (There call)
+        by_gone (inl is) = gone_first (Here call) (There call) hub (gone ∙ is) (also ∙ sym (gone_same place) ∙ is)
+        by_gone (inr here) = same_first (Here call) (There call) (same_cause call (names (open_place place here)))
+
       -- The same cause comes first
       pub same_row : (call : Call) → first_cause (causes b h n fresh call) ≡ first_cause (causes c k m fresh call)
-      same_row (Opening place kind) = opening_same place kind
-      same_row (OpeningUsing place tag) = using_same fresh place tag
-      same_row (Holding node tag) = at_node node (Here (Holding node tag)) (There (Holding node tag)) refl refl refl refl by_cause where
-        by_cause : is_open h node ≡ true → (why : Refusal) → Here (Holding node tag) why ≡ There (Holding node tag) why
-        by_cause o Gone = ap not (alike.same_open node)
-        by_cause o Full = over_same 3 3 refl
-        by_cause o _ = refl
-      same_row (Applying r) = same_first (Here (Applying r)) (There (Applying r)) by_cause where
-        by_cause : (why : Refusal) → Here (Applying r) why ≡ There (Applying r) why
-        by_cause NotHeld = ap not (a.held r)
-        by_cause Full = over_same 1 1 refl
-        by_cause _ = refl
-      same_row (Removing r) = same_first (Here (Removing r)) (There (Removing r)) by_cause where
-        by_cause : (why : Refusal) → Here (Removing r) why ≡ There (Removing r) why
-        by_cause NotHeld = ap not (a.held r)
-        by_cause Leased = ap not (a.owned r)
-        by_cause _ = refl
-      same_row (Leasing r) = same_first (Here (Leasing r)) (There (Leasing r)) by_cause where
-        by_cause : (why : Refusal) → Here (Leasing r) why ≡ There (Leasing r) why
-        by_cause NotHeld = ap not (a.held r)
-        by_cause Leased = ap not (a.owned r)
-        by_cause Full = over_same 2 2 refl
-        by_cause _ = refl
-      same_row (GivingBack l) = same_first (Here (GivingBack l)) (There (GivingBack l)) by_cause where
-        by_cause : (why : Refusal) → Here (GivingBack l) why ≡ There (GivingBack l) why
-        by_cause NoLease = ap not (a.out l)
-        by_cause _ = refl
-      same_row (Emitting leaf v) = at_node leaf (Here (Emitting leaf v)) (There (Emitting leaf v)) refl refl refl refl by_cause where
-        by_cause : is_open h leaf ≡ true → (why : Refusal) → Here (Emitting leaf v) why ≡ There (Emitting leaf v) why
-        by_cause o Gone = ap not (alike.same_open leaf)
-        by_cause o WrongKind = ap not (on_open is_leaf leaf o)
-        by_cause o TooMany = ap (λ (x : ℕ). nat_lt most_visits x) (visits_alike h k alike (named_below b h law) leaf o)
-        by_cause o Full = over_same (added_by h (Emitting leaf v)) (added_by k (Emitting leaf v))
-            (λ i. 1 + count_by is_projection (stops_alike h k alike (named_below b h law) leaf o i))
-        by_cause o _ = refl
-      same_row (Ending leaf t) = at_node leaf (Here (Ending leaf t)) (There (Ending leaf t)) refl refl refl refl by_cause where
-        by_cause : is_open h leaf ≡ true → (why : Refusal) → Here (Ending leaf t) why ≡ There (Ending leaf t) why
-        by_cause o Gone = ap not (alike.same_open leaf)
-        by_cause o WrongKind = ap not (on_open is_leaf leaf o)
-        by_cause o _ = refl
-      same_row (Aborting node code) = at_node node (Here (Aborting node code)) (There (Aborting node code)) refl refl refl refl by_cause where
-        by_cause : is_open h node ≡ true → (why : Refusal) → Here (Aborting node code) why ≡ There (Aborting node code) why
-        by_cause o Gone = ap not (alike.same_open node)
-        by_cause o WrongKind = ap not (on_open may_abort node o)
-        by_cause o HasChild = children_same node
-        by_cause o _ = refl
-      same_row (Declining f) = at_node f (Here (Declining f)) (There (Declining f)) refl refl refl refl by_cause where
-        by_cause : is_open h f ≡ true → (why : Refusal) → Here (Declining f) why ≡ There (Declining f) why
-        by_cause o Gone = ap not (alike.same_open f)
-        by_cause o WrongKind = ap not (on_open is_merging f o)
-        by_cause o NothingOwed = ap (λ (x : ℕ). x == 0) (owes_same f o)
-        by_cause o _ = refl
-      same_row (Failing f code) = at_node f (Here (Failing f code)) (There (Failing f code)) refl refl refl refl by_cause where
-        by_cause : is_open h f ≡ true → (why : Refusal) → Here (Failing f code) why ≡ There (Failing f code) why
-        by_cause o Gone = ap not (alike.same_open f)
-        by_cause o WrongKind = ap not (on_open is_merging f o)
-        by_cause o NothingOwed = ap (λ (x : ℕ). x == 0) (owes_same f o)
-        by_cause o _ = refl
-      same_row (Disposing root) = at_node root (Here (Disposing root)) (There (Disposing root)) refl refl refl refl by_cause where
-        by_cause : is_open h root ≡ true → (why : Refusal) → Here (Disposing root) why ≡ There (Disposing root) why
-        by_cause o Gone = ap not (alike.same_open root)
-        by_cause o NotRoot = ap not (on_open is_root root o)
-        by_cause o _ = refl
-      same_row (Publishing mode) = same_first (Here (Publishing mode)) (There (Publishing mode)) by_cause where
-        by_cause : (why : Refusal) → Here (Publishing mode) why ≡ There (Publishing mode) why
-        by_cause TooMany = ap (λ (ns : List ℕ). nat_lt most_hubs (length ns + 1)) (hubs_alike h k alike)
-        by_cause Full = over_same 1 1 refl
-        by_cause _ = refl
-      same_row (Connecting g) = same_first (Here (Connecting g)) (There (Connecting g)) by_cause where
-        by_cause : (why : Refusal) → Here (Connecting g) why ≡ There (Connecting g) why
-        by_cause NoHub = ap not (on_hubs makes_hub hub_is g)
-        by_cause WrongKind = ap not (on_hubs is_manual_hub manual_is g)
-        by_cause Connected = connection_same g
-        by_cause TooMany = crowded_same 1 1 refl
-        by_cause Full = over_same 2 2 refl
-        by_cause _ = refl
-      same_row (Disconnecting g) = same_first (Here (Disconnecting g)) (There (Disconnecting g)) by_cause where
-        by_cause : (why : Refusal) → Here (Disconnecting g) why ≡ There (Disconnecting g) why
-        by_cause NoHub = ap not (on_hubs makes_hub hub_is g)
-        by_cause WrongKind = ap not (on_hubs is_manual_hub manual_is g)
-        by_cause NotConnected = ap not (connection_same g)
-        by_cause _ = refl
-      same_row (Taking r) = refl
+      same_row (Opening place kind) = at_place (Opening place kind) place (without_same kind) refl refl (λ o. o)
+      same_row (OpeningUsing place tag) = at_place (OpeningUsing place tag) place refl refl refl (λ o. o)
+      same_row (Holding node tag) = at_place (Holding node tag) (Source node) refl refl refl (λ o. o)
+      same_row (Emitting leaf v) = at_place (Emitting leaf v) (Source leaf) refl refl refl (λ o. o)
+      same_row (Ending leaf t) = at_place (Ending leaf t) (Source leaf) refl refl refl (λ o. o)
+      same_row (Aborting node code) = at_place (Aborting node code) (Source node) refl refl refl (λ o. o)
+      same_row (Declining f) = at_place (Declining f) (Source f) refl refl refl (λ o. o)
+      same_row (Failing f code) = at_place (Failing f code) (Source f) refl refl refl (λ o. o)
+      same_row (Disposing root) = at_place (Disposing root) (Source root) refl refl refl (λ o. o)
+      same_row call = same_first (Here call) (There call) (same_cause call tt)

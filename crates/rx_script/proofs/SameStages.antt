@@ -1,30 +1,16 @@
 -- Two stages at which the names stand for the same things, which have other numbers: the same causes of the scenario's own stand, and
 -- each step makes the same call.
-use Rattle.std.proofs.Common.{◌≡◌, ℕ, true, false, List, Option, Some, None, cond, map, slice_get, refl, ap, subst, ◌∙◌}
-use Rattle.std.proofs.Math.Bool.{◌||◌}
-use Rattle.std.specs.Prelude.{option_map}
-use Rattle.std.specs.Str.{bytes_eq}
-use Rattle.std.specs.Option.{option_and_then, option_map_or}
-use Rattle.std.proofs.lemmas.Option.{same_Some, none-some}
-use Rattle.rx_event.specs.Kept.{nothing_kept}
-use Rattle.rx_event.specs.declared.event.Place.{Place}
-use Rattle.rx_event.specs.declared.event.Place.TheVariants.{Root, Source, Inner, Notifier}
-use Rattle.rx_event.specs.declared.event.Kind.{Kind}
-use Rattle.rx_event.specs.declared.event.Kind.TheVariants.{Leaf, Pass, Flat, Switch, Until, Sub}
-use Rattle.rx_event.specs.Events.{makes_node, makes_hub, makes_resource, makes_lease}
-use Rattle.rx_event.specs.Tree.{at}
-use Rattle.rx_event.specs.Forced.{IsSettled}
-use Rattle.rx_event.specs.Calls.{Call, Opening, OpeningUsing, Holding, Applying, Removing, Leasing, GivingBack}
-use Rattle.rx_event.specs.Calls.{Emitting, Ending, Aborting, Declining, Failing, Disposing, Publishing, Connecting, Disconnecting}
-use Rattle.rx_event.specs.Renumbered.{place_by, kind_by, call_by, AreSameBy}
-use Rattle.rx_register.proofs.Laws.SameCauses.{NamesPlace, NamesKind, NamesKnown}
-use Rattle.rx_agenda.specs.declared.answer.Cause.TheVariants.{NoName, NameTaken, NoStock}
-use Rattle.rx_agenda.specs.Bindings.{Binding, bound, is_unbound, is_bound}
-use Rattle.rx_scenario.specs.Scenario.{Name, Site, root, source, inner, notifier, Sort, leaf, pass, flat, switch}
-use Rattle.rx_scenario.specs.Scenario.{until, sub, Command, using, open_node, hold, apply, remove, lease, give_back}
-use Rattle.rx_scenario.specs.Scenario.{next, end, abort, decline, fail, dispose, make_hub, connect, disconnect, drain, checkpoint}
-use Rattle.rx_script.specs.Stage.{Ware, Stage, is_unbound_site, is_unbound_hub, lacks_name, connection_name}
-use Rattle.rx_script.specs.Stage.{takes_name, is_empty, lacks_stock, own_cause, place_at, kind_at, front, call_of}
+use Rattle.rx_script.proofs.Common.{◌≡◌, ℕ, true, false, List, Option, Some, None, cond, map, slice_get, refl, ap, subst, ◌∙◌, ◌||◌, option_map, bytes_eq}
+use Rattle.rx_script.proofs.Common.{option_and_then, option_map_or, same_Some, none-some, nothing_kept, Place, Root, Source, Inner, Notifier, Kind, Leaf, Pass}
+use Rattle.rx_script.proofs.Common.{Flat, Switch, Until, Sub, makes_node, makes_hub, makes_resource, makes_lease, at, IsSettled, Call, Opening, OpeningUsing}
+use Rattle.rx_script.proofs.Common.{Holding, Applying, Removing, Leasing, GivingBack, Emitting, Ending, Aborting, Declining, Failing, Disposing, Publishing}
+use Rattle.rx_script.proofs.Common.{Connecting, Disconnecting, call_by, AreSameBy, NamesKnown, NoName, NameTaken, NoStock, Binding, bound, is_unbound, is_bound}
+use Rattle.rx_script.proofs.Common.{Name, Site, root, source, inner, notifier, Sort, leaf, pass, flat, switch, until, sub, Command, using, open_node, hold}
+use Rattle.rx_script.proofs.Common.{apply, remove, lease, give_back, next, end, abort, decline, fail, dispose, make_hub, connect, disconnect, Ware, Stage}
+use Rattle.rx_script.proofs.Common.{is_unbound_site, is_unbound_hub, lacks_name, connection_name, takes_name, is_empty, lacks_stock, own_cause, place_at}
+use Rattle.rx_script.proofs.Common.{kind_at, front, call_of}
+use Rattle.rx_event.specs.Renumbered.{place_by, kind_by}
+use Rattle.rx_register.proofs.Laws.SameCauses.{NamesPlace, NamesKind}
 use Rattle.rx_script.proofs.NamesForOtherNumbers.{renamed, AllNumbers, bound-same, is_bound-same, is_unbound-same, bound-holds}
 
 pub record AreSameStages (r s : ℕ → ℕ) (x y : Stage) : Type 0 where
@@ -84,11 +70,9 @@ module _ (r s : ℕ → ℕ) (x y : Stage) (a : AreSameStages r s x y) where
   lacks_same (decline node) = no_node node
   lacks_same (fail node code) = no_node node
   lacks_same (dispose node) = no_node node
-  lacks_same (make_hub name mode) = refl
   lacks_same (connect hub name) = no_hub hub
   lacks_same (disconnect hub) = no_hub hub
-  lacks_same drain = refl
-  lacks_same checkpoint = refl
+  lacks_same _ = refl
 
   beside_same : (name : Name) (o : Option Name)
       → option_map_or (λ c. is_bound y.nodes c || bytes_eq name c) o false ≡ option_map_or (λ c. is_bound x.nodes c || bytes_eq name c) o false
@@ -134,11 +118,7 @@ module _ (r s : ℕ → ℕ) (x y : Stage) (a : AreSameStages r s x y) where
 
   kind_same : (sort : Sort) → kind_at y sort ≡ option_map (kind_by r) (kind_at x sort)
   kind_same (sub hub connection) = number_same Sub (kind_by r) (λ n. refl) x.hubs y.hubs hub a.hubs
-  kind_same leaf = refl
-  kind_same pass = refl
-  kind_same flat = refl
-  kind_same switch = refl
-  kind_same until = refl
+  kind_same _ = refl
 
   pub front_same : front y ≡ front x
   front_same = ap (λ (l : List Ware). slice_get l 0) a.stock
@@ -192,11 +172,9 @@ module _ (r s : ℕ → ℕ) (x y : Stage) (a : AreSameStages r s x y) where
   call_same (decline node) = node_call Declining (λ n. refl) node
   call_same (fail node code) = node_call (λ n. Failing n code) (λ n. refl) node
   call_same (dispose node) = node_call Disposing (λ n. refl) node
-  call_same (make_hub name mode) = refl
   call_same (connect hub name) = hub_call Connecting (λ n. refl) hub
   call_same (disconnect hub) = hub_call Disconnecting (λ n. refl) hub
-  call_same drain = refl
-  call_same checkpoint = refl
+  call_same _ = refl
 
   -- its numbers are of what they have to be --------------------------------------------------------------------------------------
 
@@ -285,5 +263,4 @@ module _ (r s : ℕ → ℕ) (x y : Stage) (a : AreSameStages r s x y) where
   call_known (make_hub name mode) call called = subst (NamesKnown x.history) (same_Some (Publishing mode) call called) tt
   call_known (connect hub name) call called = by_hub Connecting (λ n made. made) hub call called
   call_known (disconnect hub) call called = by_hub Disconnecting (λ n made. made) hub call called
-  call_known drain call called = absurd (none-some call called)
-  call_known checkpoint call called = absurd (none-some call called)
+  call_known _ call called = absurd (none-some call called)

@@ -1,40 +1,21 @@
 -- A course that no full history cuts short has one in the one order beside it, with the same answers, at each of whose steps the names
 -- stand for the same things.
-use Rattle.std.proofs.Common.{subst, ◌≡◌, ℕ, ◌+◌, Bool, true, false, List, [], ◌∷◌, ◌++◌, map, Option, Some, None, refl, sym, ap, ◌∙◌, slice_get}
-use Rattle.std.proofs.Math.Bool.{◌||◌}
-use Rattle.std.specs.Prelude.{option_map}
-use Rattle.std.specs.List.{list_any}
-use Rattle.std.specs.Option.{option_map_or}
-use Rattle.std.proofs.lemmas.List.{map-append}
-use Rattle.std.proofs.lemmas.Bool.{false≢true, or_parts}
-use Rattle.std.proofs.lemmas.Option.{same_Some, none-some, slice_get_within}
-use Rattle.rx_event.specs.Kept.{nothing_kept}
-use Rattle.rx_event.specs.declared.event.Event.{Event}
-use Rattle.rx_event.specs.declared.refusal.Refusal.{Refusal}
-use Rattle.rx_event.specs.declared.refusal.Refusal.TheVariants.{Full}
-use Rattle.rx_event.specs.Refusals.{refusal_order, first_cause}
-use Rattle.rx_event.specs.Calls.{Call, Disconnecting, outside_of, IsStepOf}
-use Rattle.rx_event.specs.Renumbered.{call_by, IsKnown, AreSameSince, AreSame}
+use Rattle.rx_script.proofs.Common.{subst, ◌≡◌, ℕ, ◌+◌, Bool, true, false, List, [], ◌∷◌, ◌++◌, map, Option, Some, None, refl, sym, ap, ◌∙◌, slice_get, ◌||◌}
+use Rattle.rx_script.proofs.Common.{option_map, list_any, option_map_or, map-append, false≢true, or_parts, same_Some, none-some, slice_get_within, nothing_kept}
+use Rattle.rx_script.proofs.Common.{Event, Refusal, Full, first_cause, Call, Disconnecting, outside_of, IsStepOf, call_by, AreSameSince, shown_nothing, TakesOn}
+use Rattle.rx_script.proofs.Common.{takes_none, takes_one, slice_get-append, Take, causes, unlimited, settled_empty, NamesKnown, Drains, Answer, Accepted}
+use Rattle.rx_script.proofs.Common.{Refused, Cause, Book, done_in, Command, drain, checkpoint, Action, Step, Script, Ware, Stage, start, own_cause, call_of}
+use Rattle.rx_script.proofs.Common.{front_is_fresh, after, limited, in_one_order, cause_in, Executes, refused, refused_by_book, accepted, drained, checkpointed}
+use Rattle.rx_script.proofs.Common.{Does, does, leaves, Plays, none_played, one_played, HasNoFull, Course, IsCourseOf, IsCanonicalCourseOf}
+use Rattle.rx_event.specs.Refusals.{refusal_order}
+use Rattle.rx_event.specs.Renumbered.{IsKnown, AreSame}
 use Rattle.rx_event.proofs.Laws.Searches.{list_any_push}
-use Rattle.rx_event.proofs.Laws.Begin.{started_empty, shown_nothing}
+use Rattle.rx_event.proofs.Laws.Begin.{started_empty}
 use Rattle.rx_event.proofs.Laws.ReadWhole.{same_start}
 use Rattle.rx_event.proofs.Laws.ReadSteps.{steps_same}
-use Rattle.rx_event.proofs.Laws.ReadDrained.{TakesOn, takes_none, takes_one, drained_same}
-use Rattle.rx_event.proofs.Laws.Places.{slice_get-append}
-use Rattle.rx_event.specs.declared.event.Event.TheVariants.{Take}
-use Rattle.rx_event.specs.Causes.{causes, unlimited}
-use Rattle.rx_register.proofs.Laws.Empty.{settled_empty}
-use Rattle.rx_register.proofs.Laws.SameCauses.{NamesKnown, same_cause, never_full}
-use Rattle.rx_book.specs.Drains.{Drains}
-use Rattle.rx_agenda.specs.declared.answer.Answer.{Answer}
-use Rattle.rx_agenda.specs.declared.answer.Answer.TheVariants.{Accepted, Refused}
-use Rattle.rx_agenda.specs.declared.answer.Cause.{Cause}
-use Rattle.rx_agenda.specs.declared.answer.Cause.TheVariants.{Book}
-use Rattle.rx_agenda.specs.Order.{done_in}
-use Rattle.rx_scenario.specs.Scenario.{Command, drain, checkpoint, Action, Step, Script}
-use Rattle.rx_script.specs.Stage.{Ware, Stage, start, own_cause, call_of, front_is_fresh, after}
-use Rattle.rx_script.specs.Course.{limited, in_one_order, book_cause, cause_in, Executes, refused, refused_by_book, accepted, drained, checkpointed}
-use Rattle.rx_script.specs.Course.{Does, does, leaves, Plays, none_played, one_played, is_full, HasNoFull, Course, IsCourseOf, IsCanonicalCourseOf}
+use Rattle.rx_event.proofs.Laws.ReadDrained.{drained_same}
+use Rattle.rx_register.proofs.Laws.SameCauses.{same_cause, never_full}
+use Rattle.rx_script.specs.Course.{book_cause, is_full}
 use Rattle.rx_script.proofs.CoursesInOrder.{answer_in, answers_done}
 use Rattle.rx_script.proofs.CallsOfSteps.{call_ready}
 use Rattle.rx_script.proofs.StepsInOneOrder.{FirstStep, ordered_step, Drained, takes_drained, OrderedDrain, ordered_drain}

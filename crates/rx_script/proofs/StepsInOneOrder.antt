@@ -1,35 +1,20 @@
 -- In the one order a call against which no cause stands is carried out, and all that waits is taken.
-use Rattle.std.proofs.Common.{◌≡◌, ℕ, zero, suc, ◌+◌, ◌<◌, ◌≤◌, Bool, true, false, List, [], ◌∷◌, ◌++◌}
-use Rattle.std.proofs.Common.{length, None, slice_get, refl, sym, ap, subst, ◌∙◌, arith, append_assoc, append-nil}
-use Rattle.std.proofs.lemmas.Bool.{false_from_ne_true, ltb-true}
-use Rattle.rx_event.specs.Kept.{nothing_kept, shown}
-use Rattle.rx_event.specs.declared.event.Event.{Event}
-use Rattle.rx_event.specs.declared.event.Event.TheVariants.{Take}
-use Rattle.rx_event.specs.declared.refusal.Refusal.{Refusal}
-use Rattle.rx_event.specs.declared.refusal.Refusal.TheVariants.{Full}
-use Rattle.rx_event.specs.Tree.{places}
-use Rattle.rx_event.specs.Resources.{is_waiting, waiting_resources}
-use Rattle.rx_event.specs.Totals.{waiting_count, debt}
-use Rattle.rx_event.specs.Forced.{IsSettled}
+use Rattle.rx_script.proofs.Common.{◌≡◌, ℕ, zero, suc, ◌+◌, ◌<◌, ◌≤◌, Bool, true, false, List, [], ◌∷◌, ◌++◌, length, None, slice_get, refl, sym, ap, subst}
+use Rattle.rx_script.proofs.Common.{◌∙◌, arith, append_assoc, append-nil, false_from_ne_true, ltb-true, nothing_kept, Event, Take, Refusal, Full, places}
+use Rattle.rx_script.proofs.Common.{is_waiting, waiting_resources, waiting_count, debt, IsSettled, MayFollow, IsLawful, stays, first_cause, Call, Opening}
+use Rattle.rx_script.proofs.Common.{OpeningUsing, Holding, Applying, Removing, Leasing, GivingBack, Emitting, Ending, Aborting, Declining, Failing, Disposing}
+use Rattle.rx_script.proofs.Common.{Publishing, Connecting, Disconnecting, Taking, outside_of, IsStepOf, IsFirstStep, nothing_yet, IsLawful-push, lawful_begun}
+use Rattle.rx_script.proofs.Common.{lawful_last, first_forced_on, TakesOn, takes_none, takes_one, is_over, added_by, causes, unlimited, IsReady, Takes}
+use Rattle.rx_script.proofs.Common.{none_taken, next_taken, DrainsInOrder, nothing_left, least_taken}
 use Rattle.rx_event.specs.Allowed.{taken}
-use Rattle.rx_event.specs.Lawful.{allowed, MayFollow, IsLawful, stays}
-use Rattle.rx_event.specs.Refusals.{first_cause}
-use Rattle.rx_event.specs.Calls.{Call, Opening, OpeningUsing, Holding, Applying, Removing, Leasing, GivingBack, Emitting, Ending}
-use Rattle.rx_event.specs.Calls.{Aborting, Declining, Failing, Disposing, Publishing, Connecting, Disconnecting, Taking, outside_of, IsStepOf}
-use Rattle.rx_event.specs.Canonical.{IsFirstStep, nothing_yet}
+use Rattle.rx_event.specs.Lawful.{allowed}
 use Rattle.rx_event.proofs.Laws.Lists.{first_passes}
-use Rattle.rx_event.proofs.Laws.Lawful.{IsLawful-push}
 use Rattle.rx_event.proofs.Laws.Totals.{waiting_count-take}
 use Rattle.rx_event.proofs.Laws.Calm.{closes_none_kept, settled_on, unforced}
-use Rattle.rx_event.proofs.Laws.Begin.{shown_nothing}
-use Rattle.rx_event.proofs.Laws.Starts.{lawful_begun, lawful_last}
-use Rattle.rx_event.proofs.Laws.Finishes.{first_forced_on, finishes, finish_settled}
-use Rattle.rx_event.proofs.Laws.ReadDrained.{TakesOn, takes_none, takes_one}
-use Rattle.rx_event.specs.Causes.{is_over, added_by, causes, unlimited}
-use Rattle.rx_register.specs.Claims.{MayFollowInTurn, IsReady}
+use Rattle.rx_event.proofs.Laws.Finishes.{finishes, finish_settled}
+use Rattle.rx_register.specs.Claims.{MayFollowInTurn}
 use Rattle.rx_register.proofs.Laws.Calls.{call_follows}
-use Rattle.rx_book.specs.Drains.{Takes, none_taken, next_taken}
-use Rattle.rx_script.specs.Course.{DrainsInOrder, nothing_left, least_taken}
+use Rattle.rx_script.proofs.LeasesOut.{nothing_before}
 
 -- calls ------------------------------------------------------------------------------------------------------------------------------
 
@@ -106,13 +91,9 @@ pub settled_take : (h : List Event) (q : ℕ) → IsLawful nothing_kept h → Ma
     → IsSettled nothing_kept h → IsSettled nothing_kept (h ++ Take q ∷ [])
 settled_take h q law next settled = settled_on law next settled refl (λ n. refl) (closes_none_kept h (Take q) refl) refl
 
--- a history has all that nothing shows
-none_shown : (h : List Event) → length (shown nothing_kept) ≤ length h
-none_shown h = subst (λ (l : List Event). length l ≤ length h) (sym shown_nothing) (omega arith)
-
 may_take_on : {h k : List Event} {q : ℕ} → IsStepOf nothing_kept h (Taking q) k → MayFollow nothing_kept h (Take q)
 may_take_on {h = h} {q = q} step =
-    lawful_last nothing_kept h (Take q) (none_shown h) (lawful_begun nothing_kept step.forced (none_shown (h ++ Take q ∷ [])) step.lawful)
+    lawful_last nothing_kept h (Take q) (nothing_before h) (lawful_begun nothing_kept step.forced (nothing_before (h ++ Take q ∷ [])) step.lawful)
 
 taken_alone : {h k : List Event} {q : ℕ} → IsLawful nothing_kept h → IsSettled nothing_kept h → IsStepOf nothing_kept h (Taking q) k → k ≡ h ++ Take q ∷ []
 taken_alone {h = h} {q = q} law settled step = unforced nothing_kept step.forced (settled_take h q law (may_take_on step) settled)

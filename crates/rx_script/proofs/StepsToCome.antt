@@ -1,19 +1,16 @@
 -- How many steps an agenda has to come, with all that may follow them: each step that comes next takes itself off, and brings no more
 -- than those that follow it.
-use Rattle.std.proofs.Common.{◌≡◌, ℕ, suc, ◌+◌, ◌<◌, ◌≤◌, Bool, true, false, List, [], ◌∷◌}
-use Rattle.std.proofs.Common.{◌++◌, Option, Some, None, cond, refl, ap, subst, arith, nat_lt, nat_le}
-use Rattle.std.specs.Prelude.{nat_eq, max, option_map}
-use Rattle.std.specs.List.{AllByRecursion}
-use Rattle.std.proofs.lemmas.Bool.{false_from_ne_true, eqb-true, eq-eqb, ltb-true, lt-ltb}
-use Rattle.std.proofs.lemmas.Option.{same_Some, none-some}
+use Rattle.rx_script.proofs.Common.{◌≡◌, ℕ, suc, ◌+◌, ◌<◌, ◌≤◌, Bool, true, false, List, [], ◌∷◌, ◌++◌, Option, Some, None, cond, refl, ap, subst, arith}
+use Rattle.rx_script.proofs.Common.{nat_lt, nat_eq, option_map, AllByRecursion, false_from_ne_true, eqb-true, eq-eqb, ltb-true, same_Some, none-some}
+use Rattle.rx_script.proofs.Common.{AllByRecursion-both, Name, Steps, no_steps, Step, list_of, Answer, Accepted, Refused, Agenda, empty_agenda, with_steps}
+use Rattle.rx_script.proofs.Common.{followed_by, next_step, Cancels, taken_off, none_waits}
+use Rattle.std.proofs.Common.{nat_le}
+use Rattle.std.specs.Prelude.{max}
+use Rattle.std.proofs.lemmas.Bool.{lt-ltb}
 use Rattle.rx_time.specs.declared.work.Work.{Work}
 use Rattle.rx_time.specs.Schedule.{earlier, next_of, if_due, next_due, without}
-use Rattle.rx_event.proofs.Laws.Lists.{AllByRecursion-both}
-use Rattle.rx_scenario.specs.Scenario.{Name, Steps, no_steps, one_more, Step, list_of}
-use Rattle.rx_agenda.specs.declared.answer.Answer.{Answer}
-use Rattle.rx_agenda.specs.declared.answer.Answer.TheVariants.{Accepted, Refused}
-use Rattle.rx_agenda.specs.Agenda.{Agenda, empty_agenda, with_step_after, with_step, with_steps}
-use Rattle.rx_agenda.specs.Agenda.{followed_by, first_of_turn, next_of_turn, next_step, Cancels, taken_off, none_waits}
+use Rattle.rx_scenario.specs.Scenario.{one_more}
+use Rattle.rx_agenda.specs.Agenda.{with_step_after, with_step, first_of_turn, next_of_turn}
 
 -- a step and those that follow it
 abbrev count_in : Steps → ℕ

@@ -1,39 +1,25 @@
 -- The history from its first event on, of which a book stores a base and the events since: both go on by the same steps.
-use Rattle.std.proofs.Common.{◌≡◌, ℕ, ◌≤◌, List, [], ◌∷◌, ◌++◌, length, map, filter, refl, sym, ap, subst, ◌∙◌, arith, append_assoc, append-nil, length-append}
-use Rattle.std.specs.List.{range_with_len}
-use Rattle.rx_event.specs.declared.event.Event.{Event}
-use Rattle.rx_event.specs.declared.event.Event.TheVariants.{Open, Accept, Close}
-use Rattle.rx_event.specs.declared.event.Kind.TheVariants.{Pass}
-use Rattle.rx_event.specs.Kept.{Kept, nothing_kept, shown}
-use Rattle.rx_event.specs.Bases.{base_of, Agree}
+use Rattle.rx_script.proofs.Common.{◌≡◌, ℕ, ◌≤◌, List, [], ◌∷◌, ◌++◌, length, map, filter, refl, sym, ap, subst, ◌∙◌, arith, append_assoc, append-nil}
+use Rattle.rx_script.proofs.Common.{length-append, range_with_len, Event, Open, Accept, Close, Pass, Kept, nothing_kept, shown, base_of, Agree}
+use Rattle.rx_script.proofs.Common.{waiting_resources, notes, IsSettled, forced, stays, more, IsLawful, IsForcedOn, Call, OpeningUsing, Disconnecting, Taking}
+use Rattle.rx_script.proofs.Common.{outside_of, IsStepOf, IsLawful-push, lawful_front, lawful_last, lawful_begun, by_pushes, Alike, alike_of, connections_alike}
+use Rattle.rx_script.proofs.Common.{base_length, checkpoints_agree, Takes, none_taken, next_taken, Drains}
 use Rattle.rx_event.specs.Renumbered.{AreRead}
-use Rattle.rx_event.specs.Resources.{waiting_resources}
-use Rattle.rx_event.specs.Notes.{notes, mail_of}
-use Rattle.rx_event.specs.Forced.{IsForced, IsSettled}
-use Rattle.rx_event.specs.Lawful.{forced, stays, more, IsLawful, IsForcedOn}
-use Rattle.rx_event.specs.Calls.{Call, OpeningUsing, Disconnecting, Taking, outside_of, IsStepOf}
-use Rattle.rx_event.proofs.Laws.Lawful.{IsLawful-push}
-use Rattle.rx_event.proofs.Laws.Starts.{lawful_front, lawful_last, lawful_begun}
-use Rattle.rx_event.proofs.Laws.Steps.{by_pushes}
+use Rattle.rx_event.specs.Notes.{mail_of}
+use Rattle.rx_event.specs.Forced.{IsForced}
 use Rattle.rx_event.proofs.Laws.Counts.{notes-push}
-use Rattle.rx_event.proofs.Laws.SameTree.{Alike, alike_of, connections_alike}
 use Rattle.rx_event.proofs.Laws.SameForcedAndAllowed.{reads_of}
 use Rattle.rx_event.proofs.Laws.TreeRead.{event_by_itself}
 use Rattle.rx_event.proofs.Laws.ReadDue.{read_back, forced_read, settled_read}
-use Rattle.rx_event.proofs.Laws.Begin.{shown_nothing}
-use Rattle.rx_event.proofs.Laws.Bases.{base_length, length_base}
-use Rattle.rx_event.proofs.Laws.Checkpoints.{checkpoints_agree}
+use Rattle.rx_event.proofs.Laws.Bases.{length_base}
 use Rattle.rx_event.proofs.Laws.CheckpointMarks.{base_untold}
-use Rattle.rx_book.specs.Drains.{Takes, none_taken, next_taken, Drains}
+use Rattle.rx_script.proofs.LeasesOut.{nothing_before}
 
 -- calls add the same events to histories that are alike
 outside_alike : (h k : List Event) → Alike h k → (call : Call) → outside_of h call ≡ outside_of k call
 outside_alike h k a (OpeningUsing place tag) = ap (λ (n : ℕ). Open place Pass ∷ Accept n tag ∷ []) a.same_length
 outside_alike h k a (Disconnecting g) = ap (map (λ c. Close c)) (connections_alike h k a g)
 outside_alike h k a _ = refl
-
-none_shown : (h : List Event) → length (shown nothing_kept) ≤ length h
-none_shown h = subst (λ (l : List Event). length l ≤ length h) (sym shown_nothing) (omega arith)
 
 -- a front that a checkpoint put a base in place of
 module _ (front : List Event) (law : IsLawful nothing_kept front) (settled : IsSettled nothing_kept front) (b : Kept)
@@ -207,7 +193,7 @@ module _ (front : List Event) (law : IsLawful nothing_kept front) (settled : IsS
 
       tells : mail_of (front ++ es) e ≡ mail_of (shown b ++ es) e
       tells = (checkpoints_agree.alike nothing_kept (front ++ es) b (shown b ++ es) (whole_lawful es law_es) law_es (whole_agree es law_es) e).notes
-          (lawful_last nothing_kept (front ++ es) e (none_shown (front ++ es)) whole_pushed)
+          (lawful_last nothing_kept (front ++ es) e (nothing_before (front ++ es)) whole_pushed)
 
   -- what the whole history told is what its front told, and then what the stored one tells
   pub notes_whole : (es : List Event) → IsLawful b (shown b ++ es) → notes (front ++ es) ≡ notes front ++ notes (shown b ++ es)

@@ -1,25 +1,14 @@
 -- The whole report of a course.
-use Rattle.std.proofs.Common.{◌≡◌, ◌≤◌, ◌+◌, ◌++◌, ℕ, List, true, false, min, refl, sym, ap, subst, ◌∙◌, append-nil, count_by, arith}
-use Rattle.std.specs.List.{range_with_len}
-use Rattle.std.proofs.lemmas.Bool.{false≢true}
-use Rattle.rx_event.specs.Kept.{nothing_kept}
-use Rattle.rx_event.specs.Bases.{Agree}
-use Rattle.rx_event.specs.Totals.{accepted_count, held_count, waiting_count}
-use Rattle.rx_event.proofs.Laws.Totals.{accepted_count-parts}
-use Rattle.rx_book.specs.State.{IsPromised}
-use Rattle.rx_scenario.specs.Scenario.{Steps, steps_of, Script}
-use Rattle.rx_scenario.specs.Checkpoints.{has_checkpoint}
-use Rattle.rx_script.specs.declared.engine.Engine.{Engine}
-use Rattle.rx_script.specs.Stage.{Ware, Stage, start}
-use Rattle.rx_agenda.specs.Agenda.{with_steps, empty_agenda}
-use Rattle.rx_script.specs.Course.{limited, Course, HasNoFull, IsCourseOf, HasOneCourse}
-use Rattle.rx_script.specs.Progress.{begin, Ends}
-use Rattle.rx_dump.specs.Dump.{dump}
-use Rattle.rx_script.specs.declared.Form.{Form}
+use Rattle.rx_script.proofs.Common.{◌≡◌, ◌≤◌, ◌+◌, ◌++◌, ℕ, List, true, false, refl, sym, ap, subst, ◌∙◌, append-nil, count_by, arith, range_with_len}
+use Rattle.rx_script.proofs.Common.{false≢true, nothing_kept, Agree, held_count, waiting_count, accepted_count-parts, IsPromised, Steps, steps_of, Script}
+use Rattle.rx_script.proofs.Common.{has_checkpoint, Engine, Ware, Stage, start, with_steps, empty_agenda, limited, Course, HasNoFull, IsCourseOf, HasOneCourse}
+use Rattle.rx_script.proofs.Common.{begin, Ends, dump, Form, report, lacks_form, named_dump, has_history, unclosed_output, IsCarriedOut}
+use Rattle.std.proofs.Common.{min}
+use Rattle.rx_event.specs.Totals.{accepted_count}
 use Rattle.rx_script.specs.declared.Form.TheVariants.{Report, Dump, NamedDump}
-use Rattle.rx_script.specs.Report.{report, AreReportedAlike, output, lacks_form}
-use Rattle.rx_script.specs.NamedDumps.{run_names, named_dump}
-use Rattle.rx_script.specs.Outputs.{has_history, unclosed_output, closing, IsCarriedOut}
+use Rattle.rx_script.specs.Report.{AreReportedAlike, output}
+use Rattle.rx_script.specs.NamedDumps.{run_names}
+use Rattle.rx_script.specs.Outputs.{closing}
 use Rattle.rx_script.specs.Running.{IsReportedCanonically}
 use Rattle.rx_script.proofs.CoursesInOrder.{course_in_order}
 use Rattle.rx_script.proofs.OneCourse.{one_canonical_course}

@@ -1,23 +1,9 @@
 -- What is written before the closing, of the whole history.
-use Rattle.std.proofs.Common.{◌≡◌, ◌≤◌, ◌++◌, ℕ, true, List, map, sym, ap, subst, ◌∙◌}
-use Rattle.std.specs.Prelude.{Result, Ok, Err, IfOk, OnOk}
-use Rattle.rx_event.specs.declared.event.Event.{Event}
-use Rattle.rx_event.specs.Kept.{nothing_kept}
-use Rattle.rx_event.specs.Bases.{Agree}
-use Rattle.rx_event.specs.Totals.{taken_count}
-use Rattle.rx_agenda.specs.declared.answer.Answer.{Answer}
-use Rattle.rx_report.specs.declared.tallies.Tallies.{Tallies}
-use Rattle.rx_report.specs.Tallies.{Gathers, IsWhole}
-use Rattle.rx_report.specs.Keys.{node_binding, res_binding}
-use Rattle.rx_report.specs.Text.{totals_line}
-use Rattle.rx_report.specs.Lines.{refused_lines, node_lines, res_lines, totals_of}
-use Rattle.rx_script.specs.declared.engine.Engine.{Engine}
-use Rattle.rx_script.specs.declared.Form.{Form}
-use Rattle.rx_script.specs.Course.{Manner}
-use Rattle.rx_script.specs.Progress.{Progress, Ends}
-use Rattle.rx_script.specs.Report.{unclosed_report}
-use Rattle.rx_script.specs.Outputs.{has_history, unclosed_output, IsCarriedOut}
-use Rattle.rx_script.specs.Engine.{stage_of, IsHistoryOf, IsSound}
+use Rattle.rx_script.proofs.Common.{◌≡◌, ◌≤◌, ◌++◌, ℕ, true, List, map, sym, ap, subst, ◌∙◌, Result, Ok, Err, IfOk, Event, nothing_kept, Agree, taken_count}
+use Rattle.rx_script.proofs.Common.{Answer, Tallies, Gathers, IsWhole, node_binding, res_binding, totals_line, refused_lines, node_lines, res_lines, totals_of}
+use Rattle.rx_script.proofs.Common.{Engine, Form, Manner, Progress, Ends, unclosed_report, has_history, unclosed_output, IsCarriedOut, stage_of, IsHistoryOf}
+use Rattle.rx_script.proofs.Common.{IsSound}
+use Rattle.std.specs.Prelude.{OnOk}
 use Rattle.rx_script.proofs.EngineCarriesOut.{history_lawful, history_agrees}
 use Rattle.rx_script.proofs.CheckpointCarriedOut.{gathered}
 use Rattle.rx_script.proofs.AllStored.{no_base, all_stored}

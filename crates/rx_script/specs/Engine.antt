@@ -27,9 +27,9 @@ use Rattle.rx_scenario.specs.Scenario.{flat, switch, until, sub, Command, action
 use Rattle.rx_agenda.specs.Names.{key_of}
 use Rattle.rx_agenda.specs.Bindings.{Binding}
 use Rattle.rx_agenda.specs.Shown.{number_binding, agenda_of, size_of, size_left}
-use Rattle.rx_report.specs.declared.tallies.Tallies.{Tallies}
-use Rattle.rx_report.specs.Tallies.{AreTalliesOf}
-use Rattle.rx_report.specs.Keys.{node_binding, res_binding, lease_binding, IsNodeKey, IsHeldKey, IsLeaseKey}
+use Rattle.rx_script.specs.declared.tallies.Tallies.{Tallies}
+use Rattle.rx_script.specs.Tallies.{AreTalliesOf}
+use Rattle.rx_script.specs.Keys.{node_binding, res_binding, lease_binding, IsNodeKey, IsHeldKey, IsLeaseKey}
 use Rattle.rx_script.specs.Stage.{Stage}
 use Rattle.rx_agenda.specs.Agenda.{Agenda, followed_by}
 use Rattle.rx_script.specs.Course.{limited, Executes}

@@ -1,3 +1,7 @@
+pub mod Text
+pub mod Keys
+pub mod Lines
+pub mod Tallies
 pub mod Stage
 pub mod Course
 pub mod Progress

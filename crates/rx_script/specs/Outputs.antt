@@ -12,7 +12,7 @@ use Rattle.rx_script.specs.Stage.{Stage}
 use Rattle.rx_script.specs.Course.{Manner}
 use Rattle.rx_script.specs.Progress.{Progress, Ends}
 use Rattle.rx_script.specs.declared.engine.Engine.{Engine}
-use Rattle.rx_report.specs.Text.{closed_line}
+use Rattle.rx_script.specs.Text.{closed_line}
 use Rattle.rx_script.specs.NamedDumps.{run_names, named_dump}
 use Rattle.rx_script.specs.Report.{unclosed_report}
 

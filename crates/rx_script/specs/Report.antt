@@ -4,8 +4,8 @@ use Rattle.rx_event.specs.Kept.{nothing_kept}
 use Rattle.rx_event.specs.Totals.{held_count, waiting_count}
 use Rattle.rx_dump.specs.Dump.{dump}
 use Rattle.rx_agenda.specs.declared.answer.Answer.{Answer}
-use Rattle.rx_report.specs.Text.{totals_line, closed_line}
-use Rattle.rx_report.specs.Lines.{refused_lines, node_lines, res_lines, totals_of}
+use Rattle.rx_script.specs.Text.{totals_line, closed_line}
+use Rattle.rx_script.specs.Lines.{refused_lines, node_lines, res_lines, totals_of}
 use Rattle.rx_script.specs.declared.Form.{Form}
 use Rattle.rx_script.specs.declared.Form.TheVariants.{Report, Dump, NamedDump}
 use Rattle.rx_scenario.specs.Scenario.{Steps, Script}

@@ -10,11 +10,12 @@ ghost use Rattle.rx_scenario.specs.Scenario.{decline as declining, fail as faili
 ghost use Rattle.rx_script.specs.Stage.{start, ware_of};
 ghost use Rattle.rx_script.specs.Engine.{at_of, stage_of, IsHistoryOf, IsSound, Carries};
 
+use crate::gathering::gather;
 use crate::stock::Stock;
+use crate::tallies::Tallies;
 use rx_agenda::{Answer, Cause, Names};
 use rx_book::{At, Book, Key, LeaseKey, ResKey};
 use rx_event::{Refusal, Terminal};
-use rx_report::{Tallies, gather};
 use rx_resource::Resource;
 use rx_scenario::Site;
 use std::alloc::{AllocError, Global};

@@ -20,12 +20,17 @@
 //!   waits can be cancelled by its label.
 //! - At a **checkpoint** the book puts what its history leaves in place of the events so far (`rx_book`).
 //!   For a course nothing happens there, but that the limit of events counts from there. What is to be
-//!   reported of those events is gathered before (`rx_report`), so a report is of the whole run.
+//!   reported of those events is gathered before, so a report is of the whole run.
+//! - A **report** has a line for each step that was refused, for each node that is told something, and for
+//!   each resource that the scenario handed in, one for the totals and one for the closing of the book.
+//!   `Text` of `specs/` defines the bytes of each line, and `Lines` which lines there are.
+//! - **Tallies** are what each resource and each node met, by their numbers. They grow as events and notes
+//!   come, so that a checkpoint may let those go and the report is still of the whole history.
 //! - A **course** of a scenario is the list of the answers of its steps, and where it is at its end: the
 //!   history from its first event on, how many events came before the last checkpoint, what the names
 //!   stand for, and the stock that is left. `rx_agenda` defines which step comes
-//!   next, `specs/` a course as a relation (`Course`), and the report of one (`Report`), in the lines
-//!   that `rx_report` defines; what a run makes of its input is said in `Running`.
+//!   next, `specs/` a course as a relation (`Course`), and the report of one (`Report`); what a run makes
+//!   of its input is said in `Running`.
 //! - A [`Watched`] reader or writer notes whether the device behind it failed, so that the contract of
 //!   [`run`] can say whose fault a fault is (`rx_device`).
 //! - To **close** a book is to give back all leases, to dispose of all that is open, and to take and release
@@ -56,15 +61,21 @@
 
 mod closing;
 mod connection;
+mod counting;
 mod course;
 mod engine;
 mod execute;
+mod gathering;
 mod hubs;
 mod laws;
+mod line;
 mod naming;
 mod opening;
+mod report;
 mod running;
 mod stock;
+mod tallies;
+mod text;
 
 pub use closing::close;
 pub use laws::{courses_are_reported_alike, each_scenario_has_one_canonical_course};

@@ -5,15 +5,15 @@ ghost use Rattle.serde_json.specs.Data.{string};
 ghost use Rattle.serde_json.specs.Written.{compact_text};
 ghost use Rattle.rx_event.specs.Kept.{nothing_kept};
 ghost use Rattle.rx_agenda.specs.Shown.{number_binding};
-ghost use Rattle.rx_report.specs.Keys.{node_binding, res_binding};
+ghost use Rattle.rx_script.specs.Keys.{node_binding, res_binding};
 ghost use Rattle.rx_script.specs.NamedDumps.{member_text, binding_text, next_text, joined, named_dump};
 ghost use Rattle.rx_script.specs.Engine.{engine_names};
 
 use crate::engine::Engine;
+use crate::report::events_of;
 use rx_agenda::Named;
 use rx_book::{Key, ResKey};
 use rx_dump::push_dump;
-use rx_report::events_of;
 use rx_resource::Resource;
 use serde_json::Value;
 use std::alloc::{AllocError, Global};

@@ -24,16 +24,15 @@ use crate::Form;
 use crate::closing::close;
 use crate::course::run_course;
 use crate::engine::{Engine, begin};
+use crate::gathering::gather;
 use crate::naming::named_dump;
+use crate::report::{events_of, push_nodes, push_resources, totals_of};
+use crate::text::{push_all_refused, push_closed, push_totals};
 use json::Scratch;
 use rx_agenda::Answer;
 use rx_book::Book;
 use rx_device::{Part, ScriptError, ShapeError, Watched, parse_in_place, read_all, write_text};
 use rx_dump::push_dump;
-use rx_report::{
-    events_of, gather, push_all_refused, push_closed, push_nodes, push_resources, push_totals,
-    totals_of,
-};
 use rx_resource::Resource;
 use rx_scenario::{Scenario, Step, has_checkpoint, scenario_of};
 use std::alloc::{AllocError, Global};

@@ -1,32 +1,11 @@
 -- The definitions at a worked example: a scenario of six events at most, of which the second word for a resource is refused, since the
 -- history is full, and is taken behind a checkpoint. Nothing cites `full_before`, which shows it.
-use Rattle.std.proofs.Common.{◌≡◌, ℕ, true, List, [], ◌∷◌, ◌++◌, Some, refl}
-use Rattle.rx_event.specs.Kept.{nothing_kept}
-use Rattle.rx_event.specs.declared.event.Place.TheVariants.{Root}
-use Rattle.rx_event.specs.declared.event.Kind.TheVariants.{Pass}
-use Rattle.rx_event.specs.declared.event.Event.{Event}
-use Rattle.rx_event.specs.declared.event.Event.TheVariants.{Open, Accept, Use}
-use Rattle.rx_event.specs.declared.refusal.Refusal.TheVariants.{Full}
-use Rattle.rx_event.specs.Tree.{parent, ancestors, is_shut, is_open}
-use Rattle.rx_event.specs.Resources.{is_owned, is_out, leases_of, is_held, is_taken, is_waiting}
-use Rattle.rx_event.specs.Climb.{most_visits, climb, stops}
-use Rattle.rx_event.specs.Moments.{projections, owed, is_fired, moments}
-use Rattle.rx_event.specs.Allowed.{most_nodes}
-use Rattle.rx_event.specs.Marks.{child_terminal, source_completed, open_children}
-use Rattle.rx_event.specs.Totals.{debt}
-use Rattle.rx_event.specs.Calls.{OpeningUsing, Applying, IsStepOf}
-use Rattle.rx_event.specs.Canonical.{source_end, first_forced}
-use Rattle.rx_event.proofs.Laws.Begin.{IsLawful_nothing}
-use Rattle.rx_register.proofs.Laws.Empty.{settled_empty}
-use Rattle.rx_agenda.specs.declared.answer.Answer.{Answer}
-use Rattle.rx_agenda.specs.declared.answer.Answer.TheVariants.{Accepted, Refused}
-use Rattle.rx_agenda.specs.declared.answer.Cause.TheVariants.{Book}
-use Rattle.rx_agenda.specs.Agenda.{Agenda, followed_by, next_step}
-use Rattle.rx_agenda.specs.Bindings.{bound}
-use Rattle.rx_scenario.specs.Scenario.{Name, root, Command, using, apply, checkpoint, Step, Script}
-use Rattle.rx_script.specs.Stage.{Ware, Stage}
-use Rattle.rx_script.specs.Course.{limited, Executes, refused_by_book, accepted, checkpointed, Course, IsCourseOf}
-use Rattle.rx_script.specs.Progress.{Progress, begin, executes, Leads, not_begun, advanced}
+use Rattle.rx_script.proofs.Common.{◌≡◌, ℕ, true, List, [], ◌∷◌, ◌++◌, Some, refl, nothing_kept, Root, Pass, Event, Open, Accept, Use, Full, parent, ancestors}
+use Rattle.rx_script.proofs.Common.{is_shut, is_open, is_owned, is_out, leases_of, is_held, is_taken, is_waiting, most_visits, climb, stops, projections, owed}
+use Rattle.rx_script.proofs.Common.{is_fired, moments, most_nodes, child_terminal, source_completed, open_children, debt, OpeningUsing, Applying, IsStepOf}
+use Rattle.rx_script.proofs.Common.{source_end, first_forced, IsLawful_nothing, settled_empty, Answer, Accepted, Refused, Book, Agenda, followed_by, next_step}
+use Rattle.rx_script.proofs.Common.{bound, Name, root, Command, using, apply, checkpoint, Step, Script, Ware, Stage, limited, Executes, refused_by_book}
+use Rattle.rx_script.proofs.Common.{accepted, checkpointed, Course, IsCourseOf, Progress, begin, executes, Leads, not_begun, advanced, start}
 use Rattle.rx_script.proofs.CoursesInOrder.{course_in_order}
 use Rattle.rx_script.proofs.Examples.StepsThatForceNothing.{doing, turn_of, plain_step}
 
@@ -74,14 +53,11 @@ to_three = plain_step two true (Applying 1) to_two.lawful to_two.settled tt refl
 
 -- where so many events came before the last checkpoint
 abbrev at : List Event → ℕ → Stage
-at h checked = record {
+at h checked = record (start []) {
   history = h;
   checked = checked;
   nodes = record { name = a; number = 0 } ∷ [];
-  hubs = [];
   resources = record { name = a; number = 1 } ∷ [];
-  leases = [];
-  stock = [];
 }
 
 abbrev Led : List Answer → Progress → Type 0

@@ -1,31 +1,12 @@
 -- The definitions at a worked example: a scenario that drains two resources, which may be taken in two orders. Its dumps may differ,
 -- and a report of that order would. Nothing cites `no_order_is_shown`, which says so.
-use Rattle.std.proofs.Common.{◌≡◌, ℕ, ◌≤◌, true, List, [], ◌∷◌, ◌++◌, slice_get, get_or, refl, ap, arith}
-use Rattle.std.specs.Prelude.{flat_map}
-use Rattle.std.specs.Option.{option_and_then, option_to_list}
-use Rattle.rx_event.specs.Kept.{nothing_kept}
-use Rattle.rx_event.specs.declared.event.Place.TheVariants.{Root}
-use Rattle.rx_event.specs.declared.event.Kind.TheVariants.{Pass}
-use Rattle.rx_event.specs.declared.event.Event.{Event}
-use Rattle.rx_event.specs.declared.event.Event.TheVariants.{Open, Accept, Close, Take}
-use Rattle.rx_event.specs.Tree.{parent, ancestors, is_shut, is_open}
-use Rattle.rx_event.specs.Resources.{is_owned, leases_of, is_held, is_taken, is_waiting}
-use Rattle.rx_event.specs.Climb.{most_visits, climb, stops}
-use Rattle.rx_event.specs.Moments.{projections, owed, is_fired, moments}
-use Rattle.rx_event.specs.Allowed.{most_nodes}
-use Rattle.rx_event.specs.Marks.{child_terminal, source_completed, open_children}
-use Rattle.rx_event.specs.Calls.{OpeningUsing, Disposing, Taking, IsStepOf}
-use Rattle.rx_event.specs.Canonical.{source_end, first_forced}
-use Rattle.rx_event.proofs.Laws.Begin.{IsLawful_nothing}
-use Rattle.rx_register.proofs.Laws.Empty.{settled_empty}
-use Rattle.rx_book.specs.Drains.{Drains, none_taken, next_taken}
-use Rattle.rx_book.specs.State.{accepted_tag}
-use Rattle.rx_agenda.specs.declared.answer.Answer.TheVariants.{Accepted}
-use Rattle.rx_agenda.specs.Bindings.{bound}
-use Rattle.rx_scenario.specs.Scenario.{Name, root, using, dispose, drain, Step, Script}
-use Rattle.rx_script.specs.Stage.{Ware, Stage}
-use Rattle.rx_script.specs.Course.{limited, drained, HasNoFull, Course, IsCourseOf}
-use Rattle.rx_script.specs.Progress.{begin, executes, not_begun, advanced}
+use Rattle.rx_script.proofs.Common.{◌≡◌, ℕ, ◌≤◌, true, List, [], ◌∷◌, ◌++◌, slice_get, get_or, refl, ap, arith, flat_map, option_and_then, nothing_kept, Root}
+use Rattle.rx_script.proofs.Common.{Pass, Event, Open, Accept, Close, Take, parent, ancestors, is_shut, is_open, is_owned, leases_of, is_held, is_taken}
+use Rattle.rx_script.proofs.Common.{is_waiting, most_visits, climb, stops, projections, owed, is_fired, moments, most_nodes, child_terminal, source_completed}
+use Rattle.rx_script.proofs.Common.{open_children, OpeningUsing, Disposing, Taking, IsStepOf, source_end, first_forced, IsLawful_nothing, settled_empty, Drains}
+use Rattle.rx_script.proofs.Common.{none_taken, next_taken, accepted_tag, Accepted, bound, Name, root, using, dispose, drain, Step, Script, Ware, Stage}
+use Rattle.rx_script.proofs.Common.{limited, drained, HasNoFull, Course, IsCourseOf, begin, executes, not_begun, advanced, start}
+use Rattle.std.specs.Option.{option_to_list}
 use Rattle.rx_script.proofs.CoursesInOrder.{course_in_order}
 use Rattle.rx_script.proofs.Examples.StepsThatForceNothing.{doing, turn_of, plain_step, Led, led_on}
 
@@ -102,14 +83,10 @@ falling =
 -- its courses ------------------------------------------------------------------------------------------------------------------------
 
 abbrev at_four : Stage
-at_four = record {
+at_four = record (start []) {
   history = four;
-  checked = 0;
   nodes = record { name = a; number = 0 } ∷ record { name = b; number = 2 } ∷ [];
-  hubs = [];
   resources = record { name = a; number = 1 } ∷ record { name = b; number = 3 } ∷ [];
-  leases = [];
-  stock = [];
 }
 
 pub led_to_four : Led stock steps (Accepted ∷ Accepted ∷ Accepted ∷ Accepted ∷ []) (record { stage = at_four; agenda = turn_of (doing drain ∷ []) })

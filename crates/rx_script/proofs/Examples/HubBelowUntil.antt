@@ -1,87 +1,69 @@
 -- Worked canonical courses: source and notifier of a TakeUntil subscribe to one hub, and the source of its connection gives an item, or
 -- completes. Where it completes the definitions leave open which of several nodes ends first; the report shows none of it.
 -- Nothing cites the courses and reports: they are what is shown.
-use Rattle.std.proofs.Common.{◌≡◌, ℕ, List, [], ◌∷◌, ◌++◌, Some, None, true, refl}
-use Rattle.std.specs.Prelude.{codes, pos}
-use Rattle.rx_event.specs.Kept.{nothing_kept, shown}
-use Rattle.rx_note.specs.declared.note.Terminal.TheVariants.{Completed}
-use Rattle.rx_event.specs.declared.event.Place.TheVariants.{Root, Source, Notifier}
-use Rattle.rx_event.specs.declared.event.Kind.TheVariants.{Leaf, Sub, Until}
-use Rattle.rx_event.specs.declared.event.Mode.TheVariants.{Auto}
-use Rattle.rx_event.specs.declared.event.Event.{Event}
-use Rattle.rx_event.specs.declared.event.Event.TheVariants.{Open, Hub, Connect, Item, End, Close}
-use Rattle.rx_event.specs.Notes.{notes}
-use Rattle.rx_event.specs.Resources.{is_owned, is_held, is_waiting}
-use Rattle.std.specs.Fmt.{digits}
-use Rattle.rx_event.specs.Tree.{parent, ancestors, is_shut, is_open}
-use Rattle.rx_event.specs.Climb.{most_visits, visits, climb, stops}
-use Rattle.rx_event.specs.Moments.{projections, owed, is_fired, moments}
-use Rattle.rx_event.specs.Allowed.{most_nodes, most_hubs}
-use Rattle.rx_event.specs.Marks.{child_terminal, source_completed, open_children}
-use Rattle.rx_event.specs.Calls.{Opening, Emitting, Ending, Publishing}
-use Rattle.rx_event.specs.Canonical.{source_end, first_forced, IsFirstStep, nothing_yet, first_next}
-use Rattle.rx_agenda.specs.declared.answer.Answer.TheVariants.{Accepted}
-use Rattle.rx_agenda.specs.Bindings.{bound}
-use Rattle.rx_scenario.specs.Scenario.{Name, root, source, notifier, leaf, until, sub, Command, make_hub, open_node, next, end, Step, Script}
-use Rattle.rx_script.specs.Stage.{Stage}
-use Rattle.rx_script.specs.Course.{in_one_order, Course, IsCanonicalCourseOf}
-use Rattle.rx_report.specs.Text.{refused_line, node_line, note_text, totals_line, closed_line}
-use Rattle.rx_script.specs.Report.{report, unclosed_report}
+use Rattle.rx_script.proofs.Common.{◌≡◌, ℕ, List, [], ◌∷◌, ◌++◌, Some, None, true, refl, codes, pos, nothing_kept, shown, Completed, Root, Source, Notifier}
+use Rattle.rx_script.proofs.Common.{Leaf, Sub, Until, Auto, Event, Open, Hub, Connect, Item, End, Close, notes, is_owned, is_held, is_waiting, digits, parent}
+use Rattle.rx_script.proofs.Common.{ancestors, is_shut, is_open, most_visits, visits, climb, stops, projections, owed, is_fired, moments, most_nodes, most_hubs}
+use Rattle.rx_script.proofs.Common.{child_terminal, source_completed, open_children, Opening, Emitting, Ending, Publishing, source_end, first_forced}
+use Rattle.rx_script.proofs.Common.{IsFirstStep, nothing_yet, first_next, Accepted, bound, Name, root, source, notifier, leaf, until, sub, Command, make_hub}
+use Rattle.rx_script.proofs.Common.{open_node, next, end, Step, Script, Stage, in_one_order, Course, IsCanonicalCourseOf, refused_line, node_line, note_text}
+use Rattle.rx_script.proofs.Common.{totals_line, closed_line, report, unclosed_report, start}
 use Rattle.rx_script.proofs.CoursesInOrder.{course_in_order}
 use Rattle.rx_script.proofs.Examples.StepsThatForceNothing.{doing, turn_of}
 use Rattle.rx_script.proofs.Examples.InOneOrder.{Ordered, nothing_stands, ordered_to, stands_after, first_of_all, ordered_on}
 
-abbrev h : Name
+abbrev pub h : Name
 h = codes "h"
 
-abbrev u : Name
+abbrev pub u : Name
 u = codes "u"
 
-abbrev s : Name
+abbrev pub s : Name
 s = codes "s"
 
-abbrev c : Name
+abbrev pub c : Name
 c = codes "c"
 
-abbrev n : Name
+abbrev pub n : Name
 n = codes "n"
 
-abbrev l : Name
+abbrev pub l : Name
 l = codes "l"
 
-abbrev from_leaf : Command → List Step
-from_leaf last = doing (open_node l (source c) leaf) ∷ doing last ∷ []
+-- the steps, before what is to come
+abbrev pub from_leaf : List Step → List Step
+from_leaf rest = doing (open_node l (source c) leaf) ∷ rest
 
-abbrev from_notifier : Command → List Step
-from_notifier last = doing (open_node n (notifier u) (sub h None)) ∷ from_leaf last
+abbrev pub from_notifier : List Step → List Step
+from_notifier rest = doing (open_node n (notifier u) (sub h None)) ∷ from_leaf rest
 
-abbrev from_source : Command → List Step
-from_source last = doing (open_node s (source u) (sub h (Some c))) ∷ from_notifier last
+abbrev pub from_source : List Step → List Step
+from_source rest = doing (open_node s (source u) (sub h (Some c))) ∷ from_notifier rest
 
-abbrev from_until : Command → List Step
-from_until last = doing (open_node u root until) ∷ from_source last
+abbrev pub from_until : List Step → List Step
+from_until rest = doing (open_node u root until) ∷ from_source rest
 
-abbrev steps : Command → List Step
-steps last = doing (make_hub h Auto) ∷ from_until last
+abbrev pub steps : List Step → List Step
+steps rest = doing (make_hub h Auto) ∷ from_until rest
 
 abbrev script : Command → ℕ → Script
-script last events = record { steps = steps last; events = events; until = 0 }
+script last events = record { steps = steps (doing last ∷ []); events = events; until = 0 }
 
 -- their histories ------------------------------------------------------------------------------------------------------------------------
 
-abbrev hub_made : List Event
+abbrev pub hub_made : List Event
 hub_made = Hub Auto ∷ []
 
-abbrev until_made : List Event
+abbrev pub until_made : List Event
 until_made = hub_made ++ Open Root Until ∷ []
 
-abbrev source_made : List Event
+abbrev pub source_made : List Event
 source_made = until_made ++ Open (Source 1) (Sub 0) ∷ Connect 0 ∷ []
 
-abbrev notifier_made : List Event
+abbrev pub notifier_made : List Event
 notifier_made = source_made ++ Open (Notifier 1) (Sub 0) ∷ []
 
-abbrev leaf_made : List Event
+abbrev pub leaf_made : List Event
 leaf_made = notifier_made ++ Open (Source 3) Leaf ∷ []
 
 -- the notifier takes the item, which fires the TakeUntil; with it both its subscribers close, and the hub has none left
@@ -92,29 +74,29 @@ fired = leaf_made ++ Item 5 (pos 9) ∷ End 1 Completed ∷ Close 3 ∷ []
 abbrev ended : List Event
 ended = leaf_made ++ End 5 Completed ∷ End 3 Completed ∷ End 2 Completed ∷ End 1 Completed ∷ []
 
-to_hub : IsFirstStep nothing_kept [] (Hub Auto ∷ []) hub_made
+pub to_hub : IsFirstStep nothing_kept [] (Hub Auto ∷ []) hub_made
 unfolding first_forced source_end child_terminal source_completed open_children is_fired owed projections moments stops climb most_visits most_nodes is_open
     is_shut ancestors parent most_hubs
 to_hub = ordered_to true (Publishing Auto) hub_made nothing_stands tt refl nothing_yet refl
 
-to_until : IsFirstStep nothing_kept hub_made (Open Root Until ∷ []) until_made
+pub to_until : IsFirstStep nothing_kept hub_made (Open Root Until ∷ []) until_made
 unfolding first_forced source_end child_terminal source_completed open_children is_fired owed projections moments stops climb most_visits most_nodes is_open
     is_shut ancestors parent
 to_until = ordered_to true (Opening Root Until) until_made (stands_after (Publishing Auto) to_hub) tt refl nothing_yet refl
 
-to_source : IsFirstStep nothing_kept until_made (Open (Source 1) (Sub 0) ∷ []) source_made
+pub to_source : IsFirstStep nothing_kept until_made (Open (Source 1) (Sub 0) ∷ []) source_made
 unfolding first_forced source_end child_terminal source_completed open_children is_fired owed projections moments stops climb most_visits most_nodes is_open
     is_shut ancestors parent
 to_source = ordered_to true (Opening (Source 1) (Sub 0)) source_made (stands_after (Opening Root Until) to_until) tt refl
     (first_next nothing_yet refl) refl
 
-to_notifier : IsFirstStep nothing_kept source_made (Open (Notifier 1) (Sub 0) ∷ []) notifier_made
+pub to_notifier : IsFirstStep nothing_kept source_made (Open (Notifier 1) (Sub 0) ∷ []) notifier_made
 unfolding first_forced source_end child_terminal source_completed open_children is_fired owed projections moments stops climb most_visits most_nodes is_open
     is_shut ancestors parent
 to_notifier = ordered_to true (Opening (Notifier 1) (Sub 0)) notifier_made (stands_after (Opening (Source 1) (Sub 0)) to_source) tt refl
     nothing_yet refl
 
-to_leaf : IsFirstStep nothing_kept notifier_made (Open (Source 3) Leaf ∷ []) leaf_made
+pub to_leaf : IsFirstStep nothing_kept notifier_made (Open (Source 3) Leaf ∷ []) leaf_made
 unfolding first_forced source_end child_terminal source_completed open_children is_fired owed projections moments stops climb most_visits most_nodes is_open
     is_shut ancestors parent
 to_leaf = ordered_to true (Opening (Source 3) Leaf) leaf_made (stands_after (Opening (Notifier 1) (Sub 0)) to_notifier) tt refl nothing_yet refl
@@ -133,26 +115,22 @@ to_end = ordered_to true (Ending 5 Completed) ended (stands_after (Opening (Sour
 
 -- their courses ----------------------------------------------------------------------------------------------------------------------
 
-abbrev stage : List Event → Stage
-stage k = record {
+abbrev pub stage : List Event → Stage
+stage k = record (start []) {
   history = k;
-  checked = 0;
   nodes = record { name = u; number = 1 } ∷ record { name = s; number = 2 } ∷ record { name = c; number = 3 } ∷ record { name = n; number = 4 }
       ∷ record { name = l; number = 5 } ∷ [];
   hubs = record { name = h; number = 0 } ∷ [];
-  resources = [];
-  leases = [];
-  stock = [];
 }
 
 abbrev course : List Event → Course
 course k = record { answers = Accepted ∷ Accepted ∷ Accepted ∷ Accepted ∷ Accepted ∷ Accepted ∷ []; last = stage k }
 
-to_last : (last : Command) → Ordered [] (steps last) 0 (Accepted ∷ Accepted ∷ Accepted ∷ Accepted ∷ Accepted ∷ [])
+to_last : (last : Command) → Ordered [] (steps (doing last ∷ [])) 0 (Accepted ∷ Accepted ∷ Accepted ∷ Accepted ∷ Accepted ∷ [])
     (record { stage = stage leaf_made; agenda = turn_of (doing last ∷ []) })
 unfolding bound is_open is_shut ancestors parent most_nodes most_hubs owed projections moments stops climb most_visits
 to_last last =
-    let none = first_of_all [] (steps last) 0 in
+    let none = first_of_all [] (steps (doing last ∷ [])) 0 in
     let first = ordered_on none (make_hub h Auto) (Publishing Auto) refl refl refl refl to_hub in
     let second = ordered_on first (open_node u root until) (Opening Root Until) refl refl refl refl to_until in
     let third = ordered_on second (open_node s (source u) (sub h (Some c))) (Opening (Source 1) (Sub 0)) refl refl refl refl to_source in

@@ -1,27 +1,10 @@
 -- What the worked canonical courses share: a call after which what is forced comes in the one order, and steps that are taken in it.
-use Rattle.std.proofs.Common.{◌≡◌, ℕ, Bool, List, [], ◌∷◌, ◌++◌, Some, None, refl}
-use Rattle.std.specs.Prelude.{Option}
-use Rattle.rx_event.specs.Kept.{nothing_kept}
-use Rattle.rx_event.specs.declared.event.Event.{Event}
-use Rattle.rx_event.specs.declared.refusal.Refusal.{Refusal}
-use Rattle.rx_event.specs.Forced.{IsSettled}
-use Rattle.rx_event.specs.Lawful.{IsLawful}
-use Rattle.rx_event.specs.Calls.{Call, outside_of}
-use Rattle.rx_event.specs.Refusals.{first_cause}
-use Rattle.rx_event.specs.Canonical.{first_forced, IsFirstOn, IsFirstStep}
-use Rattle.rx_event.proofs.Laws.Begin.{IsLawful_nothing}
-use Rattle.rx_event.proofs.Laws.Finishes.{first_forced_on}
-use Rattle.rx_event.specs.Causes.{causes, unlimited}
-use Rattle.rx_register.specs.Claims.{IsReady}
-use Rattle.rx_register.proofs.Laws.Empty.{settled_empty}
-use Rattle.rx_agenda.specs.declared.answer.Answer.{Answer}
-use Rattle.rx_agenda.specs.declared.answer.Answer.TheVariants.{Accepted, Refused}
-use Rattle.rx_agenda.specs.declared.answer.Cause.TheVariants.{Book}
-use Rattle.rx_agenda.specs.Agenda.{Agenda, followed_by, next_step}
-use Rattle.rx_scenario.specs.Scenario.{Name, Command, command, Steps, Step, list_of}
-use Rattle.rx_script.specs.Stage.{Ware, own_cause, call_of, after}
-use Rattle.rx_script.specs.Course.{in_one_order, cause_in, accepted, refused_by_book}
-use Rattle.rx_script.specs.Progress.{Progress, begin, executes, Leads, not_begun, advanced}
+use Rattle.rx_script.proofs.Common.{◌≡◌, ℕ, Bool, List, [], ◌∷◌, ◌++◌, Some, None, refl, Option, nothing_kept, Event, Refusal, IsSettled, IsLawful, Call}
+use Rattle.rx_script.proofs.Common.{outside_of, first_cause, first_forced, IsFirstStep, IsLawful_nothing, first_forced_on, causes, unlimited, IsReady}
+use Rattle.rx_script.proofs.Common.{settled_empty, Answer, Accepted, Refused, Book, Agenda, followed_by, next_step, Name, Command, command, Steps, Step}
+use Rattle.rx_script.proofs.Common.{list_of, Ware, own_cause, call_of, after, in_one_order, cause_in, accepted, refused_by_book, Progress, begin, executes}
+use Rattle.rx_script.proofs.Common.{Leads, not_begun, advanced}
+use Rattle.rx_event.specs.Canonical.{IsFirstOn}
 use Rattle.rx_script.proofs.Examples.StepsThatForceNothing.{step_to}
 
 -- a history that is lawful and settled

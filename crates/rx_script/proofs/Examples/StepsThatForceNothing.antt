@@ -1,23 +1,9 @@
 -- What the worked examples share: steps that force nothing, and courses with so much room, and with more.
-use Rattle.std.proofs.Common.{◌≡◌, ℕ, ◌+◌, ◌≤◌, Bool, List, [], ◌∷◌, ◌++◌, Some, None, refl, ◌∙◌, arith}
-use Rattle.rx_event.specs.Kept.{nothing_kept}
-use Rattle.rx_event.specs.declared.event.Event.{Event}
-use Rattle.rx_event.specs.Forced.{IsSettled}
-use Rattle.rx_event.specs.Lawful.{forced, IsLawful, IsForcedOn, stays, more}
-use Rattle.rx_event.specs.Calls.{Call, outside_of, IsStepOf}
-use Rattle.rx_event.specs.Refusals.{first_cause}
-use Rattle.rx_event.specs.Canonical.{first_forced}
-use Rattle.rx_event.proofs.Laws.Lawful.{IsLawful-push}
+use Rattle.rx_script.proofs.Common.{◌≡◌, ℕ, ◌+◌, ◌≤◌, Bool, List, [], ◌∷◌, ◌++◌, Some, None, refl, ◌∙◌, arith, nothing_kept, Event, IsSettled, forced, IsLawful}
+use Rattle.rx_script.proofs.Common.{IsForcedOn, stays, more, Call, outside_of, IsStepOf, first_cause, first_forced, IsLawful-push, causes, unlimited, IsReady}
+use Rattle.rx_script.proofs.Common.{Answer, Accepted, Agenda, next_step, Command, command, no_steps, Step, Ware, own_cause, call_of, front_is_fresh, after}
+use Rattle.rx_script.proofs.Common.{limited, in_one_order, cause_in, accepted, Progress, begin, executes, Leads, advanced}
 use Rattle.rx_event.proofs.Laws.InOrder.{settled_by_order}
-use Rattle.rx_event.specs.Causes.{causes, unlimited}
-use Rattle.rx_register.specs.Claims.{IsReady}
-use Rattle.rx_agenda.specs.declared.answer.Answer.{Answer}
-use Rattle.rx_agenda.specs.declared.answer.Answer.TheVariants.{Accepted}
-use Rattle.rx_agenda.specs.Agenda.{Agenda, next_step}
-use Rattle.rx_scenario.specs.Scenario.{Command, command, no_steps, Step}
-use Rattle.rx_script.specs.Stage.{Ware, own_cause, call_of, front_is_fresh, after}
-use Rattle.rx_script.specs.Course.{limited, in_one_order, cause_in, accepted}
-use Rattle.rx_script.specs.Progress.{Progress, begin, executes, Leads, advanced}
 use Rattle.rx_script.proofs.StepsInOneOrder.{roomy, roomy_first, outside_lawful}
 
 -- a step with no label, that does not wait, and that none follows

@@ -1,46 +1,16 @@
 -- A worked canonical course in virtual time: a step that follows another after a delay, and two of one moment, of which the first closes
 -- what the second would call. Nothing cites `time_course` and `time_report`, which show it.
-use Rattle.std.proofs.Common.{◌≡◌, ℕ, List, [], ◌∷◌, ◌++◌, Some, None, true, refl}
-use Rattle.std.specs.Prelude.{codes, pos, negsuc}
-use Rattle.rx_event.specs.Kept.{nothing_kept, shown}
-use Rattle.rx_event.specs.declared.event.Place.TheVariants.{Root, Source}
-use Rattle.rx_event.specs.declared.event.Kind.TheVariants.{Leaf, Sub}
-use Rattle.rx_event.specs.declared.event.Mode.TheVariants.{Auto}
-use Rattle.rx_event.specs.declared.event.Event.{Event}
-use Rattle.rx_event.specs.declared.event.Event.TheVariants.{Open, Hub, Connect, Item, Close}
-use Rattle.rx_event.specs.declared.refusal.Refusal.TheVariants.{Gone}
-use Rattle.rx_event.specs.Notes.{notes}
-use Rattle.rx_event.specs.Resources.{is_owned, is_held, is_waiting}
-use Rattle.std.specs.Fmt.{digits}
-use Rattle.rx_event.specs.Tree.{parent, ancestors, is_shut, is_open}
-use Rattle.rx_event.specs.Climb.{most_visits, visits, climb, stops}
-use Rattle.rx_event.specs.Moments.{projections, owed, is_fired, moments}
-use Rattle.rx_event.specs.Allowed.{most_nodes, most_hubs}
-use Rattle.rx_event.specs.Marks.{child_terminal, source_completed, open_children}
-use Rattle.rx_event.specs.Calls.{Opening, Emitting, Disposing, Publishing}
-use Rattle.rx_event.specs.Canonical.{source_end, first_forced, IsFirstStep, nothing_yet, first_next}
-use Rattle.rx_agenda.specs.declared.answer.Answer.TheVariants.{Accepted, Refused}
-use Rattle.rx_agenda.specs.declared.answer.Cause.TheVariants.{Book}
-use Rattle.rx_agenda.specs.Bindings.{bound}
-use Rattle.rx_scenario.specs.Scenario.{Name, root, source, leaf, sub, Command, make_hub, open_node, next, dispose, command, no_steps, Step, steps_of, Script}
-use Rattle.rx_script.specs.Stage.{Stage}
-use Rattle.rx_script.specs.Course.{in_one_order, Course, IsCanonicalCourseOf}
-use Rattle.rx_report.specs.Text.{refused_line, node_line, note_text, totals_line, closed_line}
-use Rattle.rx_script.specs.Report.{report, unclosed_report}
+use Rattle.rx_script.proofs.Common.{◌≡◌, ℕ, List, [], ◌∷◌, ◌++◌, Some, None, true, refl, codes, pos, nothing_kept, shown, Root, Source, Leaf, Sub, Auto, Event}
+use Rattle.rx_script.proofs.Common.{Open, Connect, Item, Close, Gone, notes, is_owned, is_held, is_waiting, digits, parent, ancestors, is_shut, is_open}
+use Rattle.rx_script.proofs.Common.{most_visits, visits, climb, stops, projections, owed, is_fired, moments, most_nodes, most_hubs, child_terminal}
+use Rattle.rx_script.proofs.Common.{source_completed, open_children, Opening, Emitting, Disposing, Publishing, source_end, first_forced, IsFirstStep}
+use Rattle.rx_script.proofs.Common.{nothing_yet, first_next, Accepted, Refused, Book, bound, root, source, leaf, sub, Command, make_hub, open_node, next}
+use Rattle.rx_script.proofs.Common.{dispose, command, no_steps, Step, steps_of, Script, Stage, in_one_order, Course, IsCanonicalCourseOf, refused_line}
+use Rattle.rx_script.proofs.Common.{node_line, note_text, totals_line, closed_line, report, unclosed_report, start}
+use Rattle.std.specs.Prelude.{negsuc}
 use Rattle.rx_script.proofs.CoursesInOrder.{course_in_order}
-use Rattle.rx_script.proofs.Examples.InOneOrder.{nothing_stands, ordered_to, stands_after, first_of_all, ordered_on, refused_on}
-
-abbrev h : Name
-h = codes "h"
-
-abbrev s : Name
-s = codes "s"
-
-abbrev c : Name
-c = codes "c"
-
-abbrev l : Name
-l = codes "l"
+use Rattle.rx_script.proofs.Examples.InOneOrder.{ordered_to, stands_after, first_of_all, ordered_on, refused_on}
+use Rattle.rx_script.proofs.Examples.HubBelowUntil.{h, s, c, l, hub_made, to_hub}
 
 abbrev at : ℕ → Command → List Step → Step
 at moment does followers = record { label = None; delay = Some moment; action = command does; followers = steps_of followers }
@@ -58,9 +28,6 @@ script events = record { steps = steps; events = events; until = 100000000000000
 
 -- its history ------------------------------------------------------------------------------------------------------------------------
 
-abbrev hub_made : List Event
-hub_made = Hub Auto ∷ []
-
 abbrev subscribed : List Event
 subscribed = hub_made ++ Open Root (Sub 0) ∷ Connect 0 ∷ []
 
@@ -72,11 +39,6 @@ told = leaf_made ++ Item 3 (negsuc 0) ∷ []
 
 abbrev disposed : List Event
 disposed = told ++ Close 1 ∷ Close 2 ∷ []
-
-to_hub : IsFirstStep nothing_kept [] (Hub Auto ∷ []) hub_made
-unfolding first_forced source_end child_terminal source_completed open_children is_fired owed projections moments stops climb most_visits most_nodes is_open
-    is_shut ancestors parent most_hubs
-to_hub = ordered_to true (Publishing Auto) hub_made nothing_stands tt refl nothing_yet refl
 
 to_subscriber : IsFirstStep nothing_kept hub_made (Open Root (Sub 0) ∷ []) subscribed
 unfolding first_forced source_end child_terminal source_completed open_children is_fired owed projections moments stops climb most_visits most_nodes is_open
@@ -101,14 +63,10 @@ to_disposal = ordered_to true (Disposing 1) disposed (stands_after (Emitting 3 (
 -- its course -------------------------------------------------------------------------------------------------------------------------
 
 abbrev last_stage : Stage
-last_stage = record {
+last_stage = record (start []) {
   history = disposed;
-  checked = 0;
   nodes = record { name = s; number = 1 } ∷ record { name = c; number = 2 } ∷ record { name = l; number = 3 } ∷ [];
   hubs = record { name = h; number = 0 } ∷ [];
-  resources = [];
-  leases = [];
-  stock = [];
 }
 
 abbrev course : Course

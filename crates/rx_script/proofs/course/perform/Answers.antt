@@ -1,7 +1,5 @@
+use Rattle.rx_script.proofs.Common.{agenda_of, Cancels, string_bytes, subst}
 use Rattle.rx_script.proofs.OneMoreStep.{IfOk-map, performed_command, performed_cancel}
-use Rattle.rx_agenda.specs.Shown.{agenda_of}
-use Rattle.rx_agenda.specs.Agenda.{Cancels}
-use Rattle.std.proofs.Common.{string_bytes, subst}
 use Rattle.rx_script.proofs.course.perform.Goals as goal
 
 pub returns-in-Command : goal.returns-in-Command

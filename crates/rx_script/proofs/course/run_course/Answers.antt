@@ -1,11 +1,4 @@
-use Rattle.std.proofs.Common.{◌≡◌, map, ap, subst, ◌∙◌}
-use Rattle.std.specs.Prelude.{IfOk}
-use Rattle.rx_scenario.specs.Scenario.{step_of}
-use Rattle.rx_agenda.specs.Agenda.{Agenda, with_steps, empty_agenda}
-use Rattle.rx_agenda.specs.Shown.{agenda_of}
-use Rattle.rx_script.specs.Course.{limited}
-use Rattle.rx_script.specs.Progress.{Ends}
-use Rattle.rx_script.specs.Engine.{MovesOn}
+use Rattle.rx_script.proofs.Common.{◌≡◌, map, ap, subst, ◌∙◌, IfOk, step_of, Agenda, with_steps, empty_agenda, agenda_of, limited, Ends, MovesOn}
 use Rattle.rx_script.proofs.course.run_course.Goals as goal
 
 pub returns-clause-course : goal.returns-clause-course

@@ -1,4 +1,4 @@
-use Rattle.std.proofs.Common.{◌≡◌, ◌≤◌, ◌++◌, ◌∷◌, [], ◌∙◌, refl, rules, arith}
+use Rattle.rx_script.proofs.Common.{◌≡◌, ◌≤◌, ◌++◌, ◌∷◌, [], ◌∙◌, refl, rules, arith}
 use Rattle.rx_script.proofs.OneMoreStep.{not_led, leads_more, has_ended}
 use Rattle.rx_script.proofs.course.take_all.Goals as goal
 

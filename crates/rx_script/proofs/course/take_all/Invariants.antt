@@ -1,7 +1,5 @@
 -- The steps so far lead here.
-use Rattle.std.proofs.Common.{◌≡◌, ◌≤◌}
-use Rattle.rx_script.specs.Engine.{IsSound}
-use Rattle.rx_agenda.specs.Shown.{size_left}
+use Rattle.rx_script.proofs.Common.{◌≡◌, ◌≤◌, IsSound, size_left}
 use Rattle.rx_script.proofs.OneMoreStep.{HasLed}
 use Rattle.rx_script.proofs.course.take_all.Given as goal
 

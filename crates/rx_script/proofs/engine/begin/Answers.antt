@@ -1,4 +1,4 @@
-use Rattle.std.proofs.Common.{ap, rules, arith}
+use Rattle.rx_script.proofs.Common.{ap, rules, arith}
 use Rattle.rx_script.proofs.AllStored.{begun}
 use Rattle.rx_script.proofs.engine.begin.Goals as goal
 

@@ -1,6 +1,4 @@
-use Rattle.std.proofs.Common.{subst}
-use Rattle.rx_book.specs.State.{State}
-use Rattle.rx_book.specs.Checkpoints.{Checkpoints}
+use Rattle.rx_script.proofs.Common.{subst, State, Checkpoints}
 use Rattle.rx_script.proofs.CheckpointCarriedOut.{checkpointed_to}
 use Rattle.rx_script.proofs.engine.checkpoint.Goals as goal
 

@@ -1,20 +1,16 @@
-use Rattle.std.proofs.Common.{◌≡◌, Some, None, inl, sym, ◌∙◌}
-use Rattle.rx_agenda.specs.Names.{key_of}
+use Rattle.rx_script.proofs.Common.{Some, inl, sym, ◌∙◌}
 use Rattle.rx_script.proofs.Commands.{answered, decline_step, node_nameless, node_refused, node_accepted}
 use Rattle.rx_script.proofs.engine.decline.Goals as goal
 
 pub returns-in_default : goal.returns-in_default
 returns-in_default g c =
-    let unbound : key_of c.args.engine.now.nodes c.args.node.now ≡ None = sym c.get.ensures ∙ c.in_default.is in
-    node_nameless c.args.engine.now (decline_step c.args.node.now) c.requires unbound
+    node_nameless c.args.engine.now (decline_step c.args.node.now) c.requires (sym c.get.ensures ∙ c.in_default.is)
 
 pub returns-in-Ok : goal.returns-in-Ok
 returns-in-Ok g c =
-    let bound : key_of c.args.engine.now.nodes c.args.node.now ≡ Some c.in-Some.merging = sym c.get.ensures ∙ c.in-Some.is in
-    node_accepted c.args.engine.now (decline_step c.args.node.now) c.requires c.in-Some.merging bound _ c.promise.ensures c.in-Ok.ensures.accepted
+    node_accepted _ (decline_step c.args.node.now) c.requires c.in-Some.merging (sym c.get.ensures ∙ c.in-Some.is) _ c.promise.ensures c.in-Ok.ensures.accepted
 
 pub returns-in-Err : goal.returns-in-Err
 returns-in-Err g c =
-    let bound : key_of c.args.engine.now.nodes c.args.node.now ≡ Some c.in-Some.merging = sym c.get.ensures ∙ c.in-Some.is in
-    answered _ _ _ c.refused.ensures.ok (λ other. node_refused c.args.engine.now
-    (decline_step c.args.node.now) c.requires c.in-Some.merging bound _ c.in-Err.why c.in-Err.ensures.kept (inl c.in-Err.ensures.refused) other)
+    answered _ _ _ c.refused.ensures.ok (λ other. node_refused _ (decline_step c.args.node.now) c.requires
+    c.in-Some.merging (sym c.get.ensures ∙ c.in-Some.is) _ c.in-Err.why c.in-Err.ensures.kept (inl c.in-Err.ensures.refused) other)

@@ -1,4 +1,4 @@
-use Rattle.std.proofs.Common.{◌≤◌, ◌+◌, arith}
+use Rattle.rx_script.proofs.Common.{◌≤◌, ◌+◌, arith}
 use Rattle.rx_script.proofs.EngineCarriesOut.{drained_to}
 use Rattle.rx_script.proofs.engine.drain.Goals as goal
 

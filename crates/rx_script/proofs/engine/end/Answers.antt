@@ -1,21 +1,17 @@
-use Rattle.std.proofs.Common.{◌≡◌, Some, None, inl, sym, ◌∙◌}
-use Rattle.rx_agenda.specs.Names.{key_of}
+use Rattle.rx_script.proofs.Common.{Some, inl, sym, ◌∙◌}
 use Rattle.rx_script.proofs.Commands.{answered, end_step, node_nameless, node_refused, node_accepted}
 use Rattle.rx_script.proofs.engine.end.Goals as goal
 
 pub returns-in_default : goal.returns-in_default
 returns-in_default g c =
-    let unbound : key_of c.args.engine.now.nodes c.args.node.now ≡ None = sym c.get.ensures ∙ c.in_default.is in
-    node_nameless c.args.engine.now (end_step c.args.node.now c.args.terminal) c.requires unbound
+    node_nameless c.args.engine.now (end_step c.args.node.now c.args.terminal) c.requires (sym c.get.ensures ∙ c.in_default.is)
 
 pub returns-in-Ok : goal.returns-in-Ok
 returns-in-Ok g c =
-    let bound : key_of c.args.engine.now.nodes c.args.node.now ≡ Some c.in-Some.leaf = sym c.get.ensures ∙ c.in-Some.is in
     node_accepted c.args.engine.now (end_step c.args.node.now c.args.terminal) c.requires
-    c.in-Some.leaf bound c.end.new.self c.promise.ensures c.in-Ok.ensures.accepted
+    c.in-Some.leaf (sym c.get.ensures ∙ c.in-Some.is) c.end.new.self c.promise.ensures c.in-Ok.ensures.accepted
 
 pub returns-in-Err : goal.returns-in-Err
 returns-in-Err g c =
-    let bound : key_of c.args.engine.now.nodes c.args.node.now ≡ Some c.in-Some.leaf = sym c.get.ensures ∙ c.in-Some.is in
     answered _ _ _ c.refused.ensures.ok (λ other. node_refused c.args.engine.now (end_step c.args.node.now c.args.terminal)
-    c.requires c.in-Some.leaf bound c.end.new.self c.in-Err.why c.in-Err.ensures.kept (inl c.in-Err.ensures.refused) other)
+    c.requires c.in-Some.leaf (sym c.get.ensures ∙ c.in-Some.is) c.end.new.self c.in-Err.why c.in-Err.ensures.kept (inl c.in-Err.ensures.refused) other)

@@ -1,20 +1,16 @@
-use Rattle.std.proofs.Common.{◌≡◌, Some, None, inl, sym, ◌∙◌}
-use Rattle.rx_agenda.specs.Names.{key_of}
+use Rattle.rx_script.proofs.Common.{Some, inl, sym, ◌∙◌}
 use Rattle.rx_script.proofs.Commands.{answered, remove_step, res_nameless, res_refused, res_accepted}
 use Rattle.rx_script.proofs.engine.remove.Goals as goal
 
 pub returns-in_default : goal.returns-in_default
 returns-in_default g c =
-    let unbound : key_of c.args.engine.now.resources c.args.res.now ≡ None = sym c.get.ensures ∙ c.in_default.is in
-    res_nameless c.args.engine.now (remove_step c.args.res.now) c.requires unbound
+    res_nameless c.args.engine.now (remove_step c.args.res.now) c.requires (sym c.get.ensures ∙ c.in_default.is)
 
 pub returns-in-Ok : goal.returns-in-Ok
 returns-in-Ok g c =
-    let bound : key_of c.args.engine.now.resources c.args.res.now ≡ Some c.in-Some.key = sym c.get.ensures ∙ c.in-Some.is in
-    res_accepted c.args.engine.now (remove_step c.args.res.now) c.requires c.in-Some.key bound _ c.promise.ensures c.in-Ok.ensures.accepted
+    res_accepted _ (remove_step c.args.res.now) c.requires c.in-Some.key (sym c.get.ensures ∙ c.in-Some.is) _ c.promise.ensures c.in-Ok.ensures.accepted
 
 pub returns-in-Err : goal.returns-in-Err
 returns-in-Err g c =
-    let bound : key_of c.args.engine.now.resources c.args.res.now ≡ Some c.in-Some.key = sym c.get.ensures ∙ c.in-Some.is in
-    answered _ _ _ c.refused.ensures.ok (λ other. res_refused c.args.engine.now
-    (remove_step c.args.res.now) c.requires c.in-Some.key bound _ c.in-Err.why c.in-Err.ensures.kept (inl c.in-Err.ensures.refused) other)
+    answered _ _ _ c.refused.ensures.ok (λ other. res_refused _ (remove_step c.args.res.now) c.requires
+    c.in-Some.key (sym c.get.ensures ∙ c.in-Some.is) _ c.in-Err.why c.in-Err.ensures.kept (inl c.in-Err.ensures.refused) other)

@@ -1,6 +1,4 @@
-use Rattle.std.proofs.Common.{◌≡◌, ◌++◌, ◌∷◌, [], true, false, refl, string_bytes}
-use Rattle.std.specs.Prelude.{is_some}
-use Rattle.rx_agenda.specs.Names.{key_of}
+use Rattle.rx_script.proofs.Common.{◌≡◌, ◌++◌, ◌∷◌, [], true, false, refl, string_bytes, is_some, key_of}
 use Rattle.rx_script.proofs.Commands.{answered}
 use Rattle.rx_script.proofs.HubCommands.{hub_taken, hub_refused, hub_accepted}
 use Rattle.rx_script.proofs.hubs.hub.Goals as goal

@@ -1,7 +1,5 @@
 -- The members of the hubs so far.
-use Rattle.std.proofs.Common.{◌≡◌, ◌++◌, take, map, string_bytes}
-use Rattle.rx_agenda.specs.Shown.{number_binding}
-use Rattle.rx_script.specs.NamedDumps.{binding_text}
+use Rattle.rx_script.proofs.Common.{◌≡◌, ◌++◌, take, map, string_bytes, number_binding, binding_text}
 use Rattle.rx_script.proofs.naming.add_hubs.Given as goal
 
 abbrev pub invariant-loop-named : goal.invariant-loop-named

@@ -1,7 +1,5 @@
 -- The members of the resources so far.
-use Rattle.std.proofs.Common.{◌≡◌, ◌++◌, take, map, string_bytes}
-use Rattle.rx_report.specs.Keys.{res_binding}
-use Rattle.rx_script.specs.NamedDumps.{binding_text}
+use Rattle.rx_script.proofs.Common.{◌≡◌, ◌++◌, take, map, string_bytes, res_binding, binding_text}
 use Rattle.rx_script.proofs.naming.add_resources.Given as goal
 
 abbrev pub invariant-loop-named : goal.invariant-loop-named

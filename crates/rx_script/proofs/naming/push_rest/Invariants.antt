@@ -1,6 +1,5 @@
 -- The texts so far, each behind a comma.
-use Rattle.std.proofs.Common.{◌≡◌, ◌++◌, take, map, string_bytes}
-use Rattle.std.specs.Prelude.{flat_map}
+use Rattle.rx_script.proofs.Common.{◌≡◌, ◌++◌, take, map, string_bytes, flat_map}
 use Rattle.rx_script.specs.NamedDumps.{next_text}
 use Rattle.rx_script.proofs.naming.push_rest.Given as goal
 

@@ -1,9 +1,6 @@
-use Rattle.std.proofs.Common.{◌≡◌, ◌++◌, ◌∷◌, [], Some, None, true, false, refl, string_bytes, sym, ◌∙◌}
-use Rattle.std.specs.Prelude.{is_some, option_map}
-use Rattle.rx_scenario.specs.Scenario.{site_of, sort_of}
-use Rattle.rx_agenda.specs.Names.{key_of}
-use Rattle.rx_script.specs.Stage.{connection_name}
-use Rattle.rx_script.specs.Engine.{at_of, kind_of, is_taken_beside, with_named}
+use Rattle.rx_script.proofs.Common.{◌≡◌, ◌++◌, ◌∷◌, [], Some, None, true, false, refl, string_bytes, sym, ◌∙◌, is_some, option_map, site_of, key_of}
+use Rattle.rx_script.proofs.Common.{connection_name, at_of, kind_of, is_taken_beside, with_named}
+use Rattle.rx_scenario.specs.Scenario.{sort_of}
 use Rattle.rx_script.proofs.Commands.{answered}
 use Rattle.rx_script.proofs.Openings.{free_behind}
 use Rattle.rx_script.proofs.Nodes.{open_nameless, open_hubless, open_taken, open_taken_beside, open_refused, open_accepted}
@@ -16,26 +13,24 @@ returns-in_default g c =
 
 pub returns-in_default-kind_of : goal.returns-in_default-kind_of
 returns-in_default-kind_of g c =
-    let at : at_of c.args.engine.now.nodes (site_of c.args.site.now) ≡ Some c.in-Some.place = sym c.place_of.ensures ∙ c.in-Some.is in
     let none : kind_of c.args.engine.now.hubs (sort_of c.args.sort) ≡ None = sym c.kind_of.ensures ∙ c.in_default-kind_of.is in
-    open_hubless c.args.engine.now (string_bytes c.args.name) (site_of c.args.site.now) (sort_of c.args.sort) c.requires c.in-Some.place at none
+    open_hubless c.args.engine.now (string_bytes c.args.name) (site_of c.args.site.now) (sort_of c.args.sort) c.requires c.in-Some.place
+    (sym c.place_of.ensures ∙ c.in-Some.is) none
 
 pub returns-then-is_bound : goal.returns-then-is_bound
 returns-then-is_bound g c =
-    let at : at_of c.args.engine.now.nodes (site_of c.args.site.now) ≡ Some c.in-Some.place = sym c.place_of.ensures ∙ c.in-Some.is in
     let is : kind_of c.args.engine.now.hubs (sort_of c.args.sort) ≡ Some c.in-Some-kind_of.kind = sym c.kind_of.ensures ∙ c.in-Some-kind_of.is in
     let taken : is_some (key_of c.args.engine.now.nodes (string_bytes c.args.name)) ≡ true = cc in
     open_taken c.args.engine.now (string_bytes c.args.name) (site_of c.args.site.now)
-    (sort_of c.args.sort) c.requires c.in-Some.place at c.in-Some-kind_of.kind is taken
+    (sort_of c.args.sort) c.requires c.in-Some.place (sym c.place_of.ensures ∙ c.in-Some.is) c.in-Some-kind_of.kind is taken
 
 pub returns-then-is_taken_beside : goal.returns-then-is_taken_beside
 returns-then-is_taken_beside g c =
-    let at : at_of c.args.engine.now.nodes (site_of c.args.site.now) ≡ Some c.in-Some.place = sym c.place_of.ensures ∙ c.in-Some.is in
     let is : kind_of c.args.engine.now.hubs (sort_of c.args.sort) ≡ Some c.in-Some-kind_of.kind = sym c.kind_of.ensures ∙ c.in-Some-kind_of.is in
     let free : is_some (key_of c.args.engine.now.nodes (string_bytes c.args.name)) ≡ false = cc in
     let taken : is_taken_beside c.args.engine.now.nodes (string_bytes c.args.name) (connection_name (sort_of c.args.sort)) ≡ true = cc in
     open_taken_beside c.args.engine.now (string_bytes c.args.name) (site_of c.args.site.now)
-    (sort_of c.args.sort) c.requires c.in-Some.place at c.in-Some-kind_of.kind is free taken
+    (sort_of c.args.sort) c.requires c.in-Some.place (sym c.place_of.ensures ∙ c.in-Some.is) c.in-Some-kind_of.kind is free taken
 
 pub bind_connection-requires : goal.bind_connection-requires
 bind_connection-requires g c =
@@ -48,7 +43,6 @@ bind_connection-requires g c =
 
 pub returns-in_ok-bind_connection-in-Ok : goal.returns-in_ok-bind_connection-in-Ok
 returns-in_ok-bind_connection-in-Ok g c =
-    let at : at_of c.args.engine.now.nodes (site_of c.args.site.now) ≡ Some c.in-Some.place = sym c.place_of.ensures ∙ c.in-Some.is in
     let is : kind_of c.args.engine.now.hubs (sort_of c.args.sort) ≡ Some c.in-Some-kind_of.kind = sym c.kind_of.ensures ∙ c.in-Some-kind_of.is in
     let free : is_some (key_of c.args.engine.now.nodes (string_bytes c.args.name)) ≡ false = cc in
     let beside : is_taken_beside c.args.engine.now.nodes (string_bytes c.args.name) (connection_name (sort_of c.args.sort)) ≡ false = cc in
@@ -56,17 +50,16 @@ returns-in_ok-bind_connection-in-Ok g c =
     let named_on : c.bind_connection.new.nodes ≡ with_named c.bind.new.self c.connection_name-connection.result c.in-Ok.opened.connected =
     c.in_ok-bind_connection-in-Ok.ensures in
     open_accepted c.args.engine.now (string_bytes c.args.name) (site_of c.args.site.now)
-    (sort_of c.args.sort) c.requires c.in-Some.place at c.in-Some-kind_of.kind is free beside
+    (sort_of c.args.sort) c.requires c.in-Some.place (sym c.place_of.ensures ∙ c.in-Some.is) c.in-Some-kind_of.kind is free beside
     c.connection_name-connection.result c.promise.ensures c.in-Ok.ensures.accepted c.in-Ok.ensures.ok
     (record { text = c.args.name; spelt = refl; pushed = pushed }) named_on c.connection_name-connection.ensures
 
 pub returns-in-Err : goal.returns-in-Err
 returns-in-Err g c =
-    let at : at_of c.args.engine.now.nodes (site_of c.args.site.now) ≡ Some c.in-Some.place = sym c.place_of.ensures ∙ c.in-Some.is in
     let is : kind_of c.args.engine.now.hubs (sort_of c.args.sort) ≡ Some c.in-Some-kind_of.kind = sym c.kind_of.ensures ∙ c.in-Some-kind_of.is in
     let free : is_some (key_of c.args.engine.now.nodes (string_bytes c.args.name)) ≡ false = cc in
     let beside : is_taken_beside c.args.engine.now.nodes (string_bytes c.args.name) (connection_name (sort_of c.args.sort)) ≡ false = cc in
     answered _ _ _ c.refused.ensures.ok
     (λ other. open_refused c.args.engine.now (string_bytes c.args.name) (site_of c.args.site.now)
-    (sort_of c.args.sort) c.requires c.in-Some.place at c.in-Some-kind_of.kind is free beside
+    (sort_of c.args.sort) c.requires c.in-Some.place (sym c.place_of.ensures ∙ c.in-Some.is) c.in-Some-kind_of.kind is free beside
     c.open.new.self c.in-Err.why c.in-Err.ensures.kept c.in-Err.ensures.refused other)

@@ -1,6 +1,4 @@
-use Rattle.std.proofs.Common.{ap, ◌∙◌}
-use Rattle.rx_script.specs.Engine.{stage_of}
-use Rattle.rx_script.specs.Outputs.{unclosed_output}
+use Rattle.rx_script.proofs.Common.{ap, ◌∙◌, stage_of, unclosed_output}
 use Rattle.rx_script.proofs.WrittenBeforeClosing.{written_of, carried_out}
 use Rattle.rx_script.proofs.running.carry_out.Goals as goal
 

@@ -1,6 +1,4 @@
-use Rattle.std.proofs.Common.{map, sym, ap, ◌∙◌}
-use Rattle.rx_scenario.specs.Scenario.{step_of, steps_of}
-use Rattle.rx_script.specs.Report.{lacks_form}
+use Rattle.rx_script.proofs.Common.{map, sym, ap, ◌∙◌, step_of, steps_of, lacks_form}
 use Rattle.rx_script.specs.Running.{no_form}
 use Rattle.rx_script.proofs.running.output_of.Goals as goal
 

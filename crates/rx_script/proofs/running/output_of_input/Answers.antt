@@ -1,4 +1,4 @@
-use Rattle.std.proofs.Common.{Err, ap}
+use Rattle.rx_script.proofs.Common.{Err, ap}
 use Rattle.rx_script.proofs.running.output_of_input.Goals as goal
 
 pub returns-in-Err-Shape-clause-shape : goal.returns-in-Err-Shape-clause-shape

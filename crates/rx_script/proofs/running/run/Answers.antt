@@ -1,4 +1,4 @@
-use Rattle.std.proofs.Common.{inr, sym, subst, arith}
+use Rattle.rx_script.proofs.Common.{inr, sym, subst, arith}
 use Rattle.std.specs.Prelude.{IsErrOf}
 use Rattle.rx_device.specs.declared.fault.ScriptError.{ScriptError}
 use Rattle.rx_device.specs.Input.{IsJsonOf}

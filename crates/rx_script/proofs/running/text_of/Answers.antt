@@ -1,7 +1,5 @@
-use Rattle.std.proofs.Common.{[], map, string_bytes}
+use Rattle.rx_script.proofs.Common.{[], map, string_bytes, ware_of, stage_of}
 use Rattle.rx_scenario.specs.Scenario.{script_of}
-use Rattle.rx_script.specs.Stage.{ware_of}
-use Rattle.rx_script.specs.Engine.{stage_of}
 use Rattle.rx_script.proofs.WholeReport.{whole_output}
 use Rattle.rx_script.proofs.running.text_of.Goals as goal
 

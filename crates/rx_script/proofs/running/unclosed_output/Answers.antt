@@ -1,8 +1,5 @@
-use Rattle.std.proofs.Common.{string_bytes, sym, ap, ◌∙◌}
-use Rattle.rx_script.specs.Engine.{stage_of, engine_names}
-use Rattle.rx_dump.specs.Dump.{dump}
-use Rattle.rx_script.specs.NamedDumps.{named_dump}
-use Rattle.rx_script.specs.Outputs.{has_history, unclosed_output}
+use Rattle.rx_script.proofs.Common.{string_bytes, sym, ap, ◌∙◌, stage_of, dump, named_dump, has_history, unclosed_output}
+use Rattle.rx_script.specs.Engine.{engine_names}
 use Rattle.rx_script.proofs.OneMoreStep.{IfOk-map}
 use Rattle.rx_script.proofs.WrittenBeforeClosing.{history_whole}
 use Rattle.rx_script.proofs.running.unclosed_output.Goals as goal

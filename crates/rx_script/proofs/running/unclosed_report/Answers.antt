@@ -1,8 +1,5 @@
-use Rattle.std.proofs.Common.{◌++◌, map, string_bytes, sym, ap, subst, ◌∙◌}
-use Rattle.rx_report.specs.Keys.{node_binding, res_binding}
-use Rattle.rx_report.specs.Lines.{refused_lines, node_lines, res_lines}
-use Rattle.rx_report.specs.Tallies.{IsWhole}
-use Rattle.rx_report.specs.Text.{totals_line}
+use Rattle.rx_script.proofs.Common.{◌++◌, map, string_bytes, sym, ap, subst, ◌∙◌, node_binding, res_binding, refused_lines, node_lines, res_lines, IsWhole}
+use Rattle.rx_script.proofs.Common.{totals_line}
 use Rattle.rx_script.proofs.WrittenBeforeClosing.{all_gathered, lines_report}
 use Rattle.rx_script.proofs.running.unclosed_report.Goals as goal
 

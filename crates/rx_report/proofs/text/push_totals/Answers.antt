@@ -1,7 +1,0 @@
-use Rattle.std.proofs.Common.{append_assoc}
-use Rattle.rx_report.specs.Text.{totals_line}
-use Rattle.rx_report.proofs.text.push_totals.Goals as goal
-
-pub returns : goal.returns
-unfolding totals_line
-returns c = simp append_assoc (simp append_assoc at c.writeln.ensures.bytes)

@@ -1,4 +1,0 @@
-pub mod Text
-pub mod Keys
-pub mod Lines
-pub mod Tallies

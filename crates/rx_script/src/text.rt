@@ -1,0 +1,173 @@
+//! The lines of a report, each written behind a text.
+
+ghost use Rattle.std.specs.Prelude.{◌≡◌, ◌++◌, flat_map, string_bytes, OnOk};
+ghost use Rattle.rx_script.specs.Text.{refusal_name, cause_name, refused_line, note_text, node_line};
+ghost use Rattle.rx_script.specs.Text.{whereabouts_text, leases_text, res_line, totals_line, closed_line};
+ghost use Rattle.rx_script.specs.Lines.{refused_lines};
+
+use crate::line::{Account, Totals, Whereabouts};
+use rx_agenda::{Answer, Cause};
+use rx_event::{Refusal, Terminal};
+use rx_note::Note;
+use std::alloc::AllocError;
+
+fn refusal_name(why: Refusal) -> &'static str
+    ensures { result.now ≡ refusal_name why }
+{
+    match why {
+        Refusal::NoMemory => "NoMemory",
+        Refusal::Full => "Full",
+        Refusal::Gone => "Gone",
+        Refusal::WrongKind => "WrongKind",
+        Refusal::PlaceTaken => "PlaceTaken",
+        Refusal::NothingOwed => "NothingOwed",
+        Refusal::NotRoot => "NotRoot",
+        Refusal::NoHub => "NoHub",
+        Refusal::HubOrder => "HubOrder",
+        Refusal::Connected => "Connected",
+        Refusal::NotConnected => "NotConnected",
+        Refusal::NotFresh => "NotFresh",
+        Refusal::NotHeld => "NotHeld",
+        Refusal::HasChild => "HasChild",
+        Refusal::TooMany => "TooMany",
+        Refusal::NoLease => "NoLease",
+        Refusal::Leased => "Leased",
+        Refusal::MailLeft => "MailLeft",
+    }
+}
+
+fn cause_name(why: Cause) -> &'static str
+    ensures { result.now ≡ cause_name why }
+{
+    match why {
+        Cause::NoName => "NoName",
+        Cause::NameTaken => "NameTaken",
+        Cause::NoStock => "NoStock",
+        Cause::NoStep => "NoStep",
+        Cause::Book(why) => refusal_name(why),
+    }
+}
+
+#[tactic(auto, unfolding(crate::specs::Text::refused_line))]
+fn push_refused(text: &mut String, executed: usize, answer: Answer) -> Result<(), AllocError>
+    ensures { OnOk result (string_bytes text.new ≡ string_bytes text.old ++ refused_line executed answer) }
+{
+    match answer {
+        Answer::Accepted => Ok(()),
+        Answer::Refused(why) => {
+            let name = cause_name(why);
+            writeln!(text, "refused {executed} {name}")
+        }
+    }
+}
+
+/// A line for each refused step, with how many were executed before it and why it was refused.
+pub fn push_all_refused(text: &mut String, answers: &[Answer]) -> Result<(), AllocError>
+    ensures { OnOk result (string_bytes text.new ≡ string_bytes text.old ++ refused_lines answers.now) }
+{
+    for (executed, answer) in answers.iter().enumerate() {
+        push_refused(text, executed, *answer)?;
+    }
+    Ok(())
+}
+
+#[tactic(auto, unfolding(crate::specs::Text::note_text))]
+fn push_note(text: &mut String, note: &Note) -> Result<(), AllocError>
+    ensures { OnOk result (string_bytes text.new ≡ string_bytes text.old ++ note_text note.now) }
+{
+    match *note {
+        Note::Next(value) => write!(text, " next={value}"),
+        Note::Project(value) => write!(text, " project={value}"),
+        Note::End(Terminal::Completed) => text.push_str(" completed"),
+        Note::End(Terminal::Error(code)) => write!(text, " error={code}"),
+    }
+}
+
+fn push_notes(text: &mut String, notes: &[Note]) -> Result<(), AllocError>
+    ensures { OnOk result (string_bytes text.new ≡ string_bytes text.old ++ flat_map note_text notes.now) }
+{
+    for note in notes {
+        push_note(text, note)?;
+    }
+    Ok(())
+}
+
+/// The line of a node: its name, whether it is open, and the notes that went to it.
+#[tactic(auto, unfolding(crate::specs::Text::node_line))]
+pub fn push_node(
+    text: &mut String,
+    name: &str,
+    is_open: bool,
+    notes: &[Note],
+) -> Result<(), AllocError>
+    ensures { OnOk result (string_bytes text.new ≡ string_bytes text.old ++ node_line name.now is_open notes.now) }
+{
+    let openness = if is_open { "open" } else { "closed" };
+    write!(text, "node {name} {openness}:")?;
+    push_notes(text, notes)?;
+    text.push_str("\n")
+}
+
+fn whereabouts_text(whereabouts: Whereabouts) -> &'static str
+    ensures { result.now ≡ whereabouts_text whereabouts }
+{
+    match whereabouts {
+        Whereabouts::Held => "held",
+        Whereabouts::Waiting => "waiting",
+        Whereabouts::Taken => "taken",
+    }
+}
+
+// How many leases of a resource are out, where one is.
+fn push_leases(text: &mut String, leases: u64) -> Result<(), AllocError>
+    ensures { OnOk result (string_bytes text.new ≡ string_bytes text.old ++ leases_text leases) }
+{
+    if leases == 0 {
+        return Ok(());
+    }
+    write!(text, " leases={leases}")
+}
+
+/// The line of a resource.
+#[tactic(auto, unfolding(crate::specs::Text::res_line))]
+pub fn push_res(text: &mut String, name: &str, account: Account) -> Result<(), AllocError>
+    ensures { OnOk result (string_bytes text.new ≡ string_bytes text.old ++ res_line name.now account) }
+{
+    let Account {
+        tag,
+        uses,
+        whereabouts,
+        leases,
+    } = account;
+    let whereabouts = whereabouts_text(whereabouts);
+    write!(text, "res {name} tag={tag} uses={uses} {whereabouts}")?;
+    push_leases(text, leases)?;
+    text.push_str("\n")
+}
+
+/// The line of the totals.
+#[tactic(auto, unfolding(crate::specs::Text::totals_line))]
+pub fn push_totals(text: &mut String, totals: Totals) -> Result<(), AllocError>
+    ensures { OnOk result (string_bytes text.new ≡ string_bytes text.old ++ totals_line totals) }
+{
+    let Totals {
+        nodes,
+        open_nodes,
+        accepted,
+        held,
+        waiting,
+        taken,
+    } = totals;
+    writeln!(
+        text,
+        "totals nodes={nodes} open={open_nodes} accepted={accepted} held={held} waiting={waiting} taken={taken}"
+    )
+}
+
+/// The last line: how many resources were released at the end, and how many releases met a fault.
+#[tactic(auto, unfolding(crate::specs::Text::closed_line))]
+pub fn push_closed(text: &mut String, released: u64, faults: u64) -> Result<(), AllocError>
+    ensures { OnOk result (string_bytes text.new ≡ string_bytes text.old ++ closed_line released faults) }
+{
+    writeln!(text, "closed {released} faults {faults}")
+}
