@@ -4,8 +4,6 @@
 #![tactic(auto)]
 
 #[cfg(test)]
-mod caller;
-#[cfg(test)]
 mod closed;
 #[cfg(test)]
 mod days;

@@ -9,15 +9,15 @@ use super::parts::{Open, blanks, tell};
 use super::ticks::Ticks;
 use super::trials::{Trial, assert_all};
 use rx_book::{At, Book, Key};
-use rx_crew::{Desk, Gate, feed, worker};
+use rx_crew::{Desk, Floor, Gate, feed, worker};
 use rx_event::{Kind, Place, Refusal, Terminal};
 use rx_ledger::Seat;
 use rx_resource::{Life, Resource, Sample};
 use std::alloc::Global;
 use std::marker::Brand;
+use std::sync::Wait;
 use std::sync::atomic::{AtomicU64, Ordering};
 use std::sync::ledger::{Blank, Ledger};
-use std::sync::{Arc, Wait};
 use std::thread;
 use std::thread::Threads;
 
@@ -34,13 +34,13 @@ fn came_to(word: &AtomicU64, number: u64) -> bool {
 
 // Its release sets the stage to 1 and waits for 2; without that it meets the fault 9.
 #[derive(Drop)]
-struct Actor {
+struct Actor<'a> {
     life: Life,
     uses: u64,
-    stage: Arc<AtomicU64, Global>,
+    stage: &'a AtomicU64,
 }
 
-impl Resource for Actor {
+impl Resource for Actor<'_> {
     ghost tag_of = { λ a. 1 };
 
     ghost life_of = { λ a. a.life };
@@ -67,7 +67,7 @@ impl Resource for Actor {
     fn release(&mut self) -> Result<(), u32> {
         self.life = Life::Released;
         self.stage.store(1, Ordering::SeqCst);
-        if came_to(&self.stage, 2) {
+        if came_to(self.stage, 2) {
             Ok(())
         } else {
             Err(9)
@@ -75,51 +75,92 @@ impl Resource for Actor {
     }
 }
 
-// One thread releases an actor; the other waits until that release runs, disposes of another root at the
-// same desk, and only then lets it end. Answers the faults of the release, and where that root was closed.
+// Opens a root, and another with an actor, which waits for its release then. The key of the first.
+fn laid_out<'a, I: Ledger, A: Ledger, K: Ledger>(
+    floor: &mut Floor<Actor<'a>, I, A, K>,
+    seat: &mut Seat<I, A, K>,
+    actor: Actor<'a>,
+) -> Result<Key, Refusal> {
+    let other = floor.open(At::Root, Kind::Pass)?;
+    match floor.open_using(seat, At::Root, actor) {
+        Ok(opened) => match floor.dispose(opened.key) {
+            Ok(_) => Ok(other.key),
+            Err(why) => Err(why),
+        },
+        Err(refused) => Err(refused.why),
+    }
+}
+
+// Waits until a release runs, disposes of a root meanwhile, and only then lets the release end.
+fn dispose_meanwhile<I: Ledger, A: Ledger, K: Ledger>(
+    rt: &impl Wait,
+    desk: &Desk<Actor<'_>, I, A, K>,
+    other: Key,
+    stage: &AtomicU64,
+) -> Result<u64, Refusal> {
+    came_to(stage, 1);
+    let disposed = desk.floor.lock(rt).dispose(other);
+    stage.store(2, Ordering::SeqCst);
+    disposed
+}
+
+// One thread releases an actor; the other disposes of another root at the same desk meanwhile. Answers the faults
+// of the release, and where that root was closed.
+fn meet<
+    I: Ledger + Send + Sync,
+    A: Ledger + Send + Sync,
+    K: Ledger + Send + Sync,
+    T: Threads + Wait + Sync,
+>(
+    rt: &T,
+    desk: &Desk<Actor<'_>, I, A, K>,
+    seat: Seat<I, A, K>,
+    other: Key,
+    stage: &AtomicU64,
+) -> (u64, Result<u64, Refusal>) {
+    let (worked, disposed) = thread::join(
+        rt,
+        || worker(rt, desk, seat, &Open, 1),
+        || dispose_meanwhile(rt, desk, other, stage),
+    );
+    (worked.faults, disposed)
+}
+
+// Makes the desk for it.
 fn disposes_meanwhile<
     I: Ledger + Send + Sync,
     A: Ledger + Send + Sync,
     K: Ledger + Send + Sync,
     T: Threads + Wait + Sync,
->(rt: &T, alloc: Global, blanks: (Blank, Blank, Blank)) -> Option<(u64, Result<u64, Refusal>)>
+>(
+    rt: &T,
+    alloc: Global,
+    blanks: (Blank, Blank, Blank),
+    stage: &AtomicU64,
+) -> (u64, Result<u64, Refusal>)
     requires items { Opens I.name I.parts blanks.0.name blanks.0.parts }
     requires accepted { Opens A.name A.parts blanks.1.name blanks.1.parts }
     requires taken { Opens K.name K.parts blanks.2.name blanks.2.parts }
 {
     let book = Book::new(alloc, 1000);
-    let (desk, mut seat) = Desk::<Actor, I, A, K>::new(book, blanks.0, blanks.1, blanks.2);
-    let stage = Arc::new(alloc, AtomicU64::new(0)).ok()?;
+    let (desk, mut seat) = Desk::<Actor<'_>, I, A, K>::new(book, blanks.0, blanks.1, blanks.2);
     let actor = Actor {
         life: Life::Live,
         uses: 0,
-        stage: Arc::try_clone(&stage).ok()?,
+        stage,
     };
-    let other = desk.floor.lock(rt).open(At::Root, Kind::Pass).ok()?.key;
-    let opened = desk
-        .floor
-        .lock(rt)
-        .open_using(&mut seat, At::Root, actor)
-        .ok()?;
-    desk.floor.lock(rt).dispose(opened.key).ok()?;
-    let at = &desk;
-    let (worked, disposed) = thread::join(
-        rt,
-        || worker(rt, at, seat, &Open, 1),
-        || -> Result<u64, Refusal> {
-            came_to(&stage, 1);
-            let disposed = at.floor.lock(rt).dispose(other);
-            stage.store(2, Ordering::SeqCst);
-            disposed
-        },
-    );
-    Some((worked.faults, disposed))
+    let other = laid_out(&mut desk.floor.lock(rt), &mut seat, actor);
+    match other {
+        Ok(other) => meet(rt, &desk, seat, other, stage),
+        Err(why) => (0, Err(why)),
+    }
 }
 
 #[test]
 fn a_release_runs_while_the_desk_answers_another(rt: HostRuntime) {
-    let told = disposes_meanwhile::<Brand, Brand, Brand, _>(&rt, rt.alloc(), blanks());
-    assert_eq!(rt; told, Some((0, Ok(5))));
+    let stage = AtomicU64::new(0);
+    let told = disposes_meanwhile::<Brand, Brand, Brand, _>(&rt, rt.alloc(), blanks(), &stage);
+    assert_eq!(rt; told, (0, Ok(5)));
 }
 
 // Holds the first release until the call after another one.
