@@ -1,6 +1,6 @@
 //! Opening a node that holds a resource from then on.
 
-ghost use Rattle.std.specs.Prelude.{◌≢◌, ◌≡◌, Some, option_map, string_bytes, IfOk, OnErr};
+ghost use Rattle.std.specs.Prelude.{◌≢◌, Some, option_map, string_bytes, IfOk, OnErr};
 ghost use Rattle.rx_scenario.specs.Scenario.{site_of, sort_of};
 ghost use Rattle.rx_event.specs.declared.refusal.Refusal.TheVariants.{NoMemory};
 ghost use Rattle.rx_line.specs.declared.outcome.Cause.{Cause as CauseOf};

@@ -1,8 +1,8 @@
-use Rattle.std.proofs.Common.{◌≡◌, ◌+◌, ◌-◌, Bool, true, false, Some, option_map, refl, sym, ap, ◌∙◌, arith}
+use Rattle.std.proofs.Common.{◌≡◌, ◌+◌, ◌-◌, Bool, true, false, Some, refl, sym, ap, ◌∙◌, arith}
 use Rattle.rx_tree.specs.declared.links.Place.TheVariants.{Children, Held, Sibling, Noted}
 use Rattle.rx_tree.specs.declared.store.Counts.{Counts}
 use Rattle.rx_tree.specs.Store.{alone, count_if}
-use Rattle.rx_tree.proofs.StoreLemmas.{find-project, takes-project, changes-project, part-taken, part-gone, links_taken}
+use Rattle.rx_tree.proofs.StoreLemmas.{takes-project, changes-project, part-taken, part-gone, links_taken}
 use Rattle.rx_tree.proofs.CountSteps.{out_fits, some_owed, counted_gone}
 use Rattle.rx_tree.proofs.store.Store.take_node.Goals as goal
 
