@@ -1,8 +1,6 @@
 -- The comparison is an order.
-use Rattle.std.proofs.Common.{◌≡◌, ◌<◌, ℕ, sym, subst, ◌∙◌, inl, inr, arith}
-use Rattle.std.specs.Prelude.{◌⊎◌}
-use Rattle.std.proofs.lemmas.Bool.{cases_lt}
-use Rattle.rx_agenda.specs.Order.{Origin, Turn, Placed, IsScheduledBefore, IsEarlierTurn, ComesBefore}
+use Rattle.rx_agenda.proofs.Common.{◌≡◌, ◌<◌, ℕ, sym, subst, ◌∙◌, inl, inr, arith, ◌⊎◌, cases_lt, Origin, Turn, Placed, IsScheduledBefore, IsEarlierTurn}
+use Rattle.rx_agenda.proofs.Common.{ComesBefore}
 
 pub scheduled-trans : (a b c : Origin) → IsScheduledBefore a b → IsScheduledBefore b c → IsScheduledBefore a c
 scheduled-trans a b c (inl x) (inl y) = inl (omega arith)

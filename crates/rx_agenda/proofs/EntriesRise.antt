@@ -1,13 +1,7 @@
 -- What holds of a placed agenda at each moment: its entries stand in the order of scheduling, and its turn too.
-use Rattle.std.proofs.Common.{◌≡◌, ◌<◌, ℕ, List, Bool, true, false, cond, refl, sym, ap, subst, ◌∙◌, inl}
-use Rattle.std.proofs.Common.{inr}
-use Rattle.std.specs.Prelude.{◌⊎◌, Option, Some, None, option_map, is_some, find}
-use Rattle.std.specs.Str.{bytes_eq}
-use Rattle.std.proofs.lemmas.Slice.Eq.{bytes_eq-Decides}
-use Rattle.rx_time.specs.declared.work.Work.{Work}
-use Rattle.rx_scenario.specs.Scenario.{Name}
-use Rattle.rx_agenda.specs.Bindings.{Binding, bound, is_bound, with_binding}
-use Rattle.rx_agenda.specs.Order.{Origin, Turn, Placed, IsScheduledBefore, IsEarlierTurn, WaitsUnder}
+use Rattle.rx_agenda.proofs.Common.{◌≡◌, ◌<◌, ℕ, List, Bool, true, false, cond, refl, sym, ap, subst, ◌∙◌, inl, inr, ◌⊎◌, Option, Some, None, option_map}
+use Rattle.rx_agenda.proofs.Common.{is_some, find, bytes_eq, bytes_eq-Decides, Work, Name, Binding, bound, is_bound, with_binding, Origin, Turn, Placed}
+use Rattle.rx_agenda.proofs.Common.{IsScheduledBefore, IsEarlierTurn, WaitsUnder}
 use Rattle.rx_agenda.proofs.Members.{IsIn, Pairwise}
 use Rattle.rx_agenda.proofs.ComesBeforeIsAnOrder.{scheduled-trans}
 use Rattle.rx_agenda.proofs.FoundAtTheEnd.{find-push, or_last}

@@ -1,21 +1,16 @@
 -- Worked examples of the order: what comes of small scenarios, and that what a wrong machine would make of them is in no order.
-use Rattle.std.proofs.Common.{◌≡◌, ℕ, zero, suc, List, [], ◌∷◌, ◌++◌, map, option_map, refl, sym, ap, subst, ◌∙◌, append_assoc}
-use Rattle.std.proofs.Common.{append-nil}
-use Rattle.std.specs.Prelude.{Option, Some, None, slice_get, negsuc, pos, codes}
+use Rattle.rx_agenda.proofs.Common.{◌≡◌, ℕ, zero, suc, List, [], ◌∷◌, ◌++◌, map, option_map, refl, sym, ap, subst, ◌∙◌, Option, Some, None, slice_get, item_of}
+use Rattle.rx_agenda.proofs.Common.{Name, Command, Action, command, cancel, Step, list_of, bound, Answer, Accepted, Refused, NoStep, Agenda, empty_agenda}
+use Rattle.rx_agenda.proofs.Common.{with_steps, followed_by, next_step, taken_off, none_waits, without_ticket, Acts, does_command, does_cancel, HaveCome}
+use Rattle.rx_agenda.proofs.Common.{none_yet, one_more, Executed, done_in}
+use Rattle.std.proofs.Common.{append_assoc, append-nil}
+use Rattle.std.specs.Prelude.{negsuc, pos, codes}
 use Rattle.std.specs.Option.{option_map_or}
 use Rattle.std.proofs.lemmas.Option.{slice_get-map}
 use Rattle.rx_event.specs.declared.event.Mode.TheVariants.{Auto}
 use Rattle.rx_event.specs.declared.refusal.Refusal.TheVariants.{Gone}
-use Rattle.rx_time.specs.Schedule.{item_of}
-use Rattle.rx_scenario.specs.Scenario.{Name, root, source, leaf, sub, Command, open_node, remove, next, dispose, make_hub, drain, Action, command}
-use Rattle.rx_scenario.specs.Scenario.{cancel, Step, list_of, steps_of}
-use Rattle.rx_agenda.specs.Bindings.{bound}
-use Rattle.rx_agenda.specs.declared.answer.Answer.{Answer}
-use Rattle.rx_agenda.specs.declared.answer.Answer.TheVariants.{Accepted, Refused}
-use Rattle.rx_agenda.specs.declared.answer.Cause.TheVariants.{NoStep, Book}
-use Rattle.rx_agenda.specs.Agenda.{Agenda, empty_agenda, with_steps, followed_by, next_step, taken_off, none_waits, without_ticket}
-use Rattle.rx_agenda.specs.Come.{Acts, does_command, does_cancel, HaveCome, none_yet, one_more}
-use Rattle.rx_agenda.specs.Order.{Executed, done_in}
+use Rattle.rx_scenario.specs.Scenario.{root, source, leaf, sub, open_node, remove, next, dispose, make_hub, drain, steps_of}
+use Rattle.rx_agenda.specs.declared.answer.Cause.TheVariants.{Book}
 use Rattle.rx_agenda.specs.Claims.{IsOrderOf}
 use Rattle.rx_agenda.proofs.RunsInOrder.{runs_in_order}
 use Rattle.rx_agenda.proofs.OneOrder.{determined}

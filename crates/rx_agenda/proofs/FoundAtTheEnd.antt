@@ -1,6 +1,5 @@
 -- What is found once one more stands at the end.
-use Rattle.std.proofs.Common.{◌≡◌, List, [], ◌∷◌, ◌++◌, Bool, true, false, cond, refl}
-use Rattle.std.specs.Prelude.{Option, Some, None, find}
+use Rattle.rx_agenda.proofs.Common.{◌≡◌, List, [], ◌∷◌, ◌++◌, Bool, true, false, cond, refl, Option, Some, None, find}
 
 -- the last where none was found before
 abbrev pub or_last : {A : Type 0} → (A → Bool) → A → Option A → Option A

@@ -1,14 +1,9 @@
 -- The executed steps so far are in order, and so they are after one more.
-use Rattle.std.proofs.Common.{◌≡◌, ◌<◌, ◌≤◌, ◌+◌, ℕ, List, [], ◌∷◌, ◌++◌, length, sym, ap, subst, ◌∙◌, inl}
-use Rattle.std.proofs.Common.{inr, arith}
-use Rattle.std.specs.Prelude.{◌⊎◌, Some, slice_get}
-use Rattle.std.proofs.lemmas.Option.{slice_get_within}
-use Rattle.rx_scenario.specs.Scenario.{Name, Command, command, cancel, Step, list_of}
-use Rattle.rx_agenda.specs.declared.answer.Answer.{Answer}
-use Rattle.rx_agenda.specs.declared.answer.Answer.TheVariants.{Accepted}
-use Rattle.rx_agenda.specs.Order.{Origin, Turn, Placed, Executed, IsScheduledBefore, ComesBefore, placed_at, held_by}
-use Rattle.rx_agenda.specs.Order.{IsHeld, by_scenario, by_step, WaitsUnder, IsMeant, IsCancelled, IsDue, IsExecuted, WaitsAt, IsAnswered}
-use Rattle.rx_agenda.specs.Order.{one_waits, no_step_waits, AreCancelsAnswered}
+use Rattle.rx_agenda.proofs.Common.{◌≡◌, ◌<◌, ◌≤◌, ◌+◌, ℕ, List, [], ◌∷◌, ◌++◌, length, sym, ap, subst, ◌∙◌, inl, inr, arith, ◌⊎◌, Some, slice_get}
+use Rattle.rx_agenda.proofs.Common.{slice_get_within, Name, Command, command, cancel, Step, list_of, Answer, Accepted, Origin, Turn, Placed, Executed}
+use Rattle.rx_agenda.proofs.Common.{IsScheduledBefore, ComesBefore, placed_at, held_by, IsHeld, by_scenario, by_step, WaitsUnder, IsCancelled, IsDue}
+use Rattle.rx_agenda.proofs.Common.{IsExecuted, WaitsAt, IsAnswered, one_waits, no_step_waits, AreCancelsAnswered}
+use Rattle.rx_agenda.specs.Order.{IsMeant}
 use Rattle.rx_agenda.proofs.Members.{get_push, get_old, get_last}
 use Rattle.rx_agenda.proofs.PlacedSteps.{PlacedAgenda, IsPending, IsWithin, Takes}
 use Rattle.rx_agenda.proofs.EntriesRise.{FirstOf, IsReady}

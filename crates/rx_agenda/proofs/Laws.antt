@@ -1,15 +1,8 @@
 -- What names stand for, by keys and by numbers.
-use Rattle.std.proofs.Common.{◌≡◌, ℕ, List, [], ◌∷◌, ◌++◌, Bool, true, false, map, cond, refl, ap, subst, ◌∙◌, arith}
-use Rattle.std.specs.Prelude.{Option, Some, None, is_some, option_map, find}
-use Rattle.std.specs.Str.{bytes_eq}
+use Rattle.rx_agenda.proofs.Common.{◌≡◌, ℕ, List, [], ◌∷◌, ◌++◌, Bool, true, false, map, cond, refl, ap, subst, ◌∙◌, arith, Option, Some, None, is_some}
+use Rattle.rx_agenda.proofs.Common.{option_map, find, bytes_eq, bytes_eq-Decides, Name, Named, name_of, key_of, Binding, bound, number_binding}
 use Rattle.std.specs.List.{All}
 use Rattle.std.proofs.lemmas.List.Elements.{All-tail}
-use Rattle.std.proofs.lemmas.Slice.Eq.{bytes_eq-Decides}
-use Rattle.rx_scenario.specs.Scenario.{Name}
-use Rattle.rx_agenda.specs.declared.names.Named.{Named}
-use Rattle.rx_agenda.specs.Names.{name_of, key_of}
-use Rattle.rx_agenda.specs.Bindings.{Binding, bound}
-use Rattle.rx_agenda.specs.Shown.{number_binding}
 use Rattle.rx_agenda.proofs.FoundAtTheEnd.{or_last, find-push}
 pub use Rattle.rx_agenda.proofs.RunsInOrder.{runs_in_order}
 pub use Rattle.rx_agenda.proofs.OneOrder.{Agrees, determined, determined_so_far, cancel_alike}

@@ -1,16 +1,10 @@
 -- A step leaves what is to come: the one that comes next, or one that is cancelled.
-use Rattle.std.proofs.Common.{◌≡◌, ◌<◌, ◌≤◌, ℕ, List, [], ◌∷◌, true, false, cond, nat_eq, nat_le, refl, sym, ap, subst, ◌∙◌, inl, inr, arith}
-use Rattle.std.specs.Prelude.{◌⊎◌, Option, Some, None, is_some}
-use Rattle.std.specs.Map.{lookup}
-use Rattle.std.proofs.lemmas.Bool.{cases_lt, le-leb, lt-leb}
-use Rattle.rx_time.specs.declared.work.Work.{Work}
-use Rattle.rx_time.specs.Schedule.{earlier, next_of, if_due, next_due, without}
-use Rattle.rx_scenario.specs.Scenario.{Name}
-use Rattle.rx_agenda.specs.Bindings.{bound}
-use Rattle.rx_agenda.specs.declared.answer.Answer.{Answer}
-use Rattle.rx_agenda.specs.declared.answer.Answer.TheVariants.{Accepted, Refused}
-use Rattle.rx_agenda.specs.declared.answer.Cause.TheVariants.{NoStep}
-use Rattle.rx_agenda.specs.Order.{Origin, Turn, Placed, IsScheduledBefore, IsEarlierTurn, ComesBefore, WaitsUnder}
+use Rattle.rx_agenda.proofs.Common.{◌≡◌, ◌<◌, ◌≤◌, ℕ, List, [], ◌∷◌, true, false, cond, nat_eq, refl, sym, ap, subst, ◌∙◌, inl, inr, arith, ◌⊎◌, Option, Some}
+use Rattle.rx_agenda.proofs.Common.{None, is_some, lookup, cases_lt, Work, next_due, without, Name, bound, Answer, Accepted, Refused, NoStep, Origin, Turn}
+use Rattle.rx_agenda.proofs.Common.{Placed, IsScheduledBefore, IsEarlierTurn, ComesBefore, WaitsUnder}
+use Rattle.std.proofs.Common.{nat_le}
+use Rattle.std.proofs.lemmas.Bool.{le-leb, lt-leb}
+use Rattle.rx_time.specs.Schedule.{earlier, next_of, if_due}
 use Rattle.rx_agenda.proofs.Members.{IsIn, Pairwise, pairwise_removed, pairwise_cases, removed_in, removed_or_stays, removed_apart, lookup_at, lookup_in}
 use Rattle.rx_agenda.proofs.PlacedSteps.{Entry, PlacedAgenda, IsPending, IsWithin, Pops, of_turn, of_timeline, without_first, without_entry, Takes, takes}
 use Rattle.rx_agenda.proofs.PlacedSteps.{leaves, without_placed}

@@ -1,3 +1,4 @@
+pub mod Common
 pub mod FoundAtTheEnd
 pub mod Laws
 pub mod NamesStayTied

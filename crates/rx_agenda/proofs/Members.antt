@@ -1,8 +1,7 @@
 -- What stands in a list, and lists of which each two members are related.
-use Rattle.std.proofs.Common.{◌≡◌, ◌<◌, ℕ, zero, suc, List, [], ◌∷◌, ◌++◌, length, Bool, true, false, cond, nat_eq, refl, sym, ap}
-use Rattle.std.proofs.Common.{subst, ◌∙◌, inl, inr, arith}
-use Rattle.std.specs.Prelude.{◌⊎◌, Some, slice_get}
-use Rattle.std.specs.Map.{lookup, remove_entry}
+use Rattle.rx_agenda.proofs.Common.{◌≡◌, ◌<◌, ℕ, zero, suc, List, [], ◌∷◌, ◌++◌, length, Bool, true, false, cond, nat_eq, refl, sym, ap, subst, ◌∙◌, inl, inr}
+use Rattle.rx_agenda.proofs.Common.{arith, ◌⊎◌, Some, slice_get, lookup}
+use Rattle.std.specs.Map.{remove_entry}
 use Rattle.std.proofs.lemmas.Bool.{eqb-true}
 use Rattle.std.proofs.lemmas.Bool.Decides.{nat_tests}
 

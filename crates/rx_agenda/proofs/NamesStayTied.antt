@@ -1,12 +1,7 @@
 -- The map of a space of names goes on as its list does.
-use Rattle.std.proofs.Common.{◌≡◌, ℕ, List, [], ◌∷◌, ◌++◌, false, cond, String, Global, refl, sym, ap, ◌∙◌}
-use Rattle.std.specs.Prelude.{Some, is_some}
-use Rattle.std.specs.Str.{bytes_eq}
-use Rattle.std.specs.Map.{update}
-use Rattle.std.specs.HashMap.{HashMap, IsEmpty, get_by_text}
-use Rattle.rx_agenda.specs.declared.names.Named.{Named}
-use Rattle.rx_agenda.specs.Names.{name_of, key_of}
-use Rattle.rx_agenda.specs.Ties.{IsTied}
+use Rattle.rx_agenda.proofs.Common.{◌≡◌, ℕ, List, [], ◌∷◌, ◌++◌, false, cond, String, Global, refl, sym, ap, ◌∙◌, Some, is_some, bytes_eq, update, get_by_text}
+use Rattle.rx_agenda.proofs.Common.{Named, name_of, key_of, IsTied}
+use Rattle.std.specs.HashMap.{HashMap, IsEmpty}
 use Rattle.rx_agenda.proofs.Laws.{key_of-bind, none_there}
 
 pub still_tied : {K S : Type 0} (names : List (Named K)) (n : Named K) (old new : HashMap (String Global) K S)

@@ -1,23 +1,16 @@
 -- What is to come, seen as the definitions see it.
-use Rattle.std.proofs.Common.{◌≡◌, ◌+◌, ℕ, List, [], ◌∷◌, ◌++◌, true, false, map, option_map, string_bytes, String, Global, refl, ap, subst, ◌∙◌, arith}
-use Rattle.std.specs.Prelude.{Result, Ok, Err, OnOk, Option, Some, None, IfSome, is_some, sum_by}
+use Rattle.rx_agenda.proofs.Common.{◌≡◌, ◌+◌, ℕ, List, [], ◌∷◌, ◌++◌, true, false, map, option_map, string_bytes, String, Global, refl, ap, subst, ◌∙◌, arith}
+use Rattle.rx_agenda.proofs.Common.{Option, Some, None, is_some, sum_by, map-append, sum_by-cons, Work, Schedule, next_due, item_of, without, entry_seen}
+use Rattle.rx_agenda.proofs.Common.{next_due-seen, without-seen, item_of-seen, Name, Step, step_of, Accepted, Refused, NoStep, Named, key_of, bound, Agenda}
+use Rattle.rx_agenda.proofs.Common.{with_label, with_step, with_steps, next_step, without_ticket, Cancels, taken_off, none_waits, number_binding, agenda_of}
+use Rattle.rx_agenda.proofs.Common.{size_of}
+use Rattle.std.specs.Prelude.{Result, Ok, Err, OnOk, IfSome}
 use Rattle.std.specs.List.Sorted.{IsPermutation}
-use Rattle.std.proofs.lemmas.List.{map-append}
 use Rattle.std.proofs.lemmas.List.Sorted.{sum_by-IsPermutation}
-use Rattle.std.proofs.lemmas.List.Sums.{sum_by-cons}
-use Rattle.rx_time.specs.declared.work.Work.{Work}
-use Rattle.rx_time.specs.Schedule.{Schedule, next_due, item_of, items_of, without, entry_seen}
-use Rattle.rx_time.proofs.Laws.{next_due-seen, without-seen, item_of-seen}
+use Rattle.rx_time.specs.Schedule.{items_of}
 use Rattle.rx_scenario.specs.declared.scenario.Step.{Step as StepInCode}
-use Rattle.rx_scenario.specs.Scenario.{Name, Step, step_of}
 use Rattle.rx_agenda.specs.declared.agenda.Agenda.{Agenda as AgendaInCode}
-use Rattle.rx_agenda.specs.declared.answer.Answer.TheVariants.{Accepted, Refused}
-use Rattle.rx_agenda.specs.declared.answer.Cause.TheVariants.{NoStep}
-use Rattle.rx_agenda.specs.declared.names.Named.{Named}
-use Rattle.rx_agenda.specs.Names.{key_of}
-use Rattle.rx_agenda.specs.Bindings.{bound}
-use Rattle.rx_agenda.specs.Agenda.{Agenda, with_label, with_step, with_steps, first_of_turn, next_step, without_ticket, Cancels, taken_off, none_waits}
-use Rattle.rx_agenda.specs.Shown.{number_binding, agenda_of, size_of}
+use Rattle.rx_agenda.specs.Agenda.{first_of_turn}
 use Rattle.rx_agenda.proofs.Laws.{bound-numbers}
 
 pub OnOk-map : {T E A B : Type 0} (r : Result T E) → (A → B) → OnOk r A → OnOk r B

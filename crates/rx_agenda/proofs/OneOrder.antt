@@ -1,11 +1,8 @@
 -- What the answers were determines which steps came, and in which order.
-use Rattle.std.proofs.Common.{◌≡◌, ◌<◌, ◌≤◌, ◌+◌, ℕ, zero, suc, List, [], ◌∷◌, refl, sym, ap, subst, ◌∙◌, inl, inr, arith}
-use Rattle.std.specs.Prelude.{◌⊎◌, Option, Some, None, slice_get}
-use Rattle.std.proofs.lemmas.Bool.{cases_lt}
-use Rattle.rx_scenario.specs.Scenario.{Name, Step, list_of}
-use Rattle.rx_agenda.specs.declared.answer.Answer.{Answer}
-use Rattle.rx_agenda.specs.Order.{Origin, Turn, Placed, Executed, IsScheduledBefore, ComesBefore, opening_turn, turn_after, placed_at, held_by, IsHeld}
-use Rattle.rx_agenda.specs.Order.{by_scenario, by_step, IsCancelled, IsDue, IsInOrder, WaitsAt, IsAnswered, one_waits, no_step_waits}
+use Rattle.rx_agenda.proofs.Common.{◌≡◌, ◌<◌, ◌≤◌, ◌+◌, ℕ, zero, suc, List, [], ◌∷◌, refl, sym, ap, subst, ◌∙◌, inl, inr, arith, ◌⊎◌, Option, Some, None}
+use Rattle.rx_agenda.proofs.Common.{slice_get, cases_lt, Name, Step, list_of, Answer, Origin, Turn, Placed, Executed, IsScheduledBefore, ComesBefore}
+use Rattle.rx_agenda.proofs.Common.{opening_turn, turn_after, placed_at, held_by, IsHeld, by_scenario, by_step, IsCancelled, IsDue, IsInOrder, WaitsAt}
+use Rattle.rx_agenda.proofs.Common.{IsAnswered, one_waits, no_step_waits}
 use Rattle.rx_agenda.specs.Claims.{OrderIsDetermined, HeadsComeFirst}
 use Rattle.rx_agenda.proofs.ComesBeforeIsAnOrder.{comes-trans, comes-asym, comes-self, comes-cases}
 

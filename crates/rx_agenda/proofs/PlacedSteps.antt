@@ -1,18 +1,11 @@
 -- The agenda with each step placed: what it is where it is seen without the places.
-use Rattle.std.proofs.Common.{◌≡◌, ℕ, ◌+◌, List, [], ◌∷◌, ◌++◌, map, nat_eq, refl, sym, ap, ◌∙◌}
-use Rattle.std.specs.Prelude.{◌⊎◌, Option, Some, None, option_map, option_and_then}
-use Rattle.std.specs.Map.{lookup}
-use Rattle.std.proofs.lemmas.List.{map-append}
-use Rattle.rx_time.specs.declared.work.Work.{Work}
-use Rattle.rx_time.specs.Schedule.{Schedule, schedule, seen_as, entry_seen, with_work, next_due, item_of, without}
-use Rattle.rx_time.proofs.Laws.{next_due-seen, without-seen, item_of-seen}
-use Rattle.rx_scenario.specs.Scenario.{Name, Step}
-use Rattle.rx_agenda.specs.Bindings.{Binding, bound}
-use Rattle.rx_agenda.specs.Agenda.{Agenda, with_label, with_step_after, with_step, next_step, Cancels, taken_off, none_waits, without_ticket}
-use Rattle.rx_agenda.specs.declared.answer.Answer.{Answer}
-use Rattle.rx_agenda.specs.declared.answer.Answer.TheVariants.{Accepted, Refused}
-use Rattle.rx_agenda.specs.declared.answer.Cause.TheVariants.{NoStep}
-use Rattle.rx_agenda.specs.Order.{Placed}
+use Rattle.rx_agenda.proofs.Common.{◌≡◌, ℕ, ◌+◌, List, [], ◌∷◌, ◌++◌, map, nat_eq, refl, sym, ap, ◌∙◌, ◌⊎◌, Option, Some, None, option_map, lookup, map-append}
+use Rattle.rx_agenda.proofs.Common.{Work, Schedule, schedule, entry_seen, with_work, next_due, item_of, without, next_due-seen, without-seen, item_of-seen}
+use Rattle.rx_agenda.proofs.Common.{Name, Step, Binding, bound, Agenda, with_label, with_step, next_step, Cancels, taken_off, none_waits, without_ticket}
+use Rattle.rx_agenda.proofs.Common.{Answer, Accepted, Refused, NoStep, Placed}
+use Rattle.std.specs.Prelude.{option_and_then}
+use Rattle.rx_time.specs.Schedule.{seen_as}
+use Rattle.rx_agenda.specs.Agenda.{with_step_after}
 use Rattle.rx_agenda.proofs.Members.{IsIn}
 
 -- an entry of the timeline

@@ -1,13 +1,7 @@
 -- Every run of an agenda executes the steps in order.
-use Rattle.std.proofs.Common.{◌≡◌, ◌+◌, ℕ, List, [], ◌∷◌, ◌++◌, map, length, refl, ap, subst, ◌∙◌}
-use Rattle.std.specs.Prelude.{Some, None}
-use Rattle.std.proofs.lemmas.List.{map-append}
-use Rattle.rx_scenario.specs.Scenario.{Action, Step, list_of}
-use Rattle.rx_agenda.specs.declared.answer.Answer.{Answer}
-use Rattle.rx_agenda.specs.declared.answer.Answer.TheVariants.{Accepted, Refused}
-use Rattle.rx_agenda.specs.Agenda.{Agenda, empty_agenda, with_steps, followed_by, next_step, Cancels}
-use Rattle.rx_agenda.specs.Come.{Acts, does_command, does_cancel, HaveCome, none_yet, one_more}
-use Rattle.rx_agenda.specs.Order.{Origin, Turn, Placed, Executed, opening_turn, held_by, IsHeld, done_in}
+use Rattle.rx_agenda.proofs.Common.{◌≡◌, ◌+◌, ℕ, List, [], ◌∷◌, ◌++◌, map, length, refl, ap, subst, ◌∙◌, Some, None, map-append, Action, Step, list_of, Answer}
+use Rattle.rx_agenda.proofs.Common.{Accepted, Refused, Agenda, empty_agenda, with_steps, followed_by, next_step, Cancels, Acts, does_command, does_cancel}
+use Rattle.rx_agenda.proofs.Common.{HaveCome, none_yet, one_more, Origin, Turn, Placed, Executed, opening_turn, held_by, IsHeld, done_in}
 use Rattle.rx_agenda.specs.Claims.{RunsAreInOrder}
 use Rattle.rx_agenda.proofs.PlacedSteps.{PlacedAgenda, seen, IsPending, PopsSeen, pops_seen, over_seen, takes_seen}
 use Rattle.rx_agenda.proofs.EntriesRise.{IsReady}

@@ -1,16 +1,9 @@
 -- From one step to the next: the executed steps stay in order.
-use Rattle.std.proofs.Common.{◌≡◌, ◌<◌, ◌≤◌, ◌+◌, ℕ, List, [], ◌∷◌, ◌++◌, length, length-append, refl, sym, ap, subst, ◌∙◌, inl}
-use Rattle.std.proofs.Common.{inr, arith}
-use Rattle.std.specs.Prelude.{◌⊎◌, Option, Some, None, slice_get}
-use Rattle.std.proofs.lemmas.Option.{slice_get_within}
-use Rattle.rx_time.specs.Schedule.{schedule, next_due}
-use Rattle.rx_scenario.specs.Scenario.{Name, Step, list_of}
-use Rattle.rx_agenda.specs.Bindings.{bound}
-use Rattle.rx_agenda.specs.declared.answer.Answer.{Answer}
-use Rattle.rx_agenda.specs.declared.answer.Answer.TheVariants.{Accepted}
-use Rattle.rx_agenda.specs.Order.{Turn, Placed, Executed, IsEarlierTurn, ComesBefore, opening_turn, turn_after, placed_at, held_by}
-use Rattle.rx_agenda.specs.Order.{IsHeld, by_scenario, by_step, WaitsUnder, IsCancelled, IsDue, IsExecuted, IsInOrder, WaitsAt, IsAnswered}
-use Rattle.rx_agenda.specs.Order.{one_waits, no_step_waits, AreCancelsAnswered}
+use Rattle.rx_agenda.proofs.Common.{◌≡◌, ◌<◌, ◌≤◌, ◌+◌, ℕ, List, [], ◌∷◌, ◌++◌, length, refl, sym, ap, subst, ◌∙◌, inl, inr, arith, ◌⊎◌, Option, Some, None}
+use Rattle.rx_agenda.proofs.Common.{slice_get, slice_get_within, schedule, next_due, Name, Step, list_of, bound, Answer, Accepted, Turn, Placed, Executed}
+use Rattle.rx_agenda.proofs.Common.{IsEarlierTurn, ComesBefore, opening_turn, turn_after, placed_at, held_by, IsHeld, by_scenario, by_step, WaitsUnder}
+use Rattle.rx_agenda.proofs.Common.{IsCancelled, IsDue, IsExecuted, IsInOrder, WaitsAt, IsAnswered, one_waits, no_step_waits, AreCancelsAnswered}
+use Rattle.std.proofs.Common.{length-append}
 use Rattle.rx_agenda.proofs.Members.{IsIn, get_push, get_old, get_last}
 use Rattle.rx_agenda.proofs.ComesBeforeIsAnOrder.{comes-trans, comes-asym, comes-self}
 use Rattle.rx_agenda.proofs.PlacedSteps.{PlacedAgenda, IsPending}

@@ -1,13 +1,8 @@
 -- A step joins what is to come, and steps one after another.
-use Rattle.std.proofs.Common.{◌≡◌, ◌<◌, ◌≤◌, ◌+◌, ℕ, zero, suc, List, [], ◌∷◌, ◌++◌, true, false, cond, max, refl, sym, ap, subst, ◌∙◌, inl, inr, arith}
-use Rattle.std.specs.Prelude.{◌⊎◌, Option, Some, None, is_some, slice_get}
-use Rattle.std.proofs.lemmas.Bool.{cases_lt}
-use Rattle.rx_time.specs.declared.work.Work.{Work}
-use Rattle.rx_time.specs.Schedule.{with_work}
-use Rattle.rx_scenario.specs.Scenario.{Name, Step}
-use Rattle.rx_agenda.specs.Bindings.{Binding, bound, is_bound, with_binding}
-use Rattle.rx_agenda.specs.Agenda.{with_label, with_steps}
-use Rattle.rx_agenda.specs.Order.{Origin, Turn, Placed, IsScheduledBefore, IsEarlierTurn, WaitsUnder, held_by, placed_at, turn_after}
+use Rattle.rx_agenda.proofs.Common.{◌≡◌, ◌<◌, ◌≤◌, ◌+◌, ℕ, zero, suc, List, [], ◌∷◌, ◌++◌, true, false, cond, refl, sym, ap, subst, ◌∙◌, inl, inr, arith, ◌⊎◌}
+use Rattle.rx_agenda.proofs.Common.{Option, Some, None, is_some, slice_get, cases_lt, Work, with_work, Name, Step, Binding, bound, is_bound, with_binding}
+use Rattle.rx_agenda.proofs.Common.{with_label, with_steps, Origin, Turn, Placed, IsScheduledBefore, IsEarlierTurn, WaitsUnder, held_by, placed_at, turn_after}
+use Rattle.std.proofs.Common.{max}
 use Rattle.rx_agenda.proofs.Members.{IsIn, in-push, in_front, in_back, pairwise_push}
 use Rattle.rx_agenda.proofs.ComesBeforeIsAnOrder.{scheduled-trans, scheduled-asym, scheduled-self}
 use Rattle.rx_agenda.proofs.PlacedSteps.{Entry, PlacedAgenda, IsPending, with_placed_after, with_placed, with_placed-seen, seen}

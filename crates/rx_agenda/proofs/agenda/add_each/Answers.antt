@@ -1,10 +1,6 @@
-use Rattle.std.proofs.Common.{◌≡◌, ◌+◌, ◌++◌, ◌∷◌, [], ◌∙◌, map, ap, sym, arith}
-use Rattle.std.specs.Prelude.{sum_by}
-use Rattle.std.proofs.lemmas.List.{map-append}
-use Rattle.std.proofs.lemmas.List.Sums.{sum_by-append, sum_by-cons}
-use Rattle.rx_scenario.specs.Scenario.{step_of}
-use Rattle.rx_agenda.specs.Agenda.{with_step, with_steps}
-use Rattle.rx_agenda.specs.Shown.{agenda_of, size_of, size_left}
+use Rattle.rx_agenda.proofs.Common.{◌≡◌, ◌+◌, ◌++◌, ◌∷◌, [], ◌∙◌, map, ap, sym, arith, sum_by, map-append, sum_by-cons, step_of, with_step, with_steps}
+use Rattle.rx_agenda.proofs.Common.{agenda_of, size_of, size_left}
+use Rattle.std.proofs.lemmas.List.Sums.{sum_by-append}
 use Rattle.rx_agenda.proofs.NextStepAndCancel.{with_steps-push}
 use Rattle.rx_agenda.proofs.agenda.add_each.Goals as goal
 

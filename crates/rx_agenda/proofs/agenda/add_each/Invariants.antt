@@ -1,9 +1,5 @@
 -- The steps so far are to come.
-use Rattle.std.proofs.Common.{◌≡◌, ◌+◌, map}
-use Rattle.std.specs.Prelude.{sum_by}
-use Rattle.rx_scenario.specs.Scenario.{step_of}
-use Rattle.rx_agenda.specs.Agenda.{with_steps}
-use Rattle.rx_agenda.specs.Shown.{agenda_of, size_of, size_left}
+use Rattle.rx_agenda.proofs.Common.{◌≡◌, ◌+◌, map, sum_by, step_of, with_steps, agenda_of, size_of, size_left}
 use Rattle.rx_agenda.proofs.agenda.add_each.Given as goal
 
 abbrev pub invariant-loop-step : goal.invariant-loop-step

@@ -1,5 +1,4 @@
-use Rattle.std.proofs.Common.{◌≡◌, ◌∙◌, Some, None, sym, arith}
-use Rattle.rx_agenda.specs.Names.{key_of}
+use Rattle.rx_agenda.proofs.Common.{◌≡◌, ◌∙◌, Some, None, sym, arith, key_of}
 use Rattle.rx_agenda.proofs.NextStepAndCancel.{cancel-unbound, cancel-gone, cancel-taken, size_left-taken}
 use Rattle.rx_agenda.proofs.agenda.cancel.Goals as goal
 

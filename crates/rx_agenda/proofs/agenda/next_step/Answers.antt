@@ -1,4 +1,4 @@
-use Rattle.std.proofs.Common.{◌≡◌, ◌∙◌, [], sym, arith}
+use Rattle.rx_agenda.proofs.Common.{◌≡◌, ◌∙◌, [], sym, arith}
 use Rattle.rx_agenda.proofs.NextStepAndCancel.{next_step-some, next_step-none, size_left-taken}
 use Rattle.rx_agenda.proofs.agenda.next_step.Goals as goal
 

@@ -1,6 +1,4 @@
-use Rattle.std.proofs.Common.{◌≡◌, ◌∙◌, true, false, string_bytes, sym}
-use Rattle.std.specs.Prelude.{is_some}
-use Rattle.rx_agenda.specs.Names.{key_of}
+use Rattle.rx_agenda.proofs.Common.{◌≡◌, ◌∙◌, true, false, string_bytes, sym, is_some, key_of}
 use Rattle.rx_agenda.proofs.NextStepAndCancel.{OnOk-map, with_label-bound, with_label-free}
 use Rattle.rx_agenda.proofs.agenda.note_label.Goals as goal
 

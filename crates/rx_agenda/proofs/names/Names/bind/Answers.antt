@@ -1,12 +1,7 @@
-use Rattle.std.proofs.Common.{◌≡◌, ◌++◌, ◌∷◌, [], ◌∙◌, ℕ, List, Some, false, string_bytes, subst, sym, ap, rules}
-use Rattle.std.specs.Prelude.{is_some}
-use Rattle.std.specs.Str.{bytes_eq}
-use Rattle.std.specs.Map.{update}
-use Rattle.std.specs.HashMap.{get_by_text}
+use Rattle.rx_agenda.proofs.Common.{◌≡◌, ◌++◌, ◌∷◌, [], ◌∙◌, ℕ, List, Some, false, string_bytes, subst, sym, ap, is_some, bytes_eq, update, get_by_text, Named}
+use Rattle.rx_agenda.proofs.Common.{key_of, IsTied}
+use Rattle.std.proofs.Common.{rules}
 use Rattle.std.proofs.lemmas.Map.Text.{hash_map_updates_text}
-use Rattle.rx_agenda.specs.declared.names.Named.{Named}
-use Rattle.rx_agenda.specs.Names.{key_of}
-use Rattle.rx_agenda.specs.Ties.{IsTied}
 use Rattle.rx_agenda.proofs.NamesStayTied.{still_tied}
 use Rattle.rx_agenda.proofs.names.Names.bind.Goals as goal
 
