@@ -1,13 +1,11 @@
 -- A climb by a list whose last number is visited next.
-use Rattle.std.proofs.Common.{◌≡◌, ℕ, zero, suc, ◌+◌, ◌-◌, ◌<◌, ◌≤◌, Bool, List, [], ◌∷◌, ◌++◌}
-use Rattle.std.proofs.Common.{length, take, get_or, reverse, refl, sym, ap, ◌∙◌, arith, nat_lt, append-nil}
-use Rattle.std.proofs.Math.Bool.{not, ◌&&◌}
-use Rattle.std.proofs.lemmas.Bool.{lt-ltb}
-use Rattle.std.proofs.lemmas.List.{reverse-append, reverse-reverse, append_assoc, length-take-le}
-use Rattle.rx_event.specs.declared.event.Event.{Event}
-use Rattle.rx_event.specs.Climb.{visited, onward, most_visits, climb}
-use Rattle.rx_picture.specs.Tables.{AreLines}
+use Rattle.rx_picture.proofs.Common.{◌≡◌, ℕ, suc, ◌+◌, ◌-◌, ◌<◌, ◌≤◌, Bool, List, [], ◌∷◌, ◌++◌, length, take, get_or, refl, sym, ap, ◌∙◌, arith, nat_lt}
+use Rattle.rx_picture.proofs.Common.{append-nil, not, ◌&&◌, lt-ltb, length-take-le, Event, most_visits, climb, AreLines}
+use Rattle.std.proofs.Common.{reverse}
+use Rattle.std.proofs.lemmas.List.{reverse-append, reverse-reverse, append_assoc}
+use Rattle.rx_event.specs.Climb.{visited, onward}
 use Rattle.rx_picture.specs.Told.{AreEndsOf}
+use Rattle.rx_event.proofs.Laws.Climbs.{visited_nothing}
 
 -- what the table of the whole history says of a prefix
 pub ends_of_prefix : (h : List Event) (ends : List ℕ) (k : ℕ) → AreLines h (length h) ends → k ≤ length h → AreEndsOf (take k h) ends
@@ -25,13 +23,9 @@ ClimbsOn most past leaf step visits todo = visits ++ visited (suc most - step) p
 pub climb_begins : (most : ℕ) (past : List Event) (leaf : ℕ) → ClimbsOn most past leaf 0 [] (leaf ∷ [])
 climb_begins most past leaf = let none : suc most - 0 ≡ suc most = omega arith in ap (λ (left : ℕ). visited left past (leaf ∷ [])) none
 
-visited_none : (left : ℕ) (past : List Event) → visited left past [] ≡ []
-visited_none zero past = refl
-visited_none (suc left) past = refl
-
 pub climb_ends : (most : ℕ) (past : List Event) (leaf step : ℕ) (visits : List ℕ)
     → ClimbsOn most past leaf step visits [] → visits ≡ visited (suc most) past (leaf ∷ [])
-climb_ends most past leaf step visits on = sym (append-nil visits) ∙ ap (λ (vs : List ℕ). visits ++ vs) (sym (visited_none (suc most - step) past)) ∙ on
+climb_ends most past leaf step visits on = sym (append-nil visits) ∙ ap (λ (vs : List ℕ). visits ++ vs) (sym (visited_nothing (suc most - step) past)) ∙ on
 
 pub climb_stops : (most : ℕ) (past : List Event) (leaf step : ℕ) (visits todo : List ℕ) → suc most ≤ step → ClimbsOn most past leaf step visits todo →
     visits ≡ visited (suc most) past (leaf ∷ [])

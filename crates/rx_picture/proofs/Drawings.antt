@@ -1,13 +1,8 @@
 -- The drawing, by the marks of what is shown.
-use Rattle.std.proofs.Common.{◌≡◌, ℕ, Bool, true, List, length, filter, replicate, ap, ◌∙◌, nat_lt}
-use Rattle.rx_event.specs.declared.event.Event.{Event}
-use Rattle.rx_event.specs.Tree.{at, places}
-use Rattle.rx_picture.specs.declared.drawing.Drawing.{Drawing}
-use Rattle.rx_picture.specs.Choice.{count_below, marked, AreMarks}
-use Rattle.rx_picture.specs.Levels.{AreLevels}
-use Rattle.rx_picture.specs.Rows.{AreRows, is_drawn, leaks, is_left}
-use Rattle.rx_picture.specs.Told.{marbles, ArePoints}
-use Rattle.rx_picture.specs.Drawn.{is_shown, is_placed, is_rowed, is_rowed_by, AreColumns, IsDrawing}
+use Rattle.rx_picture.proofs.Common.{◌≡◌, ℕ, Bool, true, List, length, filter, replicate, ap, ◌∙◌, nat_lt, Event, at, places, Drawing, count_below, marked}
+use Rattle.rx_picture.proofs.Common.{AreMarks, AreLevels, AreRows, is_drawn, leaks, is_left, marbles, is_shown, is_placed, is_rowed, is_rowed_by, AreColumns}
+use Rattle.rx_picture.proofs.Common.{IsDrawing}
+use Rattle.rx_picture.specs.Told.{ArePoints}
 use Rattle.rx_picture.proofs.FewAreChosen.{few_chosen}
 use Rattle.rx_picture.proofs.MarksStandForTests.{count_same, marks_all, rows_same, rowed_same, columns_same, shown_anywhere, placed_anywhere}
 

@@ -1,10 +1,7 @@
 -- Marks of the numbers so far, and how many are chosen.
-use Rattle.std.proofs.Common.{◌≡◌, ℕ, zero, suc, ◌+◌, ◌-◌, ◌<◌, ◌≤◌, min, Bool, true, false, cond}
-use Rattle.std.proofs.Common.{List, [], ◌∷◌, ◌++◌, length, refl, ap, ◌∙◌, arith, inl, inr, ◌⊎◌, nat_lt}
-use Rattle.std.proofs.Math.Bool.{not, ◌&&◌}
-use Rattle.std.proofs.lemmas.Bool.{cases_lt, lt-ltb, le-ltb}
-use Rattle.std.proofs.lemmas.List.{length_push}
-use Rattle.rx_picture.specs.Choice.{bit, count_below, leads, follows, is_chosen, marked, AreMarks}
+use Rattle.rx_picture.proofs.Common.{◌≡◌, ℕ, zero, suc, ◌+◌, ◌-◌, ◌<◌, ◌≤◌, min, Bool, true, false, cond, List, [], ◌∷◌, ◌++◌, length, refl, ap, ◌∙◌, arith}
+use Rattle.rx_picture.proofs.Common.{inl, inr, ◌⊎◌, nat_lt, not, ◌&&◌, cases_lt, lt-ltb, le-ltb, length_push, bit, count_below, leads, follows, is_chosen}
+use Rattle.rx_picture.proofs.Common.{marked, AreMarks}
 use Rattle.rx_picture.proofs.Ranges.{count_next}
 
 -- marks -------------------------------------------------------------------------------------------

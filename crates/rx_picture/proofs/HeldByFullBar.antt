@@ -1,30 +1,21 @@
 -- A resource is held where its own row has a full bar, or a lease of it has one.
-use Rattle.std.proofs.Common.{◌≡◌, ℕ, zero, suc, ◌+◌, ◌<◌, ◌≤◌, Bool, true, false, List, [], ◌∷◌, length, take, map}
-use Rattle.std.proofs.Common.{Option, Some, None, refl, sym, ap, subst, ◌∙◌, arith, inl, inr, ◌⊎◌, ◌==◌, nat_lt, slice_get}
-use Rattle.std.proofs.Math.Bool.{not, ◌&&◌, ◌||◌}
-use Rattle.std.specs.List.{AllByRecursion, list_any, range_with_len}
-use Rattle.std.specs.Option.{option_map_or}
-use Rattle.std.proofs.lemmas.Bool.{cases_Bool, cases_order, false≢true, and_parts, and_from, or_left, or_right, or_cases, eqb-true, eq-eqb, ltb-true}
-use Rattle.std.proofs.lemmas.List.{length-take-le}
-use Rattle.std.proofs.lemmas.Option.{none-some, same_Some}
+use Rattle.rx_picture.proofs.Common.{◌≡◌, ℕ, zero, suc, ◌+◌, ◌<◌, ◌≤◌, Bool, true, false, List, [], ◌∷◌, length, take, map, Option, Some, None, refl, sym, ap}
+use Rattle.rx_picture.proofs.Common.{◌∙◌, arith, inl, inr, ◌⊎◌, ◌==◌, nat_lt, slice_get, not, ◌&&◌, ◌||◌, AllByRecursion, list_any, range_with_len}
+use Rattle.rx_picture.proofs.Common.{option_map_or, false≢true, and_parts, and_from, or_left, or_right, eqb-true, eq-eqb, ltb-true, length-take-le, none-some}
+use Rattle.rx_picture.proofs.Common.{same_Some, Event, Accept, Lease, makes_node, makes_hub, makes_resource, at, places, is_owned, is_out, is_held, at_within}
+use Rattle.rx_picture.proofs.Common.{Row, Shape, Node, Hub, Resource, Loan, Drawing, AreRows, IsRow, IsShape, has_row, is_shown, is_rowed, IsDrawing}
+use Rattle.rx_picture.proofs.Common.{false_from_ne_true}
+use Rattle.std.proofs.Common.{subst}
+use Rattle.std.proofs.lemmas.Bool.{cases_order, true_from_ne_false}
 use Rattle.std.proofs.lemmas.Map.Views.{any-filter_same}
-use Rattle.rx_event.specs.declared.event.Event.{Event}
-use Rattle.rx_event.specs.declared.event.Event.TheVariants.{Accept, Lease}
-use Rattle.rx_event.specs.Events.{makes_node, makes_hub, makes_resource, is_lease_of}
-use Rattle.rx_event.specs.Tree.{at, places}
-use Rattle.rx_event.specs.Resources.{is_owned, is_out, is_out_of, leases_of, is_leased, is_held}
-use Rattle.rx_event.proofs.Laws.Places.{at_within}
+use Rattle.rx_event.specs.Events.{is_lease_of}
+use Rattle.rx_event.specs.Resources.{is_out_of, leases_of, is_leased}
 use Rattle.rx_event.proofs.Laws.Searches.{list_any_found, list_any_holds}
 use Rattle.rx_event.proofs.Laws.Leases.{leased_some, leased_where, leases_of_some, lease_at, is_out_within}
 use Rattle.rx_event.proofs.Laws.Sound.{count_none}
-use Rattle.rx_picture.specs.declared.row.Row.{Row}
-use Rattle.rx_picture.specs.declared.row.Shape.{Shape}
-use Rattle.rx_picture.specs.declared.row.Shape.TheVariants.{Node, Hub, Resource, Loan}
-use Rattle.rx_picture.specs.declared.drawing.Drawing.{Drawing}
-use Rattle.rx_picture.specs.Rows.{AreRows, IsRow, IsShape, has_row}
-use Rattle.rx_picture.specs.Drawn.{is_shown, is_rowed, IsDrawing}
 use Rattle.rx_picture.specs.Held.{bars, bars_row, HeldIsBarred}
 use Rattle.rx_picture.proofs.Prefixes.{same_tests, get_prefix, at_prefix}
+use Rattle.rx_event.proofs.Laws.Resources.{owned_held, leased_held, held_parts}
 
 -- rows of a number ---------------------------------------------------------------------------------
 
@@ -90,31 +81,14 @@ out_barred h k l (Resource after until taken) is leased m out =
     absurd (false≢true (sym (ap (λ (o : Option Event). option_map_or makes_resource o false) leased) ∙ is.0))
 out_barred h {r} k l (Loan q until) is leased m out = and_from (q == r) _ (eq-eqb q r (lease_of q r (sym is.0 ∙ leased))) (sym (is.1.out k m) ∙ out)
 
--- a full bar says that the resource is held
-held_by_owner : (h : List Event) (r : ℕ) → is_owned h r ≡ true → is_held h r ≡ true
-unfolding is_held
-held_by_owner h r owned = or_left _ _ owned
-
-held_by_lease : (h : List Event) (r : ℕ) → is_leased h r ≡ true → is_held h r ≡ true
-unfolding is_held
-held_by_lease h r leased = or_right _ _ leased
-
-held_cases : (h : List Event) (r : ℕ) → is_held h r ≡ true → (is_owned h r ≡ true) ⊎ (is_leased h r ≡ true)
-unfolding is_held
-held_cases h r held = or_cases (is_owned h r) (is_leased h r) held
-
 -- a lease that is out --------------------------------------------------------------------------------
 
 out_somewhere : (h : List Event) (r : ℕ) → 0 < leases_of h r → list_any (is_out_of h r) (places h) ≡ true
 unfolding leases_of
-out_somewhere h r some = by_test (cases_Bool (list_any (is_out_of h r) (places h))) where
-  by_test : (list_any (is_out_of h r) (places h) ≡ true) ⊎ (list_any (is_out_of h r) (places h) ≡ false) → list_any (is_out_of h r) (places h) ≡ true
-  by_test (inl passes) = passes
-  by_test (inr fail) =
-      absurd (let none = count_none (is_out_of h r) (places h) (λ i x at_i. fails i x at_i (cases_Bool (is_out_of h r x))) in omega arith) where
-        fails : (i x : ℕ) → slice_get (places h) i ≡ Some x → (is_out_of h r x ≡ true) ⊎ (is_out_of h r x ≡ false) → is_out_of h r x ≡ false
-        fails i x at_i (inl passes) = absurd (false≢true (sym fail ∙ list_any_holds (is_out_of h r) (places h) i x at_i passes))
-        fails i x at_i (inr none) = none
+out_somewhere h r some = true_from_ne_false (list_any (is_out_of h r) (places h)) (λ fail.
+    let none = count_none (is_out_of h r) (places h) (λ i x at_i. false_from_ne_true (is_out_of h r x)
+    (λ passes. false≢true (sym fail ∙ list_any_holds (is_out_of h r) (places h) i x at_i passes))) in
+    omega arith)
 
 module _ (h : List Event) (d : Drawing) (is : IsDrawing h d) (r : ℕ) (made : at makes_resource h r ≡ true)
     (shown : is_shown h r ≡ true) (k : ℕ) (l : r < k) (m : k ≤ length h) where
@@ -161,17 +135,17 @@ module _ (h : List Event) (d : Drawing) (is : IsDrawing h d) (r : ℕ) (made : a
       by_shape n Hub is_so barred = absurd (false≢true barred)
       by_shape n (Resource after until taken) is_so barred =
           let parts = and_parts (n == r) (nat_lt after k && not (nat_lt until k)) barred in
-          held_by_owner (take k h) r (ap (is_owned (take k h)) (sym (eqb-true n r parts.0)) ∙ is_so.1.owned k m ∙ parts.1)
+          owned_held (take k h) r (ap (is_owned (take k h)) (sym (eqb-true n r parts.0)) ∙ is_so.1.owned k m ∙ parts.1)
       by_shape n (Loan q until) is_so barred =
           let parts = and_parts (q == r) (nat_lt n k && not (nat_lt until k)) barred in
           let inside = ltb-true n k (and_parts (nat_lt n k) (not (nat_lt until k)) parts.1).0 in
           let leased : slice_get (take k h) n ≡ Some (Lease r) =
           get_prefix h k n inside m ∙ is_so.0 ∙ ap (λ (p : ℕ). Some (Lease p)) (eqb-true q r parts.0) in
-          held_by_lease (take k h) r (leased_where (take k h) r (at_prefix makes_resource h k r l m ∙ made)
+          leased_held (take k h) r (leased_where (take k h) r (at_prefix makes_resource h k r l m ∙ made)
           (leases_of_some (take k h) n r leased (is_so.1.out k m ∙ parts.1)))
 
   pub held_where : is_held (take k h) r ≡ list_any (bars_row r k) d.rows.items
-  held_where = same_tests (is_held (take k h) r) (list_any (bars_row r k) d.rows.items) (λ held. by_case (held_cases (take k h) r held)) back
+  held_where = same_tests (is_held (take k h) r) (list_any (bars_row r k) d.rows.items) (λ held. by_case (held_parts (take k h) r held)) back
 
 pub held_is_barred : HeldIsBarred
 held_is_barred h d is r made shown k l m = held_where h d is r made shown k l m

@@ -1,23 +1,11 @@
 -- Which rows last beyond the last event, and what leaks of a lawful history.
-use Rattle.std.proofs.Common.{◌≡◌, ℕ, ◌<◌, ◌≤◌, Bool, true, false, List, [], ◌∷◌, length}
-use Rattle.std.proofs.Common.{Option, Some, None, refl, sym, ap, ◌∙◌, arith, inl, inr, ◌⊎◌, ◌==◌, nat_lt, slice_get}
-use Rattle.std.proofs.Math.Bool.{not, ◌&&◌, ◌||◌}
-use Rattle.std.proofs.Math.Seq.{take-length}
-use Rattle.std.specs.List.{AllByRecursion, list_any}
-use Rattle.std.specs.Option.{option_map_or}
-use Rattle.std.proofs.lemmas.Bool.{cases_Bool, cases_lt, lt-ltb, le-ltb, false≢true, eq-eqb, eqb-true}
-use Rattle.rx_event.specs.declared.event.Event.{Event}
-use Rattle.rx_event.specs.declared.event.Event.TheVariants.{Accept, Lease}
-use Rattle.rx_event.specs.Events.{makes_node, makes_hub, makes_resource, makes_lease, is_return_of}
+use Rattle.rx_picture.proofs.Common.{◌≡◌, ℕ, ◌<◌, ◌≤◌, Bool, true, false, List, [], ◌∷◌, length, Option, Some, None, refl, sym, ap, ◌∙◌, arith, inl, inr, ◌⊎◌}
+use Rattle.rx_picture.proofs.Common.{◌==◌, nat_lt, slice_get, not, ◌&&◌, ◌||◌, take-length, AllByRecursion, list_any, option_map_or, cases_lt, lt-ltb, le-ltb}
+use Rattle.rx_picture.proofs.Common.{false≢true, eq-eqb, Event, Accept, Lease, makes_node, makes_hub, makes_resource, makes_lease, is_return_of, at, is_out}
+use Rattle.rx_picture.proofs.Common.{is_taken, is_held, at_within, Row, Shape, Node, Hub, Resource, Loan, IsRow, IsShape, leaks, or_false, ne_eqb}
 use Rattle.rx_event.specs.Kept.{nothing_kept}
-use Rattle.rx_event.specs.Tree.{at}
-use Rattle.rx_event.specs.Resources.{is_out, is_taken, is_held, is_waiting}
-use Rattle.rx_event.proofs.Laws.Places.{at_within}
+use Rattle.rx_event.specs.Resources.{is_waiting}
 use Rattle.rx_event.proofs.Laws.Resources.{held_resource, held_not_taken}
-use Rattle.rx_picture.specs.declared.row.Row.{Row}
-use Rattle.rx_picture.specs.declared.row.Shape.{Shape}
-use Rattle.rx_picture.specs.declared.row.Shape.TheVariants.{Node, Hub, Resource, Loan}
-use Rattle.rx_picture.specs.Rows.{IsRow, IsShape, leaks}
 use Rattle.rx_picture.specs.Leaks.{is_leaking, is_leaking_row, LeaksAreDrawn, LeaksAreLeft}
 
 -- what an event makes ------------------------------------------------------------------------------
@@ -49,9 +37,7 @@ resource_alone (Some e) made = by_event e made where
 -- what lasts ---------------------------------------------------------------------------------------
 
 lasts_shape : (made taken out returned : Bool) → (made || out) ≡ false → ((made && not taken) || (out && not returned)) ≡ false
-lasts_shape false taken false returned none = refl
-lasts_shape false taken true returned none = absurd (false≢true (sym none))
-lasts_shape true taken out returned none = absurd (false≢true (sym none))
+lasts_shape made taken out returned e = grind arith
 
 neither_lasts : (h : List Event) (n : ℕ) → (at makes_resource h n || at makes_lease h n) ≡ false → (leaks h n || is_out h n) ≡ false
 unfolding is_out
@@ -64,15 +50,8 @@ not_out h n none = ap (λ (x : Bool). x && not (list_any (is_return_of n) h)) no
 not_before : (m n : ℕ) → m ≤ n → not (nat_lt m n) ≡ (m == n)
 not_before m n l = by_order (cases_lt m n) where
   by_order : (m < n) ⊎ (n ≤ m) → not (nat_lt m n) ≡ (m == n)
-  by_order (inl less) = ap not (lt-ltb m n less) ∙ sym (apart (cases_Bool (m == n))) where
-    apart : ((m == n) ≡ true) ⊎ ((m == n) ≡ false) → (m == n) ≡ false
-    apart (inl same) = absurd (let is = eqb-true m n same in omega arith)
-    apart (inr other) = other
+  by_order (inl less) = ap not (lt-ltb m n less) ∙ sym (ne_eqb m n (omega arith))
   by_order (inr more) = ap not (le-ltb m n more) ∙ sym (eq-eqb m n (omega arith))
-
-or_false : (b : Bool) → (b || false) ≡ b
-or_false true = refl
-or_false false = refl
 
 module _ (h : List Event) (n : ℕ) where
   pub lasting : (shape : Shape) → IsShape h n shape → is_leaking (length h) shape ≡ (leaks h n || is_out h n)
@@ -108,8 +87,7 @@ left_shape : (made held taken : Bool) → (held ≡ true → made ≡ true) → 
     → (made && not taken) ≡ (held || (made && not held && not taken))
 left_shape made false taken has keeps = by_made made where
   by_made : (b : Bool) → (b && not taken) ≡ (b && not false && not taken)
-  by_made true = refl
-  by_made false = refl
+  by_made b = grind arith
 left_shape made true taken has keeps = ap (λ (x : Bool). x && not taken) (has refl) ∙ ap not (keeps refl)
 
 pub leaks_are_left : LeaksAreLeft

@@ -1,16 +1,7 @@
 -- What leaks and what is left, by the tables.
-use Rattle.std.proofs.Common.{◌≡◌, ℕ, ◌<◌, ◌≤◌, Bool, true, false, List, length, get_or, refl, sym, ap, ◌∙◌, arith, inl, inr, ◌⊎◌, nat_lt}
-use Rattle.std.proofs.Math.Bool.{not, ◌&&◌, ◌||◌}
-use Rattle.std.proofs.Math.Seq.{take-length}
-use Rattle.std.specs.List.{list_any}
-use Rattle.std.proofs.lemmas.Bool.{cases_Bool, lt-ltb, le-ltb}
-use Rattle.rx_event.specs.declared.event.Event.{Event}
-use Rattle.rx_event.specs.Events.{makes_resource, is_take_of}
-use Rattle.rx_event.specs.Tree.{at, is_open}
-use Rattle.rx_event.specs.Resources.{is_taken}
-use Rattle.rx_event.proofs.Laws.Places.{at_within}
-use Rattle.rx_picture.specs.Rows.{leaks, is_left}
-use Rattle.rx_picture.specs.Tables.{AreTurns, AreLines, was_taken}
+use Rattle.rx_picture.proofs.Common.{◌≡◌, ℕ, ◌<◌, ◌≤◌, Bool, true, false, List, length, get_or, sym, ap, ◌∙◌, arith, inl, inr, ◌⊎◌, nat_lt, not, ◌&&◌, ◌||◌}
+use Rattle.rx_picture.proofs.Common.{take-length, list_any, cases_Bool, lt-ltb, le-ltb, Event, makes_resource, is_take_of, at, is_open, is_taken, at_within}
+use Rattle.rx_picture.proofs.Common.{leaks, is_left, AreTurns, AreLines, was_taken, and_false, and_true}
 
 open_whole : (h : List Event) (ends : List ℕ) (n : ℕ) → AreLines h (length h) ends → n < length h → is_open h n ≡ not (nat_lt (get_or ends n 0) (length h))
 open_whole h ends n lines l =
@@ -26,8 +17,7 @@ taken_whole h taken n turns l =
     ∙ (turns.each n (omega arith)).turns (length h) (omega arith))
 
 shape : (made taken : Bool) → (made && not (made && taken)) ≡ (made && not taken)
-shape true taken = refl
-shape false taken = refl
+shape made taken = grind arith
 
 unmade : (made out known : Bool) → made ≡ false → (made && not out) ≡ (made && not known)
 unmade made out known none = ap (λ (x : Bool). x && not out) none ∙ sym (ap (λ (x : Bool). x && not known) none)
@@ -41,14 +31,6 @@ leaks_by h taken n turns = by_test (cases_Bool (at makes_resource h n)) where
       ap (λ (x : Bool). at makes_resource h n && not x) (taken_whole h taken n turns (at_within makes_resource h n made))
       ∙ shape (at makes_resource h n) (nat_lt (get_or taken n 0) (length h))
   by_test (inr none) = unmade (at makes_resource h n) (is_taken h n) (nat_lt (get_or taken n 0) (length h)) none
-
-and_false : (b : Bool) → (b && false) ≡ false
-and_false true = refl
-and_false false = refl
-
-and_true : (b : Bool) → (b && true) ≡ b
-and_true true = refl
-and_true false = refl
 
 module _ (h : List Event) (taken : List ℕ) (n : ℕ) (turns : AreTurns h was_taken (length h) taken) where
   pub leaks_not : get_or taken n 0 < length h → leaks h n ≡ false

@@ -1,8 +1,6 @@
 -- How deep a node stands, by that of the node above it.
-use Rattle.std.proofs.Common.{◌≡◌, ℕ, ◌+◌, List, [], ◌∷◌, length, Option, Some, None, ap, ◌∙◌, arith}
-use Rattle.std.specs.Option.{option_map_or}
-use Rattle.rx_event.specs.declared.event.Event.{Event}
-use Rattle.rx_event.specs.Tree.{parent, ancestors}
+use Rattle.rx_picture.proofs.Common.{◌≡◌, ℕ, ◌+◌, List, [], ◌∷◌, length, Option, Some, None, ap, ◌∙◌, arith, option_map_or, Event, parent}
+use Rattle.rx_event.specs.Tree.{ancestors}
 use Rattle.rx_event.proofs.Laws.Parents.{ancestors_step}
 use Rattle.rx_picture.specs.Levels.{level}
 

@@ -1,3 +1,4 @@
+pub mod Common
 mod Ranges
 mod Prefixes
 mod WhereTestsTurnTrue

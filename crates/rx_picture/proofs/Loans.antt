@@ -1,17 +1,8 @@
 -- A lease is out from the event that gives it to the first one that returns it.
-use Rattle.std.proofs.Common.{◌≡◌, ℕ, ◌<◌, ◌≤◌, max, Bool, true, false, List, length, take, Option, Some, sym, ap, ◌∙◌, arith, inl, inr, ◌⊎◌, nat_lt, slice_get}
-use Rattle.std.proofs.Math.Bool.{not, ◌&&◌}
-use Rattle.std.specs.List.{list_any}
-use Rattle.std.specs.Option.{option_map_or}
-use Rattle.std.proofs.lemmas.Bool.{cases_lt, lt-ltb, le-ltb, and_left}
-use Rattle.rx_event.specs.declared.event.Event.{Event}
-use Rattle.rx_event.specs.declared.event.Event.TheVariants.{Lease}
-use Rattle.rx_event.specs.Events.{makes_lease, is_return_of}
-use Rattle.rx_event.specs.Resources.{is_out}
+use Rattle.rx_picture.proofs.Common.{◌≡◌, ℕ, ◌<◌, ◌≤◌, max, Bool, true, false, List, length, take, Option, Some, sym, ap, ◌∙◌, arith, inl, inr, ◌⊎◌, nat_lt}
+use Rattle.rx_picture.proofs.Common.{slice_get, not, ◌&&◌, list_any, option_map_or, cases_lt, lt-ltb, le-ltb, and_left, Event, Lease, makes_lease, is_return_of}
+use Rattle.rx_picture.proofs.Common.{is_out, Loan, Spans, IsShape, IsTurn, was_returned}
 use Rattle.rx_event.proofs.Laws.Leases.{is_out_past}
-use Rattle.rx_picture.specs.declared.row.Shape.TheVariants.{Loan}
-use Rattle.rx_picture.specs.Rows.{Spans, IsShape}
-use Rattle.rx_picture.specs.Tables.{IsTurn, was_returned}
 use Rattle.rx_picture.proofs.Prefixes.{past_prefix, at_prefix}
 use Rattle.rx_picture.proofs.WhereTestsTurnTrue.{turn_within}
 use Rattle.rx_picture.proofs.WhereLinesEnd.{cut_alone}

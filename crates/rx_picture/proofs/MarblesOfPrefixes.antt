@@ -1,23 +1,19 @@
 -- The notes of a prefix, so far as they are shown, and what one more event tells.
-use Rattle.std.proofs.Common.{◌≡◌, ℕ, zero, suc, ◌+◌, ◌<◌, ◌≤◌, Bool, true, false, cond, List, [], ◌∷◌, ◌++◌}
-use Rattle.std.proofs.Common.{length, take, filter, Option, Some, None, refl, sym, ap, ◌∙◌, arith, slice_get, append-nil, ℤ}
-use Rattle.std.proofs.Math.Bool.{◌&&◌}
-use Rattle.std.proofs.Math.Seq.{take-length}
-use Rattle.std.specs.List.{AllByRecursion, filter_map, flat_map, cons_option}
-use Rattle.std.specs.Option.{option_and_then, option_map_or, option_to_list}
-use Rattle.std.proofs.lemmas.List.{length-take-le}
-use Rattle.std.proofs.lemmas.List.Elements.{filter-append}
+use Rattle.rx_picture.proofs.Common.{◌≡◌, ℕ, zero, suc, ◌+◌, ◌<◌, ◌≤◌, Bool, true, false, cond, List, [], ◌∷◌, ◌++◌, length, take, filter, Option, Some, None}
+use Rattle.rx_picture.proofs.Common.{refl, sym, ap, ◌∙◌, arith, slice_get, append-nil, ◌&&◌, take-length, AllByRecursion, flat_map, option_and_then}
+use Rattle.rx_picture.proofs.Common.{option_map_or, length-take-le, filter-append, Event, End, at, climb, marbles, told_at, and_true, and_false, event_at}
+use Rattle.std.proofs.Common.{ℤ}
+use Rattle.std.specs.List.{filter_map, cons_option}
+use Rattle.std.specs.Option.{option_to_list}
 use Rattle.rx_event.specs.declared.mail.Mail.{Mail}
-use Rattle.rx_event.specs.declared.event.Event.{Event}
-use Rattle.rx_event.specs.declared.event.Event.TheVariants.{Item, End}
+use Rattle.rx_event.specs.declared.event.Event.TheVariants.{Item}
 use Rattle.rx_event.specs.Events.{is_root}
-use Rattle.rx_event.specs.Tree.{at}
-use Rattle.rx_event.specs.Climb.{Stop, Delivery, Projection, Firing, stop_at, stops, climb}
+use Rattle.rx_event.specs.Climb.{Stop, Delivery, Projection, Firing, stop_at, stops}
 use Rattle.rx_event.specs.Moments.{moments}
 use Rattle.rx_event.specs.Notes.{notes, mail_of, told}
 use Rattle.rx_event.proofs.Laws.Counts.{notes-push}
-use Rattle.rx_picture.specs.Told.{is_marble, mail_told, marbles, told_at}
-use Rattle.rx_picture.proofs.Prefixes.{some_event, take_next}
+use Rattle.rx_picture.specs.Told.{is_marble, mail_told}
+use Rattle.rx_picture.proofs.Prefixes.{take_next}
 
 -- an item -----------------------------------------------------------------------------------------
 
@@ -66,14 +62,6 @@ mail_place past (End n t) = by_root (at is_root past n) where
   by_root false = tt
 mail_place past _ = tt
 
-and_true : (b : Bool) → (b && true) ≡ b
-and_true true = refl
-and_true false = refl
-
-and_false : (b : Bool) → (b && false) ≡ false
-and_false true = refl
-and_false false = refl
-
 module _ (lane place : ℕ → Bool) (n : ℕ) where
   all_placed : place n ≡ true → (ms : List Mail) → StandAt n ms → filter (is_marble lane place) ms ≡ filter (λ m. lane m.to) ms
   all_placed shown [] stand = refl
@@ -111,8 +99,8 @@ module _ (lane place : ℕ → Bool) (h : List Event) (n : ℕ) (within : n < le
   pub marbles_more : (shown : List Mail) → place n ≡ true → shown ≡ marbles lane place (take n h) →
       shown ++ mail_told lane h n ≡ marbles lane place (take (n + 1) h)
   marbles_more shown here same =
-      let e = (some_event h n within).0 in
-      let at_n : slice_get h n ≡ Some e = (some_event h n within).1 in
+      let e = (event_at h n within).0 in
+      let at_n : slice_get h n ≡ Some e = (event_at h n within).1 in
       ap (λ (o : Option Event). shown ++ filter (λ m. lane m.to) (option_map_or (mail_of (take n h)) o [])) at_n
       ∙ ap (λ (ms : List Mail). ms ++ filter (λ m. lane m.to) (mail_of (take n h) e)) same
       ∙ ap (λ (ms : List Mail). marbles lane place (take n h) ++ ms) (sym (all_placed lane place n here (mail_of (take n h) e) (stands e)))
@@ -120,8 +108,8 @@ module _ (lane place : ℕ → Bool) (h : List Event) (n : ℕ) (within : n < le
 
   pub marbles_skip : (shown : List Mail) → place n ≡ false → shown ≡ marbles lane place (take n h) → shown ≡ marbles lane place (take (n + 1) h)
   marbles_skip shown hidden same =
-      let e = (some_event h n within).0 in
-      let at_n : slice_get h n ≡ Some e = (some_event h n within).1 in
+      let e = (event_at h n within).0 in
+      let at_n : slice_get h n ≡ Some e = (event_at h n within).1 in
       same ∙ sym (marbles_next e at_n ∙ ap (λ (ms : List Mail). marbles lane place (take n h) ++ ms)
       (none_placed lane place n hidden (mail_of (take n h) e) (stands e))
       ∙ append-nil (marbles lane place (take n h)))

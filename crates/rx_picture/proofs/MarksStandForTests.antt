@@ -1,19 +1,12 @@
 -- Marks that say a test choose what the test chooses, and stand where it stands.
-use Rattle.std.proofs.Common.{◌≡◌, ℕ, zero, suc, ◌+◌, ◌<◌, ◌≤◌, Bool, true, false, cond, List, [], ◌∷◌, ◌++◌, length, filter}
-use Rattle.std.proofs.Common.{replicate, get_or, Option, Some, None, refl, sym, ap, ◌∙◌, arith, inl, inr, ◌⊎◌, nat_lt, slice_get}
-use Rattle.std.proofs.Math.Bool.{not, ◌&&◌}
-use Rattle.std.specs.List.{range_with_len}
-use Rattle.std.specs.Option.{option_map_or}
-use Rattle.std.proofs.lemmas.Bool.{cases_lt, lt-ltb, le-ltb, and_left}
-use Rattle.std.proofs.lemmas.List.{length_push, length-replicate, get_or-replicate}
-use Rattle.rx_event.specs.declared.event.Event.{Event}
-use Rattle.rx_event.specs.Tree.{at}
+use Rattle.rx_picture.proofs.Common.{◌≡◌, ℕ, zero, suc, ◌+◌, ◌<◌, ◌≤◌, Bool, true, false, cond, List, [], ◌∷◌, ◌++◌, length, replicate, get_or, Option, Some}
+use Rattle.rx_picture.proofs.Common.{None, refl, sym, ap, ◌∙◌, arith, inl, inr, ◌⊎◌, nat_lt, slice_get, not, ◌&&◌, option_map_or, cases_lt, lt-ltb, le-ltb}
+use Rattle.rx_picture.proofs.Common.{and_left, length_push, length-replicate, get_or-replicate, Event, at, Row, bit, count_below, leads, follows, is_chosen}
+use Rattle.rx_picture.proofs.Common.{marked, AreMarks, AreRows, has_row, is_drawn, is_shown, is_placed, is_rowed, is_rowed_by, AreColumns}
 use Rattle.rx_event.proofs.Laws.Sums.{sum_by-same}
-use Rattle.rx_picture.specs.declared.row.Row.{Row}
-use Rattle.rx_picture.specs.Choice.{bit, count_below, leads, follows, is_chosen, marked, AreMarks}
-use Rattle.rx_picture.specs.Rows.{AreRows, has_row, is_drawn, lane_of}
-use Rattle.rx_picture.specs.Drawn.{is_shown, is_placed, is_rowed, is_rowed_by, AreColumns}
+use Rattle.rx_picture.specs.Rows.{lane_of}
 use Rattle.rx_picture.proofs.WhereLinesEnd.{get_old, get_new}
+use Rattle.rx_event.proofs.Laws.OpenAfter.{filter_below}
 
 -- the same numbers pass below the bound
 abbrev pub Agree : ℕ → (ℕ → Bool) → (ℕ → Bool) → Type 0
@@ -21,12 +14,6 @@ Agree bound p q = (k : ℕ) → k < bound → p k ≡ q k
 
 pub count_same : (p q : ℕ → Bool) (n : ℕ) → Agree n p q → count_below p n ≡ count_below q n
 count_same p q n same = sum_by-same (λ k. bit (q k)) (λ k. bit (p k)) n (λ k l. ap bit (same k l))
-
-filter_same : (p q : ℕ → Bool) (a n : ℕ) → ((k : ℕ) → k < a + n → p k ≡ q k) → filter p (range_with_len a n) ≡ filter q (range_with_len a n)
-filter_same p q a zero same = refl
-filter_same p q a (suc n) same =
-    ap (λ (x : Bool). cond x (a ∷ filter p (range_with_len (a + 1) n)) (filter p (range_with_len (a + 1) n))) (same a (omega arith))
-    ∙ ap (λ (ks : List ℕ). cond (q a) (a ∷ ks) ks) (filter_same p q (a + 1) n (λ k l. same k (omega arith)))
 
 chosen_same : (first first_too among among_too : ℕ → Bool) (limit size : ℕ) → Agree size first first_too → Agree size among among_too →
     Agree size (is_chosen first among limit size) (is_chosen first_too among_too limit size)
@@ -58,7 +45,7 @@ marks_all size = record { size = length-replicate size true; each = λ n l. get_
 pub rows_same : (h : List Event) (shown : List Bool) (test : ℕ → Bool) (rows : List Row)
     → AreMarks shown (length h) test → AreRows h (marked shown) rows → AreRows h test rows
 rows_same h shown test rows tied told = record {
-  numbers = told.numbers ∙ filter_same (λ n. at has_row h n && marked shown n) (λ n. at has_row h n && test n) 0 (length h)
+  numbers = told.numbers ∙ filter_below (λ n. at has_row h n && marked shown n) (λ n. at has_row h n && test n) 0 (length h)
       (λ k l. ap (λ (x : Bool). at has_row h k && x) (tied.each k (omega arith)));
   each = told.each;
 }

@@ -1,22 +1,19 @@
 -- Which node an event itself takes away: what it stops, or the last inner of its Switch.
-use Rattle.std.proofs.Common.{◌≡◌, ℕ, zero, suc, ◌+◌, ◌<◌, ◌≤◌, Bool, true, false, cond, List, [], length, take, replicate}
-use Rattle.std.proofs.Common.{get_or, set, Option, Some, None, refl, sym, ap, ◌∙◌, arith, inl, inr, ◌⊎◌, ◌==◌, nat_lt, slice_get}
-use Rattle.std.proofs.Math.Bool.{◌&&◌, ◌||◌}
-use Rattle.std.specs.List.{list_any}
-use Rattle.std.specs.Option.{option_and_then, option_map_or}
-use Rattle.std.proofs.lemmas.Bool.{cases_Bool, cases_lt, cases_eq, lt-ltb, le-ltb, ltb-true, eq-eqb, ne_eqb, eqb-true, and_left}
-use Rattle.std.proofs.lemmas.Bool.{and_right, and_from, and_parts, or_from, or_parts, both_ways, false≢true, false_from_ne_true}
-use Rattle.std.proofs.lemmas.Option.{none-some, same_Some, cond_some, option_and_then_some, slice_get_within}
-use Rattle.std.proofs.lemmas.List.{get_or-set_same, get_or-set_other, length-set, length-replicate, drop_all}
+use Rattle.rx_picture.proofs.Common.{◌≡◌, ℕ, zero, suc, ◌+◌, ◌<◌, ◌≤◌, Bool, true, false, cond, List, [], length, take, replicate, get_or, set, Option, Some}
+use Rattle.rx_picture.proofs.Common.{None, refl, sym, ap, ◌∙◌, arith, inl, inr, ◌⊎◌, ◌==◌, nat_lt, slice_get, ◌&&◌, ◌||◌, list_any, option_and_then}
+use Rattle.rx_picture.proofs.Common.{option_map_or, cases_Bool, cases_lt, cases_eq, lt-ltb, le-ltb, ltb-true, eq-eqb, ne_eqb, eqb-true, and_left, and_from}
+use Rattle.rx_picture.proofs.Common.{and_parts, both_ways, false≢true, none-some, same_Some, get_or-set_same, get_or-set_other, length-set, length-replicate}
+use Rattle.rx_picture.proofs.Common.{Event, End, at, is_shut, is_key, AreTurns, AreInners, noted, was_shut, event_at, false_from_ne_true}
+use Rattle.std.proofs.lemmas.Bool.{and_right, or_from, or_parts}
+use Rattle.std.proofs.lemmas.Option.{cond_some, option_and_then_some, slice_get_within}
+use Rattle.std.proofs.lemmas.List.{drop_all}
 use Rattle.rx_event.specs.declared.event.Place.TheVariants.{Inner}
-use Rattle.rx_event.specs.declared.event.Event.{Event}
-use Rattle.rx_event.specs.declared.event.Event.TheVariants.{Open, End, Close}
+use Rattle.rx_event.specs.declared.event.Event.TheVariants.{Open, Close}
 use Rattle.rx_event.specs.Events.{inner_named, is_switch, is_inner_of}
-use Rattle.rx_event.specs.Tree.{at, if_less, is_shut, shuts, is_switched_inner}
+use Rattle.rx_event.specs.Tree.{if_less, shuts, is_switched_inner}
 use Rattle.rx_event.proofs.Laws.Openness.{is_shut-push}
-use Rattle.rx_picture.specs.Tables.{is_key, AreTurns, AreInners, IsShutBy, noted, was_shut, if_switch}
-use Rattle.rx_picture.specs.Tables.{switch_of, number_before, latest_of, inner_with, stopped_of, shut_key}
-use Rattle.rx_picture.proofs.Prefixes.{same_tests, take_next, some_event, in_prefix, past_prefix, at_prefix}
+use Rattle.rx_picture.specs.Tables.{IsShutBy, if_switch, switch_of, number_before, latest_of, inner_with, stopped_of, shut_key}
+use Rattle.rx_picture.proofs.Prefixes.{same_tests, take_next, in_prefix, past_prefix, at_prefix}
 use Rattle.rx_picture.proofs.WhereTestsTurnTrue.{turns_step}
 
 is_key_of : (o : Option ℕ) (n : ℕ) → is_key o n ≡ true → o ≡ Some n
@@ -136,8 +133,8 @@ module _ (h : List Event) (b : ℕ) (inner : List ℕ) (n f : ℕ) (within : b �
 
 pub shut_by_key : (h : List Event) (b : ℕ) (inner : List ℕ) → b < length h → AreInners h b inner → IsShutBy h b (shut_key h inner b)
 shut_by_key h b inner inside tied n still =
-    let e = (some_event h b inside).0 in
-    let at_b : slice_get h b ≡ Some e = (some_event h b inside).1 in
+    let e = (event_at h b inside).0 in
+    let at_b : slice_get h b ≡ Some e = (event_at h b inside).1 in
     ap (λ (o : Option Event). is_key
     (option_map_or (if_less b) (option_and_then stopped_of o) (latest_of inner (option_and_then (if_switch h b) (option_and_then inner_named o)))) n) at_b
     ∙ by_event e ∙ sym (ap (λ (o : Option Event). nat_lt n b && option_map_or (shuts (take b h) n) o false) at_b)
@@ -160,8 +157,8 @@ shut_step h b table inner inside inners tied =
     next : (n : ℕ) → (n < b) ⊎ (b ≤ n) → is_shut (take (suc b) h) n
         ≡ (is_shut (take b h) n || (nat_lt n b && option_map_or (shuts (take b h) n) (slice_get h b) false))
     next n (inl l) =
-        let e = (some_event h b inside).0 in
-        let at_b : slice_get h b ≡ Some e = (some_event h b inside).1 in
+        let e = (event_at h b inside).0 in
+        let at_b : slice_get h b ≡ Some e = (event_at h b inside).1 in
         is_shut_next h b e n at_b l ∙ sym
         (ap (λ (x : Bool). is_shut (take b h) n || (x && option_map_or (shuts (take b h) n) (slice_get h b) false)) (lt-ltb n b l)
         ∙ ap (λ (o : Option Event). is_shut (take b h) n || option_map_or (shuts (take b h) n) o false) at_b)
@@ -190,10 +187,10 @@ pub inners_step : (h : List Event) (b : ℕ) (inner : List ℕ) → b < length h
     → AreInners h b inner → AreInners h (b + 1) (inner_with inner (switch_of h b) (b + 1))
 inners_step h b inner inside tied = by_key (switch_of h b) refl where
   e : Event
-  e = (some_event h b inside).0
+  e = (event_at h b inside).0
 
   at_b : slice_get h b ≡ Some e
-  at_b = (some_event h b inside).1
+  at_b = (event_at h b inside).1
 
   more : b + 1 ≡ suc b
   more = omega arith

@@ -1,15 +1,10 @@
 -- The points of the first places.
-use Rattle.std.proofs.Common.{◌≡◌, ℕ, ◌+◌, ◌<◌, Bool, false, cond, List, [], ◌∷◌, ◌++◌, length}
-use Rattle.std.proofs.Common.{map, filter, sym, ap, ◌∙◌, slice_get, is_some, Option, Some, append-nil}
-use Rattle.std.proofs.Math.Bool.{◌&&◌}
-use Rattle.std.specs.List.{AllByRecursion, range_with_len}
-use Rattle.std.proofs.lemmas.List.{map-append}
-use Rattle.rx_event.specs.declared.event.Event.{Event}
-use Rattle.rx_event.proofs.Laws.Lists.{AllByRecursion-both}
+use Rattle.rx_picture.proofs.Common.{◌≡◌, ℕ, ◌+◌, ◌<◌, Bool, false, cond, List, [], ◌∷◌, ◌++◌, length, map, filter, sym, ap, ◌∙◌, slice_get, Option, Some}
+use Rattle.rx_picture.proofs.Common.{append-nil, ◌&&◌, AllByRecursion, range_with_len, map-append, Event, AllByRecursion-both, event_at}
+use Rattle.std.proofs.Common.{is_some}
 use Rattle.rx_picture.specs.declared.points.Point.{Point}
 use Rattle.rx_picture.specs.Told.{IsPointAt}
 use Rattle.rx_picture.proofs.RowsOfFirstPlaces.{next_filter}
-use Rattle.rx_picture.proofs.Prefixes.{some_event}
 
 pub record PointsUpTo (h : List Event) (place : ℕ → Bool) (n : ℕ) (points : List Point) : Type 0 where
   pub numbers : map (λ p. p.place) points ≡ filter place (range_with_len 0 n)
@@ -26,7 +21,7 @@ points_more h place n points point tied here = record {
 }
 
 unmarked : (h : List Event) (place : ℕ → Bool) (n : ℕ) → n < length h → (is_some (slice_get h n) && place n) ≡ false → place n ≡ false
-unmarked h place n within none = ap (λ (o : Option Event). is_some o && place n) (sym (some_event h n within).1) ∙ none
+unmarked h place n within none = ap (λ (o : Option Event). is_some o && place n) (sym (event_at h n within).1) ∙ none
 
 pub points_skip : (h : List Event) (place : ℕ → Bool) (n : ℕ) (points : List Point) → n < length h → PointsUpTo h place n points →
     (is_some (slice_get h n) && place n) ≡ false → PointsUpTo h place (n + 1) points

@@ -1,25 +1,13 @@
 -- What stands in a prefix of a history, and what one event more makes of it.
-use Rattle.std.proofs.Common.{◌≡◌, ℕ, zero, suc, ◌<◌, ◌≤◌, Bool, true, false, List, [], ◌∷◌, ◌++◌, length}
-use Rattle.std.proofs.Common.{take, drop, Option, Some, refl, sym, ap, ◌∙◌, arith, slice_get, take-append-drop}
-use Rattle.std.specs.Option.{option_map_or}
-use Rattle.std.proofs.lemmas.List.{length-take-le}
-use Rattle.std.proofs.lemmas.Option.{none-some, same_Some}
-use Rattle.rx_event.specs.declared.event.Event.{Event}
-use Rattle.rx_event.specs.Tree.{at, parent}
+use Rattle.rx_picture.proofs.Common.{◌≡◌, ℕ, zero, suc, ◌<◌, ◌≤◌, Bool, true, false, List, [], ◌∷◌, ◌++◌, length, take, Option, Some, sym, ap, ◌∙◌, arith}
+use Rattle.rx_picture.proofs.Common.{slice_get, option_map_or, length-take-le, none-some, same_Some, Event, at, parent}
+use Rattle.std.proofs.Common.{drop, take-append-drop}
 use Rattle.rx_event.proofs.Laws.Places.{slice_get-append}
 use Rattle.rx_event.proofs.Laws.Parents.{parent-append}
 
 -- two tests that hold together
 pub same_tests : (a b : Bool) → (a ≡ true → b ≡ true) → (b ≡ true → a ≡ true) → a ≡ b
-same_tests true b p q = sym (p refl)
-same_tests false true p q = q refl
-same_tests false false p q = refl
-
--- the event at a place of the history
-pub some_event : (h : List Event) (i : ℕ) → i < length h → (e : Event) × (slice_get h i ≡ Some e)
-some_event [] i l = absurd (omega arith)
-some_event (x ∷ h) zero l = (x, refl)
-some_event (x ∷ h) (suc i) l = some_event h i (omega arith)
+same_tests a b e e2 = grind arith
 
 pub take_next : (h : List Event) (i : ℕ) (e : Event) → slice_get h i ≡ Some e → take (suc i) h ≡ take i h ++ e ∷ []
 take_next [] i e at_i = absurd (none-some e at_i)

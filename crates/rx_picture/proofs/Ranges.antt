@@ -1,14 +1,8 @@
 -- The numbers below one more, and how many of them pass a test.
-use Rattle.std.proofs.Common.{◌≡◌, ℕ, zero, suc, ◌+◌, Bool, List, [], ◌∷◌, ◌++◌, ap, ◌∙◌, arith}
-use Rattle.std.specs.List.{range_with_len, count_by}
+use Rattle.rx_picture.proofs.Common.{◌≡◌, ℕ, suc, ◌+◌, Bool, [], ◌∷◌, ◌++◌, ap, ◌∙◌, arith, range_with_len, bit, count_below}
+use Rattle.std.specs.List.{count_by}
 use Rattle.std.proofs.lemmas.List.Sums.{sum_by_push}
-use Rattle.rx_picture.specs.Choice.{bit, count_below}
-
-range_push : (a n : ℕ) → range_with_len a (suc n) ≡ range_with_len a n ++ (a + n) ∷ []
-range_push a zero = let same : a ≡ a + 0 = omega arith in ap (λ (k : ℕ). k ∷ []) same
-range_push a (suc n) =
-    let same : (a + 1) + n ≡ a + suc n = omega arith in
-    ap (λ (ks : List ℕ). a ∷ ks) (range_push (a + 1) n ∙ ap (λ (k : ℕ). range_with_len (a + 1) n ++ k ∷ []) same)
+use Rattle.rx_event.proofs.Laws.Sums.{range_push}
 
 pub below_push : (n : ℕ) → range_with_len 0 (n + 1) ≡ range_with_len 0 n ++ n ∷ []
 below_push n =

@@ -1,20 +1,12 @@
 -- The bar of a resource: while its node is open and it was not removed it is held, and from its taking on taken.
-use Rattle.std.proofs.Common.{◌≡◌, ℕ, ◌<◌, ◌≤◌, min, max, Bool, true, false, cond, List, length, take, get_or}
-use Rattle.std.proofs.Common.{Option, Some, None, refl, sym, ap, ◌∙◌, arith, inl, inr, ◌⊎◌, nat_lt, slice_get}
-use Rattle.std.proofs.Math.Bool.{not, ◌&&◌}
-use Rattle.std.specs.List.{list_any}
-use Rattle.std.specs.Option.{option_and_then, option_map_or}
-use Rattle.std.proofs.lemmas.Bool.{cases_lt, lt-ltb, le-ltb, and_left}
-use Rattle.std.proofs.lemmas.Option.{none-some}
-use Rattle.rx_event.specs.declared.event.Event.{Event}
-use Rattle.rx_event.specs.declared.event.Event.TheVariants.{Accept}
-use Rattle.rx_event.specs.Events.{makes_resource, node_of_accept, is_remove_of, is_take_of}
-use Rattle.rx_event.specs.Tree.{is_open}
-use Rattle.rx_event.specs.Resources.{is_owned, is_taken}
-use Rattle.rx_event.proofs.Laws.Openness.{is_open_past}
+use Rattle.rx_picture.proofs.Common.{◌≡◌, ℕ, ◌<◌, ◌≤◌, min, max, Bool, true, false, cond, List, length, take, get_or, Option, Some, None, refl, sym, ap, ◌∙◌}
+use Rattle.rx_picture.proofs.Common.{arith, inl, inr, ◌⊎◌, nat_lt, slice_get, not, ◌&&◌, list_any, option_and_then, option_map_or, cases_lt, lt-ltb, le-ltb}
+use Rattle.rx_picture.proofs.Common.{and_left, none-some, Event, Accept, makes_resource, is_remove_of, is_take_of, is_open, is_owned, is_taken, is_open_past}
+use Rattle.rx_picture.proofs.Common.{Spans, IsTurn, AreLines, was_removed, was_taken}
+use Rattle.rx_event.specs.Events.{node_of_accept}
 use Rattle.rx_event.proofs.Laws.Resources.{is_owned_past, is_taken_past}
-use Rattle.rx_picture.specs.Rows.{Spans, Begins, IsBar}
-use Rattle.rx_picture.specs.Tables.{IsTurn, AreLines, owned_end, owned_start, was_removed, was_taken}
+use Rattle.rx_picture.specs.Rows.{Begins, IsBar}
+use Rattle.rx_picture.specs.Tables.{owned_end, owned_start}
 use Rattle.rx_picture.proofs.Prefixes.{past_prefix, get_prefix, at_prefix}
 use Rattle.rx_picture.proofs.WhereTestsTurnTrue.{turn_within}
 use Rattle.rx_picture.proofs.WhereLinesEnd.{cut_either, cut_alone, neither, and_not}

@@ -1,20 +1,8 @@
 -- The rows of the first places.
-use Rattle.std.proofs.Common.{◌≡◌, ℕ, ◌+◌, Bool, true, false, cond, List, [], ◌∷◌, ◌++◌, map, filter, Option, Some, None, refl, sym, ap, ◌∙◌, slice_get}
-use Rattle.std.proofs.Math.Bool.{◌&&◌}
-use Rattle.std.specs.List.{AllByRecursion, range_with_len}
-use Rattle.std.specs.Option.{option_map_or}
-use Rattle.std.proofs.lemmas.Bool.{or_left, or_right, and_from}
-use Rattle.std.proofs.lemmas.List.{map-append}
-use Rattle.std.proofs.lemmas.List.Elements.{filter-append}
-use Rattle.std.proofs.Common.{append-nil}
-use Rattle.rx_event.specs.declared.event.Event.{Event}
-use Rattle.rx_event.specs.Events.{makes_node, makes_hub, makes_resource}
-use Rattle.rx_event.specs.Tree.{at}
-use Rattle.rx_event.proofs.Laws.Lists.{AllByRecursion-both}
-use Rattle.rx_picture.specs.declared.row.Row.{Row}
-use Rattle.rx_picture.specs.declared.row.Shape.{Shape}
-use Rattle.rx_picture.specs.declared.row.Shape.TheVariants.{Node, Hub, Resource, Loan}
-use Rattle.rx_picture.specs.Rows.{IsRow, IsShape, has_row}
+use Rattle.rx_picture.proofs.Common.{◌≡◌, ℕ, ◌+◌, Bool, true, false, cond, List, [], ◌∷◌, ◌++◌, map, filter, Option, Some, None, refl, sym, ap, ◌∙◌, slice_get}
+use Rattle.rx_picture.proofs.Common.{◌&&◌, AllByRecursion, range_with_len, option_map_or, or_left, or_right, and_from, map-append, filter-append, append-nil}
+use Rattle.rx_picture.proofs.Common.{Event, makes_node, makes_hub, makes_resource, at, AllByRecursion-both, Row, Shape, Node, Hub, Resource, Loan, IsRow}
+use Rattle.rx_picture.proofs.Common.{IsShape, has_row}
 use Rattle.rx_picture.specs.Tables.{IsShownAt}
 use Rattle.rx_picture.proofs.Ranges.{below_push}
 

@@ -1,16 +1,9 @@
 -- Where the line of a node ends: where it is itself taken away, or with the line of the node above it.
-use Rattle.std.proofs.Common.{◌≡◌, ℕ, zero, suc, ◌<◌, ◌≤◌, min, max, Bool, true, false, List, [], ◌∷◌, ◌++◌}
-use Rattle.std.proofs.Common.{length, take, get_or, Option, Some, None, refl, sym, ap, ◌∙◌, arith, inl, inr, ◌⊎◌, nat_lt}
-use Rattle.std.proofs.Math.Bool.{not, ◌&&◌, ◌||◌}
-use Rattle.std.specs.Option.{option_map_or}
-use Rattle.std.proofs.lemmas.Bool.{cases_lt, lt-ltb, le-ltb, ltb-true, and_left, or_left, or_right, or_cases}
-use Rattle.rx_event.specs.declared.event.Event.{Event}
-use Rattle.rx_event.specs.Events.{makes_node}
-use Rattle.rx_event.specs.Tree.{at, parent, is_shut, is_open}
-use Rattle.rx_event.proofs.Laws.Openness.{is_open_step, is_open_past}
-use Rattle.rx_event.proofs.Laws.Parents.{parent-lt}
-use Rattle.rx_picture.specs.Rows.{Spans}
-use Rattle.rx_picture.specs.Tables.{IsTurn, was_shut}
+use Rattle.rx_picture.proofs.Common.{◌≡◌, ℕ, zero, suc, ◌<◌, ◌≤◌, min, max, Bool, true, false, List, [], ◌∷◌, ◌++◌, length, take, get_or, Option, Some, None}
+use Rattle.rx_picture.proofs.Common.{refl, sym, ap, ◌∙◌, arith, inl, inr, ◌⊎◌, nat_lt, not, ◌&&◌, ◌||◌, option_map_or, cases_lt, lt-ltb, le-ltb, ltb-true}
+use Rattle.rx_picture.proofs.Common.{and_left, or_left, or_right, or_cases, Event, makes_node, at, parent, is_shut, is_open, is_open_past, parent-lt, Spans}
+use Rattle.rx_picture.proofs.Common.{IsTurn, was_shut}
+use Rattle.rx_event.proofs.Laws.Openness.{is_open_step}
 use Rattle.rx_picture.proofs.Prefixes.{same_tests, past_prefix, at_prefix, parent_prefix}
 
 -- numbers -----------------------------------------------------------------------------------------
@@ -30,12 +23,10 @@ cut_alone s n k l = same_tests _ _ (λ passes. let m = ltb-true (max s n) k pass
     (λ passes. let m = ltb-true s k passes in lt-ltb (max s n) k (omega arith))
 
 pub neither : (a b : Bool) → ((true && not a) && not b) ≡ (true && not (a || b))
-neither true b = refl
-neither false b = refl
+neither a b = grind arith
 
 pub and_not : (a : Bool) → (a && not a) ≡ false
-and_not true = refl
-and_not false = refl
+and_not a = grind arith
 
 -- a line ------------------------------------------------------------------------------------------
 
@@ -69,8 +60,7 @@ module _ (h : List Event) (n s : ℕ) (node : at makes_node h n ≡ true) (shut 
   pub line_top : parent h n ≡ None → Spans h (λ k. is_open k n) n (max s n)
   line_top none k m = by_place (cases_lt n k) where
     or_false : (b : Bool) → b ≡ (b || false)
-    or_false true = refl
-    or_false false = refl
+    or_false b = grind arith
 
     by_place : (n < k) ⊎ (k ≤ n) → is_open (take k h) n ≡ (nat_lt n k && not (nat_lt (max s n) k))
     by_place (inl l) =

@@ -1,17 +1,13 @@
 -- The place at which a test of the prefixes turns true, in a table by number.
-use Rattle.std.proofs.Common.{◌≡◌, ℕ, suc, ◌+◌, ◌<◌, ◌≤◌, Bool, true, false, cond, List, [], ◌∷◌, length, take, replicate}
-use Rattle.std.proofs.Common.{get_or, set, Option, Some, None, refl, sym, ap, ◌∙◌, arith, inl, inr, ◌⊎◌, ◌==◌, nat_lt, slice_get}
-use Rattle.std.proofs.Math.Bool.{◌||◌}
-use Rattle.std.specs.List.{list_any}
-use Rattle.std.specs.Option.{option_and_then}
-use Rattle.std.proofs.lemmas.Bool.{cases_Bool, cases_lt, cases_eq, lt-ltb, le-ltb, ltb-true, eq-eqb, ne_eqb, eqb-true, or_left, or_right, or_cases, both_ways}
-use Rattle.std.proofs.lemmas.List.{get_or-set_same, get_or-set_other, length-set, get_or-replicate, length-replicate}
+use Rattle.rx_picture.proofs.Common.{◌≡◌, ℕ, suc, ◌+◌, ◌<◌, ◌≤◌, Bool, true, false, cond, List, [], ◌∷◌, length, take, replicate, get_or, set, Option, Some}
+use Rattle.rx_picture.proofs.Common.{None, refl, sym, ap, ◌∙◌, arith, inl, inr, ◌⊎◌, ◌==◌, nat_lt, slice_get, ◌||◌, list_any, option_and_then, cases_Bool}
+use Rattle.rx_picture.proofs.Common.{cases_lt, cases_eq, lt-ltb, le-ltb, ltb-true, eq-eqb, ne_eqb, eqb-true, or_left, or_right, or_cases, both_ways}
+use Rattle.rx_picture.proofs.Common.{get_or-set_same, get_or-set_other, length-set, get_or-replicate, length-replicate, Event, is_remove_of, is_return_of}
+use Rattle.rx_picture.proofs.Common.{is_take_of, is_key, IsTurn, AreTurns, noted, was_removed, was_returned, was_taken, or_false, event_at}
 use Rattle.std.proofs.lemmas.List.Folds.{list_any-append}
-use Rattle.rx_event.specs.declared.event.Event.{Event}
 use Rattle.rx_event.specs.declared.event.Event.TheVariants.{Remove, Return, Take}
-use Rattle.rx_event.specs.Events.{removed_of, returned_of, taken_of, is_remove_of, is_return_of, is_take_of}
-use Rattle.rx_picture.specs.Tables.{is_key, IsTurn, AreTurns, noted, was_removed, was_returned, was_taken}
-use Rattle.rx_picture.proofs.Prefixes.{take_next, some_event}
+use Rattle.rx_event.specs.Events.{removed_of, returned_of, taken_of}
+use Rattle.rx_picture.proofs.Prefixes.{take_next}
 
 -- one test ----------------------------------------------------------------------------------------
 
@@ -135,10 +131,6 @@ turns_step {h} {test} b table key s inside next same tied = record {
 
 -- removals and takings ----------------------------------------------------------------------------
 
-or_false : (b : Bool) → (b || false) ≡ b
-or_false true = refl
-or_false false = refl
-
 -- a test of any event is true after one more where it was, or where it holds of that
 any_next : (p : Event → Bool) (h : List Event) (b : ℕ) (e : Event) → slice_get h b ≡ Some e → list_any p (take (suc b) h) ≡ (list_any p (take b h) || p e)
 any_next p h b e at_b = ap (λ (k : List Event). list_any p k) (take_next h b e at_b)
@@ -156,26 +148,24 @@ takes : (e : Event) (n : ℕ) → is_key (taken_of e) n ≡ is_take_of n e
 takes (Take r) n = refl
 takes _ n = refl
 
+-- where an event has a key just where the test holds of it
+event_step : (h : List Event) (b : ℕ) (table : List ℕ) (key : Event → Option ℕ) (test : ℕ → Event → Bool) → ((e : Event) (n : ℕ) → is_key (key e) n ≡ test n e)
+    → b < length h → AreTurns h (λ n k. list_any (test n) k) b table
+    → AreTurns h (λ n k. list_any (test n) k) (b + 1) (noted table (option_and_then key (slice_get h b)) b)
+event_step h b table key test is inside tied =
+    let e = (event_at h b inside).0 in
+    let at_b : slice_get h b ≡ Some e = (event_at h b inside).1 in
+    turns_step b table (option_and_then key (slice_get h b)) (λ n. test n e) inside (λ n. any_next (test n) h b e at_b)
+    (λ n was. ap (λ (o : Option Event). is_key (option_and_then key o) n) at_b ∙ is e n) tied
+
 pub removed_step : (h : List Event) (b : ℕ) (table : List ℕ) → b < length h → AreTurns h was_removed b table →
     AreTurns h was_removed (b + 1) (noted table (option_and_then removed_of (slice_get h b)) b)
-removed_step h b table inside tied =
-    let e = (some_event h b inside).0 in
-    let at_b : slice_get h b ≡ Some e = (some_event h b inside).1 in
-    turns_step b table (option_and_then removed_of (slice_get h b)) (λ n. is_remove_of n e) inside (λ n. any_next (is_remove_of n) h b e at_b)
-    (λ n was. ap (λ (o : Option Event). is_key (option_and_then removed_of o) n) at_b ∙ removes e n) tied
+removed_step h b table inside tied = event_step h b table removed_of is_remove_of removes inside tied
 
 pub taken_step : (h : List Event) (b : ℕ) (table : List ℕ) → b < length h → AreTurns h was_taken b table →
     AreTurns h was_taken (b + 1) (noted table (option_and_then taken_of (slice_get h b)) b)
-taken_step h b table inside tied =
-    let e = (some_event h b inside).0 in
-    let at_b : slice_get h b ≡ Some e = (some_event h b inside).1 in
-    turns_step b table (option_and_then taken_of (slice_get h b)) (λ n. is_take_of n e) inside (λ n. any_next (is_take_of n) h b e at_b)
-    (λ n was. ap (λ (o : Option Event). is_key (option_and_then taken_of o) n) at_b ∙ takes e n) tied
+taken_step h b table inside tied = event_step h b table taken_of is_take_of takes inside tied
 
 pub returned_step : (h : List Event) (b : ℕ) (table : List ℕ) → b < length h → AreTurns h was_returned b table →
     AreTurns h was_returned (b + 1) (noted table (option_and_then returned_of (slice_get h b)) b)
-returned_step h b table inside tied =
-    let e = (some_event h b inside).0 in
-    let at_b : slice_get h b ≡ Some e = (some_event h b inside).1 in
-    turns_step b table (option_and_then returned_of (slice_get h b)) (λ n. is_return_of n e) inside (λ n. any_next (is_return_of n) h b e at_b)
-    (λ n was. ap (λ (o : Option Event). is_key (option_and_then returned_of o) n) at_b ∙ returned e n) tied
+returned_step h b table inside tied = event_step h b table returned_of is_return_of returned inside tied

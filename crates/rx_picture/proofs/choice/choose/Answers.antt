@@ -1,5 +1,4 @@
-use Rattle.std.proofs.Common.{◌≡◌, length, refl, ap, ◌∙◌, arith}
-use Rattle.rx_picture.specs.Choice.{bit, leads, follows, is_chosen, marked}
+use Rattle.rx_picture.proofs.Common.{◌≡◌, length, refl, ap, ◌∙◌, arith, bit, leads, follows, is_chosen, marked}
 use Rattle.rx_picture.proofs.Ranges.{count_next}
 use Rattle.rx_picture.proofs.FewAreChosen.{marks_more, few_chosen}
 use Rattle.rx_picture.proofs.choice.choose.Goals as goal

@@ -1,5 +1,4 @@
-use Rattle.std.proofs.Common.{◌≡◌, ◌≤◌, length}
-use Rattle.rx_picture.specs.Choice.{count_below, leads, follows, is_chosen, marked, AreMarks}
+use Rattle.rx_picture.proofs.Common.{◌≡◌, ◌≤◌, length, count_below, leads, follows, is_chosen, marked, AreMarks}
 use Rattle.rx_picture.proofs.choice.choose.Given as goal
 
 abbrev pub invariant-loop-n : goal.invariant-loop-n

@@ -1,5 +1,4 @@
-use Rattle.std.proofs.Common.{◌≡◌, ap, ◌∙◌, arith}
-use Rattle.rx_picture.specs.Choice.{bit, leads, marked}
+use Rattle.rx_picture.proofs.Common.{◌≡◌, ap, ◌∙◌, arith, bit, leads, marked}
 use Rattle.rx_picture.proofs.Ranges.{count_next}
 use Rattle.rx_picture.proofs.choice.count_leads.Goals as goal
 

@@ -1,5 +1,4 @@
-use Rattle.std.proofs.Common.{◌≡◌, ◌≤◌}
-use Rattle.rx_picture.specs.Choice.{count_below, leads, marked}
+use Rattle.rx_picture.proofs.Common.{◌≡◌, ◌≤◌, count_below, leads, marked}
 use Rattle.rx_picture.proofs.choice.count_leads.Given as goal
 
 abbrev pub invariant-loop-n : goal.invariant-loop-n

@@ -1,4 +1,4 @@
-use Rattle.rx_event.specs.Climb.{most_visits}
+use Rattle.rx_picture.proofs.Common.{most_visits}
 use Rattle.rx_picture.proofs.ClimbByStack.{ClimbsOn}
 use Rattle.rx_picture.proofs.climb.climb.Given as goal
 

@@ -1,6 +1,4 @@
-use Rattle.std.proofs.Common.{length, sym, ◌∙◌, arith}
-use Rattle.std.proofs.lemmas.Bool.{le-ltb}
-use Rattle.rx_event.proofs.Laws.Openness.{is_open_past}
+use Rattle.rx_picture.proofs.Common.{length, sym, ◌∙◌, arith, le-ltb, is_open_past}
 use Rattle.rx_picture.proofs.climb.is_open_after.Goals as goal
 
 pub returns-else-n-past : goal.returns-else-n-past

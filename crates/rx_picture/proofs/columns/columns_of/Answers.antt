@@ -1,5 +1,4 @@
-use Rattle.std.proofs.Common.{◌≡◌, ap, ◌∙◌, arith}
-use Rattle.rx_picture.specs.Choice.{bit, marked}
+use Rattle.rx_picture.proofs.Common.{◌≡◌, ap, ◌∙◌, arith, bit, marked}
 use Rattle.rx_picture.proofs.Ranges.{count_next}
 use Rattle.rx_picture.proofs.MarksStandForTests.{columns_more}
 use Rattle.rx_picture.proofs.columns.columns_of.Goals as goal

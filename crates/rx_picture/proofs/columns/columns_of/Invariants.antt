@@ -1,5 +1,4 @@
-use Rattle.std.proofs.Common.{◌≡◌, ◌≤◌}
-use Rattle.rx_picture.specs.Choice.{count_below, marked}
+use Rattle.rx_picture.proofs.Common.{◌≡◌, ◌≤◌, count_below, marked}
 use Rattle.rx_picture.proofs.MarksStandForTests.{ColumnsUpTo}
 use Rattle.rx_picture.proofs.columns.columns_of.Given as goal
 

@@ -1,5 +1,4 @@
-use Rattle.std.proofs.Common.{length, nat_lt}
-use Rattle.rx_picture.specs.Drawn.{is_shown}
+use Rattle.rx_picture.proofs.Common.{length, nat_lt, is_shown}
 use Rattle.rx_picture.proofs.MarksStandForTests.{marks_chosen}
 use Rattle.rx_picture.proofs.Drawings.{marks_every}
 use Rattle.rx_picture.proofs.drawing.placed_marks.Goals as goal

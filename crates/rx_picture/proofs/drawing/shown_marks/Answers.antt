@@ -1,6 +1,4 @@
-use Rattle.std.proofs.Common.{length}
-use Rattle.rx_event.specs.Tree.{at}
-use Rattle.rx_picture.specs.Rows.{is_drawn, is_left}
+use Rattle.rx_picture.proofs.Common.{length, at, is_drawn, is_left}
 use Rattle.rx_picture.proofs.MarksStandForTests.{marks_chosen}
 use Rattle.rx_picture.proofs.drawing.shown_marks.Goals as goal
 

@@ -1,5 +1,4 @@
-use Rattle.std.proofs.Common.{refl, arith}
-use Rattle.rx_picture.specs.Tables.{was_removed}
+use Rattle.rx_picture.proofs.Common.{refl, arith, was_removed}
 use Rattle.rx_picture.proofs.WhereTestsTurnTrue.{turns_none, removed_step}
 use Rattle.rx_picture.proofs.firsts.removals.Goals as goal
 

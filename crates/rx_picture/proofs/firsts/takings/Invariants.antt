@@ -1,4 +1,4 @@
-use Rattle.rx_picture.specs.Tables.{AreTurns, was_taken}
+use Rattle.rx_picture.proofs.Common.{AreTurns, was_taken}
 use Rattle.rx_picture.proofs.firsts.takings.Given as goal
 
 abbrev pub invariant-loop-place : goal.invariant-loop-place

@@ -1,5 +1,4 @@
-use Rattle.rx_picture.specs.Choice.{marked}
-use Rattle.rx_picture.specs.Drawn.{is_rowed_by}
+use Rattle.rx_picture.proofs.Common.{marked, is_rowed_by}
 use Rattle.rx_picture.proofs.FewAreChosen.{marks_more}
 use Rattle.rx_picture.proofs.lanes.row_marks.Goals as goal
 

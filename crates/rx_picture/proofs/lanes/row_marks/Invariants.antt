@@ -1,5 +1,4 @@
-use Rattle.rx_picture.specs.Choice.{AreMarks, marked}
-use Rattle.rx_picture.specs.Drawn.{is_rowed_by}
+use Rattle.rx_picture.proofs.Common.{AreMarks, marked, is_rowed_by}
 use Rattle.rx_picture.proofs.lanes.row_marks.Given as goal
 
 abbrev pub invariant-loop-n : goal.invariant-loop-n

@@ -1,4 +1,4 @@
-use Rattle.std.proofs.Common.{sym, ◌∙◌, arith}
+use Rattle.rx_picture.proofs.Common.{sym, ◌∙◌, arith}
 use Rattle.rx_picture.proofs.LeaksByTables.{leaks_not, leaks_if_made}
 use Rattle.rx_picture.proofs.leaks.is_leak.Goals as goal
 

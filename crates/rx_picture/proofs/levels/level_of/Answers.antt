@@ -1,6 +1,4 @@
-use Rattle.std.proofs.Common.{◌≡◌, ◌<◌, ◌+◌, Some, sym, ap, ◌∙◌}
-use Rattle.rx_event.specs.Tree.{parent}
-use Rattle.rx_event.proofs.Laws.Parents.{parent-lt}
+use Rattle.rx_picture.proofs.Common.{◌≡◌, ◌<◌, ◌+◌, Some, sym, ap, ◌∙◌, parent, parent-lt}
 use Rattle.rx_picture.proofs.LevelByParent.{level_top, level_below}
 use Rattle.rx_picture.proofs.levels.level_of.Goals as goal
 

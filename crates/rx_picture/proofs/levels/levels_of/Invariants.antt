@@ -1,4 +1,4 @@
-use Rattle.rx_picture.specs.Levels.{AreLevels}
+use Rattle.rx_picture.proofs.Common.{AreLevels}
 use Rattle.rx_picture.proofs.levels.levels_of.Given as goal
 
 abbrev pub invariant-loop-n : goal.invariant-loop-n

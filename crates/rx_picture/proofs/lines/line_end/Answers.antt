@@ -1,6 +1,4 @@
-use Rattle.std.proofs.Common.{◌≡◌, ◌<◌, Some, get_or, sym, arith}
-use Rattle.rx_event.specs.Tree.{parent}
-use Rattle.rx_event.proofs.Laws.Parents.{parent-lt}
+use Rattle.rx_picture.proofs.Common.{◌≡◌, ◌<◌, Some, get_or, sym, arith, parent, parent-lt}
 use Rattle.rx_picture.proofs.WhereLinesEnd.{line_none, line_top, line_below}
 use Rattle.rx_picture.proofs.lines.line_end.Goals as goal
 

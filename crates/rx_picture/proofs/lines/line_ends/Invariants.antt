@@ -1,4 +1,4 @@
-use Rattle.rx_picture.specs.Tables.{AreLines}
+use Rattle.rx_picture.proofs.Common.{AreLines}
 use Rattle.rx_picture.proofs.lines.line_ends.Given as goal
 
 abbrev pub invariant-loop-n : goal.invariant-loop-n

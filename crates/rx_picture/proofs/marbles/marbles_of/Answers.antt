@@ -1,8 +1,7 @@
-use Rattle.std.proofs.Common.{sym, ◌∙◌, arith}
-use Rattle.rx_picture.specs.Choice.{marked}
+use Rattle.rx_picture.proofs.Common.{sym, ◌∙◌, arith, marked}
 use Rattle.rx_picture.proofs.MarblesOfPrefixes.{marbles_none, marbles_more, marbles_skip}
-use Rattle.rx_picture.proofs.marbles.marbles_of.Goals as goal
 use Rattle.rx_picture.proofs.marbles.marbles_of.Goals.{then-is_marked+in_ok-push_told_at, else-is_marked}
+use Rattle.rx_picture.proofs.marbles.marbles_of.Goals as goal
 
 pub loop-place-init : goal.loop-place-init
 loop-place-init c = c.new-marbles.ensures.items ∙ marbles_none (marked c.args.lanes.now) (marked c.args.places.now) c.args.events.now

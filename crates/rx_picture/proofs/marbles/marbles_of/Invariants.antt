@@ -1,6 +1,4 @@
-use Rattle.std.proofs.Common.{◌≡◌, take}
-use Rattle.rx_picture.specs.Choice.{marked}
-use Rattle.rx_picture.specs.Told.{marbles}
+use Rattle.rx_picture.proofs.Common.{◌≡◌, take, marked, marbles}
 use Rattle.rx_picture.proofs.marbles.marbles_of.Given as goal
 
 abbrev pub invariant-loop-place : goal.invariant-loop-place

@@ -1,6 +1,4 @@
-use Rattle.std.proofs.Common.{arith}
-use Rattle.rx_picture.specs.Choice.{marked}
-use Rattle.rx_picture.specs.Told.{told_at}
+use Rattle.rx_picture.proofs.Common.{arith, marked, told_at}
 use Rattle.rx_picture.proofs.MarblesOfPrefixes.{visits_whole}
 use Rattle.rx_picture.proofs.marbles.push_visits.Goals as goal
 

@@ -1,7 +1,4 @@
-use Rattle.std.proofs.Common.{◌≡◌, ◌++◌, take}
-use Rattle.std.specs.Prelude.{flat_map}
-use Rattle.rx_picture.specs.Choice.{marked}
-use Rattle.rx_picture.specs.Told.{told_at}
+use Rattle.rx_picture.proofs.Common.{◌≡◌, ◌++◌, take, flat_map, marked, told_at}
 use Rattle.rx_picture.proofs.marbles.push_visits.Given as goal
 
 abbrev pub invariant-loop-n : goal.invariant-loop-n

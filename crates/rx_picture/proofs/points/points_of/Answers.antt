@@ -1,8 +1,7 @@
-use Rattle.std.proofs.Common.{arith}
-use Rattle.rx_picture.specs.Choice.{marked}
+use Rattle.rx_picture.proofs.Common.{arith, marked}
 use Rattle.rx_picture.proofs.PointsOfFirstPlaces.{points_more, points_skip}
-use Rattle.rx_picture.proofs.points.points_of.Goals as goal
 use Rattle.rx_picture.proofs.points.points_of.Goals.{in-Some+in_ok-push, in_default}
+use Rattle.rx_picture.proofs.points.points_of.Goals as goal
 
 pub loop-n-preserved : goal.loop-n-preserved
 loop-n-preserved c = elim c.match-point_at.branch [

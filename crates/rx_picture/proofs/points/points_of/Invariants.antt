@@ -1,4 +1,4 @@
-use Rattle.rx_picture.specs.Choice.{marked}
+use Rattle.rx_picture.proofs.Common.{marked}
 use Rattle.rx_picture.proofs.PointsOfFirstPlaces.{PointsUpTo}
 use Rattle.rx_picture.proofs.points.points_of.Given as goal
 

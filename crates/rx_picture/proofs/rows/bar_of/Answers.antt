@@ -1,4 +1,4 @@
-use Rattle.std.proofs.Common.{get_or, slice_get, arith}
+use Rattle.rx_picture.proofs.Common.{get_or, slice_get, arith}
 use Rattle.rx_picture.proofs.ResourceBars.{accepted_makes, bar_is}
 use Rattle.rx_picture.proofs.rows.bar_of.Goals as goal
 

@@ -1,4 +1,4 @@
-use Rattle.std.proofs.Common.{get_or, arith}
+use Rattle.rx_picture.proofs.Common.{get_or, arith}
 use Rattle.rx_picture.proofs.Loans.{loan_is}
 use Rattle.rx_picture.proofs.rows.loan_of.Goals as goal
 

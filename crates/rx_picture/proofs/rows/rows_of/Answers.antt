@@ -1,7 +1,7 @@
-use Rattle.rx_picture.specs.Choice.{marked}
+use Rattle.rx_picture.proofs.Common.{marked}
 use Rattle.rx_picture.proofs.RowsOfFirstPlaces.{rows_more, rows_skip}
-use Rattle.rx_picture.proofs.rows.rows_of.Goals as goal
 use Rattle.rx_picture.proofs.rows.rows_of.Goals.{in-Some+in_ok-push, in_default}
+use Rattle.rx_picture.proofs.rows.rows_of.Goals as goal
 
 pub loop-n-preserved : goal.loop-n-preserved
 loop-n-preserved c = elim c.match-row_at.branch [

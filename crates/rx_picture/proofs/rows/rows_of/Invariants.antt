@@ -1,4 +1,4 @@
-use Rattle.rx_picture.specs.Choice.{marked}
+use Rattle.rx_picture.proofs.Common.{marked}
 use Rattle.rx_picture.proofs.RowsOfFirstPlaces.{RowsUpTo}
 use Rattle.rx_picture.proofs.rows.rows_of.Given as goal
 

@@ -1,5 +1,4 @@
-use Rattle.std.proofs.Common.{arith}
-use Rattle.rx_picture.specs.Tables.{was_shut}
+use Rattle.rx_picture.proofs.Common.{arith, was_shut}
 use Rattle.rx_picture.proofs.WhereTestsTurnTrue.{turns_none}
 use Rattle.rx_picture.proofs.NodeShutByEvent.{never_shut, inners_none, shut_step, inners_step}
 use Rattle.rx_picture.proofs.shut.shuttings.Goals as goal

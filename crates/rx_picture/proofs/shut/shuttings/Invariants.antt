@@ -1,4 +1,4 @@
-use Rattle.rx_picture.specs.Tables.{AreTurns, AreInners, was_shut}
+use Rattle.rx_picture.proofs.Common.{AreTurns, AreInners, was_shut}
 use Rattle.rx_picture.proofs.shut.shuttings.Given as goal
 
 abbrev pub invariant-loop-place : goal.invariant-loop-place

@@ -1,6 +1,4 @@
-use Rattle.rx_event.specs.Tree.{at}
-use Rattle.rx_picture.specs.Rows.{is_drawn}
-use Rattle.rx_picture.specs.Choice.{AreMarks}
+use Rattle.rx_picture.proofs.Common.{at, is_drawn, AreMarks}
 use Rattle.rx_picture.proofs.tables.drawn_marks.Given as goal
 
 abbrev pub invariant-loop-n : goal.invariant-loop-n

@@ -1,4 +1,4 @@
-use Rattle.std.proofs.Common.{sym, ◌∙◌, arith}
+use Rattle.rx_picture.proofs.Common.{sym, ◌∙◌, arith}
 use Rattle.rx_picture.proofs.LeaksByTables.{left_open, left_shut}
 use Rattle.rx_picture.proofs.tables.is_left.Goals as goal
 

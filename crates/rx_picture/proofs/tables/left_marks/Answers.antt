@@ -1,4 +1,4 @@
-use Rattle.rx_picture.specs.Rows.{is_left}
+use Rattle.rx_picture.proofs.Common.{is_left}
 use Rattle.rx_picture.proofs.FewAreChosen.{marks_more}
 use Rattle.rx_picture.proofs.tables.left_marks.Goals as goal
 

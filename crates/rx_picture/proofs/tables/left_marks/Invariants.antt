@@ -1,5 +1,4 @@
-use Rattle.rx_picture.specs.Rows.{is_left}
-use Rattle.rx_picture.specs.Choice.{AreMarks}
+use Rattle.rx_picture.proofs.Common.{is_left, AreMarks}
 use Rattle.rx_picture.proofs.tables.left_marks.Given as goal
 
 abbrev pub invariant-loop-n : goal.invariant-loop-n
