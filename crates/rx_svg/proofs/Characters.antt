@@ -1,24 +1,18 @@
 -- Numbers and labels are made of plain characters, whatever the history is.
-use Rattle.std.proofs.Common.{◌≡◌, ℕ, zero, suc, ◌<◌, ◌/◌, ◌%◌, Bool, true, false, List, []}
-use Rattle.std.proofs.Common.{◌∷◌, ◌++◌, ℤ, pos, negsuc, codes, flat_map, decimal, refl, ◌∙◌, arith}
-use Rattle.std.specs.Prelude.{◌==◌, if◌then◌else◌}
+use Rattle.rx_svg.proofs.Common.{◌≡◌, ℕ, ◌<◌, Bool, true, false, List, [], ◌∷◌, ◌++◌, ℤ, codes, flat_map, decimal, refl, ◌∙◌, arith, ◌==◌, if◌then◌else◌}
+use Rattle.rx_svg.proofs.Common.{and_from, Note, Next, Project, EndNote, Completed, Error, Event, Use, Lease, event_text, note_text, is_plain_character}
+use Rattle.rx_svg.proofs.Common.{is_plain}
+use Rattle.std.proofs.Common.{zero, suc, ◌/◌, ◌%◌, pos, negsuc}
 use Rattle.std.specs.Fmt.{digits, digits_onto, digit_glyph, signed_decimal}
-use Rattle.std.proofs.lemmas.Bool.{and_from}
 use Rattle.std.proofs.lemmas.List.Folds.{list_all-append}
-use Rattle.rx_note.specs.declared.note.Note.{Note}
-use Rattle.rx_note.specs.declared.note.Note.TheVariants.{Next, Project, End as EndNote}
 use Rattle.rx_note.specs.declared.note.Terminal.{Terminal}
-use Rattle.rx_note.specs.declared.note.Terminal.TheVariants.{Completed, Error}
 use Rattle.rx_event.specs.declared.event.Place.{Place}
 use Rattle.rx_event.specs.declared.event.Place.TheVariants.{Root, Source, Inner, Notifier}
 use Rattle.rx_event.specs.declared.event.Kind.{Kind}
 use Rattle.rx_event.specs.declared.event.Kind.TheVariants.{Leaf, Pass, Flat, Switch, Until, Sub}
 use Rattle.rx_event.specs.declared.event.Mode.TheVariants.{Auto, Manual}
-use Rattle.rx_event.specs.declared.event.Event.{Event}
-use Rattle.rx_event.specs.declared.event.Event.TheVariants.{Open, Hub, Connect, Accept, Use, Remove, Lease, Return, Item, Decline, End, Close, Take}
-use Rattle.rx_svg.specs.Label.{kind_text, place_text, mode_text, terminal_text, event_text}
-use Rattle.rx_svg.specs.Said.{note_text}
-use Rattle.rx_svg.specs.WellFormed.{is_plain_character, is_plain}
+use Rattle.rx_event.specs.declared.event.Event.TheVariants.{Open, Hub, Connect, Accept, Remove, Return, Item, Decline, End, Close, Take}
+use Rattle.rx_svg.specs.Label.{kind_text, place_text, mode_text, terminal_text}
 
 -- numbers -----------------------------------------------------------------------------------------
 

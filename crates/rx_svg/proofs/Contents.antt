@@ -1,7 +1,6 @@
 -- What may stand inside an element: one after the other, and where something is left out.
-use Rattle.std.proofs.Common.{◌≡◌, ℕ, Bool, true, false, List, [], ◌∷◌, ◌++◌, flat_map, sym, subst, append_assoc, append-nil}
-use Rattle.std.specs.Prelude.{if◌then◌else◌}
-use Rattle.rx_svg.specs.WellFormed.{is_plain, element_text, reference_text, IsContent, nothing, text_first, reference_first, element_first}
+use Rattle.rx_svg.proofs.Common.{◌≡◌, ℕ, Bool, true, false, List, [], ◌∷◌, ◌++◌, flat_map, sym, subst, append_assoc, append-nil, if◌then◌else◌, is_plain}
+use Rattle.rx_svg.proofs.Common.{element_text, reference_text, IsContent, nothing, text_first, reference_first, element_first}
 
 pub plain_content : (text : List ℕ) → is_plain text ≡ true → IsContent text
 plain_content text plain = subst IsContent (append-nil text) (text_first text [] plain nothing)

@@ -1,24 +1,17 @@
 -- The document of a drawing is well formed, whatever the drawing and the verdict are.
-use Rattle.std.proofs.Common.{◌≡◌, ℕ, ◌+◌, ◌-◌, true, Option, List, [], ◌∷◌, ◌++◌, map, codes, flat_map}
-use Rattle.std.proofs.Common.{length, take, drop, refl, sym, ap, subst, ◌∙◌, append_assoc, append-nil}
-use Rattle.std.specs.Prelude.{◌==◌}
-use Rattle.std.proofs.lemmas.Bool.{and_from}
-use Rattle.rx_audit.specs.declared.verdict.Verdict.{Verdict}
+use Rattle.rx_svg.proofs.Common.{◌≡◌, ℕ, true, Option, List, [], ◌∷◌, ◌++◌, map, codes, flat_map, length, take, refl, sym, ap, subst, ◌∙◌, append_assoc}
+use Rattle.rx_svg.proofs.Common.{append-nil, ◌==◌, and_from, Verdict, Point, Drawing, Part, words, number, text_of, named_text, x_of, row_text, tick_text}
+use Rattle.rx_svg.proofs.Common.{told_text, point_text, listed_text, entry_text, svg_text, is_plain, IsContent, nothing, IsWellFormed}
+use Rattle.std.proofs.Common.{◌+◌, ◌-◌, drop}
 use Rattle.rx_audit.specs.declared.verdict.Verdict.TheVariants.{Lawful, Unlawful, Unsettled}
-use Rattle.rx_picture.specs.declared.points.Point.{Point}
-use Rattle.rx_picture.specs.declared.drawing.Drawing.{Drawing}
-use Rattle.rx_svg.specs.Parts.{Part, words, number, text_of}
-use Rattle.rx_svg.specs.Name.{named_text}
-use Rattle.rx_svg.specs.Lane.{x_of, row_text, tick_text, told_text}
-use Rattle.rx_svg.specs.Page.{lanes_shown, places_shown, height_of, style_text, head_text, point_text, below_text, listed_text, list_text}
-use Rattle.rx_svg.specs.Page.{untaken_text, lawful_text, unlawful_text, unsettled_text, verdict_text, leak_words, count_text, entry_text, leaking_text, leaks_text, leaks_class}
-use Rattle.rx_svg.specs.Page.{break_text, shares_text, verdict_line, leaks_line, shares_line, under_text, lanes_text, svg_text}
-use Rattle.rx_svg.specs.WellFormed.{is_plain, IsContent, nothing, IsWellFormed}
+use Rattle.rx_svg.specs.Page.{lanes_shown, places_shown, height_of, style_text, head_text, below_text, list_text, untaken_text, lawful_text, unlawful_text}
+use Rattle.rx_svg.specs.Page.{unsettled_text, verdict_text, leak_words, count_text, leaking_text, leaks_text, leaks_class, break_text, shares_text}
+use Rattle.rx_svg.specs.Page.{verdict_line, leaks_line, shares_line, under_text, lanes_text}
 use Rattle.rx_svg.proofs.Characters.{both_are_plain, plain_append, plain_flat_map}
 use Rattle.rx_svg.proofs.ShownNames.{named_is_content}
 use Rattle.rx_svg.proofs.Contents.{plain_content, content_append, contents, content_if}
-use Rattle.rx_svg.proofs.Markup.{Valued, text_from, text_from-append, attribute_of, element_parts, element_reads}
-use Rattle.rx_svg.proofs.Markup.{tag_of, element_then, words_then, content_then, parts_are_plain, plain_parts, newline}
+use Rattle.rx_svg.proofs.Markup.{Valued, text_from, text_from-append, attribute_of, element_parts, element_reads, tag_of, element_then, words_then}
+use Rattle.rx_svg.proofs.Markup.{content_then, parts_are_plain, plain_parts, newline}
 use Rattle.rx_svg.proofs.Elements.{valued, text_around, between, broken_is_content, column_is_content}
 use Rattle.rx_svg.proofs.Rows.{row_is_content, tick_is_content, told_is_content}
 

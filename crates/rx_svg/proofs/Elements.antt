@@ -1,22 +1,13 @@
 -- The elements of a picture are content, whatever the numbers in them are.
-use Rattle.std.proofs.Common.{◌≡◌, ℕ, true, List, [], ◌∷◌, ◌++◌, map, ℤ, codes, refl, sym, subst, ◌∙◌, append_assoc}
-use Rattle.std.specs.Prelude.{◌==◌}
-use Rattle.std.specs.List.{list_all}
-use Rattle.std.proofs.lemmas.Bool.{and_from, and_parts}
-use Rattle.rx_note.specs.declared.note.Note.{Note}
-use Rattle.rx_note.specs.declared.note.Note.TheVariants.{Next, Project, End}
-use Rattle.rx_event.specs.declared.event.Event.{Event}
-use Rattle.rx_svg.specs.Parts.{Part, words, number, signed, text_of}
-use Rattle.rx_svg.specs.Label.{event_text}
-use Rattle.rx_svg.specs.Said.{note_text}
-use Rattle.rx_svg.specs.Stroke.{Stretch, Look, until_text, stretch_end, line_front, line_text, bar_front, bar_text, mark_text, code_text}
-use Rattle.rx_svg.specs.Stroke.{arrow_text, unreleased_text, leak_text}
-use Rattle.rx_svg.specs.Stroke.{marble_shape, above_text, value_text, marble_front, by_text, marble_text, column_front, axis_text, column_text, broken_text}
-use Rattle.rx_svg.specs.WellFormed.{is_plain, are_distinct, IsContent, nothing}
+use Rattle.rx_svg.proofs.Common.{◌≡◌, ℕ, true, List, [], ◌∷◌, ◌++◌, map, ℤ, codes, refl, sym, subst, ◌∙◌, append_assoc, ◌==◌, list_all, and_from, and_parts}
+use Rattle.rx_svg.proofs.Common.{Note, Next, Project, EndNote as End, Event, Part, words, number, signed, text_of, event_text, note_text, Look, line_text}
+use Rattle.rx_svg.proofs.Common.{bar_text, mark_text, code_text, leak_text, is_plain, are_distinct, IsContent, nothing}
+use Rattle.rx_svg.specs.Stroke.{Stretch, until_text, stretch_end, line_front, bar_front, arrow_text, unreleased_text, marble_shape, above_text, value_text}
+use Rattle.rx_svg.specs.Stroke.{marble_front, by_text, marble_text, column_front, axis_text, column_text, broken_text}
 use Rattle.rx_svg.proofs.Characters.{both_are_plain, event_is_plain, note_is_plain}
 use Rattle.rx_svg.proofs.Contents.{content_append}
-use Rattle.rx_svg.proofs.Markup.{Valued, text_from, text_from-append, are_plain, attribute_of, is_valued}
-use Rattle.rx_svg.proofs.Markup.{element_parts, tag_of, element_then, words_then, parts_are_plain, plain_parts, newline}
+use Rattle.rx_svg.proofs.Markup.{Valued, text_from, text_from-append, are_plain, attribute_of, is_valued, element_parts, tag_of, element_then, words_then}
+use Rattle.rx_svg.proofs.Markup.{parts_are_plain, plain_parts, newline}
 
 abbrev pub valued : List ℕ → List Part → Valued
 valued name value = record { name = name; value = value }

@@ -1,12 +1,8 @@
 -- What is proved of pictures as texts.
-use Rattle.std.proofs.Common.{◌≡◌, ℕ, Option, List, length, sym, subst}
-use Rattle.rx_event.specs.declared.event.Event.{Event}
-use Rattle.rx_audit.specs.declared.verdict.Verdict.{Verdict}
+use Rattle.rx_svg.proofs.Common.{◌≡◌, ℕ, Option, List, length, sym, subst, Event, Verdict, Drawing, svg_text, IsWellFormed}
 use Rattle.rx_audit.specs.Verdict.{IsVerdict}
-use Rattle.rx_picture.specs.declared.drawing.Drawing.{Drawing}
 use Rattle.rx_picture.specs.Drawn.{IsDrawing}
-use Rattle.rx_svg.specs.Page.{svg_text, IsPicture}
-use Rattle.rx_svg.specs.WellFormed.{IsWellFormed}
+use Rattle.rx_svg.specs.Page.{IsPicture}
 use Rattle.rx_svg.proofs.Documents.{svg_is_well_formed}
 
 -- the document of any drawing, of any history and with any names and verdict, is well formed

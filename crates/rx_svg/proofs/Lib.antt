@@ -1,3 +1,4 @@
+mod Common
 mod Characters
 mod Contents
 mod ShownNames

@@ -1,11 +1,10 @@
 -- Elements whose texts are made of fixed words and of numbers.
-use Rattle.std.proofs.Common.{◌≡◌, ℕ, Bool, true, ◌&&◌, List, [], ◌∷◌, ◌++◌, map, flat_map, codes, refl, sym, ap, ap₂, subst, ◌∙◌, append_assoc, append-nil}
-use Rattle.std.specs.List.{list_all}
-use Rattle.std.proofs.lemmas.Bool.{and_from, and_parts}
+use Rattle.rx_svg.proofs.Common.{◌≡◌, ℕ, Bool, true, ◌&&◌, List, [], ◌∷◌, ◌++◌, map, flat_map, codes, refl, sym, ap, subst, ◌∙◌, append_assoc, append-nil}
+use Rattle.rx_svg.proofs.Common.{list_all, and_from, and_parts, Part, words, number, signed, Attribute, IsTag, IsContent, nothing, text_first, element_first}
+use Rattle.rx_svg.proofs.Common.{is_plain, is_name, is_attribute, are_distinct, attribute_text, element_text}
+use Rattle.std.proofs.Common.{ap₂}
 use Rattle.std.proofs.lemmas.List.Concat.{flat_map-append}
-use Rattle.rx_svg.specs.Parts.{Part, words, number, signed, part_text}
-use Rattle.rx_svg.specs.WellFormed.{Attribute, IsTag, IsContent, nothing, text_first, element_first}
-use Rattle.rx_svg.specs.WellFormed.{is_plain, is_name, is_attribute, are_distinct, attribute_text, element_text}
+use Rattle.rx_svg.specs.Parts.{part_text}
 use Rattle.rx_svg.proofs.Characters.{plain_append, decimal_is_plain, signed_is_plain}
 use Rattle.rx_svg.proofs.Contents.{content_append}
 

@@ -1,7 +1,5 @@
 -- Texts that are not well formed.
-use Rattle.std.proofs.Common.{◌≡◌, ℕ, false, List, codes, refl, ◌∙◌, sym}
-use Rattle.std.proofs.lemmas.Bool.{false≢true}
-use Rattle.rx_svg.specs.WellFormed.{IsWellFormed}
+use Rattle.rx_svg.proofs.Common.{◌≡◌, ℕ, false, List, codes, refl, ◌∙◌, sym, false≢true, IsWellFormed}
 use Rattle.rx_svg.proofs.Reader.{passes, well_formed_passes}
 
 refutes : (text : List ℕ) → passes text ≡ false → IsWellFormed text → ⊥

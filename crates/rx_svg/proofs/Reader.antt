@@ -1,13 +1,13 @@
 -- A reader that goes over a text once, from left to right. Every well-formed text passes: so what it refuses is not well formed.
-use Rattle.std.proofs.Common.{◌≡◌, ℕ, Bool, true, false, ◌&&◌, not, nat_lt, List, [], ◌∷◌, ◌++◌, map}
-use Rattle.std.proofs.Common.{flat_map, fold, length, codes, bytes_eq, refl, sym, ap, ◌∙◌, append_assoc, append-nil, inl, inr, ◌⊎◌}
-use Rattle.std.specs.Prelude.{◌==◌, if◌then◌else◌}
-use Rattle.std.specs.List.{list_all, list_any}
-use Rattle.std.proofs.lemmas.Bool.{and_parts, and_from, or_parts, or_from, not-true, not_from_false, both_ways, false≢true, false_from_ne_true, cond-true, or_cases}
+use Rattle.rx_svg.proofs.Common.{◌≡◌, ℕ, Bool, true, false, ◌&&◌, not, nat_lt, List, [], ◌∷◌, ◌++◌, map, flat_map, length, codes, refl, sym, ap, ◌∙◌}
+use Rattle.rx_svg.proofs.Common.{append_assoc, append-nil, inl, inr, ◌⊎◌, ◌==◌, if◌then◌else◌, list_all, list_any, and_parts, and_from, false≢true, cond-true}
+use Rattle.rx_svg.proofs.Common.{or_cases, Attribute, IsTag, IsContent, nothing, text_first, reference_first, element_first, IsWellFormed, is_plain_character}
+use Rattle.rx_svg.proofs.Common.{is_plain, is_name, is_attribute, are_distinct, is_predefined, reference_text, attribute_text, element_text}
+use Rattle.std.proofs.Common.{fold, bytes_eq}
+use Rattle.std.proofs.lemmas.Bool.{or_parts, or_from, not-true, not_from_false, both_ways, false_from_ne_true}
 use Rattle.std.proofs.lemmas.List.Sums.{fold-append}
 use Rattle.std.proofs.lemmas.Slice.Eq.{bytes_eq-Decides}
-use Rattle.rx_svg.specs.WellFormed.{Attribute, IsTag, IsContent, nothing, text_first, reference_first, element_first, IsWellFormed}
-use Rattle.rx_svg.specs.WellFormed.{is_plain_character, is_plain, is_letter, is_name, is_space, is_attribute, are_distinct, is_predefined, reference_text, attribute_text, element_text}
+use Rattle.rx_svg.specs.WellFormed.{is_letter, is_space}
 
 -- a start tag so far: the elements that are open around it, innermost first, its name, and the attributes that were seen
 pub record Tag : Type 0 where

@@ -1,31 +1,25 @@
 -- What stands in the lanes of a picture is content, whatever the drawing is.
-use Rattle.std.proofs.Common.{◌≡◌, ℕ, ◌*◌, Bool, true, false, Option, List, [], ◌∷◌, ◌++◌, codes, nat_lt, decimal, refl, sym, ap, subst, ◌∙◌, append_assoc}
-use Rattle.rx_note.specs.declared.note.Terminal.TheVariants.{Completed, Error}
-use Rattle.rx_event.specs.declared.event.Event.{Event}
-use Rattle.rx_event.specs.declared.event.Event.TheVariants.{Lease, Use}
+use Rattle.rx_svg.proofs.Common.{◌≡◌, ℕ, Bool, true, false, Option, List, [], ◌∷◌, ◌++◌, codes, nat_lt, decimal, refl, sym, ap, subst, ◌∙◌, append_assoc}
+use Rattle.rx_svg.proofs.Common.{Completed, Error, Event, Lease, Use, Point, Drawing, Part, words, number, text_of, event_text, named_text, Look, mark_text}
+use Rattle.rx_svg.proofs.Common.{code_text, line_text, leak_text, bar_text, x_of, row_text, tick_text, told_text, IsContent, nothing}
+use Rattle.std.proofs.Common.{◌*◌}
 use Rattle.rx_event.specs.declared.mail.Mail.{Mail}
 use Rattle.rx_picture.specs.declared.row.Ending.{Ending}
 use Rattle.rx_picture.specs.declared.row.Ending.TheVariants.{Lasting, Ended, Disposed}
 use Rattle.rx_picture.specs.declared.row.Shape.{Shape}
 use Rattle.rx_picture.specs.declared.row.Shape.TheVariants.{Node, Hub, Resource, Loan}
 use Rattle.rx_picture.specs.declared.row.Row.{Row}
-use Rattle.rx_picture.specs.declared.points.Point.{Point}
-use Rattle.rx_picture.specs.declared.drawing.Drawing.{Drawing}
 use Rattle.rx_picture.specs.Rows.{lane_of}
 use Rattle.rx_picture.specs.Leaks.{is_leaking_row}
-use Rattle.rx_svg.specs.Parts.{Part, words, number, text_of}
-use Rattle.rx_svg.specs.Label.{event_text}
-use Rattle.rx_svg.specs.Name.{named_text}
-use Rattle.rx_svg.specs.Stroke.{Look, mark_text, code_text, line_text, leak_text, bar_text, bar_shape, cross_shape, ring_shape, diamond_shape, tick_shape}
-use Rattle.rx_svg.specs.Lane.{x_of, y_of, stretch_of, has_lane, steps_of, label_front, label_text, ending_text, life_text, stretch_text}
-use Rattle.rx_svg.specs.Lane.{owned_look, loan_look, wait_look, owned_text, loan_text, wait_text, release_text, shape_text, name_text, row_text, use_text, tick_text, told_text}
-use Rattle.rx_svg.specs.WellFormed.{IsContent, nothing}
+use Rattle.rx_svg.specs.Stroke.{bar_shape, cross_shape, ring_shape, diamond_shape, tick_shape}
+use Rattle.rx_svg.specs.Lane.{y_of, stretch_of, has_lane, steps_of, label_front, label_text, ending_text, life_text, stretch_text, owned_look, loan_look}
+use Rattle.rx_svg.specs.Lane.{wait_look, owned_text, loan_text, wait_text, release_text, shape_text, name_text, use_text}
 use Rattle.rx_svg.proofs.Characters.{decimal_is_plain, event_is_plain}
 use Rattle.rx_svg.proofs.ShownNames.{named_is_content}
 use Rattle.rx_svg.proofs.Markup.{are_plain, text_from, words_then, content_then}
 use Rattle.rx_svg.proofs.Contents.{plain_content, content_append, content_if}
-use Rattle.rx_svg.proofs.Elements.{valued, text_around, between, words_of, line_is_content, bar_is_content}
-use Rattle.rx_svg.proofs.Elements.{mark_is_content, code_is_content, leak_is_content, marble_is_content}
+use Rattle.rx_svg.proofs.Elements.{valued, text_around, between, words_of, line_is_content, bar_is_content, mark_is_content, code_is_content, leak_is_content}
+use Rattle.rx_svg.proofs.Elements.{marble_is_content}
 
 label_is_content : (x y n : ℕ) (name : Option (List ℕ)) (made : Event) → IsContent (label_text x y n name made)
 unfolding label_text label_front text_of

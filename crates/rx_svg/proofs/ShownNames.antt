@@ -1,19 +1,16 @@
 -- A name is shown as content, whatever it is.
-use Rattle.std.proofs.Common.{◌≡◌, ℕ, ◌<◌, Bool, true, false, List, [], ◌∷◌, ◌++◌, codes, flat_map, Option, Some, None, refl, sym, subst, arith, append-nil, inl, inr, ◌⊎◌}
-use Rattle.std.proofs.Math.Bool.{◌&&◌, ◌||◌, not}
-use Rattle.std.specs.Prelude.{◌==◌, nat_le}
-use Rattle.std.specs.List.{list_any}
-use Rattle.std.proofs.lemmas.Bool.{and_from, and_parts, or_cases, eqb-true, leb-true, cond-true, cond-false, cases_Bool}
-use Rattle.rx_svg.specs.Name.{escape, byte_text, shown_name, named_text}
-use Rattle.rx_svg.specs.WellFormed.{is_plain_character, is_predefined, reference_text, IsContent, nothing, reference_first}
+use Rattle.rx_svg.proofs.Common.{◌≡◌, ℕ, ◌<◌, Bool, true, false, List, [], ◌∷◌, ◌++◌, codes, flat_map, Option, refl, sym, subst, arith, append-nil, inl, inr}
+use Rattle.rx_svg.proofs.Common.{◌⊎◌, ◌&&◌, not, ◌==◌, list_any, and_from, and_parts, or_cases, cond-true, byte_text, named_text, is_plain_character}
+use Rattle.rx_svg.proofs.Common.{is_predefined, reference_text, IsContent, nothing, reference_first}
+use Rattle.std.proofs.Common.{Some, None}
+use Rattle.std.proofs.Math.Bool.{◌||◌}
+use Rattle.std.specs.Prelude.{nat_le}
+use Rattle.std.proofs.lemmas.Bool.{eqb-true, leb-true, cond-false, cases_Bool}
+use Rattle.rx_svg.specs.Name.{escape, shown_name}
 use Rattle.rx_svg.proofs.Contents.{plain_content, content_append, content_if, contents}
 
 or_shape : (a b c d : Bool) → (((a || b) || c) || d) ≡ (a || (b || (c || (d || false))))
-or_shape true b c d = refl
-or_shape false true c d = refl
-or_shape false false true d = refl
-or_shape false false false true = refl
-or_shape false false false false = refl
+or_shape a b c d = grind arith
 
 pub markup_by_or : (b : ℕ) → (((b == 60 || b == 62) || b == 38) || b == 34) ≡ list_any (λ m. b == m) (codes "<>&\"")
 markup_by_or b = or_shape (b == 60) (b == 62) (b == 38) (b == 34)

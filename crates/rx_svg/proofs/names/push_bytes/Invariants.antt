@@ -1,6 +1,4 @@
-use Rattle.std.proofs.Common.{◌≡◌, ◌++◌, take, string_bytes}
-use Rattle.std.specs.Prelude.{flat_map}
-use Rattle.rx_svg.specs.Name.{byte_text}
+use Rattle.rx_svg.proofs.Common.{◌≡◌, ◌++◌, take, string_bytes, flat_map, byte_text}
 use Rattle.rx_svg.proofs.names.push_bytes.Given as goal
 
 abbrev pub invariant-loop-byte : goal.invariant-loop-byte

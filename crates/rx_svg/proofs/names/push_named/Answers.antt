@@ -1,8 +1,6 @@
-use Rattle.std.proofs.Common.{◌≡◌, ℕ, List, ap, ◌∙◌, rules}
+use Rattle.rx_svg.proofs.Common.{◌≡◌, ℕ, List, ap, ◌∙◌, rules, decimal, view}
 use Rattle.std.specs.Prelude.{option_and_then}
-use Rattle.std.specs.Fmt.{decimal}
 use Rattle.serde_json.specs.Find.{get, as_str}
-use Rattle.serde_json.specs.View.{view}
 use Rattle.rx_svg.proofs.names.push_named.Goals as goal
 
 pub returns : goal.returns

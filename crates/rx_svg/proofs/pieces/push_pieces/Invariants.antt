@@ -1,5 +1,4 @@
-use Rattle.std.proofs.Common.{◌≡◌, ◌++◌, take, string_bytes}
-use Rattle.std.specs.Prelude.{flat_map}
+use Rattle.rx_svg.proofs.Common.{◌≡◌, ◌++◌, take, string_bytes, flat_map}
 use Rattle.rx_svg.specs.Parts.{piece_text}
 use Rattle.rx_svg.proofs.pieces.push_pieces.Given as goal
 

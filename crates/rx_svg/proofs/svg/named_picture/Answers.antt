@@ -1,4 +1,4 @@
-use Rattle.std.proofs.Common.{rules}
+use Rattle.rx_svg.proofs.Common.{rules}
 use Rattle.rx_svg.proofs.Laws.{picture_of}
 use Rattle.rx_svg.proofs.svg.named_picture.Goals as goal
 

@@ -1,8 +1,4 @@
-use Rattle.std.proofs.Common.{◌≡◌, ◌++◌, take, string_bytes}
-use Rattle.std.specs.Prelude.{flat_map}
-use Rattle.serde_json.specs.View.{view}
-use Rattle.rx_svg.specs.Name.{name_of}
-use Rattle.rx_svg.specs.Lane.{row_text}
+use Rattle.rx_svg.proofs.Common.{◌≡◌, ◌++◌, take, string_bytes, flat_map, view, name_of, row_text}
 use Rattle.rx_svg.proofs.svg.push_rows.Given as goal
 
 abbrev pub invariant-loop-row : goal.invariant-loop-row
