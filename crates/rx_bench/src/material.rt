@@ -7,7 +7,7 @@ use crate::case::Case;
 use crate::checkpoint::{crowded, run_checkpoint};
 use crate::done::{Done, Halt};
 use crate::json::{dump_of, run_json};
-use crate::scenario::{Scenario, run_scenario};
+use crate::scenario::{run_scenario, stock_of, text_of};
 use crate::shapes::history;
 use crate::words::Request;
 use rx_book::Book;
@@ -19,8 +19,8 @@ use std::alloc::Global;
 pub enum Material {
     /// Nothing is made before.
     Nothing,
-    /// The scenario that is run.
-    Scenario(Scenario),
+    /// The text of the scenario that is run, and the resources that it takes.
+    Scenario(String, Vec<Sample>),
     /// The history that is audited.
     History(Vec<Event>),
     /// The dump that is read.
@@ -33,7 +33,7 @@ impl Drop for Material {
     fn drop(self) {
         match self {
             Material::Nothing => {}
-            Material::Scenario(_scenario) => {}
+            Material::Scenario(_text, _stock) => {}
             Material::History(_events) => {}
             Material::Dump(_dump) => {}
             Material::Crowd(_book) => {}
@@ -46,7 +46,10 @@ impl Material {
     pub fn of(alloc: Global, request: Request) -> Result<Material, Halt> {
         let size = request.size;
         match request.case {
-            Case::Scenario => Ok(Material::Scenario(Scenario::of(alloc, size)?)),
+            Case::Scenario => {
+                let text = text_of(alloc, size)?;
+                Ok(Material::Scenario(text, stock_of(alloc, size)?))
+            }
             Case::Audit(shape) => Ok(Material::History(history(alloc, shape, size)?)),
             Case::Json(shape) => Ok(Material::Dump(dump_of(alloc, shape, size)?)),
             Case::Checkpoint => Ok(Material::Crowd(crowded(alloc, size, 99 * size)?)),
@@ -61,7 +64,7 @@ impl Material {
     {
         match self {
             Material::Nothing => Err(Halt::Refused),
-            Material::Scenario(scenario) => run_scenario(alloc, scenario, size),
+            Material::Scenario(text, stock) => run_scenario(alloc, text.as_str(), stock, size),
             Material::History(events) => run_audit(alloc, events.as_slice(), size),
             Material::Dump(dump) => run_json(alloc, dump.as_str(), size),
             Material::Crowd(book) => {

@@ -4,12 +4,11 @@ use crate::case::Case;
 use crate::done::{Done, Halt};
 use crate::material::Material;
 use crate::measure::{measure, run};
-use crate::reading::request;
+use crate::reading::{request, word_at};
 use crate::shapes::{LEAST, SHAPES};
 use crate::times::{RUNS, Summary};
 use crate::words::{Fault, Request};
 use std::alloc::Global;
-use std::convert::AsStr;
 use std::io;
 use std::io::Write;
 use std::sync::Wait;
@@ -41,33 +40,33 @@ fn write_done<O: Write>(output: &mut O, request: Request, done: Done) -> Result<
     }
 }
 
+/// Writes a time, which is given in tenths of a nanosecond.
+fn write_tenths<E: Write>(errors: &mut E, tenths: u64) -> io::Result<()> {
+    write!(errors, "{}.{} ns", tenths / 10, tenths % 10)
+}
+
+/// Writes the middle time and the spread.
+fn write_summary<E: Write>(errors: &mut E, times: Summary) -> io::Result<()> {
+    errors.write_all(b"median ")?;
+    write_tenths(errors, times.median)?;
+    errors.write_all(b", spread ")?;
+    write_tenths(errors, times.spread)?;
+    writeln!(errors, " for each operation, of {RUNS} runs")
+}
+
 /// Writes how long the operations took.
 fn write_times<E: Write>(errors: &mut E, request: Request, times: Summary) -> io::Result<()> {
     let (front, name) = request.case.name();
     let size = request.size;
-    let median = times.median;
-    let spread = times.spread;
-    writeln!(
-        errors,
-        "{front}{name} {size}: median {}.{} ns, spread {}.{} ns for each operation, of {RUNS} runs",
-        median / 10,
-        median % 10,
-        spread / 10,
-        spread % 10
-    )
+    write!(errors, "{front}{name} {size}: ")?;
+    write_summary(errors, times)
 }
 
 /// Writes why the words are refused, of which the second one is the name of the case.
 fn write_fault<E: Write>(errors: &mut E, fault: Fault, name: &str) -> io::Result<()> {
-    let (front, name, rear) = match fault {
-        Fault::NoCase => ("no case is named", "", ""),
-        Fault::UnknownCase => ("there is no case '", name, "'"),
-        Fault::NoSize => ("the case '", name, "' has no size"),
-        Fault::TooMany => ("there are too many words", "", ""),
-        Fault::NoNumber => ("the size is no number below 2^64", "", ""),
-        Fault::OutOfRange => ("the size is out of the range of '", name, "'"),
-    };
-    writeln!(errors, "rx_bench: {front}{name}{rear}")
+    let (front, rear) = fault.reason();
+    let shown = if rear.is_empty() { "" } else { name };
+    writeln!(errors, "rx_bench: {front}{shown}{rear}")
 }
 
 /// What is measured beside what is asked for: beside an audit, the reading of the same dump; beside a
@@ -139,11 +138,6 @@ static SMALL: [(Case, u64); 17] = [
     (Case::StormBatches, 1),
 ];
 
-/// Whether the words are the program's name and `all`.
-fn are_all<S: AsStr>(words: &[S]) -> bool {
-    words.len() == 2 && words[1].as_str() == "all"
-}
-
 /// Runs a case once, and writes what was done.
 fn run_small<T: Threads + Wait + Sync, O: Write>(
     rt: &T,
@@ -176,36 +170,14 @@ fn run_all<T: Threads + Wait + Sync, O: Write>(
     Ok(())
 }
 
-/// Does what the words ask for, by this clock and over these streams, and answers the exit status.
-/// The first word is the program's name.
-///
-/// The status is 0 where the case was run and what it did is written, 2 where the words are
-/// refused, and 1 where memory, a call, the clock or the output refused. What is said beside it
-/// goes to `errors`; what `errors` refuses is lost, and the status stays.
-pub fn serve<T: Threads + Wait + Sync, S: AsStr, C: Clock, O: Write, E: Write>(
-    rt: &T,
-    alloc: Global,
-    words: &[S],
-    clock: &C,
-    output: &mut O,
-    errors: &mut E,
-) -> u8 {
-    let outcome = if are_all(words) {
-        run_all(rt, alloc, output)
-    } else {
-        match request(words) {
-            Ok(request) => bench(rt, alloc, request, clock, output, errors),
-            Err(fault) => {
-                let name = if words.len() > 1 {
-                    words[1].as_str()
-                } else {
-                    ""
-                };
-                let _ = write_fault(errors, fault, name);
-                return REFUSED;
-            }
-        }
-    };
+/// Writes why the words are refused, and answers the status of that.
+fn refuse<E: Write>(errors: &mut E, fault: Fault, name: &str) -> u8 {
+    let _ = write_fault(errors, fault, name);
+    REFUSED
+}
+
+/// The status of what came out, whose fault is written.
+fn status<E: Write>(errors: &mut E, outcome: Result<(), Halt>) -> u8 {
     match outcome {
         Ok(()) => DONE,
         Err(halt) => {
@@ -213,4 +185,31 @@ pub fn serve<T: Threads + Wait + Sync, S: AsStr, C: Clock, O: Write, E: Write>(
             HALTED
         }
     }
+}
+
+/// Does what the words ask for, by this clock and over these streams, and answers the exit status.
+/// The first word is the program's name.
+///
+/// The status is 0 where the case was run and what it did is written, 2 where the words are
+/// refused, and 1 where memory, a call, the clock or the output refused. What is said beside it
+/// goes to `errors`; what `errors` refuses is lost, and the status stays.
+pub fn serve<T: Threads + Wait + Sync, C: Clock, O: Write, E: Write>(
+    rt: &T,
+    alloc: Global,
+    words: &[String],
+    clock: &C,
+    output: &mut O,
+    errors: &mut E,
+) -> u8 {
+    let count = words.len();
+    let name = word_at(words, 1);
+    let outcome = if count == 2 && name == "all" {
+        run_all(rt, alloc, output)
+    } else {
+        match request(count, name, word_at(words, 2)) {
+            Ok(request) => bench(rt, alloc, request, clock, output, errors),
+            Err(fault) => return refuse(errors, fault, name),
+        }
+    };
+    status(errors, outcome)
 }

@@ -2,23 +2,31 @@
 
 use crate::case::case_named;
 use crate::words::{Fault, Request};
-use std::convert::AsStr;
 
-/// What the words ask for, of which the first is the program's name.
-pub fn request<S: AsStr>(words: &[S]) -> Result<Request, Fault> {
-    if words.len() < 2 {
+/// The word of this place, or an empty one where there are no more.
+pub fn word_at(words: &[String], place: usize) -> &str {
+    match words.get(place) {
+        Some(word) => word.as_str(),
+        None => "",
+    }
+}
+
+/// What so many words ask for, of which the first is the program's name, the second that of a case, and the third
+/// its size.
+pub fn request(count: usize, name: &str, size: &str) -> Result<Request, Fault> {
+    if count < 2 {
         return Err(Fault::NoCase);
     }
-    let Some(case) = case_named(words[1].as_str()) else {
+    let Some(case) = case_named(name) else {
         return Err(Fault::UnknownCase);
     };
-    if words.len() == 2 {
+    if count == 2 {
         return Err(Fault::NoSize);
     }
-    if words.len() > 3 {
+    if count > 3 {
         return Err(Fault::TooMany);
     }
-    let Ok(size) = words[2].as_str().parse::<u64>() else {
+    let Ok(size) = size.parse::<u64>() else {
         return Err(Fault::NoNumber);
     };
     Request::of(case, size).ok_or(Fault::OutOfRange)

@@ -8,46 +8,62 @@ use rx_resource::Sample;
 use rx_script::{Form, ScriptError, Watched, run};
 use std::alloc::{AllocError, Global};
 
-/// A scenario in JSON, and the resources that it takes.
-pub struct Scenario {
-    pub text: String,
-    pub stock: Vec<Sample>,
+/// Writes a text with a number in it.
+fn push_one(text: &mut String, front: &str, number: u64, rear: &str) -> Result<(), AllocError> {
+    write!(text, "{front}{number}{rear}")
 }
 
-impl Drop for Scenario {
-    fn drop(self) {
-        let Scenario {
-            text: _text,
-            stock: _stock,
-        } = self;
-    }
+/// Writes a text with two numbers in it, given as the parts round them.
+fn push_two(
+    text: &mut String,
+    parts: [&'static str; 3],
+    first: u64,
+    second: u64,
+) -> Result<(), AllocError> {
+    let [front, middle, rear] = parts;
+    push_one(text, front, first, middle)?;
+    push_one(text, "", second, rear)
 }
+
+/// Opens the root of a cycle.
+const USING: [&str; 3] = [
+    "{\"do\":\"using\",\"name\":\"u",
+    "\",\"place\":\"root\",\"res\":\"r",
+    "\"}",
+];
+
+/// Opens its leaf.
+const OPEN: [&str; 3] = [
+    "{\"do\":\"open\",\"name\":\"l",
+    "\",\"place\":\"source\",\"of\":\"u",
+    "\",\"kind\":\"leaf\"}",
+];
+
+/// Emits an item at its leaf.
+const NEXT: [&str; 3] = ["{\"do\":\"next\",\"node\":\"l", "\",\"value\":", "}"];
+
+/// Ends a leaf.
+const END: &str = "{\"do\":\"end\",\"node\":\"l";
+
+/// Disposes of a root.
+const DISPOSE: &str = "{\"do\":\"dispose\",\"node\":\"u";
 
 /// Writes the step of this number. Six steps are a cycle, which has names of its own; each second cycle
 /// ends in another way.
 fn push_step(text: &mut String, number: u64) -> Result<(), AllocError> {
     let cycle = number / 6;
     match number % 12 {
-        0 | 6 => write!(
-            text,
-            "{{\"do\":\"using\",\"name\":\"u{cycle}\",\"place\":\"root\",\"res\":\"r{cycle}\"}}"
-        ),
-        1 | 7 => write!(
-            text,
-            "{{\"do\":\"open\",\"name\":\"l{cycle}\",\"place\":\"source\",\"of\":\"u{cycle}\",\"kind\":\"leaf\"}}"
-        ),
-        2 | 3 | 8 | 9 => write!(
-            text,
-            "{{\"do\":\"next\",\"node\":\"l{cycle}\",\"value\":{number}}}"
-        ),
-        4 => write!(text, "{{\"do\":\"end\",\"node\":\"l{cycle}\"}}"),
-        10 => write!(text, "{{\"do\":\"dispose\",\"node\":\"u{cycle}\"}}"),
+        0 | 6 => push_two(text, USING, cycle, cycle),
+        1 | 7 => push_two(text, OPEN, cycle, cycle),
+        2 | 3 | 8 | 9 => push_two(text, NEXT, cycle, number),
+        4 => push_one(text, END, cycle, "\"}"),
+        10 => push_one(text, DISPOSE, cycle, "\"}"),
         _ => text.push_str("{\"do\":\"drain\"}"),
     }
 }
 
 /// The text of the scenario of so many steps.
-fn text_of(alloc: Global, steps: u64) -> Result<String, AllocError> {
+pub fn text_of(alloc: Global, steps: u64) -> Result<String, AllocError> {
     let mut text = String::new(alloc);
     text.push_str("{\"steps\":[")?;
     for number in 0..steps {
@@ -60,40 +76,34 @@ fn text_of(alloc: Global, steps: u64) -> Result<String, AllocError> {
     Ok(text)
 }
 
-impl Scenario {
-    /// The scenario of so many steps, with a resource for each cycle that they begin.
-    pub fn of(alloc: Global, steps: u64) -> Result<Scenario, AllocError> {
-        Ok(Scenario {
-            text: text_of(alloc, steps)?,
-            stock: samples(alloc, steps.saturating_add(5) / 6)?,
-        })
-    }
+/// A resource for each cycle that so many steps begin.
+pub fn stock_of(alloc: Global, steps: u64) -> Result<Vec<Sample>, AllocError> {
+    samples(alloc, steps.saturating_add(5) / 6)
+}
 
-    /// Its report. What it is written to refuses only for want of memory.
-    fn report(self, alloc: Global) -> Result<Vec<u8>, Halt> {
-        let Scenario { text, stock } = self;
-        let mut input = text.as_str().as_bytes();
-        let mut report = Vec::new(alloc);
-        match run(
-            alloc,
-            &mut Watched::new(&mut input),
-            &mut Watched::new(&mut report),
-            stock,
-            Form::Report,
-        ) {
-            Ok(()) => Ok(report),
-            Err(ScriptError::Memory | ScriptError::Write) => Err(Halt::Memory),
-            Err(_) => Err(Halt::Refused),
-        }
+/// The report of a scenario. What it is written to refuses only for want of memory.
+fn report_of(alloc: Global, text: &str, stock: Vec<Sample>) -> Result<Vec<u8>, Halt> {
+    let mut input = text.as_bytes();
+    let mut report = Vec::new(alloc);
+    match run(
+        alloc,
+        &mut Watched::new(&mut input),
+        &mut Watched::new(&mut report),
+        stock,
+        Form::Report,
+    ) {
+        Ok(()) => Ok(report),
+        Err(ScriptError::Memory | ScriptError::Write) => Err(Halt::Memory),
+        Err(_) => Err(Halt::Refused),
     }
 }
 
 /// Runs the scenario of so many steps, none of which may be refused: the report would begin with it. An
 /// operation is a step.
-pub fn run_scenario(alloc: Global, scenario: Scenario, steps: u64) -> Result<Done, Halt>
+pub fn run_scenario(alloc: Global, text: &str, stock: Vec<Sample>, steps: u64) -> Result<Done, Halt>
     ensures { IfOk result (λ done. done.operations ≡ steps) }
 {
-    let report = scenario.report(alloc)?;
+    let report = report_of(alloc, text, stock)?;
     if report.starts_with(b"refused") {
         return Err(Halt::Refused);
     }

@@ -43,8 +43,10 @@ impl Agenda for SortedList {
 
     fn put(&mut self, due: u64, number: u64) -> Result<(), Halt> {
         let place = place_of(self.entries.as_slice(), due);
-        self.entries.insert(place, Entry { due, number })?;
-        Ok(())
+        match self.entries.insert(place, Entry { due, number }) {
+            Ok(()) => Ok(()),
+            Err(_failed) => Err(Halt::Memory),
+        }
     }
 
     fn take(&mut self) -> Result<Option<u64>, Halt> {

@@ -17,7 +17,10 @@ pub struct Request {
 impl Request {
     /// What asks for this case at this size, or `None` where the case is not run at it.
     pub fn of(case: Case, size: u64) -> Option<Request> {
-        if size == 0 || size > case.most() {
+        if size == 0 {
+            return None;
+        }
+        if size > case.most() {
             return None;
         }
         Some(Request { case, size })
@@ -39,4 +42,19 @@ pub enum Fault {
     NoNumber,
     /// The size is 0, or above the greatest of the case.
     OutOfRange,
+}
+
+impl Fault {
+    /// What is said of it: what stands before the name of the case, and what behind it, which is empty where the name
+    /// does not stand there.
+    pub fn reason(self) -> (&'static str, &'static str) {
+        match self {
+            Fault::NoCase => ("no case is named", ""),
+            Fault::UnknownCase => ("there is no case '", "'"),
+            Fault::NoSize => ("the case '", "' has no size"),
+            Fault::TooMany => ("there are too many words", ""),
+            Fault::NoNumber => ("the size is no number below 2^64", ""),
+            Fault::OutOfRange => ("the size is out of the range of '", "'"),
+        }
+    }
 }
