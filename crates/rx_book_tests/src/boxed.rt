@@ -2,7 +2,7 @@
 
 use super::probe::{Back, Given, Probe, Totals, counts, untouched, used};
 use super::same::same;
-use rx_book::At;
+use rx_book::{At, Key};
 use rx_event::Refusal;
 use rx_resource::{Resource, Sample, Tracker};
 use std::alloc::Global;
@@ -17,10 +17,13 @@ struct Course {
     back: Option<Back>,
 }
 
-// Opens a root with a resource and holds another there, uses both, removes the first, unsubscribes and
-// takes both; the third is handed in too late.
-fn course_of<R: Resource>(alloc: Global, first: R, second: R, third: R) -> Result<Course, Back> {
-    let mut book = Probe::new(alloc, 100);
+// Opens a root with a resource and holds another there, uses both, removes the first and unsubscribes. The key of
+// the root, and what the calls answered.
+fn used_in<R: Resource>(
+    book: &mut Probe<R>,
+    first: R,
+    second: R,
+) -> Result<(Key, [Result<u64, Refusal>; 5]), Back> {
     let opened = book.open_using(At::Root, first)?;
     let held = book.hold(opened.key, second)?;
     let answers = [
@@ -30,8 +33,15 @@ fn course_of<R: Resource>(alloc: Global, first: R, second: R, third: R) -> Resul
         book.remove(opened.res),
         book.dispose(opened.key),
     ];
+    Ok((opened.key, answers))
+}
+
+// Does so with two in a new book, and takes both; the third is handed in too late.
+fn course_of<R: Resource>(alloc: Global, first: R, second: R, third: R) -> Result<Course, Back> {
+    let mut book = Probe::new(alloc, 100);
+    let (root, answers) = used_in(&mut book, first, second)?;
     let given = [book.take(), book.take(), book.take()];
-    let back = book.hold(opened.key, third).err();
+    let back = book.hold(root, third).err();
     Ok(Course {
         answers,
         totals: book.totals(),

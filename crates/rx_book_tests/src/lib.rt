@@ -21,8 +21,6 @@ mod just;
 #[cfg(test)]
 mod load;
 #[cfg(test)]
-mod opening_holding;
-#[cfg(test)]
 mod parts;
 #[cfg(test)]
 mod probe;

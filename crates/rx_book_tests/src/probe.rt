@@ -32,7 +32,7 @@ pub(super) struct Totals {
 }
 
 // A resource that was handed out and then released.
-#[derive(Clone, Copy, Debug, PartialEq, Eq)]
+#[derive(Clone, Copy, PartialEq, Eq)]
 pub(super) struct Given {
     pub number: u64,
     pub tag: u64,
