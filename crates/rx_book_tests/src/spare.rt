@@ -10,7 +10,7 @@ use std::alloc::{AllocError, Global};
 use std::test::Fail;
 
 // A call that takes no memory, on what it is made.
-#[derive(Clone, Copy, Debug)]
+#[derive(Clone, Copy)]
 pub(super) enum Closing {
     Remove(ResKey),
     GiveBack(LeaseKey),
@@ -70,6 +70,16 @@ fn fill(book: &mut Probe<Sample>, leaf: Key) -> Option<Refusal> {
         }
     }
     None
+}
+
+// Does so with no memory left.
+fn fill_memory(
+    alloc: Global,
+    book: &mut Probe<Sample>,
+    leaf: Key,
+) -> Result<Option<Refusal>, AllocError> {
+    let _scarce = Scarce::new(alloc)?;
+    Ok(fill(book, leaf))
 }
 
 // A FlatMap that owes two inner observables.
@@ -144,8 +154,7 @@ fn closed_full(
 ) -> Result<(Option<Refusal>, u32, [u64; 3]), Fail> {
     let (leaf, closings) = new_closings(book)?;
     let why = if is_scarce {
-        let _scarce = Scarce::new(alloc)?;
-        fill(book, leaf)
+        fill_memory(alloc, book, leaf)?
     } else {
         fill(book, leaf)
     };

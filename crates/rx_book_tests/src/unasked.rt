@@ -37,39 +37,61 @@ fn is_refused_memory(book: &mut Probe<Sample>, asking: Asking) -> bool {
     false
 }
 
+// Leaves one block of memory, until it is dropped.
+fn leave_one_block(alloc: Global) -> Result<Scarce, AllocError> {
+    let block: Vec<u8> = Vec::with_capacity(alloc, BLOCK)?;
+    let scarce = Scarce::new(alloc)?;
+    drop(block);
+    Ok(scarce)
+}
+
+// Makes each of the calls until it is refused memory.
+fn are_refused_memory(book: &mut Probe<Sample>, calls: &[Asking]) -> bool {
+    for asking in calls {
+        if !is_refused_memory(book, *asking) {
+            return false;
+        }
+    }
+    true
+}
+
 // Uses up the room of each list, with no memory left: then each would grow for one place more.
-fn is_filled(alloc: Global, book: &mut Probe<Sample>, leaf: Key) -> Result<bool, Fail> {
+fn fill_up(alloc: Global, book: &mut Probe<Sample>, leaf: Key) -> Result<(), Fail> {
     let res = book.hold(leaf, Sample::new(9))?;
-    let _scarce = Scarce::new(alloc)?;
-    for asking in [
+    let calls = [
         Asking::Open(At::Root, Kind::Pass),
         Asking::Hold(leaf),
         Asking::Lease(res),
         Asking::Hub,
         Asking::Next(leaf),
         Asking::Apply(res),
-    ] {
-        if !is_refused_memory(book, asking) {
-            return Ok(false);
-        }
+    ];
+    let _scarce = Scarce::new(alloc)?;
+    if are_refused_memory(book, &calls) {
+        Ok(())
+    } else {
+        Err(Fail::from("room is left"))
     }
-    Ok(true)
+}
+
+// Fills a new book, and answers the call of this number.
+fn call_of_full(alloc: Global, book: &mut Probe<Sample>, which: usize) -> Result<Closing, Fail> {
+    let (leaf, closings) = new_closings(book)?;
+    for _ in 0..200 {
+        book.next(leaf, 0)?;
+    }
+    fill_up(alloc, book, leaf)?;
+    match closings.get(which) {
+        Some(closing) => Ok(*closing),
+        None => Err(Fail::from("no such call")),
+    }
 }
 
 // Makes one of the calls in a new book that is full. Whether it is done, and asked for no memory.
 fn asks_for_none(alloc: Global, which: usize) -> Result<bool, Fail> {
     let mut book = Probe::new(alloc, 4000);
-    let (leaf, closings) = new_closings(&mut book)?;
-    for _ in 0..200 {
-        book.next(leaf, 0)?;
-    }
-    let closing: Closing = *closings.get(which).ok_or("no such call")?;
-    if !is_filled(alloc, &mut book, leaf)? {
-        return Err(Fail::from("room is left"));
-    }
-    let block: Vec<u8> = Vec::with_capacity(alloc, BLOCK)?;
-    let _scarce = Scarce::new(alloc)?;
-    drop(block);
+    let closing = call_of_full(alloc, &mut book, which)?;
+    let _scarce = leave_one_block(alloc)?;
     Ok(is_done(&mut book, closing) && is_whole(alloc))
 }
 
@@ -83,30 +105,32 @@ fn closings_and_handing_out_ask_for_no_memory(rt: HostRuntime) -> Result<(), Fai
 
 // Whether a book is made, and asked for no memory.
 fn is_made_of_none(alloc: Global) -> Result<bool, Fail> {
-    let block: Vec<u8> = Vec::with_capacity(alloc, BLOCK)?;
-    let _scarce = Scarce::new(alloc)?;
-    drop(block);
+    let _scarce = leave_one_block(alloc)?;
     let book: Probe<Sample> = Probe::new(alloc, 4000);
     Ok(is_whole(alloc) && book.open_count() == 0)
+}
+
+// Fills a small book.
+fn fill_small(alloc: Global, book: &mut Probe<Sample>) -> Result<(), Fail> {
+    let leaf = book.open(At::Root, Kind::Leaf)?.key;
+    fill_up(alloc, book, leaf)
 }
 
 // Whether a small book is ended, and asked for no memory: its lists are of a size of which the allocator
 // keeps a piece that is given back, so that the block is not whole again.
 fn is_ended_with_none(alloc: Global) -> Result<bool, Fail> {
     let mut book: Probe<Sample> = Probe::new(alloc, 100);
-    let leaf = book.open(At::Root, Kind::Leaf)?.key;
-    if !is_filled(alloc, &mut book, leaf)? {
-        return Err(Fail::from("room is left"));
-    }
-    let block: Vec<u8> = Vec::with_capacity(alloc, BLOCK)?;
-    let _scarce = Scarce::new(alloc)?;
-    drop(block);
+    fill_small(alloc, &mut book)?;
+    let _scarce = leave_one_block(alloc)?;
     Ok(book.finish().released > 0 && is_had(alloc, BLOCK))
 }
 
 #[test]
 fn a_book_asks_for_no_memory_as_it_is_made_and_as_it_ends(rt: HostRuntime) -> Result<(), Fail> {
-    assert!(rt; is_made_of_none(rt.alloc())?);
-    assert!(rt; is_ended_with_none(rt.alloc())?);
+    let are_met = [
+        is_made_of_none(rt.alloc())?,
+        is_ended_with_none(rt.alloc())?,
+    ];
+    assert!(rt; are_met == [true, true]);
     Ok(())
 }

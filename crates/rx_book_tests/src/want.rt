@@ -324,16 +324,24 @@ fn a_connection_that_is_refused_memory_changes_nothing(rt: HostRuntime) -> Resul
     are_refused_first(&rt, rt.alloc(), &CONNECTED)
 }
 
-// Takes all notes, and makes a checkpoint with no memory at first: what came of it, and how often it was refused.
-fn pause_in_the_end(alloc: Global, book: &mut Probe<Sample>) -> Result<(Outcome, usize), Fail> {
+// Takes all notes.
+fn take_notes(book: &mut Probe<Sample>) {
     for _ in 0..1_000 {
         if book.take_mail().is_none() {
             break;
         }
     }
+}
+
+// Makes a checkpoint of such a book once its notes are taken, with no memory at first. Whether it was refused then,
+// changed nothing, and is made in the end.
+fn is_paused_in_the_end(alloc: Global, book: &mut Probe<Sample>) -> Result<bool, Fail> {
+    make_scene(book)?;
+    take_notes(book);
+    let len = book.totals().len;
     let mut scarce = Scarce::new(alloc)?;
     match done_in_the_end(book, Asking::Checkpoint, &mut scarce) {
-        Some(paused) => Ok(paused),
+        Some((outcome, refusals)) => Ok(outcome == Outcome::Done(len) && refusals > 0),
         None => Err(Fail::from("a refused checkpoint changed the book")),
     }
 }
@@ -341,9 +349,7 @@ fn pause_in_the_end(alloc: Global, book: &mut Probe<Sample>) -> Result<(Outcome,
 #[test]
 fn a_checkpoint_that_is_refused_memory_changes_nothing(rt: HostRuntime) -> Result<(), Fail> {
     let mut book = Probe::new(rt.alloc(), 1000);
-    make_scene(&mut book)?;
-    let len = book.totals().len;
-    let (outcome, refusals) = pause_in_the_end(rt.alloc(), &mut book)?;
-    assert!(rt; outcome == Outcome::Done(len) && refusals > 0 && book.event(0).is_none());
+    assert!(rt; is_paused_in_the_end(rt.alloc(), &mut book)?);
+    assert!(rt; book.event(0).is_none());
     Ok(())
 }
