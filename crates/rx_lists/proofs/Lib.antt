@@ -1,4 +1,5 @@
-mod Places
+pub mod Laws
+mod PlacesApart
 mod TieLemmas
 mod RingsShowLists
 mod RingSteps

@@ -9,13 +9,13 @@ use Rattle.rx_lists.specs.declared.links.Link.{Link}
 use Rattle.rx_lists.specs.declared.links.Place.{Place}
 use Rattle.rx_lists.specs.declared.links.Place.TheVariants.{End, Member}
 use Rattle.rx_lists.specs.Lists.{list_at, is_in, take_out}
-use Rattle.rx_rings.specs.Rings.{without, AreRings, Joins, Leaves}
+use Rattle.rx_lists.specs.Rings.{without, AreRings, Joins, Leaves}
 use Rattle.rx_lists.specs.Places.{number_of, is_place, places}
-use Rattle.rx_lists.proofs.Places.{tells}
-use Rattle.rx_rings.proofs.Laws.Places.{place_apart, cases_place}
-use Rattle.rx_rings.proofs.Laws.Rings.{some_same, some_none, put_ring, rings_joined, rings_left}
-use Rattle.rx_lists.specs.Rings.{alone, link_in}
-use Rattle.rx_lists.specs.Rings.{next_in, previous_in, within, IsTiedIn, lists_in}
+use Rattle.rx_lists.proofs.PlacesApart.{tells}
+use Rattle.rx_lists.proofs.Laws.Places.{place_apart, cases_place}
+use Rattle.rx_lists.proofs.Laws.Rings.{some_same, some_none, put_ring, rings_joined, rings_left}
+use Rattle.rx_lists.specs.Links.{alone, link_in}
+use Rattle.rx_lists.specs.Links.{next_in, previous_in, within, IsTiedIn, lists_in}
 use Rattle.rx_lists.proofs.RingsShowLists.{seen, of_lt, free_home, out_ring, end_ring, ring_members, rings_seen, past_empty}
 
 module _ (ends members ends' members' : List Link) (same_ends : length ends' ≡ length ends) (same_members : length members' ≡ length members)

@@ -1,3 +1,4 @@
 pub mod Lists
 pub mod Rings
+pub mod Links
 pub mod Places

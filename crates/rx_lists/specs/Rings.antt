@@ -1,78 +1,76 @@
--- The links of ends and members, and what of their rings callers see. No public clause cites this module.
-use Rattle.std.specs.Prelude.{◌≡◌, ℕ, ◌-◌, Bool, true, cond, nat_lt, List, map, length, Option, Some, slice_index_or, vec_capacity}
-use Rattle.std.specs.List.{range_with_len}
-use Rattle.rx_rings.specs.Rings.{Steps, AreRings, walk}
-use Rattle.rx_lists.specs.Lists.{Lists}
-use Rattle.rx_lists.specs.Places.{number_of, is_place, places}
-use Rattle.rx_lists.specs.declared.links.Link.{Link}
-use Rattle.rx_lists.specs.declared.links.Links.{Links}
-use Rattle.rx_lists.specs.declared.links.Place.{Place}
-use Rattle.rx_lists.specs.declared.links.Place.TheVariants.{End, Member}
+-- Rings of links in both directions, over any type of places. No public clause cites this module.
+use Rattle.std.specs.Prelude.{◌≡◌, ℕ, zero, suc, Bool, true, false, cond, List, [], ◌∷◌, Option, Some, None}
+use Rattle.std.specs.List.{list_any, filter}
+use Rattle.std.proofs.Math.Bool.{not}
 
--- a place that leads to itself
-abbrev pub alone : Place → Link
-alone p = record { next = p; previous = p }
+-- which places are the same, and at which a ring begins and ends
+pub record Places (Place : Type 0) : Type 0 where
+  pub is_place : Place → Place → Bool
+  pub is_end : Place → Bool
 
--- the link of a place, which leads to itself where there is no such place
-abbrev pub link_in : List Link → List Link → Place → Link
-link_in ends members (End i) = slice_index_or ends i (alone (End i))
-link_in ends members (Member m) = slice_index_or members m (alone (Member m))
+-- each place's next, or each place's previous
+abbrev pub Steps : Type 0 → Type 0
+Steps Place = Place → Place
 
-abbrev pub link_at : Links → Place → Link
-link_at s p = link_in s.ends.items s.members.items p
+module _ {Place : Type 0} where
+  -- one place comes directly before another
+  pub record IsLink (next previous : Steps Place) (a b : Place) : Type 0 where
+    pub to : next a ≡ b
+    pub back : previous b ≡ a
 
-abbrev pub set_link_at : Place → Link → Links → Place → Link
-set_link_at p link s q = cond (is_place p q) link (link_at s q)
+  -- from one place to another the links lead over just these
+  abbrev pub Leads : Steps Place → Steps Place → Place → List Place → Place → Type 0
+  Leads next previous a [] b = IsLink next previous a b
+  Leads next previous a (p ∷ ps) b = IsLink next previous a p × Leads next previous p ps b
 
-abbrev pub next_in : List Link → List Link → Steps Place
-next_in ends members p = (link_in ends members p).next
+module _ {Place : Type 0} (places : Places Place) where
+  abbrev pub is_among : Place → List Place → Bool
+  is_among p ps = list_any (places.is_place p) ps
 
-abbrev pub previous_in : List Link → List Link → Steps Place
-previous_in ends members p = (link_in ends members p).previous
+  -- no place stands twice
+  abbrev pub AreDifferent : List Place → Type 0
+  AreDifferent [] = Unit {0}
+  AreDifferent (p ∷ ps) = (is_among p ps ≡ false) × AreDifferent ps
 
-abbrev pub next_of : Links → Steps Place
-next_of s = next_in s.ends.items s.members.items
+  abbrev pub without : Place → List Place → List Place
+  without p ps = filter (λ q. not (places.is_place p q)) ps
 
-abbrev pub previous_of : Links → Steps Place
-previous_of s = previous_in s.ends.items s.members.items
+  -- the places that a ring goes over after this one
+  abbrev pub walk : ℕ → Steps Place → Place → List Place
+  walk zero next p = []
+  walk (suc steps) next p = cond (places.is_end (next p)) [] (next p ∷ walk steps next (next p))
 
--- there is such a place, where there are so many ends and members
-abbrev pub within : ℕ → ℕ → Place → Bool
-within ends members (End i) = nat_lt i ends
-within ends members (Member m) = nat_lt m members
+  -- with another value at one place
+  abbrev pub set_step : Place → Place → Steps Place → Steps Place
+  set_step p to steps q = cond (places.is_place p q) to (steps q)
 
-abbrev pub is_there : Links → Place → Bool
-is_there s p = within (length s.ends.items) (length s.members.items) p
+  -- each ring goes over the places whose home it is, each once, and a place with no home is a ring of its own
+  pub record AreRings (next previous : Steps Place) (home : Place → Option Place) (rings : Place → List Place) : Type 0 where
+    pub leads : (e : Place) → places.is_end e ≡ true → Leads next previous e (rings e) e
+    pub differ : (e : Place) → AreDifferent (rings e)
+    pub members : (e p : Place) → is_among p (rings e) ≡ true → home p ≡ Some e
+    pub listed : (e p : Place) → home p ≡ Some e → is_among p (rings e) ≡ true
+    pub ends : (e p : Place) → home p ≡ Some e → (places.is_end e ≡ true) × (places.is_end p ≡ false)
+    pub loose : (p : Place) → places.is_end p ≡ false → home p ≡ None → IsLink next previous p p
 
--- nothing changes but links
-pub record Relinks (old new : Links) : Type 0 where
-  pub ends : length new.ends.items ≡ length old.ends.items
-  pub members : length new.members.items ≡ length old.members.items
-  pub capacity : vec_capacity new.ends ≡ vec_capacity old.ends
+  -- a place is put last on a ring
+  pub record Joins (old_next old_previous next previous : Steps Place) (e p : Place) : Type 0 where
+    pub to : (q : Place) → next q ≡ set_step p e (set_step (old_previous e) p old_next) q
+    pub back : (q : Place) → previous q ≡ set_step e p (set_step p (old_previous e) old_previous) q
 
--- the rings, and the homes of the places on them; these are all there
-pub record IsTiedIn (ends members : List Link) : Type 0 where
-  pub rings : Place → List Place
-  pub home : Place → Option Place
-  pub ringed : AreRings places (next_in ends members) (previous_in ends members) home rings
-  pub there : (e p : Place) → home p ≡ Some e →
-      (within (length ends) (length members) e ≡ true) × (within (length ends) (length members) p ≡ true)
+  -- the ring of a place passes it by, and its own link stays
+  pub record PassesBy (old_next old_previous next previous : Steps Place) (p : Place) : Type 0 where
+    pub to : (q : Place) → next q ≡ set_step (old_previous p) (old_next p) old_next q
+    pub back : (q : Place) → previous q ≡ set_step (old_next p) (old_previous p) old_previous q
 
-abbrev pub IsTied : Links → Type 0
-IsTied s = IsTiedIn s.ends.items s.members.items
+  -- a place is taken off its ring, and is one of its own
+  pub record Leaves (old_next old_previous next previous : Steps Place) (p : Place) : Type 0 where
+    pub to : (q : Place) → next q ≡ set_step p p (set_step (old_previous p) (old_next p) old_next) q
+    pub back : (q : Place) → previous q ≡ set_step p p (set_step (old_next p) (old_previous p) old_previous) q
 
--- what an end's ring goes over
-abbrev pub ring_in : List Link → List Link → ℕ → List ℕ
-ring_in ends members e = map number_of (walk places (length members) (next_in ends members) (End e))
-
-abbrev pub lists_in : List Link → List Link → ℕ → Lists
-lists_in ends members room =
-    record {
-      lists = map (ring_in ends members) (range_with_len 0 (length ends));
-      members = length members;
-      room = room;
-    }
-
--- what callers see
-abbrev pub lists_of : Links → Lists
-lists_of s = lists_in s.ends.items s.members.items (vec_capacity s.ends - length s.ends.items)
+  -- a ring that is not empty is put at the end of another
+  pub record Merges (old_next old_previous next previous : Steps Place) (from into : Place) : Type 0 where
+    pub to : (q : Place) → next q ≡ set_step from from
+        (set_step (old_previous from) into (set_step (old_previous into) (old_next from) old_next)) q
+    pub back : (q : Place) → previous q ≡ set_step from from
+        (set_step into (old_previous from) (set_step (old_next from) (old_previous into) old_previous)) q

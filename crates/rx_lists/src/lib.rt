@@ -12,6 +12,11 @@
 //! first, its last, and what follows a number. `IsPlain` is what holds of all lists: no number stands
 //! on two, nor twice on one.
 //!
+//! Proofs here and above see the rings behind them (`specs/Rings.antt`), over any type of places: a
+//! place's next and previous are `Steps`, `Leads` says which places lie between two, `AreRings` which
+//! ring goes over which places, and `Joins`, `Leaves` and `Merges` what a change writes. A crate that
+//! keeps such links in its own records, as a tree does, cites their laws (`proofs/Laws`).
+//!
 //! # What is promised
 //!
 //! Each call says which list it changes and how; only `reserve` and `admit` ask for memory, and what

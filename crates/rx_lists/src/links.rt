@@ -1,9 +1,9 @@
 //! Links in both directions, and the rings that they make.
 
 ghost use Rattle.std.specs.Prelude.{◌≡◌, ◌≤◌, IsTrue, max, length, vec_capacity};
-ghost use Rattle.rx_rings.specs.Rings.{set_step, Joins, Leaves};
+ghost use Rattle.rx_lists.specs.Rings.{set_step, Joins, Leaves};
 ghost use Rattle.rx_lists.specs.Places.{places};
-ghost use Rattle.rx_lists.specs.Rings.{link_at, set_link_at, next_of, previous_of, is_there, Relinks};
+ghost use Rattle.rx_lists.specs.Links.{link_at, set_link_at, next_of, previous_of, is_there, Relinks};
 
 /// A place on a ring. A ring begins and ends at one of the first kind, and goes through places of the
 /// other between.

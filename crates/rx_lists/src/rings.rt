@@ -18,8 +18,8 @@ impl Model for Rings {
 
     ghost Value = { Lists };
 
-    ghost use Rattle.rx_lists.specs.Rings.{lists_of};
-    ghost use Rattle.rx_lists.specs.Rings.{IsTied};
+    ghost use Rattle.rx_lists.specs.Links.{lists_of};
+    ghost use Rattle.rx_lists.specs.Links.{IsTied};
 
     ghost view = { λ r. lists_of r.links };
 

@@ -14,12 +14,12 @@ use Rattle.rx_tree.specs.declared.links.Place.TheVariants.{Roots, Due, Waiting, 
 use Rattle.rx_tree.specs.declared.node.Node.{Node}
 use Rattle.rx_tree.specs.declared.node.Stowed.{Stowed}
 use Rattle.rx_tree.specs.declared.store.Store.{Store}
-use Rattle.rx_rings.specs.Rings.{is_among, AreDifferent, walk}
+use Rattle.rx_lists.specs.Rings.{is_among, AreDifferent, walk}
 use Rattle.rx_tree.specs.Places.{is_place, slot_of, places}
 use Rattle.rx_tree.proofs.PlacesApart.{tells}
-use Rattle.rx_rings.proofs.Laws.Places.{few_places, among_here, among_there, among_cons, or_true}
-use Rattle.rx_rings.proofs.Laws.Links.{walk_leads}
-use Rattle.rx_rings.proofs.Laws.Rings.{some_same}
+use Rattle.rx_lists.proofs.Laws.Places.{few_places, among_here, among_there, among_cons, or_true}
+use Rattle.rx_lists.proofs.Laws.Links.{walk_leads}
+use Rattle.rx_lists.proofs.Laws.Rings.{some_same}
 use Rattle.rx_tree.specs.Store.{on_entry, key_on, nodes_of, resources_of, next_of, previous_of, stands, shown}
 use Rattle.rx_tree.specs.Ties.{home_of, sibling_ring, resource_ring, IsTiedAt, IsTied}
 use Rattle.rx_tree.specs.Tree.{IsPromised, AreDistinct, is_key, is_on}

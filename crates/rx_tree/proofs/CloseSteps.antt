@@ -21,7 +21,7 @@ use Rattle.rx_tree.proofs.Chain.{promised, key_self}
 use Rattle.rx_tree.proofs.CutLemmas.{descends_on, descends_in, descends_above, part_start, part_step, kept_by_cuts, subtree_moved}
 use Rattle.rx_tree.proofs.Laws.Keys.{cases_key, none_not_some}
 use Rattle.rx_tree.proofs.Laws.Owed.{owed_fewer}
-use Rattle.rx_rings.proofs.Laws.Places.{or_true}
+use Rattle.rx_lists.proofs.Laws.Places.{or_true}
 
 filter_on : (p q : Key → Bool) (xs : List Key) → ((x : Key) → is_on x xs ≡ true → p x ≡ q x) → filter p xs ≡ filter q xs
 filter_on p q [] same = refl

@@ -3,7 +3,7 @@ use Rattle.std.proofs.Common.{◌≡◌, ℕ, Option, Some, None, option_map, is
 use Rattle.rx_slots.specs.declared.Entry.{Entry}
 use Rattle.rx_slots.specs.declared.Key.{Key}
 use Rattle.rx_slots.specs.Slots.{Slots, entry_of, entry_at, value_at, number_at, find}
-use Rattle.rx_rings.proofs.Laws.Rings.{some_same}
+use Rattle.rx_lists.proofs.Laws.Rings.{some_same}
 use Rattle.rx_tree.specs.declared.linked.Record.{Record}
 use Rattle.rx_tree.specs.declared.node.Node.{Node}
 use Rattle.rx_tree.specs.Store.{on_entry, project}

@@ -11,12 +11,12 @@ use Rattle.rx_tree.specs.declared.links.Place.{Place}
 use Rattle.rx_tree.specs.declared.links.Place.TheVariants.{Roots, Due, Children, Held, Sibling, Noted, Stored}
 use Rattle.rx_tree.specs.declared.node.Node.{Node}
 use Rattle.rx_tree.specs.declared.node.Stowed.{Stowed}
-use Rattle.rx_rings.specs.Rings.{is_among, Steps, IsLink, Leads, AreRings}
+use Rattle.rx_lists.specs.Rings.{is_among, Steps, IsLink, Leads, AreRings}
 use Rattle.rx_tree.specs.Places.{is_place, is_end, slot_of, places}
 use Rattle.rx_tree.proofs.PlacesApart.{tells}
-use Rattle.rx_rings.proofs.Laws.Places.{cases_place, place_apart, among_here}
-use Rattle.rx_rings.proofs.Laws.Links.{next_in, previous_in, first_among, last_among}
-use Rattle.rx_rings.proofs.Laws.Rings.{some_same}
+use Rattle.rx_lists.proofs.Laws.Places.{cases_place, place_apart, among_here}
+use Rattle.rx_lists.proofs.Laws.Links.{next_in, previous_in, first_among, last_among}
+use Rattle.rx_lists.proofs.Laws.Rings.{some_same}
 use Rattle.rx_tree.specs.Ties.{sibling_ring, home_of, IsTiedAt}
 use Rattle.rx_tree.proofs.Laws.Keys.{some_of}
 use Rattle.rx_tree.proofs.Laws.FoundAfterWrite.{entry_found, found_entry, one_key}

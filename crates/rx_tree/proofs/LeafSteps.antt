@@ -15,13 +15,13 @@ use Rattle.rx_tree.specs.declared.node.Stowed.{Stowed}
 use Rattle.rx_tree.specs.declared.store.Store.{Store}
 use Rattle.rx_tree.specs.Cuts.{still_open, waiting_home, LetsWait}
 use Rattle.rx_tree.specs.Resources.{is_owned, is_lent}
-use Rattle.rx_rings.specs.Rings.{is_among, without, Steps, set_step, AreRings, PassesBy, Leaves, Merges}
+use Rattle.rx_lists.specs.Rings.{is_among, without, Steps, set_step, AreRings, PassesBy, Leaves, Merges}
 use Rattle.rx_tree.specs.Places.{is_place, is_end, slot_of, places}
 use Rattle.rx_tree.proofs.PlacesApart.{tells}
-use Rattle.rx_rings.proofs.Laws.Places.{cases_place, place_apart, among_here, among_there, among_without, without_none}
-use Rattle.rx_rings.proofs.Laws.Links.{no_loop}
-use Rattle.rx_rings.proofs.Laws.Rings.{merged_rings, rings_merged, rings_left, some_same}
-use Rattle.rx_rings.proofs.Laws.JoinsLeavesMerges.{leaves_of}
+use Rattle.rx_lists.proofs.Laws.Places.{cases_place, place_apart, among_here, among_there, among_without, without_none}
+use Rattle.rx_lists.proofs.Laws.Links.{no_loop}
+use Rattle.rx_lists.proofs.Laws.Rings.{merged_rings, rings_merged, rings_left, some_same}
+use Rattle.rx_lists.proofs.Laws.JoinsLeavesMerges.{leaves_of}
 use Rattle.rx_tree.specs.Store.{alone, key_on, nodes_of, resources_of, link_at, set_link_at, next_of, previous_of, stands, is_there, Relinks, Takes_out, shown}
 use Rattle.rx_tree.specs.Ties.{sibling_ring, resource_ring, Rises, is_by_age, home_of, IsTiedAt, IsTied}
 use Rattle.rx_tree.specs.Tree.{IsSound}

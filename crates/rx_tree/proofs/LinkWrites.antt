@@ -8,7 +8,7 @@ use Rattle.rx_tree.specs.declared.links.Place.TheVariants.{Children, Held, Sibli
 use Rattle.rx_tree.specs.declared.linked.Record.{Record}
 use Rattle.rx_tree.specs.declared.store.Stored.{Stored as Kept}
 use Rattle.rx_tree.specs.declared.store.Store.{Store}
-use Rattle.rx_rings.specs.Rings.{set_step}
+use Rattle.rx_lists.specs.Rings.{set_step}
 use Rattle.rx_tree.specs.Places.{places}
 use Rattle.rx_tree.specs.Store.{alone, link_at, set_link_at, next_of, previous_of, Relinks}
 use Rattle.rx_tree.proofs.StoreLemmas.{linked-Children, linked-Held, linked-Sibling, linked-Noted, linked-Stored, relinks-Children, relinks-Held}

@@ -13,12 +13,12 @@ use Rattle.rx_tree.specs.declared.links.Place.TheVariants.{Due, Noted}
 use Rattle.rx_tree.specs.declared.node.Node.{Node}
 use Rattle.rx_tree.specs.declared.node.Stowed.{Stowed}
 use Rattle.rx_tree.specs.declared.store.Store.{Store}
-use Rattle.rx_rings.specs.Rings.{is_among, without, Steps, Leads, AreDifferent, Joins, Leaves}
+use Rattle.rx_lists.specs.Rings.{is_among, without, Steps, Leads, AreDifferent, Joins, Leaves}
 use Rattle.rx_tree.specs.Places.{is_place, is_end, slot_of, places}
 use Rattle.rx_tree.proofs.PlacesApart.{tells}
-use Rattle.rx_rings.proofs.Laws.Places.{place_differs, among_here, without_none}
-use Rattle.rx_rings.proofs.Laws.Links.{no_loop, first_among}
-use Rattle.rx_rings.proofs.Laws.Rings.{some_none}
+use Rattle.rx_lists.proofs.Laws.Places.{place_differs, among_here, without_none}
+use Rattle.rx_lists.proofs.Laws.Links.{no_loop, first_among}
+use Rattle.rx_lists.proofs.Laws.Rings.{some_none}
 use Rattle.rx_tree.specs.Store.{key_on, project, nodes_of, resources_of, next_of, previous_of, Relinks, shown}
 use Rattle.rx_tree.specs.Ties.{home_of, IsTiedAt, IsTied, IsKept, IsRemarked}
 use Rattle.rx_tree.specs.Tree.{is_on, with_last, with_due, with_marks, first_of, Rewrites}

@@ -4,7 +4,7 @@ use Rattle.rx_event.specs.declared.marks.Marks.{Marks}
 use Rattle.rx_slots.specs.declared.Key.{Key}
 use Rattle.rx_slots.specs.Slots.{Slots, entry_at, value_at, find, with_value, with_value_at}
 use Rattle.rx_slots.proofs.Laws.EntryByNumber.{found_there, find-value_at, with_value_at-found}
-use Rattle.rx_rings.proofs.Laws.Rings.{some_same}
+use Rattle.rx_lists.proofs.Laws.Rings.{some_same}
 use Rattle.rx_tree.specs.declared.linked.Record.{Record}
 use Rattle.rx_tree.specs.declared.links.Place.TheVariants.{Children, Held, Sibling, Noted}
 use Rattle.rx_tree.specs.declared.node.Node.{Node}

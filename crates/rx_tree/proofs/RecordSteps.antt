@@ -5,11 +5,11 @@ use Rattle.std.specs.Option.{option_map_or, option_and_then}
 use Rattle.std.proofs.lemmas.Bool.{false≢true, cases_eq}
 use Rattle.rx_event.specs.Events.{is_root}
 use Rattle.rx_slots.specs.declared.Key.{Key}
-use Rattle.rx_rings.specs.Rings.{is_among, Joins}
+use Rattle.rx_lists.specs.Rings.{is_among, Joins}
 use Rattle.rx_tree.specs.Places.{is_place, is_end, slot_of, places}
 use Rattle.rx_tree.proofs.PlacesApart.{tells}
-use Rattle.rx_rings.proofs.Laws.Places.{among_here, among_there}
-use Rattle.rx_rings.proofs.Laws.Rings.{some_same, some_none}
+use Rattle.rx_lists.proofs.Laws.Places.{among_here, among_there}
+use Rattle.rx_lists.proofs.Laws.Rings.{some_same, some_none}
 use Rattle.rx_slots.specs.Slots.{Slots, entry_at, with_number, find}
 use Rattle.rx_tree.specs.declared.links.Place.{Place}
 use Rattle.rx_tree.specs.declared.links.Place.TheVariants.{Roots, Due, Waiting, Children, Held, Sibling, Noted, Stored}

@@ -8,11 +8,11 @@ use Rattle.rx_tree.specs.declared.links.Place.{Place}
 use Rattle.rx_tree.specs.declared.links.Place.TheVariants.{Roots, Due, Waiting, Children, Held, Sibling, Noted, Stored}
 use Rattle.rx_tree.specs.declared.node.Stowed.{Stowed}
 use Rattle.rx_tree.specs.declared.store.Store.{Store}
-use Rattle.rx_rings.specs.Rings.{is_among, without, Joins, Leaves}
+use Rattle.rx_lists.specs.Rings.{is_among, without, Joins, Leaves}
 use Rattle.rx_tree.specs.Places.{is_place, places}
 use Rattle.rx_tree.proofs.PlacesApart.{tells}
-use Rattle.rx_rings.proofs.Laws.Places.{without_none}
-use Rattle.rx_rings.proofs.Laws.JoinsLeavesMerges.{leaves_nothing}
+use Rattle.rx_lists.proofs.Laws.Places.{without_none}
+use Rattle.rx_lists.proofs.Laws.JoinsLeavesMerges.{leaves_nothing}
 use Rattle.rx_tree.specs.Resources.{is_owned, is_lent}
 use Rattle.rx_tree.specs.Store.{key_on, nodes_of, resources_of, next_of, previous_of, stands, is_there, KeepsLinks, Relinks, shown}
 use Rattle.rx_tree.specs.Ties.{resource_ring, IsTiedAt, IsTied}

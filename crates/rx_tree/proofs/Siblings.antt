@@ -13,11 +13,11 @@ use Rattle.rx_tree.specs.declared.links.Place.{Place}
 use Rattle.rx_tree.specs.declared.links.Place.TheVariants.{Roots, Children, Sibling}
 use Rattle.rx_tree.specs.declared.node.Node.{Node}
 use Rattle.rx_tree.specs.declared.node.Stowed.{Stowed}
-use Rattle.rx_rings.specs.Rings.{is_among, Steps, Leads}
+use Rattle.rx_lists.specs.Rings.{is_among, Steps, Leads}
 use Rattle.rx_tree.specs.Places.{is_place, is_end, slot_of, places}
 use Rattle.rx_tree.proofs.PlacesApart.{tells}
-use Rattle.rx_rings.proofs.Laws.Places.{among_here, among_there, among_cons}
-use Rattle.rx_rings.proofs.Laws.Rings.{some_same}
+use Rattle.rx_lists.proofs.Laws.Places.{among_here, among_there, among_cons}
+use Rattle.rx_lists.proofs.Laws.Rings.{some_same}
 use Rattle.rx_tree.specs.Store.{key_on}
 use Rattle.rx_tree.specs.Ties.{sibling_ring, Rises, is_by_age, home_of, IsTiedAt}
 use Rattle.rx_tree.specs.Tree.{IsChild, IsRoot, IsFirst, HasNone, parent_number}

@@ -12,12 +12,12 @@ use Rattle.rx_tree.specs.declared.links.Place.TheVariants.{Roots, Due, Waiting, 
 use Rattle.rx_tree.specs.declared.node.Node.{Node}
 use Rattle.rx_tree.specs.declared.node.Stowed.{Stowed}
 use Rattle.rx_tree.specs.Resources.{is_owned, is_lent}
-use Rattle.rx_rings.specs.Rings.{is_among, Steps}
+use Rattle.rx_lists.specs.Rings.{is_among, Steps}
 use Rattle.rx_tree.specs.Places.{is_end, places}
 use Rattle.rx_tree.proofs.PlacesApart.{tells}
-use Rattle.rx_rings.proofs.Laws.Places.{cases_place}
-use Rattle.rx_rings.proofs.Laws.Links.{next_in, previous_in, first_among, last_among}
-use Rattle.rx_rings.proofs.Laws.Rings.{some_same}
+use Rattle.rx_lists.proofs.Laws.Places.{cases_place}
+use Rattle.rx_lists.proofs.Laws.Links.{next_in, previous_in, first_among, last_among}
+use Rattle.rx_lists.proofs.Laws.Rings.{some_same}
 use Rattle.rx_tree.specs.Store.{stands}
 use Rattle.rx_tree.specs.Ties.{sibling_ring, resource_ring, home_of, IsTiedAt}
 use Rattle.rx_tree.specs.Tree.{IsSound}

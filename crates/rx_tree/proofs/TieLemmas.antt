@@ -3,7 +3,7 @@ use Rattle.std.proofs.Common.{◌≡◌, Bool, true, false, cond, IsTrue, refl, 
 use Rattle.rx_tree.specs.declared.links.Link.{Link}
 use Rattle.rx_tree.specs.declared.links.Place.{Place}
 use Rattle.rx_tree.specs.declared.store.Store.{Store}
-use Rattle.rx_rings.specs.Rings.{set_step}
+use Rattle.rx_lists.specs.Rings.{set_step}
 use Rattle.rx_tree.specs.Places.{is_place, places}
 use Rattle.rx_tree.proofs.PlacesApart.{tells}
 use Rattle.rx_tree.specs.Store.{stands, is_there, Relinks}

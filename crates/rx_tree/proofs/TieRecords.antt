@@ -14,11 +14,11 @@ use Rattle.rx_tree.specs.declared.links.Place.TheVariants.{Roots, Due, Waiting, 
 use Rattle.rx_tree.specs.declared.node.Node.{Node}
 use Rattle.rx_tree.specs.declared.node.Stowed.{Stowed}
 use Rattle.rx_tree.specs.Resources.{is_owned, is_lent}
-use Rattle.rx_rings.specs.Rings.{Steps, Joins}
+use Rattle.rx_lists.specs.Rings.{Steps, Joins}
 use Rattle.rx_tree.specs.Places.{is_end, slot_of, places}
 use Rattle.rx_tree.proofs.PlacesApart.{tells}
-use Rattle.rx_rings.proofs.Laws.Places.{cases_place}
-use Rattle.rx_rings.proofs.Laws.Rings.{put_ring, by_ring, some_same, rings_joined}
+use Rattle.rx_lists.proofs.Laws.Places.{cases_place}
+use Rattle.rx_lists.proofs.Laws.Rings.{put_ring, by_ring, some_same, rings_joined}
 use Rattle.rx_tree.specs.Store.{key_on, stands, Inserts}
 use Rattle.rx_tree.specs.Ties.{sibling_ring, Rises, is_by_age, resource_ring, home_of, IsTiedAt}
 use Rattle.rx_tree.specs.Tree.{IsSound, IsPlaced, IsPast, AreApart, with_marks}

@@ -12,11 +12,11 @@ use Rattle.rx_tree.specs.declared.links.Place.TheVariants.{Due, Waiting, Held, S
 use Rattle.rx_tree.specs.declared.node.Node.{Node}
 use Rattle.rx_tree.specs.declared.node.Stowed.{Stowed}
 use Rattle.rx_tree.specs.Resources.{is_owned, is_lent}
-use Rattle.rx_rings.specs.Rings.{without, Steps, AreRings, Joins, Leaves}
+use Rattle.rx_lists.specs.Rings.{without, Steps, AreRings, Joins, Leaves}
 use Rattle.rx_tree.specs.Places.{is_place, is_end, places}
 use Rattle.rx_tree.proofs.PlacesApart.{tells}
-use Rattle.rx_rings.proofs.Laws.Places.{place_apart}
-use Rattle.rx_rings.proofs.Laws.Rings.{put_ring, by_ring, some_same, rings_joined, rings_left}
+use Rattle.rx_lists.proofs.Laws.Places.{place_apart}
+use Rattle.rx_lists.proofs.Laws.Rings.{put_ring, by_ring, some_same, rings_joined, rings_left}
 use Rattle.rx_tree.specs.Store.{Takes_out}
 use Rattle.rx_tree.specs.Ties.{resource_ring, Rises, is_by_age, home_of, IsTiedAt}
 use Rattle.rx_tree.specs.Tree.{AreApart}

@@ -9,11 +9,11 @@ use Rattle.rx_tree.specs.declared.links.Place.{Place}
 use Rattle.rx_tree.specs.declared.links.Place.TheVariants.{Roots, Due, Noted}
 use Rattle.rx_tree.specs.declared.node.Node.{Node}
 use Rattle.rx_tree.specs.declared.node.Stowed.{Stowed}
-use Rattle.rx_rings.specs.Rings.{is_among, without, Steps, AreRings, Joins, Leaves}
+use Rattle.rx_lists.specs.Rings.{is_among, without, Steps, AreRings, Joins, Leaves}
 use Rattle.rx_tree.specs.Places.{is_place, places}
 use Rattle.rx_tree.proofs.PlacesApart.{tells}
-use Rattle.rx_rings.proofs.Laws.Places.{among_here, among_there, among_cons, among_append, among_without}
-use Rattle.rx_rings.proofs.Laws.Rings.{put_ring, by_ring, rings_joined, rings_left}
+use Rattle.rx_lists.proofs.Laws.Places.{among_here, among_there, among_cons, among_append, among_without}
+use Rattle.rx_lists.proofs.Laws.Rings.{put_ring, by_ring, rings_joined, rings_left}
 use Rattle.rx_tree.specs.Store.{key_on}
 use Rattle.rx_tree.specs.Ties.{Rises, is_by_age, home_of, IsTiedAt}
 

@@ -14,12 +14,12 @@ use Rattle.rx_tree.specs.declared.node.Node.{Node}
 use Rattle.rx_tree.specs.declared.node.Stowed.{Stowed}
 use Rattle.rx_tree.specs.declared.store.Store.{Store}
 use Rattle.rx_tree.specs.Resources.{is_owned, is_lent, is_held, Takes}
-use Rattle.rx_rings.specs.Rings.{is_among, set_step, Leads, Leaves}
+use Rattle.rx_lists.specs.Rings.{is_among, set_step, Leads, Leaves}
 use Rattle.rx_tree.specs.Places.{is_place, is_end, slot_of, places}
 use Rattle.rx_tree.proofs.PlacesApart.{tells}
-use Rattle.rx_rings.proofs.Laws.Places.{among_here, without_none}
-use Rattle.rx_rings.proofs.Laws.Links.{set_same, first_among}
-use Rattle.rx_rings.proofs.Laws.Rings.{some_same}
+use Rattle.rx_lists.proofs.Laws.Places.{among_here, without_none}
+use Rattle.rx_lists.proofs.Laws.Links.{set_same, first_among}
+use Rattle.rx_lists.proofs.Laws.Rings.{some_same}
 use Rattle.rx_tree.specs.Store.{alone, link_at, key_on, nodes_of, resources_of, next_of, previous_of, KeepsLinks, Relinks, Takes_out, shown}
 use Rattle.rx_tree.specs.Ties.{home_of, sibling_ring, resource_ring, IsTiedAt, IsTied}
 use Rattle.rx_tree.proofs.Chain.{chain_is, retie}

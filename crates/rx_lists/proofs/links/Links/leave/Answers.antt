@@ -1,8 +1,8 @@
 use Rattle.std.proofs.Common.{ap, ◌∙◌}
-use Rattle.rx_rings.specs.Rings.{set_step}
-use Rattle.rx_lists.specs.Rings.{next_of, previous_of}
+use Rattle.rx_lists.specs.Rings.{set_step}
+use Rattle.rx_lists.specs.Links.{next_of, previous_of}
 use Rattle.rx_lists.specs.Places.{places}
-use Rattle.rx_rings.proofs.Laws.JoinsLeavesMerges.{leaves_of}
+use Rattle.rx_lists.proofs.Laws.JoinsLeavesMerges.{leaves_of}
 use Rattle.rx_lists.proofs.TieLemmas.{relinks_both}
 use Rattle.rx_lists.proofs.links.Links.leave.Goals as goal
 

@@ -1,7 +1,7 @@
 use Rattle.std.proofs.Common.{ap}
 use Rattle.rx_tree.specs.Store.{link_at, next_of, previous_of}
 use Rattle.rx_tree.specs.Places.{places}
-use Rattle.rx_rings.proofs.Laws.JoinsLeavesMerges.{merges_of}
+use Rattle.rx_lists.proofs.Laws.JoinsLeavesMerges.{merges_of}
 use Rattle.rx_tree.proofs.TieLemmas.{wrote_next, wrote_previous, relinks_both}
 use Rattle.rx_tree.proofs.store.Store.merge.Goals as goal
 

@@ -1,5 +1,5 @@
 use Rattle.std.proofs.Common.{ap, ◌∙◌}
-use Rattle.rx_rings.specs.Rings.{set_step}
+use Rattle.rx_lists.specs.Rings.{set_step}
 use Rattle.rx_tree.specs.Places.{places}
 use Rattle.rx_tree.specs.Store.{next_of, previous_of}
 use Rattle.rx_tree.proofs.store.Store.pass_by.Goals as goal

@@ -3,7 +3,7 @@ use Rattle.std.proofs.Math.Bool.{not}
 use Rattle.rx_tree.specs.declared.links.Place.TheVariants.{Noted}
 use Rattle.rx_tree.specs.Store.{next_of, previous_of}
 use Rattle.rx_tree.proofs.PlacesApart.{tells}
-use Rattle.rx_rings.proofs.Laws.JoinsLeavesMerges.{leaves_nothing}
+use Rattle.rx_lists.proofs.Laws.JoinsLeavesMerges.{leaves_nothing}
 use Rattle.rx_tree.proofs.store.Store.unnote.Goals as goal
 
 not_false : (b : Bool) → false ≡ not b → b ≡ true

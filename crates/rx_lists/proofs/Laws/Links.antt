@@ -4,8 +4,8 @@ use Rattle.std.proofs.Common.{refl, sym, ap, subst, ◌∙◌, inl, inr, ◌⊎�
 use Rattle.std.proofs.Math.Bool.{not}
 use Rattle.std.proofs.lemmas.Bool.{false≢true}
 use Rattle.std.proofs.lemmas.List.{append-nil}
-use Rattle.rx_rings.specs.Rings.{Places, Steps, IsLink, Leads, is_among, AreDifferent, without, walk, set_step}
-use Rattle.rx_rings.proofs.Laws.Places.{Tells, place_apart, place_differs, cases_place, among_here, among_there, among_cons, without_none}
+use Rattle.rx_lists.specs.Rings.{Places, Steps, IsLink, Leads, is_among, AreDifferent, without, walk, set_step}
+use Rattle.rx_lists.proofs.Laws.Places.{Tells, place_apart, place_differs, cases_place, among_here, among_there, among_cons, without_none}
 
 -- a place that is next and previous of its own neighbours
 pub record IsRound {Place : Type 0} (n p : Steps Place) (x : Place) : Type 0 where

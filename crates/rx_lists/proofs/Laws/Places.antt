@@ -4,7 +4,7 @@ use Rattle.std.proofs.Common.{refl, sym, ap, subst, ◌∙◌, inl, inr, ◌⊎�
 use Rattle.std.proofs.Math.Bool.{not}
 use Rattle.std.proofs.lemmas.Bool.{and_parts, cases_eq, false≢true, false_from_ne_true}
 use Rattle.std.proofs.lemmas.Bool.Decides.{nat_tests}
-use Rattle.rx_rings.specs.Rings.{Places, is_among, AreDifferent, without}
+use Rattle.rx_lists.specs.Rings.{Places, is_among, AreDifferent, without}
 
 -- the test of places tells them apart
 pub record Tells {Place : Type 0} (places : Places Place) : Type 0 where

@@ -3,7 +3,7 @@ use Rattle.std.proofs.Common.{◌≡◌, ℕ, ◌==◌, cond, refl}
 use Rattle.rx_lists.specs.declared.links.Place.{Place}
 use Rattle.rx_lists.specs.declared.links.Place.TheVariants.{End, Member}
 use Rattle.rx_lists.specs.Places.{tag_of, number_of, is_end, places}
-use Rattle.rx_rings.proofs.Laws.Places.{Tells, told_by}
+use Rattle.rx_lists.proofs.Laws.Places.{Tells, told_by}
 
 place_from : ℕ → ℕ → Place
 place_from t n = cond (t == 0) (End n) (Member n)
