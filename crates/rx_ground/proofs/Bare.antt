@@ -9,9 +9,9 @@ use Rattle.rx_event.specs.Climb.{most_visits}
 use Rattle.rx_slots.specs.declared.Key.{Key}
 use Rattle.rx_slots.specs.Slots.{Slots}
 use Rattle.rx_tree.specs.declared.node.Node.{Node}
-use Rattle.rx_flow.specs.declared.stop.Stop.{Stop}
-use Rattle.rx_flow.specs.declared.stop.Stop.TheVariants.{Delivery, Projection, Firing, Connection}
-use Rattle.rx_flow.specs.Way.{made_of, above_of, stop_made, stop_of}
+use Rattle.rx_hub.specs.declared.stop.Stop.{Stop}
+use Rattle.rx_hub.specs.declared.stop.Stop.TheVariants.{Delivery, Projection, Firing, Connection}
+use Rattle.rx_hub.specs.Way.{made_of, above_of, stop_made, stop_of}
 use Rattle.rx_hub.specs.Hubs.{Hub}
 use Rattle.rx_hub.specs.Walk.{onward_by, onward_over, visited_over, arrival, arrival_at, climb_over, stops_over}
 use Rattle.rx_ground.specs.Passing.{nodes_at}

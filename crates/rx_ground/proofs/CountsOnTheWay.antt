@@ -9,10 +9,10 @@ use Rattle.rx_event.specs.Climb.{most_visits}
 use Rattle.rx_slots.specs.declared.Key.{Key}
 use Rattle.rx_slots.specs.Slots.{Slots}
 use Rattle.rx_tree.specs.declared.node.Node.{Node}
-use Rattle.rx_flow.specs.declared.stop.Reached.{Reached}
-use Rattle.rx_flow.specs.declared.stop.Stop.{Stop}
-use Rattle.rx_flow.specs.declared.stop.Stop.TheVariants.{Delivery, Projection, Firing, Connection}
-use Rattle.rx_flow.specs.Way.{way, end_of}
+use Rattle.rx_hub.specs.declared.stop.Reached.{Reached}
+use Rattle.rx_hub.specs.declared.stop.Stop.{Stop}
+use Rattle.rx_hub.specs.declared.stop.Stop.TheVariants.{Delivery, Projection, Firing, Connection}
+use Rattle.rx_hub.specs.Way.{way, end_of}
 use Rattle.rx_hub.specs.Hubs.{Hub}
 use Rattle.rx_hub.specs.Route.{Route, IsUnderWay, Arrives, stops_left, all_visits}
 use Rattle.rx_hub.specs.Walk.{visited_over, onward_over, climb_over, stops_over, arrival_at}

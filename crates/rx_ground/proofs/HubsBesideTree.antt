@@ -38,7 +38,7 @@ use Rattle.rx_hub.specs.Records.{IsHubOf, HasHub, AreHubsOf}
 use Rattle.rx_hub.proofs.Laws.AfterAll.{mapped_from}
 use Rattle.rx_hub.proofs.Laws.AfterCases.{IsOpenAt, subscribers_open, tests_agree}
 use Rattle.rx_hub.proofs.Laws.AfterLeft.{own_connection, named_connection}
-use Rattle.rx_flow.specs.Records.{IsRecordOf}
+use Rattle.rx_hub.specs.TreeRecords.{IsRecordOf}
 use Rattle.rx_ground.specs.Ties.{AreTied, AreJoined, Cuts}
 use Rattle.rx_ground.proofs.Laws.Members.{Contains-head, Contains-later, Contains-none, Contains-cases, Contains-from_map}
 use Rattle.rx_ground.proofs.FoundIsListed.{filter_has}

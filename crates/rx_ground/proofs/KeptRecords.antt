@@ -36,7 +36,7 @@ use Rattle.rx_lease.specs.Leases.{lease_as_kept}
 use Rattle.rx_hub.specs.Hubs.{Hub, Hubs, IsPromised as AreHubsPromised, hub_as_kept}
 use Rattle.rx_hub.specs.Records.{AreHubsOf}
 use Rattle.rx_ground.specs.Shown.{Kept, kept_from, kept_in}
-use Rattle.rx_flow.specs.Records.{IsRecordOf}
+use Rattle.rx_hub.specs.TreeRecords.{IsRecordOf}
 use Rattle.rx_ground.specs.Ties.{HasKey, IsTied, IsStored, AreLeased}
 use Rattle.rx_ground.proofs.Laws.Members.{Contains-head, Contains-later, Contains-none, Contains-cases, Contains-map, Contains-from_map}
 use Rattle.rx_ground.proofs.Laws.JustOpenHeldWaiting.{numbers, just_all, just_nodes, just_out}

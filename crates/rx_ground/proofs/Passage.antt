@@ -27,11 +27,11 @@ use Rattle.rx_tree.specs.Owed.{owed_in}
 use Rattle.rx_tree.specs.Tree.{Tree, IsSound, AreApart, Rewrites, with_marks}
 use Rattle.rx_tree.proofs.Laws.Keys.{cases_key, some_of}
 use Rattle.rx_tree.proofs.Laws.Owed.{owed_rewritten}
-use Rattle.rx_flow.specs.declared.stop.Stop.{Stop}
-use Rattle.rx_flow.specs.declared.stop.Stop.TheVariants.{Delivery, Projection, Firing, Connection}
-use Rattle.rx_flow.specs.Claims.{numbered}
-use Rattle.rx_flow.specs.Way.{made_of, above_of, stop_made, stop_of}
-use Rattle.rx_flow.proofs.Laws.Ways.{stop_of-found, above_found}
+use Rattle.rx_hub.specs.declared.stop.Stop.{Stop}
+use Rattle.rx_hub.specs.declared.stop.Stop.TheVariants.{Delivery, Projection, Firing, Connection}
+use Rattle.rx_hub.specs.TreeClaims.{numbered}
+use Rattle.rx_hub.specs.Way.{made_of, above_of, stop_made, stop_of}
+use Rattle.rx_hub.proofs.Laws.Ways.{stop_of-found, above_found}
 use Rattle.rx_register.specs.State.{State as Register}
 use Rattle.rx_hub.specs.Hubs.{Hub, find_hub}
 use Rattle.rx_hub.specs.Route.{Route, IsOrdered, IsUnderWay, Arrives, stops_left}

@@ -32,7 +32,7 @@ use Rattle.rx_tree.specs.Tree.{Tree, IsSound, AreApart, IsNewest, IsPlaced, is_o
 use Rattle.rx_tree.proofs.Laws.Keys.{some_of}
 use Rattle.rx_tree.proofs.Laws.Newest.{newest_fewer}
 use Rattle.rx_hub.specs.Hubs.{Hubs}
-use Rattle.rx_flow.specs.Records.{IsRecordOf}
+use Rattle.rx_hub.specs.TreeRecords.{IsRecordOf}
 use Rattle.rx_ground.specs.Ties.{IsTied, AreTied, IsUndue, Remarks, IsNewNode, opened_marks}
 use Rattle.rx_ground.specs.Inners.{ReplacesNone, Exchanges, MakesWay, ClearsHubs}
 use Rattle.rx_ground.proofs.MarksMakeNothingDue.{no_terminal}

@@ -29,8 +29,8 @@ use Rattle.rx_tree.specs.Below.{up, ancestors as tree_ancestors, is_below}
 use Rattle.rx_tree.specs.Closing.{outside}
 use Rattle.rx_tree.proofs.Laws.Below.{climb_step, up-lt, record_found}
 use Rattle.rx_tree.proofs.Laws.Keys.{key_is, cases_key}
-use Rattle.rx_flow.specs.Due.{IsChained}
-use Rattle.rx_flow.specs.Records.{IsRecordOf, AreRecordsOf}
+use Rattle.rx_hub.specs.Operators.{IsChained}
+use Rattle.rx_hub.specs.TreeRecords.{IsRecordOf, AreRecordsOf}
 use Rattle.rx_ground.specs.Ties.{HasKey, AreRecords}
 
 -- the chain ---------------------------------------------------------------------------------------

@@ -39,7 +39,7 @@ use Rattle.rx_hub.proofs.Laws.Dues.{hubs_forced}
 use Rattle.rx_hub.proofs.Laws.HubsWithoutEnds.{forgot_get, forgotten_hubs}
 use Rattle.rx_ground.specs.Shown.{Ground}
 use Rattle.rx_ground.specs.Checkpoints.{IsCheckpoint}
-use Rattle.rx_flow.specs.Records.{IsRecordOf}
+use Rattle.rx_hub.specs.TreeRecords.{IsRecordOf}
 use Rattle.rx_ground.specs.Ties.{IsStored, AreJoined, AreLeased, IsTied, AreTied, IsStanding}
 
 -- in a settled history nothing is due at any hub

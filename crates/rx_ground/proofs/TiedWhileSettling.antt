@@ -29,10 +29,10 @@ use Rattle.rx_register.specs.State.{State as Register, Writes}
 use Rattle.rx_register.specs.Paid.{IsPaid}
 use Rattle.rx_register.proofs.Laws.Paid.{forced_room, end_room, forced_pays}
 use Rattle.rx_register.proofs.Laws.Fits.{told_by_end}
-use Rattle.rx_flow.specs.declared.forcing.Due.{Due}
-use Rattle.rx_flow.specs.Due.{IsChained, IsDueAt, IsQuiet as IsQuietTree}
-use Rattle.rx_flow.specs.Records.{AreRecordsOf}
-use Rattle.rx_flow.proofs.Laws.Dues.{due_at_in, due_forced}
+use Rattle.rx_hub.specs.declared.operators.Due.{Due}
+use Rattle.rx_hub.specs.Operators.{IsChained, IsDueAt, IsQuiet as IsQuietTree}
+use Rattle.rx_hub.specs.TreeRecords.{AreRecordsOf}
+use Rattle.rx_hub.proofs.Laws.DuesInTree.{due_at_in, due_forced}
 use Rattle.rx_ground.specs.Ties.{AreLeased, AreRecords, AreTied, IsReady, WithChain, IsNext, KeepsOlder, Remarks, HasRoomToConnect, is_there, key_due}
 use Rattle.rx_ground.specs.Memory.{TakesNoMemory}
 use Rattle.rx_ground.specs.Settling.{Settles}

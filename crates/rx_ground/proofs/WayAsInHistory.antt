@@ -23,9 +23,9 @@ use Rattle.rx_slots.specs.declared.Key.{Key}
 use Rattle.rx_slots.specs.Slots.{Slots, find}
 use Rattle.rx_tree.specs.declared.node.Node.{Node}
 use Rattle.rx_tree.specs.Tree.{Tree, IsSound}
-use Rattle.rx_flow.specs.declared.stop.Stop.{Stop}
-use Rattle.rx_flow.specs.declared.stop.Stop.TheVariants.{Delivery, Projection, Firing, Connection}
-use Rattle.rx_flow.specs.Claims.{numbered}
+use Rattle.rx_hub.specs.declared.stop.Stop.{Stop}
+use Rattle.rx_hub.specs.declared.stop.Stop.TheVariants.{Delivery, Projection, Firing, Connection}
+use Rattle.rx_hub.specs.TreeClaims.{numbered}
 use Rattle.rx_hub.specs.Hubs.{Hub, Hubs}
 use Rattle.rx_hub.specs.Walk.{IsWalk, stops_over}
 use Rattle.rx_hub.proofs.Laws.Walks.{all_stops_told, found_hub}

@@ -17,10 +17,10 @@ use Rattle.rx_slots.specs.Slots.{Slots, find}
 use Rattle.rx_tree.specs.declared.node.Node.{Node}
 use Rattle.rx_tree.specs.Owed.{owed_in}
 use Rattle.rx_tree.specs.Tree.{Tree, is_on}
-use Rattle.rx_flow.specs.declared.stop.Reached.{Reached}
-use Rattle.rx_flow.specs.declared.stop.Stop.{Stop}
-use Rattle.rx_flow.specs.declared.stop.Stop.TheVariants.{Delivery, Projection, Firing, Connection}
-use Rattle.rx_flow.specs.Claims.{numbered}
+use Rattle.rx_hub.specs.declared.stop.Reached.{Reached}
+use Rattle.rx_hub.specs.declared.stop.Stop.{Stop}
+use Rattle.rx_hub.specs.declared.stop.Stop.TheVariants.{Delivery, Projection, Firing, Connection}
+use Rattle.rx_hub.specs.TreeClaims.{numbered}
 use Rattle.rx_hub.specs.Walk.{arrival}
 use Rattle.rx_register.specs.State.{State as Register}
 use Rattle.rx_ground.specs.declared.route.Reach.{Reach}

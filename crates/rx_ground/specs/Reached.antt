@@ -8,7 +8,7 @@ use Rattle.rx_event.specs.Notes.{mail_of}
 use Rattle.rx_slots.specs.declared.Key.{Key}
 use Rattle.rx_slots.specs.Slots.{Slots, find}
 use Rattle.rx_tree.specs.declared.node.Node.{Node}
-use Rattle.rx_flow.specs.declared.stop.Stop.{Stop}
+use Rattle.rx_hub.specs.declared.stop.Stop.{Stop}
 use Rattle.rx_hub.specs.Hubs.{Hub}
 use Rattle.rx_hub.specs.Walk.{stops_over}
 use Rattle.rx_ground.specs.declared.route.Reach.{Reach}

@@ -29,7 +29,7 @@ use Rattle.rx_tree.specs.Below.{is_below}
 use Rattle.rx_tree.specs.Closing.{outside}
 use Rattle.rx_tree.specs.Resources.{is_held_at, store_key}
 use Rattle.rx_tree.specs.Tree.{Tree, Rewrites, is_on, with_due, with_marks}
-use Rattle.rx_flow.specs.Records.{IsRecordOf}
+use Rattle.rx_hub.specs.TreeRecords.{IsRecordOf}
 use Rattle.rx_hub.specs.declared.hub.HubDue.{HubDue}
 use Rattle.rx_hub.specs.declared.hub.HubDue.TheVariants.{Connect as ConnectDue, End as EndDue, Close as CloseDue}
 use Rattle.rx_hub.specs.declared.hub.LastEnd.{LastEnd}

@@ -23,8 +23,7 @@ ghost use Rattle.rx_ground.specs.Reached.{IsReach, MakesOnly};
 
 use crate::base::Ground;
 use rx_event::{MOST_VISITS, Mail, Refusal};
-use rx_flow::{Reached, Stop, climb};
-use rx_hub::{Hubs, Route};
+use rx_hub::{Hubs, Reached, Route, Stop, climb};
 use rx_note::Note;
 use rx_register::Register;
 use rx_resource::Resource;

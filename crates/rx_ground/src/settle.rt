@@ -15,8 +15,7 @@ ghost use Rattle.rx_ground.specs.Gone.{Gathers};
 ghost use Rattle.rx_ground.specs.Shown.{list_room};
 
 use crate::base::Ground;
-use rx_flow::{Due, next_due};
-use rx_hub::HubDue;
+use rx_hub::{Due, HubDue, next_due};
 use rx_resource::Resource;
 
 impl<R: Resource> Ground<R> {

@@ -1,3 +1,6 @@
+pub mod Above
+pub mod Ways
+pub mod DuesInTree
 pub mod Dues
 pub mod Walks
 pub mod Routes

@@ -1,4 +1,6 @@
 pub mod Laws
+mod WayWalkedSoFar
+mod FirstDueOnChain
 mod StoreShowsHubs
 mod HubsByNumber
 mod HubsForgetEnds

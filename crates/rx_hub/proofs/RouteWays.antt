@@ -7,8 +7,8 @@ use Rattle.std.specs.Option.{option_and_then, option_map_or, option_or, option_t
 use Rattle.rx_slots.specs.declared.Key.{Key}
 use Rattle.rx_slots.specs.Slots.{Slots}
 use Rattle.rx_tree.specs.declared.node.Node.{Node}
-use Rattle.rx_flow.specs.declared.stop.Stop.{Stop}
-use Rattle.rx_flow.specs.Way.{above_of, stop_of, way_within, end_of}
+use Rattle.rx_hub.specs.declared.stop.Stop.{Stop}
+use Rattle.rx_hub.specs.Way.{above_of, stop_of, way_within, end_of}
 use Rattle.rx_hub.specs.Hubs.{Hub}
 use Rattle.rx_hub.specs.Walk.{beyond, onward_by, onward_over, visited_over, arrival, arrival_at}
 use Rattle.rx_hub.specs.Route.{beyond_end}

@@ -20,9 +20,9 @@ use Rattle.rx_slots.specs.declared.Key.{Key}
 use Rattle.rx_slots.specs.Slots.{Slots, find}
 use Rattle.rx_tree.specs.declared.node.Node.{Node}
 use Rattle.rx_tree.specs.Tree.{is_on}
-use Rattle.rx_flow.specs.Due.{IsQuiet as IsQuietTree}
-use Rattle.rx_flow.specs.Records.{AreRecordsOf}
-use Rattle.rx_flow.specs.Claims.{numbered}
+use Rattle.rx_hub.specs.Operators.{IsQuiet as IsQuietTree}
+use Rattle.rx_hub.specs.TreeRecords.{AreRecordsOf}
+use Rattle.rx_hub.specs.TreeClaims.{numbered}
 use Rattle.rx_hub.specs.declared.hub.HubDue.{HubDue}
 use Rattle.rx_hub.specs.declared.hub.LastEnd.{LastEnd}
 use Rattle.rx_hub.specs.After.{AgreeAt, end_by, ClosesNone, is_inside, with_made, joins_hubs}

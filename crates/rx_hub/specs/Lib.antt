@@ -1,3 +1,7 @@
+pub mod Way
+pub mod Operators
+pub mod TreeRecords
+pub mod TreeClaims
 pub mod Hubs
 pub mod Due
 pub mod Closing

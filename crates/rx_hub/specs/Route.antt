@@ -9,9 +9,9 @@ use Rattle.rx_slots.specs.declared.Key.{Key}
 use Rattle.rx_slots.specs.Slots.{Slots, find}
 use Rattle.rx_tree.specs.declared.node.Node.{Node}
 use Rattle.rx_tree.specs.Tree.{is_key, is_on}
-use Rattle.rx_flow.specs.declared.stop.Stop.{Stop}
-use Rattle.rx_flow.specs.declared.stop.Stop.TheVariants.{Connection}
-use Rattle.rx_flow.specs.Way.{made_of, way, end_of}
+use Rattle.rx_hub.specs.declared.stop.Stop.{Stop}
+use Rattle.rx_hub.specs.declared.stop.Stop.TheVariants.{Connection}
+use Rattle.rx_hub.specs.Way.{made_of, way, end_of}
 use Rattle.rx_hub.specs.declared.route.Frame.{Frame}
 use Rattle.rx_hub.specs.Hubs.{Hub, find_hub}
 use Rattle.rx_hub.specs.Walk.{visited_over, beyond, arrival_at}

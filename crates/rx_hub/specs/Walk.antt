@@ -11,10 +11,10 @@ use Rattle.rx_slots.specs.declared.Key.{Key}
 use Rattle.rx_slots.specs.Slots.{Slots, find}
 use Rattle.rx_tree.specs.declared.node.Node.{Node}
 use Rattle.rx_tree.specs.Tree.{IsSound}
-use Rattle.rx_flow.specs.declared.stop.Stop.{Stop}
-use Rattle.rx_flow.specs.declared.stop.Stop.TheVariants.{Delivery, Projection, Firing, Connection}
-use Rattle.rx_flow.specs.Records.{AreRecordsOf}
-use Rattle.rx_flow.specs.Way.{made_of, above_of, stop_of}
+use Rattle.rx_hub.specs.declared.stop.Stop.{Stop}
+use Rattle.rx_hub.specs.declared.stop.Stop.TheVariants.{Delivery, Projection, Firing, Connection}
+use Rattle.rx_hub.specs.TreeRecords.{AreRecordsOf}
+use Rattle.rx_hub.specs.Way.{made_of, above_of, stop_of}
 use Rattle.rx_hub.specs.Hubs.{Hub, find_hub}
 use Rattle.rx_hub.specs.Records.{AreHubsOf}
 

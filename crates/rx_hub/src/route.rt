@@ -8,9 +8,10 @@ ghost use Rattle.rx_slots.specs.Slots.{find};
 ghost use Rattle.rx_hub.specs.Walk.{arrival, climb_over, stops_over};
 ghost use Rattle.rx_hub.specs.Route.{IsFrame, IsBehind, AreFrames, GoesOn, first_keys, hub_keys};
 
+use crate::climbing::climb;
 use crate::hubs::Hubs;
+use crate::stop::Stop;
 use rx_event::MOST_VISITS;
-use rx_flow::{Stop, climb};
 use rx_resource::Resource;
 use rx_slots::Key;
 use rx_tree::Tree;

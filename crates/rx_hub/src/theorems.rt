@@ -1,10 +1,24 @@
-//! What the gate has proved of what hubs have to do.
+//! What the gate has proved of where items go, and of what operators and hubs have to do.
 
 ghost use Rattle.rx_event.specs.Kept.{Kept};
 ghost use Rattle.rx_hub.specs.Claims.{HubsAreForced, WalksAreClimbs, HubsReady, HubsFollow, HubsInOrder};
+ghost use Rattle.rx_hub.specs.TreeClaims.{DueIsForced, WaysAreClimbs};
+
+/// For every history whose records a tree has: the way of an item that reaches no connection is the
+/// item's climb in the history, and from a connection the climb goes on to the open subscribers of its
+/// hub.
+pub fn ways_are_climbs()
+    ensures { (base : Kept) → WaysAreClimbs base }
+{}
+
+/// For every history whose records a tree has: what is due at a record is forced, where no hub waits
+/// for its connection; and where nothing is due at any, only hubs may force something.
+pub fn due_is_forced()
+    ensures { (base : Kept) → DueIsForced base }
+{}
 
 /// For every history whose hubs these are: what is due at a hub is forced in it; and where nothing is
-/// due at any hub nor, by `rx_flow`, at any record of its tree, the history is settled.
+/// due at any hub nor, by [`due_is_forced`], at any record of its tree, the history is settled.
 pub fn hubs_are_forced()
     ensures { (base : Kept) → HubsAreForced base }
 {}

@@ -3,7 +3,7 @@ use Rattle.std.proofs.Common.{Option, Some, None, sym, ap, ◌∙◌}
 use Rattle.rx_slots.specs.declared.Key.{Key}
 use Rattle.rx_slots.specs.Slots.{Slots}
 use Rattle.rx_tree.specs.declared.node.Node.{Node}
-use Rattle.rx_flow.specs.declared.stop.Stop.{Stop}
+use Rattle.rx_hub.specs.declared.stop.Stop.{Stop}
 use Rattle.rx_hub.specs.Hubs.{Hubs}
 use Rattle.rx_hub.specs.Walk.{stops_over}
 use Rattle.rx_ground.specs.Passing.{nodes_at}

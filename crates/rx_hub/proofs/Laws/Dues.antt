@@ -27,9 +27,9 @@ use Rattle.rx_slots.specs.declared.Key.{Key}
 use Rattle.rx_tree.specs.Tree.{is_on}
 use Rattle.rx_slots.specs.Slots.{Slots}
 use Rattle.rx_tree.specs.declared.node.Node.{Node}
-use Rattle.rx_flow.specs.Due.{IsQuiet as IsQuietTree}
-use Rattle.rx_flow.specs.Records.{AreRecordsOf}
-use Rattle.rx_flow.proofs.Laws.Dues.{quiet_settled}
+use Rattle.rx_hub.specs.Operators.{IsQuiet as IsQuietTree}
+use Rattle.rx_hub.specs.TreeRecords.{AreRecordsOf}
+use Rattle.rx_hub.proofs.Laws.DuesInTree.{quiet_settled}
 use Rattle.rx_hub.specs.declared.hub.HubDue.{HubDue}
 use Rattle.rx_hub.specs.declared.hub.HubDue.TheVariants.{Connect as ConnectDue, End as EndDue, Close as CloseDue}
 use Rattle.rx_hub.specs.declared.hub.LastEnd.{LastEnd}

@@ -21,11 +21,11 @@ use Rattle.rx_event.proofs.Laws.Totals.{is_within_self}
 use Rattle.rx_slots.specs.declared.Key.{Key}
 use Rattle.rx_slots.specs.Slots.{Slots, find}
 use Rattle.rx_tree.specs.declared.node.Node.{Node}
-use Rattle.rx_flow.specs.declared.stop.Stop.{Stop}
-use Rattle.rx_flow.specs.declared.stop.Stop.TheVariants.{Connection}
-use Rattle.rx_flow.specs.Way.{made_of, above_of, stop_of, way_within, end_of}
+use Rattle.rx_hub.specs.declared.stop.Stop.{Stop}
+use Rattle.rx_hub.specs.declared.stop.Stop.TheVariants.{Connection}
+use Rattle.rx_hub.specs.Way.{made_of, above_of, stop_of, way_within, end_of}
 use Rattle.rx_tree.proofs.Laws.Keys.{some_of}
-use Rattle.rx_flow.proofs.Laws.Ways.{stop_of-found, connection_made, above_found}
+use Rattle.rx_hub.proofs.Laws.Ways.{stop_of-found, connection_made, above_found}
 use Rattle.rx_hub.specs.Hubs.{Hub, find_hub}
 use Rattle.rx_hub.specs.Records.{numbers}
 use Rattle.rx_hub.specs.Walk.{IsWalk}

@@ -16,9 +16,9 @@ use Rattle.rx_slots.specs.Slots.{Slots, find}
 use Rattle.rx_tree.specs.declared.node.Node.{Node}
 use Rattle.rx_tree.specs.Tree.{Rewrites, with_marks}
 use Rattle.rx_tree.proofs.Laws.Keys.{cases_key}
-use Rattle.rx_flow.specs.declared.stop.Stop.{Stop}
-use Rattle.rx_flow.specs.declared.stop.Stop.TheVariants.{Delivery, Projection, Firing, Connection}
-use Rattle.rx_flow.specs.Way.{made_of, above_of, if_merging, stop_made, stop_of, onward_of, way_within, way, end_of}
+use Rattle.rx_hub.specs.declared.stop.Stop.{Stop}
+use Rattle.rx_hub.specs.declared.stop.Stop.TheVariants.{Delivery, Projection, Firing, Connection}
+use Rattle.rx_hub.specs.Way.{made_of, above_of, if_merging, stop_made, stop_of, onward_of, way_within, way, end_of}
 use Rattle.rx_hub.specs.Hubs.{Hub}
 use Rattle.rx_hub.specs.Walk.{subscribers_of, onward_by, onward_over, visited_over, arrival, arrival_at}
 use Rattle.rx_hub.specs.Route.{Route, todo, visits_left, stops_left, ReachesFrom, IsOrdered, IsUnderWay}

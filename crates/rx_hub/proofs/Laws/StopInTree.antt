@@ -8,9 +8,9 @@ use Rattle.rx_event.specs.Climb.{most_visits}
 use Rattle.rx_slots.specs.declared.Key.{Key}
 use Rattle.rx_slots.specs.Slots.{Slots}
 use Rattle.rx_tree.specs.declared.node.Node.{Node}
-use Rattle.rx_flow.specs.declared.stop.Stop.{Stop}
-use Rattle.rx_flow.specs.declared.stop.Stop.TheVariants.{Delivery, Projection, Firing, Connection}
-use Rattle.rx_flow.specs.Way.{onward_of, way_within, way, end_of}
+use Rattle.rx_hub.specs.declared.stop.Stop.{Stop}
+use Rattle.rx_hub.specs.declared.stop.Stop.TheVariants.{Delivery, Projection, Firing, Connection}
+use Rattle.rx_hub.specs.Way.{onward_of, way_within, way, end_of}
 use Rattle.rx_hub.specs.Hubs.{Hub}
 use Rattle.rx_hub.specs.Walk.{beyond, visited_over, climb_over, arrival, arrival_at, stops_over}
 use Rattle.rx_hub.specs.Route.{beyond_end}

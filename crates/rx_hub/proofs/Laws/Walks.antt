@@ -17,12 +17,12 @@ use Rattle.rx_event.proofs.Laws.Lists.{AllByRecursion-both, first_passes}
 use Rattle.rx_slots.specs.declared.Key.{Key}
 use Rattle.rx_slots.specs.Slots.{Slots, find}
 use Rattle.rx_tree.specs.declared.node.Node.{Node}
-use Rattle.rx_flow.specs.declared.stop.Stop.{Stop}
-use Rattle.rx_flow.specs.declared.stop.Stop.TheVariants.{Delivery, Projection, Firing, Connection}
-use Rattle.rx_flow.specs.Claims.{numbered}
-use Rattle.rx_flow.specs.Way.{made_of, above_of, stop_of, stop_made}
+use Rattle.rx_hub.specs.declared.stop.Stop.{Stop}
+use Rattle.rx_hub.specs.declared.stop.Stop.TheVariants.{Delivery, Projection, Firing, Connection}
+use Rattle.rx_hub.specs.TreeClaims.{numbered}
+use Rattle.rx_hub.specs.Way.{made_of, above_of, stop_of, stop_made}
 use Rattle.rx_tree.proofs.Laws.Keys.{some_of}
-use Rattle.rx_flow.proofs.Laws.Ways.{IsTold, stop_of-found, stop_seen, onward_seen, onward_at, connection_made, above_found}
+use Rattle.rx_hub.proofs.Laws.Ways.{IsTold, stop_of-found, stop_seen, onward_seen, onward_at, connection_made, above_found}
 use Rattle.rx_hub.specs.Hubs.{Hub, find_hub}
 use Rattle.rx_hub.specs.Records.{numbers}
 use Rattle.rx_hub.specs.Walk.{subscribers_of, onward_by, onward_over, visited_over, climb_over, arrival, arrival_at, stops_over, IsWalk}

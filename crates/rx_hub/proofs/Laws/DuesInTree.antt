@@ -15,9 +15,9 @@ use Rattle.rx_event.specs.Lawful.{IsLawful}
 use Rattle.rx_event.proofs.Laws.MarksDue.{due_at_forced, settled_by_marks, settled_hubless, settled_quiet}
 use Rattle.rx_slots.specs.Slots.{Slots, find}
 use Rattle.rx_tree.specs.declared.node.Node.{Node}
-use Rattle.rx_flow.specs.declared.forcing.Due.{Due}
-use Rattle.rx_flow.specs.Due.{IsDueAt, IsDueIn, IsQuiet}
-use Rattle.rx_flow.specs.Records.{IsRecordOf, HasRecord, AreRecordsOf}
+use Rattle.rx_hub.specs.declared.operators.Due.{Due}
+use Rattle.rx_hub.specs.Operators.{IsDueAt, IsDueIn, IsQuiet}
+use Rattle.rx_hub.specs.TreeRecords.{IsRecordOf, HasRecord, AreRecordsOf}
 
 -- where a node has to end so, that end is due
 pub due_at_in : (nodes : Slots Node) (due : Due) → IsDueAt nodes due → IsDueIn nodes (End due.node.number due.terminal)

@@ -1,5 +1,5 @@
-use Rattle.rx_flow.proofs.Laws.Ways.{climb_whole_way, stops_whole_way, climb_connected_way, stops_connected_way}
-use Rattle.rx_flow.proofs.theorems.ways_are_climbs.Goals as goal
+use Rattle.rx_hub.proofs.Laws.Ways.{climb_whole_way, stops_whole_way, climb_connected_way, stops_connected_way}
+use Rattle.rx_hub.proofs.theorems.ways_are_climbs.Goals as goal
 
 pub returns : goal.returns
 returns c base =

@@ -21,11 +21,12 @@ use Rattle.rx_tree.specs.declared.node.Node.{Node}
 use Rattle.rx_tree.specs.Tree.{IsSound, named_above}
 use Rattle.rx_tree.proofs.Laws.Keys.{some_of}
 use Rattle.rx_tree.proofs.Laws.Parents.{named_parent}
-use Rattle.rx_flow.specs.declared.stop.Stop.{Stop}
-use Rattle.rx_flow.specs.declared.stop.Stop.TheVariants.{Delivery, Projection, Firing, Connection}
-use Rattle.rx_flow.specs.Way.{made_of, above_of, if_merging, stop_made, stop_of, onward_of, way_within, way, end_of}
-use Rattle.rx_flow.specs.Records.{AreRecordsOf}
-use Rattle.rx_flow.specs.Claims.{IsWay, numbers, numbered}
+use Rattle.rx_hub.specs.declared.stop.Stop.{Stop}
+use Rattle.rx_hub.specs.declared.stop.Stop.TheVariants.{Delivery, Projection, Firing, Connection}
+use Rattle.rx_hub.specs.Way.{made_of, above_of, if_merging, stop_made, stop_of, onward_of, way_within, way, end_of}
+use Rattle.rx_hub.specs.TreeRecords.{AreRecordsOf}
+use Rattle.rx_hub.specs.Records.{numbers}
+use Rattle.rx_hub.specs.TreeClaims.{IsWay, numbered}
 
 -- one node ------------------------------------------------------------------------------------------
 

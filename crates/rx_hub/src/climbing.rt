@@ -2,7 +2,7 @@
 
 ghost use Rattle.std.specs.Prelude.{◌≡◌, Some, IfSome, IsSome, length};
 ghost use Rattle.rx_slots.specs.Slots.{find};
-ghost use Rattle.rx_flow.specs.Way.{stop_of, hub_of, way, end_of};
+ghost use Rattle.rx_hub.specs.Way.{stop_of, hub_of, way, end_of};
 
 use crate::stop::{Reached, Stop};
 use rx_event::{Event, MOST_VISITS, Place};

@@ -13,7 +13,7 @@ use Rattle.rx_slots.specs.Slots.{Slots, find}
 use Rattle.rx_tree.specs.declared.node.Node.{Node}
 use Rattle.rx_tree.specs.Tree.{Tree, is_key, is_on, first_of}
 use Rattle.rx_tree.proofs.Laws.Keys.{same_key}
-use Rattle.rx_flow.specs.Due.{terminal_of, IsDueAt, due_of, from_due, IsQuiet, IsChained}
+use Rattle.rx_hub.specs.Operators.{terminal_of, IsDueAt, due_of, from_due, IsQuiet, IsChained}
 
 first_is : (chain : List Key) (key : Key) → first_of chain ≡ Some key → (rest : List Key) × (chain ≡ key ∷ rest)
 first_is [] key none = absurd (none-some key none)

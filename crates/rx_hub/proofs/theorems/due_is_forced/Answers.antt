@@ -1,5 +1,5 @@
-use Rattle.rx_flow.proofs.Laws.Dues.{due_at_in, due_forced, quiet_settled, quiet_settled_hubless, settled_quiet_records}
-use Rattle.rx_flow.proofs.theorems.due_is_forced.Goals as goal
+use Rattle.rx_hub.proofs.Laws.DuesInTree.{due_at_in, due_forced, quiet_settled, quiet_settled_hubless, settled_quiet_records}
+use Rattle.rx_hub.proofs.theorems.due_is_forced.Goals as goal
 
 pub returns : goal.returns
 returns c base = record {

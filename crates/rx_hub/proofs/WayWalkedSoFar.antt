@@ -7,8 +7,8 @@ use Rattle.rx_event.specs.Climb.{most_visits}
 use Rattle.rx_slots.specs.declared.Key.{Key}
 use Rattle.rx_slots.specs.Slots.{Slots, find}
 use Rattle.rx_tree.specs.declared.node.Node.{Node}
-use Rattle.rx_flow.specs.declared.stop.Stop.{Stop}
-use Rattle.rx_flow.specs.Way.{above_of, stop_of, onward_of, way_within, way, end_of}
+use Rattle.rx_hub.specs.declared.stop.Stop.{Stop}
+use Rattle.rx_hub.specs.Way.{above_of, stop_of, onward_of, way_within, way, end_of}
 
 -- so many nodes were visited from the first on, and of the way what begins at this node is left
 pub record IsOnWay (nodes : Slots Node) (first at : Key) (visits : ℕ) : Type 0 where

@@ -1,5 +1,5 @@
 -- What is promised of ways and of what is due, for every history whose records a tree has.
-use Rattle.std.specs.Prelude.{◌≡◌, ℕ, suc, ◌-◌, Option, Some, None, List, ◌++◌, length, map, IsSome, IsTrue, false}
+use Rattle.std.specs.Prelude.{◌≡◌, ℕ, suc, ◌-◌, Option, Some, None, List, ◌++◌, length, IsSome, IsTrue, false}
 use Rattle.std.specs.List.{filter_map, list_any}
 use Rattle.std.specs.Option.{option_and_then, option_to_list}
 use Rattle.rx_event.specs.Kept.{Kept}
@@ -16,15 +16,13 @@ use Rattle.rx_slots.specs.declared.Key.{Key}
 use Rattle.rx_slots.specs.Slots.{Slots, find}
 use Rattle.rx_tree.specs.declared.node.Node.{Node}
 use Rattle.rx_tree.specs.Tree.{IsSound}
-use Rattle.rx_flow.specs.declared.stop.Stop.{Stop}
-use Rattle.rx_flow.specs.declared.stop.Stop.TheVariants.{Delivery, Projection, Firing, Connection}
-use Rattle.rx_flow.specs.Way.{made_of, way, end_of}
-use Rattle.rx_flow.specs.declared.forcing.Due.{Due}
-use Rattle.rx_flow.specs.Due.{IsDueAt, IsDueIn, IsQuiet}
-use Rattle.rx_flow.specs.Records.{AreRecordsOf}
-
-abbrev pub numbers : List Key → List ℕ
-numbers keys = map (λ key. key.number) keys
+use Rattle.rx_hub.specs.declared.stop.Stop.{Stop}
+use Rattle.rx_hub.specs.declared.stop.Stop.TheVariants.{Delivery, Projection, Firing, Connection}
+use Rattle.rx_hub.specs.Way.{made_of, way, end_of}
+use Rattle.rx_hub.specs.declared.operators.Due.{Due}
+use Rattle.rx_hub.specs.Operators.{IsDueAt, IsDueIn, IsQuiet}
+use Rattle.rx_hub.specs.TreeRecords.{AreRecordsOf}
+use Rattle.rx_hub.specs.Records.{numbers}
 
 -- a stop by its node's number; a connection is none in a history
 abbrev pub numbered : Stop → Option NumberedStop

@@ -8,7 +8,7 @@ use Rattle.rx_slots.specs.declared.Key.{Key}
 use Rattle.rx_slots.specs.Slots.{Slots, find}
 use Rattle.rx_tree.specs.declared.node.Node.{Node}
 use Rattle.rx_tree.specs.Tree.{is_on}
-use Rattle.rx_flow.specs.declared.forcing.Due.{Due}
+use Rattle.rx_hub.specs.declared.operators.Due.{Due}
 
 -- how the key's node has to end by its marks
 abbrev pub terminal_of : Slots Node → Key → Option Terminal

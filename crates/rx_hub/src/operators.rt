@@ -1,7 +1,7 @@
 //! What the operators have to do.
 
 ghost use Rattle.std.specs.Prelude.{◌≡◌, IfSome, IfNone};
-ghost use Rattle.rx_flow.specs.Due.{IsChained, IsDueAt, IsQuiet, terminal_of, from_due};
+ghost use Rattle.rx_hub.specs.Operators.{IsChained, IsDueAt, IsQuiet, terminal_of, from_due};
 
 use rx_event::Terminal;
 use rx_resource::Resource;

@@ -1,10 +1,10 @@
 use Rattle.std.proofs.Common.{◌≡◌, ◌≤◌, Some, IfSome, IsSome, sym, ◌∙◌, arith, rules, length}
 use Rattle.rx_slots.specs.Slots.{find}
-use Rattle.rx_flow.specs.Way.{way, end_of}
-use Rattle.rx_flow.proofs.WayWalkedSoFar.{climbing_starts, climbing_on, climbing_top, climbing_stop, climbing_limit, limit_is, free_of, stop_there}
-use Rattle.rx_flow.proofs.climbing.climb.Given as given
-use Rattle.rx_flow.proofs.climbing.climb.Goals as goal
-use Rattle.rx_flow.proofs.climbing.climb.Goals.{then-loop-read-test+else-visits-le-MOST_VISITS, else-loop-read-test}
+use Rattle.rx_hub.specs.Way.{way, end_of}
+use Rattle.rx_hub.proofs.WayWalkedSoFar.{climbing_starts, climbing_on, climbing_top, climbing_stop, climbing_limit, limit_is, free_of, stop_there}
+use Rattle.rx_hub.proofs.climbing.climb.Given as given
+use Rattle.rx_hub.proofs.climbing.climb.Goals as goal
+use Rattle.rx_hub.proofs.climbing.climb.Goals.{then-loop-read-test+else-visits-le-MOST_VISITS, else-loop-read-test}
 
 pub loop-read-init : goal.loop-read-init
 loop-read-init g c =

@@ -7,7 +7,7 @@ use Rattle.rx_slots.specs.Slots.{Slots, find}
 use Rattle.rx_tree.specs.declared.node.Node.{Node}
 use Rattle.rx_tree.specs.Tree.{IsSound, named_above, parent_number}
 use Rattle.rx_tree.proofs.Laws.Parents.{named_parent}
-use Rattle.rx_flow.specs.Way.{above_of}
+use Rattle.rx_hub.specs.Way.{above_of}
 
 same_number : (nodes : Slots Node) → IsSound nodes → (r above : Option Key) → IfSome r (λ k. IsSome (find nodes k)) →
     IfSome above (λ k. IsSome (find nodes k)) → option_map (λ k. k.number) r ≡ option_map (λ k. k.number) above → r ≡ above

@@ -1,6 +1,6 @@
 use Rattle.std.proofs.Common.{◌≡◌, length}
-use Rattle.rx_flow.specs.Due.{IsChained, from_due}
-use Rattle.rx_flow.proofs.forcing.next_due.Given as goal
+use Rattle.rx_hub.specs.Operators.{IsChained, from_due}
+use Rattle.rx_hub.proofs.operators.next_due.Given as goal
 
 abbrev pub invariant-loop-node : goal.invariant-loop-node
 invariant-loop-node g l = (l.tree ≡ record l.initial.tree { chain = l.tree.chain }) ×

@@ -1,3 +1,0 @@
-pub mod Above
-pub mod Ways
-pub mod Dues

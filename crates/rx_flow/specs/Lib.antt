@@ -1,4 +1,0 @@
-pub mod Way
-pub mod Due
-pub mod Records
-pub mod Claims
