@@ -43,8 +43,8 @@ use Rattle.rx_book.specs.Answers.{Accepts, IsNewLeaseKey}
 use Rattle.rx_book.specs.Steps.{IsLetIn, IsWritten}
 use Rattle.rx_slots.specs.Slots.{Slots, find}
 use Rattle.rx_tree.specs.declared.node.ResKey.{ResKey as TreeResKey}
-use Rattle.rx_lease.specs.declared.leases.LeaseKey.{LeaseKey as GroundLeaseKey}
-use Rattle.rx_lease.specs.Leases.{lease_key, is_out_at}
+use Rattle.rx_ground.specs.declared.leases.LeaseKey.{LeaseKey as GroundLeaseKey}
+use Rattle.rx_ground.specs.Leases.{lease_key, is_out_at}
 use Rattle.rx_tree.specs.Resources.{is_held_at, is_owned_at}
 use Rattle.rx_event.specs.Resources.{is_owned}
 use Rattle.rx_ground.proofs.Laws.OwnedInTree.{owned_there}

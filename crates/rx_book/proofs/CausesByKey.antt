@@ -6,7 +6,7 @@ use Rattle.rx_event.specs.Calls.{Call, Applying, Removing, Leasing, GivingBack}
 use Rattle.rx_event.specs.Refusals.{first_cause}
 use Rattle.rx_slots.specs.Slots.{Slots, find}
 use Rattle.rx_tree.specs.declared.node.ResKey.{ResKey as TreeResKey}
-use Rattle.rx_lease.specs.Leases.{is_out_at}
+use Rattle.rx_ground.specs.Leases.{is_out_at}
 use Rattle.rx_tree.specs.Tree.{Tree}
 use Rattle.rx_tree.specs.Resources.{is_held_at}
 use Rattle.rx_event.specs.Causes.{by_key, by_res_key, by_lease_key, by_key_of}

@@ -7,7 +7,7 @@ use Rattle.std.proofs.lemmas.Bool.{and_parts, and_from, eqb-true, false≢true}
 use Rattle.std.proofs.lemmas.List.Folds.{list_any_at, Any-from_list_any}
 use Rattle.std.specs.Cmp.{both_ways as same_test}
 use Rattle.rx_slots.specs.Slots.{Slots, find}
-use Rattle.rx_lease.specs.Leases.{lease_key, is_out_at}
+use Rattle.rx_ground.specs.Leases.{lease_key, is_out_at}
 use Rattle.rx_tree.specs.declared.node.ResKey.{ResKey as TreeResKey}
 use Rattle.rx_tree.specs.declared.node.Node.{Node}
 use Rattle.rx_tree.specs.declared.node.Stowed.{Stowed}

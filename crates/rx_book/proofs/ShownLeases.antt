@@ -12,8 +12,8 @@ use Rattle.rx_tree.specs.declared.node.ResKey.{ResKey as TreeResKey}
 use Rattle.rx_tree.specs.declared.node.Stowed.{Stowed}
 use Rattle.rx_tree.specs.Tree.{IsFirst, HasNone}
 use Rattle.rx_tree.proofs.Laws.Keys.{some_of}
-use Rattle.rx_lease.specs.declared.leases.LeaseKey.{LeaseKey as GroundLeaseKey}
-use Rattle.rx_lease.specs.Leases.{IsOut, lease_key}
+use Rattle.rx_ground.specs.declared.leases.LeaseKey.{LeaseKey as GroundLeaseKey}
+use Rattle.rx_ground.specs.Leases.{IsOut, lease_key}
 use Rattle.rx_ground.specs.Ties.{AreLeased}
 use Rattle.rx_ground.proofs.Laws.Ranges.{find_nothing, find_first}
 use Rattle.rx_book.specs.State.{has_lease_key}

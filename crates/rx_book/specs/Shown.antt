@@ -4,7 +4,7 @@ use Rattle.rx_resource.specs.declared.Resource.{Ghosts}
 use Rattle.rx_slots.specs.declared.Key.{Key as TreeKey}
 use Rattle.rx_tree.specs.declared.node.ResKey.{ResKey as TreeResKey}
 use Rattle.rx_slots.specs.Slots.{Slots}
-use Rattle.rx_lease.specs.declared.leases.LeaseKey.{LeaseKey as GroundLeaseKey}
+use Rattle.rx_ground.specs.declared.leases.LeaseKey.{LeaseKey as GroundLeaseKey}
 use Rattle.rx_tree.specs.Tree.{Tree}
 use Rattle.rx_ground.specs.Shown.{Ground as Base, kept_in, held_in, waiting_in, label_in}
 use Rattle.rx_book.specs.declared.key.Key.{Key}

@@ -3,7 +3,7 @@
 ghost use Rattle.std.specs.Prelude.{◌≡◌};
 ghost use Rattle.rx_book.specs.Shown.{tree_key_of, tree_res_key_of, ground_lease_key_of, key_shown, res_key_shown, lease_key_shown};
 
-use rx_lease::LeaseKey as GroundLeaseKey;
+use rx_ground::LeaseKey as GroundLeaseKey;
 use rx_tree::{Key as TreeKey, ResKey as TreeResKey};
 
 /// The key of an open node. It stays the node's key while the node is open, and is nobody's

@@ -15,7 +15,7 @@ use Rattle.rx_register.specs.State.{State as Register, Rebases, IsPromised as Is
 use Rattle.rx_register.proofs.Laws.NoCause.{no_cause}
 use Rattle.rx_tree.specs.Bases.{IsByNumber, kept_by, node_as_kept, resource_as_kept}
 use Rattle.rx_tree.specs.Tree.{AreApart, IsPromised as IsTreePromised}
-use Rattle.rx_lease.specs.Leases.{lease_as_kept}
+use Rattle.rx_ground.specs.Leases.{lease_as_kept}
 use Rattle.rx_hub.specs.Hubs.{IsPromised as IsHubsPromised, hub_as_kept, without_end}
 use Rattle.rx_ground.specs.Shown.{Ground}
 use Rattle.rx_ground.specs.Ties.{IsStanding, IsTied}

@@ -32,7 +32,7 @@ use Rattle.rx_tree.specs.declared.node.Stowed.{Stowed}
 use Rattle.rx_tree.specs.Bases.{IsByNumber, kept_by, node_as_kept, resource_as_kept, state_in}
 use Rattle.rx_tree.specs.Tree.{Tree, AreApart}
 use Rattle.rx_tree.specs.Resources.{is_owned, is_lent}
-use Rattle.rx_lease.specs.Leases.{lease_as_kept}
+use Rattle.rx_ground.specs.Leases.{lease_as_kept}
 use Rattle.rx_hub.specs.Hubs.{Hub, Hubs, IsPromised as AreHubsPromised, hub_as_kept}
 use Rattle.rx_hub.specs.Records.{AreHubsOf}
 use Rattle.rx_ground.specs.Shown.{Kept, kept_from, kept_in}

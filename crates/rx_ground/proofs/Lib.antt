@@ -2,7 +2,9 @@ pub mod FoundIsListed
 pub mod Records
 pub mod ResourcesAfterEvent
 mod TreeAgreesOnResource
-mod Leases
+mod RisingSlots
+mod LeasesStayInOrder
+mod LeasesAfterEvent
 pub mod OwedCountBounded
 pub mod StaysTied
 pub mod RegisterAfterWrite

@@ -25,7 +25,7 @@ use Rattle.rx_ground.specs.Shown.{Ground}
 use Rattle.rx_hub.specs.Hubs.{Hub, Hubs}
 use Rattle.rx_ground.specs.Ties.{HasKey, AreRecords, IsStored, IsTied, AreTied, AreLeased, IsStanding, IsRoomier, SetsAside, HasRoom, HasRoomBeside}
 use Rattle.rx_ground.specs.declared.base.Wanted.{Wanted}
-use Rattle.rx_ground.proofs.Leases.{leased_empty, leased_same}
+use Rattle.rx_ground.proofs.LeasesAfterEvent.{leased_empty, leased_same}
 use Rattle.rx_ground.proofs.HubsAfterEvent.{tied_beside}
 
 -- slots of the same entries find the same

@@ -29,13 +29,13 @@ use Rattle.rx_tree.specs.declared.node.ResKey.{ResKey}
 use Rattle.rx_tree.specs.Tree.{Tree}
 use Rattle.rx_tree.specs.Resources.{store_key, is_owned, is_owned_at, is_held_at}
 use Rattle.rx_tree.proofs.Laws.Keys.{some_of}
-use Rattle.rx_lease.specs.declared.leases.LeaseKey.{LeaseKey}
-use Rattle.rx_lease.specs.Leases.{is_out_at}
+use Rattle.rx_ground.specs.declared.leases.LeaseKey.{LeaseKey}
+use Rattle.rx_ground.specs.Leases.{is_out_at}
 use Rattle.rx_ground.specs.declared.base.Record.{Record}
 use Rattle.rx_ground.specs.Ties.{IsTied, AreLeased, record_of}
 use Rattle.rx_ground.specs.Told.{IsTold, has_place, is_used, is_unowed}
 use Rattle.rx_ground.proofs.TreeAgreesOnResource.{owned_agrees, held_agrees}
-use Rattle.rx_ground.proofs.Leases.{out_in_history as lease_in_history}
+use Rattle.rx_ground.proofs.LeasesAfterEvent.{out_in_history as lease_in_history}
 use Rattle.rx_ground.proofs.Newest.{held_found}
 
 module _ (base : Kept) {T : Type 0} (g : Ghosts T) (h : List Event) (tree : Tree T) (tied : IsTied base g h tree) where

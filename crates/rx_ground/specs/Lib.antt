@@ -1,4 +1,6 @@
 pub mod FirstCause
+pub mod Leases
+pub mod LeasesInOrder
 pub mod Reached
 pub mod Passing
 pub mod Memory

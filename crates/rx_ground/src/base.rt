@@ -10,9 +10,9 @@ ghost use Rattle.rx_slots.specs.Slots.{find};
 ghost use Rattle.rx_ground.specs.Shown.{closed_key};
 ghost use Rattle.rx_ground.specs.Ties.{IsRoomier, HasRoom, record_of};
 
+use crate::leases::Leases;
 use rx_event::{Event, Marks};
 use rx_hub::{Hubs, Route};
-use rx_lease::Leases;
 use rx_register::Register;
 use rx_resource::Resource;
 use rx_tree::{Closed, Key, Tree};

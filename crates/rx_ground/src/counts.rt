@@ -9,15 +9,15 @@ ghost use Rattle.rx_event.specs.declared.refusal.Refusal.{Refusal};
 ghost use Rattle.rx_slots.specs.Slots.{find};
 ghost use Rattle.rx_tree.specs.Tree.{IsFirst, IsRoot, HasNone};
 ghost use Rattle.rx_tree.specs.Resources.{is_held_at, is_owned_at};
-ghost use Rattle.rx_lease.specs.Leases.{IsOut, is_out_at, lease_key};
+ghost use Rattle.rx_ground.specs.Leases.{IsOut, is_out_at, lease_key};
 ghost use Rattle.rx_register.specs.State.{IsLoadOf};
 ghost use Rattle.rx_ground.specs.Ties.{IsStanding, IsRoomier, HasRoomBeside, SetsAside};
 ghost use Rattle.rx_ground.specs.Memory.{HasNoRoom};
 
 use crate::base::{Ground, Wanted};
+use crate::leases::{LeaseKey, Leases};
 use rx_event::{Event, Mail, Refusal};
 use rx_hub::{Hubs, Route};
-use rx_lease::{LeaseKey, Leases};
 use rx_register::{Load, Register};
 use rx_resource::Resource;
 use rx_tree::{Key, ResKey, Tree};

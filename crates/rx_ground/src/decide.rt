@@ -10,7 +10,7 @@ ghost use Rattle.rx_event.specs.Calls.{Ending, Aborting, Declining, Failing, Dis
 ghost use Rattle.rx_event.specs.Refusals.{first_cause};
 ghost use Rattle.rx_slots.specs.Slots.{find};
 ghost use Rattle.rx_tree.specs.Resources.{is_held_at};
-ghost use Rattle.rx_lease.specs.Leases.{is_out_at};
+ghost use Rattle.rx_ground.specs.Leases.{is_out_at};
 ghost use Rattle.rx_event.specs.Causes.{by_key, projecting_causes};
 ghost use Rattle.rx_event.specs.Causes.{is_without_hub as is_without_hub_in, is_wrong_place as is_wrong_place_in};
 ghost use Rattle.rx_event.specs.Causes.{is_taken_place as is_taken_place_in, is_unowed_place as is_unowed_place_in};
@@ -23,8 +23,8 @@ ghost use Rattle.rx_ground.specs.Told.{is_used as is_used_in, is_unowed as is_un
 ghost use Rattle.rx_ground.specs.OpeningHolding.{first_holding};
 
 use crate::base::{Ground, Record, Wanted};
+use crate::leases::LeaseKey;
 use rx_event::{Event, Kind, Marks, Place, Refusal};
-use rx_lease::LeaseKey;
 use rx_note::Terminal;
 use rx_resource::Resource;
 use rx_tree::{Key, ResKey};

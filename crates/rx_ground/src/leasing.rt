@@ -3,14 +3,14 @@
 ghost use Rattle.std.specs.Prelude.{◌≡◌, ◌<◌, [], ◌∷◌, true, length, IsTrue};
 ghost use Rattle.rx_event.specs.declared.event.Event.{Event};
 ghost use Rattle.rx_tree.specs.Resources.{is_owned_at};
-ghost use Rattle.rx_lease.specs.Leases.{is_out_at};
+ghost use Rattle.rx_ground.specs.Leases.{is_out_at};
 ghost use Rattle.rx_register.specs.State.{Writes};
 ghost use Rattle.rx_ground.specs.Ties.{AreTied, AreLeased, IsReady, KeepsHeld, KeepsLeases};
 ghost use Rattle.rx_ground.specs.Memory.{TakesNoMemory};
 
 use crate::base::Ground;
+use crate::leases::LeaseKey;
 use rx_event::Event;
-use rx_lease::LeaseKey;
 use rx_resource::Resource;
 use rx_tree::ResKey;
 

@@ -30,6 +30,8 @@
 //! - `Writes` (of the register) says that just these events were added. `KeepsNodes` and `KeepsHeld`
 //!   say that the keys of what is still there are as before; `KeepsOlder` says it of what is older than a
 //!   forced connection may be.
+//! - Leases are slots of resource keys, in which `find` looks up the key of a lease (`specs/Leases`):
+//!   `lease_key` is a [`LeaseKey`] as a key of slots, `is_out_at` says that a lease is out under a key.
 //!
 //! # Promised, and not
 //!
@@ -56,6 +58,7 @@ mod costs;
 mod counts;
 mod decide;
 mod hubs;
+mod leases;
 mod leasing;
 mod opening;
 mod order;
@@ -64,4 +67,5 @@ mod settle;
 mod write;
 
 pub use base::{Ground, Record, Wanted};
+pub use leases::LeaseKey;
 pub use route::{Reach, Way};

@@ -14,7 +14,7 @@ use Rattle.rx_ground.proofs.StaysTied.{tied_still}
 use Rattle.rx_ground.proofs.HeldKept.{held_new}
 use Rattle.rx_ground.proofs.Newest.{past_resources}
 use Rattle.rx_ground.proofs.HubsAfterEvent.{rebased, tied_on_same}
-use Rattle.rx_ground.proofs.Leases.{leased_kept}
+use Rattle.rx_ground.proofs.LeasesAfterEvent.{leased_kept}
 use Rattle.rx_tree.proofs.Laws.Keys.{none_not_some}
 use Rattle.rx_ground.proofs.base.Ground.write_accept.Goals as goal
 

@@ -19,7 +19,7 @@ use Rattle.rx_ground.proofs.Memory.{written_memory}
 use Rattle.rx_ground.proofs.RegisterAfterWrite.{writes_silent}
 use Rattle.rx_ground.proofs.Newest.{newest}
 use Rattle.rx_ground.proofs.HubsAfterEvent.{rebased, connected_after, tied_connected}
-use Rattle.rx_ground.proofs.Leases.{leased_quiet}
+use Rattle.rx_ground.proofs.LeasesAfterEvent.{leased_quiet}
 use Rattle.rx_ground.proofs.base.Ground.write_connect.Given.{Over}
 use Rattle.rx_ground.proofs.base.Ground.write_connect.Goals as goal
 

@@ -14,7 +14,7 @@ use Rattle.rx_ground.proofs.OwedCountBounded.{owes_told}
 use Rattle.rx_ground.proofs.StaysTied.{tied_decline, remarked_keeps}
 use Rattle.rx_ground.proofs.TiedWhileSettling.{found_marked}
 use Rattle.rx_ground.proofs.HubsAfterEvent.{rebased, tied_on_marked}
-use Rattle.rx_ground.proofs.Leases.{leased_quiet}
+use Rattle.rx_ground.proofs.LeasesAfterEvent.{leased_quiet}
 use Rattle.rx_ground.proofs.base.Ground.write_decline.Given.{Over}
 use Rattle.rx_ground.proofs.base.Ground.write_decline.Goals as goal
 

@@ -17,7 +17,7 @@ use Rattle.rx_ground.proofs.Memory.{written_memory, same_places}
 use Rattle.rx_ground.proofs.RegisterAfterWrite.{TellsOf, writes_told}
 use Rattle.rx_ground.proofs.NodeEnds.{IsReadyToEnd, IsEnded, record_read, above_counted, ended_tied}
 use Rattle.rx_ground.proofs.HubsAfterEvent.{LeavesHubs, rebased, tied_closed}
-use Rattle.rx_ground.proofs.Leases.{leased_quiet}
+use Rattle.rx_ground.proofs.LeasesAfterEvent.{leased_quiet}
 use Rattle.rx_ground.proofs.base.Ground.write_end.Given.{Over}
 use Rattle.rx_ground.proofs.base.Ground.write_end.Goals as goal
 use Rattle.rx_ground.proofs.base.Ground.write_end.Goals.{After-write}

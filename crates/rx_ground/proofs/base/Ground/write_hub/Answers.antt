@@ -8,7 +8,7 @@ use Rattle.rx_ground.proofs.Memory.{written_memory}
 use Rattle.rx_ground.proofs.RegisterAfterWrite.{writes_silent}
 use Rattle.rx_ground.proofs.StaysTied.{tied_same}
 use Rattle.rx_ground.proofs.HubsAfterEvent.{rebased, hub_is_older, tied_published}
-use Rattle.rx_ground.proofs.Leases.{leased_quiet}
+use Rattle.rx_ground.proofs.LeasesAfterEvent.{leased_quiet}
 use Rattle.rx_ground.proofs.base.Ground.write_hub.Goals as goal
 
 pub add-requires-clause-newest : goal.add-requires-clause-newest

@@ -14,7 +14,7 @@ use Rattle.rx_ground.proofs.ItemWentItsWay.{arrived_writes, arrived_tied}
 use Rattle.rx_ground.proofs.Memory.{written_memory, same_places}
 use Rattle.rx_ground.proofs.OwedCountBounded.{owed_in-bounded}
 use Rattle.rx_ground.proofs.WayAsInHistory.{walk_tied}
-use Rattle.rx_ground.proofs.Leases.{leased_quiet}
+use Rattle.rx_ground.proofs.LeasesAfterEvent.{leased_quiet}
 use Rattle.rx_ground.proofs.base.Ground.write_item.Goals as goal
 
 pub pass-requires-clause-walk : goal.pass-requires-clause-walk

@@ -5,7 +5,7 @@ use Rattle.rx_event.specs.Lawful.{MayFollow}
 use Rattle.rx_slots.specs.Slots.{Slots}
 use Rattle.rx_tree.specs.declared.node.Node.{Node}
 use Rattle.rx_tree.specs.Resources.{store_key, stowed_of, is_owned_at}
-use Rattle.rx_lease.specs.Leases.{lease_key}
+use Rattle.rx_ground.specs.Leases.{lease_key}
 use Rattle.rx_ground.specs.Ties.{IsTied, AreTied, AreLeased}
 use Rattle.rx_ground.proofs.Memory.{written_memory, same_places}
 use Rattle.rx_ground.proofs.RegisterAfterWrite.{writes_silent}
@@ -13,7 +13,7 @@ use Rattle.rx_ground.proofs.ResourcesAfterEvent.{stored_leased}
 use Rattle.rx_ground.proofs.StaysTied.{tied_still, still_there}
 use Rattle.rx_ground.proofs.HeldKept.{held_owned}
 use Rattle.rx_ground.proofs.Newest.{owned_found, if_found}
-use Rattle.rx_ground.proofs.Leases.{past_leases, few_leases, leased_more, leased_same, leases_more}
+use Rattle.rx_ground.proofs.LeasesAfterEvent.{past_leases, few_leases, leased_more, leased_same, leases_more}
 use Rattle.rx_ground.proofs.HubsAfterEvent.{rebased, tied_on_same}
 use Rattle.rx_ground.proofs.base.Ground.write_lease.Goals as goal
 

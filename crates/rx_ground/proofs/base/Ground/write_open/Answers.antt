@@ -11,7 +11,7 @@ use Rattle.rx_ground.proofs.HubsAtOpening.{rest_same, joined_left, ready_left, o
 use Rattle.rx_ground.proofs.RoomAtOpening.{ground_of, IsWayMade, way_made, few_children, hubs_told, slot_within, left_memory, gathers_opened}
 use Rattle.rx_ground.proofs.HubsAfterEvent.{tied_written}
 use Rattle.rx_ground.proofs.HubsBesideTree.{slot_free, some_hub}
-use Rattle.rx_ground.proofs.Leases.{leased_quiet}
+use Rattle.rx_ground.proofs.LeasesAfterEvent.{leased_quiet}
 use Rattle.rx_ground.proofs.base.Ground.write_open.Given.{Over}
 use Rattle.rx_ground.proofs.base.Ground.write_open.Goals as goal
 use Rattle.rx_ground.proofs.base.Ground.write_open.Goals.{After-open, After-join}

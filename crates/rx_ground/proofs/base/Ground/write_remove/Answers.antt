@@ -13,7 +13,7 @@ use Rattle.rx_ground.proofs.StaysTied.{tied_still, still_there}
 use Rattle.rx_ground.proofs.HeldKept.{held_rewritten, removed_held}
 use Rattle.rx_ground.proofs.Newest.{owned_found}
 use Rattle.rx_ground.proofs.HubsAfterEvent.{rebased, tied_on_same}
-use Rattle.rx_ground.proofs.Leases.{leased_found}
+use Rattle.rx_ground.proofs.LeasesAfterEvent.{leased_found}
 use Rattle.rx_ground.proofs.base.Ground.write_remove.Goals as goal
 
 pub returns-clause-written : goal.returns-clause-written

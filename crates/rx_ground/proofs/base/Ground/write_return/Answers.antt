@@ -6,14 +6,14 @@ use Rattle.rx_slots.specs.Slots.{Slots, find}
 use Rattle.rx_tree.specs.declared.node.Node.{Node}
 use Rattle.rx_tree.specs.Resources.{store_key, one_lease_less}
 use Rattle.rx_tree.proofs.Laws.Keys.{some_of}
-use Rattle.rx_lease.specs.Leases.{lease_key}
+use Rattle.rx_ground.specs.Leases.{lease_key}
 use Rattle.rx_ground.specs.Ties.{IsTied, AreTied, AreLeased}
 use Rattle.rx_ground.proofs.Memory.{written_memory, same_places}
 use Rattle.rx_ground.proofs.RegisterAfterWrite.{writes_silent}
 use Rattle.rx_ground.proofs.ResourcesAfterEvent.{stored_returned}
 use Rattle.rx_ground.proofs.StaysTied.{tied_still, still_there}
 use Rattle.rx_ground.proofs.HeldKept.{held_rewritten, less_held}
-use Rattle.rx_ground.proofs.Leases.{lent_there, leased_less, leased_same, leases_less}
+use Rattle.rx_ground.proofs.LeasesAfterEvent.{lent_there, leased_less, leased_same, leases_less}
 use Rattle.rx_ground.proofs.HubsAfterEvent.{rebased, tied_on_same}
 use Rattle.rx_ground.proofs.base.Ground.write_return.Goals as goal
 

@@ -15,7 +15,7 @@ use Rattle.rx_ground.proofs.StaysTied.{tied_still}
 use Rattle.rx_ground.proofs.HeldKept.{held_gone}
 use Rattle.rx_ground.proofs.TakenResourceWaited.{takes_waiting, takes_live, takes_listed, none_waits}
 use Rattle.rx_ground.proofs.HubsAfterEvent.{rebased, tied_on_same}
-use Rattle.rx_ground.proofs.Leases.{leased_taken}
+use Rattle.rx_ground.proofs.LeasesAfterEvent.{leased_taken}
 use Rattle.rx_ground.proofs.base.Ground.write_take.Given.{Over}
 use Rattle.rx_ground.proofs.base.Ground.write_take.Goals as goal
 

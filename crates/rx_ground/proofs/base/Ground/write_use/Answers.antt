@@ -14,7 +14,7 @@ use Rattle.rx_ground.proofs.StaysTied.{tied_still, still_there}
 use Rattle.rx_ground.proofs.HeldKept.{held_rewritten}
 use Rattle.rx_ground.proofs.Newest.{held_found, of_found, if_found}
 use Rattle.rx_ground.proofs.HubsAfterEvent.{rebased, tied_on_same}
-use Rattle.rx_ground.proofs.Leases.{leased_found}
+use Rattle.rx_ground.proofs.LeasesAfterEvent.{leased_found}
 use Rattle.rx_ground.proofs.base.Ground.write_use.Goals as goal
 
 pub apply-answer-requires-clause-live : goal.apply-answer-requires-clause-live

@@ -1,6 +1,6 @@
 use Rattle.rx_tree.specs.Tree.{IsPast}
-use Rattle.rx_lease.proofs.LeasesStayInOrder.{order_joined}
-use Rattle.rx_lease.proofs.leases.Leases.lease.Goals as goal
+use Rattle.rx_ground.proofs.LeasesStayInOrder.{order_joined}
+use Rattle.rx_ground.proofs.leases.Leases.lease.Goals as goal
 
 pub invariant_of-self : goal.invariant_of-self
 invariant_of-self c =

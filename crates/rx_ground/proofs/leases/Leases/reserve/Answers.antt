@@ -2,8 +2,8 @@ use Rattle.std.proofs.Common.{length, refl, ap, ◌∙◌, arith}
 use Rattle.rx_slots.specs.Slots.{Slots}
 use Rattle.rx_tree.specs.declared.node.ResKey.{ResKey}
 use Rattle.rx_lists.specs.Lists.{Lists, list_at}
-use Rattle.rx_lease.proofs.LeasesStayInOrder.{order_same}
-use Rattle.rx_lease.proofs.leases.Leases.reserve.Goals as goal
+use Rattle.rx_ground.proofs.LeasesStayInOrder.{order_same}
+use Rattle.rx_ground.proofs.leases.Leases.reserve.Goals as goal
 
 pub invariant_of-self : goal.invariant_of-self
 invariant_of-self c =

@@ -1,5 +1,5 @@
-use Rattle.rx_lease.proofs.LeasesStayInOrder.{order_left}
-use Rattle.rx_lease.proofs.leases.Leases.give_back.Goals as goal
+use Rattle.rx_ground.proofs.LeasesStayInOrder.{order_left}
+use Rattle.rx_ground.proofs.leases.Leases.give_back.Goals as goal
 
 pub invariant_of-self-2 : goal.invariant_of-self-2
 invariant_of-self-2 c =

@@ -12,8 +12,8 @@ use Rattle.rx_tree.specs.declared.node.ResKey.{ResKey}
 use Rattle.rx_tree.specs.Tree.{AreApart, IsPast}
 use Rattle.rx_tree.proofs.Laws.Keys.{same_key}
 use Rattle.rx_lists.specs.Lists.{Lists, list_at, is_in, take_out}
-use Rattle.rx_lease.specs.Order.{number_in, AreRising, IsInOrder}
-use Rattle.rx_lease.proofs.Orders.{is_in-append, is_in-out, rising_append, rising_out, rising_same, rising_apart}
+use Rattle.rx_ground.specs.LeasesInOrder.{number_in, AreRising, IsInOrder}
+use Rattle.rx_ground.proofs.RisingSlots.{is_in-append, is_in-out, rising_append, rising_out, rising_same, rising_apart}
 
 -- the slot of a lease stands on the list, and its number is the lease's
 module _ (out : Slots ResKey) (order : Lists) (is : IsInOrder out order) where

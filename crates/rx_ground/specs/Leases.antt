@@ -5,7 +5,7 @@ use Rattle.rx_slots.specs.declared.Entry.{Entry}
 use Rattle.rx_slots.specs.declared.Key.{Key}
 use Rattle.rx_slots.specs.Slots.{Slots, find}
 use Rattle.rx_tree.specs.declared.node.ResKey.{ResKey}
-use Rattle.rx_lease.specs.declared.leases.LeaseKey.{LeaseKey}
+use Rattle.rx_ground.specs.declared.leases.LeaseKey.{LeaseKey}
 
 -- a lease's key as a key of the store
 abbrev pub lease_key : LeaseKey → Key

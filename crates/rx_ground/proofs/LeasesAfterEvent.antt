@@ -25,8 +25,8 @@ use Rattle.rx_tree.specs.declared.node.Stowed.{Stowed}
 use Rattle.rx_tree.specs.Resources.{store_key, is_lent, is_lent_at}
 use Rattle.rx_tree.specs.Tree.{Tree, AreApart, IsPast}
 use Rattle.rx_tree.proofs.Laws.Keys.{cases_key, none_not_some, some_of}
-use Rattle.rx_lease.specs.declared.leases.LeaseKey.{LeaseKey}
-use Rattle.rx_lease.specs.Leases.{lease_key, is_out_at}
+use Rattle.rx_ground.specs.declared.leases.LeaseKey.{LeaseKey}
+use Rattle.rx_ground.specs.Leases.{lease_key, is_out_at}
 use Rattle.rx_ground.specs.Ties.{HasKey, IsTied, IsLeaseOf, AreLeased, KeepsLeases}
 
 and_true : (b : Bool) → (b && true) ≡ b

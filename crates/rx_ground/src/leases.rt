@@ -1,4 +1,6 @@
-//! Leases in the order in which they were given out.
+//! The leases that are out, in the order in which they were given out: each under a checked key, with the key
+//! of the resource that it keeps held after its subscription has ended (System.Reactive's
+//! RefCountDisposable). How many of each resource are out, the tree counts beside it.
 
 ghost use Rattle.std.specs.Prelude.{◌≡◌, ◌+◌, ◌<◌, ◌≤◌, [], IsOk, Some, None, IfSome, IfNone, IfOk, OnOk, OnSome, option_map, length, is_some, count_by};
 ghost use Rattle.rx_lists.specs.Lists.{list_at};
@@ -22,7 +24,7 @@ pub struct LeaseKey {
 
 /// Leases that are out, each with the key of its resource.
 #[derive(Drop)]
-pub struct Leases {
+pub(crate) struct Leases {
     out: Slots<ResKey>,
     // The slots of the leases, in the order of their numbers.
     order: Rings,
@@ -31,7 +33,7 @@ pub struct Leases {
 impl Model for Leases {
     ghost use Rattle.rx_slots.specs.Slots.{Slots as Entries};
     ghost use Rattle.rx_tree.specs.declared.node.ResKey.{ResKey as Res};
-    ghost use Rattle.rx_lease.specs.Order.{shown, IsInOrder};
+    ghost use Rattle.rx_ground.specs.LeasesInOrder.{shown, IsInOrder};
 
     ghost Value = { Entries Res };
 
@@ -62,10 +64,10 @@ impl Leases {
     ghost use Rattle.rx_slots.specs.Slots.{find, entry_at, KeepsOthers};
     ghost use Rattle.rx_tree.specs.Tree.{IsPast, IsFirst, HasNone, AreApart};
     ghost use Rattle.rx_tree.specs.Bases.{IsByNumber, kept_by};
-    ghost use Rattle.rx_lease.specs.Leases.{lease_key, lease_as_kept, IsOut};
+    ghost use Rattle.rx_ground.specs.Leases.{lease_key, lease_as_kept, IsOut};
 
     /// No lease, which takes no memory.
-    pub fn new(alloc: Global) -> Self
+    pub(crate) fn new(alloc: Global) -> Self
         ensures entries { result.entries ≡ [] }
         ensures count { result.count ≡ 0 }
         ensures room { result.room ≡ 0 }
@@ -78,7 +80,7 @@ impl Leases {
 
     /// What holds of all leases: no two have one number.
     #[inline(always)]
-    pub fn promise(&self)
+    pub(crate) fn promise(&self)
         ensures { AreApart self.now }
     {
         let _out = &self.out;
@@ -88,7 +90,7 @@ impl Leases {
     ///
     /// Refused only where there was less room and memory was refused. No lease changes either way.
     #[inline(always)]
-    pub fn reserve(&mut self, additional: usize) -> Result<(), AllocError>
+    pub(crate) fn reserve(&mut self, additional: usize) -> Result<(), AllocError>
         ensures ok { OnOk result (additional ≤ self.new.room) }
         ensures kept { self.new ≡ record self.old { room = self.new.room } }
     {
@@ -100,7 +102,7 @@ impl Leases {
     /// Lets a lease of this resource be out under this number, which is greater than any before, and
     /// gives its key. It takes no memory.
     #[inline(always)]
-    pub fn lease(&mut self, number: u64, res: ResKey) -> LeaseKey
+    pub(crate) fn lease(&mut self, number: u64, res: ResKey) -> LeaseKey
         requires newest { IsPast self.old number }
         requires room { 0 < self.old.room }
         ensures numbered { result.number ≡ number }
@@ -125,7 +127,7 @@ impl Leases {
 
     /// The key of the resource of a lease; None where no such lease is out.
     #[inline(always)]
-    pub fn get(&self, lease: LeaseKey) -> Option<ResKey>
+    pub(crate) fn get(&self, lease: LeaseKey) -> Option<ResKey>
         ensures { result ≡ find self.now (lease_key lease) }
     {
         let key = Key {
@@ -139,7 +141,7 @@ impl Leases {
     /// Lets the lease be out no more, and gives the key of its resource; None where no such lease is
     /// out. It takes no memory.
     #[inline(always)]
-    pub fn give_back(&mut self, lease: LeaseKey) -> Option<ResKey>
+    pub(crate) fn give_back(&mut self, lease: LeaseKey) -> Option<ResKey>
         ensures value { result ≡ find self.old (lease_key lease) }
         ensures gone { find self.new (lease_key lease) ≡ None }
         ensures kept { KeepsOthers self.old self.new (lease_key lease) }
@@ -158,7 +160,7 @@ impl Leases {
     }
 
     /// The key of the lease of least number; None where none is out.
-    pub fn first(&self) -> Option<LeaseKey>
+    pub(crate) fn first(&self) -> Option<LeaseKey>
         ensures some { IfSome result (λ lease. IsFirst (IsOut self.now) 0 (lease_key lease)) }
         ensures none { IfNone result (HasNone (IsOut self.now) 0) }
     {
@@ -172,7 +174,7 @@ impl Leases {
 
     /// How many leases are out.
     #[inline(always)]
-    pub fn len(&self) -> usize
+    pub(crate) fn len(&self) -> usize
         ensures value { result ≡ self.now.count }
         ensures counted { result ≡ count_by is_some self.now.entries }
     {
@@ -201,7 +203,7 @@ impl Leases {
 
     /// What a checkpoint keeps of the leases, by rising number. It goes over the slots that leases stood
     /// at. Refused only where memory was refused.
-    pub fn base_leases(&self, alloc: Global) -> Result<Vec<BaseLease>, AllocError>
+    pub(crate) fn base_leases(&self, alloc: Global) -> Result<Vec<BaseLease>, AllocError>
         ensures { IfOk result (λ kept. IsByNumber (λ k. k.number) (kept_by lease_as_kept self.now) kept.items) }
     {
         let mut leases = self.list_leases(alloc)?;

@@ -4,7 +4,7 @@ use Rattle.std.proofs.Common.{is_some, refl, sym, ap, ◌∙◌, inl, inr, ◌�
 use Rattle.std.proofs.Math.Bool.{not}
 use Rattle.std.proofs.lemmas.Bool.{cases_Bool, false≢true, eqb-true, eq-eqb, and_parts}
 use Rattle.rx_lists.specs.Lists.{is_in, take_out, head_of}
-use Rattle.rx_lease.specs.Order.{AreRising}
+use Rattle.rx_ground.specs.LeasesInOrder.{AreRising}
 
 -- who stands on a longer list
 pub is_in-append : (y m : ℕ) (xs : List ℕ) → is_in y (xs ++ m ∷ []) ≡ (is_in y xs || (y == m))

@@ -1,2 +1,0 @@
-mod Orders
-mod LeasesStayInOrder

@@ -1,2 +1,0 @@
-pub mod Leases
-pub mod Order
