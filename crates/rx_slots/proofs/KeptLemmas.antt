@@ -1,5 +1,5 @@
 -- What the free slots are while values come and go.
-use Rattle.std.proofs.Common.{List, ◌≡◌, ◌≢◌, ◌⊎◌, ℕ, ◌+◌, ◌-◌, ◌<◌, ◌≤◌, [], ◌∷◌, ◌++◌, length, get_or, set, replicate, Option, Some, None, is_some}
+use Rattle.std.proofs.Common.{List, ◌≡◌, ◌≢◌, ◌⊎◌, ℕ, ◌+◌, ◌-◌, ◌<◌, ◌≤◌, [], ◌∷◌, ◌++◌, length, get_or, set, replicate, Option, Some, None, is_some, option_map}
 use Rattle.std.specs.Prelude.{slice_get}
 use Rattle.std.proofs.Common.{IsSome, count_by, cond, refl, sym, ap, subst, ◌∙◌, inl, inr, arith, true≢false}
 use Rattle.std.proofs.lemmas.Bool.{cases_eq, cases_lt}
@@ -260,6 +260,12 @@ module _ {T : Type 0} where
               );
           once = kept.once;
         }
+
+    -- also where the entry that stands there is changed
+    pub kept_changed : (slot : ℕ) (at : Option (Entry T)) (change : Entry T → Entry T) → at ≡ get_or cells slot None → IsSome (get_or cells slot None) →
+        IsKept (set cells slot (option_map change at)) free capacity cells_fit free_fit
+    kept_changed slot None change read there = absurd (true≢false (sym there ∙ ap is_some (sym read)))
+    kept_changed slot (Some e) change read there = kept_written slot (change e) there
 
 -- a `&mut` leaves what two functions that agree everywhere say alike
 pub same_loan : {G W S : Type 0} (name : G) (f g : W → S) → ((w : W) → f w ≡ g w) → ◌≡◌ {A = (G × (W → S)) ⊎ S} (inl (name, f)) (inl (name, g))

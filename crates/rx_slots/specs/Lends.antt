@@ -1,9 +1,12 @@
 -- What the slots end as, where a `&mut` to one of their values is returned.
-use Rattle.std.specs.Prelude.{ℕ, Option}
+use Rattle.std.specs.Prelude.{ℕ, Option, option_map}
 use Rattle.std.specs.Borrow.{Lends, LendsIf, Fml, RattleType, MutBor}
+use Rattle.rx_slots.specs.declared.Entry.{Entry}
 use Rattle.rx_slots.specs.declared.Key.{Key}
-use Rattle.rx_slots.specs.Slots.{Slots, with_value, with_value_at}
+use Rattle.rx_slots.specs.Slots.{Slots, entry_of, with_value, with_value_at}
 use Rattle.rx_slots.specs.contracts.Slots.{the_row}
+use Rattle.rx_slots.specs.contracts.records.Cell.{the_row as cell_row}
+use Rattle.rx_slots.specs.contracts.records.Records.{the_row as records_row}
 
 module _ (T : RattleType) (s : MutBor (Slots T.Denot)) where
   -- once the borrow ends, the key has the last value written, and at `None` nothing changed
@@ -17,3 +20,11 @@ module _ (T : RattleType) (s : MutBor (Slots T.Denot)) where
   -- a slot that has a value has it always
   abbrev pub lends_at : ℕ → MutBor T.Denot → Fml
   lends_at slot r = Lends (the_row T) T s r (with_value_at s.now slot)
+
+  -- also where values stay until their slot is used again
+  abbrev pub lends_record : ℕ → MutBor T.Denot → Fml
+  lends_record slot r = Lends (records_row T) T s r (with_value_at s.now slot)
+
+-- one cell of those
+abbrev pub lends_cell : (T : RattleType) → MutBor (Option (Entry T.Denot)) → MutBor T.Denot → Fml
+lends_cell T c r = Lends (cell_row T) T c r (λ value. option_map (λ e. entry_of e.number value) c.now)

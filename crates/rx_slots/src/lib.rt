@@ -16,7 +16,8 @@
 //!
 //! Where a value is known to stand at a slot, [`Slots::at`], [`Slots::number_of`] and [`Slots::at_mut`]
 //! read it in place and [`Slots::take_at`] takes it out, and where there is room [`Slots::place`] puts one
-//! in: a proved build asks nothing there.
+//! in. A store of the same contracts whose values need not come out is [`Records`]: there a value stays
+//! where it stood until its slot is used again, so in a proved build these calls ask nothing.
 //!
 //! Promised: each answer is the one that the entries tell, after `reserve(n)` n inserts succeed with
 //! no memory, and a slot is below 2^29: room for more is refused as memory is. A walk over all values,
@@ -30,6 +31,11 @@ ghost use Rattle.std.specs.Prelude.{◌≡◌, ◌↔◌, IsTrue, ℕ, ◌+◌, 
 ghost use Rattle.std.specs.Option.{option_copied_mut};
 ghost use Rattle.std.specs.Borrow.{sem};
 
+mod growing;
+mod records;
+
+use growing::grow;
+pub use records::Records;
 use std::alloc::{AllocError, Global};
 use std::marker::Model;
 use std::mem;
@@ -62,9 +68,6 @@ pub struct Slots<T> {
     // How many values there are and have room.
     capacity: usize,
 }
-
-// As many slots are used at most, so that a link may keep one in 29 bits.
-const MOST: usize = 536_870_912;
 
 impl<T> Model for Slots<T> {
     ghost use Rattle.rx_slots.specs.Slots.{Slots as Entries, slots_code};
@@ -113,41 +116,7 @@ impl<T> Slots<T> {
         if additional <= self.room() {
             return Ok(());
         }
-        self.grow(additional)
-    }
-
-    // Growing may copy all values, so it is done rarely: fourfold, where there is memory for that.
-    #[cold]
-    #[inline(never)]
-    fn grow(&mut self, additional: usize) -> Result<(), AllocError>
-        requires short { self.old.room < additional }
-        ensures ok { OnOk result (additional ≤ self.new.room) }
-        ensures kept { self.new ≡ record self.old { room = self.new.room } }
-        ensures room { self.old.room ≤ self.new.room }
-    {
-        let more = self.len().saturating_mul(3);
-        if additional < more && self.extend(more).is_ok() {
-            return Ok(());
-        }
-        self.extend(additional)
-    }
-
-    // Gets room for so many values more, or for as many as fit the memory that this takes, and for as many
-    // free slots as there can be then.
-    fn extend(&mut self, additional: usize) -> Result<(), AllocError>
-        ensures ok { OnOk result (additional ≤ self.new.room) }
-        ensures kept { self.new ≡ record self.old { room = self.new.room } }
-        ensures room { self.old.room ≤ self.new.room }
-    {
-        let len = self.len();
-        if additional > MOST - len {
-            return Err(AllocError);
-        }
-        let wanted = self.capacity.max(len + additional);
-        self.cells.reserve(wanted - self.cells.len())?;
-        let capacity = self.cells.capacity().min(MOST);
-        self.free.reserve(capacity - self.free.len())?;
-        self.capacity = capacity;
+        self.capacity = grow(&mut self.cells, &mut self.free, self.capacity, additional)?;
         Ok(())
     }
 

@@ -2,7 +2,7 @@
 use Rattle.std.proofs.Common.{◌≡◌, ℕ, Option, Some, None, option_map, is_some, IsSome, IfSome, refl, sym, ap, ◌∙◌, true≢false}
 use Rattle.rx_slots.specs.declared.Entry.{Entry}
 use Rattle.rx_slots.specs.declared.Key.{Key}
-use Rattle.rx_slots.specs.Slots.{Slots, entry_of, entry_at, value_at, number_at, find}
+use Rattle.rx_slots.specs.Slots.{Slots, entry_of, entry_at, value_at, number_at, key_at, find}
 use Rattle.rx_lists.proofs.Laws.Rings.{some_same}
 use Rattle.rx_tree.specs.declared.linked.Record.{Record}
 use Rattle.rx_tree.specs.declared.node.Node.{Node}
@@ -29,6 +29,17 @@ module _ {X Y : Type 0} (f : X → Y) (s : Slots X) (i : ℕ) where
     of : (o : Option (Entry X)) → IsSome (option_map (on_entry f) o) → IsSome o
     of None some = some
     of (Some e) some = refl
+
+-- a number and its slot are a key
+pub key_of_number : {X : Type 0} (s : Slots X) (slot number : ℕ) → number_at s slot ≡ Some number →
+    key_at s slot ≡ Some (record { slot = slot; number = number })
+key_of_number {X} s slot number at = of (entry_at s slot) at where
+  key : ℕ → Key
+  key n = record { slot = slot; number = n }
+
+  of : (o : Option (Entry X)) → option_map (λ e. e.number) o ≡ Some number → option_map (λ e. key e.number) o ≡ Some (key number)
+  of None e = absurd (true≢false (ap is_some (sym e)))
+  of (Some x) e = ap (option_map key) e
 
 -- the node above one that a key finds is open
 pub above_found : (nodes : Slots Node) → IsSound nodes → (key : Key) (o : Option Record) → option_map (λ l. l.node) o ≡ find nodes key →

@@ -28,7 +28,7 @@ owed_less all part some = omega (arith, some)
 
 module _ {T : Type 0} (s : Store T) (key : Key) («open» : IsSome (find (nodes_of s) key)) where
   -- a node that is seen has its record
-  found_in : IsSome (find s.nodes key)
+  pub found_in : IsSome (find s.nodes key)
   found_in = of (find s.nodes key) (ap is_some (sym (find-project (λ l. l.node) s.nodes key)) ∙ «open») where
     of : (o : Option Record) → IsSome (option_map (λ l. l.node) o) → IsSome o
     of None some = some

@@ -5,7 +5,8 @@ ghost use Rattle.rx_event.specs.Events.{makes_node, parent_named, is_root, is_le
 ghost use Rattle.rx_event.specs.Events.{source_named, inner_named, notifier_named, hub_connected, hub_subscribed};
 ghost use Rattle.rx_event.specs.Marks.{terminal_due, after_child, after_source, after_notifier, after_inner, after_projection, after_firing, after_decline};
 ghost use Rattle.rx_tree.specs.Store.{alone, no_counts};
-ghost use Rattle.rx_tree.specs.Places.{slot_of};
+ghost use Rattle.rx_tree.specs.Places.{slot_of, is_place};
+ghost use Rattle.std.proofs.Math.Bool.{not};
 ghost use Rattle.rx_tree.specs.Tree.{with_marks};
 ghost use Rattle.rx_tree.specs.declared.links.Place.TheVariants.{Children, Held, Sibling, Noted};
 
@@ -515,6 +516,23 @@ impl Record {
     {
         self.sibling.previous = to.slot();
         self.sibling_kinds.previous = to.kind();
+    }
+
+    // Whether it stands among the nodes that may be due, at this slot: else its link leads to itself.
+    #[inline(always)]
+    pub(crate) fn is_noted(&self, slot: usize) -> bool
+        ensures { result ≡ not (is_place self.now.noted.next (Noted slot)) }
+    {
+        match self.noted_kinds.next {
+            PlaceKind::Noted => self.noted.next as usize != slot,
+            PlaceKind::Roots
+            | PlaceKind::Due
+            | PlaceKind::Waiting
+            | PlaceKind::Children
+            | PlaceKind::Held
+            | PlaceKind::Sibling
+            | PlaceKind::Stored => true,
+        }
     }
 
     // Its link among the nodes that may be due.

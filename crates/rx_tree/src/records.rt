@@ -43,6 +43,18 @@ impl<R: Drop> Store<R> {
         self.nodes.key_at(slot)
     }
 
+    // The key of the node at a slot that has one.
+    #[inline(always)]
+    pub(crate) fn node_key(&self, slot: usize) -> Key
+        requires there { IsTrue (is_there self.now (Sibling slot)) }
+        ensures { key_at (nodes_of self.now) slot ≡ Some result }
+    {
+        Key {
+            slot,
+            number: self.nodes.number_of(slot),
+        }
+    }
+
     // The key of the resource at a slot.
     #[inline(always)]
     pub(crate) fn resource_at(&self, slot: usize) -> Option<Key>
@@ -57,10 +69,7 @@ impl<R: Drop> Store<R> {
         requires there { IsTrue (is_there self.now (Noted slot)) }
         ensures { result ≡ not (is_place (next_of self.now (Noted slot)) (Noted slot)) }
     {
-        match self.link(Place::Noted(slot)).next {
-            Place::Noted(next) => next != slot,
-            _ => true,
-        }
+        self.nodes.at(slot).is_noted(slot)
     }
 
     // The slot of a node above fits a record. It does nothing.
@@ -97,7 +106,7 @@ impl<R: Drop> Store<R> {
         let linked = Record::alone(node, self.nodes.next_slot());
         match self.nodes.insert(number, linked) {
             Ok(key) => Ok(key),
-            Err(_) => Err(AllocError),
+            Err(refused) => Err(refused),
         }
     }
 
@@ -246,11 +255,10 @@ impl<R: Drop> Store<R> {
     {
         // No more resources are held and wait than there are slots, so their count fits.
         let _slots = self.resources.slot_count();
-        let Some(linked) = self.nodes.take(key) else {
-            unreachable!()
-        };
-        let count = linked.held_count();
-        let owed = linked.owed();
+        let leaf = self.nodes.found(key);
+        let count = leaf.held_count();
+        let owed = leaf.owed();
+        self.nodes.remove(key);
         self.waiting_count.free += count.free;
         self.waiting_count.lent += count.lent;
         self.owed -= owed;

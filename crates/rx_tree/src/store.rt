@@ -10,7 +10,7 @@ ghost use Rattle.rx_tree.specs.declared.links.Place.TheVariants.{Roots, Due, Wai
 use crate::linked::Record;
 use crate::links::{Link, Place};
 use crate::node::Stowed;
-use rx_slots::Slots;
+use rx_slots::{Records, Slots};
 use std::alloc::Global;
 
 /// How many resources are so that have no lease out, and how many that have one: no more than there are slots.
@@ -68,7 +68,7 @@ pub(crate) struct Stored<R: Drop> {
 /// The records and the resources, and where the rings begin that belong to no node.
 #[derive(Drop)]
 pub(crate) struct Store<R: Drop> {
-    pub(crate) nodes: Slots<Record>,
+    pub(crate) nodes: Records<Record>,
     pub(crate) resources: Slots<Stored<R>>,
     pub(crate) roots: Link,
     pub(crate) due: Link,
@@ -95,7 +95,7 @@ impl<R: Drop> Store<R> {
         ensures owed { result.owed ≡ 0 }
     {
         Store {
-            nodes: Slots::new(alloc),
+            nodes: Records::new(alloc),
             resources: Slots::new(alloc),
             roots: Link::alone(Place::Roots),
             due: Link::alone(Place::Due),

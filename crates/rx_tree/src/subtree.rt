@@ -35,7 +35,7 @@ impl<R: Drop> Store<R> {
         ensures none { result ≡ None → next_of self.now (Children key.slot) ≡ Children key.slot }
     {
         match self.link(Place::Children(key.slot)).next {
-            Place::Sibling(slot) => self.node_at(slot),
+            Place::Sibling(slot) => Some(self.node_key(slot)),
             _ => None,
         }
     }
@@ -141,9 +141,7 @@ impl<R: Drop> Store<R> {
     {
         let key = self.leaf_below(from);
         // It is copied while it stands in its place.
-        let Some(leaf) = self.nodes.get(key) else {
-            unreachable!()
-        };
+        let leaf = self.nodes.found(key);
         // It is one of those that the list has room for.
         let _count = self.nodes.len();
         let above = leaf.parent();

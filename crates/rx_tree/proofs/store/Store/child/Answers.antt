@@ -1,9 +1,10 @@
-use Rattle.std.proofs.Common.{◌<◌, is_some, IsSome, IfSome, sym, ap, subst, ◌∙◌, true≢false}
+use Rattle.std.proofs.Common.{◌≡◌, ◌<◌, true, is_some, IsSome, IfSome, sym, ap, subst, ◌∙◌, true≢false}
+use Rattle.rx_tree.specs.declared.links.Place.TheVariants.{Children}
 use Rattle.rx_slots.specs.Slots.{find}
 use Rattle.rx_tree.specs.Cuts.{Descends, from_top, one_down}
-use Rattle.rx_tree.specs.Store.{nodes_of, resources_of, next_of, previous_of}
+use Rattle.rx_tree.specs.Store.{stands, nodes_of, resources_of, next_of, previous_of}
 use Rattle.rx_tree.proofs.LeafRings.{first_child_at, no_child}
-use Rattle.rx_tree.proofs.There.{slot_stands}
+use Rattle.rx_tree.proofs.There.{slot_stands, next_stands}
 use Rattle.rx_tree.proofs.store.Store.child.Goals as goal
 
 pub returns-in-Sibling-clause-below : goal.returns-in-Sibling-clause-below
@@ -11,7 +12,7 @@ returns-in-Sibling-clause-below g c =
     let s = c.args.self.now in
     let h = first_child_at (nodes_of s) (resources_of s) (next_of s) (previous_of s) c.requires.tied c.args.key c.requires.open c.in-Sibling.slot
     (ap (λ l. l.next) (sym c.link.ensures) ∙ c.in-Sibling.is) in
-    subst (λ o. IfSome o (λ child. Descends (nodes_of s) c.args.key child)) (sym (c.node_at.ensures ∙ h.at))
+    subst (λ o. IfSome o (λ child. Descends (nodes_of s) c.args.key child)) (sym h.at ∙ c.node_key.ensures)
     (one_down c.args.key h.child h.node from_top h.found h.above)
 
 pub returns-in-Sibling-clause-there : goal.returns-in-Sibling-clause-there
@@ -19,21 +20,26 @@ returns-in-Sibling-clause-there g c =
     let s = c.args.self.now in
     let h = first_child_at (nodes_of s) (resources_of s) (next_of s) (previous_of s) c.requires.tied c.args.key c.requires.open c.in-Sibling.slot
     (ap (λ l. l.next) (sym c.link.ensures) ∙ c.in-Sibling.is) in
-    subst (λ o. IfSome o (λ child. IsSome (find (nodes_of s) child))) (sym (c.node_at.ensures ∙ h.at)) (ap is_some h.found)
+    subst (λ o. IfSome o (λ child. IsSome (find (nodes_of s) child))) (sym h.at ∙ c.node_key.ensures) (ap is_some h.found)
 
 pub returns-in-Sibling-clause-later : goal.returns-in-Sibling-clause-later
 returns-in-Sibling-clause-later g c =
     let s = c.args.self.now in
     let h = first_child_at (nodes_of s) (resources_of s) (next_of s) (previous_of s) c.requires.tied c.args.key c.requires.open c.in-Sibling.slot
     (ap (λ l. l.next) (sym c.link.ensures) ∙ c.in-Sibling.is) in
-    subst (λ o. IfSome o (λ child. c.args.key.number < child.number)) (sym (c.node_at.ensures ∙ h.at)) h.later
+    subst (λ o. IfSome o (λ child. c.args.key.number < child.number)) (sym h.at ∙ c.node_key.ensures) h.later
 
 pub returns-in-Sibling-clause-none : goal.returns-in-Sibling-clause-none
-returns-in-Sibling-clause-none g c none =
+returns-in-Sibling-clause-none g c none = absurd (true≢false (ap is_some none))
+
+pub node_key-requires : goal.node_key-requires
+node_key-requires g c =
     let s = c.args.self.now in
-    let h = first_child_at (nodes_of s) (resources_of s) (next_of s) (previous_of s) c.requires.tied c.args.key c.requires.open c.in-Sibling.slot
-    (ap (λ l. l.next) (sym c.link.ensures) ∙ c.in-Sibling.is) in
-    absurd (true≢false (ap is_some (sym (c.node_at.ensures ∙ h.at) ∙ none)))
+    record {
+      there = subst (λ q. stands (nodes_of s) (resources_of s) q ≡ true) (ap (λ l. l.next) (sym c.link.ensures) ∙ c.in-Sibling.is)
+          (next_stands (nodes_of s) (resources_of s) (next_of s) (previous_of s) c.requires.tied (Children c.args.key.slot)
+          (slot_stands (nodes_of s) c.args.key c.requires.«open»));
+    }
 
 pub returns-in_default : goal.returns-in_default
 returns-in_default g c =

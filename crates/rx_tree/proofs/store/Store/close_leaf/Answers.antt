@@ -3,7 +3,11 @@ use Rattle.rx_tree.specs.Store.{nodes_of}
 use Rattle.rx_tree.proofs.InPlace.{there_project}
 use Rattle.rx_tree.proofs.SlotsFit.{some_count}
 use Rattle.rx_tree.proofs.There.{slot_stands}
+use Rattle.rx_tree.proofs.MarksWritten.{found_in}
 use Rattle.rx_tree.proofs.store.Store.close_leaf.Goals as goal
+
+pub found-leaf-requires : goal.found-leaf-requires
+found-leaf-requires g c = record { found = found_in c.args.self.now c.leaf_below-key.result c.leaf_below-key.ensures.there }
 
 pub push_reserved-requires : goal.push_reserved-requires
 push_reserved-requires g c =

@@ -1,28 +1,35 @@
-use Rattle.std.proofs.Common.{◌≡◌, ◌+◌, ◌-◌, Bool, true, false, Some, refl, sym, ap, ◌∙◌, arith}
+use Rattle.std.proofs.Common.{◌≡◌, ◌+◌, ◌-◌, Bool, true, false, refl, ap, arith}
 use Rattle.rx_tree.specs.declared.links.Place.TheVariants.{Children, Held, Sibling, Noted}
 use Rattle.rx_tree.specs.declared.store.Counts.{Counts}
 use Rattle.rx_tree.specs.Store.{alone, count_if}
 use Rattle.rx_tree.proofs.StoreLemmas.{takes-project, changes-project, part-taken, part-gone, links_taken}
 use Rattle.rx_tree.proofs.CountSteps.{out_fits, some_owed, counted_gone}
+use Rattle.rx_tree.proofs.MarksWritten.{found_in}
 use Rattle.rx_tree.proofs.store.Store.take_node.Goals as goal
+
+pub found-leaf-requires : goal.found-leaf-requires
+found-leaf-requires g c = record { found = found_in c.args.self.now c.args.key c.requires.«open» }
+
+pub remove-requires : goal.remove-requires
+remove-requires g c = record { found = found_in c.args.self.now c.args.key c.requires.«open» }
 
 pub returns-clause-taken : goal.returns-clause-taken
 returns-clause-taken g c = let e =
-    c.in-Some.ensures in takes-project (λ l. l.node) c.args.self.now.nodes c.take.new.self c.args.key e.changes e.gone e.kept e.count e.room
+    c.remove.ensures in takes-project (λ l. l.node) c.args.self.now.nodes c.remove.new.self c.args.key e.changes e.gone e.kept e.count e.room
 
 pub returns-clause-links : goal.returns-clause-links
-returns-clause-links g c = links_taken c.args.self.now c.take.new.self c.args.key.slot
-    (part-taken (λ l. l.children) (λ j. alone (Children j)) _ _ c.args.key.slot c.in-Some.ensures.changes c.requires.children)
-    (part-taken (λ l. l.held) (λ j. alone (Held j)) _ _ c.args.key.slot c.in-Some.ensures.changes c.requires.held)
-    (part-gone (λ l. l.sibling) (λ j. alone (Sibling j)) _ _ c.args.key.slot c.in-Some.ensures.changes)
-    (part-taken (λ l. l.noted) (λ j. alone (Noted j)) _ _ c.args.key.slot c.in-Some.ensures.changes c.requires.noted)
+returns-clause-links g c = links_taken c.args.self.now c.remove.new.self c.args.key.slot
+    (part-taken (λ l. l.children) (λ j. alone (Children j)) _ _ c.args.key.slot c.remove.ensures.changes c.requires.children)
+    (part-taken (λ l. l.held) (λ j. alone (Held j)) _ _ c.args.key.slot c.remove.ensures.changes c.requires.held)
+    (part-gone (λ l. l.sibling) (λ j. alone (Sibling j)) _ _ c.args.key.slot c.remove.ensures.changes)
+    (part-taken (λ l. l.noted) (λ j. alone (Noted j)) _ _ c.args.key.slot c.remove.ensures.changes c.requires.noted)
 
 pub overflow_add-self : goal.overflow_add-self
 overflow_add-self g c =
     let a = c.args.self.now in
-    let b = record c.args.self.now { nodes = c.take.new.self } in
-    let few = out_fits a b c.requires.counted c.args.key c.in-Some.linked (sym c.take.ensures.value ∙ c.in-Some.is)
-    (changes-project (λ l. l.node) _ _ c.args.key.slot _ c.in-Some.ensures.changes) false in
+    let b = record c.args.self.now { nodes = c.remove.new.self } in
+    let few = out_fits a b c.requires.counted c.args.key c.found-leaf.result.now c.found-leaf.ensures
+    (changes-project (λ l. l.node) _ _ c.args.key.slot _ c.remove.ensures.changes) false in
     let slots = c.slot_count-slots.ensures.value in
     let fits = c.slot_count-slots.ensures.most in
     let same = ap (λ (k : Counts). k.free) c.held_count-count.ensures in
@@ -31,9 +38,9 @@ overflow_add-self g c =
 pub overflow_add-self-2 : goal.overflow_add-self-2
 overflow_add-self-2 g c =
     let a = c.args.self.now in
-    let b = record c.args.self.now { nodes = c.take.new.self } in
-    let few = out_fits a b c.requires.counted c.args.key c.in-Some.linked (sym c.take.ensures.value ∙ c.in-Some.is)
-    (changes-project (λ l. l.node) _ _ c.args.key.slot _ c.in-Some.ensures.changes) true in
+    let b = record c.args.self.now { nodes = c.remove.new.self } in
+    let few = out_fits a b c.requires.counted c.args.key c.found-leaf.result.now c.found-leaf.ensures
+    (changes-project (λ l. l.node) _ _ c.args.key.slot _ c.remove.ensures.changes) true in
     let slots = c.slot_count-slots.ensures.value in
     let fits = c.slot_count-slots.ensures.most in
     let same = ap (λ (k : Counts). k.lent) c.held_count-count.ensures in
@@ -42,32 +49,32 @@ overflow_add-self-2 g c =
 pub overflow_sub-self : goal.overflow_sub-self
 overflow_sub-self g c =
     rw c.owed-owed.ensures (let a = c.args.self.now in
-    let b = record c.args.self.now { nodes = c.take.new.self } in
-    some_owed a b c.requires.counted c.args.key c.in-Some.linked (sym c.take.ensures.value ∙ c.in-Some.is)
-    (changes-project (λ l. l.node) _ _ c.args.key.slot _ c.in-Some.ensures.changes))
+    let b = record c.args.self.now { nodes = c.remove.new.self } in
+    some_owed a b c.requires.counted c.args.key c.found-leaf.result.now c.found-leaf.ensures
+    (changes-project (λ l. l.node) _ _ c.args.key.slot _ c.remove.ensures.changes))
 
 pub returns-clause-counted : goal.returns-clause-counted
 returns-clause-counted g c =
     rw (c.held_count-count.ensures, c.owed-owed.ensures) (let both : (l : Bool) → count_if l (record {
-      free = c.args.self.now.waiting_count.free + c.in-Some.linked.held_count.free;
+      free = c.args.self.now.waiting_count.free + c.found-leaf.result.now.held_count.free;
       lent =
-          c.args.self.now.waiting_count.lent + c.in-Some.linked.held_count.lent;
+          c.args.self.now.waiting_count.lent + c.found-leaf.result.now.held_count.lent;
     }) ≡
-    count_if l c.args.self.now.waiting_count + count_if l c.in-Some.linked.held_count = λ l. elim l as
+    count_if l c.args.self.now.waiting_count + count_if l c.found-leaf.result.now.held_count = λ l. elim l as
     (λ l. count_if l (record {
-      free = c.args.self.now.waiting_count.free + c.in-Some.linked.held_count.free;
+      free = c.args.self.now.waiting_count.free + c.found-leaf.result.now.held_count.free;
       lent =
-          c.args.self.now.waiting_count.lent + c.in-Some.linked.held_count.lent;
+          c.args.self.now.waiting_count.lent + c.found-leaf.result.now.held_count.lent;
     }) ≡
-    count_if l c.args.self.now.waiting_count + count_if l c.in-Some.linked.held_count) [ true ↦ refl | false ↦ refl ] in
+    count_if l c.args.self.now.waiting_count + count_if l c.found-leaf.result.now.held_count) [ true ↦ refl | false ↦ refl ] in
     let a = c.args.self.now in
     let b = record c.args.self.now {
-      nodes = c.take.new.self;
+      nodes = c.remove.new.self;
       waiting_count = record {
-        free = c.args.self.now.waiting_count.free + c.in-Some.linked.held_count.free;
-        lent = c.args.self.now.waiting_count.lent + c.in-Some.linked.held_count.lent;
+        free = c.args.self.now.waiting_count.free + c.found-leaf.result.now.held_count.free;
+        lent = c.args.self.now.waiting_count.lent + c.found-leaf.result.now.held_count.lent;
       };
-      owed = c.args.self.now.owed - c.in-Some.linked.node.marks.owed;
+      owed = c.args.self.now.owed - c.found-leaf.result.now.node.marks.owed;
     } in
-    counted_gone a b c.requires.counted c.args.key c.in-Some.linked (sym c.take.ensures.value ∙ c.in-Some.is)
-    (changes-project (λ l. l.node) _ _ c.args.key.slot _ c.in-Some.ensures.changes) refl both c.in-Some.ensures.changes refl)
+    counted_gone a b c.requires.counted c.args.key c.found-leaf.result.now c.found-leaf.ensures
+    (changes-project (λ l. l.node) _ _ c.args.key.slot _ c.remove.ensures.changes) refl both c.remove.ensures.changes refl)

@@ -1,0 +1,76 @@
+use Rattle.std.proofs.Common.{◌≡◌, [], ◌∷◌, ◌++◌, None, length, refl, sym, ap, ◌∙◌, arith}
+use Rattle.std.proofs.lemmas.List.{get_or_past}
+use Rattle.rx_slots.specs.declared.Entry.{Entry}
+use Rattle.rx_slots.specs.declared.Key.{Key}
+use Rattle.rx_slots.specs.Kept.{shown}
+use Rattle.rx_slots.specs.Slots.{Slots, with_number, placed, entry_at}
+use Rattle.rx_slots.proofs.SlotsLemmas.{length-placed, Changes-placed, KeepsOthers-insert}
+use Rattle.rx_slots.proofs.Laws.EntryByNumber.{with_number-same}
+use Rattle.rx_slots.proofs.KeptLemmas.{placed_next, placed_within, reused_below, reused_next, kept_reused}
+use Rattle.rx_slots.proofs.records.Records.place.Goals as goal
+
+pub returns-in_default-clause-placed : goal.returns-in_default-clause-placed
+returns-in_default-clause-placed g c =
+    let cells = c.self.inside.cells in
+    let e : Entry g.row.T.Denot = record { number = c.args.number; value = c.args.value } in
+    let at : length cells.items ≡ c.len-slot.result = sym (c.len-slot.ensures ∙ cells.ok.0) in
+    rw (← c.self.view_is)
+    (c.push_reserved.ensures.items ∙ ap (λ x. cells.items ++ x ∷ []) c.used-cell.ensures ∙ placed_next cells.items e ∙ ap (λ n. placed cells.items n e) at)
+
+pub returns-in_default-clause-kept : goal.returns-in_default-clause-kept
+returns-in_default-clause-kept g c =
+    let cells = c.self.inside.cells in
+    let key : Key = record { slot = c.len-slot.result; number = c.args.number } in
+    let at = c.len-slot.ensures ∙ cells.ok.0 in
+    let free : entry_at c.args.self.now c.len-slot.result ≡ None =
+    rw (← c.self.view_is) (get_or_past cells.items c.len-slot.result None (omega (arith, at))) in
+    let new : Slots g.row.T.Denot = shown c.push_reserved.new.self.items c.pop.new.self.items c.self.inside.capacity in
+    KeepsOthers-insert c.args.self.now new key c.args.value free (Changes-placed c.args.self.now new c.len-slot.result _ (returns-in_default-clause-placed g c))
+
+pub index_mut-requires : goal.index_mut-requires
+index_mut-requires g c =
+    let cells = c.self.inside.cells in
+    let below = reused_below cells.items c.self.inside.free.items _ _ _ c.self.invariant c.pop.new.self.items c.in-Some.slot
+    (record { number = c.args.number; value = c.args.value }) c.in-Some.ensures.items in
+    let same = cells.ok.0 in
+    omega (arith, below, same)
+
+pub invariant_of-self-2 : goal.invariant_of-self-2
+invariant_of-self-2 g c =
+    rw (c.used-cell.ensures, c.pop.ensures.capacity)
+    (kept_reused c.self.inside.cells.items c.self.inside.free.items _ _ _ c.self.invariant c.pop.new.self.items c.in-Some.slot _ c.in-Some.ensures.items)
+
+pub returns-clause-slot : goal.returns-clause-slot
+returns-clause-slot g c =
+    let e : Entry g.row.T.Denot = record { number = c.args.number; value = c.args.value } in
+    rw (← c.self.view_is)
+    (sym (reused_next c.self.inside.cells.items c.self.inside.free.items _ _ _ c.self.invariant c.pop.new.self.items c.in-Some.slot e c.in-Some.ensures.items))
+
+pub returns-clause-below : goal.returns-clause-below
+returns-clause-below g c =
+    let e : Entry g.row.T.Denot = record { number = c.args.number; value = c.args.value } in
+    let below = reused_below c.self.inside.cells.items c.self.inside.free.items _ _ _ c.self.invariant c.pop.new.self.items c.in-Some.slot e
+    c.in-Some.ensures.items in
+    let within = c.self.invariant.within in
+    let most = c.self.invariant.most in
+    omega (arith, below, within, most)
+
+pub returns-clause-placed : goal.returns-clause-placed
+returns-clause-placed g c =
+    let e : Entry g.row.T.Denot = record { number = c.args.number; value = c.args.value } in
+    let below = reused_below c.self.inside.cells.items c.self.inside.free.items _ _ _ c.self.invariant c.pop.new.self.items c.in-Some.slot e
+    c.in-Some.ensures.items in
+    rw (← c.self.view_is, c.used-cell.ensures) (placed_within c.self.inside.cells.items c.in-Some.slot e below)
+
+pub returns-clause-changes : goal.returns-clause-changes
+returns-clause-changes g c = Changes-placed c.args.self.now _ c.in-Some.slot _ (returns-clause-placed g c)
+
+pub returns-clause-found : goal.returns-clause-found
+returns-clause-found g c =
+    let e : Entry g.row.T.Denot = record { number = c.args.number; value = c.args.value } in
+    ap (with_number c.args.number) (returns-clause-changes g c).changed ∙ with_number-same c.args.number e refl
+
+pub returns-clause-slot_count : goal.returns-clause-slot_count
+returns-clause-slot_count g c =
+    let entries = c.args.self.now.entries in
+    ap length (returns-clause-placed g c) ∙ omega (arith, length-placed entries c.in-Some.slot (record { number = c.args.number; value = c.args.value }))

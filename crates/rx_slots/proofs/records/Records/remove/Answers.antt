@@ -1,0 +1,14 @@
+use Rattle.std.proofs.Common.{IsSome}
+use Rattle.rx_slots.specs.Slots.{entry_at}
+use Rattle.rx_slots.proofs.KeptLemmas.{kept_taken, last_or-push}
+use Rattle.rx_slots.proofs.Laws.EntryByNumber.{found_there}
+use Rattle.rx_slots.proofs.records.Records.remove.Goals as goal
+
+pub invariant_of-self : goal.invariant_of-self
+invariant_of-self g c =
+    let there : IsSome (entry_at c.args.self.now c.args.key.slot) = found_there c.args.self.now c.args.key c.requires.found in
+    rw (c.free.ensures, c.push_reserved.ensures.items, c.push_reserved.ensures.capacity)
+    (kept_taken c.self.inside.cells.items c.self.inside.free.items _ _ _ c.self.invariant c.args.key.slot (rw (← c.self.view_is) at there))
+
+pub returns-clause-next_slot : goal.returns-clause-next_slot
+returns-clause-next_slot g c = rw c.push_reserved.ensures.items (last_or-push _ c.self.inside.free.items c.args.key.slot)

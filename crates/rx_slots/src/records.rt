@@ -1,0 +1,353 @@
+//! Checked slots for values that stay where they stood until their slot is used again.
+
+ghost use Rattle.std.specs.Prelude.{◌≡◌, ◌↔◌, ◌+◌, ◌<◌, ◌≤◌, ◌^◌, max, IsTrue, IsOk, IsSome, IfOk, IfErr, OnOk, OnErr, Some, None, [], is_some};
+ghost use Rattle.std.specs.Prelude.{option_copied, option_map, count_by, slice_set};
+ghost use Rattle.std.specs.Borrow.{sem};
+
+use crate::growing::grow;
+use crate::{Entry, Key};
+use std::alloc::{AllocError, Global};
+use std::marker::Model;
+
+// The entry that stands at a slot, or what is left of the last one.
+#[derive(Drop)]
+struct Cell<T> {
+    is_used: bool,
+    entry: Entry<T>,
+}
+
+impl<T> Model for Cell<T> {
+    ghost use Rattle.std.specs.Prelude.{Option, Some, None, cond};
+    ghost use Rattle.std.specs.Coded.{coded_option};
+    ghost use Rattle.rx_slots.specs.declared.Entry.{Entry as Stands};
+    ghost use Rattle.rx_slots.specs.Slots.{entry_code};
+
+    ghost Value = { Option (Stands T) };
+
+    ghost coded = { coded_option (entry_code T.code) };
+
+    ghost view = { λ c. cond c.is_used (Some c.entry) None };
+}
+
+impl<T> Cell<T> {
+    ghost use Rattle.rx_slots.specs.Slots.{entry_of, with_number};
+    ghost use Rattle.rx_slots.specs.Lends.{lends_cell};
+
+    // Of a value that comes to a slot.
+    #[inline(always)]
+    fn used(number: u64, value: T) -> Self
+        ensures { result ≡ Some (entry_of number value) }
+    {
+        Cell {
+            is_used: true,
+            entry: Entry { number, value },
+        }
+    }
+
+    // What stands there.
+    #[inline(always)]
+    fn get(&self) -> Option<&Entry<T>>
+        ensures { option_copied result ≡ self.now }
+    {
+        if self.is_used {
+            Some(&self.entry)
+        } else {
+            None
+        }
+    }
+
+    // The value that stands there, if it has this number.
+    #[inline(always)]
+    fn find(&self, number: u64) -> Option<&T>
+        ensures { option_copied result ≡ with_number number self.now }
+    {
+        if self.entry.number == number && self.is_used {
+            Some(&self.entry.value)
+        } else {
+            None
+        }
+    }
+
+    // The entry of one that is used.
+    #[inline(always)]
+    fn entry(&self) -> &Entry<T>
+        requires used { IsSome self.now }
+        ensures { self.now ≡ Some result.now }
+    {
+        &self.entry
+    }
+
+    // Its value, for writing.
+    #[inline(always)]
+    fn value_mut(&mut self) -> &mut T
+        requires used { IsSome self.old }
+        ensures* writes_back { sem 𝓛 (lends_cell T.row self.entry result) }
+        ensures value { option_map (λ e. e.value) self.old ≡ Some result.now }
+    {
+        &mut self.entry.value
+    }
+
+    // It is used no more.
+    #[inline(always)]
+    fn free(&mut self)
+        ensures { self.new ≡ None }
+    {
+        self.is_used = false;
+    }
+}
+
+/// Values at slots, each under a key that finds no other value. A value that was removed stays where it
+/// stood, and is let go once its slot is used again or the store is: so no call has to ask whether
+/// a slot is used where that is known.
+#[derive(Drop)]
+pub struct Records<T> {
+    // What stands at each slot that was ever used.
+    cells: Vec<Cell<T>>,
+    // The slots without a value, each once. The last of them is used next.
+    free: Vec<u32>,
+    // How many values there are and have room.
+    capacity: usize,
+}
+
+impl<T> Model for Records<T> {
+    ghost use Rattle.rx_slots.specs.Slots.{Slots as Entries, slots_code};
+
+    ghost Value = { Entries T };
+
+    ghost coded = { slots_code T.code };
+
+    ghost use Rattle.std.specs.Prelude.{vec_capacity};
+    ghost use Rattle.rx_slots.specs.Kept.{shown, IsKept};
+
+    ghost view = { λ s. shown s.cells.items s.free.items s.capacity };
+
+    ghost invariant = { λ s. IsKept s.cells.items s.free.items s.capacity (vec_capacity s.cells) (vec_capacity s.free) };
+}
+
+impl<T> Records<T> {
+    ghost use Rattle.rx_slots.specs.Slots.{slot_count, entry_at, number_at, value_at, key_at, find, IsWithin, Changes, KeepsOthers};
+    ghost use Rattle.rx_slots.specs.Lends.{lends_record};
+
+    /// As [`Slots::new`](crate::Slots::new).
+    pub fn new(alloc: Global) -> Self
+        ensures empty { result.entries ≡ [] }
+        ensures next_slot { result.next_slot ≡ 0 }
+        ensures count { result.count ≡ 0 }
+        ensures room { result.room ≡ 0 }
+    {
+        Records {
+            cells: Vec::new(alloc),
+            free: Vec::new(alloc),
+            capacity: 0,
+        }
+    }
+
+    /// As [`Slots::reserve`](crate::Slots::reserve).
+    #[inline(always)]
+    pub fn reserve(&mut self, additional: usize) -> Result<(), AllocError>
+        ensures ok { OnOk result (additional ≤ self.new.room) }
+        ensures succeeds { additional ≤ self.old.room → IsOk result }
+        ensures had_room { additional ≤ self.old.room → self.new ≡ self.old }
+        ensures kept { self.new ≡ record self.old { room = self.new.room } }
+        ensures room { self.old.room ≤ self.new.room }
+    {
+        if additional <= self.room() {
+            return Ok(());
+        }
+        self.capacity = grow(&mut self.cells, &mut self.free, self.capacity, additional)?;
+        Ok(())
+    }
+
+    /// How many values more need no memory.
+    #[inline(always)]
+    pub fn room(&self) -> usize
+        ensures { result ≡ self.now.room }
+    {
+        self.capacity - self.len()
+    }
+
+    /// How many values there are.
+    #[inline(always)]
+    pub fn len(&self) -> usize
+        ensures value { result ≡ self.now.count }
+        ensures counted { result ≡ count_by is_some self.now.entries }
+    {
+        self.cells.len() - self.free.len()
+    }
+
+    /// How many values there are and have room: each is at a slot below, also those that are put in
+    /// without a request for memory.
+    #[inline(always)]
+    pub fn capacity(&self) -> usize
+        ensures value { result ≡ self.now.count + self.now.room }
+        ensures within { IsWithin self.now }
+        ensures most { result ≤ 2 ^ 29 }
+    {
+        self.capacity
+    }
+
+    /// How many slots were ever used: each value is at a slot below.
+    pub fn slot_count(&self) -> usize
+        ensures value { result ≡ slot_count self.now }
+        ensures at_most { result ≤ self.now.count + self.now.room }
+        ensures most { result ≤ 2 ^ 29 }
+    {
+        self.cells.len()
+    }
+
+    /// The slot that the next insert uses.
+    #[inline(always)]
+    pub fn next_slot(&self) -> usize
+        ensures value { result ≡ self.now.next_slot }
+        ensures free { entry_at self.now result ≡ None }
+        ensures most { result ≤ 2 ^ 29 }
+    {
+        match self.free.last() {
+            Some(slot) => *slot as usize,
+            None => self.cells.len(),
+        }
+    }
+
+    /// The value of a key; None where its slot has no value, or one of another number.
+    #[inline(always)]
+    pub fn get(&self, key: Key) -> Option<&T>
+        ensures { option_copied result ≡ find self.now key }
+    {
+        self.cells.get(key.slot)?.find(key.number)
+    }
+
+    /// Whether a key finds a value.
+    #[inline(always)]
+    pub fn contains(&self, key: Key) -> bool
+        ensures { IsTrue result ↔ IsSome (find self.now key) }
+    {
+        self.get(key).is_some()
+    }
+
+    /// The value at a slot with its number, if one stands there.
+    #[inline(always)]
+    pub fn entry_at(&self, slot: usize) -> Option<&Entry<T>>
+        ensures { option_copied result ≡ entry_at self.now slot }
+    {
+        self.cells.get(slot)?.get()
+    }
+
+    /// The key of the value at a slot, if one stands there.
+    #[inline(always)]
+    pub fn key_at(&self, slot: usize) -> Option<Key>
+        ensures { result ≡ key_at self.now slot }
+    {
+        let number = self.entry_at(slot)?.number;
+        Some(Key { slot, number })
+    }
+
+    /// The value at a slot that has one.
+    #[inline(always)]
+    pub fn at(&self, slot: usize) -> &T
+        requires there { IsSome (entry_at self.now slot) }
+        ensures { value_at self.now slot ≡ Some result.now }
+    {
+        &self.cells[slot].entry().value
+    }
+
+    /// The value of a key that finds one.
+    #[inline(always)]
+    pub fn found(&self, key: Key) -> &T
+        requires found { IsSome (find self.now key) }
+        ensures { find self.now key ≡ Some result.now }
+    {
+        self.at(key.slot)
+    }
+
+    /// The number at a slot that has a value.
+    #[inline(always)]
+    pub fn number_of(&self, slot: usize) -> u64
+        requires there { IsSome (entry_at self.now slot) }
+        ensures { number_at self.now slot ≡ Some result }
+    {
+        self.cells[slot].entry().number
+    }
+
+    /// The value at a slot that has one, for writing.
+    #[inline(always)]
+    pub fn at_mut(&mut self, slot: usize) -> &mut T
+        requires there { IsSome (entry_at self.old slot) }
+        ensures* writes_back { sem 𝓛 (lends_record T.row self.entry slot result) }
+        ensures value { value_at self.old slot ≡ Some result.now }
+    {
+        self.cells[slot].value_mut()
+    }
+
+    /// Lets the value of a key be there no more. The slot is free again, and the next that is used.
+    #[inline(always)]
+    pub fn remove(&mut self, key: Key)
+        requires found { IsSome (find self.old key) }
+        ensures changes { Changes self.old self.new key.slot None }
+        ensures gone { find self.new key ≡ None }
+        ensures kept { KeepsOthers self.old self.new key }
+        ensures slot_count { slot_count self.new ≡ slot_count self.old }
+        ensures next_slot { self.new.next_slot ≡ key.slot }
+        ensures count { self.new.count + 1 ≡ self.old.count }
+        ensures room { self.new.room ≡ self.old.room + 1 }
+    {
+        self.free.push_reserved(key.slot as u32);
+        self.cells[key.slot].free();
+    }
+}
+
+impl<T: Drop> Records<T> {
+    ghost use Rattle.rx_slots.specs.Slots.{entry_of, slot_count, placed, entry_at, find, Changes, KeepsOthers};
+
+    /// Puts a value at the next slot, under a number that its caller gives. Refused only where there was no
+    /// room and memory was refused.
+    #[inline(always)]
+    pub fn insert(&mut self, number: u64, value: T) -> Result<Key, AllocError>
+        // The value goes to the next slot, which was free, and no other slot changes.
+        ensures numbered { IfOk result (λ key. key.number ≡ number) }
+        ensures slot { IfOk result (λ key. key.slot ≡ self.old.next_slot) }
+        ensures was_free { IfOk result (λ key. entry_at self.old key.slot ≡ None) }
+        ensures changes { IfOk result (λ key.
+            Changes self.old self.new key.slot (Some (entry_of number value))) }
+        ensures found { IfOk result (λ key. find self.new key ≡ Some value) }
+        ensures kept { IfOk result (λ key. KeepsOthers self.old self.new key) }
+        ensures count { OnOk result (self.new.count ≡ self.old.count + 1) }
+
+        // One place of the room is used, where there was room.
+        ensures succeeds { 0 < self.old.room → IsOk result }
+        ensures had_room { 0 < self.old.room → self.new.room + 1 ≡ self.old.room }
+
+        // A refusal changes no entry.
+        ensures err { OnErr result (self.new ≡ record self.old { room = self.new.room }) }
+        ensures room { OnErr result (self.old.room ≤ self.new.room) }
+    {
+        self.reserve(1)?;
+        let slot = self.place(number, value);
+        Ok(Key { slot, number })
+    }
+
+    /// `insert` where there is room, which cannot be refused. It gives the slot alone.
+    #[inline(always)]
+    pub fn place(&mut self, number: u64, value: T) -> usize
+        requires room { 0 < self.old.room }
+        ensures slot { result ≡ self.old.next_slot }
+        ensures was_free { entry_at self.old result ≡ None }
+        ensures below { result < 2 ^ 29 }
+        ensures placed { self.new.entries ≡ placed self.old.entries result (entry_of number value) }
+        ensures changes { Changes self.old self.new result (Some (entry_of number value)) }
+        ensures found { find self.new (record { slot = result; number = number }) ≡ Some value }
+        ensures kept { KeepsOthers self.old self.new (record { slot = result; number = number }) }
+        ensures slot_count { slot_count self.new ≡ max (slot_count self.old) (result + 1) }
+        ensures count { self.new.count ≡ self.old.count + 1 }
+        ensures had_room { self.new.room + 1 ≡ self.old.room }
+    {
+        let cell = Cell::used(number, value);
+        let Some(slot) = self.free.pop() else {
+            let slot = self.cells.len();
+            self.cells.push_reserved(cell);
+            return slot;
+        };
+        let slot = slot as usize;
+        self.cells[slot] = cell;
+        slot
+    }
+}
