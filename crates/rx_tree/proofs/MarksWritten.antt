@@ -1,5 +1,5 @@
 -- What a store has once the marks of one record are written in place.
-use Rattle.std.proofs.Common.{◌≡◌, ℕ, ◌+◌, ◌-◌, ◌<◌, ◌≤◌, Option, Some, None, option_map, is_some, IsSome, IfSome, refl, sym, ap, subst, ◌∙◌, arith}
+use Rattle.std.proofs.Common.{◌≡◌, ℕ, ◌+◌, ◌-◌, ◌<◌, ◌≤◌, Some, option_map, IsSome, IfSome, refl, sym, ap, subst, ◌∙◌, arith}
 use Rattle.rx_event.specs.declared.marks.Marks.{Marks}
 use Rattle.rx_slots.specs.declared.Key.{Key}
 use Rattle.rx_slots.specs.Slots.{Slots, entry_at, value_at, find, with_value, with_value_at}
@@ -13,7 +13,7 @@ use Rattle.rx_tree.specs.Store.{alone, no_counts, nodes_of}
 use Rattle.rx_tree.specs.Ties.{IsCounted, IsRemarked}
 use Rattle.rx_tree.specs.Tree.{with_marks}
 use Rattle.rx_tree.proofs.Laws.Owed.{owed_part, owed_written}
-use Rattle.rx_tree.proofs.StoreLemmas.{find-project, changes-written, rewrites-project, part-rewritten, nodes_keep_links}
+use Rattle.rx_tree.proofs.StoreLemmas.{find-project, found-project, changes-written, rewrites-project, part-rewritten, nodes_keep_links}
 use Rattle.rx_tree.proofs.CountSteps.{counted_kept, found_marked}
 
 -- what is owed in all after one record owes other than it did
@@ -29,10 +29,7 @@ owed_less all part some = omega (arith, some)
 module _ {T : Type 0} (s : Store T) (key : Key) («open» : IsSome (find (nodes_of s) key)) where
   -- a node that is seen has its record
   pub found_in : IsSome (find s.nodes key)
-  found_in = of (find s.nodes key) (ap is_some (sym (find-project (λ l. l.node) s.nodes key)) ∙ «open») where
-    of : (o : Option Record) → IsSome (option_map (λ l. l.node) o) → IsSome o
-    of None some = some
-    of (Some l) some = refl
+  found_in = found-project (λ l. l.node) s.nodes key «open»
 
   pub slot_there : IsSome (entry_at s.nodes key.slot)
   slot_there = found_there s.nodes key found_in

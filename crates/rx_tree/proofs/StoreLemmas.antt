@@ -1,5 +1,5 @@
 -- Slots that are seen through a function, and what a write of one link changes.
-use Rattle.std.proofs.Common.{◌≡◌, ℕ, ◌+◌, ◌==◌, ◌<◌, cond, length, get_or, set, Bool, true, false, Option, Some, None, option_map, is_some, refl, sym, ap}
+use Rattle.std.proofs.Common.{◌≡◌, ℕ, ◌+◌, ◌==◌, ◌<◌, cond, length, get_or, set, Bool, true, false, Option, Some, None, option_map, is_some, IsSome, refl, sym, ap}
 use Rattle.std.proofs.Common.{subst, ◌∙◌, inl, inr, arith, true≢false}
 use Rattle.std.specs.Option.{option_map_or}
 use Rattle.std.proofs.Math.ListN.{get_or-map}
@@ -32,6 +32,13 @@ module _ {X Y : Type 0} (f : X → Y) where
       by_test : (b : Bool) → cond b (Some (f e.value)) None ≡ option_map f (cond b (Some e.value) None)
       by_test true = refl
       by_test false = refl
+
+  -- a value that is seen is there
+  pub found-project : (s : Slots X) (key : Key) → IsSome (find (project f s) key) → IsSome (find s key)
+  found-project s key found = of (find s key) (ap is_some (sym (find-project s key)) ∙ found) where
+    of : (o : Option X) → IsSome (option_map f o) → IsSome o
+    of None some = some
+    of (Some x) some = refl
 
   pub within-project : (s : Slots X) → IsWithin s → IsWithin (project f s)
   within-project s within key found = within key (of (find s key) (sym (ap is_some (find-project s key)) ∙ found)) where

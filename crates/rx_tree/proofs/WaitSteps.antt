@@ -93,11 +93,8 @@ module _ {T : Type 0} (s : Store T) (tied : IsTied s) where
         (previous_of s) Waiting (tied.rings Waiting) Waiting (tied.ringed.leads Waiting refl) (λ e. false≢true (ap is_end (sym at ∙ e)))))
 
     -- a resource stands where the links show one that waits
-    pub first_there : is_some (key_at (resources_of s) slot) ≡ true
-    first_there = of (entry_at (resources_of s) slot) (home_stands (nodes_of s) (resources_of s) tied.noted (Stored slot) Waiting first_home) where
-      of : (o : Option (Entry (Stowed T))) → is_some o ≡ true → is_some {T = Key} (option_map (λ e. record { slot = slot; number = e.number }) o) ≡ true
-      of None there = there
-      of (Some e) there = refl
+    pub first_there : is_some (entry_at (resources_of s) slot) ≡ true
+    first_there = home_stands (nodes_of s) (resources_of s) tied.noted (Stored slot) Waiting first_home
 
     pub first_waits : (key : Key) → key_at (resources_of s) slot ≡ Some key → IsWaiting s slot key
     first_waits key key_is = of (entry_at (resources_of s) slot) refl first_home key_is where

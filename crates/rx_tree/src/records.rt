@@ -1,7 +1,7 @@
 //! The records of a store as they come, change and go, and how many resources wait and are held.
 
 ghost use Rattle.std.specs.Prelude.{◌≡◌, ◌+◌, ◌<◌, ◌≤◌, ◌^◌, IsTrue, ◌==◌, ◌&&◌, cond, IsOk, IfOk, IfSome, IfErr, OnOk};
-ghost use Rattle.std.specs.Prelude.{OnErr, OnSome, Some, false, option_map, IsSome};
+ghost use Rattle.std.specs.Prelude.{OnErr, Some, false, option_map, IsSome};
 ghost use Rattle.rx_event.specs.Events.{makes_node, parent_named, is_merging};
 ghost use Rattle.rx_event.specs.Marks.{after_child, after_source, after_notifier, after_inner, after_projection, after_firing, after_decline};
 ghost use Rattle.rx_slots.specs.declared.Key.{Key};
@@ -55,12 +55,16 @@ impl<R: Drop> Store<R> {
         }
     }
 
-    // The key of the resource at a slot.
+    // The key of the resource at a slot that has one.
     #[inline(always)]
-    pub(crate) fn resource_at(&self, slot: usize) -> Option<Key>
-        ensures { result ≡ key_at (resources_of self.now) slot }
+    pub(crate) fn resource_key(&self, slot: usize) -> Key
+        requires there { IsTrue (is_there self.now (At slot)) }
+        ensures { key_at (resources_of self.now) slot ≡ Some result }
     {
-        self.resources.key_at(slot)
+        Key {
+            slot,
+            number: self.resources.number_of(slot),
+        }
     }
 
     // Whether a slot's node stands among those that may be due.
@@ -352,20 +356,21 @@ impl<R: Drop> Store<R> {
 
     // Takes out a resource that waits and stands on no ring.
     #[inline(always)]
-    pub(crate) fn take_resource(&mut self, key: Key) -> Option<Stowed<R>>
+    pub(crate) fn take_resource(&mut self, key: Key) -> Stowed<R>
         requires counted { IsCounted self.old }
+        requires found { IsSome (find (resources_of self.old) key) }
         requires waits { IfSome (find (resources_of self.old) key)
             (λ stowed. is_held (nodes_of self.old) stowed ≡ false) }
         requires link { link_at self.old (At key.slot) ≡ alone (At key.slot) }
-        ensures value { result ≡ find (resources_of self.old) key }
-        ensures taken { OnSome result (Takes_out (resources_of self.old) (resources_of self.new) key) }
-        ensures counted { OnSome result (IsCounted self.new) }
+        ensures value { find (resources_of self.old) key ≡ Some result }
+        ensures taken { Takes_out (resources_of self.old) (resources_of self.new) key }
+        ensures counted { IsCounted self.new }
         ensures links { KeepsLinks self.old self.new }
         ensures nodes { self.new.nodes ≡ self.old.nodes }
     {
-        let stored = self.resources.take(key)?;
+        let stored = self.resources.take_at(key.slot);
         self.waiting_count = self.waiting_count.less(false);
-        Some(stored.stowed)
+        stored.stowed
     }
 
     // One lease more of an owned resource is out.

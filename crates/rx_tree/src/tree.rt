@@ -662,13 +662,9 @@ impl<R: Resource> Tree<R> {
     {
         match self.store.link(Place::Waiting).next {
             Place::Stored(slot) => {
-                let Some(key) = self.store.resource_at(slot) else {
-                    unreachable!()
-                };
+                let key = self.store.resource_key(slot);
                 self.store.leave(Place::Stored(key.slot));
-                let Some(stowed) = self.store.take_resource(key) else {
-                    unreachable!()
-                };
+                let stowed = self.store.take_resource(key);
                 Some((key.number, stowed.resource))
             }
             _ => None,
