@@ -139,6 +139,7 @@ impl Hubs {
 
     /// Lets subscribers stand at all slots of a tree below this one: so `subscribe` takes no memory.
     /// Refused only where memory was. Nothing else changes either way.
+    #[inline(always)]
     pub fn reserve_slots(&mut self, slots: usize) -> Result<(), AllocError>
         ensures ok { OnOk result (slots ≤ self.new.slots) }
         ensures kept { self.new ≡ record self.old { slots = self.new.slots } }

@@ -247,12 +247,28 @@ impl Store {
     }
 
     // Lets subscribers stand at all slots below this one.
+    #[inline(always)]
     pub(crate) fn admit(&mut self, slots: usize) -> Result<(), AllocError>
         ensures ok { OnOk result (slots ≤ self.new.slots) }
         ensures kept { self.new ≡ record self.old { slots = self.new.slots } }
         ensures slots { self.old.slots ≤ self.new.slots }
         ensures err { OnErr result (self.new ≡ self.old) }
         ensures succeeds { slots ≤ self.old.slots → IsOk result }
+    {
+        if slots <= self.subscribers.members() {
+            return Ok(());
+        }
+        self.admit_more(slots)
+    }
+
+    // The same where there are more than before.
+    #[cold]
+    #[inline(never)]
+    fn admit_more(&mut self, slots: usize) -> Result<(), AllocError>
+        ensures ok { OnOk result (slots ≤ self.new.slots) }
+        ensures kept { self.new ≡ record self.old { slots = self.new.slots } }
+        ensures slots { self.old.slots ≤ self.new.slots }
+        ensures err { OnErr result (self.new ≡ self.old) }
     {
         lengthen(&mut self.numbers, slots)?;
         self.subscribers.admit(slots)

@@ -1,7 +1,7 @@
 use Rattle.std.proofs.Common.{ap, arith}
 use Rattle.rx_lists.specs.Lists.{Lists}
 use Rattle.rx_hub.proofs.StoreShowsHubs.{kept_same}
-use Rattle.rx_hub.proofs.store.Store.admit.Goals as goal
+use Rattle.rx_hub.proofs.store.Store.admit_more.Goals as goal
 
 pub invariant_of-self-2 : goal.invariant_of-self-2
 invariant_of-self-2 c =
