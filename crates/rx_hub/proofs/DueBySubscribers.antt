@@ -1,23 +1,23 @@
 -- What a hub has to do is told by its oldest and its youngest subscriber.
-use Rattle.std.proofs.Common.{◌≡◌, ℕ, ◌<◌, ◌≤◌, ◌==◌, ◌&&◌, ◌||◌, cond, Bool, true, false, List, [], ◌∷◌, length, slice_get, Option, Some, None, option_map}
+use Rattle.std.proofs.Common.{◌≡◌, ℕ, ◌<◌, ◌≤◌, ◌==◌, ◌++◌, ◌&&◌, ◌||◌, cond, Bool, true, false, List, [], ◌∷◌, length, slice_get, Option, Some, None, option_map}
 use Rattle.std.proofs.Common.{is_some, is_none, refl, sym, ap, subst, ◌∙◌, arith, true≢false, IfSome}
-use Rattle.std.specs.Prelude.{if◌then◌else◌}
-use Rattle.std.specs.List.{list_any}
+use Rattle.std.specs.Prelude.{if◌then◌else◌, nat_lt}
+use Rattle.std.specs.List.{filter, list_any}
 use Rattle.std.specs.Option.{option_map_or, option_and_then, option_or}
 use Rattle.std.proofs.Math.Bool.{not}
 use Rattle.std.proofs.lemmas.Bool.Decides.{nat_tests}
 use Rattle.std.proofs.lemmas.Option.{same_Some, none-some}
 use Rattle.rx_slots.specs.declared.Key.{Key}
-use Rattle.rx_tree.specs.Tree.{first_of}
+use Rattle.rx_tree.specs.Tree.{first_of, is_key}
 use Rattle.rx_hub.specs.declared.hub.HubDue.{HubDue}
-use Rattle.rx_hub.specs.declared.hub.HubDue.TheVariants.{Connect as Connecting}
+use Rattle.rx_hub.specs.declared.hub.HubDue.TheVariants.{Connect as Connecting, End}
 use Rattle.rx_hub.specs.declared.hub.LastEnd.{LastEnd}
 use Rattle.rx_hub.specs.declared.hub.Published.{Published}
 use Rattle.rx_hub.specs.declared.forcing.Rule.{Rule}
 use Rattle.rx_hub.specs.declared.forcing.Rule.TheVariants.{Connect, Other}
 use Rattle.rx_hub.specs.Chains.{IsCalm, IsChain, IsAt}
 use Rattle.rx_hub.specs.Due.{IsDueIn, IsQuiet, NoneWaits, connects, acts, is_auto, is_cut, connect_of, due_of, cut_of, left_of}
-use Rattle.rx_hub.specs.Hubs.{Hub, Hubs, IsPromised, AreAbove, Rises, published_of, last_from}
+use Rattle.rx_hub.specs.Hubs.{Hub, Hubs, IsPromised, AreAbove, Rises, published_of, last_from, subscribed, unsubscribed, without_key}
 use Rattle.rx_lists.specs.Lists.{Lists, list_at, is_in, take_out, head_of}
 use Rattle.rx_hub.specs.Rules.{connect_by, cut_by, due_by, given_by}
 
@@ -64,6 +64,93 @@ due_told hub = of hub.last_end hub.subscribers where
   of (Some e) [] = refl
   of None (k ∷ ks) = refl
   of (Some e) (k ∷ ks) = none_or (cut_by (Some e) k)
+
+-- a subscriber that comes or leaves ----------------------------------------------------------------
+
+-- one that comes behind another makes nothing else due
+pub due_behind : (key : Key) (hub : Hub) → is_some (first_of hub.subscribers) ≡ true → due_of hub ≡ None → due_of (subscribed key hub) ≡ None
+due_behind key hub among none =
+    sym (due_told (subscribed key hub)) ∙ ap (due_by (published_of hub)) (same hub.subscribers among) ∙ due_told hub ∙ none where
+      same : (ks : List Key) → is_some (first_of ks) ≡ true → first_of (ks ++ key ∷ []) ≡ first_of ks
+      same [] e = absurd (true≢false (sym e))
+      same (k ∷ ks) e = refl
+
+-- no end cuts a younger one that cuts no older one
+uncut_on : (last : Option LastEnd) (a b : Key) → a.number < b.number → cut_by last a ≡ None → cut_by last b ≡ None
+uncut_on None a b less none = refl
+uncut_on (Some e) a b less none = of (nat_lt a.number e.place) refl (nat_lt b.number e.place) refl none where
+  later : nat_lt a.number e.place ≡ false → nat_lt b.number e.place ≡ false
+  later p = grind (arith, nat_tests, less, p)
+
+  of : (s : Bool) → nat_lt a.number e.place ≡ s → (t : Bool) → nat_lt b.number e.place ≡ t →
+      (if s then Some (End a e.terminal) else None) ≡ None → (if t then Some (End b e.terminal) else None) ≡ None
+  of true p t q n = absurd (none-some (End a e.terminal) (sym n))
+  of false p true q n = absurd (true≢false (sym q ∙ later p))
+  of false p false q n = refl
+
+first_uncut : (last : Option LastEnd) (key : Key) (ks : List Key) → Rises ks → IfSome (first_of ks) (λ k. cut_by last k ≡ None) →
+    IfSome (first_of (without_key key ks)) (λ k. cut_by last k ≡ None)
+first_uncut last key [] rises first = tt
+first_uncut last key (k ∷ ks) rises first = of (is_key key k) (first_uncut last key ks rises.1 (next ks rises.0)) where
+  next : (zs : List Key) → AreAbove k.number zs → IfSome (first_of zs) (λ z. cut_by last z ≡ None)
+  next [] above = tt
+  next (z ∷ zs) above = uncut_on last k z above.0 first
+
+  of : (b : Bool) → IfSome (first_of (without_key key ks)) (λ z. cut_by last z ≡ None) →
+      IfSome (first_of (cond (not b) (k ∷ without_key key ks) (without_key key ks))) (λ z. cut_by last z ≡ None)
+  of true rest = rest
+  of false rest = first
+
+-- one that leaves others makes nothing else due
+pub due_left : (key : Key) (hub : Hub) → Rises hub.subscribers → is_some (first_of (without_key key hub.subscribers)) ≡ true → due_of hub ≡ None →
+    due_of (unsubscribed key hub) ≡ None
+due_left key hub rises among none =
+    sym (due_told (unsubscribed key hub)) ∙
+    tail (first_of (without_key key hub.subscribers)) among
+    (first_uncut hub.last_end key hub.subscribers rises (head (first_of hub.subscribers) (due_told hub ∙ none))) where
+      head : (o : Option Key) → due_by (published_of hub) o ≡ None → IfSome o (λ k. cut_by hub.last_end k ≡ None)
+      head None e = tt
+      head (Some k) e = e
+
+      tail : (o : Option Key) → is_some o ≡ true → IfSome o (λ k. cut_by hub.last_end k ≡ None) → due_by (published_of hub) o ≡ None
+      tail None some first = absurd (true≢false (sym some))
+      tail (Some k) some first = first
+
+any_fewer : (p q : Key → Bool) (ks : List Key) → list_any p ks ≡ false → list_any p (filter q ks) ≡ false
+any_fewer p q [] none = refl
+any_fewer p q (k ∷ ks) none = of (p k) refl (q k) (any_fewer p q ks) none where
+  of : (a : Bool) → p k ≡ a → (b : Bool) → (list_any p ks ≡ false → list_any p (filter q ks) ≡ false) → (a || list_any p ks) ≡ false →
+      list_any p (cond b (k ∷ filter q ks) (filter q ks)) ≡ false
+  of true e b rest n = absurd (true≢false n)
+  of false e true rest n = ap (λ t. t || list_any p (filter q ks)) e ∙ rest n
+  of false e false rest n = rest n
+
+-- one that leaves lets no hub wait for a connection
+pub wait_left : (key : Key) (hub : Hub) → connect_of hub ≡ None → connect_of (unsubscribed key hub) ≡ None
+wait_left key hub none =
+    shape (is_auto hub.mode) (is_none hub.connection) (list_any (stays_on hub.last_end) hub.subscribers)
+    (list_any (stays_on hub.last_end) (without_key key hub.subscribers))
+    (any_fewer (stays_on hub.last_end) (λ k. not (is_key key k)) hub.subscribers) none where
+      shape : (a b c d : Bool) → (c ≡ false → d ≡ false) → (if a && b && c then Some (Connecting hub.number) else None) ≡ None →
+          (if a && b && d then Some (Connecting hub.number) else None) ≡ None
+      shape true true true d less e = absurd (none-some (Connecting hub.number) (sym e))
+      shape true true false d less e = ap (λ (t : Bool). if t then Some (Connecting hub.number) else None) (less refl)
+      shape true false c d less e = refl
+      shape false b c d less e = refl
+
+-- a hub that has a connection waits for none
+pub connected_there : (o : Option Hub) (p : Published) → option_map published_of o ≡ Some p → is_some p.connection ≡ true →
+    IfSome o (λ hub. is_some hub.connection ≡ true)
+connected_there None p e there = tt
+connected_there (Some hub) p e there = ap (λ (x : Published). is_some x.connection) (same_Some (published_of hub) p e) ∙ there
+
+pub connected_waits_not : (o : Option Hub) → IfSome o (λ hub. is_some hub.connection ≡ true) → option_and_then connect_of o ≡ None
+connected_waits_not None there = refl
+connected_waits_not (Some hub) there = shape (is_auto hub.mode) hub.connection (list_any (stays_on hub.last_end) hub.subscribers) there where
+  shape : (a : Bool) (o : Option Key) (c : Bool) → is_some o ≡ true → (if a && is_none o && c then Some (Connecting hub.number) else None) ≡ None
+  shape true None c e = absurd (true≢false (sym e))
+  shape true (Some k) c e = refl
+  shape false o c e = refl
 
 -- at an index
 pub at_none : (rule : Rule) (hubs : List Hub) (index : ℕ) → option_map published_of (slice_get hubs index) ≡ None →

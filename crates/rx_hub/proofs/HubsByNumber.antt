@@ -10,7 +10,7 @@ use Rattle.std.specs.Option.{option_and_then}
 use Rattle.rx_slots.specs.declared.Key.{Key}
 use Rattle.rx_tree.specs.Tree.{first_of}
 use Rattle.rx_hub.specs.declared.hub.HubDue.{HubDue}
-use Rattle.rx_hub.specs.Chains.{IsCalm, Notes, IsLinked}
+use Rattle.rx_hub.specs.Chains.{IsCalm, IsChain, Notes, IsLinked}
 use Rattle.rx_hub.specs.Due.{connect_of, due_of}
 use Rattle.rx_hub.specs.Hubs.{Hub, Hubs, IsPromised, find_hub, at_hub, new_hub}
 use Rattle.rx_lists.specs.Lists.{Lists, list_at, is_in}
@@ -119,6 +119,38 @@ calm_changed {due} {s} {old} new index n change p named noted calm i hub got off
     of : (o : Option Hub) → slice_get s.hubs i ≡ o → option_map (λ (h : Hub). cond (h.number == n) (change h) h) o ≡ Some hub → due hub ≡ None
     of None at_i none = absurd (none-some hub none)
     of (Some h) at_i some = by_number h at_i some (cases_Bool (h.number == n))
+
+-- the hub at an index whose number alone changed
+pub at_changed : (s new : Hubs) (index : ℕ) (change : Hub → Hub) (hub : Hub) → slice_get s.hubs index ≡ Some hub →
+    new ≡ record s { hubs = at_hub hub.number change s.hubs } → slice_get new.hubs index ≡ Some (change hub)
+at_changed s new index change hub got is =
+    ap (λ (t : Hubs). slice_get t.hubs index) is ∙ get_map (λ (h : Hub). cond (h.number == hub.number) (change h) h) s.hubs index ∙
+    ap (option_map (λ (h : Hub). cond (h.number == hub.number) (change h) h)) got ∙ ap (λ b. Some (cond b (change hub) hub)) (eq_self hub.number)
+
+-- a change by which nothing is due that was not leaves a chain calm
+pub still_none : (due : Hub → Option HubDue) (s new : Hubs) (chain : Lists) (index n : ℕ) (change : Hub → Hub) →
+    option_map (λ (hub : Hub). hub.number) (slice_get s.hubs index) ≡ Some n →
+    ((hub : Hub) → slice_get s.hubs index ≡ Some hub → new ≡ record s { hubs = at_hub hub.number change s.hubs }) →
+    ((hub : Hub) → slice_get s.hubs index ≡ Some hub → due hub ≡ None → due (change hub) ≡ None) → IsCalm due s.hubs chain →
+    is_in index (list_at chain 0) ≡ false → due_in due new.hubs index ≡ None
+still_none due s new chain index n change named is quiet calm off =
+    let own = hub_at s.hubs index n named in
+    ap (option_and_then due) (at_changed s new index change own.0 own.1.0 (is own.0 own.1.0)) ∙ quiet own.0 own.1.0 (calm index own.0 own.1.0 off)
+
+-- and nothing is put there
+pub not_noted : (gives : Option HubDue) (chain : Lists) (index : ℕ) → IsChain chain → (is_in index (list_at chain 0) ≡ false → gives ≡ None) →
+    Notes gives chain chain index
+not_noted gives chain index is quiet = record {
+  kept = λ i off. (off, λ same. quiet (subst (λ k. is_in k (list_at chain 0) ≡ false) same off));
+  chain = is;
+  members = refl;
+}
+
+-- whether there is a first one tells whether there are others
+pub others_there : (hubs : List Hub) (index : ℕ) (hub : Hub) (first : Option Key) (b : Bool) → slice_get hubs index ≡ Some hub →
+    IfSome (slice_get hubs index) (λ h. first ≡ first_of h.subscribers) → b ≡ is_some first → b ≡ true → is_some (first_of hub.subscribers) ≡ true
+others_there hubs index hub first b got is said told =
+    ap is_some (sym (subst (λ (o : Option Hub). IfSome o (λ h. first ≡ first_of h.subscribers)) got is)) ∙ sym said ∙ told
 
 -- one more hub at which nothing is due
 pub calm_added : (due : Hub → Option HubDue) (hubs : List Hub) (chain : Lists) (added : Hub) → due added ≡ None → IsCalm due hubs chain →

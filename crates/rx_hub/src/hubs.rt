@@ -1,11 +1,12 @@
 //! Hubs with what may be due at them.
 
 ghost use Rattle.std.specs.Prelude.{◌≡◌, ◌+◌, ◌<◌, ◌≤◌, ◌++◌, ◌∷◌, [], length, option_map, max, slice_get};
-ghost use Rattle.std.specs.Prelude.{OnOk, OnErr, IsOk, IsTrue, IfSome, IfNone, IsSome, Some, None, true};
+ghost use Rattle.std.specs.Prelude.{OnOk, OnErr, IsOk, IsTrue, IfSome, IfNone, IsSome, Some, None, true, false};
 ghost use Rattle.std.specs.Option.{option_and_then};
 ghost use Rattle.rx_hub.specs.Chains.{IsChain, Notes, Puts};
+ghost use Rattle.rx_hub.specs.Due.{connect_of, due_of};
 ghost use Rattle.rx_hub.specs.Rules.{given_by};
-ghost use Rattle.rx_lists.specs.Lists.{list_at};
+ghost use Rattle.rx_lists.specs.Lists.{list_at, is_in};
 
 use crate::forcing::{Rule, due_at, next_at};
 use crate::hub::{HubDue, LastEnd, Published};
@@ -61,7 +62,6 @@ fn lengthen(chain: &mut Rings, members: usize) -> Result<(), AllocError>
 }
 
 // Puts an index on a chain, where it is not there.
-#[inline(always)]
 fn put(chain: &mut Rings, index: usize)
     requires chain { IsChain chain.old }
     requires index { index < chain.old.members }
@@ -73,7 +73,8 @@ fn put(chain: &mut Rings, index: usize)
 }
 
 // Puts an index on a chain where the rule gives something there.
-#[inline(always)]
+#[cold]
+#[inline(never)]
 fn note(store: &Store, chain: &mut Rings, rule: Rule, index: usize)
     requires chain { IsChain chain.old }
     requires index { index < chain.old.members }
@@ -82,6 +83,34 @@ fn note(store: &Store, chain: &mut Rings, rule: Rule, index: usize)
     if due_at(store, rule, index).is_some() {
         put(chain, index);
     }
+}
+
+// The same of a hub that waits for a connection: one that has a connection does not.
+#[inline(always)]
+fn note_waiting(store: &Store, chain: &mut Rings, index: usize)
+    requires chain { IsChain chain.old }
+    requires index { index < chain.old.members }
+    ensures { Notes (option_and_then connect_of (slice_get store.now.hubs index)) chain.old chain.new index }
+{
+    if store.is_connected(index) {
+        return;
+    }
+    note(store, chain, Rule::Connect, index);
+}
+
+// The same of what else is due, where a subscriber came or left: nothing is by that while there are others.
+#[inline(always)]
+fn note_other(store: &Store, chain: &mut Rings, has_others: bool, index: usize)
+    requires chain { IsChain chain.old }
+    requires index { index < chain.old.members }
+    requires among { has_others ≡ true → is_in index (list_at chain.old 0) ≡ false →
+        option_and_then due_of (slice_get store.now.hubs index) ≡ None }
+    ensures { Notes (option_and_then due_of (slice_get store.now.hubs index)) chain.old chain.new index }
+{
+    if has_others {
+        return;
+    }
+    note(store, chain, Rule::Other, index);
 }
 
 impl Hubs {
@@ -210,9 +239,10 @@ impl Hubs {
         let Some(index) = self.store.index_of(hub) else {
             unreachable!()
         };
+        let has_others = self.store.first(index).is_some();
         self.store.subscribe(index, key);
-        note(&self.store, &mut self.waiting, Rule::Connect, index);
-        note(&self.store, &mut self.due, Rule::Other, index);
+        note_waiting(&self.store, &mut self.waiting, index);
+        note_other(&self.store, &mut self.due, has_others, index);
     }
 
     /// Takes a subscriber away from its hub, when its node is closed. It takes the same time however
@@ -228,8 +258,8 @@ impl Hubs {
             unreachable!()
         };
         self.store.unsubscribe(index, key);
-        note(&self.store, &mut self.waiting, Rule::Connect, index);
-        note(&self.store, &mut self.due, Rule::Other, index);
+        let has_others = self.store.first(index).is_some();
+        note_other(&self.store, &mut self.due, has_others, index);
     }
 
     /// Gives the hub its open connection. It has none: a connection is never replaced.

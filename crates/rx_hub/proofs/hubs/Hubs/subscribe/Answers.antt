@@ -1,6 +1,8 @@
-use Rattle.std.proofs.Common.{Option, IfSome, IsSome, sym, subst, arith}
+use Rattle.std.proofs.Common.{◌≡◌, Option, Some, None, IfSome, IsSome, slice_get, sym, subst, arith}
+use Rattle.rx_hub.specs.Due.{due_of}
 use Rattle.rx_hub.specs.Hubs.{Hub, Hubs, AreBelow, find_hub, subscribed}
-use Rattle.rx_hub.proofs.HubsByNumber.{find_index, index_below, not_found, linked_changed}
+use Rattle.rx_hub.proofs.DueBySubscribers.{due_behind}
+use Rattle.rx_hub.proofs.HubsByNumber.{find_index, index_below, not_found, linked_changed, still_none, others_there}
 use Rattle.rx_hub.proofs.hubs.Hubs.subscribe.Goals as goal
 
 pub unreachable-requires : goal.unreachable-requires
@@ -14,23 +16,31 @@ subscribe-requires-clause-newest c =
     (find_index s c.promise.ensures c.in-Some.index c.args.hub c.in-Some.ensures.some)
     (subst (λ (v : Hubs). IfSome (find_hub v.hubs c.args.hub) (λ hub. AreBelow c.args.key.number hub.subscribers)) (sym c.self.view_is) c.requires.newest)
 
-pub note-requires-clause-index : goal.note-requires-clause-index
-note-requires-clause-index c =
+pub note_waiting-requires-clause-index : goal.note_waiting-requires-clause-index
+note_waiting-requires-clause-index c =
     let s = c.self.inside.store in
     let l = index_below s.hubs c.in-Some.index c.args.hub c.in-Some.ensures.some in
     let fit = c.self.invariant.fit in
     omega (arith, l, fit)
 
-pub note-requires-2-clause-index : goal.note-requires-2-clause-index
-note-requires-2-clause-index c =
+pub note_other-requires-clause-index : goal.note_other-requires-clause-index
+note_other-requires-clause-index c =
     let s = c.self.inside.store in
     let l = index_below s.hubs c.in-Some.index c.args.hub c.in-Some.ensures.some in
     let fit = c.self.invariant.fit in
     let both = c.self.invariant.both in
     omega (arith, l, fit, both)
 
+pub note_other-requires-clause-among : goal.note_other-requires-clause-among
+note_other-requires-clause-among c = λ others off.
+    let s = c.self.inside in
+    let behind : (hub : Hub) → slice_get s.store.hubs c.in-Some.index ≡ Some hub → due_of hub ≡ None → due_of (subscribed c.args.key hub) ≡ None =
+    λ hub got none. due_behind c.args.key hub
+    (others_there s.store.hubs c.in-Some.index hub c.first.result c.is_some-has_others.result got c.first.ensures c.is_some-has_others.ensures others) none in
+    still_none due_of s.store _ s.due c.in-Some.index c.args.hub (subscribed c.args.key) c.in-Some.ensures.some c.subscribe.ensures behind
+    c.self.invariant.acts off
+
 pub invariant_of-self : goal.invariant_of-self
 invariant_of-self c =
-    let s = c.self.inside in
     linked_changed c.args.hub (subscribed c.args.key)
-    c.promise.ensures c.in-Some.ensures.some c.subscribe.ensures c.note.ensures c.note-2.ensures c.self.invariant
+    c.promise.ensures c.in-Some.ensures.some c.subscribe.ensures c.note_waiting.ensures c.note_other.ensures c.self.invariant
