@@ -8,13 +8,13 @@ abbrev pub last_or : ℕ → List ℕ → ℕ
 last_or further [] = further
 last_or further (slot ∷ slots) = last_or slot slots
 
--- so many values fit, and so do all slots that are used and those of them that are free
-pub record Fits (used free capacity cells_fit free_fit : ℕ) : Type 0 where
+-- so many values fit, and so do all cells and the slots of those that are free
+pub record Fits {C : Type 0} (cells : List C) (free : List ℕ) (capacity cells_fit free_fit : ℕ) : Type 0 where
   pub most : capacity ≤ 536870912
   pub cells_in : capacity ≤ cells_fit
   pub free_in : capacity ≤ free_fit
-  pub within : used ≤ capacity
-  pub few : free ≤ used
+  pub within : length cells ≤ capacity
+  pub few : length free ≤ length cells
 
 module _ {T : Type 0} where
   -- what a contract sees of these cells, these free slots, and how many values fit

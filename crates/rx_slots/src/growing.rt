@@ -10,20 +10,18 @@ const MOST: usize = 536_870_912;
 
 // Gets room for so many values more, and answers how many values fit then. Growing may copy all values, so it
 // is done rarely: fourfold, where there is memory for that.
-#[cold]
-#[inline(never)]
 pub(crate) fn grow<C>(
     cells: &mut Vec<C>,
     free: &mut Vec<u32>,
     capacity: usize,
     additional: usize,
 ) -> Result<usize, AllocError>
-    requires fits { Fits (length cells.old.items) (length free.old.items) capacity (vec_capacity cells.old) (vec_capacity free.old) }
+    requires fits { Fits cells.old.items free.old.items capacity (vec_capacity cells.old) (vec_capacity free.old) }
     ensures cells { cells.new.items ≡ cells.old.items }
     ensures free { free.new.items ≡ free.old.items }
-    ensures still { Fits (length cells.new.items) (length free.new.items) capacity (vec_capacity cells.new) (vec_capacity free.new) }
+    ensures still { Fits cells.new.items free.new.items capacity (vec_capacity cells.new) (vec_capacity free.new) }
     ensures fits { IfOk result (λ more.
-        Fits (length cells.new.items) (length free.new.items) more (vec_capacity cells.new) (vec_capacity free.new)) }
+        Fits cells.new.items free.new.items more (vec_capacity cells.new) (vec_capacity free.new)) }
     ensures wider { IfOk result (λ more. capacity ≤ more) }
     ensures enough { IfOk result (λ more. length cells.old.items + additional ≤ more + length free.old.items) }
 {
@@ -44,12 +42,12 @@ fn extend<C>(
     capacity: usize,
     additional: usize,
 ) -> Result<usize, AllocError>
-    requires fits { Fits (length cells.old.items) (length free.old.items) capacity (vec_capacity cells.old) (vec_capacity free.old) }
+    requires fits { Fits cells.old.items free.old.items capacity (vec_capacity cells.old) (vec_capacity free.old) }
     ensures cells { cells.new.items ≡ cells.old.items }
     ensures free { free.new.items ≡ free.old.items }
-    ensures still { Fits (length cells.new.items) (length free.new.items) capacity (vec_capacity cells.new) (vec_capacity free.new) }
+    ensures still { Fits cells.new.items free.new.items capacity (vec_capacity cells.new) (vec_capacity free.new) }
     ensures fits { IfOk result (λ more.
-        Fits (length cells.new.items) (length free.new.items) more (vec_capacity cells.new) (vec_capacity free.new)) }
+        Fits cells.new.items free.new.items more (vec_capacity cells.new) (vec_capacity free.new)) }
     ensures wider { IfOk result (λ more. capacity ≤ more) }
     ensures enough { IfOk result (λ more. length cells.old.items + additional ≤ more + length free.old.items) }
 {

@@ -154,6 +154,17 @@ impl<T> Records<T> {
         if additional <= self.room() {
             return Ok(());
         }
+        self.grow(additional)
+    }
+
+    // It is rare, and apart, so that what asks for room stays small.
+    #[cold]
+    #[inline(never)]
+    fn grow(&mut self, additional: usize) -> Result<(), AllocError>
+        ensures ok { OnOk result (additional ≤ self.new.room) }
+        ensures kept { self.new ≡ record self.old { room = self.new.room } }
+        ensures room { self.old.room ≤ self.new.room }
+    {
         self.capacity = grow(&mut self.cells, &mut self.free, self.capacity, additional)?;
         Ok(())
     }
