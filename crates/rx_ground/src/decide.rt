@@ -189,7 +189,7 @@ impl<R: Resource> Ground<R> {
     /// What stands first against opening a node there, which costs so much; `above` is the key of the node
     /// that the place names.
     #[tactic(auto, using(crate::proofs::Told::there_open))]
-    #[inline]
+    #[inline(always)]
     pub fn opening_cause(
         &self,
         place: Place,
