@@ -1,7 +1,7 @@
 //! Checked slots for values that stay where they stood until their slot is used again.
 
-ghost use Rattle.std.specs.Prelude.{◌≡◌, ◌↔◌, ◌+◌, ◌<◌, ◌≤◌, ◌^◌, max, IsTrue, IsOk, IsSome, IfOk, IfErr, OnOk, OnErr, Some, None, [], is_some};
-ghost use Rattle.std.specs.Prelude.{option_copied, option_map, count_by, slice_set};
+ghost use Rattle.std.specs.Prelude.{◌≡◌, ◌↔◌, ◌+◌, ◌<◌, ◌≤◌, ◌^◌, max, IsTrue, IsOk, IsSome, IfOk, OnOk, OnErr, Some, None, [], is_some};
+ghost use Rattle.std.specs.Prelude.{option_copied, option_map, count_by};
 ghost use Rattle.std.specs.Borrow.{sem};
 
 use crate::growing::grow;
