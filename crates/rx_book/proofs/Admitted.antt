@@ -1,13 +1,12 @@
--- A call that may take memory is let in: nothing stands against it, and its cost is room that was gotten.
-use Rattle.std.proofs.Common.{◌≡◌, ℕ, ◌+◌, ◌≤◌, length, cond, List, [], Bool, true, false, Option, Some, None, refl, sym, ap, subst, ◌∙◌, arith}
+-- A call is let in: nothing stands against it, and its cost is room that was gotten.
+use Rattle.std.proofs.Common.{◌≡◌, ◌+◌, ◌≤◌, cond, List, [], Bool, true, false, Option, Some, None, IfSome, refl, sym, ap, subst, ◌∙◌, arith}
+use Rattle.std.proofs.Common.{inl}
 use Rattle.std.specs.Prelude.{ℤ}
 use Rattle.rx_resource.specs.declared.Resource.{Ghosts}
 use Rattle.rx_event.specs.declared.refusal.Refusal.{Refusal}
 use Rattle.rx_event.specs.declared.refusal.Refusal.TheVariants.{Full}
 use Rattle.rx_event.specs.declared.event.Kind.{Kind}
 use Rattle.rx_event.specs.declared.event.Event.{Event}
-use Rattle.rx_event.specs.Kept.{Kept}
-use Rattle.rx_event.specs.Totals.{debt}
 use Rattle.rx_event.specs.Calls.{Emitting}
 use Rattle.rx_event.specs.Refusals.{first_cause}
 use Rattle.rx_slots.specs.declared.Key.{Key}
@@ -15,6 +14,7 @@ use Rattle.rx_slots.specs.Slots.{Slots}
 use Rattle.rx_tree.specs.declared.node.Node.{Node}
 use Rattle.rx_event.specs.Causes.{causes, added_by, is_over, forces_connect, nodes_opened}
 use Rattle.rx_register.specs.Claims.{IsReady as IsReadyFor}
+use Rattle.rx_register.specs.Paid.{HasRoomFor, notes_added}
 use Rattle.rx_register.specs.State.{IsPromised}
 use Rattle.rx_ground.specs.declared.base.Wanted.{Wanted}
 use Rattle.rx_ground.specs.declared.route.Reach.{Reach}
@@ -22,22 +22,13 @@ use Rattle.rx_ground.specs.Costs.{cost_of}
 use Rattle.rx_ground.specs.Reached.{IsReach}
 use Rattle.rx_ground.specs.Shown.{Ground}
 use Rattle.rx_ground.specs.Ties.{IsStanding, IsRoomier, HasRoomBeside}
-use Rattle.rx_book.specs.declared.admit.Wish.{Wish}
-use Rattle.rx_book.specs.declared.admit.Wish.TheVariants.{Open, OpenUsing, Hold, Apply, Lease, Publish, Connect}
 use Rattle.rx_book.specs.State.{State}
 use Rattle.rx_book.specs.Requests.{Request, stands}
-use Rattle.rx_book.specs.Asked.{request_for}
+use Rattle.rx_book.specs.Answers.{IsRefusalOf}
 use Rattle.rx_book.specs.Shown.{state_of}
-use Rattle.rx_book.specs.Steps.{IsAdmitted, IsDecided, unless_caused}
+use Rattle.rx_book.specs.Steps.{IsLetIn, IsAdmitted, IsWithin, Admits}
 use Rattle.rx_book.proofs.CallWithoutCause.{let_in, within_full, state_roomier}
 use Rattle.rx_book.proofs.ListOfClosed.{standing_begun, room_begun}
-
--- what is decided by the first cause and the cost
-pub decided : (s : State) (asked : Request) (cause : Option Refusal) (cost : Wanted) → first_cause (stands s asked) ≡ cause →
-    cost ≡ cost_of s.history asked.call →
-    cost.notes ≤ 4294967295 → IsDecided s asked (unless_caused cause cost)
-decided s asked None cost none is few = record { ok = is; few = few; none = none; err = tt }
-decided s asked (Some why) cost first is few = record { ok = tt; few = tt; none = tt; err = first }
 
 -- an opening makes two nodes at most
 pub few_opened : (h : List Event) (kind : Kind) → nodes_opened h kind ≤ 2
@@ -46,88 +37,94 @@ few_opened h kind = by_test (forces_connect h kind) where
   by_test true = omega arith
   by_test false = omega arith
 
--- where one is refused `Full` is told by what it adds
-counted : (base : Kept) (s : State) (wish : Wish) (limit : ℕ) → (let asked = request_for s wish in
-    causes base s.history limit asked.is_fresh asked.call Full ≡ is_over base s.history limit (added_by s.history asked.call))
-counted base s (Open at kind) limit = refl
-counted base s (OpenUsing at tag is_fresh) limit = refl
-counted base s (Hold node tag is_fresh) limit = refl
-counted base s (Apply res) limit = refl
-counted base s (Lease res) limit = refl
-counted base s (Publish mode) limit = refl
-counted base s (Connect hub) limit = refl
-
--- and no more has to be known of it
-ready : (s : State) (wish : Wish) → IsReadyFor s.history (request_for s wish).call
-ready s (Open at kind) = tt
-ready s (OpenUsing at tag is_fresh) = tt
-ready s (Hold node tag is_fresh) = tt
-ready s (Apply res) = tt
-ready s (Lease res) = tt
-ready s (Publish mode) = tt
-ready s (Connect hub) = tt
+-- what stands first is a refusal, whether the call may take memory or not
+pub refused_for : (stand : Refusal → Bool) {why : Refusal} (may_want : Bool) → first_cause stand ≡ Some why → IsRefusalOf may_want stand why
+refused_for stand true first = inl first
+refused_for stand false first = first
 
 -- the cost of what is asked is within the limit
-pub within_limit : (s : State) (asked : Request) (cost : Wanted) →
-    causes s.base s.history s.limit asked.is_fresh asked.call Full ≡ is_over s.base s.history s.limit (added_by s.history asked.call) →
-    first_cause (stands s asked) ≡ None → cost ≡ cost_of s.history asked.call →
-    length s.history + debt s.base s.history + cost.events ≤ s.base.at_length + s.limit
-within_limit s asked cost full none is =
-    let within = within_full s.base asked.call asked.is_known asked.is_fresh s.history s.limit full none in
+pub within_limit : {T : Type 0} (g : Ghosts T) (b : Ground T) (asked : Request) (cost : Wanted) → (let h = b.register.history in let base = b.register.base in
+    causes base h b.register.limit asked.is_fresh asked.call Full ≡ is_over base h b.register.limit (added_by h asked.call) →
+    first_cause (stands (state_of g b) asked) ≡ None → cost ≡ cost_of h asked.call → notes_added h asked.call ≤ 4294967295 → IsWithin b cost)
+within_limit g b asked cost full none is few =
+    let within = within_full b.register.base asked.call asked.is_known asked.is_fresh b.register.history b.register.limit full none in
     let added = ap (λ (w : Wanted). w.events) is in
-    omega arith
+    let told = ap (λ (w : Wanted). w.notes) is in
+    record { events = omega arith; notes = omega arith }
 
-pub cost_within : (s : State) (wish : Wish) (cost : Wanted) → first_cause (stands s (request_for s wish)) ≡ None →
-    cost ≡ cost_of s.history (request_for s wish).call →
-    length s.history + debt s.base s.history + cost.events ≤ s.base.at_length + s.limit
-cost_within s wish cost none is = within_limit s (request_for s wish) cost (counted s.base s wish s.limit) none is
+-- room ---------------------------------------------------------------------------------------------
 
--- with the room for it, it is admitted once the list of what is closed was begun
-pub admitted_as : {T : Type 0} {g : Ghosts T} {old b new : Ground T} (ask : State → Request) (cost : Wanted) →
-    ((s : State) → ask (record s { closed = [] }) ≡ ask s) → IsReadyFor b.register.history (ask (state_of g b)).call → IsRoomier old b →
-    IsStanding g b → IsPromised b.register →
-    first_cause (stands (state_of g old) (ask (state_of g old))) ≡ None → cost ≡ cost_of old.register.history (ask (state_of g old)).call →
-    HasRoomBeside b cost → new ≡ record b { closed = [] } → IsAdmitted g new (ask (state_of g new))
-admitted_as {T = T} {g} {old} {b} {new} ask cost unlisted ready roomier standing promised none is has begun =
-    let same = sym (state_roomier g old b roomier) in
-    let none_now = subst (λ (s : State). first_cause (stands s (ask s)) ≡ None) same none in
-    let is_now = subst (λ (s : State). cost ≡ cost_of s.history (ask s).call) same is in
-    let events = ap (λ (w : Wanted). w.events) is_now in
-    let notes = ap (λ (w : Wanted). w.notes) is_now in
-    subst (λ (x : Ground T). IsAdmitted g x (ask (state_of g x))) (sym begun)
-    (subst (IsAdmitted g (record b { closed = [] })) (sym (unlisted (state_of g b))) (record {
-      let_in = let_in g (record b { closed = [] }) (ask (state_of g b)) (standing_begun standing) promised none_now ready (record {
-        events = let e = has.events in omega arith;
-        notes = let n = has.notes in omega arith;
-      }) refl;
-      room = room_begun (subst (λ (w : Wanted). HasRoomBeside b w) is_now has);
-    }))
+pub roomier_same : {T : Type 0} (b : Ground T) → IsRoomier b b
+roomier_same b = record {
+  register = refl;
+  mail_room = omega arith;
+  nodes = refl;
+  resources = refl;
+  chain = refl;
+  hubs = refl;
+  leases = refl;
+  closed = refl;
+}
 
-unlisted_wish : (wish : Wish) (s : State) → request_for (record s { closed = [] }) wish ≡ request_for s wish
-unlisted_wish (Open at kind) s = refl
-unlisted_wish (OpenUsing at tag is_fresh) s = refl
-unlisted_wish (Hold node tag is_fresh) s = refl
-unlisted_wish (Apply res) s = refl
-unlisted_wish (Lease res) s = refl
-unlisted_wish (Publish mode) s = refl
-unlisted_wish (Connect hub) s = refl
+roomier_begun : {T : Type 0} {old new : Ground T} → IsRoomier old new → IsRoomier (record old { closed = [] }) (record new { closed = [] })
+roomier_begun r = record {
+  register = r.register;
+  mail_room = r.mail_room;
+  nodes = r.nodes;
+  resources = r.resources;
+  chain = r.chain;
+  hubs = r.hubs;
+  leases = r.leases;
+  closed = refl;
+}
 
-pub admitted : {T : Type 0} {g : Ghosts T} {old b new : Ground T} (wish : Wish) (cost : Wanted) → IsRoomier old b → IsStanding g b →
-    IsPromised b.register → first_cause (stands (state_of g old) (request_for (state_of g old) wish)) ≡ None →
-    cost ≡ cost_of old.register.history (request_for (state_of g old) wish).call →
-    HasRoomBeside b cost → new ≡ record b { closed = [] } → IsAdmitted g new (request_for (state_of g new) wish)
-admitted {g} {old} {b} wish cost roomier standing promised none is has begun =
-    admitted_as (λ s. request_for s wish) cost (unlisted_wish wish) (ready (state_of g b) wish) roomier standing promised none is has begun
+rooms_begun : {T : Type 0} (b : Ground T) (cost : Option Wanted) → IfSome cost (HasRoomBeside b) → IfSome cost (HasRoomBeside (record b { closed = [] }))
+rooms_begun b None has = tt
+rooms_begun b (Some w) has = room_begun has
+
+-- room is gotten, and then the list of what is closed is begun
+pub admits : {T : Type 0} {g : Ghosts T} {old mid new : Ground T} {cause : Option Refusal} (cost : Option Wanted) → cause ≡ None → IsRoomier old mid →
+    IsStanding g mid → IsPromised mid.register → IfSome cost (HasRoomBeside mid) → new ≡ record mid { closed = [] } → Admits g old cause cost new
+admits {T = T} {g} {old} {mid} {cause = cause} cost none roomier standing promised has begun =
+    subst (λ (x : Ground T). Admits g old cause cost x) (sym begun) (record {
+      none = none;
+      standing = standing_begun standing;
+      promised = promised;
+      roomier = roomier_begun roomier;
+      has = rooms_begun mid cost has;
+    })
+
+-- letting in ---------------------------------------------------------------------------------------
 
 -- callers see the list begun, and nothing else changed
-pub state_begun : {T : Type 0} (g : Ghosts T) (old b : Ground T) {new : Ground T} → IsRoomier old b → new ≡ record b { closed = [] } →
+pub state_admitted : {T : Type 0} {g : Ghosts T} {old new : Ground T} {cause : Option Refusal} {cost : Option Wanted} → Admits g old cause cost new →
     state_of g new ≡ record (state_of g old) { closed = [] }
-state_begun {T = T} g old b roomier begun =
-    ap (state_of g) begun ∙ ap (λ (s : State). record s { closed = [] }) (state_roomier g old b roomier)
+state_admitted {g} {old} {new} a = state_roomier g (record old { closed = [] }) new a.roomier
 
--- and room may come after a call that changes nothing
-pub roomier_after : {T : Type 0} (old mid new : Ground T) → mid ≡ old → IsRoomier mid new → IsRoomier old new
-roomier_after {T = T} old mid new same kept = subst (λ (b : Ground T). IsRoomier b new) same kept
+-- a call, of which the list of what is closed tells nothing, is let in
+module _ {T : Type 0} {g : Ghosts T} {old new : Ground T} {cause : Option Refusal} (ask : State → Request)
+    (unlisted : (s : State) → ask (record s { closed = [] }) ≡ ask s) (ready : IsReadyFor new.register.history (ask (state_of g new)).call)
+    (first : first_cause (stands (state_of g old) (ask (state_of g old))) ≡ cause) where
+  pub admitted_let_in : {cost : Option Wanted} → Admits g old cause cost new → HasRoomFor new.register (ask (state_of g new)).call →
+      IsLetIn g new (ask (state_of g new))
+  admitted_let_in a has =
+      let none_begun = subst (λ (q : Request). first_cause (stands (state_of g old) q) ≡ None) (sym (unlisted (state_of g old))) (first ∙ a.none) in
+      let none = subst (λ (s : State). first_cause (stands s (ask s)) ≡ None) (sym (state_admitted a)) none_begun in
+      let_in g new (ask (state_of g new)) a.standing a.promised none ready has a.roomier.closed
+
+  -- and has room, where it costs so much
+  pub admitted_as : {w : Wanted} → Admits g old cause (Some w) new → w ≡ cost_of old.register.history (ask (state_of g old)).call →
+      IsAdmitted g new (ask (state_of g new))
+  admitted_as {w} a is =
+      let is_begun = subst (λ (q : Request). w ≡ cost_of old.register.history q.call) (sym (unlisted (state_of g old))) is in
+      let is_now = subst (λ (s : State). w ≡ cost_of s.history (ask s).call) (sym (state_admitted a)) is_begun in
+      let events = ap (λ (x : Wanted). x.events) is_now in
+      let notes = ap (λ (x : Wanted). x.notes) is_now in
+      let has = a.has in
+      record {
+        let_in = admitted_let_in a (record { events = let e = has.events in omega arith; notes = let n = has.notes in omega arith });
+        room = subst (λ (x : Wanted). HasRoomBeside new x) is_now has;
+      }
 
 -- the cost of an item, by what it reaches
 pub item_cost : (h : List Event) (nodes : Slots Node) (leaf : Key) (value : ℤ) (reach : Reach) → IsReach h nodes leaf reach →

@@ -1,27 +1,25 @@
 -- An opening that holds a resource is let in: nothing stands against it, and the room for both its events was gotten.
-use Rattle.std.proofs.Common.{◌≡◌, ◌+◌, ◌≤◌, Bool, Option, None, [], length, refl, sym, ap, subst, arith}
+use Rattle.std.proofs.Common.{◌≡◌, ◌+◌, Bool, Option, Some, None, sym, ap, subst, ◌∙◌, arith}
 use Rattle.rx_resource.specs.declared.Resource.{Ghosts}
 use Rattle.rx_event.specs.declared.event.Kind.{Kind}
 use Rattle.rx_event.specs.declared.refusal.Refusal.{Refusal}
-use Rattle.rx_event.specs.Totals.{debt}
 use Rattle.rx_event.specs.Calls.{Opening}
 use Rattle.rx_event.specs.Refusals.{first_cause}
 use Rattle.rx_event.specs.Causes.{added_by, nodes_opened}
-use Rattle.rx_register.specs.State.{IsPromised}
 use Rattle.rx_ground.specs.declared.base.Wanted.{Wanted}
 use Rattle.rx_ground.specs.OpeningHolding.{opening_holding_causes, opening_holding_cost, first_holding}
 use Rattle.rx_ground.specs.Shown.{Ground}
-use Rattle.rx_ground.specs.Ties.{IsStanding, IsRoomier, HasRoomBeside, is_there}
+use Rattle.rx_ground.specs.Ties.{is_there}
 use Rattle.rx_book.specs.declared.answer.At.{At}
 use Rattle.rx_book.specs.State.{State}
 use Rattle.rx_book.specs.Requests.{place_of, open_request}
 use Rattle.rx_book.specs.Places.{key_above}
 use Rattle.rx_book.specs.OpensHolding.{stands_holding, IsAdmittedHolding}
 use Rattle.rx_book.specs.Shown.{state_of}
-use Rattle.rx_book.proofs.Admitted.{few_opened}
-use Rattle.rx_book.proofs.CallWithoutCause.{let_in, state_roomier}
+use Rattle.rx_book.specs.Steps.{IsWithin, Admits}
+use Rattle.rx_book.proofs.Admitted.{few_opened, state_admitted}
+use Rattle.rx_book.proofs.CallWithoutCause.{let_in}
 use Rattle.rx_book.proofs.CausesByKey.{first_by_place}
-use Rattle.rx_book.proofs.ListOfClosed.{standing_begun}
 use Rattle.rx_book.proofs.HoldingUnstood.{opens_unstood, within_with}
 
 module _ {T : Type 0} (g : Ghosts T) (b : Ground T) (at : At) (kind : Kind) (fresh : Bool) where
@@ -33,41 +31,36 @@ module _ {T : Type 0} (g : Ghosts T) (b : Ground T) (at : At) (kind : Kind) (fre
 
   -- the cost is within the limit, and its notes are few
   pub holding_within : (cost : Wanted) → first_cause (stands_holding (state_of g b) at kind fresh) ≡ None →
-      cost ≡ opening_holding_cost b.register.history (place_of at) kind →
-      length b.register.history + debt b.register.base b.register.history + cost.events ≤ b.register.base.at_length + b.register.limit
+      cost ≡ opening_holding_cost b.register.history (place_of at) kind → IsWithin b cost
   holding_within cost none is =
       let within = within_with (state_of g b) at kind fresh none in
-      let events = ap (λ (w : Wanted). w.events) is in
-      omega arith
-
-  pub few_notes : (cost : Wanted) → cost ≡ opening_holding_cost b.register.history (place_of at) kind → cost.notes ≤ 4294967295
-  few_notes cost is =
       let few = few_opened b.register.history kind in
+      let events = ap (λ (w : Wanted). w.events) is in
       let notes = ap (λ (w : Wanted). w.notes) is in
-      omega arith
+      record { events = omega arith; notes = omega arith }
 
 -- with the room for it, it is admitted
-pub admitted_holding : {T : Type 0} {g : Ghosts T} {old b new : Ground T} (at : At) (kind : Kind) (fresh : Bool) (cost : Wanted) → IsRoomier old b →
-    IsStanding g b → IsPromised b.register → first_cause (stands_holding (state_of g old) at kind fresh) ≡ None →
-    cost ≡ opening_holding_cost old.register.history (place_of at) kind → HasRoomBeside b cost → new ≡ record b { closed = [] } →
-    IsAdmittedHolding g new at kind fresh
-admitted_holding {T = T} {g} {old} {b} at kind fresh cost roomier standing promised none is has begun =
-    let same = sym (state_roomier g old b roomier) in
-    let none_now = subst (λ (s : State). first_cause (stands_holding s at kind fresh) ≡ None) same none in
+pub admitted_holding : {T : Type 0} {g : Ghosts T} {old new : Ground T} {cause : Option Refusal} (at : At) (kind : Kind) (fresh : Bool) (cost : Wanted) →
+    first_cause (stands_holding (state_of g old) at kind fresh) ≡ cause → cost ≡ opening_holding_cost old.register.history (place_of at) kind →
+    Admits g old cause (Some cost) new → IsAdmittedHolding g new at kind fresh
+admitted_holding {g} {old} {new} at kind fresh cost first is a =
+    let same = sym (state_admitted a) in
+    let none_now = subst (λ (s : State). first_cause (stands_holding s at kind fresh) ≡ None) same (first ∙ a.none) in
     let is_now = subst (λ (s : State). cost ≡ opening_holding_cost s.history (place_of at) kind) same is in
-    let added : cost.events ≡ added_by b.register.history (Opening (place_of at) kind) + 3 = ap (λ (w : Wanted). w.events) is_now in
-    let told : cost.notes ≡ nodes_opened b.register.history kind = ap (λ (w : Wanted). w.notes) is_now in
-    let made : cost.nodes ≡ nodes_opened b.register.history kind = ap (λ (w : Wanted). w.nodes) is_now in
+    let added : cost.events ≡ added_by new.register.history (Opening (place_of at) kind) + 3 = ap (λ (w : Wanted). w.events) is_now in
+    let told : cost.notes ≡ nodes_opened new.register.history kind = ap (λ (w : Wanted). w.notes) is_now in
+    let made : cost.nodes ≡ nodes_opened new.register.history kind = ap (λ (w : Wanted). w.nodes) is_now in
     let one : cost.resources ≡ 1 = ap (λ (w : Wanted). w.resources) is_now in
+    let has = a.has in
     let events = has.events in
     let notes = has.notes in
     let nodes = has.nodes in
     let space = has.space in
     let resources = has.resources in
-    subst (λ (x : Ground T). IsAdmittedHolding g x at kind fresh) (sym begun) (record {
+    record {
       opening = record {
-        let_in = let_in g (record b { closed = [] }) (open_request (state_of g b) at kind) (standing_begun standing) promised
-            (opens_unstood (state_of g b) at kind fresh none_now) tt (record { events = omega arith; notes = omega arith }) refl;
+        let_in = let_in g new (open_request (state_of g new) at kind) a.standing a.promised (opens_unstood (state_of g new) at kind fresh none_now) tt
+            (record { events = omega arith; notes = omega arith }) a.roomier.closed;
         room = record {
           events = omega arith;
           notes = omega arith;
@@ -82,4 +75,4 @@ admitted_holding {T = T} {g} {old} {b} at kind fresh cost roomier standing promi
       none = none_now;
       events = omega arith;
       resources = omega arith;
-    })
+    }

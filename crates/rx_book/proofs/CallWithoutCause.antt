@@ -39,11 +39,10 @@ use Rattle.rx_ground.specs.Ties.{IsTied, AreTied, AreLeased, KeepsNodes, KeepsHe
 use Rattle.rx_ground.proofs.Laws.KeysKept.{KeepsKeys, keeps_on, keeps_settled, keeps_closed, keeps_held, leases_stay}
 use Rattle.rx_book.specs.State.{has_key, has_res_key, has_lease_key}
 use Rattle.rx_book.specs.Requests.{Request, stands, is_live, is_fresh_in}
-use Rattle.rx_book.specs.Answers.{Accepts, IsNewLeaseKey}
+use Rattle.rx_book.specs.Answers.{Accepts}
 use Rattle.rx_book.specs.Steps.{IsLetIn, IsWritten}
 use Rattle.rx_slots.specs.Slots.{Slots, find}
 use Rattle.rx_tree.specs.declared.node.ResKey.{ResKey as TreeResKey}
-use Rattle.rx_ground.specs.declared.leases.LeaseKey.{LeaseKey as GroundLeaseKey}
 use Rattle.rx_ground.specs.Leases.{lease_key, is_out_at}
 use Rattle.rx_tree.specs.Resources.{is_held_at, is_owned_at}
 use Rattle.rx_event.specs.Resources.{is_owned}
@@ -51,7 +50,7 @@ use Rattle.rx_ground.proofs.Laws.OwnedInTree.{owned_there}
 use Rattle.rx_book.specs.declared.key.Key.{Key}
 use Rattle.rx_book.specs.declared.key.ResKey.{ResKey}
 use Rattle.rx_book.specs.declared.key.LeaseKey.{LeaseKey}
-use Rattle.rx_book.specs.Shown.{tree_key_of, tree_res_key_of, ground_lease_key_of, lease_key_shown, keys_of, res_keys_of, lease_keys_of, state_of}
+use Rattle.rx_book.specs.Shown.{tree_key_of, tree_res_key_of, ground_lease_key_of, keys_of, res_keys_of, lease_keys_of, state_of}
 use Rattle.rx_book.proofs.ShownKeys.{key_finds, finding_key, res_key_finds, finding_res_key, has_key_is, has_res_key_is}
 use Rattle.rx_book.proofs.ShownKeys.{lease_key_finds, finding_lease_key, has_lease_key_is}
 use Rattle.rx_book.proofs.CausesByKey.{unstood}
@@ -262,25 +261,26 @@ module _ {T : Type 0} (g : Ghosts T) (b : Ground T) (asked : Request) where
     pub accepts_written : {mid new : Ground T} → IsWritten g b asked.call mid → SettlesTo g mid new → Accepts (state_of g b) asked (state_of g new)
     accepts_written {mid} w = accepts mid w.written w.tied.of_tree (record { nodes = w.nodes; held = w.held.from }) w.leases w.closed
 
--- a closing is written
+-- what keeps the keys of all that is older is written
+pub written_keeping : {T : Type 0} {g : Ghosts T} {old : Ground T} (new : Ground T) (call : Call) →
+    Writes old.register (outside_of old.register.history call) new.register →
+    AreTied new.register.base g new.register.history new.tree new.hubs → AreLeased new.register.history new.tree.resources new.leases →
+    KeepsKeys old.tree new.tree (length old.register.history) → KeepsLeases old.leases new.leases (length old.register.history) →
+    Gathers old.register.history old.closed new.register.history new.closed → IsWritten g old call new
+written_keeping new call written tied leased kept leases closed =
+    record { written = written; tied = tied; leased = leased; nodes = kept.nodes; held = record { from = kept.held }; leases = leases; closed = closed }
+
+-- a closing
 pub written_closed : {T : Type 0} {g : Ghosts T} {old : Ground T} (new : Ground T) (call : Call) →
     Writes old.register (outside_of old.register.history call) new.register →
     AreTied new.register.base g new.register.history new.tree new.hubs → AreLeased new.register.history new.tree.resources new.leases →
     KeepsNodes new.register.history old.tree.nodes new.tree.nodes → new.tree.resources ≡ old.tree.resources → new.leases ≡ old.leases →
     Gathers old.register.history old.closed new.register.history new.closed → IsWritten g old call new
 written_closed {old} new call written tied leased nodes resources leases closed =
-    let kept = keeps_closed new.register.history old.tree new.tree (length old.register.history) nodes resources in
-    record {
-      written = written;
-      tied = tied;
-      leased = leased;
-      nodes = kept.nodes;
-      held = record { from = kept.held };
-      leases = leases_stay _ _ _ leases;
-      closed = closed;
-    }
+    written_keeping new call written tied leased
+    (keeps_closed new.register.history old.tree new.tree (length old.register.history) nodes resources) (leases_stay _ _ _ leases) closed
 
--- what changes no node is written
+-- what changes no node
 pub written_held : {T : Type 0} {g : Ghosts T} {old : Ground T} (new : Ground T) (call : Call) →
     Writes old.register (outside_of old.register.history call) new.register →
     AreTied new.register.base g new.register.history new.tree new.hubs → AreLeased new.register.history new.tree.resources new.leases →
@@ -288,8 +288,7 @@ pub written_held : {T : Type 0} {g : Ghosts T} {old : Ground T} (new : Ground T)
     KeepsLeases old.leases new.leases (length old.register.history) → Gathers old.register.history old.closed new.register.history new.closed →
     IsWritten g old call new
 written_held {old} new call written tied leased nodes held leases closed =
-    let kept = keeps_held old.tree new.tree (length old.register.history) nodes held in
-    record { written = written; tied = tied; leased = leased; nodes = kept.nodes; held = held; leases = leases; closed = closed }
+    written_keeping new call written tied leased (keeps_held old.tree new.tree (length old.register.history) nodes held) leases closed
 
 -- room --------------------------------------------------------------------------------------------
 
@@ -314,14 +313,6 @@ pub owned_asked : {T : Type 0} (g : Ghosts T) (b : Ground T) (asked : Request) �
     asked.is_known ≡ has_res_key (res_keys_of b.tree) res → is_owned b.register.history res.number ≡ true → is_owned_at b.tree (tree_res_key_of res) ≡ true
 owned_asked g b asked l res is owned =
     owned_there b.register.base g b.register.history b.tree l.standing.tied.of_tree (tree_res_key_of res) (held_asked g b asked l res is) owned
-
--- the key of a lease that was given out is known after what it forces
-pub lease_key_new : {T : Type 0} (g : Ghosts T) (mid new : Ground T) {place : ℕ} (lease : GroundLeaseKey) {k : LeaseKey} → k ≡ lease_key_shown lease →
-    lease.number ≡ place → is_out_at mid.leases lease ≡ true → new.leases ≡ mid.leases → IsNewLeaseKey (state_of g new) place k
-lease_key_new g mid new lease shown number out same = rw shown (record {
-  number = number;
-  listed = has_lease_key_is new.leases (lease_key_shown lease) ∙ ap (λ (s : Slots TreeResKey). is_out_at s lease) same ∙ out;
-})
 
 -- a lease by whose key a call is made is out
 pub out_asked : {T : Type 0} (g : Ghosts T) (b : Ground T) (asked : Request) → IsLetIn g b asked → (lease : LeaseKey) →

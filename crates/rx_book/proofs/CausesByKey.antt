@@ -1,16 +1,20 @@
 -- Which cause stands first against a call, by the keys that callers have.
-use Rattle.std.proofs.Common.{◌≡◌, Bool, true, false, Option, None, is_some, refl, sym, ap, ◌∙◌, inl, inr, ◌⊎◌, true≢false}
+use Rattle.std.proofs.Common.{◌≡◌, ℕ, Bool, true, false, Option, None, is_some, refl, sym, ap, ◌∙◌, inl, inr, ◌⊎◌, true≢false}
 use Rattle.rx_event.specs.declared.refusal.Refusal.{Refusal}
 use Rattle.rx_event.specs.declared.refusal.Refusal.TheVariants.{Gone, NoLease, NotHeld}
 use Rattle.rx_event.specs.Calls.{Call, Applying, Removing, Leasing, GivingBack}
 use Rattle.rx_event.specs.Refusals.{first_cause}
+use Rattle.rx_slots.specs.declared.Key.{Key as TreeKey}
 use Rattle.rx_slots.specs.Slots.{Slots, find}
 use Rattle.rx_tree.specs.declared.node.ResKey.{ResKey as TreeResKey}
 use Rattle.rx_ground.specs.Leases.{is_out_at}
 use Rattle.rx_tree.specs.Tree.{Tree}
 use Rattle.rx_tree.specs.Resources.{is_held_at}
-use Rattle.rx_event.specs.Causes.{by_key, by_res_key, by_lease_key, by_key_of}
+use Rattle.rx_event.specs.declared.event.Place.{Place}
+use Rattle.rx_event.specs.Causes.{causes, by_key, by_res_key, by_lease_key, by_key_of}
 use Rattle.rx_register.proofs.Laws.NoCause.{no_cause}
+use Rattle.rx_ground.specs.FirstCause.{has_node, first_by_key as first_at_key}
+use Rattle.rx_ground.specs.Shown.{Ground}
 use Rattle.rx_ground.specs.Ties.{is_there}
 use Rattle.rx_book.specs.declared.key.Key.{Key}
 use Rattle.rx_book.specs.declared.key.ResKey.{ResKey}
@@ -18,7 +22,7 @@ use Rattle.rx_book.specs.declared.key.LeaseKey.{LeaseKey}
 use Rattle.rx_book.specs.declared.answer.At.{At}
 use Rattle.rx_book.specs.State.{has_key, has_res_key, has_lease_key}
 use Rattle.rx_book.specs.Places.{key_above}
-use Rattle.rx_book.specs.Requests.{is_known_place}
+use Rattle.rx_book.specs.Requests.{is_known_place, place_of}
 use Rattle.rx_book.specs.Shown.{keys_of, res_keys_of, lease_keys_of, tree_key_of, tree_res_key_of, ground_lease_key_of}
 use Rattle.rx_book.proofs.ShownKeys.{has_key_is, is_known_place_is, has_res_key_is, has_lease_key_is}
 
@@ -40,6 +44,27 @@ pub first_by_lease_key : (leases : Slots TreeResKey) (stand : Refusal → Bool) 
     why ≡ first_cause (by_lease_key (is_out_at leases (ground_lease_key_of k)) stand) →
     first_cause (by_lease_key (has_lease_key (lease_keys_of leases) k) stand) ≡ why
 first_by_lease_key leases stand why k first = ap (λ b. first_cause (by_lease_key b stand)) (has_lease_key_is leases k) ∙ sym first
+
+-- and so for a call on a ground
+module _ {T : Type 0} (b : Ground T) (fresh : Bool) where
+  abbrev against : Call → Refusal → Bool
+  against = causes b.register.base b.register.history b.register.limit fresh
+
+  pub first_of_node : {why : Option Refusal} {key : TreeKey} (k : Key) (call : ℕ → Call) → key ≡ tree_key_of k →
+      why ≡ first_at_key b (has_node b key) fresh (call key.number) →
+      first_cause (by_key (has_key (keys_of b.tree) k) (causes b.register.base b.register.history b.register.limit fresh (call k.number))) ≡ why
+  first_of_node {why} k call keyed is = first_by_key b.tree (against (call k.number)) why k (rw keyed at is)
+
+  pub first_of_res : {why : Option Refusal} {res : TreeResKey} (k : ResKey) (call : ℕ → Call) → res ≡ tree_res_key_of k →
+      why ≡ first_cause (by_res_key (is_held_at b.tree res) (causes b.register.base b.register.history b.register.limit fresh (call res.number))) →
+      first_cause (by_res_key (has_res_key (res_keys_of b.tree) k) (causes b.register.base b.register.history b.register.limit fresh (call k.number))) ≡ why
+  first_of_res {why} k call keyed is = first_by_res_key b.tree (against (call k.number)) why k (rw keyed at is)
+
+  pub first_of_place : {why : Option Refusal} {place : Place} {above : Option TreeKey} (at : At) (call : Place → Call) → place ≡ place_of at →
+      above ≡ key_above at →
+      why ≡ first_at_key b (is_there b.tree.nodes above) fresh (call place) →
+      first_cause (by_key (is_known_place (keys_of b.tree) at) (causes b.register.base b.register.history b.register.limit fresh (call (place_of at)))) ≡ why
+  first_of_place {why} at call placed keyed is = first_by_place b.tree (against (call (place_of at))) why at (rw (placed, keyed) at is)
 
 -- where nothing stands the key is known, and nothing stands against the call by numbers
 by_known_key : (known : Bool) (stand : Refusal → Bool) → first_cause (by_key known stand) ≡ None → (known ≡ true) × (first_cause stand ≡ None)

@@ -3,7 +3,7 @@ pub mod AnswersOkOrErr
 pub mod ListOfClosed
 pub mod CausesByKey
 pub mod CallWithoutCause
-pub mod FreeCalls
+pub mod PlainCalls
 pub mod Admitted
 pub mod ShownRoots
 pub mod ShownPromise

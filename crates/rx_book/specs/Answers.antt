@@ -44,6 +44,11 @@ pub record Accepts (old : State) (asked : Request) (new : State) : Type 0 where
 
 -- refusals ----------------------------------------------------------------------------------------
 
+-- the first cause; or, of a call that may take memory, want of memory where none stands
+abbrev pub IsRefusalOf : (may_want : Bool) → (Refusal → Bool) → Refusal → Type 0
+IsRefusalOf true stand why = IsRefusal stand why
+IsRefusalOf false stand why = first_cause stand ≡ Some why
+
 -- of a call that takes no memory: the first cause
 abbrev pub IsCause : State → Request → Refusal → Type 0
 IsCause old asked why = first_cause (stands old asked) ≡ Some why

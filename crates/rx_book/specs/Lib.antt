@@ -7,5 +7,5 @@ pub mod Shown
 pub mod Places
 pub mod Checkpoints
 pub mod Steps
-pub mod Asked
+pub mod Asks
 pub mod OpensHolding

@@ -1,36 +1,45 @@
 -- When a call is let in, and what it writes before what that forces. No public clause cites this module.
-use Rattle.std.specs.Prelude.{◌≡◌, ◌<◌, ◌≤◌, Option, Some, None, Result, Ok, Err, IfOk, IfErr, OnOk, length, IsSome, []}
+use Rattle.std.specs.Prelude.{◌≡◌, ◌<◌, ◌+◌, ◌≤◌, Bool, true, false, Option, Some, None, length, IsSome, IfSome, [], ⊤}
 use Rattle.rx_resource.specs.declared.Resource.{Ghosts}
 use Rattle.rx_event.specs.declared.refusal.Refusal.{Refusal}
 use Rattle.rx_event.specs.Calls.{Call, outside_of}
 use Rattle.rx_event.specs.Refusals.{first_cause}
+use Rattle.rx_event.specs.Totals.{debt}
 use Rattle.rx_slots.specs.declared.Key.{Key}
 use Rattle.rx_slots.specs.Slots.{find}
-use Rattle.rx_register.specs.State.{Writes}
+use Rattle.rx_register.specs.State.{Writes, IsPromised}
 use Rattle.rx_register.specs.Paid.{HasRoomFor}
 use Rattle.rx_register.specs.Claims.{MayCall}
 use Rattle.rx_ground.specs.declared.base.Wanted.{Wanted}
 use Rattle.rx_ground.specs.Costs.{cost_of}
 use Rattle.rx_ground.specs.Gone.{Gathers}
 use Rattle.rx_ground.specs.Shown.{Ground}
-use Rattle.rx_ground.specs.Ties.{IsStanding, HasRoomBeside, AreTied, AreLeased, KeepsHeld, KeepsLeases}
+use Rattle.rx_ground.specs.Ties.{IsStanding, IsRoomier, HasRoomBeside, AreTied, AreLeased, KeepsHeld, KeepsLeases}
+use Rattle.rx_book.specs.declared.call.Call.{Call as Asked}
 use Rattle.rx_book.specs.State.{State}
 use Rattle.rx_book.specs.Requests.{Request, stands}
+use Rattle.rx_book.specs.Asks.{request_of, takes_memory}
 use Rattle.rx_book.specs.Shown.{state_of}
 
--- the cost, unless something stands against the call
-abbrev pub unless_caused : Option Refusal → Wanted → Result Wanted Refusal
-unless_caused (Some why) cost = Err why
-unless_caused None cost = Ok cost
-
--- what a call costs where nothing stands against it, or what stands first
-pub record IsDecided (s : State) (asked : Request) (answer : Result Wanted Refusal) : Type 0 where
-  pub ok : IfOk answer (λ cost. cost ≡ cost_of s.history asked.call)
-  pub few : IfOk answer (λ cost. cost.notes ≤ 4294967295)
-  pub none : OnOk answer (first_cause (stands s asked) ≡ None)
-  pub err : IfErr answer (λ why. first_cause (stands s asked) ≡ Some why)
+-- what a call costs, where it may take memory
+abbrev pub IsCostOf : State → Asked → Option Wanted → Type 0
+IsCostOf s call (Some cost) = (takes_memory call ≡ true) × (cost ≡ cost_of s.history (request_of s call).call)
+IsCostOf s call None = takes_memory call ≡ false
 
 module _ {T : Type 0} where
+  -- what a call costs is within the limit on the events, and its notes are few
+  pub record IsWithin (b : Ground T) (cost : Wanted) : Type 0 where
+    pub events : length b.register.history + debt b.register.base b.register.history + cost.events ≤ b.register.base.at_length + b.register.limit
+    pub notes : cost.notes ≤ 4294967295
+
+  -- nothing stood against a call, the room that it costs was gotten, the list of what is closed was begun, and nothing else changed
+  pub record Admits (g : Ghosts T) (old : Ground T) (cause : Option Refusal) (cost : Option Wanted) (new : Ground T) : Type 0 where
+    pub none : cause ≡ None
+    pub standing : IsStanding g new
+    pub promised : IsPromised new.register
+    pub roomier : IsRoomier (record old { closed = [] }) new
+    pub has : IfSome cost (HasRoomBeside new)
+
   -- nothing stands against what is asked, there is room for it, and the list of what is closed was begun
   pub record IsLetIn (g : Ghosts T) (b : Ground T) (asked : Request) : Type 0 where
     pub standing : IsStanding g b
@@ -43,6 +52,11 @@ module _ {T : Type 0} where
   pub record IsAdmitted (g : Ghosts T) (b : Ground T) (asked : Request) : Type 0 where
     pub let_in : IsLetIn g b asked
     pub room : HasRoomBeside b (cost_of b.register.history asked.call)
+
+  -- there is room for a call, if it may take memory
+  abbrev pub HasRoomIf : Bool → Ground T → Call → Type 0
+  HasRoomIf true b call = HasRoomBeside b (cost_of b.register.history call)
+  HasRoomIf false b call = ⊤
 
   -- the call's events are written, of what is older only what was there is there, and the list went on with what was closed
   pub record IsWritten (g : Ghosts T) (old : Ground T) (call : Call) (new : Ground T) : Type 0 where

@@ -1,6 +1,6 @@
 //! What calls of the book are asked and answer.
 
-use crate::key::{Key, ResKey};
+use crate::key::{Key, LeaseKey, ResKey};
 use rx_event::Refusal;
 
 /// Where a node is to be opened, by the key of the node above it.
@@ -36,6 +36,21 @@ pub struct OpenedUsing {
     pub key: Key,
     /// The resource's key; its number is the one after the node's.
     pub res: ResKey,
+}
+
+/// What an accepted [`Call`](crate::Call) gives.
+#[derive(Clone, Copy, Debug)]
+pub enum Answer {
+    /// The place of the call's event, which is the number of a hub that was made.
+    Place(u64),
+    /// The node that was opened.
+    Opened(Opened),
+    /// The key of the connection that was made by hand.
+    Connected(Key),
+    /// The key of the lease.
+    Leased(LeaseKey),
+    /// The resource's own word.
+    Word(u64),
 }
 
 /// A node was opened that holds a resource from then on.

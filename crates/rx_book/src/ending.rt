@@ -7,10 +7,11 @@ ghost use Rattle.rx_book.specs.Answers.{AnswersPlace, AnswersPlaceOrWant};
 ghost use Rattle.rx_book.specs.Courses.{EmitsAll};
 
 use crate::Book;
-use crate::admit::admit_item;
-use crate::asked::Asked;
+use crate::admit::admit;
+use crate::call::Call;
 use crate::key::{Key, tree_key};
 use rx_event::{Refusal, Terminal};
+use rx_ground::Wanted;
 use rx_resource::Resource;
 
 /// How many of several items were emitted, and why the next one was refused, where one was.
@@ -41,7 +42,8 @@ impl<R: Resource> Book<R> {
     pub fn next(&mut self, leaf: Key, value: i64) -> Result<u64, Refusal>
         ensures { AnswersPlaceOrWant self.old (next_request self.old leaf value) self.new result }
     {
-        let way = admit_item(&mut self.ground, leaf, value)?;
+        let way = self.ground.route(tree_key(leaf), value)?;
+        admit(&mut self.ground, None, Some(Wanted::of_item(way.reach)))?;
         let place = self.ground.len();
         self.ground.write_item(tree_key(leaf), value, way);
         self.ground.settle();
@@ -80,7 +82,7 @@ impl<R: Resource> Book<R> {
     pub fn end(&mut self, leaf: Key, terminal: Terminal) -> Result<u64, Refusal>
         ensures { AnswersPlace self.old (end_request self.old leaf terminal) self.new result }
     {
-        self.answer_place(Asked::End(leaf, terminal))
+        self.answer_place(Call::End(leaf, terminal))
     }
 
     /// Ends a node that is no leaf with an error (OnError), as an operator that fails does, and after it
@@ -91,7 +93,7 @@ impl<R: Resource> Book<R> {
     pub fn abort(&mut self, node: Key, code: u32) -> Result<u64, Refusal>
         ensures { AnswersPlace self.old (abort_request self.old node code) self.new result }
     {
-        self.answer_place(Asked::Abort(node, code))
+        self.answer_place(Call::Abort(node, code))
     }
 
     /// Declines an item that was projected to a FlatMap or a Switch: it gets no inner observable (that a
@@ -102,7 +104,7 @@ impl<R: Resource> Book<R> {
     pub fn decline(&mut self, merging: Key) -> Result<u64, Refusal>
         ensures { AnswersPlace self.old (decline_request self.old merging) self.new result }
     {
-        self.answer_place(Asked::Decline(merging))
+        self.answer_place(Call::Decline(merging))
     }
 
     /// Ends a FlatMap or a Switch with an error, as where an item that was projected to it gives no
@@ -114,7 +116,7 @@ impl<R: Resource> Book<R> {
     pub fn fail(&mut self, merging: Key, code: u32) -> Result<u64, Refusal>
         ensures { AnswersPlace self.old (fail_request self.old merging code) self.new result }
     {
-        self.answer_place(Asked::Fail(merging, code))
+        self.answer_place(Call::Fail(merging, code))
     }
 
     /// Unsubscribes a root, and closes all below it, the inners of a FlatMap or a Switch too; what these
@@ -124,6 +126,6 @@ impl<R: Resource> Book<R> {
     pub fn dispose(&mut self, root: Key) -> Result<u64, Refusal>
         ensures { AnswersPlace self.old (dispose_request self.old root) self.new result }
     {
-        self.answer_place(Asked::Dispose(root))
+        self.answer_place(Call::Dispose(root))
     }
 }

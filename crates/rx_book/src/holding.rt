@@ -5,11 +5,12 @@ ghost use Rattle.rx_book.specs.Requests.{is_fresh_in, hold_request, apply_reques
 ghost use Rattle.rx_book.specs.Answers.{AnswersPlace, AnswersWord, AnswersResKey, AnswersHanded};
 
 use crate::Book;
-use crate::admit::{Wish, admit};
-use crate::answer::Refused;
-use crate::asked::Asked;
-use crate::key::{Key, ResKey, shown_res_key, tree_key, tree_res_key};
+use crate::admit::admit;
+use crate::answer::{Answer, Refused};
+use crate::call::Call;
+use crate::key::{Key, ResKey, shown_res_key, tree_key};
 use rx_event::Refusal;
+use rx_ground::Wanted;
 use rx_resource::{Handed, Life, Resource};
 
 /// Whether a resource was neither released nor used.
@@ -29,7 +30,8 @@ impl<R: Resource> Book<R> {
     {
         let tag = resource.tag();
         let fresh = is_fresh(&resource);
-        if let Err(why) = admit(&mut self.ground, Wish::Hold(node, tag, fresh)) {
+        let cause = self.ground.holding_cause(tree_key(node), tag, fresh);
+        if let Err(why) = admit(&mut self.ground, cause, Some(Wanted::of_holding())) {
             return Err(Refused {
                 why,
                 back: resource,
@@ -47,10 +49,10 @@ impl<R: Resource> Book<R> {
     pub fn apply(&mut self, res: ResKey, word: u64) -> Result<u64, Refusal>
         ensures { AnswersWord self.old (apply_request self.old res) self.new result }
     {
-        admit(&mut self.ground, Wish::Apply(res))?;
-        let answer = self.ground.write_use(tree_res_key(res), word);
-        self.ground.settle();
-        Ok(answer)
+        let Answer::Word(told) = self.answer(Call::Apply(res, word))? else {
+            unreachable!()
+        };
+        Ok(told)
     }
 
     /// Takes a resource away from its node, which goes on without it: it then waits for its release
@@ -59,7 +61,7 @@ impl<R: Resource> Book<R> {
     pub fn remove(&mut self, res: ResKey) -> Result<u64, Refusal>
         ensures { AnswersPlace self.old (remove_request self.old res) self.new result }
     {
-        self.answer_place(Asked::Remove(res))
+        self.answer_place(Call::Remove(res))
     }
 
     /// Hands out a resource that waits, for its release; which one is free. None exactly where

@@ -8,9 +8,9 @@ ghost use Rattle.rx_book.specs.Requests.{hub_request, connect_request, disconnec
 ghost use Rattle.rx_book.specs.Answers.{AnswersKey, AnswersPlace, AnswersPlaceOrWant};
 
 use crate::Book;
-use crate::admit::{Wish, admit};
-use crate::asked::Asked;
-use crate::key::{Key, shown_key};
+use crate::answer::Answer;
+use crate::call::Call;
+use crate::key::Key;
 use rx_event::{Mode, Refusal};
 use rx_resource::Resource;
 
@@ -22,10 +22,7 @@ impl<R: Resource> Book<R> {
     pub fn hub(&mut self, mode: Mode) -> Result<u64, Refusal>
         ensures { AnswersPlaceOrWant self.old (hub_request mode) self.new result }
     {
-        admit(&mut self.ground, Wish::Publish(mode))?;
-        let number = self.ground.write_hub(mode);
-        self.ground.settle();
-        Ok(number)
+        self.answer_place(Call::Hub(mode))
     }
 
     /// Connects a hub by hand (Connect, at reactivex.io): its subscribers are then told what comes from
@@ -36,10 +33,10 @@ impl<R: Resource> Book<R> {
     pub fn connect(&mut self, hub: u64) -> Result<Key, Refusal>
         ensures { AnswersKey self.old (connect_request hub) self.new result }
     {
-        admit(&mut self.ground, Wish::Connect(hub))?;
-        let key = self.ground.write_connect(hub);
-        self.ground.settle();
-        Ok(shown_key(key))
+        let Answer::Connected(connection) = self.answer(Call::Connect(hub))? else {
+            unreachable!()
+        };
+        Ok(connection)
     }
 
     /// Disconnects a hub by hand (the disposable that Connect returns): closes its connection and all
@@ -49,7 +46,7 @@ impl<R: Resource> Book<R> {
     pub fn disconnect(&mut self, hub: u64) -> Result<u64, Refusal>
         ensures { AnswersPlace self.old (disconnect_request hub) self.new result }
     {
-        self.answer_place(Asked::Disconnect(hub))
+        self.answer_place(Call::Disconnect(hub))
     }
 
     /// The least number of a hub that was connected by hand and is connected still; None where there is

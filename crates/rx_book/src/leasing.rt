@@ -4,9 +4,9 @@ ghost use Rattle.rx_book.specs.Requests.{lease_request, give_back_request};
 ghost use Rattle.rx_book.specs.Answers.{AnswersLeaseKey, AnswersPlace};
 
 use crate::Book;
-use crate::admit::{Wish, admit};
-use crate::asked::Asked;
-use crate::key::{LeaseKey, ResKey, shown_lease_key, tree_res_key};
+use crate::answer::Answer;
+use crate::call::Call;
+use crate::key::{LeaseKey, ResKey};
 use rx_event::Refusal;
 use rx_resource::Resource;
 
@@ -19,10 +19,10 @@ impl<R: Resource> Book<R> {
     pub fn lease(&mut self, res: ResKey) -> Result<LeaseKey, Refusal>
         ensures { AnswersLeaseKey self.old (lease_request self.old res) self.new result }
     {
-        admit(&mut self.ground, Wish::Lease(res))?;
-        let lease = self.ground.write_lease(tree_res_key(res));
-        self.ground.settle();
-        Ok(shown_lease_key(lease))
+        let Answer::Leased(lease) = self.answer(Call::Lease(res))? else {
+            unreachable!()
+        };
+        Ok(lease)
     }
 
     /// Gives a lease back; answers the place of its event. At the last one of a resource whose node is
@@ -31,6 +31,6 @@ impl<R: Resource> Book<R> {
     pub fn give_back(&mut self, lease: LeaseKey) -> Result<u64, Refusal>
         ensures { AnswersPlace self.old (give_back_request self.old lease) self.new result }
     {
-        self.answer_place(Asked::GiveBack(lease))
+        self.answer_place(Call::GiveBack(lease))
     }
 }

@@ -33,6 +33,7 @@
 //!   uses, and the number of notes handed out. `Request` says what is asked, `stands` which causes
 //!   stand against it, `Accepts` what an accepted call does, `Answers` what a call answers, and
 //!   `IsPromised` what holds of every book.
+//! - A call that brings no resource is a value too, a [`Call`], which [`Book::ask`] makes and answers.
 //! - What a program that embeds a book needs beside is offered here too: [`Kind`], [`Terminal`],
 //!   [`Refusal`], [`Event`] and [`Mail`] of `rx_event`, [`Note`] of `rx_note`, and [`Resource`],
 //!   [`Life`], [`Handed`] and [`Released`] of `rx_resource`.
@@ -66,8 +67,8 @@
 
 mod admit;
 mod answer;
-mod asked;
 mod book;
+mod call;
 mod checkpoint;
 mod closing;
 mod ending;
@@ -79,8 +80,9 @@ mod opening;
 mod opening_holding;
 mod place;
 
-pub use answer::{At, Opened, OpenedHolding, OpenedUsing, Refused};
+pub use answer::{Answer, At, Opened, OpenedHolding, OpenedUsing, Refused};
 pub use book::Book;
+pub use call::Call;
 pub use closing::Closed;
 pub use ending::Emitted;
 pub use key::{Key, LeaseKey, ResKey};

@@ -15,13 +15,13 @@ ghost use Rattle.rx_book.specs.Shown.{keys_of, state_of};
 ghost use Rattle.rx_book.specs.Steps.{IsAdmitted};
 
 use crate::Book;
-use crate::admit::{Wish, admit};
+use crate::admit::admit;
 use crate::answer::{At, Opened, OpenedUsing, Refused};
 use crate::holding::is_fresh;
 use crate::key::{Key, shown_key, shown_res_key};
 use crate::place::spot_of;
 use rx_event::{Kind, Refusal};
-use rx_ground::Ground;
+use rx_ground::{Ground, Wanted};
 use rx_resource::Resource;
 
 /// The key of the connection of the hub that such a node subscribes to, where its opening forced one.
@@ -84,7 +84,12 @@ impl<R: Resource> Book<R> {
     pub fn open(&mut self, at: At, kind: Kind) -> Result<Opened, Refusal>
         ensures { AnswersOpened self.old (open_request self.old at kind) self.new result }
     {
-        admit(&mut self.ground, Wish::Open(at, kind))?;
+        let spot = spot_of(at);
+        let cost = self.ground.opening_cost(spot.place, kind);
+        let cause = self
+            .ground
+            .opening_cause(spot.place, spot.above, kind, cost);
+        admit(&mut self.ground, cause, Some(cost))?;
         Ok(write_opening(&mut self.ground, at, kind))
     }
 
@@ -96,15 +101,16 @@ impl<R: Resource> Book<R> {
     pub fn open_using(&mut self, at: At, resource: R) -> Result<OpenedUsing, Refused<R>>
         ensures { AnswersOpenedUsing self.old (using_request R.Resource self.old at resource) resource self.new result }
     {
+        let spot = spot_of(at);
         let tag = resource.tag();
         let fresh = is_fresh(&resource);
-        if let Err(why) = admit(&mut self.ground, Wish::OpenUsing(at, tag, fresh)) {
+        let cause = self.ground.using_cause(spot.place, spot.above, tag, fresh);
+        if let Err(why) = admit(&mut self.ground, cause, Some(Wanted::of_using(spot.place))) {
             return Err(Refused {
                 why,
                 back: resource,
             });
         }
-        let spot = spot_of(at);
         let node = self.ground.write_open(spot.place, Kind::Pass, spot.above);
         let res = self.ground.write_accept(node, resource);
         self.ground.settle();

@@ -1,55 +1,26 @@
 //! Opening a node of any kind that holds a resource from then on, in one call.
 
-ghost use Rattle.std.specs.Prelude.{◌≡◌, ◌+◌, ◌<◌, ◌≤◌, [], ◌∷◌, ◌++◌, true, length, IfErr, IsTrue, OnOk, OnErr};
+ghost use Rattle.std.specs.Prelude.{◌≡◌, ◌+◌, ◌<◌, ◌≤◌, [], ◌∷◌, ◌++◌, true, length, IsTrue};
 ghost use Rattle.rx_event.specs.declared.event.Event.{Event};
-ghost use Rattle.rx_event.specs.Refusals.{IsRefusal};
 ghost use Rattle.rx_event.specs.Totals.{debt};
 ghost use Rattle.rx_ground.specs.Gone.{Gathers};
 ghost use Rattle.rx_ground.specs.Ties.{IsStanding};
 ghost use Rattle.rx_book.specs.State.{has_key};
 ghost use Rattle.rx_book.specs.Requests.{is_fresh_in, hold_request};
 ghost use Rattle.rx_book.specs.Answers.{Accepts, IsNewResKey};
-ghost use Rattle.rx_book.specs.OpensHolding.{stands_holding, AnswersOpenedHolding, IsAdmittedHolding};
+ghost use Rattle.rx_book.specs.OpensHolding.{AnswersOpenedHolding};
 ghost use Rattle.rx_book.specs.Shown.{keys_of, state_of};
 
 use crate::Book;
+use crate::admit::admit;
 use crate::answer::{At, OpenedHolding, Refused};
 use crate::holding::is_fresh;
 use crate::key::{Key, ResKey, shown_res_key, tree_key};
 use crate::opening::write_opening;
 use crate::place::spot_of;
-use rx_event::{Kind, Refusal};
+use rx_event::Kind;
 use rx_ground::Ground;
 use rx_resource::Resource;
-
-/// Lets such an opening in: gets room for it and for the holding, where nothing stands against it, and begins the
-/// list of what both close. Refused for what stands first, else for want of memory; then some of the room may
-/// have been gotten, and nothing else changed.
-#[inline(always)]
-fn admit_holding<R: Resource>(
-    ground: &mut Ground<R>,
-    at: At,
-    kind: Kind,
-    is_fresh: bool,
-) -> Result<(), Refusal>
-    requires standing { IsStanding R.Resource ground.old }
-    ensures ok { OnOk result (IsAdmittedHolding R.Resource ground.new at kind is_fresh) }
-    ensures err { IfErr result (IsRefusal (stands_holding (state_of R.Resource ground.old) at kind is_fresh)) }
-    ensures same { OnErr result (state_of R.Resource ground.new ≡ state_of R.Resource ground.old) }
-    ensures begun { OnOk result
-        (state_of R.Resource ground.new ≡ record (state_of R.Resource ground.old) { closed = [] }) }
-    ensures standing { IsStanding R.Resource ground.new }
-{
-    let spot = spot_of(at);
-    if let Some(why) = ground.opening_holding_cause(spot.place, spot.above, kind, is_fresh) {
-        return Err(why);
-    }
-    let cost = ground.opening_holding_cost(spot.place, kind);
-    ground.make_room(cost)?;
-    ground.promise();
-    ground.begin();
-    Ok(())
-}
 
 /// Holds a fresh resource at an open node, for which there is room. It forces nothing, and the list of what was
 /// closed stays.
@@ -90,8 +61,13 @@ impl<R: Resource> Book<R> {
     ) -> Result<OpenedHolding, Refused<R>>
         ensures { AnswersOpenedHolding R.Resource self.old at kind resource self.new result }
     {
+        let spot = spot_of(at);
         let fresh = is_fresh(&resource);
-        if let Err(why) = admit_holding(&mut self.ground, at, kind, fresh) {
+        let cause = self
+            .ground
+            .opening_holding_cause(spot.place, spot.above, kind, fresh);
+        let cost = self.ground.opening_holding_cost(spot.place, kind);
+        if let Err(why) = admit(&mut self.ground, cause, Some(cost)) {
             return Err(Refused {
                 why,
                 back: resource,

@@ -1,7 +1,8 @@
-use Rattle.std.proofs.Common.{List, length, refl, ap, subst, ◌∙◌}
+use Rattle.std.proofs.Common.{List, length, refl, ap, subst, ◌∙◌, arith}
 use Rattle.std.specs.Prelude.{Ok}
 use Rattle.rx_event.specs.declared.event.Event.{Event}
 use Rattle.rx_event.specs.declared.event.Event.TheVariants.{Accept}
+use Rattle.rx_event.specs.Calls.{Holding}
 use Rattle.rx_event.specs.Kept.{Kept}
 use Rattle.rx_event.specs.Resources.{accepted_by}
 use Rattle.rx_event.proofs.Laws.Resources.{accepted_by_new}
@@ -9,7 +10,7 @@ use Rattle.rx_event.proofs.Laws.StaysOpen.{accepted_stays}
 use Rattle.rx_ground.proofs.Laws.GoneStaysGone.{gathers_quiet}
 use Rattle.rx_ground.proofs.Laws.KeysKept.{leases_stay}
 use Rattle.rx_book.specs.State.{State}
-use Rattle.rx_book.specs.Requests.{hold_request}
+use Rattle.rx_book.specs.Requests.{hold_request, stands}
 use Rattle.rx_book.specs.Answers.{AnswersResKey}
 use Rattle.rx_book.specs.Shown.{state_of}
 use Rattle.rx_book.proofs.AnswersOkOrErr.{answers_ok, answers_err}
@@ -20,26 +21,49 @@ use Rattle.rx_book.proofs.ListOfClosed.{answers_begun, begun_at}
 use Rattle.rx_book.proofs.book.Book.hold.Given as given
 use Rattle.rx_book.proofs.book.Book.hold.Goals as goal
 use Rattle.rx_book.proofs.book.Book.hold.Goals.{In_default}
-use Rattle.rx_book.specs.Steps.{IsLetIn}
+use Rattle.rx_book.specs.Steps.{IsLetIn, IsAdmitted}
+use Rattle.rx_book.proofs.Admitted.{admitted_as, state_admitted, within_limit}
+use Rattle.rx_book.proofs.CausesByKey.{first_of_node}
+
+pub admit-requires-clause-within : goal.admit-requires-clause-within
+admit-requires-clause-within g c κs within none =
+    let R = g.R.Resource in
+    let b = c.self.inside.ground in
+    let told = rw (c.tag-tag.ensures, c.is_fresh-fresh.ensures) at c.holding_cause-cause.ensures in
+    let first = first_of_node c.self.inside.ground _ c.args.node (λ n. Holding n (g.R.Resource.tag_of c.args.resource)) c.tree_key.ensures told in
+    within_limit R b (hold_request R (state_of R b) c.args.node c.args.resource) c.of_holding.result refl (first ∙ none) c.of_holding.ensures (omega arith)
 
 pub returns-in-Err : goal.returns-in-Err
 returns-in-Err g c =
-    let why = rw (c.tag-tag.ensures, c.is_fresh-fresh.ensures) at c.in-Err.ensures.err in
+    let s = state_of g.R.Resource c.self.inside.ground in
+    let told = rw (c.tag-tag.ensures, c.is_fresh-fresh.ensures) at c.holding_cause-cause.ensures in
+    let first = first_of_node c.self.inside.ground _ c.args.node (λ n. Holding n (g.R.Resource.tag_of c.args.resource)) c.tree_key.ensures told in
+    let why = c.in-Err.ensures.err (stands s (hold_request g.R.Resource s c.args.node c.args.resource)) first in
     rw (← c.self.view_is) (answers_err (record { why = why; back = refl }) c.in-Err.ensures.same)
+
+admitted : (g : given.Over) (c : In_default g) →
+    (let b = c.admit.new.ground in IsAdmitted g.R.Resource b (hold_request g.R.Resource (state_of g.R.Resource b) c.args.node c.args.resource))
+admitted g c =
+    let told = rw (c.tag-tag.ensures, c.is_fresh-fresh.ensures) at c.holding_cause-cause.ensures in
+    let first = first_of_node c.self.inside.ground _ c.args.node (λ n. Holding n (g.R.Resource.tag_of c.args.resource)) c.tree_key.ensures told in
+    admitted_as (λ s. hold_request g.R.Resource s c.args.node c.args.resource) (λ s. refl) tt first c.in_default.ensures.ok c.of_holding.ensures
 
 called : (g : given.Over) (c : In_default g) →
     (let b = c.admit.new.ground in IsLetIn g.R.Resource b (hold_request g.R.Resource (state_of g.R.Resource b) c.args.node c.args.resource))
-called g c = rw (c.tag-tag.ensures, c.is_fresh-fresh.ensures) at c.in_default.ensures.ok.let_in
+called g c = (admitted g c).let_in
+
+pub write_accept-res-requires-clause-room : goal.write_accept-res-requires-clause-room
+write_accept-res-requires-clause-room g c κs within = (admitted g (goal.at.write_accept-res-requires-clause-room g c).In_default).room.resources
 
 pub write_accept-res-requires-clause-ready : goal.write_accept-res-requires-clause-ready
 write_accept-res-requires-clause-ready g c κs within =
     let l = called g (goal.at.write_accept-res-requires-clause-ready g c).In_default in
-    rw c.tree_key.ensures (one_ready g.R.Resource c.admit.new.ground _ l _ refl)
+    rw c.tree_key-2.ensures (one_ready g.R.Resource c.admit.new.ground _ l _ refl)
 
 pub write_accept-res-requires-clause-open : goal.write_accept-res-requires-clause-open
 write_accept-res-requires-clause-open g c κs within =
     let l = called g (goal.at.write_accept-res-requires-clause-open g c).In_default in
-    rw c.tree_key.ensures (open_asked g.R.Resource c.admit.new.ground _ l c.args.node refl)
+    rw c.tree_key-2.ensures (open_asked g.R.Resource c.admit.new.ground _ l c.args.node refl)
 
 pub write_accept-res-requires-clause-live : goal.write_accept-res-requires-clause-live
 write_accept-res-requires-clause-live g c κs within =
@@ -54,12 +78,12 @@ write_accept-res-requires-clause-unused g c κs within =
 pub settle-requires-clause-paid : goal.settle-requires-clause-paid
 settle-requires-clause-paid g c κs within =
     let l = called g (goal.at.settle-requires-clause-paid g c).In_default in
-    pays g.R.Resource c.admit.new.ground _ l c.write_accept-res.new.self.register (rw c.tree_key.ensures at c.write_accept-res.ensures.written)
+    pays g.R.Resource c.admit.new.ground _ l c.write_accept-res.new.self.register (rw c.tree_key-2.ensures at c.write_accept-res.ensures.written)
 
 pub settle-requires-clause-room : goal.settle-requires-clause-room
 settle-requires-clause-room g c κs within =
     let l = called g (goal.at.settle-requires-clause-room g c).In_default in
-    connects_none g.R.Resource c.admit.new.ground _ l c.write_accept-res.new.self.register (rw c.tree_key.ensures at c.write_accept-res.ensures.written) refl
+    connects_none g.R.Resource c.admit.new.ground _ l c.write_accept-res.new.self.register (rw c.tree_key-2.ensures at c.write_accept-res.ensures.written) refl
 
 pub returns : goal.returns
 returns g c =
@@ -69,7 +93,7 @@ returns g c =
     let new = c.settle.new.self in
     let a = c.write_accept-res.ensures in
     let s = c.settle.ensures in
-    let w = rw c.tree_key.ensures at a.written in
+    let w = rw c.tree_key-2.ensures at a.written in
     let l = called g (goal.at.returns g c).In_default in
     let h = b.register.history in
     let n = length h in
@@ -85,4 +109,4 @@ returns g c =
     a.number a.held accepted alive in
     answers_begun (λ is. is)
     (subst (λ (x : State). AnswersResKey x (hold_request R x c.args.node c.args.resource) c.args.resource (state_of R new) (Ok c.shown_res_key.result))
-    (begun_at c.in_default.ensures.begun c.self.view_is) (answers_ok key done))
+    (begun_at (state_admitted c.in_default.ensures.ok) c.self.view_is) (answers_ok key done))

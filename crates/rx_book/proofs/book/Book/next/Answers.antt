@@ -1,60 +1,121 @@
-use Rattle.std.proofs.Common.{refl, subst, w64}
+use Rattle.std.proofs.Common.{true, None, Some, [], refl, sym, ap, subst, ◌∙◌, inl, arith, w64}
 use Rattle.std.specs.Prelude.{Ok}
 use Rattle.std.proofs.lemmas.Int.{to_z-of_z}
 use Rattle.rx_event.specs.declared.event.Event.TheVariants.{Item}
+use Rattle.rx_event.specs.Calls.{Emitting}
+use Rattle.rx_ground.specs.declared.base.Wanted.{Wanted}
+use Rattle.rx_ground.specs.Reached.{MakesOnly}
+use Rattle.rx_ground.specs.Shown.{Ground}
+use Rattle.rx_ground.specs.Ties.{IsStanding}
 use Rattle.rx_ground.proofs.Laws.GoneStaysGone.{gathers_quiet}
+use Rattle.rx_ground.proofs.Laws.OneStop.{MakesOnly-roomier}
 use Rattle.rx_book.specs.State.{State}
-use Rattle.rx_book.specs.Requests.{next_request}
+use Rattle.rx_book.specs.Requests.{next_request, stands}
 use Rattle.rx_book.specs.Answers.{AnswersPlaceOrWant}
-use Rattle.rx_book.specs.Shown.{state_of}
+use Rattle.rx_book.specs.Shown.{state_of, tree_key_of}
+use Rattle.rx_book.specs.Steps.{IsLetIn, IsWithin, Admits}
+use Rattle.rx_book.proofs.Admitted.{admitted_as, state_admitted, within_limit, item_cost}
+use Rattle.rx_book.proofs.CausesByKey.{first_of_node}
 use Rattle.rx_book.proofs.AnswersOkOrErr.{answers_ok, passed_refusal}
 use Rattle.rx_book.proofs.CallWithoutCause.{one_ready, open_asked, pays, connects_none, written_closed, accepts_written, settles_to}
 use Rattle.rx_book.proofs.ListOfClosed.{answers_begun, begun_at}
+use Rattle.rx_book.proofs.book.Book.next.Given as given
 use Rattle.rx_book.proofs.book.Book.next.Goals as goal
+use Rattle.rx_book.proofs.book.Book.next.Goals.{In_ok-admit}
+
+admitted : (g : given.Over) (c : In_ok-admit g) → Admits g.R.Resource c.self.inside.ground None (Some c.of_item.result) c.admit.new.ground
+admitted g c =
+    let w = Some c.of_item.result in
+    subst (λ (x : Ground g.row.R.Denot). Admits g.R.Resource x None w c.admit.new.ground) c.in_ok-way.ensures.kept c.in_ok-admit.ensures.ok
+
+called : (g : given.Over) (c : In_ok-admit g) → (let b = c.admit.new.ground in
+    IsLetIn g.R.Resource b (next_request (state_of g.R.Resource b) c.args.leaf c.args.value))
+called g c =
+    let b = c.self.inside.ground in
+    let told = rw (to_z-of_z w64 c.args.value c.ranges.value) at (sym c.in_ok-way.ensures.none) in
+    let none = first_of_node b true c.args.leaf (λ n. Emitting n c.args.value) c.tree_key.ensures told in
+    let is = rw c.tree_key.ensures at c.in_ok-way.ensures.ok in
+    let cost = c.of_item.ensures ∙ item_cost b.register.history b.tree.nodes (tree_key_of c.args.leaf) c.args.value c.in_ok-way.way.reach is in
+    (admitted_as (λ s. next_request s c.args.leaf c.args.value) (λ s. refl) tt none (admitted g c) cost).let_in
 
 pub returns-in_err-way : goal.returns-in_err-way
 returns-in_err-way g c =
     let a = c.in_err-way in
-    rw (← c.self.view_is) (passed_refusal c.from_residual.result a.field-0.0 c.from_residual.ensures.1 a.ensures.err a.ensures.same)
+    let told = rw (to_z-of_z w64 c.args.value c.ranges.value) at (sym a.ensures.first) in
+    let why = inl (first_of_node c.self.inside.ground true c.args.leaf (λ n. Emitting n c.args.value) c.tree_key.ensures told) in
+    rw (← c.self.view_is) (passed_refusal c.from_residual.result a.field-0.0 c.from_residual.ensures.1 why (ap (state_of g.R.Resource) a.ensures.kept))
+
+pub admit-requires-clause-standing : goal.admit-requires-clause-standing
+admit-requires-clause-standing g c κs within = subst (IsStanding g.R.Resource) (sym c.in_ok-way.ensures.kept) c.self.invariant
+
+pub admit-requires-clause-within : goal.admit-requires-clause-within
+admit-requires-clause-within g c κs within none =
+    let R = g.R.Resource in
+    let b = c.self.inside.ground in
+    let told = rw (to_z-of_z w64 c.args.value c.ranges.value) at (sym c.in_ok-way.ensures.none) in
+    let unstood = first_of_node b true c.args.leaf (λ n. Emitting n c.args.value) c.tree_key.ensures told in
+    let is = rw c.tree_key.ensures at c.in_ok-way.ensures.ok in
+    let cost = c.of_item.ensures ∙ item_cost b.register.history b.tree.nodes (tree_key_of c.args.leaf) c.args.value c.in_ok-way.way.reach is in
+    let few = is.few in
+    let notes = ap (λ (w : Wanted). w.notes) cost in
+    let reached = ap (λ (w : Wanted). w.notes) c.of_item.ensures in
+    subst (λ (x : Ground g.row.R.Denot). IsWithin x c.of_item.result) (sym c.in_ok-way.ensures.kept)
+    (within_limit R b (next_request (state_of R b) c.args.leaf c.args.value) c.of_item.result refl unstood cost (omega arith))
+
+pub returns-in_err-admit : goal.returns-in_err-admit
+returns-in_err-admit g c =
+    let s = state_of g.R.Resource c.self.inside.ground in
+    let a = c.in_err-admit in
+    let passed = c.from_residual-in_err-admit in
+    let told = rw (to_z-of_z w64 c.args.value c.ranges.value) at (sym c.in_ok-way.ensures.none) in
+    let none = first_of_node c.self.inside.ground true c.args.leaf (λ n. Emitting n c.args.value) c.tree_key.ensures told in
+    let why = a.ensures.err (stands s (next_request s c.args.leaf c.args.value)) none in
+    let same = a.ensures.same ∙ ap (state_of g.R.Resource) c.in_ok-way.ensures.kept in
+    rw (← c.self.view_is) (passed_refusal passed.result a.field-0.0 passed.ensures.1 why same)
 
 pub write_item-requires-clause-ready : goal.write_item-requires-clause-ready
 write_item-requires-clause-ready g c κs within =
-    let l = rw (to_z-of_z w64 c.args.value c.ranges.value) at c.in_ok-way.ensures.ok.let_in in
-    rw (c.tree_key.ensures, to_z-of_z w64 c.args.value c.ranges.value) (one_ready g.R.Resource c.admit_item.new.ground _ l _ refl)
+    let l = called g (goal.at.write_item-requires-clause-ready g c).In_ok-admit in
+    rw (c.tree_key-2.ensures, to_z-of_z w64 c.args.value c.ranges.value) (one_ready g.R.Resource c.admit.new.ground _ l _ refl)
 
 pub write_item-requires-clause-open : goal.write_item-requires-clause-open
 write_item-requires-clause-open g c κs within =
-    rw c.tree_key.ensures (open_asked g.R.Resource c.admit_item.new.ground _ c.in_ok-way.ensures.ok.let_in c.args.leaf refl)
+    rw c.tree_key-2.ensures (open_asked g.R.Resource c.admit.new.ground _ (called g (goal.at.write_item-requires-clause-open g c).In_ok-admit) c.args.leaf refl)
 
 pub write_item-requires-clause-only : goal.write_item-requires-clause-only
-write_item-requires-clause-only g c κs within = rw c.tree_key.ensures c.in_ok-way.ensures.only
+write_item-requires-clause-only g c κs within =
+    let b = c.self.inside.ground in
+    let key = tree_key_of c.args.leaf in
+    let before : MakesOnly b.tree.nodes b.hubs.hubs key c.in_ok-way.way.only = rw c.tree_key.ensures at c.in_ok-way.ensures.only in
+    let a = admitted g (goal.at.write_item-requires-clause-only g c).In_ok-admit in
+    rw c.tree_key-2.ensures (MakesOnly-roomier (record b { closed = [] }) c.admit.new.ground key c.in_ok-way.way.only a.roomier before)
 
 pub settle-requires-clause-paid : goal.settle-requires-clause-paid
 settle-requires-clause-paid g c κs within =
-    let w = rw (c.tree_key.ensures, to_z-of_z w64 c.args.value c.ranges.value) at c.write_item.ensures.written in
-    let l = rw (to_z-of_z w64 c.args.value c.ranges.value) at c.in_ok-way.ensures.ok.let_in in
-    pays g.R.Resource c.admit_item.new.ground _ l c.write_item.new.self.register w
+    let w = rw (c.tree_key-2.ensures, to_z-of_z w64 c.args.value c.ranges.value) at c.write_item.ensures.written in
+    let l = called g (goal.at.settle-requires-clause-paid g c).In_ok-admit in
+    pays g.R.Resource c.admit.new.ground _ l c.write_item.new.self.register w
 
 pub settle-requires-clause-room : goal.settle-requires-clause-room
 settle-requires-clause-room g c κs within =
-    let w = rw (c.tree_key.ensures, to_z-of_z w64 c.args.value c.ranges.value) at c.write_item.ensures.written in
-    let l = rw (to_z-of_z w64 c.args.value c.ranges.value) at c.in_ok-way.ensures.ok.let_in in
-    connects_none g.R.Resource c.admit_item.new.ground _ l c.write_item.new.self.register w refl
+    let w = rw (c.tree_key-2.ensures, to_z-of_z w64 c.args.value c.ranges.value) at c.write_item.ensures.written in
+    let l = called g (goal.at.settle-requires-clause-room g c).In_ok-admit in
+    connects_none g.R.Resource c.admit.new.ground _ l c.write_item.new.self.register w refl
 
 pub returns : goal.returns
 returns g c =
     let R = g.R.Resource in
-    let b = c.admit_item.new.ground in
+    let b = c.admit.new.ground in
     let mid = c.write_item.new.self in
     let new = c.settle.new.self in
     let u = c.write_item.ensures in
     let s = c.settle.ensures in
-    let l = rw (to_z-of_z w64 c.args.value c.ranges.value) at c.in_ok-way.ensures.ok.let_in in
-    let w = rw (c.tree_key.ensures, to_z-of_z w64 c.args.value c.ranges.value) at u.written in
+    let l = called g (goal.at.returns g c).In_ok-admit in
+    let w = rw (c.tree_key-2.ensures, to_z-of_z w64 c.args.value c.ranges.value) at u.written in
     let next = (one_ready R b _ l (Item c.args.leaf.number c.args.value) refl).next in
     let quiet = gathers_quiet (Item c.args.leaf.number c.args.value) next refl w u.closed in
     let written = written_closed mid _ w u.tied u.leased u.kept u.resources u.leases quiet in
     let done = accepts_written R b _ l written (settles_to s.standing s.base s.forced s.nodes s.resources s.limit s.given s.leases s.closed) in
     answers_begun (λ place. place)
     (subst (λ (x : State). AnswersPlaceOrWant x (next_request x c.args.leaf c.args.value) (state_of R new) (Ok c.len-place.result))
-    (begun_at c.in_ok-way.ensures.begun c.self.view_is) (answers_ok c.len-place.ensures done))
+    (begun_at (state_admitted (admitted g (goal.at.returns g c).In_ok-admit)) c.self.view_is) (answers_ok c.len-place.ensures done))

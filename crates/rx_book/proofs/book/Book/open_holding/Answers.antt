@@ -1,36 +1,73 @@
-use Rattle.std.proofs.Common.{refl, sym, ap, map, subst, ◌∙◌, ◌∷◌, []}
+use Rattle.std.proofs.Common.{◌≡◌, refl, sym, ap, map, subst, ◌∙◌, ◌∷◌, []}
 use Rattle.std.specs.Prelude.{Ok}
 use Rattle.rx_event.specs.declared.event.Event.TheVariants.{Accept}
 use Rattle.rx_event.specs.Calls.{Opening, outside_of}
+use Rattle.rx_event.specs.Refusals.{first_cause}
 use Rattle.rx_slots.specs.Slots.{Slots}
 use Rattle.rx_tree.specs.declared.node.Node.{Node}
 use Rattle.rx_ground.specs.Shown.{Kept, kept_in}
 use Rattle.rx_ground.proofs.Laws.GoneStaysGone.{IsFurther, gone_on, gathers_on}
 use Rattle.rx_book.specs.State.{State}
 use Rattle.rx_book.specs.Requests.{place_of}
-use Rattle.rx_book.specs.OpensHolding.{AnswersOpenedHolding}
+use Rattle.rx_book.specs.OpensHolding.{AnswersOpenedHolding, IsAdmittedHolding, stands_holding}
 use Rattle.rx_book.specs.Shown.{key_shown, state_of}
+use Rattle.rx_book.proofs.Admitted.{state_admitted}
+use Rattle.rx_book.proofs.AdmittedHolding.{first_stands, holding_within, admitted_holding}
 use Rattle.rx_book.proofs.HoldingUnstood.{fresh_with}
 use Rattle.rx_book.proofs.OpenedStaysOpened.{opened_after}
 use Rattle.rx_book.proofs.ListOfClosed.{begun_at, holding_begun, further_step, gathers_just, just_gone}
+use Rattle.rx_book.proofs.book.Book.open_holding.Given as given
 use Rattle.rx_book.proofs.book.Book.open_holding.Goals as goal
+use Rattle.rx_book.proofs.book.Book.open_holding.Goals.{After-opening_holding_cost-cost, In_default}
+
+-- what stands first, by the caller's key
+first : (g : given.Over) (c : After-opening_holding_cost-cost g) →
+    first_cause (stands_holding (state_of g.R.Resource c.self.inside.ground) c.args.at c.args.kind c.is_fresh-fresh.result)
+    ≡ c.opening_holding_cause-cause.result
+first g c =
+    first_stands g.R.Resource c.self.inside.ground c.args.at c.args.kind c.is_fresh-fresh.result _
+    (rw (c.spot_of-spot.ensures.place, c.spot_of-spot.ensures.above) at c.opening_holding_cause-cause.ensures)
+
+admitted : (g : given.Over) (c : In_default g) → IsAdmittedHolding g.R.Resource c.admit.new.ground c.args.at c.args.kind c.is_fresh-fresh.result
+admitted g c =
+    let first = first_stands g.R.Resource c.self.inside.ground c.args.at c.args.kind c.is_fresh-fresh.result _
+    (rw (c.spot_of-spot.ensures.place, c.spot_of-spot.ensures.above) at c.opening_holding_cause-cause.ensures) in
+    admitted_holding c.args.at c.args.kind c.is_fresh-fresh.result c.opening_holding_cost-cost.result first
+    (rw c.spot_of-spot.ensures.place at c.opening_holding_cost-cost.ensures) c.in_default.ensures.ok
+
+pub admit-requires-clause-within : goal.admit-requires-clause-within
+admit-requires-clause-within g c κs within none =
+    let is = first g (goal.at.admit-requires-clause-within g c).After-opening_holding_cost-cost in
+    holding_within g.R.Resource c.self.inside.ground c.args.at c.args.kind c.is_fresh-fresh.result c.opening_holding_cost-cost.result (is ∙ none)
+    (rw c.spot_of-spot.ensures.place at c.opening_holding_cost-cost.ensures)
 
 pub returns-in-Err : goal.returns-in-Err
 returns-in-Err g c =
     let a = c.in-Err.ensures in
-    let why = rw c.is_fresh-fresh.ensures at a.err in
+    let stand = stands_holding (state_of g.R.Resource c.self.inside.ground) c.args.at c.args.kind c.is_fresh-fresh.result in
+    let why = rw c.is_fresh-fresh.ensures at (a.err stand (first g (goal.at.returns-in-Err g c).After-opening_holding_cost-cost)) in
     rw (← c.self.view_is) (record { ok = tt; no_cause = tt; refused = why; back = refl; kept = a.same })
+
+pub write_opening-opened-requires-clause-admitted : goal.write_opening-opened-requires-clause-admitted
+write_opening-opened-requires-clause-admitted g c κs within =
+    (admitted g (goal.at.write_opening-opened-requires-clause-admitted g c).In_default).opening
 
 pub write_holding-res-requires-clause-fresh : goal.write_holding-res-requires-clause-fresh
 write_holding-res-requires-clause-fresh g c κs within =
-    let a = c.in_default.ensures.ok in
-    sym c.is_fresh-fresh.ensures ∙ fresh_with (state_of g.R.Resource c.admit_holding.new.ground) c.args.at c.args.kind c.is_fresh-fresh.result a.none
+    let a = admitted g (goal.at.write_holding-res-requires-clause-fresh g c).In_default in
+    sym c.is_fresh-fresh.ensures ∙ fresh_with (state_of g.R.Resource c.admit.new.ground) c.args.at c.args.kind c.is_fresh-fresh.result a.none
 
 pub write_holding-res-requires-clause-known : goal.write_holding-res-requires-clause-known
 write_holding-res-requires-clause-known g c κs within = c.write_opening-opened.ensures.opened.key.listed
 
 pub write_holding-res-requires-clause-events : goal.write_holding-res-requires-clause-events
-write_holding-res-requires-clause-events g c κs within = c.write_opening-opened.ensures.spare 3 c.in_default.ensures.ok.events
+write_holding-res-requires-clause-events g c κs within =
+    c.write_opening-opened.ensures.spare 3 (admitted g (goal.at.write_holding-res-requires-clause-events g c).In_default).events
+
+pub write_holding-res-requires-clause-room : goal.write_holding-res-requires-clause-room
+write_holding-res-requires-clause-room g c κs within =
+    let a = admitted g (goal.at.write_holding-res-requires-clause-room g c).In_default in
+    rw c.write_opening-opened.ensures.resources a.resources
 
 pub returns : goal.returns
 returns g c =
@@ -39,16 +76,17 @@ returns g c =
     let new = c.write_holding-res.new.ground in
     let o = c.write_opening-opened.ensures in
     let t = c.write_holding-res.ensures in
-    let none = rw c.is_fresh-fresh.ensures at c.in_default.ensures.ok.none in
+    let none = rw c.is_fresh-fresh.ensures at (admitted g (goal.at.returns g c).In_default).none in
     let accept = Accept c.write_opening-opened.result.key.number (R.tag_of c.args.resource) in
     let keys = ap (λ (nodes : Slots Node). map (λ (k : Kept Node). key_shown k.key) (kept_in nodes)) t.nodes in
-    let b = c.admit_holding.new.ground in
+    let b = c.admit.new.ground in
     let outside = outside_of b.register.history (Opening (place_of c.args.at) c.args.kind) in
     let further = further_step b.register.base b.register.history outside o.accepted.step.forced in
     let onward = subst (IsFurther mid.register.history) (sym t.history) (gone_on mid.register.history (accept ∷ [])) in
     let gathered = gathers_on further onward (gathers_just o.accepted.closed) t.closed in
     holding_begun (subst (λ (x : State). AnswersOpenedHolding R x c.args.at c.args.kind c.args.resource (state_of R new)
-    (Ok (record { opened = c.write_opening-opened.result; res = c.write_holding-res.result }))) (begun_at c.in_default.ensures.begun c.self.view_is)
+    (Ok (record { opened = c.write_opening-opened.result; res = c.write_holding-res.result })))
+    (begun_at (state_admitted c.in_default.ensures.ok) c.self.view_is)
     (record {
       ok = record {
         middle = state_of R mid;
@@ -57,7 +95,7 @@ returns g c =
         last = t.history;
         keys = keys;
         closed = just_gone refl gathered;
-        opened = opened_after (state_of R c.admit_holding.new.ground) (state_of R mid) (state_of R new) accept refl t.history keys o.opened;
+        opened = opened_after (state_of R c.admit.new.ground) (state_of R mid) (state_of R new) accept refl t.history keys o.opened;
         res = t.res;
       };
       no_cause = none;

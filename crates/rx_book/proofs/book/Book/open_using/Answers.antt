@@ -1,8 +1,10 @@
 use Rattle.std.proofs.Common.{◌≡◌, ◌+◌, List, ◌∷◌, [], ◌++◌, length, is_some, refl, sym, ap, subst, ◌∙◌, arith, length-append}
 use Rattle.std.specs.Prelude.{Ok}
+use Rattle.rx_event.specs.declared.event.Place.{Place}
 use Rattle.rx_event.specs.declared.event.Kind.TheVariants.{Pass}
 use Rattle.rx_event.specs.declared.event.Event.{Event}
 use Rattle.rx_event.specs.declared.event.Event.TheVariants.{Open, Accept}
+use Rattle.rx_event.specs.Calls.{OpeningUsing}
 use Rattle.rx_event.specs.Kept.{Kept}
 use Rattle.rx_event.specs.Resources.{accepted_by}
 use Rattle.rx_event.proofs.Laws.Lawful.{IsLawful-push}
@@ -16,10 +18,12 @@ use Rattle.rx_ground.specs.Ties.{IsReady}
 use Rattle.rx_ground.proofs.Laws.GoneStaysGone.{gathers_quiet, gathers_then}
 use Rattle.rx_ground.proofs.Laws.KeysKept.{leases_stay, keeps_on, keeps_held, keeps_opened}
 use Rattle.rx_book.specs.State.{State}
-use Rattle.rx_book.specs.Requests.{using_request, place_of}
+use Rattle.rx_book.specs.Requests.{using_request, place_of, stands}
 use Rattle.rx_book.specs.Answers.{AnswersOpenedUsing}
 use Rattle.rx_book.specs.Shown.{state_of}
-use Rattle.rx_book.specs.Steps.{IsLetIn}
+use Rattle.rx_book.specs.Steps.{IsLetIn, IsAdmitted}
+use Rattle.rx_book.proofs.Admitted.{admitted_as, state_admitted, within_limit}
+use Rattle.rx_book.proofs.CausesByKey.{first_of_place}
 use Rattle.rx_book.proofs.ShownKeys.{is_known_place_is}
 use Rattle.rx_book.proofs.AnswersOkOrErr.{answers_ok, answers_err}
 use Rattle.rx_book.proofs.CallWithoutCause.{known, first_ready, second_ready, fresh_asked, live_fresh, unused_fresh, pays, connects_none, accepts, settles_to}
@@ -30,14 +34,40 @@ use Rattle.rx_book.proofs.book.Book.open_using.Given as given
 use Rattle.rx_book.proofs.book.Book.open_using.Goals as goal
 use Rattle.rx_book.proofs.book.Book.open_using.Goals.{In_default}
 
+pub admit-requires-clause-within : goal.admit-requires-clause-within
+admit-requires-clause-within g c κs within none =
+    let R = g.R.Resource in
+    let b = c.self.inside.ground in
+    let spot = c.spot_of-spot.ensures in
+    let told = rw (c.tag-tag.ensures, c.is_fresh-fresh.ensures) at c.using_cause-cause.ensures in
+    let call = λ (place : Place). OpeningUsing place (g.R.Resource.tag_of c.args.resource) in
+    let first = first_of_place c.self.inside.ground _ c.args.at call spot.place spot.above told in
+    within_limit R b (using_request R (state_of R b) c.args.at c.args.resource) c.of_using.result refl (first ∙ none)
+    (rw spot.place at c.of_using.ensures) (omega arith)
+
 pub returns-in-Err : goal.returns-in-Err
 returns-in-Err g c =
-    let why = rw (c.tag-tag.ensures, c.is_fresh-fresh.ensures) at c.in-Err.ensures.err in
+    let s = state_of g.R.Resource c.self.inside.ground in
+    let spot = c.spot_of-spot.ensures in
+    let told = rw (c.tag-tag.ensures, c.is_fresh-fresh.ensures) at c.using_cause-cause.ensures in
+    let call = λ (place : Place). OpeningUsing place (g.R.Resource.tag_of c.args.resource) in
+    let first = first_of_place c.self.inside.ground _ c.args.at call spot.place spot.above told in
+    let why = c.in-Err.ensures.err (stands s (using_request g.R.Resource s c.args.at c.args.resource)) first in
     rw (← c.self.view_is) (answers_err (record { why = why; back = refl }) c.in-Err.ensures.same)
+
+admitted : (g : given.Over) (c : In_default g) →
+    (let b = c.admit.new.ground in IsAdmitted g.R.Resource b (using_request g.R.Resource (state_of g.R.Resource b) c.args.at c.args.resource))
+admitted g c =
+    let spot = c.spot_of-spot.ensures in
+    let told = rw (c.tag-tag.ensures, c.is_fresh-fresh.ensures) at c.using_cause-cause.ensures in
+    let call = λ (place : Place). OpeningUsing place (g.R.Resource.tag_of c.args.resource) in
+    let first = first_of_place c.self.inside.ground _ c.args.at call spot.place spot.above told in
+    admitted_as (λ s. using_request g.R.Resource s c.args.at c.args.resource) (λ s. refl) tt first c.in_default.ensures.ok
+    (rw spot.place at c.of_using.ensures)
 
 called : (g : given.Over) (c : In_default g) →
     (let b = c.admit.new.ground in IsLetIn g.R.Resource b (using_request g.R.Resource (state_of g.R.Resource b) c.args.at c.args.resource))
-called g c = rw (c.tag-tag.ensures, c.is_fresh-fresh.ensures) at c.in_default.ensures.ok.let_in
+called g c = (admitted g c).let_in
 
 -- the opening may be written
 opens : (g : given.Over) (c : In_default g) → (let b = c.admit.new.ground in IsReady b.register (Open (place_of c.args.at) Pass))
@@ -67,8 +97,11 @@ write_open-node-requires-clause-placed g c κs within =
 
 pub write_open-node-requires-clause-space : goal.write_open-node-requires-clause-space
 write_open-node-requires-clause-space g c κs within =
-    let a = c.in_default.ensures.ok in
+    let a = admitted g (goal.at.write_open-node-requires-clause-space g c).In_default in
     node_space c.admit.new.ground a.room.space a.let_in.begun
+
+pub write_open-node-requires-clause-room : goal.write_open-node-requires-clause-room
+write_open-node-requires-clause-room g c κs within = (admitted g (goal.at.write_open-node-requires-clause-room g c).In_default).room.nodes
 
 pub write_accept-res-requires-clause-live : goal.write_accept-res-requires-clause-live
 write_accept-res-requires-clause-live g c κs within =
@@ -143,5 +176,5 @@ returns g c =
     s.resources (a.number ∙ longer) a.held accepted alive in
     answers_begun opened_using_begun
     (subst (λ (x : State). AnswersOpenedUsing x (using_request R x c.args.at c.args.resource) c.args.resource (state_of R new)
-    (Ok (record { key = c.shown_key.result; res = c.shown_res_key.result }))) (begun_at c.in_default.ensures.begun c.self.view_is)
+    (Ok (record { key = c.shown_key.result; res = c.shown_res_key.result }))) (begun_at (state_admitted c.in_default.ensures.ok) c.self.view_is)
     (answers_ok (record { key = key; res = res }) done))

@@ -10,7 +10,7 @@ use Rattle.rx_register.proofs.Laws.NoCause.{no_cause}
 use Rattle.rx_ground.proofs.Laws.GoneStaysGone.{gathers_quiet}
 use Rattle.rx_ground.proofs.Laws.KeysKept.{leases_stay}
 use Rattle.rx_book.proofs.CallWithoutCause.{one_ready, open_asked, owned_asked, out_asked, written_closed, written_held}
-use Rattle.rx_book.proofs.asked.write.Goals as goal
+use Rattle.rx_book.proofs.call.write_free.Goals as goal
 
 pub write_end-requires-clause-ready : goal.write_end-requires-clause-ready
 write_end-requires-clause-ready g c κs within = rw c.tree_key.ensures (one_ready g.R.Resource c.args.ground.now _ (rw c.in-End.is at c.requires.let_in) _ refl)

@@ -1,0 +1,183 @@
+//! A call as a value: what stands against it, what it costs, and what it writes.
+
+ghost use Rattle.std.specs.Prelude.{◌≡◌, true, false};
+ghost use Rattle.rx_event.specs.Refusals.{first_cause};
+ghost use Rattle.rx_ground.specs.Ties.{IsStanding};
+ghost use Rattle.rx_book.specs.State.{State};
+ghost use Rattle.rx_book.specs.Requests.{stands};
+ghost use Rattle.rx_book.specs.Shown.{state_of};
+ghost use Rattle.rx_book.specs.Answers.{Answers, IsPlace};
+ghost use Rattle.rx_book.specs.Asks.{request_of, takes_memory, is_plain, has_place, refuses, gives, Asks};
+ghost use Rattle.rx_book.specs.Steps.{IsCostOf, IsLetIn, IsWritten, HasRoomIf};
+
+use crate::Book;
+use crate::admit::admit;
+use crate::answer::{Answer, At};
+use crate::key::{
+    Key, LeaseKey, ResKey, ground_lease_key, shown_key, shown_lease_key, tree_key, tree_res_key,
+};
+use rx_event::{Kind, Mode, Refusal, Terminal};
+use rx_ground::{Ground, Wanted};
+use rx_resource::Resource;
+
+/// What a call asks for that brings no resource: each is the method of its name, whose refusals it has.
+#[derive(Clone, Copy, Debug)]
+pub enum Call {
+    /// A node is opened there ([`Book::open`]).
+    Open(At, Kind),
+    /// A leaf emits an item ([`Book::next`]).
+    Next(Key, i64),
+    /// A leaf ends ([`Book::end`]).
+    End(Key, Terminal),
+    /// A node that is no leaf ends with an error ([`Book::abort`]).
+    Abort(Key, u32),
+    /// An item gets no inner that was projected to this FlatMap or Switch ([`Book::decline`]).
+    Decline(Key),
+    /// A FlatMap or a Switch ends with an error ([`Book::fail`]).
+    Fail(Key, u32),
+    /// A root is unsubscribed ([`Book::dispose`]).
+    Dispose(Key),
+    /// A held resource is used on a word ([`Book::apply`]).
+    Apply(ResKey, u64),
+    /// A resource is taken away from its node ([`Book::remove`]).
+    Remove(ResKey),
+    /// A resource is leased ([`Book::lease`]).
+    Lease(ResKey),
+    /// A lease is given back ([`Book::give_back`]).
+    GiveBack(LeaseKey),
+    /// A hub is made ([`Book::hub`]).
+    Hub(Mode),
+    /// A hub is connected ([`Book::connect`]).
+    Connect(u64),
+    /// A hub is disconnected ([`Book::disconnect`]).
+    Disconnect(u64),
+}
+
+/// What stands first against a plain call.
+#[inline(always)]
+fn cause<R: Resource>(ground: &Ground<R>, call: Call) -> Option<Refusal>
+    requires plain { is_plain call ≡ true }
+    requires standing { IsStanding R.Resource ground.now }
+    ensures { result ≡
+        first_cause (stands (state_of R.Resource ground.now) (request_of (state_of R.Resource ground.now) call)) }
+{
+    match call {
+        Call::End(leaf, terminal) => ground.ending_cause(tree_key(leaf), terminal),
+        Call::Abort(node, code) => ground.aborting_cause(tree_key(node), code),
+        Call::Decline(merging) => ground.declining_cause(tree_key(merging)),
+        Call::Fail(merging, code) => ground.failing_cause(tree_key(merging), code),
+        Call::Dispose(root) => ground.disposing_cause(tree_key(root)),
+        Call::Apply(res, _) => ground.applying_cause(tree_res_key(res)),
+        Call::Remove(res) => ground.removing_cause(tree_res_key(res)),
+        Call::Lease(res) => ground.leasing_cause(tree_res_key(res)),
+        Call::GiveBack(lease) => ground.returning_cause(ground_lease_key(lease)),
+        Call::Hub(mode) => ground.publishing_cause(mode),
+        Call::Connect(hub) => ground.connecting_cause(hub),
+        Call::Disconnect(hub) => ground.disconnecting_cause(hub),
+        _ => unreachable!(),
+    }
+}
+
+/// What a plain call costs; None where it takes no memory.
+#[inline(always)]
+fn cost(call: Call) -> Option<Wanted>
+    requires { is_plain call ≡ true }
+    ensures { (s : State) → IsCostOf s call result }
+{
+    match call {
+        Call::Apply(_, _) => Some(Wanted::of_applying()),
+        Call::Lease(_) => Some(Wanted::of_leasing()),
+        Call::Hub(_) => Some(Wanted::of_hub()),
+        Call::Connect(_) => Some(Wanted::of_connecting()),
+        _ => None,
+    }
+}
+
+/// Writes what is asked by a call that takes no memory, and against which nothing stands.
+#[inline(always)]
+fn write_free<R: Resource>(ground: &mut Ground<R>, call: Call)
+    requires free { takes_memory call ≡ false }
+    requires standing { IsStanding R.Resource ground.old }
+    requires let_in { IsLetIn R.Resource ground.old (request_of (state_of R.Resource ground.old) call) }
+    ensures { IsWritten R.Resource ground.old (request_of (state_of R.Resource ground.old) call).call ground.new }
+{
+    match call {
+        Call::End(leaf, terminal) => ground.write_end(tree_key(leaf), terminal),
+        Call::Abort(node, code) => ground.write_end(tree_key(node), Terminal::Error(code)),
+        Call::Decline(merging) => ground.write_decline(tree_key(merging)),
+        Call::Fail(merging, code) => ground.write_end(tree_key(merging), Terminal::Error(code)),
+        Call::Dispose(root) => ground.write_close(tree_key(root)),
+        Call::Disconnect(hub) => match ground.connection(hub) {
+            Some(connection) => ground.write_close(connection),
+            None => unreachable!(),
+        },
+        Call::Remove(res) => ground.write_remove(tree_res_key(res)),
+        Call::GiveBack(lease) => ground.write_return(ground_lease_key(lease)),
+        _ => unreachable!(),
+    }
+}
+
+/// Writes what is asked by a plain call, against which nothing stands, and answers it.
+#[inline(always)]
+fn write<R: Resource>(ground: &mut Ground<R>, call: Call) -> Answer
+    requires plain { is_plain call ≡ true }
+    requires standing { IsStanding R.Resource ground.old }
+    requires let_in { IsLetIn R.Resource ground.old (request_of (state_of R.Resource ground.old) call) }
+    requires room { HasRoomIf (takes_memory call) ground.old (request_of (state_of R.Resource ground.old) call).call }
+    ensures written { IsWritten R.Resource ground.old
+        (request_of (state_of R.Resource ground.old) call).call ground.new }
+    ensures gives { gives (state_of R.Resource ground.old) call (state_of R.Resource ground.new) result }
+{
+    match call {
+        Call::Apply(res, word) => Answer::Word(ground.write_use(tree_res_key(res), word)),
+        Call::Lease(res) => {
+            Answer::Leased(shown_lease_key(ground.write_lease(tree_res_key(res))))
+        }
+        Call::Hub(mode) => Answer::Place(ground.write_hub(mode)),
+        Call::Connect(hub) => Answer::Connected(shown_key(ground.write_connect(hub))),
+        _ => {
+            let place = ground.len();
+            write_free(ground, call);
+            Answer::Place(place)
+        }
+    }
+}
+
+impl<R: Resource> Book<R> {
+    /// Makes a call, as the method of its name does.
+    pub fn ask(&mut self, call: Call) -> Result<Answer, Refusal>
+        ensures { Asks self.old call self.new result }
+    {
+        match call {
+            Call::Open(at, kind) => Ok(Answer::Opened(self.open(at, kind)?)),
+            Call::Next(leaf, value) => Ok(Answer::Place(self.next(leaf, value)?)),
+            _ => self.answer(call),
+        }
+    }
+
+    /// Makes a plain call, and does what it forces.
+    #[inline(always)]
+    pub(crate) fn answer(&mut self, call: Call) -> Result<Answer, Refusal>
+        requires { is_plain call ≡ true }
+        ensures { Asks self.old call self.new result }
+    {
+        let cause = cause(&self.ground, call);
+        admit(&mut self.ground, cause, cost(call))?;
+        let answer = write(&mut self.ground, call);
+        self.ground.settle();
+        Ok(answer)
+    }
+
+    /// The same for a call that answers a place.
+    #[inline(always)]
+    pub(crate) fn answer_place(&mut self, call: Call) -> Result<u64, Refusal>
+        requires { has_place call ≡ true }
+        ensures { Answers (IsPlace self.old) (refuses self.old call) self.old
+            (request_of self.old call) self.new result }
+    {
+        let Answer::Place(place) = self.answer(call)? else {
+            unreachable!()
+        };
+        Ok(place)
+    }
+}
