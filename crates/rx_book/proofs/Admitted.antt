@@ -1,32 +1,11 @@
 -- A call is let in: nothing stands against it, and its cost is room that was gotten.
-use Rattle.std.proofs.Common.{◌≡◌, ◌+◌, ◌≤◌, cond, List, [], Bool, true, false, Option, Some, None, IfSome, refl, sym, ap, subst, ◌∙◌, arith}
-use Rattle.std.proofs.Common.{inl}
-use Rattle.std.specs.Prelude.{ℤ}
-use Rattle.rx_resource.specs.declared.Resource.{Ghosts}
-use Rattle.rx_event.specs.declared.refusal.Refusal.{Refusal}
-use Rattle.rx_event.specs.declared.refusal.Refusal.TheVariants.{Full}
-use Rattle.rx_event.specs.declared.event.Kind.{Kind}
-use Rattle.rx_event.specs.declared.event.Event.{Event}
-use Rattle.rx_event.specs.Calls.{Emitting}
-use Rattle.rx_event.specs.Refusals.{first_cause}
+use Rattle.rx_book.proofs.Common.{◌≡◌, ◌+◌, ◌≤◌, cond, List, [], Bool, true, false, Option, Some, None, IfSome, refl, sym, ap, subst, ◌∙◌, arith, inl, ℤ}
+use Rattle.rx_book.proofs.Common.{Ghosts, Refusal, Full, Kind, Event, Emitting, first_cause, Slots, Node, causes, added_by, is_over, forces_connect, Wanted}
+use Rattle.rx_book.proofs.Common.{nodes_opened, HasRoomFor, notes_added, Reach, cost_of, IsReach, Ground, IsStanding, IsRoomier, HasRoomBeside, State, stands}
+use Rattle.rx_book.proofs.Common.{Request, IsRefusalOf, state_of, IsLetIn, IsAdmitted, IsWithin, Admits}
 use Rattle.rx_slots.specs.declared.Key.{Key}
-use Rattle.rx_slots.specs.Slots.{Slots}
-use Rattle.rx_tree.specs.declared.node.Node.{Node}
-use Rattle.rx_event.specs.Causes.{causes, added_by, is_over, forces_connect, nodes_opened}
 use Rattle.rx_register.specs.Claims.{IsReady as IsReadyFor}
-use Rattle.rx_register.specs.Paid.{HasRoomFor, notes_added}
 use Rattle.rx_register.specs.State.{IsPromised}
-use Rattle.rx_ground.specs.declared.base.Wanted.{Wanted}
-use Rattle.rx_ground.specs.declared.route.Reach.{Reach}
-use Rattle.rx_ground.specs.Costs.{cost_of}
-use Rattle.rx_ground.specs.Reached.{IsReach}
-use Rattle.rx_ground.specs.Shown.{Ground}
-use Rattle.rx_ground.specs.Ties.{IsStanding, IsRoomier, HasRoomBeside}
-use Rattle.rx_book.specs.State.{State}
-use Rattle.rx_book.specs.Requests.{Request, stands}
-use Rattle.rx_book.specs.Answers.{IsRefusalOf}
-use Rattle.rx_book.specs.Shown.{state_of}
-use Rattle.rx_book.specs.Steps.{IsLetIn, IsAdmitted, IsWithin, Admits}
 use Rattle.rx_book.proofs.CallWithoutCause.{let_in, within_full, state_roomier}
 use Rattle.rx_book.proofs.ListOfClosed.{standing_begun, room_begun}
 

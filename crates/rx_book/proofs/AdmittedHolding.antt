@@ -1,22 +1,8 @@
 -- An opening that holds a resource is let in: nothing stands against it, and the room for both its events was gotten.
-use Rattle.std.proofs.Common.{◌≡◌, ◌+◌, Bool, Option, Some, None, sym, ap, subst, ◌∙◌, arith}
-use Rattle.rx_resource.specs.declared.Resource.{Ghosts}
-use Rattle.rx_event.specs.declared.event.Kind.{Kind}
-use Rattle.rx_event.specs.declared.refusal.Refusal.{Refusal}
-use Rattle.rx_event.specs.Calls.{Opening}
-use Rattle.rx_event.specs.Refusals.{first_cause}
-use Rattle.rx_event.specs.Causes.{added_by, nodes_opened}
-use Rattle.rx_ground.specs.declared.base.Wanted.{Wanted}
+use Rattle.rx_book.proofs.Common.{◌≡◌, ◌+◌, Bool, Option, Some, None, sym, ap, subst, ◌∙◌, arith, Ghosts, Kind, Refusal, Opening, first_cause, added_by, At}
+use Rattle.rx_book.proofs.Common.{nodes_opened, Wanted, Ground, is_there, State, place_of, open_request, key_above, stands_holding, IsAdmittedHolding, Admits}
+use Rattle.rx_book.proofs.Common.{state_of, IsWithin}
 use Rattle.rx_ground.specs.OpeningHolding.{opening_holding_causes, opening_holding_cost, first_holding}
-use Rattle.rx_ground.specs.Shown.{Ground}
-use Rattle.rx_ground.specs.Ties.{is_there}
-use Rattle.rx_book.specs.declared.answer.At.{At}
-use Rattle.rx_book.specs.State.{State}
-use Rattle.rx_book.specs.Requests.{place_of, open_request}
-use Rattle.rx_book.specs.Places.{key_above}
-use Rattle.rx_book.specs.OpensHolding.{stands_holding, IsAdmittedHolding}
-use Rattle.rx_book.specs.Shown.{state_of}
-use Rattle.rx_book.specs.Steps.{IsWithin, Admits}
 use Rattle.rx_book.proofs.Admitted.{few_opened, state_admitted}
 use Rattle.rx_book.proofs.CallWithoutCause.{let_in}
 use Rattle.rx_book.proofs.CausesByKey.{first_by_place}

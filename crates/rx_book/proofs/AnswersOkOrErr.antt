@@ -1,9 +1,5 @@
 -- An answer is made of what was given, or of the refusal.
-use Rattle.std.proofs.Common.{◌≡◌, sym, subst}
-use Rattle.std.specs.Prelude.{Result, Ok, Err, IfErr, OnErr, IsErrAnd}
-use Rattle.rx_book.specs.State.{State}
-use Rattle.rx_book.specs.Requests.{Request}
-use Rattle.rx_book.specs.Answers.{Accepts, Answers}
+use Rattle.rx_book.proofs.Common.{◌≡◌, sym, subst, Result, Ok, Err, IfErr, OnErr, IsErrAnd, State, Request, Accepts, Answers}
 
 module _ {A E : Type 0} {gives : A → Type 0} {refuses : E → Type 0} {old : State} {asked : Request} {new : State} where
   pub answers_ok : {x : A} → gives x → Accepts old asked new → Answers gives refuses old asked new (Ok x)

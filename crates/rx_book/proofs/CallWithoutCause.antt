@@ -1,58 +1,22 @@
 -- A call, from where nothing stands against it: its events may be written, what they force is paid for, and it is accepted.
-use Rattle.std.proofs.Common.{◌≡◌, ◌==◌, ℕ, ◌+◌, ◌≤◌, Bool, true, List, [], ◌∷◌, ◌++◌, length}
-use Rattle.std.proofs.Common.{Option, Some, None, is_some, refl, sym, ap, subst, ◌∙◌, arith}
-use Rattle.std.proofs.Common.{length-append, append_assoc, append-nil}
-use Rattle.std.proofs.Math.Bool.{not}
-use Rattle.std.specs.List.{list_all}
-use Rattle.std.specs.Option.{option_map_or}
-use Rattle.std.proofs.lemmas.Bool.{and_parts, false≢true, not-false, eqb-true}
-use Rattle.rx_event.specs.Kept.{Kept}
-use Rattle.rx_resource.specs.declared.Resource.{Ghosts}
-use Rattle.rx_event.specs.declared.mail.Mail.{Mail}
-use Rattle.rx_event.specs.declared.event.Event.{Event}
-use Rattle.rx_event.specs.declared.event.Event.TheVariants.{Accept}
-use Rattle.rx_event.specs.Events.{hub_subscribed}
-use Rattle.rx_event.specs.Forced.{IsConnected, MayWait, none_waits, one_waits, IsSettled}
-use Rattle.rx_event.specs.Notes.{notes, mail_of}
-use Rattle.rx_event.specs.Totals.{debt}
-use Rattle.rx_event.specs.Calls.{Call, outside_of}
-use Rattle.rx_event.specs.Lawful.{MayFollow, IsLawful, IsForcedOn, stays, more, forced, allowed, opened_with}
-use Rattle.rx_event.specs.declared.refusal.Refusal.TheVariants.{Full, NotFresh}
+use Rattle.rx_book.proofs.Common.{◌≡◌, ◌==◌, ℕ, ◌+◌, ◌≤◌, Bool, true, List, [], ◌∷◌, ◌++◌, length, Option, Some, None, is_some, refl, sym, ap, subst, ◌∙◌}
+use Rattle.rx_book.proofs.Common.{arith, length-append, append_assoc, append-nil, not, list_all, option_map_or, and_parts, false≢true, not-false, eqb-true}
+use Rattle.rx_book.proofs.Common.{Kept, Ghosts, Mail, Event, Accept, hub_subscribed, IsConnected, MayWait, none_waits, one_waits, IsSettled, notes, mail_of}
+use Rattle.rx_book.proofs.Common.{debt, Call, outside_of, MayFollow, IsLawful, IsForcedOn, stays, more, forced, allowed, opened_with, Full, NotFresh, Live}
+use Rattle.rx_book.proofs.Common.{Released, first_cause, notes-push, IsLawful-push, settled_connected, waits_after, forced_connected, kept_unsubscribed, Fits}
+use Rattle.rx_book.proofs.Common.{Writes, causes, added_by, by_key_of, is_over, IsPaid, HasRoomFor, notes_added, no_cause, call_room, call_mail_room, Gathers}
+use Rattle.rx_book.proofs.Common.{paid_room, within_limit, call_follows, call_fits, called_paid, Ground, gone_forced, gathers_on, IsStanding, IsRoomier, find}
+use Rattle.rx_book.proofs.Common.{IsReady, KeepsOlder, KeepsLeases, HasRoomToConnect, IsTied, AreTied, AreLeased, KeepsNodes, KeepsHeld, KeepsKeys, keeps_on}
+use Rattle.rx_book.proofs.Common.{keeps_settled, keeps_closed, keeps_held, leases_stay, has_key, has_res_key, has_lease_key, Request, stands, is_live, Slots}
+use Rattle.rx_book.proofs.Common.{is_fresh_in, Accepts, IsLetIn, IsWritten, lease_key, is_out_at, is_held_at, is_owned_at, is_owned, owned_there, Key, ResKey}
+use Rattle.rx_book.proofs.Common.{LeaseKey, tree_key_of, tree_res_key_of, ground_lease_key_of, keys_of, res_keys_of, lease_keys_of, state_of}
 use Rattle.rx_resource.specs.declared.Life.{Life}
-use Rattle.rx_resource.specs.declared.Life.TheVariants.{Live, Released}
-use Rattle.rx_event.specs.Refusals.{first_cause}
-use Rattle.rx_event.proofs.Laws.Counts.{notes-push}
-use Rattle.rx_event.proofs.Laws.Lawful.{IsLawful-push}
-use Rattle.rx_event.proofs.Laws.Waits.{settled_connected, waits_after, forced_connected, kept_unsubscribed}
-use Rattle.rx_register.specs.State.{State as Register, IsPromised, Writes}
-use Rattle.rx_event.specs.Causes.{causes, added_by, by_key_of, is_over}
-use Rattle.rx_register.specs.Paid.{IsPaid, HasRoomFor, Fits, notes_added}
+use Rattle.rx_register.specs.State.{State as Register, IsPromised}
 use Rattle.rx_register.specs.Claims.{MayFollowInTurn, IsReady as IsReadyFor}
-use Rattle.rx_register.proofs.Laws.NoCause.{no_cause}
-use Rattle.rx_register.proofs.Laws.Paid.{call_room, call_mail_room, paid_room, within_limit}
-use Rattle.rx_register.proofs.Laws.Calls.{call_follows, call_fits, called_paid}
-use Rattle.rx_ground.specs.Gone.{Gathers}
-use Rattle.rx_ground.specs.Shown.{Ground}
-use Rattle.rx_ground.proofs.Laws.GoneStaysGone.{gone_forced, gathers_on, further_written}
-use Rattle.rx_ground.specs.Ties.{IsStanding, IsRoomier, IsReady, KeepsOlder, KeepsLeases, HasRoomToConnect}
-use Rattle.rx_ground.specs.Ties.{IsTied, AreTied, AreLeased, KeepsNodes, KeepsHeld}
-use Rattle.rx_ground.proofs.Laws.KeysKept.{KeepsKeys, keeps_on, keeps_settled, keeps_closed, keeps_held, leases_stay}
-use Rattle.rx_book.specs.State.{has_key, has_res_key, has_lease_key}
-use Rattle.rx_book.specs.Requests.{Request, stands, is_live, is_fresh_in}
-use Rattle.rx_book.specs.Answers.{Accepts}
-use Rattle.rx_book.specs.Steps.{IsLetIn, IsWritten}
-use Rattle.rx_slots.specs.Slots.{Slots, find}
+use Rattle.rx_ground.proofs.Laws.GoneStaysGone.{further_written}
 use Rattle.rx_tree.specs.declared.node.ResKey.{ResKey as TreeResKey}
-use Rattle.rx_ground.specs.Leases.{lease_key, is_out_at}
-use Rattle.rx_tree.specs.Resources.{is_held_at, is_owned_at}
-use Rattle.rx_event.specs.Resources.{is_owned}
-use Rattle.rx_ground.proofs.Laws.OwnedInTree.{owned_there}
-use Rattle.rx_book.specs.declared.key.Key.{Key}
-use Rattle.rx_book.specs.declared.key.ResKey.{ResKey}
-use Rattle.rx_book.specs.declared.key.LeaseKey.{LeaseKey}
-use Rattle.rx_book.specs.Shown.{tree_key_of, tree_res_key_of, ground_lease_key_of, keys_of, res_keys_of, lease_keys_of, state_of}
-use Rattle.rx_book.proofs.ShownKeys.{key_finds, finding_key, res_key_finds, finding_res_key, has_key_is, has_res_key_is}
-use Rattle.rx_book.proofs.ShownKeys.{lease_key_finds, finding_lease_key, has_lease_key_is}
+use Rattle.rx_book.proofs.ShownKeys.{key_finds, finding_key, res_key_finds, finding_res_key, has_key_is, has_res_key_is, lease_key_finds, finding_lease_key}
+use Rattle.rx_book.proofs.ShownKeys.{has_lease_key_is}
 use Rattle.rx_book.proofs.CausesByKey.{unstood}
 use Rattle.rx_book.proofs.ListOfClosed.{just_gone}
 

@@ -1,29 +1,12 @@
 -- Which cause stands first against a call, by the keys that callers have.
-use Rattle.std.proofs.Common.{◌≡◌, ℕ, Bool, true, false, Option, None, is_some, refl, sym, ap, ◌∙◌, inl, inr, ◌⊎◌, true≢false}
-use Rattle.rx_event.specs.declared.refusal.Refusal.{Refusal}
-use Rattle.rx_event.specs.declared.refusal.Refusal.TheVariants.{Gone, NoLease, NotHeld}
-use Rattle.rx_event.specs.Calls.{Call, Applying, Removing, Leasing, GivingBack}
-use Rattle.rx_event.specs.Refusals.{first_cause}
+use Rattle.rx_book.proofs.Common.{◌≡◌, ℕ, Bool, true, false, Option, None, is_some, refl, sym, ap, ◌∙◌, inl, inr, ◌⊎◌, true≢false, Refusal, Gone, NoLease, At}
+use Rattle.rx_book.proofs.Common.{NotHeld, Call, Applying, Removing, Leasing, GivingBack, first_cause, Slots, find, is_out_at, Tree, is_held_at, Place, Key}
+use Rattle.rx_book.proofs.Common.{causes, by_key, by_key_of, no_cause, Ground, is_there, ResKey, LeaseKey, has_key, has_res_key, has_lease_key, key_above}
+use Rattle.rx_book.proofs.Common.{is_known_place, place_of, keys_of, res_keys_of, lease_keys_of, tree_key_of, tree_res_key_of, ground_lease_key_of}
 use Rattle.rx_slots.specs.declared.Key.{Key as TreeKey}
-use Rattle.rx_slots.specs.Slots.{Slots, find}
 use Rattle.rx_tree.specs.declared.node.ResKey.{ResKey as TreeResKey}
-use Rattle.rx_ground.specs.Leases.{is_out_at}
-use Rattle.rx_tree.specs.Tree.{Tree}
-use Rattle.rx_tree.specs.Resources.{is_held_at}
-use Rattle.rx_event.specs.declared.event.Place.{Place}
-use Rattle.rx_event.specs.Causes.{causes, by_key, by_res_key, by_lease_key, by_key_of}
-use Rattle.rx_register.proofs.Laws.NoCause.{no_cause}
+use Rattle.rx_event.specs.Causes.{by_res_key, by_lease_key}
 use Rattle.rx_ground.specs.FirstCause.{has_node, first_by_key as first_at_key}
-use Rattle.rx_ground.specs.Shown.{Ground}
-use Rattle.rx_ground.specs.Ties.{is_there}
-use Rattle.rx_book.specs.declared.key.Key.{Key}
-use Rattle.rx_book.specs.declared.key.ResKey.{ResKey}
-use Rattle.rx_book.specs.declared.key.LeaseKey.{LeaseKey}
-use Rattle.rx_book.specs.declared.answer.At.{At}
-use Rattle.rx_book.specs.State.{has_key, has_res_key, has_lease_key}
-use Rattle.rx_book.specs.Places.{key_above}
-use Rattle.rx_book.specs.Requests.{is_known_place, place_of}
-use Rattle.rx_book.specs.Shown.{keys_of, res_keys_of, lease_keys_of, tree_key_of, tree_res_key_of, ground_lease_key_of}
 use Rattle.rx_book.proofs.ShownKeys.{has_key_is, is_known_place_is, has_res_key_is, has_lease_key_is}
 
 module _ {T : Type 0} (tree : Tree T) (stand : Refusal → Bool) (why : Option Refusal) where

@@ -1,45 +1,19 @@
 -- Taking, disposing, disconnecting and closing.
-use Rattle.std.proofs.Common.{◌≡◌, ◌<◌, ◌+◌, ◌-◌, ◌∷◌, [], ℕ, List, Bool, true, false, refl, sym, ap, subst}
-use Rattle.std.proofs.Common.{◌∙◌, map, cond, length, filter, slice_get, ⊎_elim, zero-add, arith}
-use Rattle.std.specs.Prelude.{Option, Some, None, count_by, find}
-use Rattle.std.specs.List.{All, Contains, list_all}
-use Rattle.std.specs.Option.{option_and_then, option_map_or}
-use Rattle.std.proofs.lemmas.Bool.{and_parts, cases_lt, cases_order, false_from_ne_true, false≢true, both_ways, and_left}
-use Rattle.std.proofs.Math.Bool.{not, ◌&&◌, ◌||◌}
-use Rattle.std.proofs.Common.{◌++◌, ◌⊎◌, inl, inr, nat_lt, length-append, append_assoc, append-nil}
-use Rattle.std.proofs.lemmas.List.Sums.{sum_by-cons}
-use Rattle.std.proofs.lemmas.List.Elements.{All-cons}
-use Rattle.std.proofs.lemmas.List.FromFn.{get_or-range_with_len, length-range_with_len}
-use Rattle.rx_event.specs.Kept.{Kept}
-use Rattle.rx_event.specs.declared.event.Event.{Event}
-use Rattle.rx_event.specs.declared.event.Event.TheVariants.{Accept, Lease, Close, Take}
-use Rattle.rx_event.specs.declared.refusal.Refusal.{Refusal}
-use Rattle.rx_event.specs.Events.{makes_hub, makes_resource, makes_lease, is_take, is_root, is_manual_hub, is_connect_of, node_of_accept}
-use Rattle.rx_event.specs.Tree.{at, places, is_open, open_connections}
-use Rattle.rx_event.specs.Resources.{is_owned, is_out, is_leased, is_held, is_waiting, waiting_resources}
-use Rattle.rx_event.specs.Totals.{accepted_count, taken_count, held_count, waiting_count}
-use Rattle.rx_event.specs.Lawful.{IsForcedOn, stays, more}
-use Rattle.rx_event.specs.Calls.{Call, GivingBack, Disposing, Disconnecting, Taking, outside_of, IsStepOf}
-use Rattle.rx_event.specs.Refusals.{first_cause}
-use Rattle.rx_event.specs.Claims.Closing.{is_open_root, IsLetGo, makes_neither}
-use Rattle.rx_event.proofs.Laws.Places.{at_within, slice_get_last}
+use Rattle.rx_book.proofs.Common.{◌≡◌, ◌<◌, ◌+◌, ◌-◌, ◌∷◌, [], ℕ, List, Bool, true, false, refl, sym, ap, subst, ◌∙◌, map, cond, length, filter, slice_get}
+use Rattle.rx_book.proofs.Common.{⊎_elim, zero-add, arith, Option, Some, None, count_by, All, Contains, list_all, option_and_then, option_map_or, and_parts}
+use Rattle.rx_book.proofs.Common.{cases_order, false_from_ne_true, false≢true, both_ways, not, ◌&&◌, ◌||◌, ◌++◌, ◌⊎◌, inl, inr, nat_lt, length-append, Kept}
+use Rattle.rx_book.proofs.Common.{append_assoc, append-nil, sum_by-cons, All-cons, get_or-range_with_len, length-range_with_len, Event, Accept, Lease, Close}
+use Rattle.rx_book.proofs.Common.{Take, Refusal, makes_hub, makes_resource, makes_lease, is_take, is_root, is_manual_hub, is_connect_of, node_of_accept, at}
+use Rattle.rx_book.proofs.Common.{places, is_open, open_connections, is_owned, is_out, is_leased, is_held, is_waiting, waiting_resources, accepted_count, Key}
+use Rattle.rx_book.proofs.Common.{taken_count, held_count, waiting_count, IsForcedOn, stays, more, Call, GivingBack, Disposing, Disconnecting, Taking, State}
+use Rattle.rx_book.proofs.Common.{outside_of, IsStepOf, first_cause, is_open_root, IsLetGo, makes_neither, at_within, slice_get_last, held_is, is_open_past}
+use Rattle.rx_book.proofs.Common.{may_be_forced, forced_kind, accepted_count-parts, nothing_open, has_connection, connects_none, connects_one, LeaseKey}
+use Rattle.rx_book.proofs.Common.{is_connected_manual, AreJust, IsPromised, has_key, has_lease_key, Request, stands, give_back_request, dispose_request}
+use Rattle.rx_book.proofs.Common.{disconnect_request, Accepts, Takes, none_taken, next_taken, LetsGo, none_let_go, next_let_go}
+use Rattle.std.specs.Prelude.{find}
+use Rattle.std.proofs.lemmas.Bool.{cases_lt, and_left}
 use Rattle.rx_event.proofs.Laws.Leases.{is_out-push, is_out_within, is_out_past, out_lease, none_leased}
-use Rattle.rx_event.proofs.Laws.Resources.{held_is}
-use Rattle.rx_event.proofs.Laws.Openness.{is_open_past}
-use Rattle.rx_event.proofs.Laws.Steps.{may_be_forced, forced_kind}
-use Rattle.rx_event.proofs.Laws.Totals.{accepted_count-parts}
-use Rattle.rx_event.proofs.Laws.LetGo.{nothing_open}
 use Rattle.rx_event.proofs.Laws.Closings.{OpensNoneUpTo, makes_neither_opens, roots_before, let_go_after, manual_hub}
-use Rattle.rx_event.specs.Causes.{has_connection}
-use Rattle.rx_register.proofs.Laws.OpeningForcesConnection.{connects_none, connects_one}
-use Rattle.rx_ground.specs.Told.{is_connected_manual}
-use Rattle.rx_book.specs.declared.key.Key.{Key}
-use Rattle.rx_book.specs.declared.key.LeaseKey.{LeaseKey}
-use Rattle.rx_book.specs.State.{State, AreJust, IsPromised, has_key, has_lease_key}
-use Rattle.rx_book.specs.Requests.{Request, stands, give_back_request, dispose_request, disconnect_request}
-use Rattle.rx_book.specs.Answers.{Accepts}
-use Rattle.rx_book.specs.Drains.{Takes, none_taken, next_taken}
-use Rattle.rx_book.specs.Courses.{LetsGo, none_let_go, next_let_go}
 use Rattle.rx_book.proofs.Laws.StepsContinue.{count_by-append, step_longer}
 
 -- counting -----------------------------------------------------------------------------------------

@@ -1,35 +1,13 @@
 -- The connection that an opening forces: it comes directly after the opening, and is its hub's only one after all that is forced.
-use Rattle.std.proofs.Common.{◌≡◌, ℕ, ◌+◌, ◌<◌, ◌≤◌, Bool, true, false, List, [], ◌∷◌, ◌++◌, length, Option}
-use Rattle.std.proofs.Common.{Some, None, cond, slice_get, refl, sym, ap, subst, ◌∙◌, inl, inr, ◌⊎◌, arith}
-use Rattle.std.proofs.Common.{length-append, append_assoc, append-nil}
-use Rattle.std.specs.Prelude.{◌≢◌}
-use Rattle.std.proofs.Math.Bool.{◌&&◌, not}
-use Rattle.std.specs.Option.{option_map_or, option_to_list}
-use Rattle.std.proofs.lemmas.Bool.{false≢true, both_ways, cases_order, and_parts, and_from, eq-eqb, false_from_ne_true, not-true}
-use Rattle.std.proofs.lemmas.Option.{slice_get_within, same_Some}
-use Rattle.rx_event.specs.Kept.{Kept}
-use Rattle.rx_event.specs.declared.event.Place.{Place}
-use Rattle.rx_event.specs.declared.event.Kind.{Kind}
-use Rattle.rx_event.specs.declared.event.Kind.TheVariants.{Leaf, Pass, Flat, Switch, Until, Sub}
-use Rattle.rx_event.specs.declared.event.Event.{Event}
-use Rattle.rx_event.specs.declared.event.Event.TheVariants.{Open, Connect}
-use Rattle.rx_event.specs.Events.{is_auto_hub, is_subscriber_of}
-use Rattle.rx_event.specs.Tree.{at, is_open, open_subscribers, open_connections}
-use Rattle.rx_event.specs.Forced.{mirrored, fired, failed, completed, cut, left, connecting, due, none_waits}
-use Rattle.rx_event.specs.Forced.{IsConnected, IsConnectDue, IsDue, IsForced, IsSettled}
-use Rattle.rx_event.specs.Lawful.{stays, more, MayFollow, IsForcedOn, IsLawful}
-use Rattle.rx_event.proofs.Laws.Lists.{filter_nonempty}
-use Rattle.rx_event.proofs.Laws.Places.{slice_get-append, slice_get_last, at-append, at_within}
-use Rattle.rx_event.proofs.Laws.Openness.{is_open_within, stays_closed_after}
-use Rattle.rx_event.proofs.Laws.Totals.{is_open_new}
-use Rattle.rx_event.proofs.Laws.Hubs.{may_subscribe, one_where_subscribed}
-use Rattle.rx_event.proofs.Laws.LetGo.{connection_listed, first_connection}
-use Rattle.rx_event.proofs.Laws.Waits.{settled_connected, kept_subscribed, connected_first, forced_connected}
-use Rattle.rx_event.proofs.Laws.Calm.{opened_settled}
-use Rattle.rx_event.proofs.Laws.StaysOpen.{opened_stays}
-use Rattle.rx_event.specs.Causes.{has_connection, forces_connect}
-use Rattle.rx_register.proofs.Laws.OpeningForcesConnection.{connects_none, opening_connects}
-use Rattle.rx_book.specs.Answers.{makes_connection, connection_made}
+use Rattle.rx_book.proofs.Common.{◌≡◌, ℕ, ◌+◌, ◌<◌, ◌≤◌, Bool, true, false, List, [], ◌∷◌, ◌++◌, length, Option, Some, None, cond, slice_get, refl, sym, ap}
+use Rattle.rx_book.proofs.Common.{subst, ◌∙◌, inl, inr, ◌⊎◌, arith, length-append, append_assoc, append-nil, ◌≢◌, ◌&&◌, not, option_map_or, option_to_list}
+use Rattle.rx_book.proofs.Common.{false≢true, both_ways, cases_order, and_parts, and_from, eq-eqb, false_from_ne_true, not-true, slice_get_within, same_Some}
+use Rattle.rx_book.proofs.Common.{Kept, Place, Kind, Leaf, Pass, Flat, Switch, Until, Sub, Event, Open, Connect, is_auto_hub, is_subscriber_of, at, is_open}
+use Rattle.rx_book.proofs.Common.{open_subscribers, open_connections, mirrored, fired, failed, completed, cut, left, connecting, due, none_waits, IsConnected}
+use Rattle.rx_book.proofs.Common.{IsConnectDue, IsDue, IsForced, IsSettled, stays, more, MayFollow, IsForcedOn, IsLawful, filter_nonempty, slice_get-append}
+use Rattle.rx_book.proofs.Common.{slice_get_last, at-append, at_within, is_open_within, stays_closed_after, is_open_new, may_subscribe, one_where_subscribed}
+use Rattle.rx_book.proofs.Common.{connection_listed, first_connection, settled_connected, kept_subscribed, connected_first, forced_connected, opened_settled}
+use Rattle.rx_book.proofs.Common.{opened_stays, has_connection, forces_connect, connects_none, opening_connects, makes_connection, connection_made}
 
 -- what is forced ------------------------------------------------------------------------------------
 

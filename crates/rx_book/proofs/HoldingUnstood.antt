@@ -1,25 +1,9 @@
 -- Where nothing stands against an opening that holds a resource, nothing stands against the opening, nor then against the holding.
-use Rattle.std.proofs.Common.{◌≡◌, ℕ, ◌+◌, ◌≤◌, Bool, true, false, List, [], ◌∷◌, length, Some, None, cond, refl, ap, ◌∙◌, arith}
-use Rattle.std.proofs.Math.Bool.{not}
-use Rattle.std.proofs.lemmas.Bool.{not-false, le-ltb}
-use Rattle.rx_event.specs.declared.event.Place.{Place}
-use Rattle.rx_event.specs.declared.event.Kind.{Kind}
-use Rattle.rx_event.specs.declared.event.Event.{Event}
-use Rattle.rx_event.specs.declared.refusal.Refusal.{Refusal}
-use Rattle.rx_event.specs.declared.refusal.Refusal.TheVariants.{Full, Gone, WrongKind, PlaceTaken, NothingOwed, NoHub, HubOrder, NotFresh, TooMany}
-use Rattle.rx_event.specs.Kept.{Kept}
-use Rattle.rx_event.specs.Tree.{is_open}
-use Rattle.rx_event.specs.Totals.{debt}
-use Rattle.rx_event.specs.Calls.{Opening}
-use Rattle.rx_event.specs.Refusals.{first_of_these, first_cause, refusal_order}
-use Rattle.rx_event.specs.Causes.{by_key, opening_causes, holding_causes, is_over, added_by}
-use Rattle.rx_register.proofs.Laws.NoCause.{no_cause}
-use Rattle.rx_register.proofs.Laws.Paid.{within_limit}
+use Rattle.rx_book.proofs.Common.{◌≡◌, ℕ, ◌+◌, ◌≤◌, Bool, true, false, List, [], ◌∷◌, length, Some, None, cond, refl, ap, ◌∙◌, arith, not, not-false, le-ltb}
+use Rattle.rx_book.proofs.Common.{Place, Kind, Event, Refusal, Full, Gone, WrongKind, PlaceTaken, NothingOwed, NoHub, HubOrder, NotFresh, TooMany, Kept, debt}
+use Rattle.rx_book.proofs.Common.{is_open, Opening, first_of_these, first_cause, refusal_order, by_key, opening_causes, holding_causes, is_over, added_by, At}
+use Rattle.rx_book.proofs.Common.{no_cause, within_limit, State, stands, place_of, is_known_place, open_request, stands_holding}
 use Rattle.rx_ground.specs.OpeningHolding.{opening_holding_causes, added_holding}
-use Rattle.rx_book.specs.declared.answer.At.{At}
-use Rattle.rx_book.specs.State.{State}
-use Rattle.rx_book.specs.Requests.{stands, place_of, is_known_place, open_request}
-use Rattle.rx_book.specs.OpensHolding.{stands_holding}
 use Rattle.rx_book.proofs.CausesByKey.{unstood}
 
 -- first causes ------------------------------------------------------------------------------------

@@ -1,35 +1,11 @@
 -- A fresh resource is held at an open node, for which there is room: it is accepted, and forces nothing.
-use Rattle.std.proofs.Common.{◌≡◌, ◌+◌, ◌≤◌, Bool, true, List, [], ◌∷◌, length, None, is_some, refl, sym, ap, subst, ◌∙◌, arith}
-use Rattle.rx_resource.specs.declared.Resource.{Ghosts}
-use Rattle.rx_event.specs.declared.event.Event.{Event}
-use Rattle.rx_event.specs.declared.event.Event.TheVariants.{Accept}
-use Rattle.rx_event.specs.Kept.{Kept}
-use Rattle.rx_event.specs.Tree.{is_open}
-use Rattle.rx_event.specs.Totals.{debt}
-use Rattle.rx_event.specs.Resources.{accepted_by}
-use Rattle.rx_event.specs.Forced.{IsSettled}
-use Rattle.rx_event.specs.Lawful.{stays}
-use Rattle.rx_event.specs.Refusals.{first_cause}
-use Rattle.rx_event.specs.Causes.{by_key, holding_causes}
-use Rattle.rx_event.proofs.Laws.Calm.{closes_none_kept, settled_on}
-use Rattle.rx_event.proofs.Laws.Resources.{accepted_by_new}
-use Rattle.rx_slots.specs.Slots.{find}
+use Rattle.rx_book.proofs.Common.{◌≡◌, ◌+◌, ◌≤◌, Bool, true, List, [], ◌∷◌, length, None, is_some, refl, sym, ap, subst, ◌∙◌, arith, Ghosts, Event, Accept}
+use Rattle.rx_book.proofs.Common.{Kept, is_open, debt, accepted_by, IsSettled, stays, first_cause, by_key, holding_causes, closes_none_kept, settled_on, find}
+use Rattle.rx_book.proofs.Common.{accepted_by_new, is_held_at, some_of, Writes, Gathers, Ground, gathers_nothing, gathers_quiet, IsStanding, IsReady, AreTied}
+use Rattle.rx_book.proofs.Common.{AreLeased, KeepsHeld, leases_stay, Key, ResKey, has_key, Request, stands, is_fresh_in, hold_request, Accepts, IsNewResKey}
+use Rattle.rx_book.proofs.Common.{tree_key_of, res_key_shown, keys_of, state_of, IsLetIn}
 use Rattle.rx_tree.specs.declared.node.ResKey.{ResKey as TreeResKey}
-use Rattle.rx_tree.specs.Resources.{is_held_at}
-use Rattle.rx_tree.proofs.Laws.Keys.{some_of}
-use Rattle.rx_register.specs.State.{IsPromised, Writes}
-use Rattle.rx_ground.specs.Gone.{Gathers}
-use Rattle.rx_ground.specs.Shown.{Ground}
-use Rattle.rx_ground.proofs.Laws.GoneStaysGone.{gathers_nothing, gathers_quiet}
-use Rattle.rx_ground.specs.Ties.{IsStanding, IsReady, AreTied, AreLeased, KeepsHeld}
-use Rattle.rx_ground.proofs.Laws.KeysKept.{leases_stay}
-use Rattle.rx_book.specs.declared.key.Key.{Key}
-use Rattle.rx_book.specs.declared.key.ResKey.{ResKey}
-use Rattle.rx_book.specs.State.{has_key}
-use Rattle.rx_book.specs.Requests.{Request, stands, is_fresh_in, hold_request}
-use Rattle.rx_book.specs.Answers.{Accepts, IsNewResKey}
-use Rattle.rx_book.specs.Shown.{tree_key_of, res_key_shown, keys_of, state_of}
-use Rattle.rx_book.specs.Steps.{IsLetIn}
+use Rattle.rx_register.specs.State.{IsPromised}
 use Rattle.rx_book.proofs.ShownKeys.{has_key_is}
 use Rattle.rx_book.proofs.CallWithoutCause.{SettlesTo, let_in, one_ready, pays, accepts_written, written_held}
 use Rattle.rx_book.proofs.MadeKeyIsListed.{res_key_listed}

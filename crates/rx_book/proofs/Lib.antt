@@ -1,3 +1,4 @@
+pub mod Common
 pub mod ShownKeys
 pub mod AnswersOkOrErr
 pub mod ListOfClosed

@@ -1,27 +1,8 @@
 -- The list of what a call closes: begun anew it changes nothing else, and what goes on it has gone.
-use Rattle.std.proofs.Common.{◌≡◌, ℕ, List, [], ◌∷◌, ◌++◌, map, refl, sym, ap, subst, ◌∙◌}
-use Rattle.std.specs.Prelude.{Ok}
-use Rattle.rx_resource.specs.declared.Resource.{Ghosts}
-use Rattle.rx_event.specs.Kept.{Kept}
-use Rattle.rx_event.specs.declared.event.Event.{Event}
-use Rattle.rx_event.specs.Lawful.{IsForcedOn}
+use Rattle.rx_book.proofs.Common.{◌≡◌, ℕ, List, [], ◌∷◌, ◌++◌, map, refl, sym, ap, subst, ◌∙◌, Ok, Ghosts, Kept, Event, IsForcedOn, Wanted, goes, numbers_of}
+use Rattle.rx_book.proofs.Common.{Gathers, Ground, IsStanding, HasRoomBeside, IsFurther, gone_on, gone_forced, Key, State, AreJust, Request, Accepts, Answers}
+use Rattle.rx_book.proofs.Common.{IsOpened, IsOpenedUsing, Opened, OpenedUsing, At, OpenedHolding, AnswersOpenedHolding, Kind, key_shown}
 use Rattle.rx_slots.specs.declared.Key.{Key as TreeKey}
-use Rattle.rx_ground.specs.declared.base.Wanted.{Wanted}
-use Rattle.rx_ground.specs.Gone.{goes, numbers_of, Gathers}
-use Rattle.rx_ground.specs.Shown.{Ground}
-use Rattle.rx_ground.specs.Ties.{IsStanding, HasRoomBeside}
-use Rattle.rx_ground.proofs.Laws.GoneStaysGone.{IsFurther, gone_on, gone_forced}
-use Rattle.rx_book.specs.declared.key.Key.{Key}
-use Rattle.rx_book.specs.State.{State, AreJust}
-use Rattle.rx_book.specs.Requests.{Request}
-use Rattle.rx_book.specs.Answers.{Accepts, Answers, IsOpened, IsOpenedUsing}
-use Rattle.rx_book.specs.declared.answer.Opened.{Opened}
-use Rattle.rx_book.specs.declared.answer.OpenedUsing.{OpenedUsing}
-use Rattle.rx_book.specs.declared.answer.At.{At}
-use Rattle.rx_book.specs.declared.answer.OpenedHolding.{OpenedHolding}
-use Rattle.rx_book.specs.OpensHolding.{AnswersOpenedHolding}
-use Rattle.rx_event.specs.declared.event.Kind.{Kind}
-use Rattle.rx_book.specs.Shown.{key_shown}
 use Rattle.rx_book.proofs.AnswersOkOrErr.{answers_ok}
 
 -- the list begun ----------------------------------------------------------------------------------

@@ -1,20 +1,8 @@
 -- What a call made is listed after what it forced.
-use Rattle.std.proofs.Common.{◌≡◌, ℕ, true, length, Some, IsSome, ap, ◌∙◌}
-use Rattle.rx_resource.specs.declared.Resource.{Ghosts}
-use Rattle.rx_event.specs.declared.event.Event.TheVariants.{Accept}
-use Rattle.rx_event.specs.Tree.{is_open}
-use Rattle.rx_event.specs.Resources.{accepted_by}
+use Rattle.rx_book.proofs.Common.{◌≡◌, ℕ, true, length, Some, IsSome, ap, ◌∙◌, Ghosts, Accept, is_open, accepted_by, find, is_held_at, Ground, IsTied, Key}
+use Rattle.rx_book.proofs.Common.{KeepsOlder, resource_stays, ResKey, key_shown, res_key_shown, state_of, IsNewKey, IsNewResKey}
 use Rattle.rx_slots.specs.declared.Key.{Key as TreeKey}
-use Rattle.rx_slots.specs.Slots.{find}
 use Rattle.rx_tree.specs.declared.node.ResKey.{ResKey as TreeResKey}
-use Rattle.rx_tree.specs.Resources.{is_held_at}
-use Rattle.rx_ground.specs.Shown.{Ground}
-use Rattle.rx_ground.specs.Ties.{IsTied, KeepsOlder}
-use Rattle.rx_ground.proofs.Laws.StaysHeld.{resource_stays}
-use Rattle.rx_book.specs.declared.key.Key.{Key}
-use Rattle.rx_book.specs.declared.key.ResKey.{ResKey}
-use Rattle.rx_book.specs.Shown.{key_shown, res_key_shown, state_of}
-use Rattle.rx_book.specs.Answers.{IsNewKey, IsNewResKey}
 use Rattle.rx_book.proofs.ShownKeys.{has_key_is, has_res_key_is}
 
 module _ {T : Type 0} (g : Ghosts T) (mid new : Ground T)

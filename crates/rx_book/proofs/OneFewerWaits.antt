@@ -1,21 +1,9 @@
 -- A resource that is taken waited, and then one fewer waits.
-use Rattle.std.proofs.Common.{◌≡◌, ℕ, ◌<◌, true, List, [], ◌∷◌, ◌++◌, length, map, sym, ap, ◌∙◌, arith}
-use Rattle.std.proofs.lemmas.List.{length-map}
-use Rattle.std.proofs.lemmas.List.Elements.{All-contains}
+use Rattle.rx_book.proofs.Common.{◌≡◌, ℕ, ◌<◌, true, List, [], ◌∷◌, ◌++◌, length, map, sym, ap, ◌∙◌, arith, length-map, All-contains, Ghosts, Event, Take}
+use Rattle.rx_book.proofs.Common.{is_waiting, waiting_count, MayFollow, IsLawful, waiting_count-take, Stowed, Tree, AreApart, waiting_in, label_in, IsTied}
+use Rattle.rx_book.proofs.Common.{IsListed, just_waiting, length-waiting, Contains-map, Contains-from_map}
 use Rattle.rx_event.specs.Kept.{Kept as Base}
-use Rattle.rx_resource.specs.declared.Resource.{Ghosts}
-use Rattle.rx_event.specs.declared.event.Event.{Event}
-use Rattle.rx_event.specs.declared.event.Event.TheVariants.{Take}
-use Rattle.rx_event.specs.Resources.{is_waiting}
-use Rattle.rx_event.specs.Totals.{waiting_count}
-use Rattle.rx_event.specs.Lawful.{MayFollow, IsLawful}
-use Rattle.rx_event.proofs.Laws.Totals.{waiting_count-take}
-use Rattle.rx_tree.specs.declared.node.Stowed.{Stowed}
-use Rattle.rx_tree.specs.Tree.{Tree, AreApart}
-use Rattle.rx_ground.specs.Shown.{Label, Kept, waiting_in, label_in, label_of}
-use Rattle.rx_ground.specs.Ties.{IsTied, IsListed}
-use Rattle.rx_ground.proofs.Laws.JustOpenHeldWaiting.{just_waiting, length-waiting}
-use Rattle.rx_ground.proofs.Laws.Members.{Contains-map, Contains-from_map}
+use Rattle.rx_ground.specs.Shown.{Label, Kept, label_of}
 
 module _ {T : Type 0} (g : Ghosts T) where
   -- a resource that is shown among those that wait does

@@ -1,15 +1,7 @@
 -- What an opening answers holds after one more event too, which makes no connection and closes no node.
-use Rattle.std.proofs.Common.{◌≡◌, ℕ, ◌+◌, ◌<◌, Bool, true, false, List, [], ◌∷◌, ◌++◌, length, Option, Some, None, cond, IsTrue, IfSome}
-use Rattle.std.proofs.Common.{refl, sym, ap, subst, ◌∙◌, inl, inr, ◌⊎◌, arith, length-append}
-use Rattle.std.specs.Option.{option_map_or}
-use Rattle.std.proofs.lemmas.Bool.{cases_order}
-use Rattle.rx_event.specs.declared.event.Event.{Event}
-use Rattle.rx_event.specs.Tree.{at}
-use Rattle.rx_event.proofs.Laws.Places.{at-append, at_within, slice_get_last}
-use Rattle.rx_book.specs.declared.answer.Opened.{Opened}
-use Rattle.rx_book.specs.declared.key.Key.{Key}
-use Rattle.rx_book.specs.State.{State, has_key}
-use Rattle.rx_book.specs.Answers.{IsOpened, connection_made, makes_connection}
+use Rattle.rx_book.proofs.Common.{◌≡◌, ℕ, ◌+◌, ◌<◌, Bool, true, false, List, [], ◌∷◌, ◌++◌, length, Option, Some, None, cond, IsTrue, IfSome, refl, sym, ap}
+use Rattle.rx_book.proofs.Common.{subst, ◌∙◌, inl, inr, ◌⊎◌, arith, length-append, option_map_or, cases_order, Event, at, at-append, at_within, Opened, Key}
+use Rattle.rx_book.proofs.Common.{slice_get_last, State, has_key, IsOpened, connection_made, makes_connection}
 
 -- past the end of a history there is no event
 none_past : (p : Event → Bool) (h : List Event) (n : ℕ) → (n < length h → ⊥) → at p h n ≡ false

@@ -1,37 +1,11 @@
 -- An opening that was let in is written, and then what it forces: it is accepted, its node is open, and so is the connection that
 -- came with it; and room that was gotten beside is still there.
-use Rattle.std.proofs.Common.{◌≡◌, ℕ, ◌+◌, ◌≤◌, Bool, true, false, List, [], ◌∷◌, ◌++◌, length, Option, None, option_map, refl, sym, ap, ◌∙◌, arith}
-use Rattle.std.proofs.Common.{length-append}
-use Rattle.std.specs.Option.{option_to_list}
-use Rattle.rx_resource.specs.declared.Resource.{Ghosts}
-use Rattle.rx_event.specs.declared.event.Kind.{Kind}
-use Rattle.rx_event.specs.declared.event.Kind.TheVariants.{Sub}
-use Rattle.rx_event.specs.declared.event.Event.{Event}
-use Rattle.rx_event.specs.declared.event.Event.TheVariants.{Open}
-use Rattle.rx_event.specs.Tree.{open_connections}
-use Rattle.rx_event.specs.Totals.{debt}
-use Rattle.rx_event.specs.Lawful.{IsLawful}
-use Rattle.rx_event.specs.Calls.{Opening}
-use Rattle.rx_event.specs.Causes.{added_by, forces_connect}
-use Rattle.rx_event.proofs.Laws.Lawful.{IsLawful-push}
-use Rattle.rx_event.proofs.Laws.StaysOpen.{opened_stays}
+use Rattle.rx_book.proofs.Common.{◌≡◌, ℕ, ◌+◌, ◌≤◌, Bool, true, false, List, [], ◌∷◌, ◌++◌, length, Option, None, option_map, refl, sym, ap, ◌∙◌, arith, Kind}
+use Rattle.rx_book.proofs.Common.{length-append, option_to_list, Ghosts, Sub, Event, Open, open_connections, debt, IsLawful, Opening, added_by, IsLawful-push}
+use Rattle.rx_book.proofs.Common.{forces_connect, opened_stays, IsPlaced, Writes, notes_added, call_fits, Gathers, Ground, TakesNoMemory, IsTied, IsReady, At}
+use Rattle.rx_book.proofs.Common.{IsNewNode, leases_stay, keeps_opened, Key, place_of, open_request, Accepts, IsNewKey, connection_made, key_above, key_shown}
+use Rattle.rx_book.proofs.Common.{state_of, IsAdmitted}
 use Rattle.rx_slots.specs.declared.Key.{Key as TreeKey}
-use Rattle.rx_tree.specs.Tree.{IsPlaced}
-use Rattle.rx_register.specs.State.{Writes}
-use Rattle.rx_register.specs.Paid.{notes_added}
-use Rattle.rx_register.proofs.Laws.Calls.{call_fits}
-use Rattle.rx_ground.specs.Gone.{Gathers}
-use Rattle.rx_ground.specs.Shown.{Ground}
-use Rattle.rx_ground.specs.Memory.{TakesNoMemory}
-use Rattle.rx_ground.specs.Ties.{IsTied, IsReady, IsNewNode}
-use Rattle.rx_ground.proofs.Laws.KeysKept.{leases_stay, keeps_opened}
-use Rattle.rx_book.specs.declared.answer.At.{At}
-use Rattle.rx_book.specs.declared.key.Key.{Key}
-use Rattle.rx_book.specs.Requests.{place_of, open_request}
-use Rattle.rx_book.specs.Answers.{Accepts, IsNewKey, connection_made}
-use Rattle.rx_book.specs.Places.{key_above}
-use Rattle.rx_book.specs.Shown.{key_shown, state_of}
-use Rattle.rx_book.specs.Steps.{IsAdmitted}
 use Rattle.rx_book.proofs.ShownKeys.{is_known_place_is}
 use Rattle.rx_book.proofs.CallWithoutCause.{SettlesTo, known, one_ready, accepts}
 use Rattle.rx_book.proofs.Openings.{placed_at}

@@ -1,30 +1,11 @@
 -- An opening against which nothing stands: there is room for the connection that it forces, and the node above is open.
-use Rattle.std.proofs.Common.{◌≡◌, ◌+◌, ◌<◌, ◌≤◌, Bool, true, List, [], ◌∷◌, length, cond, IsSome, refl, ap, subst, arith}
-use Rattle.rx_event.specs.Kept.{Kept}
-use Rattle.rx_resource.specs.declared.Resource.{Ghosts}
-use Rattle.rx_event.specs.declared.event.Place.{Place}
-use Rattle.rx_event.specs.declared.event.Kind.{Kind}
-use Rattle.rx_event.specs.declared.event.Event.{Event}
-use Rattle.rx_event.specs.declared.event.Event.TheVariants.{Open}
-use Rattle.rx_event.specs.Forced.{IsConnectDue, IsSettled}
-use Rattle.rx_event.specs.Lawful.{IsLawful, MayFollow}
-use Rattle.rx_event.proofs.Laws.Openness.{is_open_within}
-use Rattle.rx_event.proofs.Laws.Hubs.{may_subscribe}
+use Rattle.rx_book.proofs.Common.{◌≡◌, ◌+◌, ◌<◌, ◌≤◌, Bool, true, List, [], ◌∷◌, length, cond, IsSome, refl, ap, subst, arith, Kept, Ghosts, Place, Kind, At}
+use Rattle.rx_book.proofs.Common.{Event, Open, IsConnectDue, IsSettled, IsLawful, MayFollow, is_open_within, may_subscribe, find, Tree, IsPlaced, some_of}
+use Rattle.rx_book.proofs.Common.{nodes_opened, Writes, opening_connects, Ground, list_room, TakesNoMemory, IsTied, HasRoomToConnect, is_there, place_of}
+use Rattle.rx_book.proofs.Common.{key_above, tree_key_of}
 use Rattle.rx_slots.specs.declared.Key.{Key}
-use Rattle.rx_slots.specs.Slots.{find}
-use Rattle.rx_tree.specs.Tree.{Tree, IsPlaced}
-use Rattle.rx_tree.proofs.Laws.Keys.{some_of}
-use Rattle.rx_event.specs.Causes.{nodes_opened}
-use Rattle.rx_register.specs.State.{Writes}
-use Rattle.rx_register.proofs.Laws.OpeningForcesConnection.{opening_connects}
-use Rattle.rx_ground.specs.Shown.{Ground, list_room}
-use Rattle.rx_ground.specs.Memory.{TakesNoMemory, TakesOneNode}
-use Rattle.rx_ground.specs.Ties.{IsTied, HasRoomToConnect, is_there}
-use Rattle.rx_book.specs.declared.answer.At.{At}
+use Rattle.rx_ground.specs.Memory.{TakesOneNode}
 use Rattle.rx_book.specs.declared.answer.At.TheVariants.{Root as AtRoot, Source as AtSource, Inner as AtInner, Notifier as AtNotifier}
-use Rattle.rx_book.specs.Requests.{place_of}
-use Rattle.rx_book.specs.Places.{key_above}
-use Rattle.rx_book.specs.Shown.{tree_key_of}
 
 -- where a hub waits after the opening there is room for its connection
 pub opening_room : {T : Type 0} {old new : Ground T} {place : Place} {kind : Kind} → IsLawful old.register.base old.register.history →

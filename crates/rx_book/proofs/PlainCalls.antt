@@ -1,34 +1,15 @@
 -- The calls whose costs stand in a table: they are let in, and open no subscriber of a hub; and what they give stays given.
-use Rattle.std.proofs.Common.{◌≡◌, ℕ, ◌≤◌, true, false, Option, Some, None, is_some, IfSome, List, [], ◌∷◌, map, refl, sym, ap, ◌∙◌, arith}
-use Rattle.std.proofs.Common.{true≢false}
-use Rattle.std.proofs.lemmas.Bool.{false≢true}
-use Rattle.std.specs.List.{list_all}
-use Rattle.rx_resource.specs.declared.Resource.{Ghosts}
-use Rattle.rx_event.specs.declared.refusal.Refusal.{Refusal}
-use Rattle.rx_event.specs.declared.refusal.Refusal.TheVariants.{Full}
-use Rattle.rx_event.specs.declared.event.Event.TheVariants.{Close, Connect as Connected_to}
-use Rattle.rx_event.specs.Calls.{outside_of}
-use Rattle.rx_event.specs.Refusals.{first_cause}
-use Rattle.rx_event.specs.Tree.{is_open, open_connections}
-use Rattle.rx_event.specs.Causes.{causes, added_by, is_over}
-use Rattle.rx_event.proofs.Laws.StaysOpen.{connected_stays}
-use Rattle.rx_slots.specs.Slots.{Slots}
+use Rattle.rx_book.proofs.Common.{◌≡◌, ℕ, ◌≤◌, true, false, Option, Some, None, is_some, IfSome, List, [], ◌∷◌, map, refl, sym, ap, ◌∙◌, arith, true≢false}
+use Rattle.rx_book.proofs.Common.{false≢true, list_all, Ghosts, Refusal, Full, Close, outside_of, first_cause, is_open, open_connections, causes, added_by}
+use Rattle.rx_book.proofs.Common.{is_over, connected_stays, Slots, notes_added, paid_room, Wanted, Ground, Answer, State, has_lease_key, stands, Accepts}
+use Rattle.rx_book.proofs.Common.{connect_request, state_of, tree_key_of, lease_keys_of, IsCostOf, IsWithin, Admits, IsLetIn, HasRoomIf}
+use Rattle.rx_event.specs.declared.event.Event.TheVariants.{Connect as Connected_to}
 use Rattle.rx_tree.specs.declared.node.ResKey.{ResKey}
-use Rattle.rx_register.specs.Paid.{notes_added}
 use Rattle.rx_register.specs.Claims.{IsReady as IsReadyFor}
-use Rattle.rx_register.proofs.Laws.Paid.{paid_room}
-use Rattle.rx_ground.specs.declared.base.Wanted.{Wanted}
-use Rattle.rx_ground.specs.Shown.{Ground}
 use Rattle.rx_book.specs.declared.call.Call.{Call}
 use Rattle.rx_book.specs.declared.call.Call.TheVariants.{Open, Next, End, Apply, Lease, Hub, Connect, Disconnect}
-use Rattle.rx_book.specs.declared.answer.Answer.{Answer}
 use Rattle.rx_book.specs.declared.answer.Answer.TheVariants.{Opened, Leased, Connected}
-use Rattle.rx_book.specs.State.{State, has_lease_key}
-use Rattle.rx_book.specs.Requests.{stands, connect_request}
-use Rattle.rx_book.specs.Answers.{Accepts}
-use Rattle.rx_book.specs.Shown.{state_of, tree_key_of, lease_keys_of}
 use Rattle.rx_book.specs.Asks.{request_of, takes_memory, is_plain, gives}
-use Rattle.rx_book.specs.Steps.{IsCostOf, IsWithin, Admits, IsLetIn, HasRoomIf}
 use Rattle.rx_book.proofs.Admitted.{within_limit, admitted_let_in, admitted_as}
 use Rattle.rx_book.proofs.CallWithoutCause.{SettlesTo, subscribes_none, one_ready}
 use Rattle.rx_book.proofs.ListOfClosed.{opened_begun}

@@ -1,23 +1,11 @@
 -- What callers see of a ground before a checkpoint and after it.
-use Rattle.std.proofs.Common.{◌≡◌, ℕ, None, Ok, Err, List, map, ap, length}
-use Rattle.rx_resource.specs.declared.Resource.{Ghosts}
-use Rattle.rx_event.specs.Kept.{shown}
-use Rattle.rx_event.specs.Bases.{base_of, Agree}
-use Rattle.rx_event.specs.declared.refusal.Refusal.{Refusal}
-use Rattle.rx_event.specs.Refusals.{first_cause, IsRefusal}
+use Rattle.rx_book.proofs.Common.{◌≡◌, ℕ, None, Ok, Err, List, map, ap, length, Ghosts, shown, base_of, Agree, Refusal, first_cause, IsRefusal, Slots, Tree}
+use Rattle.rx_book.proofs.Common.{checkpoint_causes, Ground, held_in, waiting_in, label_in, IsCheckpoint, IsStanding, Checkpoints, AnswersCheckpoint, State}
+use Rattle.rx_book.proofs.Common.{key_shown, state_of, keys_of, res_keys_of, lease_keys_of}
 use Rattle.rx_event.proofs.Laws.Checkpoints.{kept_agrees}
-use Rattle.rx_event.specs.Causes.{checkpoint_causes}
 use Rattle.rx_register.specs.State.{IsPromised as IsRegisterPromised}
 use Rattle.rx_slots.specs.declared.Key.{Key}
-use Rattle.rx_slots.specs.Slots.{Slots}
 use Rattle.rx_tree.specs.declared.node.ResKey.{ResKey as TreeResKey}
-use Rattle.rx_tree.specs.Tree.{Tree}
-use Rattle.rx_ground.specs.Shown.{Ground, held_in, waiting_in, label_in}
-use Rattle.rx_ground.specs.Checkpoints.{IsCheckpoint}
-use Rattle.rx_ground.specs.Ties.{IsStanding}
-use Rattle.rx_book.specs.Checkpoints.{Checkpoints, AnswersCheckpoint}
-use Rattle.rx_book.specs.State.{State}
-use Rattle.rx_book.specs.Shown.{key_shown, state_of, keys_of, res_keys_of, lease_keys_of}
 
 pub checkpointed : {T : Type 0} (g : Ghosts T) (old new : Ground T) → IsRegisterPromised old.register → IsStanding g old →
     first_cause (checkpoint_causes old.register.history old.register.given) ≡ None → IsCheckpoint old new → Checkpoints (state_of g old) (state_of g new)

@@ -1,32 +1,15 @@
 -- The keys that are listed are those that find something.
-use Rattle.std.proofs.Common.{◌≡◌, true, false, List, Option, Some, None, is_some, IsSome, refl, sym, ap, subst, ◌∙◌, eq-eqb, nat_eq}
-use Rattle.std.proofs.Math.Bool.{◌&&◌}
-use Rattle.std.specs.List.{Contains}
-use Rattle.std.specs.Option.{option_map_or}
-use Rattle.std.proofs.lemmas.Bool.{and_parts, and_from, eqb-true, false≢true}
+use Rattle.rx_book.proofs.Common.{◌≡◌, true, false, List, Option, Some, None, is_some, IsSome, refl, sym, ap, subst, ◌∙◌, eq-eqb, nat_eq, ◌&&◌, Contains, Key}
+use Rattle.rx_book.proofs.Common.{option_map_or, and_parts, and_from, eqb-true, false≢true, Slots, find, lease_key, is_out_at, Node, Stowed, Tree, is_held_at}
+use Rattle.rx_book.proofs.Common.{some_of, held_in, is_there, ResKey, LeaseKey, At, has_key, has_res_key, has_lease_key, is_known_place, key_above, key_shown}
+use Rattle.rx_book.proofs.Common.{tree_key_of, tree_res_key_of, ground_lease_key_of, keys_of, res_keys_of, lease_keys_of, Contains-map, Contains-from_map}
 use Rattle.std.proofs.lemmas.List.Folds.{list_any_at, Any-from_list_any}
 use Rattle.std.specs.Cmp.{both_ways as same_test}
-use Rattle.rx_slots.specs.Slots.{Slots, find}
-use Rattle.rx_ground.specs.Leases.{lease_key, is_out_at}
 use Rattle.rx_tree.specs.declared.node.ResKey.{ResKey as TreeResKey}
-use Rattle.rx_tree.specs.declared.node.Node.{Node}
-use Rattle.rx_tree.specs.declared.node.Stowed.{Stowed}
-use Rattle.rx_tree.specs.Tree.{Tree}
-use Rattle.rx_tree.specs.Resources.{is_held, is_held_at, store_key}
-use Rattle.rx_tree.proofs.Laws.Keys.{some_of}
-use Rattle.rx_ground.specs.Shown.{Kept, kept_in, held_in}
-use Rattle.rx_ground.specs.Ties.{is_there}
+use Rattle.rx_tree.specs.Resources.{is_held, store_key}
+use Rattle.rx_ground.specs.Shown.{Kept, kept_in}
 use Rattle.rx_ground.proofs.Laws.Keys.{kept_finds, finds_kept, held_finds, finds_held}
-use Rattle.rx_book.specs.declared.key.Key.{Key}
-use Rattle.rx_book.specs.declared.key.ResKey.{ResKey}
-use Rattle.rx_book.specs.declared.key.LeaseKey.{LeaseKey}
-use Rattle.rx_book.specs.declared.answer.At.{At}
 use Rattle.rx_book.specs.declared.answer.At.TheVariants.{Root, Source, Inner, Notifier}
-use Rattle.rx_book.specs.State.{has_key, has_res_key, has_lease_key}
-use Rattle.rx_book.specs.Requests.{is_known_place}
-use Rattle.rx_book.specs.Places.{key_above}
-use Rattle.rx_book.specs.Shown.{tree_key_of, tree_res_key_of, ground_lease_key_of, key_shown, keys_of, res_keys_of, lease_keys_of}
-use Rattle.rx_ground.proofs.Laws.Members.{Contains-map, Contains-from_map}
 use Rattle.rx_book.proofs.Laws.Keys.{Contains-has_key}
 
 -- keys here and there -----------------------------------------------------------------------------

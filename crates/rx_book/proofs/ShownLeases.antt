@@ -1,23 +1,12 @@
 -- The lease of least number.
-use Rattle.std.proofs.Common.{◌≡◌, ℕ, ◌<◌, true, List, length, Some, None, refl, ◌∙◌, arith}
+use Rattle.rx_book.proofs.Common.{◌≡◌, ℕ, ◌<◌, true, List, length, Some, None, refl, ◌∙◌, arith, false_from_ne_true, Event, places, is_out, Slots, Stowed}
+use Rattle.rx_book.proofs.Common.{IsFirst, HasNone, some_of, lease_key, AreLeased, find_nothing, find_first, has_lease_key, lease_key_shown, lease_keys_of}
 use Rattle.std.specs.List.{find}
-use Rattle.std.proofs.lemmas.Bool.{false_from_ne_true}
-use Rattle.rx_event.specs.declared.event.Event.{Event}
-use Rattle.rx_event.specs.Tree.{places}
-use Rattle.rx_event.specs.Resources.{is_out}
 use Rattle.rx_event.proofs.Laws.Leases.{is_out_within}
 use Rattle.rx_slots.specs.declared.Key.{Key as SlotKey}
-use Rattle.rx_slots.specs.Slots.{Slots}
 use Rattle.rx_tree.specs.declared.node.ResKey.{ResKey as TreeResKey}
-use Rattle.rx_tree.specs.declared.node.Stowed.{Stowed}
-use Rattle.rx_tree.specs.Tree.{IsFirst, HasNone}
-use Rattle.rx_tree.proofs.Laws.Keys.{some_of}
 use Rattle.rx_ground.specs.declared.leases.LeaseKey.{LeaseKey as GroundLeaseKey}
-use Rattle.rx_ground.specs.Leases.{IsOut, lease_key}
-use Rattle.rx_ground.specs.Ties.{AreLeased}
-use Rattle.rx_ground.proofs.Laws.Ranges.{find_nothing, find_first}
-use Rattle.rx_book.specs.State.{has_lease_key}
-use Rattle.rx_book.specs.Shown.{lease_key_shown, lease_keys_of}
+use Rattle.rx_ground.specs.Leases.{IsOut}
 use Rattle.rx_book.proofs.ShownKeys.{has_lease_key_is}
 
 module _ {T : Type 0} (h : List Event) (resources : Slots (Stowed T)) (leases : Slots TreeResKey) (leased : AreLeased h resources leases) where

@@ -1,40 +1,17 @@
 -- What callers see of a ground that stands keeps what a book promises.
-use Rattle.std.proofs.Common.{◌≡◌, ℕ, ◌+◌, Bool, true, List, [], ◌∷◌, length, map, nat_lt, refl, sym, ap, subst, ◌∙◌, arith}
-use Rattle.std.specs.List.{All, Contains}
-use Rattle.std.specs.Option.{option_and_then}
-use Rattle.std.proofs.lemmas.Bool.{lt-ltb}
-use Rattle.std.proofs.lemmas.List.{length-map}
-use Rattle.std.proofs.lemmas.List.Elements.{All-map}
+use Rattle.rx_book.proofs.Common.{◌≡◌, ℕ, ◌+◌, Bool, true, List, [], ◌∷◌, length, map, nat_lt, refl, sym, ap, subst, ◌∙◌, arith, All, Contains, lt-ltb, Event}
+use Rattle.rx_book.proofs.Common.{option_and_then, length-map, All-map, Ghosts, is_auto_hub, at, is_open, open_subscribers, IsSettled, IsLawful, is_out, Node}
+use Rattle.rx_book.proofs.Common.{is_held, is_waiting, accepted_count, taken_count, accepted_count-parts, notes_grammatical, one_where_subscribed, Slots, Key}
+use Rattle.rx_book.proofs.Common.{Stowed, AreApart, has_connection, Ground, held_in, waiting_in, label_in, IsStored, IsStanding, just_waiting, length-waiting}
+use Rattle.rx_book.proofs.Common.{ResKey, LeaseKey, IsPromised, IsLabelOf, AreJust, accepted_tag, has_subscriber, key_shown, state_of, All-members}
 use Rattle.rx_event.specs.Kept.{Kept as Base}
-use Rattle.rx_resource.specs.declared.Resource.{Ghosts}
-use Rattle.rx_event.specs.declared.event.Event.{Event}
-use Rattle.rx_event.specs.Events.{is_auto_hub}
-use Rattle.rx_event.specs.Tree.{at, is_open, open_subscribers}
-use Rattle.rx_event.specs.Forced.{IsSettled}
-use Rattle.rx_event.specs.Lawful.{IsLawful}
-use Rattle.rx_event.specs.Resources.{is_out, is_held, is_waiting}
-use Rattle.rx_event.specs.Totals.{accepted_count, taken_count}
-use Rattle.rx_event.proofs.Laws.Totals.{accepted_count-parts}
-use Rattle.rx_event.proofs.Laws.Notes.{notes_grammatical}
-use Rattle.rx_event.proofs.Laws.Hubs.{one_open_connection, one_where_subscribed, unsubscribed_unconnected}
-use Rattle.rx_slots.specs.Slots.{Slots}
-use Rattle.rx_tree.specs.declared.node.Node.{Node}
-use Rattle.rx_tree.specs.declared.node.Stowed.{Stowed}
+use Rattle.rx_event.proofs.Laws.Hubs.{one_open_connection, unsubscribed_unconnected}
 use Rattle.rx_tree.specs.declared.node.ResKey.{ResKey as TreeResKey}
-use Rattle.rx_tree.specs.Tree.{AreApart, IsPromised as IsTreePromised}
+use Rattle.rx_tree.specs.Tree.{IsPromised as IsTreePromised}
 use Rattle.rx_register.specs.State.{IsPromised as IsRegisterPromised}
-use Rattle.rx_event.specs.Causes.{has_connection}
-use Rattle.rx_ground.specs.Shown.{Ground, Label, Kept, kept_in, held_in, waiting_in, label_in}
-use Rattle.rx_ground.specs.Ties.{IsStored, IsStanding}
+use Rattle.rx_ground.specs.Shown.{Label, Kept, kept_in}
 use Rattle.rx_ground.proofs.Laws.Numbers.{ListsJust}
-use Rattle.rx_ground.proofs.Laws.JustOpenHeldWaiting.{numbers, stored_held, stored_waiting, just_nodes, just_held}
-use Rattle.rx_ground.proofs.Laws.JustOpenHeldWaiting.{just_waiting, just_out, length-held, length-waiting}
-use Rattle.rx_book.specs.declared.key.Key.{Key}
-use Rattle.rx_book.specs.declared.key.ResKey.{ResKey}
-use Rattle.rx_book.specs.declared.key.LeaseKey.{LeaseKey}
-use Rattle.rx_book.specs.State.{IsPromised, IsLabelOf, AreJust, accepted_tag, has_subscriber}
-use Rattle.rx_book.specs.Shown.{key_shown, state_of}
-use Rattle.rx_ground.proofs.Laws.Members.{All-members}
+use Rattle.rx_ground.proofs.Laws.JustOpenHeldWaiting.{numbers, stored_held, stored_waiting, just_nodes, just_held, just_out, length-held}
 
 -- numbers -----------------------------------------------------------------------------------------
 

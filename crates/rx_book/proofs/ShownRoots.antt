@@ -1,24 +1,10 @@
 -- The open root of least number.
-use Rattle.std.proofs.Common.{◌≡◌, ℕ, ◌<◌, true, false, List, length, Option, Some, None, IsSome, option_map, refl, sym, ap, ◌∙◌, arith}
-use Rattle.std.specs.Prelude.{IsTrue, IfSome}
+use Rattle.rx_book.proofs.Common.{◌≡◌, ℕ, ◌<◌, true, false, List, length, Option, Some, None, IsSome, option_map, refl, sym, ap, ◌∙◌, arith, IsTrue, IfSome}
+use Rattle.rx_book.proofs.Common.{option_map_or, and_parts, and_from, false_from_ne_true, false≢true, Kept, Ghosts, Event, is_root, at, is_open, places, Node}
+use Rattle.rx_book.proofs.Common.{is_open_within, Tree, IsRoot, IsFirst, HasNone, IsTied, find_nothing, find_first, has_key, is_open_root, key_shown, keys_of}
 use Rattle.std.specs.List.{find}
-use Rattle.std.specs.Option.{option_map_or}
-use Rattle.std.proofs.lemmas.Bool.{and_parts, and_from, false_from_ne_true, false≢true}
-use Rattle.rx_event.specs.Kept.{Kept}
-use Rattle.rx_resource.specs.declared.Resource.{Ghosts}
-use Rattle.rx_event.specs.declared.event.Event.{Event}
-use Rattle.rx_event.specs.Events.{is_root}
-use Rattle.rx_event.specs.Tree.{at, is_open, places}
-use Rattle.rx_event.proofs.Laws.Openness.{is_open_within}
 use Rattle.rx_slots.specs.declared.Key.{Key as TreeKey}
 use Rattle.rx_slots.specs.Slots.{find as find_in}
-use Rattle.rx_tree.specs.declared.node.Node.{Node}
-use Rattle.rx_tree.specs.Tree.{Tree, IsRoot, IsFirst, HasNone}
-use Rattle.rx_ground.specs.Ties.{IsTied}
-use Rattle.rx_ground.proofs.Laws.Ranges.{find_nothing, find_first}
-use Rattle.rx_book.specs.State.{has_key}
-use Rattle.rx_event.specs.Claims.Closing.{is_open_root}
-use Rattle.rx_book.specs.Shown.{key_shown, keys_of}
 use Rattle.rx_book.proofs.ShownKeys.{has_key_is}
 
 -- roots -------------------------------------------------------------------------------------------

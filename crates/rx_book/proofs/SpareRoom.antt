@@ -1,15 +1,7 @@
 -- What a call forces takes no more room than the call was counted to add: what was gotten beside is still there.
-use Rattle.std.proofs.Common.{ℕ, ◌+◌, ◌-◌, ◌*◌, ◌≤◌, List, [], ◌∷◌, ◌++◌, length, refl, ap, arith, length-append}
-use Rattle.rx_event.specs.declared.mail.Mail.{Mail}
-use Rattle.rx_event.specs.declared.event.Event.{Event}
-use Rattle.rx_event.specs.Kept.{Kept}
-use Rattle.rx_event.specs.Forced.{IsForced, MayWait}
-use Rattle.rx_event.specs.Lawful.{IsLawful, IsForcedOn, stays, more}
-use Rattle.rx_event.specs.Notes.{notes, mail_of}
-use Rattle.rx_event.specs.Totals.{debt, open_count}
-use Rattle.rx_event.proofs.Laws.Counts.{notes-push}
-use Rattle.rx_register.specs.State.{State as Register, Writes}
-use Rattle.rx_register.specs.Paid.{IsPaid, Fits}
+use Rattle.rx_book.proofs.Common.{ℕ, ◌+◌, ◌-◌, ◌*◌, ◌≤◌, List, [], ◌∷◌, ◌++◌, length, refl, ap, arith, length-append, Mail, Event, Kept, IsForced, MayWait}
+use Rattle.rx_book.proofs.Common.{IsLawful, IsForcedOn, stays, more, notes, mail_of, debt, open_count, notes-push, Writes, IsPaid, Fits}
+use Rattle.rx_register.specs.State.{State as Register}
 use Rattle.rx_register.proofs.Laws.Paid.{forced_room, forced_pays}
 use Rattle.rx_book.proofs.CallWithoutCause.{lawful_forced}
 

@@ -1,9 +1,6 @@
 -- What is written of a text, where the result of the writing is not looked at.
-use Rattle.std.proofs.Common.{List, ℕ, Result, Ok, Err, OnOk, OnErr, inl, inr}
-use Rattle.std.specs.Io.KnownBytes.{Appends}
-use Rattle.rx_device.specs.declared.watched.Watched.{Watched}
+use Rattle.rx_cli.proofs.Common.{List, ℕ, Result, Ok, Err, OnOk, OnErr, inl, inr, Appends, Watched, Bytes, IsTold}
 use Rattle.rx_device.specs.Device.{device_of, HasWriteFault, AppendsPrefix}
-use Rattle.rx_cli.specs.Told.{Bytes, IsTold}
 
 pub told_in_any_case : {D T E : Type 0} (contents : D → Bytes) (old new : Watched D) (text : List ℕ) (r : Result T E)
     → OnOk r (Appends (contents (device_of old)) (contents (device_of new)) text)

@@ -1,11 +1,8 @@
 -- A run, an audit or a storm that was not begun.
-use Rattle.std.proofs.Common.{List, Err, refl, ap, true≢false, Bool, true, false, Result}
+use Rattle.rx_cli.proofs.Common.{List, Err, refl, ap, true≢false, Bool, true, false, Result, Memory, Watched, Bytes}
 use Rattle.rx_device.specs.declared.fault.ScriptError.{ScriptError}
-use Rattle.rx_device.specs.declared.fault.ScriptError.TheVariants.{Memory}
-use Rattle.rx_device.specs.declared.watched.Watched.{Watched}
 use Rattle.rx_script.specs.declared.Form.{Form}
 use Rattle.rx_script.specs.Stage.{Ware}
-use Rattle.rx_cli.specs.Told.{Bytes}
 use Rattle.rx_storm.specs.declared.StormFault.{StormFault}
 use Rattle.rx_storm.specs.declared.StormFault.TheVariants.{Memory as NoMemory}
 use Rattle.rx_cli.specs.Served.{Ran, Audited, Stormed}

@@ -1,13 +1,8 @@
 -- The number that a text writes.
-use Rattle.std.proofs.Common.{◌≡◌, ◌∙◌, ◌≤◌, ℕ, Bool, true, false, List, Result, Ok, Err, Some, sym, refl, true≢false}
-use Rattle.std.specs.Prelude.{cond}
-use Rattle.std.specs.Result.{result_unwrap_or}
-use Rattle.std.specs.Str.Parse.{ParsesUnsigned, digits_value, without_leading_plus}
-use Rattle.clap.specs.Values.{IsUnsignedIn}
+use Rattle.rx_cli.proofs.Common.{◌≡◌, ◌∙◌, ◌≤◌, ℕ, Bool, true, false, List, Result, Ok, Err, Some, sym, refl, true≢false, cond, result_unwrap_or, Unsigned}
+use Rattle.rx_cli.proofs.Common.{ParsesUnsigned, digits_value, without_leading_plus, IsUnsignedIn, number_by}
 use Rattle.clap.specs.ValueTests.{is_unsigned_in}
-use Rattle.clap.specs.declared.builder.value_parser.ValueParser.TheVariants.{Unsigned}
 use Rattle.clap.proofs.ValueTestLemmas.{accepts-Accepts, Accepts-accepts}
-use Rattle.rx_cli.specs.Words.{number_by}
 
 module _ {E : Type 0} (least most : ℕ) (text : List ℕ) where
   -- where it writes one in the range, that is what was read

@@ -1,7 +1,5 @@
 -- A stock that grows by one.
-use Rattle.std.proofs.Common.{List, [], ◌∷◌, ◌++◌}
-use Rattle.std.specs.List.{All}
-use Rattle.std.proofs.lemmas.List.Elements.{All-push}
+use Rattle.rx_cli.proofs.Common.{List, [], ◌∷◌, ◌++◌, All, All-push}
 
 -- what each has, the next one has too
 pub all_more : {R : Type 0} (P : R → Type 0) (xs : List R) (b : R) → All P xs → P b → All P (xs ++ b ∷ [])

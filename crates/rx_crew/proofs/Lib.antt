@@ -1,3 +1,4 @@
+pub mod Common
 mod StepAddsTotals
 mod Ties
 mod Pulls

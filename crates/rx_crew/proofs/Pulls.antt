@@ -1,19 +1,10 @@
 -- One pull more.
-use Rattle.std.proofs.Common.{◌≡◌, ℕ, zero, suc, ◌+◌, ◌<◌, IsTrue, true, false, List, [], ◌∷◌}
-use Rattle.std.proofs.Common.{◌++◌, length, take, drop, refl, sym, ap, ◌∙◌, arith, add-one, Some, None}
-use Rattle.std.proofs.lemmas.Bool.{false≢true}
-use Rattle.std.proofs.lemmas.List.{map-append, length-append, length-drop}
-use Rattle.std.proofs.lemmas.List.Sums.{sum_by_push}
-use Rattle.std.specs.Prelude.{cond, map}
-use Rattle.rx_event.specs.Events.{is_item}
-use Rattle.rx_event.specs.declared.event.Event.{Event}
-use Rattle.rx_ledger.specs.Shares.{Shares}
-use Rattle.rx_ledger.specs.declared.receipt.Receipt.{Receipt}
-use Rattle.rx_crew.specs.declared.feeding.Pull.{Pull}
+use Rattle.rx_crew.proofs.Common.{◌≡◌, ℕ, ◌+◌, ◌<◌, IsTrue, List, length, refl, sym, ap, ◌∙◌, arith, Some, add-one, None, length-drop, is_item, Event, Shares}
+use Rattle.rx_crew.proofs.Common.{Receipt, Pull, Stop, ends_once}
+use Rattle.rx_event.proofs.Laws.Common.{zero, suc, true, false, [], ◌∷◌, ◌++◌, take, drop, false≢true, map-append, length-append, sum_by_push, cond, map}
+use Rattle.rx_crew.specs.Feeds.{event_of, items_of, items_in, is_end, AreOfPulls, IsFed, IsEmitted, IsTurn}
 use Rattle.rx_crew.specs.declared.feeding.Pull.TheVariants.{Item as PullItem, Done as PullDone}
-use Rattle.rx_crew.specs.declared.working.Stop.{Stop}
 use Rattle.rx_crew.specs.declared.working.Stop.TheVariants.{Done, Turns, Refused}
-use Rattle.rx_crew.specs.Feeds.{ends_once, event_of, items_of, items_in, is_end, AreOfPulls, IsFed, IsEmitted, IsTurn}
 
 record NextOf (n : ℕ) (xs : List Pull) (p : Pull) (rest : List Pull) : Type 0 where
   pub taken : take (suc n) xs ≡ take n xs ++ p ∷ []

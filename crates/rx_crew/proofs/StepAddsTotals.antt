@@ -1,22 +1,13 @@
 -- What a step adds to the totals.
-use Rattle.std.proofs.Common.{◌≡◌, ◌+◌, true, false, List, [], ◌∷◌, ◌++◌, length, refl, sym, ap, ◌∙◌, arith, append_assoc, cond, ℕ, map}
-use Rattle.rx_event.specs.Kept.{Kept}
-use Rattle.rx_event.specs.declared.event.Event.{Event}
+use Rattle.rx_crew.proofs.Common.{◌≡◌, ◌+◌, List, length, refl, sym, ap, ◌∙◌, arith, ℕ, Kept, Event, Pass, is_item, Sums, sums_of, counting}
+use Rattle.rx_event.proofs.Laws.Common.{true, false, [], ◌∷◌, ◌++◌, append_assoc, cond, map, makes_resource, is_take, open_connections, stays, more, IsStepOf}
+use Rattle.rx_event.proofs.Laws.Common.{IsForcedOn, Opening, OpeningUsing, Holding, Removing, Leasing, Publishing, Taking, append-nil}
 use Rattle.rx_event.specs.declared.event.Event.TheVariants.{Open, Hub, Connect, Accept, Use, Remove, Lease, Return, Item, Decline, End, Close, Take}
 use Rattle.rx_note.specs.declared.note.Terminal.TheVariants.{Error}
-use Rattle.rx_event.specs.declared.event.Kind.TheVariants.{Pass}
-use Rattle.rx_event.specs.Events.{is_item, makes_resource, is_take}
-use Rattle.rx_event.specs.Tree.{open_connections}
-use Rattle.rx_event.specs.Lawful.{stays, more, IsForcedOn}
-use Rattle.rx_event.specs.Calls.{Call, outside_of, IsStepOf}
-use Rattle.rx_event.specs.Calls.{Opening, OpeningUsing, Holding, Applying, Removing, Leasing, GivingBack, Emitting, Ending, Aborting}
-use Rattle.rx_event.specs.Calls.{Declining, Failing, Disposing, Publishing, Connecting, Disconnecting, Taking}
+use Rattle.rx_event.specs.Calls.{Call, outside_of, Applying, GivingBack, Emitting, Ending, Aborting, Declining, Failing, Disposing, Connecting, Disconnecting}
 use Rattle.rx_event.specs.Totals.{item_count, accepted_count, taken_count}
 use Rattle.rx_event.proofs.Laws.Steps.{forced_kind, may_be_forced}
 use Rattle.rx_event.proofs.Laws.Totals.{item_count-push, accepted_count-push, taken_count-push}
-use Rattle.std.proofs.lemmas.List.{append-nil}
-use Rattle.rx_ledger.specs.declared.ledgers.Sums.{Sums}
-use Rattle.rx_crew.specs.Counting.{sums_of, counting}
 
 abbrev counts : Event → Sums → Sums
 counts e s = record { items = s.items + cond (is_item e) 1 0; accepted = s.accepted + cond (makes_resource e) 1 0; taken = s.taken + cond (is_take e) 1 0 }

@@ -1,13 +1,6 @@
 -- The ledgers after a call of the book.
-use Rattle.std.proofs.Common.{◌≡◌, ℕ, Result, Ok, Err, sym, ap, ◌∙◌}
-use Rattle.rx_event.specs.Kept.{Kept}
-use Rattle.rx_event.specs.declared.refusal.Refusal.{Refusal}
-use Rattle.rx_book.specs.State.{State}
-use Rattle.rx_book.specs.Requests.{Request}
+use Rattle.rx_crew.proofs.Common.{◌≡◌, ℕ, Result, Ok, Err, sym, ap, ◌∙◌, Kept, Refusal, State, Request, AnswersCheckpoint, Sums, sums_of, counting}
 use Rattle.rx_book.specs.Answers.{Accepts, Answers}
-use Rattle.rx_book.specs.Checkpoints.{AnswersCheckpoint}
-use Rattle.rx_ledger.specs.declared.ledgers.Sums.{Sums}
-use Rattle.rx_crew.specs.Counting.{sums_of, counting}
 use Rattle.rx_crew.proofs.StepAddsTotals.{same_sums, sums-step}
 
 -- ledgers that agreed with the history, and count what the accepted call does, agree with the history after it

@@ -1,11 +1,7 @@
 -- A word and a number as values of one token.
-use Rattle.std.proofs.Common.{◌≡◌, ℕ, List, ◌∷◌, Some, option_map, sym, ap}
-use Rattle.json.specs.Token.{Token}
+use Rattle.rx_dump.proofs.Common.{◌≡◌, ℕ, List, ◌∷◌, Some, option_map, sym, ap, Token, value_is, Data, number, string, IsAlone}
 use Rattle.json.specs.Json as grammar
-use Rattle.json.proofs.Grammar.{value_is}
-use Rattle.serde_json.specs.Data.{Data, number, string}
 use Rattle.serde_json.specs.Read.{number_of}
-use Rattle.rx_dump.specs.Tokens.{IsAlone}
 
 pub word_alone : (s : List ℕ) (d : Data) → d ≡ string s → IsAlone (Token.string s) d
 word_alone s d e = λ depth ts. record {

@@ -1,13 +1,8 @@
 -- The items of an array, one after the other: those that were read, and those that are left.
-use Rattle.std.proofs.Common.{◌≡◌, ℕ, ◌-◌, ◌<◌, ◌≤◌, List, [], ◌∷◌, ◌++◌, length, Some, None, refl, ap, ◌∙◌, subst, arith}
-use Rattle.json.specs.Token.{Token}
-use Rattle.json.specs.Json.{Json, Items as JsonItems, no_items as no_json, item as json_item, parse_map, after_end_array, items, value}
+use Rattle.rx_dump.proofs.Common.{◌≡◌, ℕ, ◌-◌, ◌<◌, ◌≤◌, List, [], ◌∷◌, ◌++◌, length, Some, None, refl, ap, ◌∙◌, subst, arith, Token, after_end_array, Data}
+use Rattle.rx_dump.proofs.Common.{Items, no_items, item, of_json, of_items, view, items_view, Value, IsValue, AreItems}
+use Rattle.json.specs.Json.{Json, Items as JsonItems, no_items as no_json, item as json_item, parse_map, items, value}
 use Rattle.json.proofs.Grammar.{left, items_end, items_more, skip_value-shorter}
-use Rattle.serde_json.specs.Data.{Data, Items, no_items, item}
-use Rattle.serde_json.specs.Read.{of_json, of_items}
-use Rattle.serde_json.specs.View.{view, items_view}
-use Rattle.serde_json.specs.declared.value.Value.{Value}
-use Rattle.rx_dump.specs.Tokens.{IsValue, AreItems}
 
 abbrev pub joined : Items → Items → Items
 joined no_items rest = rest

@@ -1,19 +1,10 @@
 -- The dump's text as that of its JSON value.
-use Rattle.std.proofs.Common.{◌≡◌, pos, negsuc, true, false, List, [], ◌∷◌, ◌++◌, refl, ap, sym, ◌∙◌, codes, map, decimal, append_assoc}
-use Rattle.std.specs.Prelude.{flat_map}
+use Rattle.rx_dump.proofs.Common.{◌≡◌, pos, negsuc, true, false, List, [], ◌∷◌, ◌++◌, refl, ap, sym, ◌∙◌, codes, map, decimal, append_assoc, flat_map, Error}
+use Rattle.rx_dump.proofs.Common.{items_of, Completed, Place, Root, Source, Inner, Notifier, Kind, Leaf, Auto, Event, Open, Hub, Accept, Item, End, next_text}
 use Rattle.serde_json.proofs.OnLiterals.{serde_json_on_literals}
-use Rattle.serde_json.specs.View.{items_of}
 use Rattle.serde_json.specs.Written.{compact_text, items_text}
 use Rattle.rx_note.specs.declared.note.Terminal.{Terminal}
-use Rattle.rx_note.specs.declared.note.Terminal.TheVariants.{Completed, Error}
-use Rattle.rx_event.specs.declared.event.Place.{Place}
-use Rattle.rx_event.specs.declared.event.Place.TheVariants.{Root, Source, Inner, Notifier}
-use Rattle.rx_event.specs.declared.event.Kind.{Kind}
-use Rattle.rx_event.specs.declared.event.Kind.TheVariants.{Leaf}
-use Rattle.rx_event.specs.declared.event.Mode.TheVariants.{Auto}
-use Rattle.rx_event.specs.declared.event.Event.{Event}
-use Rattle.rx_event.specs.declared.event.Event.TheVariants.{Open, Hub, Accept, Item, End}
-use Rattle.rx_dump.specs.Dump.{place_text, kind_text, terminal_text, event_text, next_text, events_text, dump}
+use Rattle.rx_dump.specs.Dump.{place_text, kind_text, terminal_text, event_text, events_text, dump}
 use Rattle.rx_dump.specs.Claims.Dumps.{kind_parts, place_parts, terminal_parts, event_data, history_data}
 
 kind_compact : (kind : Kind) → items_text true (items_of (kind_parts kind)) ≡ codes "," ++ kind_text kind ++ codes "]"

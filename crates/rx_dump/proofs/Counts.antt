@@ -1,8 +1,5 @@
 -- How many items a list of values is.
-use Rattle.std.proofs.Common.{◌≡◌, suc, List, [], ◌∷◌, length, refl, ap}
-use Rattle.serde_json.specs.View.{items_view}
-use Rattle.serde_json.specs.declared.value.Value.{Value}
-use Rattle.rx_dump.specs.History.{count}
+use Rattle.rx_dump.proofs.Common.{◌≡◌, suc, List, [], ◌∷◌, length, refl, ap, items_view, Value, count}
 
 pub count-items_view : (values : List Value) → count (items_view values) ≡ length values
 count-items_view [] = refl

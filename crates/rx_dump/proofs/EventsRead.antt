@@ -1,12 +1,6 @@
 -- The events that were read, before those that are left of a dump.
-use Rattle.std.proofs.Common.{◌≡◌, List, [], ◌∷◌, ◌++◌, Option, Some, None, option_map, refl, ap, ◌∙◌}
-use Rattle.std.specs.Prelude.{option_and_then}
-use Rattle.json.specs.Token.{Token}
-use Rattle.json.specs.Json.{after_end_array}
-use Rattle.serde_json.specs.Data.{Data, Items, no_items, item}
-use Rattle.rx_event.specs.declared.event.Event.{Event}
-use Rattle.rx_dump.specs.History.{event_of, each_event}
-use Rattle.rx_dump.specs.Tokens.{in_dump, IsEvent, AreEvents}
+use Rattle.rx_dump.proofs.Common.{◌≡◌, List, [], ◌∷◌, ◌++◌, Option, Some, None, option_map, refl, ap, ◌∙◌, option_and_then, Token, after_end_array, Data}
+use Rattle.rx_dump.proofs.Common.{Items, no_items, item, Event, event_of, each_event, in_dump, IsEvent, AreEvents}
 use Rattle.rx_dump.proofs.Arrays.{joined, AreBefore, none_yet, one_more, all_read}
 
 abbrev first : Option Event → Option (List Event) → Option (List Event)

@@ -1,15 +1,8 @@
 -- An array from the token that opens it.
-use Rattle.std.proofs.Common.{◌≡◌, ℕ, List, [], ◌∷◌, Some, option_map, ap, ◌∙◌, arith}
-use Rattle.std.specs.Prelude.{option_and_then}
-use Rattle.json.specs.Token.{Token, begin_array}
+use Rattle.rx_dump.proofs.Common.{◌≡◌, ℕ, List, [], ◌∷◌, Some, option_map, ap, ◌∙◌, arith, option_and_then, Token, begin_array, tokens, Items, array, of_json}
+use Rattle.rx_dump.proofs.Common.{Event, event_of, history_of, in_dump, in_event, AreItems, IsEvent, AreEvents, IsTextOf}
 use Rattle.json.specs.Json.{array as json_array, parse_map, if_last, value}
-use Rattle.json.specs.Lex.{tokens}
 use Rattle.json.proofs.Grammar.{value-begin_array}
-use Rattle.serde_json.specs.Data.{Items, array}
-use Rattle.serde_json.specs.Read.{of_json}
-use Rattle.rx_event.specs.declared.event.Event.{Event}
-use Rattle.rx_dump.specs.History.{event_of, history_of}
-use Rattle.rx_dump.specs.Tokens.{in_dump, in_event, AreItems, IsEvent, AreEvents, IsTextOf}
 
 pub event_opened : (old rest new : List Token) (ds : Items) (e : Event) → old ≡ begin_array ∷ rest → AreItems in_event rest new ds
     → event_of (array ds) ≡ Some e → IsEvent old new e

@@ -1,20 +1,8 @@
 -- Each event's JSON value is read as the event.
-use Rattle.std.proofs.Common.{◌≡◌, pos, true, List, [], ◌∷◌, Some, option_map, refl, ap, map}
-use Rattle.std.specs.List.{list_all}
-use Rattle.std.proofs.lemmas.Bool.{and_parts}
-use Rattle.serde_json.specs.View.{items_of}
-use Rattle.serde_json.specs.Data.{Data, array}
-use Rattle.rx_note.specs.declared.note.Terminal.TheVariants.{Error}
-use Rattle.rx_event.specs.declared.event.Place.{Place}
-use Rattle.rx_event.specs.declared.event.Place.TheVariants.{Root, Source, Inner, Notifier}
-use Rattle.rx_event.specs.declared.event.Kind.{Kind}
-use Rattle.rx_event.specs.declared.event.Kind.TheVariants.{Leaf}
-use Rattle.rx_event.specs.declared.event.Mode.TheVariants.{Auto}
-use Rattle.rx_event.specs.declared.event.Event.{Event}
-use Rattle.rx_event.specs.declared.event.Event.TheVariants.{Open, Hub, Item, End}
-use Rattle.rx_dump.specs.History.{has_count, word_at, number_at, value_at, only_number, plain_kind, kind_from, place_below}
-use Rattle.rx_dump.specs.History.{open_below, open_by, open_of, terminal_by, end_of, mode_by, hub_of, accept_of, item_of, event_by, event_of, each_event}
-use Rattle.rx_dump.specs.History.{history_of}
+use Rattle.rx_dump.proofs.Common.{◌≡◌, pos, true, List, [], ◌∷◌, Some, option_map, refl, ap, map, list_all, and_parts, items_of, Data, array, Error, Place}
+use Rattle.rx_dump.proofs.Common.{Root, Source, Inner, Notifier, Kind, Leaf, Auto, Event, Open, Hub, Item, End, has_count, event_of, each_event, history_of}
+use Rattle.rx_dump.specs.History.{word_at, number_at, value_at, only_number, plain_kind, kind_from, place_below, open_below, open_by, open_of, terminal_by}
+use Rattle.rx_dump.specs.History.{end_of, mode_by, hub_of, accept_of, item_of, event_by}
 use Rattle.rx_dump.specs.Claims.Dumps.{kind_parts, event_data, history_data, is_in_range}
 
 kind_after_two : (a b : Data) (kind : Kind) → kind_from 2 (array (items_of (a ∷ b ∷ kind_parts kind))) ≡ Some kind

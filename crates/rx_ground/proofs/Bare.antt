@@ -1,20 +1,7 @@
 -- Where an item goes is told by what stands at the slots of a tree, whatever room there is.
-use Rattle.std.proofs.Common.{◌≡◌, ℕ, zero, suc, ◌++◌, List, [], ◌∷◌, Option, Some, None, refl, ap, ◌∙◌}
-use Rattle.std.specs.List.{filter_map}
-use Rattle.std.specs.Option.{option_and_then}
-use Rattle.rx_event.specs.declared.event.Place.TheVariants.{Source}
-use Rattle.rx_event.specs.declared.event.Event.{Event}
-use Rattle.rx_event.specs.declared.event.Event.TheVariants.{Open}
-use Rattle.rx_event.specs.Climb.{most_visits}
-use Rattle.rx_slots.specs.declared.Key.{Key}
-use Rattle.rx_slots.specs.Slots.{Slots}
-use Rattle.rx_tree.specs.declared.node.Node.{Node}
-use Rattle.rx_hub.specs.declared.stop.Stop.{Stop}
-use Rattle.rx_hub.specs.declared.stop.Stop.TheVariants.{Delivery, Projection, Firing, Connection}
-use Rattle.rx_hub.specs.Way.{made_of, above_of, stop_made, stop_of}
-use Rattle.rx_hub.specs.Hubs.{Hub}
-use Rattle.rx_hub.specs.Walk.{onward_by, onward_over, visited_over, arrival, arrival_at, climb_over, stops_over}
-use Rattle.rx_ground.specs.Passing.{nodes_at}
+use Rattle.rx_ground.proofs.Common.{◌≡◌, ℕ, zero, suc, ◌++◌, List, [], ◌∷◌, Option, Some, None, refl, ap, ◌∙◌, filter_map, option_and_then, Source, Event}
+use Rattle.rx_ground.proofs.Common.{Open, most_visits, Key, Slots, Node, Stop, Delivery, Projection, Firing, Connection, made_of, above_of, stop_made, Hub}
+use Rattle.rx_ground.proofs.Common.{stop_of, onward_by, onward_over, visited_over, arrival, arrival_at, climb_over, stops_over, nodes_at}
 
 module _ (nodes : Slots Node) (hubs : List Hub) where
   stop_made_bare : (key : Key) (above : Option Key) (made : Event) → stop_made (nodes_at nodes.entries) key above made ≡ stop_made nodes key above made

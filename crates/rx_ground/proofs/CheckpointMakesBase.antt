@@ -1,25 +1,12 @@
 -- What a checkpoint asks for, and what it makes of a ground.
-use Rattle.std.proofs.Common.{◌≡◌, ℕ, ◌≤◌, List, [], None, map, length, subst, ◌∙◌, arith}
-use Rattle.std.proofs.lemmas.Bool.{ltb-false}
-use Rattle.rx_resource.specs.declared.Resource.{Ghosts}
-use Rattle.rx_event.specs.declared.event.Event.{Event}
-use Rattle.rx_event.specs.declared.refusal.Refusal.TheVariants.{MailLeft, TooMany}
+use Rattle.rx_ground.proofs.Common.{◌≡◌, ℕ, ◌≤◌, List, [], None, map, length, subst, ◌∙◌, arith, ltb-false, Ghosts, Event, MailLeft, TooMany, base_of, notes}
+use Rattle.rx_ground.proofs.Common.{IsSettled, first_cause, debt, item_count, accepted_count, taken_count, checkpoint_causes, IsByNumber, kept_by, AreApart}
+use Rattle.rx_ground.proofs.Common.{node_as_kept, resource_as_kept, lease_as_kept, without_end, Ground, IsStanding, IsTied, IsCheckpoint}
 use Rattle.rx_event.specs.Kept.{Kept as Base}
-use Rattle.rx_event.specs.Bases.{base_of}
-use Rattle.rx_event.specs.Forced.{IsSettled}
-use Rattle.rx_event.specs.Notes.{notes}
-use Rattle.rx_event.specs.Refusals.{first_cause}
-use Rattle.rx_event.specs.Totals.{debt, item_count, accepted_count, taken_count}
-use Rattle.rx_event.specs.Causes.{checkpoint_causes}
 use Rattle.rx_register.specs.State.{State as Register, Rebases, IsPromised as IsRegisterPromised}
 use Rattle.rx_register.proofs.Laws.NoCause.{no_cause}
-use Rattle.rx_tree.specs.Bases.{IsByNumber, kept_by, node_as_kept, resource_as_kept}
-use Rattle.rx_tree.specs.Tree.{AreApart, IsPromised as IsTreePromised}
-use Rattle.rx_ground.specs.Leases.{lease_as_kept}
-use Rattle.rx_hub.specs.Hubs.{IsPromised as IsHubsPromised, hub_as_kept, without_end}
-use Rattle.rx_ground.specs.Shown.{Ground}
-use Rattle.rx_ground.specs.Ties.{IsStanding, IsTied}
-use Rattle.rx_ground.specs.Checkpoints.{IsCheckpoint}
+use Rattle.rx_tree.specs.Tree.{IsPromised as IsTreePromised}
+use Rattle.rx_hub.specs.Hubs.{IsPromised as IsHubsPromised, hub_as_kept}
 use Rattle.rx_ground.proofs.KeptRecords.{hubs_kept, nodes_kept, resources_kept, leases_kept}
 use Rattle.rx_ground.proofs.StandsAfterCheckpoint.{standing_still}
 

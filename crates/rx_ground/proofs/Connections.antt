@@ -1,30 +1,12 @@
 -- The open connections of hubs: a hub's own, and which hubs that a caller connects have one.
-use Rattle.std.proofs.Common.{◌≡◌, ℕ, ◌<◌, ◌≤◌, Bool, true, false, List, [], ◌∷◌, length, Option, Some, None}
-use Rattle.std.proofs.Common.{is_some, IsSome, IfSome, option_map, slice_get, refl, sym, ap, subst, ◌∙◌, inl, inr, arith}
-use Rattle.std.proofs.Math.Bool.{◌&&◌}
+use Rattle.rx_ground.proofs.Common.{◌≡◌, ℕ, ◌<◌, ◌≤◌, Bool, true, false, List, [], ◌∷◌, length, Option, Some, None, is_some, IsSome, IfSome, option_map, refl}
+use Rattle.rx_ground.proofs.Common.{slice_get, sym, ap, subst, ◌∙◌, inl, inr, arith, ◌&&◌, option_and_then, option_map_or, option_to_list, false≢true, Kept}
+use Rattle.rx_ground.proofs.Common.{both_ways, and_parts, cases_lt, false_from_ne_true, none-some, same_Some, slice_get_within, Ghosts, Event, makes_hub, at}
+use Rattle.rx_ground.proofs.Common.{is_manual_hub, IsLawful, places, open_connections, first_connection, Key, Slots, find, Node, Tree, Published, Hub, Hubs}
+use Rattle.rx_ground.proofs.Common.{find_hub, HasHub, AreHubsOf, numbers, found_hub, has_connection, AreTied, is_connected_manual}
 use Rattle.std.specs.List.{find as find_number}
-use Rattle.std.specs.Option.{option_and_then, option_map_or, option_to_list}
-use Rattle.std.proofs.lemmas.Bool.{false≢true, both_ways, and_parts, cases_lt, false_from_ne_true}
-use Rattle.std.proofs.lemmas.Option.{none-some, same_Some, slice_get_within}
-use Rattle.rx_event.specs.Kept.{Kept}
-use Rattle.rx_resource.specs.declared.Resource.{Ghosts}
-use Rattle.rx_event.specs.declared.event.Event.{Event}
 use Rattle.rx_event.specs.declared.event.Event.TheVariants.{Hub as Publish}
-use Rattle.rx_event.specs.Events.{makes_hub, is_manual_hub}
-use Rattle.rx_event.specs.Lawful.{IsLawful}
-use Rattle.rx_event.specs.Tree.{at, places, open_connections}
-use Rattle.rx_event.proofs.Laws.LetGo.{first_connection}
-use Rattle.rx_slots.specs.declared.Key.{Key}
-use Rattle.rx_slots.specs.Slots.{Slots, find}
-use Rattle.rx_tree.specs.declared.node.Node.{Node}
-use Rattle.rx_tree.specs.Tree.{Tree}
-use Rattle.rx_hub.specs.declared.hub.Published.{Published}
-use Rattle.rx_hub.specs.Hubs.{Hub, Hubs, IsPromised, find_hub, published_of}
-use Rattle.rx_hub.specs.Records.{HasHub, AreHubsOf, numbers}
-use Rattle.rx_hub.proofs.Laws.Walks.{found_hub}
-use Rattle.rx_event.specs.Causes.{has_connection}
-use Rattle.rx_ground.specs.Ties.{AreTied}
-use Rattle.rx_ground.specs.Told.{is_connected_manual}
+use Rattle.rx_hub.specs.Hubs.{IsPromised, published_of}
 use Rattle.rx_ground.proofs.HubsBesideTree.{connected_hub}
 use Rattle.rx_ground.proofs.HubsAfterEvent.{hub_is_older, found_made, connection_kept}
 use Rattle.rx_ground.proofs.Laws.Ranges.{find_first, find_nothing}

@@ -1,23 +1,10 @@
 -- What is counted of an item on its way.
-use Rattle.std.proofs.Common.{◌≡◌, ℕ, zero, suc, ◌+◌, ◌++◌, ◌<◌, ◌≤◌, true, false, nat_lt, List, [], ◌∷◌, length, Option, Some, None, Bool}
-use Rattle.std.proofs.Common.{IfSome, refl, sym, ap, subst, ◌∙◌, arith}
-use Rattle.std.specs.Prelude.{if◌then◌else◌}
-use Rattle.std.proofs.Math.Bool.{not}
-use Rattle.std.specs.List.{filter_map, cons_option}
-use Rattle.std.proofs.lemmas.Bool.{lt-ltb, le-ltb, false≢true}
-use Rattle.rx_event.specs.Climb.{most_visits}
-use Rattle.rx_slots.specs.declared.Key.{Key}
-use Rattle.rx_slots.specs.Slots.{Slots}
-use Rattle.rx_tree.specs.declared.node.Node.{Node}
-use Rattle.rx_hub.specs.declared.stop.Reached.{Reached}
-use Rattle.rx_hub.specs.declared.stop.Stop.{Stop}
-use Rattle.rx_hub.specs.declared.stop.Stop.TheVariants.{Delivery, Projection, Firing, Connection}
+use Rattle.rx_ground.proofs.Common.{◌≡◌, ℕ, zero, suc, ◌+◌, ◌++◌, ◌<◌, ◌≤◌, true, false, nat_lt, List, [], ◌∷◌, length, Option, Some, None, Bool, IfSome, sym}
+use Rattle.rx_ground.proofs.Common.{refl, ap, subst, ◌∙◌, arith, if◌then◌else◌, not, filter_map, cons_option, lt-ltb, le-ltb, false≢true, most_visits, Key}
+use Rattle.rx_ground.proofs.Common.{Slots, Node, Reached, Stop, Delivery, Projection, Firing, Connection, Hub, Route, IsUnderWay, Arrives, stops_left, sum_at}
+use Rattle.rx_ground.proofs.Common.{all_visits, visited_over, onward_over, climb_over, stops_over, arrival_at, IsArrived, IsMeasured, owed_at, told_at}
 use Rattle.rx_hub.specs.Way.{way, end_of}
-use Rattle.rx_hub.specs.Hubs.{Hub}
-use Rattle.rx_hub.specs.Route.{Route, IsUnderWay, Arrives, stops_left, all_visits}
-use Rattle.rx_hub.specs.Walk.{visited_over, onward_over, climb_over, stops_over, arrival_at}
 use Rattle.rx_hub.proofs.Laws.StopInTree.{climb_over-arrived, stops_over-arrived}
-use Rattle.rx_ground.specs.Passing.{IsArrived, IsMeasured, owed_at, told_at, sum_at}
 
 -- the limit ---------------------------------------------------------------------------------------
 

@@ -1,12 +1,6 @@
 -- The lists of what stands in slots.
-use Rattle.std.proofs.Common.{◌≡◌, ℕ, zero, suc, ◌+◌, Bool, true, false, cond, List, [], ◌∷◌, get_or}
-use Rattle.std.proofs.Common.{Option, Some, None, refl, sym, ap, subst, ◌∙◌, inl, inr, ◌⊎◌, arith}
-use Rattle.std.specs.List.{Contains, filter}
-use Rattle.std.proofs.lemmas.Option.{none-some, same_Some}
-use Rattle.rx_slots.specs.declared.Entry.{Entry}
-use Rattle.rx_slots.specs.declared.Key.{Key}
-use Rattle.rx_slots.specs.Slots.{Slots, entry_of, find}
-use Rattle.rx_tree.proofs.Laws.FoundAfterWrite.{entry_found, found_entry}
+use Rattle.rx_ground.proofs.Common.{◌≡◌, ℕ, zero, suc, ◌+◌, Bool, true, false, cond, List, [], ◌∷◌, get_or, Option, Some, None, refl, sym, ap, subst, ◌∙◌}
+use Rattle.rx_ground.proofs.Common.{inl, inr, ◌⊎◌, arith, Contains, filter, none-some, same_Some, Entry, Key, Slots, entry_of, find, entry_found, found_entry}
 use Rattle.rx_ground.specs.Shown.{Kept, kept_from, kept_in}
 use Rattle.rx_ground.proofs.Laws.Members.{Contains-head, Contains-later, Contains-none, Contains-cases}
 

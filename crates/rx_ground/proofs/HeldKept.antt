@@ -1,18 +1,8 @@
 -- Which resources' keys stay: those held after one event were held before it.
-use Rattle.std.proofs.Common.{◌≡◌, ◌≢◌, ℕ, zero, suc, ◌-◌, ◌<◌, ◌==◌, Bool, true, false, Option, Some, None, is_some, option_map, refl, sym, ap, ◌∙◌}
-use Rattle.std.proofs.Common.{inl, inr, ◌⊎◌, arith}
-use Rattle.std.proofs.Math.Bool.{not, ◌&&◌, ◌||◌}
-use Rattle.std.specs.Option.{option_map_or}
-use Rattle.std.proofs.lemmas.Bool.{false≢true, ne_eqb}
-use Rattle.rx_slots.specs.declared.Key.{Key}
-use Rattle.rx_slots.specs.Slots.{Slots, find, KeepsOthers}
-use Rattle.rx_tree.specs.declared.node.Node.{Node}
-use Rattle.rx_tree.specs.declared.node.Stowed.{Stowed}
-use Rattle.rx_tree.specs.declared.node.ResKey.{ResKey}
-use Rattle.rx_tree.specs.Tree.{Tree, Rewrites}
-use Rattle.rx_tree.specs.Resources.{store_key, is_owned, is_owned_at, is_lent, is_held, is_held_at, removed, one_lease_less}
-use Rattle.rx_tree.proofs.Laws.Keys.{cases_key}
-use Rattle.rx_ground.specs.Ties.{KeepsHeld}
+use Rattle.rx_ground.proofs.Common.{◌≡◌, ◌≢◌, ℕ, zero, suc, ◌-◌, ◌<◌, ◌==◌, Bool, true, false, Option, Some, None, is_some, option_map, refl, sym, ap, ◌∙◌}
+use Rattle.rx_ground.proofs.Common.{inl, inr, ◌⊎◌, arith, not, ◌&&◌, ◌||◌, option_map_or, false≢true, ne_eqb, Key, Slots, find, KeepsOthers, Node, Stowed}
+use Rattle.rx_ground.proofs.Common.{ResKey, Tree, Rewrites, store_key, is_owned, is_owned_at, is_lent, is_held, is_held_at, removed, one_lease_less}
+use Rattle.rx_ground.proofs.Common.{cases_key, KeepsHeld}
 
 module _ {T : Type 0} (old new : Tree T) (number : ℕ) (nodes : new.nodes ≡ old.nodes) (k : Key) (others : KeepsOthers old.resources new.resources k) where
   -- where only one key's resource changed, it is enough to know of that

@@ -1,41 +1,16 @@
 -- The hubs of a history, before and after an event that is written.
-use Rattle.std.proofs.Common.{◌≡◌, ℕ, ◌+◌, ◌<◌, Bool, true, false, List, [], ◌∷◌, ◌++◌, map, length, Option, Some, None}
-use Rattle.std.proofs.Common.{◌≢◌, is_some, nat_lt, IsTrue, IsSome, IfSome, IfNone, option_map, slice_get, refl, sym, ap, subst, ◌∙◌, inl, inr, ◌⊎◌, arith}
-use Rattle.std.specs.Option.{option_map_or, option_to_list}
-use Rattle.std.specs.List.{AllByRecursion, AllPairs, Contains}
-use Rattle.std.proofs.lemmas.Bool.{false≢true, lt-ltb, ltb-true, ltb_from_iff}
-use Rattle.std.proofs.lemmas.List.{length-map}
-use Rattle.std.proofs.lemmas.List.Sums.{length-filter}
-use Rattle.std.proofs.lemmas.Option.{slice_get_within, slice_get-get_or, get_or_from_slice_get}
-use Rattle.rx_event.specs.Kept.{Kept}
-use Rattle.rx_resource.specs.declared.Resource.{Ghosts}
-use Rattle.rx_event.specs.declared.event.Mode.{Mode}
-use Rattle.rx_event.specs.declared.event.Event.{Event}
-use Rattle.rx_event.specs.declared.event.Event.TheVariants.{Hub as Publish, Connect}
-use Rattle.rx_event.specs.declared.marks.Marks.{Marks}
-use Rattle.rx_event.specs.Events.{makes_hub, is_auto_hub}
+use Rattle.rx_ground.proofs.Common.{◌≡◌, ℕ, ◌+◌, ◌<◌, Bool, true, false, List, [], ◌∷◌, ◌++◌, map, length, Option, Some, None, ◌≢◌, is_some, nat_lt, IsTrue}
+use Rattle.rx_ground.proofs.Common.{IsSome, IfSome, IfNone, option_map, slice_get, refl, sym, ap, subst, ◌∙◌, inl, inr, ◌⊎◌, arith, option_map_or, AllPairs}
+use Rattle.rx_ground.proofs.Common.{option_to_list, AllByRecursion, Contains, false≢true, lt-ltb, ltb-true, ltb_from_iff, length-map, length-filter, Kept, at}
+use Rattle.rx_ground.proofs.Common.{slice_get_within, slice_get-get_or, get_or_from_slice_get, Ghosts, Mode, Event, Connect, Marks, makes_hub, is_auto_hub}
+use Rattle.rx_ground.proofs.Common.{MayFollow, IsLawful, places, shuts_none, at_within, Key, Slots, find, Node, Tree, LastEnd, Published, joins_hubs, Hub}
+use Rattle.rx_ground.proofs.Common.{hubs_after, without_gone, Hubs, find_hub, at_hub, connected, new_hub, IsHubOf, AreHubsOf, numbers, hubs_follow, hubs_stay}
+use Rattle.rx_ground.proofs.Common.{pushed_from, closes_none, hubs_published, hubs_connected, found_hub, has_connection, State, Writes, IsHubTold, IsTied}
+use Rattle.rx_ground.proofs.Common.{AreTied, AreJoined, KeepsNodes, Remarks}
+use Rattle.rx_event.specs.declared.event.Event.TheVariants.{Hub as Publish}
 use Rattle.rx_event.specs.Allowed.{most_hubs}
-use Rattle.rx_event.specs.Lawful.{MayFollow, IsLawful}
-use Rattle.rx_event.specs.Tree.{at, places, hubs as hubs_in}
-use Rattle.rx_event.proofs.Laws.Openness.{shuts_none}
-use Rattle.rx_event.proofs.Laws.Places.{at_within}
-use Rattle.rx_slots.specs.declared.Key.{Key}
-use Rattle.rx_slots.specs.Slots.{Slots, find}
-use Rattle.rx_tree.specs.declared.node.Node.{Node}
-use Rattle.rx_tree.specs.Tree.{Tree}
-use Rattle.rx_hub.specs.declared.hub.LastEnd.{LastEnd}
-use Rattle.rx_hub.specs.declared.hub.Published.{Published}
-use Rattle.rx_hub.specs.After.{joins_hubs, hubs_after}
-use Rattle.rx_hub.specs.Closing.{without_gone}
-use Rattle.rx_hub.specs.Hubs.{Hub, Hubs, IsPromised, find_hub, at_hub, connected, new_hub, published_of}
-use Rattle.rx_hub.specs.Records.{IsHubOf, AreHubsOf, numbers}
-use Rattle.rx_hub.proofs.Laws.AfterAll.{hubs_follow, pushed_from}
-use Rattle.rx_hub.proofs.Laws.AfterCases.{closes_none, hubs_stay, hubs_published, hubs_connected}
-use Rattle.rx_hub.proofs.Laws.Walks.{found_hub}
-use Rattle.rx_event.specs.Causes.{has_connection}
-use Rattle.rx_register.specs.State.{State, Writes}
-use Rattle.rx_ground.specs.Told.{IsHubTold}
-use Rattle.rx_ground.specs.Ties.{IsTied, AreTied, AreJoined, KeepsNodes, Remarks}
+use Rattle.rx_event.specs.Tree.{hubs as hubs_in}
+use Rattle.rx_hub.specs.Hubs.{IsPromised, published_of}
 use Rattle.rx_ground.proofs.HubsBesideTree.{joined_without, joined_still, joined_found, joined_connected, found_named}
 use Rattle.rx_ground.proofs.StaysTied.{IsOpenedIn, found_still, still_there}
 use Rattle.rx_ground.proofs.Laws.Members.{Contains-map, Contains-from_map, All-members, AllPairs-map}

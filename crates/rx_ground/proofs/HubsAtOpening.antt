@@ -1,28 +1,8 @@
 -- What makes way for a node that is opened leaves hubs that the node can join, and what is then tied.
-use Rattle.std.proofs.Common.{◌≡◌, ℕ, ◌+◌, Bool, true, false, List, [], ◌∷◌, ◌++◌, length, Option, Some, None, IfSome, sym, ap, subst, ◌∙◌, inl, inr, ◌⊎◌}
-use Rattle.std.specs.Prelude.{IfNone}
-use Rattle.std.proofs.lemmas.Bool.{cases_Bool}
-use Rattle.rx_event.specs.Kept.{Kept}
-use Rattle.rx_resource.specs.declared.Resource.{Ghosts}
-use Rattle.rx_event.specs.declared.event.Place.{Place}
-use Rattle.rx_event.specs.declared.event.Kind.{Kind}
-use Rattle.rx_event.specs.declared.event.Kind.TheVariants.{Sub}
-use Rattle.rx_event.specs.declared.event.Event.{Event}
-use Rattle.rx_event.specs.declared.event.Event.TheVariants.{Open}
-use Rattle.rx_event.specs.Lawful.{MayFollow}
-use Rattle.rx_event.proofs.Laws.Openness.{is_open_within}
-use Rattle.rx_slots.specs.declared.Key.{Key}
-use Rattle.rx_slots.specs.Slots.{find}
-use Rattle.rx_tree.specs.Tree.{Tree, AreApart}
-use Rattle.rx_tree.proofs.Laws.Keys.{some_of}
-use Rattle.rx_hub.specs.After.{hubs_after, with_made, next_key, is_inside}
-use Rattle.rx_hub.specs.Hubs.{Hub, Hubs, AreBelow, find_hub}
-use Rattle.rx_hub.specs.Records.{AreHubsOf}
-use Rattle.rx_hub.proofs.Laws.AfterAll.{hubs_follow}
-use Rattle.rx_hub.proofs.Laws.AfterCases.{hubs_with_made, hubs_exchanged}
-use Rattle.rx_hub.proofs.Laws.AfterReady.{ready_to_subscribe, ready_to_exchange}
-use Rattle.rx_ground.specs.Inners.{LeavesHubs}
-use Rattle.rx_ground.specs.Ties.{AreTied, AreJoined, Remarks, opened_marks}
+use Rattle.rx_ground.proofs.Common.{◌≡◌, ℕ, ◌+◌, Bool, true, false, List, [], ◌∷◌, ◌++◌, length, Option, Some, None, IfSome, sym, ap, subst, ◌∙◌, inl, inr}
+use Rattle.rx_ground.proofs.Common.{◌⊎◌, IfNone, cases_Bool, Kept, Ghosts, Place, Kind, Sub, Event, Open, MayFollow, is_open_within, Key, find, Tree, some_of}
+use Rattle.rx_ground.proofs.Common.{AreApart, hubs_after, with_made, next_key, is_inside, Hub, Hubs, AreBelow, find_hub, AreHubsOf, hubs_follow, LeavesHubs}
+use Rattle.rx_ground.proofs.Common.{hubs_with_made, hubs_exchanged, ready_to_subscribe, ready_to_exchange, AreTied, AreJoined, Remarks, opened_marks}
 use Rattle.rx_ground.proofs.HubsBesideTree.{as_many, joined_cut, joined_found, joined_opened}
 use Rattle.rx_ground.proofs.ReadyToOpen.{IsReadyToOpen, IsOpenedBelow, none_closed, opened_found, opened_new, opened_tied}
 

@@ -1,45 +1,17 @@
 -- The hubs beside a tree: what their keys find there, and what a closing takes away from them.
-use Rattle.std.proofs.Common.{◌≡◌, ℕ, zero, suc, ◌<◌, ◌==◌, cond, Bool, true, false, List, [], ◌∷◌, ◌++◌, map, length, slice_get, filter, drop, take}
-use Rattle.std.proofs.Common.{inl, inr, ◌⊎◌, Option, Some, None, is_some, IsSome, IfSome, refl, sym, ap, subst, ◌∙◌, arith, take-append-drop, zero-add}
-use Rattle.std.proofs.Math.Bool.{not, ◌&&◌, ◌||◌}
+use Rattle.rx_ground.proofs.Common.{◌≡◌, ℕ, zero, suc, ◌<◌, ◌==◌, cond, Bool, true, false, List, [], ◌∷◌, ◌++◌, map, length, slice_get, drop, take, inl, inr}
+use Rattle.rx_ground.proofs.Common.{◌⊎◌, Option, Some, None, is_some, IsSome, IfSome, refl, sym, ap, subst, ◌∙◌, arith, take-append-drop, zero-add, not, ◌&&◌}
+use Rattle.rx_ground.proofs.Common.{◌||◌, AllByRecursion, Contains, list_any, option_map_or, option_to_list, false≢true, and_parts, and_from, eq-eqb, Kept}
+use Rattle.rx_ground.proofs.Common.{eqb-true, not-true, length-map, length-range_with_len, none-some, same_Some, slice_get_within, get_or_from_slice_get, Sub}
+use Rattle.rx_ground.proofs.Common.{Ghosts, Event, Open, Connect, Place, Kind, makes_hub, hub_connected, hub_subscribed, is_connect_of, is_subscriber_of, at}
+use Rattle.rx_ground.proofs.Common.{is_open, places, IsLawful, hub_before, AllByRecursion-both, is_open_within, at-append, at_within, Key, Slots, find, Node}
+use Rattle.rx_ground.proofs.Common.{entry_at, with_number, Tree, IsSound, is_key, is_on, is_below, Closed, IsSubtree, key_is, some_of, LastEnd, AgreeAt, Hub}
+use Rattle.rx_ground.proofs.Common.{is_inside, with_made, is_closed, remaining, without_gone, after_closing, IsKnown, AreClosing, Hubs, IsFree, find_hub}
+use Rattle.rx_ground.proofs.Common.{at_hub, subscribed, connected, disconnected, IsHubOf, HasHub, AreHubsOf, mapped_from, IsOpenAt, subscribers_open, AreTied}
+use Rattle.rx_ground.proofs.Common.{tests_agree, own_connection, named_connection, IsRecordOf, AreJoined, Cuts}
+use Rattle.std.proofs.Common.{filter}
 use Rattle.std.specs.Cmp.{both_ways as same_test}
-use Rattle.std.specs.List.{AllByRecursion, Contains, list_any}
-use Rattle.std.specs.Option.{option_map_or, option_to_list}
-use Rattle.std.proofs.lemmas.Bool.{false≢true, and_parts, and_from, eq-eqb, eqb-true, not-true}
-use Rattle.std.proofs.lemmas.List.{length-map}
-use Rattle.std.proofs.lemmas.List.FromFn.{get_or-range_with_len, length-range_with_len}
-use Rattle.std.proofs.lemmas.Option.{none-some, same_Some, slice_get_within, get_or_from_slice_get}
-use Rattle.rx_event.specs.Kept.{Kept}
-use Rattle.rx_resource.specs.declared.Resource.{Ghosts}
-use Rattle.rx_event.specs.declared.event.Event.{Event}
-use Rattle.rx_event.specs.declared.event.Event.TheVariants.{Open, Connect}
-use Rattle.rx_event.specs.declared.event.Place.{Place}
-use Rattle.rx_event.specs.declared.event.Kind.{Kind}
-use Rattle.rx_event.specs.declared.event.Kind.TheVariants.{Sub}
-use Rattle.rx_event.specs.Events.{makes_hub, hub_connected, hub_subscribed, is_connect_of, is_subscriber_of}
-use Rattle.rx_event.specs.Tree.{at, is_open, places}
-use Rattle.rx_event.specs.Lawful.{IsLawful}
-use Rattle.rx_event.proofs.Laws.Hubs.{hub_before}
-use Rattle.rx_event.proofs.Laws.Lists.{AllByRecursion-both}
-use Rattle.rx_event.proofs.Laws.Openness.{is_open_within}
-use Rattle.rx_event.proofs.Laws.Places.{at-append, at_within}
-use Rattle.rx_slots.specs.declared.Key.{Key}
-use Rattle.rx_slots.specs.Slots.{Slots, find, entry_at, with_number}
-use Rattle.rx_tree.specs.declared.node.Node.{Node}
-use Rattle.rx_tree.specs.Tree.{Tree, IsSound, is_key, is_on}
-use Rattle.rx_tree.specs.Below.{is_below}
-use Rattle.rx_tree.specs.Closing.{Closed, IsSubtree}
-use Rattle.rx_tree.proofs.Laws.Keys.{key_is, some_of}
-use Rattle.rx_hub.specs.declared.hub.LastEnd.{LastEnd}
-use Rattle.rx_hub.specs.After.{AgreeAt, is_inside, with_made}
-use Rattle.rx_hub.specs.Closing.{is_closed, remaining, without_gone, after_closing, IsKnown, AreClosing}
-use Rattle.rx_hub.specs.Hubs.{Hub, Hubs, IsFree, find_hub, at_hub, subscribed, connected, disconnected}
-use Rattle.rx_hub.specs.Records.{IsHubOf, HasHub, AreHubsOf}
-use Rattle.rx_hub.proofs.Laws.AfterAll.{mapped_from}
-use Rattle.rx_hub.proofs.Laws.AfterCases.{IsOpenAt, subscribers_open, tests_agree}
-use Rattle.rx_hub.proofs.Laws.AfterLeft.{own_connection, named_connection}
-use Rattle.rx_hub.specs.TreeRecords.{IsRecordOf}
-use Rattle.rx_ground.specs.Ties.{AreTied, AreJoined, Cuts}
+use Rattle.std.proofs.lemmas.List.FromFn.{get_or-range_with_len}
 use Rattle.rx_ground.proofs.Laws.Members.{Contains-head, Contains-later, Contains-none, Contains-cases, Contains-from_map}
 use Rattle.rx_ground.proofs.FoundIsListed.{filter_has}
 use Rattle.rx_ground.proofs.Records.{below_is_within}

@@ -1,31 +1,10 @@
 -- The children of a Switch: its source, and one inner.
-use Rattle.std.specs.Prelude.{IfNone}
-use Rattle.std.proofs.Common.{◌≡◌, ℕ, ◌+◌, true, false, List, Option, Some, None, is_some, IsSome, IfSome}
-use Rattle.std.proofs.Common.{option_map, slice_get, refl, sym, ap, ◌∙◌, inl, inr, ◌⊎◌, arith}
-use Rattle.std.specs.Option.{option_map_or}
-use Rattle.std.proofs.lemmas.Bool.{false≢true, both_ways, eq-eqb, false_from_ne_true}
-use Rattle.std.proofs.lemmas.Option.{none-some, same_Some}
-use Rattle.rx_event.specs.Kept.{Kept}
-use Rattle.rx_event.specs.declared.event.Place.{Place}
-use Rattle.rx_event.specs.declared.event.Place.TheVariants.{Source, Inner, Notifier}
-use Rattle.rx_event.specs.declared.event.Kind.TheVariants.{Switch}
-use Rattle.rx_event.specs.declared.event.Event.{Event}
-use Rattle.rx_event.specs.declared.event.Event.TheVariants.{Open}
-use Rattle.rx_event.specs.Events.{is_switch, is_until, is_source_of, is_inner_of, inner_named, named_by, parent_named}
-use Rattle.rx_event.specs.Tree.{at, is_open, parent}
-use Rattle.rx_event.specs.Lawful.{IsLawful}
-use Rattle.rx_event.proofs.Laws.Sources.{one_source}
-use Rattle.rx_event.proofs.Laws.Parents.{parent_within, parent_name}
-use Rattle.rx_event.proofs.Laws.Stands.{event_at, notifier_stands}
+use Rattle.rx_ground.proofs.Common.{IfNone, ◌≡◌, ℕ, ◌+◌, true, false, List, Option, Some, None, is_some, IsSome, IfSome, option_map, slice_get, refl, sym, ap}
+use Rattle.rx_ground.proofs.Common.{◌∙◌, inl, inr, ◌⊎◌, arith, option_map_or, false≢true, both_ways, eq-eqb, false_from_ne_true, none-some, same_Some, Kept}
+use Rattle.rx_ground.proofs.Common.{Place, Source, Inner, Notifier, Switch, Event, Open, is_switch, is_until, is_source_of, is_inner_of, inner_named, at, Key}
+use Rattle.rx_ground.proofs.Common.{named_by, parent_named, is_open, parent, IsLawful, one_source, parent_within, parent_name, event_at, notifier_stands}
+use Rattle.rx_ground.proofs.Common.{Slots, find, Node, IsChild, IsFirst, HasNone, some_of, child_found, AreRecords, IsInner, HasNoInner, ReplacesNone}
 use Rattle.rx_event.proofs.Laws.MarksInner.{switched_parent}
-use Rattle.rx_slots.specs.declared.Key.{Key}
-use Rattle.rx_slots.specs.Slots.{Slots, find}
-use Rattle.rx_tree.specs.declared.node.Node.{Node}
-use Rattle.rx_tree.specs.Tree.{IsChild, IsFirst, HasNone}
-use Rattle.rx_tree.proofs.Laws.Keys.{some_of}
-use Rattle.rx_tree.proofs.Laws.Parents.{child_found}
-use Rattle.rx_ground.specs.Ties.{AreRecords}
-use Rattle.rx_ground.specs.Inners.{IsInner, HasNoInner, ReplacesNone}
 use Rattle.rx_ground.proofs.Records.{parent_in_tree}
 
 -- children ----------------------------------------------------------------------------------------

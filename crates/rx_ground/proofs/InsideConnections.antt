@@ -1,23 +1,8 @@
 -- Which connections a node stands inside of, by its record and those above it.
-use Rattle.std.proofs.Common.{◌≡◌, ℕ, suc, ◌<◌, true, false, List, [], Option, Some, None, is_some, option_map, refl, sym, ap, subst, ◌∙◌, arith}
-use Rattle.std.proofs.Math.Bool.{◌||◌}
-use Rattle.std.specs.List.{list_any}
-use Rattle.std.specs.Option.{option_and_then, option_map_or}
-use Rattle.rx_event.specs.Kept.{Kept}
-use Rattle.rx_resource.specs.declared.Resource.{Ghosts}
-use Rattle.rx_event.specs.declared.event.Event.{Event}
-use Rattle.rx_event.specs.Events.{parent_named}
-use Rattle.rx_event.specs.Tree.{at, parent, if_less, ancestors}
-use Rattle.rx_event.proofs.Laws.Parents.{ancestors_step, parent-lt}
-use Rattle.rx_slots.specs.declared.Key.{Key}
-use Rattle.rx_slots.specs.Slots.{Slots, find}
-use Rattle.rx_tree.specs.declared.node.Node.{Node}
-use Rattle.rx_tree.specs.Tree.{Tree, IsSound, named_above, parent_number}
-use Rattle.rx_tree.proofs.Laws.Keys.{some_of}
-use Rattle.rx_tree.proofs.Laws.Parents.{named_parent}
-use Rattle.rx_event.specs.Causes.{connects_up_to}
-use Rattle.rx_ground.specs.Ties.{IsTied}
-use Rattle.rx_ground.specs.Told.{is_inside_up_to}
+use Rattle.rx_ground.proofs.Common.{◌≡◌, ℕ, suc, ◌<◌, true, false, List, [], Option, Some, None, is_some, option_map, refl, sym, ap, subst, ◌∙◌, arith, ◌||◌}
+use Rattle.rx_ground.proofs.Common.{list_any, option_and_then, option_map_or, Kept, Ghosts, Event, parent_named, at, parent, if_less, ancestors, parent-lt}
+use Rattle.rx_ground.proofs.Common.{ancestors_step, Key, Slots, find, Node, Tree, IsSound, named_above, parent_number, some_of, named_parent, connects_up_to}
+use Rattle.rx_ground.proofs.Common.{IsTied, is_inside_up_to}
 
 -- a record that is found has the key of the node that its place names
 pub parent_read : (nodes : Slots Node) (key : Key) (node : Node) → find nodes key ≡ Some node → IsSound nodes →

@@ -1,17 +1,8 @@
 -- An item that went its whole way, and its event.
-use Rattle.std.proofs.Common.{◌≡◌, ℕ, ℤ, ◌+◌, List, [], ◌∷◌, ◌++◌, length, sym, ap, subst, ◌∙◌, append-nil}
-use Rattle.std.specs.List.{filter_map}
-use Rattle.rx_resource.specs.declared.Resource.{Ghosts}
-use Rattle.rx_event.specs.declared.event.Event.{Event}
-use Rattle.rx_event.specs.declared.event.Event.TheVariants.{Item}
+use Rattle.rx_ground.proofs.Common.{◌≡◌, ℕ, ℤ, ◌+◌, List, [], ◌∷◌, ◌++◌, length, sym, ap, subst, ◌∙◌, append-nil, filter_map, Ghosts, Event, Item, told, Tree}
+use Rattle.rx_ground.proofs.Common.{MayFollow, IsLawful, Hubs, Writes, AreTied, ArePassed, IsPassing}
 use Rattle.rx_event.specs.Climb.{Stop as NumberedStop, stops}
-use Rattle.rx_event.specs.Notes.{told}
-use Rattle.rx_event.specs.Lawful.{MayFollow, IsLawful}
-use Rattle.rx_tree.specs.Tree.{Tree}
-use Rattle.rx_hub.specs.Hubs.{Hubs}
-use Rattle.rx_register.specs.State.{State as Register, Writes}
-use Rattle.rx_ground.specs.Ties.{AreTied}
-use Rattle.rx_ground.specs.Passing.{ArePassed, IsPassing}
+use Rattle.rx_register.specs.State.{State as Register}
 use Rattle.rx_ground.proofs.RecordsAfterItem.{tied_item}
 use Rattle.rx_ground.proofs.RegisterAfterWrite.{writes_told}
 

@@ -1,43 +1,17 @@
 -- What is kept of the records that are there is the base of their history.
-use Rattle.std.proofs.Common.{◌≡◌, ℕ, zero, suc, ◌+◌, ◌<◌, Bool, true, false, cond, List, [], ◌∷◌, map, length, get_or, slice_get}
-use Rattle.std.proofs.Common.{Option, Some, None, option_map, refl, sym, ap, subst, ◌∙◌, inl, inr, ◌⊎◌, arith}
-use Rattle.std.proofs.Math.Bool.{not, ◌&&◌, ◌||◌}
-use Rattle.std.specs.List.{Contains, cons_option, filter, filter_map, list_any, range_with_len}
-use Rattle.std.specs.Option.{option_map_or}
-use Rattle.std.proofs.lemmas.Bool.{false≢true}
-use Rattle.std.proofs.lemmas.Option.{same_Some, none-some}
-use Rattle.rx_resource.specs.declared.Resource.{Ghosts}
-use Rattle.rx_event.specs.declared.base.BaseNode.{BaseNode}
-use Rattle.rx_event.specs.declared.base.BaseResource.{BaseResource}
-use Rattle.rx_event.specs.declared.base.BaseState.{BaseState}
+use Rattle.rx_ground.proofs.Common.{◌≡◌, ℕ, zero, suc, ◌+◌, ◌<◌, Bool, true, false, cond, List, [], ◌∷◌, map, length, get_or, slice_get, Option, Some, None}
+use Rattle.rx_ground.proofs.Common.{option_map, refl, sym, ap, subst, ◌∙◌, inl, inr, ◌⊎◌, arith, not, ◌&&◌, ◌||◌, Contains, cons_option, filter, filter_map}
+use Rattle.rx_ground.proofs.Common.{list_any, range_with_len, option_map_or, false≢true, same_Some, none-some, Ghosts, BaseNode, BaseResource, BaseState, at}
+use Rattle.rx_ground.proofs.Common.{BaseLease, Event, Close, makes_resource, makes_hub, is_take_of, open_nodes, hubs, places, is_untaken, IsLawful, at_within}
+use Rattle.rx_ground.proofs.Common.{is_open_within, is_out_within, is_held_within, is_waiting_within, held_resource, held_not_taken, waiting_parts, Entry}
+use Rattle.rx_ground.proofs.Common.{Slots, entry_of, find, Node, ResKey, Stowed, IsByNumber, kept_by, node_as_kept, resource_as_kept, state_in, Tree, is_lent}
+use Rattle.rx_ground.proofs.Common.{AreApart, is_owned, lease_as_kept, Hub, Hubs, AreHubsOf, IsRecordOf, HasKey, IsTied, IsStored, AreLeased}
 use Rattle.rx_event.specs.declared.base.BaseState.TheVariants.{Owned, Leased, Waiting}
-use Rattle.rx_event.specs.declared.base.BaseLease.{BaseLease}
-use Rattle.rx_event.specs.declared.event.Event.{Event}
-use Rattle.rx_event.specs.declared.event.Event.TheVariants.{Close}
-use Rattle.rx_event.specs.Events.{makes_resource, makes_hub, is_take_of}
 use Rattle.rx_event.specs.Kept.{Kept as Base}
-use Rattle.rx_event.specs.Tree.{at, open_nodes, hubs, places}
 use Rattle.rx_event.specs.Resources.{is_owned as is_owned_in, is_out, is_held as is_held_in, is_waiting, is_taken}
-use Rattle.rx_event.specs.Bases.{keep_node, keep_hub, keep_resource, keep_lease, is_untaken, accept_node, accept_tag, lease_resource, mode_of}
-use Rattle.rx_event.specs.Lawful.{IsLawful}
-use Rattle.rx_event.proofs.Laws.Openness.{is_open_within}
-use Rattle.rx_event.proofs.Laws.Places.{at_within}
-use Rattle.rx_event.proofs.Laws.Leases.{is_out_within}
-use Rattle.rx_event.proofs.Laws.Resources.{is_held_within, is_waiting_within, held_resource, held_not_taken, waiting_parts}
-use Rattle.rx_slots.specs.declared.Entry.{Entry}
-use Rattle.rx_slots.specs.Slots.{Slots, entry_of, find}
-use Rattle.rx_tree.specs.declared.node.Node.{Node}
-use Rattle.rx_tree.specs.declared.node.ResKey.{ResKey}
-use Rattle.rx_tree.specs.declared.node.Stowed.{Stowed}
-use Rattle.rx_tree.specs.Bases.{IsByNumber, kept_by, node_as_kept, resource_as_kept, state_in}
-use Rattle.rx_tree.specs.Tree.{Tree, AreApart}
-use Rattle.rx_tree.specs.Resources.{is_owned, is_lent}
-use Rattle.rx_ground.specs.Leases.{lease_as_kept}
-use Rattle.rx_hub.specs.Hubs.{Hub, Hubs, IsPromised as AreHubsPromised, hub_as_kept}
-use Rattle.rx_hub.specs.Records.{AreHubsOf}
+use Rattle.rx_event.specs.Bases.{keep_node, keep_hub, keep_resource, keep_lease, accept_node, accept_tag, lease_resource, mode_of}
+use Rattle.rx_hub.specs.Hubs.{IsPromised as AreHubsPromised, hub_as_kept}
 use Rattle.rx_ground.specs.Shown.{Kept, kept_from, kept_in}
-use Rattle.rx_hub.specs.TreeRecords.{IsRecordOf}
-use Rattle.rx_ground.specs.Ties.{HasKey, IsTied, IsStored, AreLeased}
 use Rattle.rx_ground.proofs.Laws.Members.{Contains-head, Contains-later, Contains-none, Contains-cases, Contains-map, Contains-from_map}
 use Rattle.rx_ground.proofs.Laws.JustOpenHeldWaiting.{numbers, just_all, just_nodes, just_out}
 use Rattle.rx_ground.proofs.Laws.Numbers.{ListsJust}

@@ -1,33 +1,12 @@
 -- The leases beside a tree, after one event.
-use Rattle.std.proofs.Common.{◌≡◌, ◌≢◌, ℕ, zero, suc, ◌<◌, ◌≤◌, ◌==◌, Bool, true, false, List, [], ◌∷◌, ◌++◌, length, Option, Some, None, is_some, IsSome}
-use Rattle.std.proofs.Common.{refl, sym, ap, subst, ◌∙◌, inl, inr, ◌⊎◌, arith, length-append}
-use Rattle.std.proofs.Math.Bool.{not, ◌&&◌}
-use Rattle.std.specs.Option.{option_map_or}
-use Rattle.std.proofs.lemmas.Bool.{false≢true, cases_order, both_ways, eq-eqb, ne_eqb, and_parts}
-use Rattle.std.proofs.lemmas.Option.{none-some, same_Some}
-use Rattle.std.proofs.lemmas.List.FromFn.{length-range_with_len}
-use Rattle.std.proofs.lemmas.List.Sums.{count_by-le-length}
-use Rattle.rx_event.specs.Kept.{Kept}
-use Rattle.rx_resource.specs.declared.Resource.{Ghosts}
-use Rattle.rx_event.specs.declared.event.Event.{Event}
-use Rattle.rx_event.specs.declared.event.Event.TheVariants.{Lease, Return}
-use Rattle.rx_event.specs.Events.{makes_lease, is_return, is_return_of}
-use Rattle.rx_event.specs.Tree.{places}
+use Rattle.rx_ground.proofs.Common.{◌≡◌, ◌≢◌, ℕ, zero, suc, ◌<◌, ◌≤◌, ◌==◌, Bool, true, false, List, [], ◌∷◌, ◌++◌, length, Option, Some, None, is_some, refl}
+use Rattle.rx_ground.proofs.Common.{IsSome, sym, ap, subst, ◌∙◌, inl, inr, ◌⊎◌, arith, length-append, not, ◌&&◌, option_map_or, false≢true, cases_order, Kept}
+use Rattle.rx_ground.proofs.Common.{both_ways, eq-eqb, ne_eqb, and_parts, none-some, same_Some, length-range_with_len, count_by-le-length, Ghosts, Event, Key}
+use Rattle.rx_ground.proofs.Common.{Lease, Return, makes_lease, is_return, is_return_of, places, IsLawful, slice_get-append, slice_get_last, is_out-push}
+use Rattle.rx_ground.proofs.Common.{is_out_within, is_out_past, is_out_last, leases_of_some, out_waits_not, Slots, find, entry_at, with_number, KeepsOthers}
+use Rattle.rx_ground.proofs.Common.{ResKey, Stowed, store_key, is_lent, is_lent_at, Tree, AreApart, IsPast, cases_key, none_not_some, some_of, LeaseKey}
+use Rattle.rx_ground.proofs.Common.{lease_key, is_out_at, HasKey, IsTied, IsLeaseOf, AreLeased, KeepsLeases}
 use Rattle.rx_event.specs.Resources.{is_out, is_out_of, leases_of, is_waiting}
-use Rattle.rx_event.specs.Lawful.{IsLawful}
-use Rattle.rx_event.proofs.Laws.Places.{slice_get-append, slice_get_last}
-use Rattle.rx_event.proofs.Laws.Leases.{is_out-push, is_out_within, is_out_past, is_out_last, leases_of_some}
-use Rattle.rx_event.proofs.Laws.NothingOpenNothingHeld.{out_waits_not}
-use Rattle.rx_slots.specs.declared.Key.{Key}
-use Rattle.rx_slots.specs.Slots.{Slots, find, entry_at, with_number, KeepsOthers}
-use Rattle.rx_tree.specs.declared.node.ResKey.{ResKey}
-use Rattle.rx_tree.specs.declared.node.Stowed.{Stowed}
-use Rattle.rx_tree.specs.Resources.{store_key, is_lent, is_lent_at}
-use Rattle.rx_tree.specs.Tree.{Tree, AreApart, IsPast}
-use Rattle.rx_tree.proofs.Laws.Keys.{cases_key, none_not_some, some_of}
-use Rattle.rx_ground.specs.declared.leases.LeaseKey.{LeaseKey}
-use Rattle.rx_ground.specs.Leases.{lease_key, is_out_at}
-use Rattle.rx_ground.specs.Ties.{HasKey, IsTied, IsLeaseOf, AreLeased, KeepsLeases}
 
 and_true : (b : Bool) → (b && true) ≡ b
 and_true true = refl

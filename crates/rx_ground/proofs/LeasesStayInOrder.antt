@@ -1,18 +1,10 @@
 -- The order of the leases as they come and go.
-use Rattle.std.proofs.Common.{◌≡◌, ◌≢◌, ℕ, ◌+◌, ◌<◌, ◌≤◌, ◌==◌, ◌||◌, ◌&&◌, ◌++◌, Bool, true, false, List, [], ◌∷◌, length, get_or, Option, Some, None}
-use Rattle.std.proofs.Common.{is_some, IsSome, refl, sym, ap, subst, ◌∙◌, inl, inr, ◌⊎◌, arith}
-use Rattle.std.proofs.Math.Bool.{not}
-use Rattle.std.specs.Option.{option_map_or}
-use Rattle.std.proofs.lemmas.Bool.{cases_Bool, false≢true, both_ways, eqb-true, eq-eqb, and_parts}
-use Rattle.rx_slots.specs.declared.Entry.{Entry}
-use Rattle.rx_slots.specs.declared.Key.{Key}
-use Rattle.rx_slots.specs.Slots.{Slots, entry_at, entry_of, find, Changes}
+use Rattle.rx_ground.proofs.Common.{◌≡◌, ◌≢◌, ℕ, ◌+◌, ◌<◌, ◌≤◌, ◌==◌, ◌++◌, Bool, true, false, List, [], ◌∷◌, length, get_or, Option, Some, None, is_some, ap}
+use Rattle.rx_ground.proofs.Common.{IsSome, refl, sym, subst, ◌∙◌, inl, inr, ◌⊎◌, arith, not, option_map_or, cases_Bool, false≢true, both_ways, eqb-true, Key}
+use Rattle.rx_ground.proofs.Common.{eq-eqb, and_parts, Entry, Slots, entry_at, entry_of, find, Changes, ResKey, AreApart, IsPast, same_key, Lists, list_at}
+use Rattle.rx_ground.proofs.Common.{is_in, take_out, number_in, AreRising, IsInOrder}
+use Rattle.std.proofs.Common.{◌||◌, ◌&&◌}
 use Rattle.rx_slots.proofs.Laws.EntryByNumber.{found_entry, with_number-same}
-use Rattle.rx_tree.specs.declared.node.ResKey.{ResKey}
-use Rattle.rx_tree.specs.Tree.{AreApart, IsPast}
-use Rattle.rx_tree.proofs.Laws.Keys.{same_key}
-use Rattle.rx_lists.specs.Lists.{Lists, list_at, is_in, take_out}
-use Rattle.rx_ground.specs.LeasesInOrder.{number_in, AreRising, IsInOrder}
 use Rattle.rx_ground.proofs.RisingSlots.{is_in-append, is_in-out, rising_append, rising_out, rising_same, rising_apart}
 
 -- the slot of a lease stands on the list, and its number is the lease's

@@ -1,3 +1,4 @@
+pub mod Common
 pub mod FoundIsListed
 pub mod Records
 pub mod ResourcesAfterEvent

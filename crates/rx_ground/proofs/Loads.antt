@@ -1,19 +1,8 @@
 -- What closing everything needs, counted from what is there.
-use Rattle.std.proofs.Common.{◌≡◌, ℕ, ◌+◌, ◌-◌, ◌*◌, ◌≤◌, Bool, true, false, List, [], ◌∷◌, cond, count_by, refl, arith}
-use Rattle.std.proofs.Math.Bool.{not, ◌&&◌}
-use Rattle.std.proofs.lemmas.Bool.{false≢true}
-use Rattle.std.proofs.lemmas.List.Sums.{sum_by-cons}
-use Rattle.rx_event.specs.Kept.{Kept}
-use Rattle.rx_event.specs.declared.event.Event.{Event}
-use Rattle.rx_event.specs.Tree.{places}
+use Rattle.rx_ground.proofs.Common.{◌≡◌, ℕ, ◌+◌, ◌-◌, ◌*◌, ◌≤◌, Bool, true, false, List, [], ◌∷◌, cond, count_by, refl, arith, not, ◌&&◌, false≢true, Kept}
+use Rattle.rx_ground.proofs.Common.{sum_by-cons, Event, places, open_count, owned_count, held_count, lease_count, waiting_count, accepted_count, taken_count}
+use Rattle.rx_ground.proofs.Common.{owed_count, debt, IsLawful, debt-counts, accepted_count-parts, owned_held, State, IsPromised, IsPaid}
 use Rattle.rx_event.specs.Resources.{is_owned, is_held}
-use Rattle.rx_event.specs.Totals.{open_count, owned_count, held_count, lease_count, waiting_count, accepted_count, taken_count, owed_count, debt}
-use Rattle.rx_event.specs.Lawful.{IsLawful}
-use Rattle.rx_event.proofs.Laws.Debt.{debt-counts}
-use Rattle.rx_event.proofs.Laws.Totals.{accepted_count-parts}
-use Rattle.rx_event.proofs.Laws.Resources.{owned_held}
-use Rattle.rx_register.specs.State.{State, IsPromised}
-use Rattle.rx_register.specs.Paid.{IsPaid}
 use Rattle.rx_ground.proofs.TreeAgreesOnResource.{is_alone}
 
 -- what is held is owned, or leases alone hold it

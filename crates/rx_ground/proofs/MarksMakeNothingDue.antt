@@ -1,22 +1,11 @@
 -- A node at whose place a node is opened, or to which an item is projected, has not to end by that, so its key need not go
 -- on the chain.
-use Rattle.std.proofs.Common.{◌≡◌, ℕ, ◌+◌, ◌==◌, ◌&&◌, ◌++◌, cond, Bool, true, false, List, [], ◌∷◌, Option, Some, None, is_some, option_map, IsSome, IfSome}
-use Rattle.std.proofs.Common.{refl, sym, ap, subst, ◌∙◌, arith, true≢false}
-use Rattle.std.specs.Option.{option_map_or, option_or}
-use Rattle.std.proofs.lemmas.Bool.Decides.{nat_tests}
-use Rattle.std.proofs.lemmas.Option.{none-some}
-use Rattle.rx_note.specs.declared.note.Terminal.{Terminal}
-use Rattle.rx_event.specs.declared.marks.Marks.{Marks}
-use Rattle.rx_event.specs.declared.event.Event.{Event}
-use Rattle.rx_event.specs.declared.event.Event.TheVariants.{Open, Connect, End}
-use Rattle.rx_event.specs.declared.event.Kind.TheVariants.{Pass, Flat, Switch, Until}
-use Rattle.rx_event.specs.Marks.{terminal_due, completed_if, is_over, due_at, after_source, after_notifier, after_projection}
-use Rattle.rx_slots.specs.declared.Key.{Key}
-use Rattle.rx_slots.specs.Slots.{Slots, find}
-use Rattle.rx_tree.specs.declared.node.Node.{Node}
-use Rattle.rx_tree.specs.Tree.{Tree, Rewrites, is_on, is_due, with_due, with_marks}
-use Rattle.rx_tree.proofs.Laws.Keys.{some_of}
-use Rattle.rx_ground.specs.Ties.{IsUndue, Remarks}
+use Rattle.rx_ground.proofs.Common.{◌≡◌, ℕ, ◌+◌, ◌==◌, ◌++◌, cond, Bool, true, false, List, [], ◌∷◌, Option, Some, None, is_some, option_map, IsSome, IfSome}
+use Rattle.rx_ground.proofs.Common.{refl, sym, ap, subst, ◌∙◌, arith, option_map_or, option_or, nat_tests, none-some, Terminal, Marks, Event, Open, Connect}
+use Rattle.rx_ground.proofs.Common.{End, Pass, Flat, Switch, Until, terminal_due, due_at, after_source, after_notifier, Key, Slots, find, Node, Tree, is_on}
+use Rattle.rx_ground.proofs.Common.{Rewrites, is_due, with_due, with_marks, some_of, IsUndue, Remarks}
+use Rattle.std.proofs.Common.{◌&&◌, true≢false}
+use Rattle.rx_event.specs.Marks.{completed_if, is_over, after_projection}
 use Rattle.rx_ground.proofs.TiedWhileSettling.{SetsMarks, set_remarks}
 
 -- marks -------------------------------------------------------------------------------------------

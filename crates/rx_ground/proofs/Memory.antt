@@ -1,10 +1,5 @@
 -- Writes that take no memory, alone and in turn.
-use Rattle.std.proofs.Common.{◌≡◌, ◌+◌, List, length, ap, ◌∙◌, arith, length-append}
-use Rattle.rx_event.specs.declared.event.Event.{Event}
-use Rattle.rx_slots.specs.Slots.{Slots}
-use Rattle.rx_register.specs.State.{Writes}
-use Rattle.rx_ground.specs.Shown.{Ground}
-use Rattle.rx_ground.specs.Memory.{TakesNoMemory}
+use Rattle.rx_ground.proofs.Common.{◌≡◌, ◌+◌, List, length, ap, ◌∙◌, arith, length-append, Event, Slots, Writes, Ground, TakesNoMemory}
 
 -- slots whose entries alone changed
 pub same_places : {X : Type 0} (old new : Slots X) → new ≡ record old { entries = new.entries } → new.count + new.room ≡ old.count + old.room

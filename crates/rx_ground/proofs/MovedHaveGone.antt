@@ -1,38 +1,14 @@
 -- What a closing moves out of the tree has gone, and nothing else went.
-use Rattle.std.proofs.Common.{◌≡◌, ◌≢◌, ℕ, ◌-◌, true, false, cond, List, [], ◌∷◌, ◌++◌, length, take, drop, Some, None, is_some}
-use Rattle.std.proofs.Common.{IsSome, IsTrue, sym, ap, subst, ◌∙◌, inl, inr, ◌⊎◌}
-use Rattle.std.proofs.Math.Bool.{not, ◌&&◌}
-use Rattle.std.specs.List.{AllPairs, Contains}
-use Rattle.std.proofs.lemmas.Bool.{and_parts, and_from, both_ways, cases_Bool, false_from_ne_true, not-true, not_from_false}
-use Rattle.std.proofs.lemmas.Option.{none-some}
-use Rattle.std.proofs.lemmas.List.{map-append, take-append-drop, length-drop}
-use Rattle.std.proofs.Math.Seq.{take-length}
-use Rattle.std.proofs.lemmas.List.Kept.{AllPairs-cons}
-use Rattle.rx_event.specs.Kept.{Kept}
-use Rattle.rx_resource.specs.declared.Resource.{Ghosts}
-use Rattle.rx_event.specs.declared.event.Event.{Event}
-use Rattle.rx_event.specs.Events.{makes_node}
-use Rattle.rx_event.specs.Tree.{at, is_open, is_within}
-use Rattle.rx_event.specs.Lawful.{MayFollow, IsLawful}
-use Rattle.rx_event.proofs.Laws.Places.{at-append}
-use Rattle.rx_event.proofs.Laws.Openness.{is_open_within}
-use Rattle.rx_event.proofs.Laws.Stands.{open_node}
-use Rattle.rx_event.proofs.Laws.Totals.{is_open_new}
-use Rattle.rx_slots.specs.declared.Key.{Key}
-use Rattle.rx_slots.specs.Slots.{Slots, find}
-use Rattle.rx_tree.specs.declared.node.Node.{Node}
-use Rattle.rx_tree.specs.Closing.{Closed}
-use Rattle.rx_tree.specs.Below.{is_below}
-use Rattle.rx_tree.specs.Closing.{IsInside, IsSubtree}
-use Rattle.rx_tree.specs.Tree.{Tree, AreApart, IsSound}
-use Rattle.rx_tree.proofs.Laws.Keys.{some_of}
-use Rattle.rx_ground.specs.Gone.{has_gone, goes, numbers_of, Gathers}
-use Rattle.rx_ground.specs.Shown.{closed_key, closed_keys}
-use Rattle.rx_ground.specs.Ties.{AreRecords, IsTied, Cuts, Moves}
+use Rattle.rx_ground.proofs.Common.{◌≡◌, ◌≢◌, ℕ, ◌-◌, true, false, cond, List, [], ◌∷◌, ◌++◌, length, take, drop, Some, None, is_some, IsSome, IsTrue, sym}
+use Rattle.rx_ground.proofs.Common.{ap, subst, ◌∙◌, inl, inr, ◌⊎◌, not, ◌&&◌, AllPairs, Contains, and_parts, and_from, both_ways, cases_Bool, not-true, Kept}
+use Rattle.rx_ground.proofs.Common.{false_from_ne_true, not_from_false, none-some, map-append, take-append-drop, length-drop, take-length, AllPairs-cons, at}
+use Rattle.rx_ground.proofs.Common.{Ghosts, Event, makes_node, is_open, is_within, MayFollow, IsLawful, at-append, is_open_within, open_node, is_open_new}
+use Rattle.rx_ground.proofs.Common.{Key, Slots, find, Node, Closed, is_below, IsInside, IsSubtree, Tree, AreApart, IsSound, some_of, has_gone, goes, Gathers}
+use Rattle.rx_ground.proofs.Common.{numbers_of, closed_key, closed_keys, AreRecords, IsTied, Cuts, Moves}
 use Rattle.rx_ground.proofs.Records.{AreLeft, cut_left}
 use Rattle.rx_ground.proofs.Laws.GoneStaysGone.{went}
-use Rattle.rx_ground.proofs.Laws.Members.{Contains-head, Contains-later, All-members, AllPairs-head, AllPairs-tail, AllPairs-nil}
-use Rattle.rx_ground.proofs.Laws.Members.{Contains-map, Contains-from_map, AllPairs-map}
+use Rattle.rx_ground.proofs.Laws.Members.{Contains-head, Contains-later, All-members, AllPairs-head, AllPairs-tail, AllPairs-nil, Contains-map, AllPairs-map}
+use Rattle.rx_ground.proofs.Laws.Members.{Contains-from_map}
 
 -- pairs of members, of which more is known
 pub AllPairs-by : {X : Type 0} (R S : X → X → Type 0) (xs : List X) → ((x y : X) → Contains xs x → Contains xs y → R x y → S x y) →

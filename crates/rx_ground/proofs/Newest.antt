@@ -1,19 +1,7 @@
 -- What was there before the next event, and what is found of a held resource.
-use Rattle.std.proofs.Common.{◌≡◌, ℕ, true, false, List, length, Option, Some, None, IfSome, refl, sym, subst, arith}
-use Rattle.std.specs.Option.{option_map_or}
-use Rattle.std.proofs.lemmas.Bool.{false≢true}
-use Rattle.rx_event.specs.Kept.{Kept}
-use Rattle.rx_resource.specs.declared.Resource.{Ghosts}
-use Rattle.rx_event.specs.declared.event.Event.{Event}
-use Rattle.rx_event.specs.Lawful.{IsLawful}
-use Rattle.rx_event.proofs.Laws.Openness.{is_open_within}
-use Rattle.rx_slots.specs.Slots.{find}
-use Rattle.rx_tree.specs.declared.node.Stowed.{Stowed}
-use Rattle.rx_tree.specs.declared.node.ResKey.{ResKey}
-use Rattle.rx_tree.specs.Tree.{Tree, IsNewest, IsPast}
-use Rattle.rx_tree.specs.Resources.{store_key, is_owned, is_owned_at, is_held, is_held_at}
-use Rattle.rx_tree.proofs.Laws.Keys.{some_of}
-use Rattle.rx_ground.specs.Ties.{IsTied}
+use Rattle.rx_ground.proofs.Common.{◌≡◌, ℕ, true, false, List, length, Option, Some, None, IfSome, refl, sym, subst, arith, option_map_or, false≢true, Kept}
+use Rattle.rx_ground.proofs.Common.{Ghosts, Event, IsLawful, is_open_within, find, Stowed, ResKey, Tree, IsNewest, IsPast, store_key, is_owned, is_owned_at}
+use Rattle.rx_ground.proofs.Common.{is_held, is_held_at, some_of, IsTied}
 use Rattle.rx_ground.proofs.ResourcesAfterEvent.{stored_within}
 
 module _ (base : Kept) {T : Type 0} (g : Ghosts T) (h : List Event) (tree : Tree T) (tied : IsTied base g h tree) (law : IsLawful base h) (n : ℕ)

@@ -1,25 +1,8 @@
 -- A node that ends leaves the tree tied to the longer history, with the node above marked.
-use Rattle.std.proofs.Common.{◌≡◌, ◌<◌, List, [], ◌∷◌, ◌++◌, Option, Some, None, is_some, IsSome, IfSome, option_map, slice_get, refl, sym, ap, subst, ◌∙◌, ℕ}
-use Rattle.std.specs.Prelude.{true, IfNone}
-use Rattle.std.proofs.lemmas.Option.{none-some, same_Some}
-use Rattle.rx_event.specs.Kept.{Kept}
-use Rattle.rx_resource.specs.declared.Resource.{Ghosts}
-use Rattle.rx_note.specs.declared.note.Terminal.{Terminal}
-use Rattle.rx_event.specs.declared.event.Event.{Event}
-use Rattle.rx_event.specs.declared.event.Event.TheVariants.{End}
-use Rattle.rx_event.specs.Events.{source_named, is_merging}
-use Rattle.rx_event.specs.Tree.{is_open, parent}
-use Rattle.rx_event.specs.Marks.{after_child}
-use Rattle.rx_event.specs.Lawful.{MayFollow, IsLawful}
-use Rattle.rx_event.proofs.Laws.Openness.{is_open_outside-end}
-use Rattle.rx_event.proofs.Laws.MarksTouched.{child_counted}
-use Rattle.rx_slots.specs.declared.Key.{Key}
-use Rattle.rx_slots.specs.Slots.{Slots, find}
-use Rattle.rx_tree.specs.declared.node.Node.{Node}
-use Rattle.rx_tree.specs.Tree.{Tree, IsSound, AreApart, parent_number}
-use Rattle.rx_tree.proofs.Laws.Keys.{some_of}
-use Rattle.rx_ground.specs.declared.base.Record.{Record}
-use Rattle.rx_ground.specs.Ties.{IsTied, KeepsNodes, Remarks, Cuts, record_of}
+use Rattle.rx_ground.proofs.Common.{◌≡◌, ◌<◌, List, [], ◌∷◌, ◌++◌, Option, Some, None, is_some, IsSome, IfSome, option_map, slice_get, refl, sym, ap, subst}
+use Rattle.rx_ground.proofs.Common.{◌∙◌, ℕ, true, IfNone, none-some, same_Some, Kept, Ghosts, Terminal, Event, End, source_named, is_merging, is_open, parent}
+use Rattle.rx_ground.proofs.Common.{after_child, MayFollow, IsLawful, is_open_outside-end, child_counted, Key, Slots, find, Node, Tree, IsSound, AreApart}
+use Rattle.rx_ground.proofs.Common.{parent_number, some_of, Record, IsTied, KeepsNodes, Remarks, Cuts, record_of}
 use Rattle.rx_ground.proofs.Records.{parent_in_tree}
 use Rattle.rx_ground.proofs.StaysTied.{tied_end_top, tied_end_child, parent_stays, cut_keeps, keeps_marked}
 

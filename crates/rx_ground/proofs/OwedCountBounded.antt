@@ -1,37 +1,14 @@
 -- What all open FlatMaps and Switches owe together, by the history and by the records of a tree, and that it stays within 64 bits.
-use Rattle.std.proofs.Common.{◌≡◌, ℕ, zero, suc, ◌+◌, ◌*◌, ◌<◌, ◌≤◌, Bool, true, false, cond, List, [], ◌∷◌, ◌++◌, length}
-use Rattle.std.proofs.Common.{Option, Some, None, is_some, IsSome, IfSome, refl, sym, ap, ◌∙◌, arith, length-append}
-use Rattle.std.proofs.Math.Bool.{not, ◌&&◌}
-use Rattle.std.specs.List.{AllByRecursion, count_by, filter_map, cons_option}
-use Rattle.std.proofs.lemmas.List.Sums.{sum_by-cons}
-use Rattle.rx_event.specs.Kept.{Kept, shown}
-use Rattle.rx_resource.specs.declared.Resource.{Ghosts}
-use Rattle.rx_event.specs.declared.event.Event.{Event}
-use Rattle.rx_event.specs.declared.event.Event.TheVariants.{Item}
-use Rattle.rx_event.specs.declared.marks.Marks.{Marks}
-use Rattle.rx_event.specs.Events.{is_merging, pays}
-use Rattle.rx_event.specs.Tree.{at, is_open}
-use Rattle.rx_event.specs.Climb.{Stop, stop_at, onward, visited, most_visits, climb, stops}
-use Rattle.rx_event.specs.Moments.{owed, is_projection, is_projection_to, stops_of}
-use Rattle.rx_event.specs.Totals.{owed_open, owed_count}
-use Rattle.rx_event.specs.Claims.Climbs.{StopsAtOpen}
-use Rattle.rx_event.specs.Lawful.{MayFollow, IsLawful}
-use Rattle.rx_event.proofs.Laws.Places.{at-append}
-use Rattle.rx_event.proofs.Laws.Openness.{is_cut, is_open_cut, is_open_within}
-use Rattle.rx_event.proofs.Laws.Steps.{by_events, may_emit}
-use Rattle.rx_event.proofs.Laws.Sums.{sum_by-places-push, sum_by-plus, sum_by_no_rise}
-use Rattle.rx_event.proofs.Laws.Bases.{length-shown}
-use Rattle.rx_event.proofs.Laws.Debt.{debt-counts}
-use Rattle.rx_event.proofs.Laws.Plain.{owed_plain}
+use Rattle.rx_ground.proofs.Common.{◌≡◌, ℕ, zero, suc, ◌+◌, ◌*◌, ◌<◌, ◌≤◌, Bool, true, false, cond, List, [], ◌∷◌, ◌++◌, length, Option, Some, None, is_some}
+use Rattle.rx_ground.proofs.Common.{IsSome, IfSome, refl, sym, ap, ◌∙◌, arith, length-append, not, ◌&&◌, AllByRecursion, filter_map, cons_option, sum_by-cons}
+use Rattle.rx_ground.proofs.Common.{Kept, shown, Ghosts, Event, Item, Marks, is_merging, pays, at, is_open, most_visits, owed, is_projection, stops_of, Key}
+use Rattle.rx_ground.proofs.Common.{is_projection_to, owed_open, owed_count, StopsAtOpen, MayFollow, IsLawful, at-append, is_cut, is_open_cut, is_open_within}
+use Rattle.rx_ground.proofs.Common.{by_events, may_emit, sum_by-places-push, sum_by-plus, sum_by_no_rise, length-shown, debt-counts, owed_plain, Slots, find}
+use Rattle.rx_ground.proofs.Common.{Node, Tree, AreApart, owed_in, owed_in-numbers, IsPromised, AreRecords, IsTied}
+use Rattle.std.specs.List.{count_by}
+use Rattle.rx_event.specs.Climb.{Stop, stop_at, onward, visited, climb, stops}
 use Rattle.rx_event.proofs.Laws.Projections.{owed-push, owed_new, projected_open, projected_count, stops_open}
-use Rattle.rx_slots.specs.declared.Key.{Key}
-use Rattle.rx_slots.specs.Slots.{Slots, find}
-use Rattle.rx_tree.specs.declared.node.Node.{Node}
-use Rattle.rx_tree.specs.Tree.{Tree, AreApart}
-use Rattle.rx_tree.specs.Owed.{owed_in}
-use Rattle.rx_tree.proofs.Laws.Owed.{owed_in-numbers}
-use Rattle.rx_register.specs.State.{State as Register, IsPromised}
-use Rattle.rx_ground.specs.Ties.{AreRecords, IsTied}
+use Rattle.rx_register.specs.State.{State as Register}
 
 -- what one node owes ------------------------------------------------------------------------------
 

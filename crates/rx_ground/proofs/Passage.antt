@@ -1,46 +1,17 @@
 -- An item on its way over a tree and its hubs, from stop to stop.
-use Rattle.std.proofs.Common.{◌≡◌, ◌≢◌, ℕ, ℤ, zero, suc, ◌+◌, ◌<◌, ◌≤◌, Bool, true, false, cond, List, [], ◌∷◌}
-use Rattle.std.proofs.Common.{◌++◌, length, Option, Some, None, is_some, IsSome, IfSome, option_map, count_by}
-use Rattle.std.proofs.Common.{refl, sym, ap, subst, ◌∙◌, inl, inr, ◌⊎◌, arith, length-append, append_assoc}
-use Rattle.std.specs.Prelude.{if◌then◌else◌}
-use Rattle.std.specs.List.{AllByRecursion, filter_map, cons_option}
-use Rattle.std.specs.Option.{option_and_then, option_map_or, option_to_list}
-use Rattle.std.proofs.lemmas.List.Elements.{filter_map-append}
-use Rattle.std.proofs.lemmas.List.Sums.{sum_by-append}
-use Rattle.rx_event.specs.Kept.{Kept}
-use Rattle.rx_event.specs.declared.mail.Mail.{Mail}
-use Rattle.rx_event.specs.declared.marks.Marks.{Marks}
-use Rattle.rx_event.specs.declared.event.Place.TheVariants.{Root, Source, Notifier}
-use Rattle.rx_event.specs.declared.event.Event.{Event}
-use Rattle.rx_event.specs.declared.event.Event.TheVariants.{Open, Item}
-use Rattle.rx_event.specs.Events.{is_merging, hub_connected}
-use Rattle.rx_event.specs.Climb.{Stop as NumberedStop, Delivery as DeliveryTo, Projection as ProjectionTo, Firing as FiringOf, most_visits, stops}
+use Rattle.rx_ground.proofs.Common.{◌≡◌, ◌≢◌, ℕ, ℤ, zero, suc, ◌+◌, ◌<◌, ◌≤◌, Bool, true, false, cond, List, [], ◌∷◌, ◌++◌, length, Option, Some, None, refl}
+use Rattle.rx_ground.proofs.Common.{is_some, IsSome, IfSome, option_map, count_by, sym, ap, subst, ◌∙◌, inl, inr, ◌⊎◌, arith, length-append, append_assoc}
+use Rattle.rx_ground.proofs.Common.{if◌then◌else◌, AllByRecursion, filter_map, cons_option, option_and_then, option_map_or, option_to_list, filter_map-append}
+use Rattle.rx_ground.proofs.Common.{sum_by-append, Kept, Mail, Marks, Root, Source, Notifier, Event, Open, Item, is_merging, hub_connected, most_visits, told}
+use Rattle.rx_ground.proofs.Common.{is_projection, mail_of, IsLawful, AllByRecursion-both, Key, Slots, find, Node, owed_in, Tree, IsSound, AreApart, Rewrites}
+use Rattle.rx_ground.proofs.Common.{with_marks, cases_key, some_of, owed_rewritten, Stop, Delivery, Projection, Firing, Connection, numbered, made_of, Hub}
+use Rattle.rx_ground.proofs.Common.{above_of, stop_made, stop_of, stop_of-found, above_found, find_hub, Route, IsOrdered, IsUnderWay, Arrives, stops_left}
+use Rattle.rx_ground.proofs.Common.{IsWalk, subscribers_of, onward_by, onward_over, visited_over, arrival, arrival_at, stops_over, all_stops_told, AreRecords}
+use Rattle.rx_ground.proofs.Common.{IsOrdered-walk, Remarks, ArePassed, IsPassing, IsThere, IsMarkedAt, owed_at, told_at, mail_at, sum_at}
+use Rattle.rx_event.specs.Climb.{Stop as NumberedStop, Delivery as DeliveryTo, Projection as ProjectionTo, Firing as FiringOf, stops}
 use Rattle.rx_event.specs.Marks.{after_projection, after_firing}
-use Rattle.rx_event.specs.Moments.{is_projection}
-use Rattle.rx_event.specs.Notes.{told, mail_of}
-use Rattle.rx_event.specs.Lawful.{IsLawful}
-use Rattle.rx_event.proofs.Laws.Lists.{AllByRecursion-both}
-use Rattle.rx_slots.specs.declared.Key.{Key}
-use Rattle.rx_slots.specs.Slots.{Slots, find}
-use Rattle.rx_tree.specs.declared.node.Node.{Node}
-use Rattle.rx_tree.specs.Owed.{owed_in}
-use Rattle.rx_tree.specs.Tree.{Tree, IsSound, AreApart, Rewrites, with_marks}
-use Rattle.rx_tree.proofs.Laws.Keys.{cases_key, some_of}
-use Rattle.rx_tree.proofs.Laws.Owed.{owed_rewritten}
-use Rattle.rx_hub.specs.declared.stop.Stop.{Stop}
-use Rattle.rx_hub.specs.declared.stop.Stop.TheVariants.{Delivery, Projection, Firing, Connection}
-use Rattle.rx_hub.specs.TreeClaims.{numbered}
-use Rattle.rx_hub.specs.Way.{made_of, above_of, stop_made, stop_of}
-use Rattle.rx_hub.proofs.Laws.Ways.{stop_of-found, above_found}
 use Rattle.rx_register.specs.State.{State as Register}
-use Rattle.rx_hub.specs.Hubs.{Hub, find_hub}
-use Rattle.rx_hub.specs.Route.{Route, IsOrdered, IsUnderWay, Arrives, stops_left}
-use Rattle.rx_hub.specs.Walk.{IsWalk, subscribers_of, onward_by, onward_over, visited_over, arrival, arrival_at, stops_over}
-use Rattle.rx_hub.proofs.Laws.Walks.{all_stops_told}
-use Rattle.rx_hub.proofs.Laws.Orders.{IsOrdered-walk}
 use Rattle.rx_hub.proofs.Laws.Routes.{stops_left-marked, ordered-marked, under_way-marked}
-use Rattle.rx_ground.specs.Ties.{AreRecords, Remarks}
-use Rattle.rx_ground.specs.Passing.{ArePassed, IsPassing, IsThere, IsMarkedAt, owed_at, told_at, mail_at, sum_at}
 use Rattle.rx_ground.proofs.CountsOnTheWay.{filtered_few, stops_few}
 use Rattle.rx_ground.proofs.RecordsAfterItem.{Changes, projection_changes, firing_changes, passed_none, passed_told, passed_marked}
 use Rattle.rx_ground.proofs.WayAsInHistory.{told_sum}

@@ -1,40 +1,14 @@
 -- What an opening leaves of the tie, where it takes the place of an open inner and where it does not.
-use Rattle.std.proofs.Common.{◌≡◌, ◌≢◌, ℕ, suc, ◌+◌, ◌<◌, Bool, true, false, List, [], ◌∷◌, ◌++◌, length, Option, Some}
-use Rattle.std.proofs.Common.{None, is_some, IsSome, IfSome, option_map, refl, sym, ap, subst, ◌∙◌, arith, inl, inr, ◌⊎◌}
-use Rattle.std.specs.Prelude.{IfNone}
-use Rattle.std.proofs.Math.Bool.{not, ◌&&◌}
-use Rattle.std.proofs.lemmas.Bool.{ne_eqb, cases_Bool}
-use Rattle.std.proofs.lemmas.Option.{none-some, same_Some}
-use Rattle.std.proofs.lemmas.List.Sums.{count_by-le-length}
-use Rattle.std.proofs.lemmas.List.FromFn.{length-range_with_len}
-use Rattle.rx_event.specs.Kept.{Kept}
-use Rattle.rx_resource.specs.declared.Resource.{Ghosts}
-use Rattle.rx_event.specs.declared.marks.Marks.{Marks}
-use Rattle.rx_event.specs.declared.event.Place.{Place}
-use Rattle.rx_event.specs.declared.event.Place.TheVariants.{Root, Source, Inner, Notifier}
-use Rattle.rx_event.specs.declared.event.Kind.{Kind}
-use Rattle.rx_event.specs.declared.event.Event.{Event}
-use Rattle.rx_event.specs.declared.event.Event.TheVariants.{Open}
-use Rattle.rx_event.specs.Events.{named_by, is_switch, is_inner_of}
-use Rattle.rx_event.specs.Tree.{at, is_open, places, is_open_child_of, is_within}
-use Rattle.rx_event.specs.Moments.{owed}
-use Rattle.rx_event.specs.Marks.{terminal_due, marks_of, touches, open_children, after_source, after_notifier, after_inner}
-use Rattle.rx_event.specs.Lawful.{MayFollow, IsLawful}
-use Rattle.rx_event.specs.Claims.Nodes.{IsOpenInner}
-use Rattle.rx_event.proofs.Laws.Openness.{is_open_kept, is_open_cut, is_cut_inner, is_open_within}
-use Rattle.rx_event.proofs.Laws.Steps.{may_open, may_name}
+use Rattle.rx_ground.proofs.Common.{◌≡◌, ◌≢◌, ℕ, suc, ◌+◌, ◌<◌, Bool, true, false, List, [], ◌∷◌, ◌++◌, length, Option, Some, None, is_some, IsSome, IfSome}
+use Rattle.rx_ground.proofs.Common.{option_map, refl, sym, ap, subst, ◌∙◌, arith, inl, inr, ◌⊎◌, IfNone, not, ◌&&◌, ne_eqb, cases_Bool, none-some, same_Some}
+use Rattle.rx_ground.proofs.Common.{count_by-le-length, length-range_with_len, Kept, Ghosts, Marks, Place, Root, Source, Inner, Notifier, Kind, Event, Open}
+use Rattle.rx_ground.proofs.Common.{named_by, is_switch, is_inner_of, at, is_open, places, is_open_child_of, is_within, owed, terminal_due, marks_of, touches}
+use Rattle.rx_ground.proofs.Common.{open_children, after_source, after_notifier, after_inner, MayFollow, IsLawful, IsOpenInner, is_open_kept, is_open_cut}
+use Rattle.rx_ground.proofs.Common.{is_cut_inner, is_open_within, may_open, may_name, marks-source_at, marks-notifier_at, marks-inner_at_flat, Key, find}
+use Rattle.rx_ground.proofs.Common.{marks-inner_at_first, marks-inner_at_next, entry_at, KeepsOthers, Node, Tree, IsSound, AreApart, IsNewest, IsPlaced, Hubs}
+use Rattle.rx_ground.proofs.Common.{is_on, blank_node, some_of, newest_fewer, IsRecordOf, IsTied, AreTied, IsUndue, Remarks, IsNewNode, opened_marks}
+use Rattle.rx_ground.proofs.Common.{ReplacesNone, Exchanges, MakesWay, ClearsHubs}
 use Rattle.rx_event.proofs.Laws.Switches.{is_open-inner_switch, is_open-inner_first, is_open-inner_flat}
-use Rattle.rx_event.proofs.Laws.MarksTouched.{marks-source_at, marks-notifier_at, marks-inner_at_flat, marks-inner_at_first, marks-inner_at_next}
-use Rattle.rx_slots.specs.declared.Key.{Key}
-use Rattle.rx_slots.specs.Slots.{find, entry_at, KeepsOthers}
-use Rattle.rx_tree.specs.declared.node.Node.{Node}
-use Rattle.rx_tree.specs.Tree.{Tree, IsSound, AreApart, IsNewest, IsPlaced, is_on, blank_node}
-use Rattle.rx_tree.proofs.Laws.Keys.{some_of}
-use Rattle.rx_tree.proofs.Laws.Newest.{newest_fewer}
-use Rattle.rx_hub.specs.Hubs.{Hubs}
-use Rattle.rx_hub.specs.TreeRecords.{IsRecordOf}
-use Rattle.rx_ground.specs.Ties.{IsTied, AreTied, IsUndue, Remarks, IsNewNode, opened_marks}
-use Rattle.rx_ground.specs.Inners.{ReplacesNone, Exchanges, MakesWay, ClearsHubs}
 use Rattle.rx_ground.proofs.MarksMakeNothingDue.{no_terminal}
 use Rattle.rx_ground.proofs.Newest.{newest}
 use Rattle.rx_ground.proofs.Records.{AreLeft, all_left, cut_left}

@@ -1,37 +1,15 @@
 -- What one event leaves of the records of open nodes.
-use Rattle.std.proofs.Common.{◌≡◌, ◌≢◌, ℕ, zero, suc, ◌<◌, ◌==◌, Bool, true, false, cond, List, [], ◌∷◌, ◌++◌, length, Option, Some}
-use Rattle.std.proofs.Common.{None, is_some, option_map, slice_get, refl, sym, ap, subst, ◌∙◌, inl, inr, ◌⊎◌, arith, length-append}
-use Rattle.std.proofs.Math.Bool.{not, ◌&&◌, ◌||◌}
-use Rattle.std.specs.List.{list_any}
-use Rattle.std.specs.Option.{option_and_then, option_map_or}
-use Rattle.std.proofs.lemmas.Bool.{false≢true, cases_order, and_parts, and_from, or_parts, both_ways, eq-eqb, not-true, not_from_false}
-use Rattle.std.proofs.lemmas.Option.{none-some, same_Some}
-use Rattle.rx_event.specs.Kept.{Kept}
-use Rattle.rx_event.specs.declared.marks.Marks.{Marks}
-use Rattle.rx_note.specs.declared.note.Terminal.{Terminal}
-use Rattle.rx_event.specs.declared.event.Event.{Event}
-use Rattle.rx_event.specs.declared.event.Event.TheVariants.{End}
-use Rattle.rx_event.specs.Events.{makes_node, parent_named}
-use Rattle.rx_event.specs.Tree.{is_open, parent, if_less, ancestors, shuts}
-use Rattle.rx_event.specs.Marks.{marks_of, due_at, terminal_due, touches}
-use Rattle.rx_event.specs.Lawful.{MayFollow, IsLawful}
-use Rattle.rx_event.proofs.Laws.Places.{slice_get-append, slice_get_last}
-use Rattle.rx_event.proofs.Laws.Parents.{ancestors_step, parent-lt, option_map_or-same}
-use Rattle.rx_event.proofs.Laws.Openness.{shuts_none, is_open_within, is_open_cut, is_open_unchanged, parent_open}
-use Rattle.rx_event.proofs.Laws.Totals.{is_open_new}
-use Rattle.rx_event.proofs.Laws.MarksNew.{marks-new}
-use Rattle.rx_event.proofs.Laws.MarksTouched.{marks_untouched, blank_quiet}
-use Rattle.rx_slots.specs.declared.Key.{Key}
-use Rattle.rx_slots.specs.Slots.{Slots, find, entry_at, with_number, KeepsOthers}
-use Rattle.rx_tree.specs.declared.node.Node.{Node}
-use Rattle.rx_tree.specs.Tree.{IsSound, AreApart, Rewrites, blank_node, named_above, parent_number, with_marks, with_last, with_due, is_key, is_on, is_due}
-use Rattle.rx_tree.specs.Below.{up, ancestors as tree_ancestors, is_below}
-use Rattle.rx_tree.specs.Closing.{outside}
+use Rattle.rx_ground.proofs.Common.{◌≡◌, ◌≢◌, ℕ, zero, suc, ◌<◌, ◌==◌, Bool, true, false, cond, List, [], ◌∷◌, ◌++◌, length, Option, Some, None, is_some, sym}
+use Rattle.rx_ground.proofs.Common.{option_map, slice_get, refl, ap, subst, ◌∙◌, inl, inr, ◌⊎◌, arith, length-append, not, ◌&&◌, ◌||◌, list_any, false≢true}
+use Rattle.rx_ground.proofs.Common.{option_and_then, option_map_or, cases_order, and_parts, and_from, or_parts, both_ways, eq-eqb, not-true, not_from_false}
+use Rattle.rx_ground.proofs.Common.{none-some, same_Some, Kept, Marks, Terminal, Event, End, makes_node, parent_named, is_open, parent, if_less, ancestors}
+use Rattle.rx_ground.proofs.Common.{shuts, marks_of, due_at, terminal_due, touches, MayFollow, IsLawful, slice_get-append, slice_get_last, ancestors_step}
+use Rattle.rx_ground.proofs.Common.{parent-lt, option_map_or-same, shuts_none, is_open_within, is_open_cut, is_open_unchanged, parent_open, is_open_new, Key}
+use Rattle.rx_ground.proofs.Common.{marks-new, marks_untouched, blank_quiet, Slots, find, entry_at, with_number, KeepsOthers, Node, IsSound, AreApart, is_key}
+use Rattle.rx_ground.proofs.Common.{Rewrites, blank_node, named_above, parent_number, with_marks, with_last, with_due, is_on, is_due, is_below, outside}
+use Rattle.rx_ground.proofs.Common.{key_is, cases_key, IsChained, IsRecordOf, AreRecordsOf, HasKey, AreRecords}
+use Rattle.rx_tree.specs.Below.{up, ancestors as tree_ancestors}
 use Rattle.rx_tree.proofs.Laws.Below.{climb_step, up-lt, record_found}
-use Rattle.rx_tree.proofs.Laws.Keys.{key_is, cases_key}
-use Rattle.rx_hub.specs.Operators.{IsChained}
-use Rattle.rx_hub.specs.TreeRecords.{IsRecordOf, AreRecordsOf}
-use Rattle.rx_ground.specs.Ties.{HasKey, AreRecords}
 
 -- the chain ---------------------------------------------------------------------------------------
 

@@ -1,28 +1,10 @@
 -- What an item leaves of the records, stop by stop.
-use Rattle.std.proofs.Common.{◌≡◌, ◌≢◌, ℕ, ℤ, true, false, cond, List, [], ◌∷◌, ◌++◌, Some, None, is_some, IsSome, option_map, slice_get}
-use Rattle.std.proofs.Common.{refl, sym, ap, ◌∙◌, inl, inr, ◌⊎◌}
-use Rattle.std.proofs.lemmas.Bool.{eq-eqb, ne_eqb}
-use Rattle.std.proofs.lemmas.Option.{same_Some}
-use Rattle.rx_event.specs.Kept.{Kept}
-use Rattle.rx_resource.specs.declared.Resource.{Ghosts}
-use Rattle.rx_event.specs.declared.marks.Marks.{Marks}
-use Rattle.rx_event.specs.declared.event.Event.{Event}
-use Rattle.rx_event.specs.declared.event.Event.TheVariants.{Item}
-use Rattle.rx_event.specs.Tree.{is_open}
+use Rattle.rx_ground.proofs.Common.{◌≡◌, ◌≢◌, ℕ, ℤ, true, false, cond, List, [], ◌∷◌, ◌++◌, Some, None, is_some, IsSome, option_map, slice_get, refl, sym, ap}
+use Rattle.rx_ground.proofs.Common.{◌∙◌, inl, inr, ◌⊎◌, eq-eqb, ne_eqb, same_Some, Kept, Ghosts, Marks, Event, Item, is_open, marks_of, due_at, MayFollow}
+use Rattle.rx_ground.proofs.Common.{IsLawful, slice_get-append, is_open_within, is_open_unchanged, marks-item_at, Key, Slots, find, Node, Tree, AreApart}
+use Rattle.rx_ground.proofs.Common.{Rewrites, with_marks, with_due, is_on, cases_key, some_of, Hubs, HasKey, AreRecords, AreTied, ArePassed}
 use Rattle.rx_event.specs.Climb.{Stop as NumberedStop, Delivery as DeliveryTo, Projection as ProjectionTo, Firing as FiringOf, stops}
-use Rattle.rx_event.specs.Marks.{marks_of, due_at, after_stop, after_stops, after_projection, after_firing}
-use Rattle.rx_event.specs.Lawful.{MayFollow, IsLawful}
-use Rattle.rx_event.proofs.Laws.Places.{slice_get-append}
-use Rattle.rx_event.proofs.Laws.Openness.{is_open_within, is_open_unchanged}
-use Rattle.rx_event.proofs.Laws.MarksTouched.{marks-item_at}
-use Rattle.rx_slots.specs.declared.Key.{Key}
-use Rattle.rx_slots.specs.Slots.{Slots, find}
-use Rattle.rx_tree.specs.declared.node.Node.{Node}
-use Rattle.rx_tree.specs.Tree.{Tree, AreApart, Rewrites, with_marks, with_due, is_on}
-use Rattle.rx_tree.proofs.Laws.Keys.{cases_key, some_of}
-use Rattle.rx_hub.specs.Hubs.{Hubs}
-use Rattle.rx_ground.specs.Ties.{HasKey, AreRecords, AreTied}
-use Rattle.rx_ground.specs.Passing.{ArePassed}
+use Rattle.rx_event.specs.Marks.{after_stop, after_stops, after_projection, after_firing}
 use Rattle.rx_ground.proofs.HubsAfterEvent.{tied_on}
 use Rattle.rx_ground.proofs.Records.{undue, off_due}
 use Rattle.rx_ground.proofs.ResourcesAfterEvent.{all_stored}

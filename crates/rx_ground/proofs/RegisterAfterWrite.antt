@@ -1,10 +1,6 @@
 -- What one write leaves of a register.
-use Rattle.std.proofs.Common.{◌≡◌, ◌+◌, List, [], ◌∷◌, ◌++◌, length, refl, ap, ◌∙◌, arith, length-append}
-use Rattle.rx_event.specs.declared.mail.Mail.{Mail}
-use Rattle.rx_event.specs.declared.event.Event.{Event}
-use Rattle.rx_event.specs.Notes.{notes, mail_of}
+use Rattle.rx_ground.proofs.Common.{◌≡◌, ◌+◌, List, [], ◌∷◌, ◌++◌, length, refl, ap, ◌∙◌, arith, length-append, Mail, Event, notes, mail_of, State, Writes}
 use Rattle.rx_event.proofs.Laws.Counts.{notes-push}
-use Rattle.rx_register.specs.State.{State, Writes}
 
 -- the notes of this event were told, and nothing else changed
 pub record TellsOf (e : Event) (old told : State) : Type 0 where

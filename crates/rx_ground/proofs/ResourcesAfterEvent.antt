@@ -1,36 +1,15 @@
 -- What one event leaves of the resources in the store.
-use Rattle.std.proofs.Common.{◌≡◌, ◌≢◌, ℕ, ◌+◌, ◌-◌, ◌<◌, ◌≤◌, Bool, true, false, cond, List, [], ◌∷◌, ◌++◌, length, Option, Some, None}
-use Rattle.std.proofs.Common.{is_some, IsSome, option_map, slice_get, refl, sym, ap, subst, ◌∙◌, inl, inr, ◌⊎◌, arith, length-append}
-use Rattle.std.proofs.Math.Bool.{not, ◌&&◌, ◌||◌}
-use Rattle.std.specs.List.{list_any}
-use Rattle.std.specs.Option.{option_and_then, option_map_or}
-use Rattle.std.proofs.lemmas.Bool.{false≢true, cases_order, or_parts, or_right, both_ways, eq-eqb, ne_eqb}
-use Rattle.std.proofs.lemmas.Option.{none-some, same_Some, slice_get_within}
-use Rattle.rx_event.specs.Kept.{Kept}
-use Rattle.rx_resource.specs.declared.Resource.{Ghosts}
-use Rattle.rx_resource.specs.declared.Life.TheVariants.{Live}
-use Rattle.rx_event.specs.declared.event.Event.{Event}
-use Rattle.rx_event.specs.declared.event.Event.TheVariants.{Accept, Use, Remove, Lease, Return, Take}
-use Rattle.rx_event.specs.Events.{makes_resource, node_of_accept, is_remove_of, is_lease_of, is_return, is_take_of, is_use_of}
-use Rattle.rx_event.specs.Tree.{at, is_open}
+use Rattle.rx_ground.proofs.Common.{◌≡◌, ◌≢◌, ℕ, ◌+◌, ◌-◌, ◌<◌, ◌≤◌, Bool, true, false, cond, List, [], ◌∷◌, ◌++◌, length, Option, Some, None, is_some, refl}
+use Rattle.rx_ground.proofs.Common.{IsSome, option_map, slice_get, sym, ap, subst, ◌∙◌, inl, inr, ◌⊎◌, arith, length-append, not, ◌&&◌, ◌||◌, list_any, Kept}
+use Rattle.rx_ground.proofs.Common.{option_and_then, option_map_or, false≢true, cases_order, or_parts, or_right, both_ways, eq-eqb, ne_eqb, none-some, Ghosts}
+use Rattle.rx_ground.proofs.Common.{same_Some, slice_get_within, Live, Event, Accept, Use, Remove, Lease, Return, Take, makes_resource, node_of_accept, at}
+use Rattle.rx_ground.proofs.Common.{is_remove_of, is_lease_of, is_return, is_take_of, is_use_of, is_open, MayFollow, IsLawful, slice_get_last, at-append, Key}
+use Rattle.rx_ground.proofs.Common.{at_within, list_any_push, or_false, is_cut, is_open_cut, is_open_unchanged, is_open_within, stays_closed, node_of, loses}
+use Rattle.rx_ground.proofs.Common.{is_owned-push, is_owned-remove, is_owned_last, no_take, accepted_by-push, accepted_by_new, reads_owned, uses-push, Slots}
+use Rattle.rx_ground.proofs.Common.{uses_new, find, entry_at, with_number, KeepsOthers, Node, Stowed, Tree, AreApart, Rewrites, stowed_at, removed, cases_key}
+use Rattle.rx_ground.proofs.Common.{one_lease_more, one_lease_less, with_resource, some_of, HasKey, IsStored, AreStored}
 use Rattle.rx_event.specs.Resources.{is_owned, leases_of, uses}
-use Rattle.rx_event.specs.Lawful.{MayFollow, IsLawful}
-use Rattle.rx_event.proofs.Laws.Places.{slice_get_last, at-append, at_within}
-use Rattle.rx_event.proofs.Laws.Searches.{list_any_push}
-use Rattle.rx_event.proofs.Laws.Bools.{or_false}
-use Rattle.rx_event.proofs.Laws.Openness.{is_cut, is_open_cut, is_open_unchanged, is_open_within, stays_closed}
-use Rattle.rx_event.proofs.Laws.Resources.{node_of, loses, is_owned-push, is_owned-remove, is_owned_last, no_take, accepted_by-push, accepted_by_new}
 use Rattle.rx_event.proofs.Laws.Leases.{leases_of_kept, leases_of_still, leases_of_new, leases_of-return}
-use Rattle.rx_event.proofs.Laws.Sound.{reads_owned}
-use Rattle.rx_event.proofs.Laws.Totals.{uses-push, uses_new}
-use Rattle.rx_slots.specs.declared.Key.{Key}
-use Rattle.rx_slots.specs.Slots.{Slots, find, entry_at, with_number, KeepsOthers}
-use Rattle.rx_tree.specs.declared.node.Node.{Node}
-use Rattle.rx_tree.specs.declared.node.Stowed.{Stowed}
-use Rattle.rx_tree.specs.Tree.{Tree, AreApart, Rewrites}
-use Rattle.rx_tree.specs.Resources.{stowed_at, removed, one_lease_more, one_lease_less, with_resource}
-use Rattle.rx_tree.proofs.Laws.Keys.{cases_key, some_of}
-use Rattle.rx_ground.specs.Ties.{HasKey, IsStored, AreStored}
 
 -- the event is about no resource of this number, and gives no lease back
 pub record IsApart (r : ℕ) (e : Event) : Type 0 where

@@ -1,13 +1,9 @@
 -- Lists by rising number are told by what their members are.
-use Rattle.std.proofs.Common.{◌≡◌, ◌≢◌, ℕ, zero, suc, ◌+◌, ◌<◌, ◌≤◌, ◌==◌, Bool, true, false, cond, List, []}
-use Rattle.std.proofs.Common.{◌∷◌, map, get_or, IsTrue, refl, sym, ap, subst, ◌∙◌, inl, inr, ◌⊎◌, arith}
-use Rattle.std.specs.List.{AllPairs, Contains, AllByRecursion, IsDistinct, filter, range_with_len}
-use Rattle.std.specs.List.Sorted.{IsPermutation, IsNonDecreasingBy}
-use Rattle.std.proofs.lemmas.Bool.{both_ways, eqb-true, eq-eqb, ne_eqb}
-use Rattle.std.proofs.lemmas.List.Elements.{All-contains}
-use Rattle.std.proofs.lemmas.List.Sorted.{IsPermutation-map, IsPermutation-sym, Contains-permutation}
+use Rattle.rx_ground.proofs.Common.{◌≡◌, ◌≢◌, ℕ, zero, suc, ◌+◌, ◌<◌, ◌≤◌, ◌==◌, Bool, true, false, cond, List, [], ◌∷◌, map, get_or, IsTrue, refl, sym, ap}
+use Rattle.rx_ground.proofs.Common.{subst, ◌∙◌, inl, inr, ◌⊎◌, arith, AllPairs, Contains, AllByRecursion, IsDistinct, filter, range_with_len, IsPermutation}
+use Rattle.rx_ground.proofs.Common.{both_ways, eqb-true, eq-eqb, ne_eqb, All-contains, IsPermutation-map, IsPermutation-sym, Contains-permutation, IsByNumber}
+use Rattle.std.specs.List.Sorted.{IsNonDecreasingBy}
 use Rattle.std.proofs.lemmas.Map.Keys.{IsDistinct-IsPermutation, IsDistinct-from_apart, IsDistinct-head, IsDistinct-tail}
-use Rattle.rx_tree.specs.Bases.{IsByNumber}
 use Rattle.rx_ground.proofs.Laws.Members.{Contains-head, Contains-later, Contains-none, Contains-cases, Contains-from_map}
 use Rattle.rx_ground.proofs.Laws.Numbers.{ListsJust}
 

@@ -1,28 +1,9 @@
 -- What makes way for a node takes no memory, and leaves a ground that is ready for it.
-use Rattle.std.proofs.Common.{◌≡◌, ◌+◌, ◌-◌, ◌<◌, ◌≤◌, ◌∙◌, ◌++◌, ◌∷◌, [], ℕ, Bool, true, false, List, Option, IfSome, length}
-use Rattle.std.proofs.Common.{sym, ap, subst, arith, inl, inr, ◌⊎◌}
-use Rattle.std.proofs.lemmas.Bool.{cases_Bool}
-use Rattle.rx_event.proofs.Laws.Totals.{is_open_new}
-use Rattle.rx_resource.specs.declared.Resource.{Ghosts}
-use Rattle.rx_event.specs.declared.event.Event.{Event}
-use Rattle.rx_event.specs.declared.event.Event.TheVariants.{Open}
-use Rattle.rx_event.specs.declared.event.Kind.{Kind}
-use Rattle.rx_event.specs.declared.event.Place.{Place}
-use Rattle.rx_event.specs.Lawful.{MayFollow, IsLawful}
-use Rattle.rx_register.specs.State.{State as Register, IsPromised, Writes}
-use Rattle.rx_slots.specs.declared.Key.{Key}
-use Rattle.rx_slots.specs.Slots.{Slots, find}
-use Rattle.rx_tree.specs.Closing.{Closed}
-use Rattle.rx_tree.specs.declared.node.ResKey.{ResKey}
-use Rattle.rx_tree.specs.Owed.{owed_in}
-use Rattle.rx_tree.specs.Tree.{Tree, IsSound}
-use Rattle.rx_hub.specs.After.{hubs_after, with_made}
-use Rattle.rx_hub.specs.Hubs.{Hubs}
-use Rattle.rx_ground.specs.Gone.{Gathers}
-use Rattle.rx_ground.specs.Inners.{MakesWay, ClearsHubs, ListsReplaced, ListsWay}
-use Rattle.rx_ground.specs.Memory.{TakesNoMemory}
-use Rattle.rx_ground.specs.Shown.{Ground, closed_keys}
-use Rattle.rx_ground.specs.Ties.{AreTied}
+use Rattle.rx_ground.proofs.Common.{◌≡◌, ◌+◌, ◌-◌, ◌<◌, ◌≤◌, ◌∙◌, ◌++◌, ◌∷◌, [], ℕ, Bool, true, false, List, Option, IfSome, length, sym, ap, subst, arith}
+use Rattle.rx_ground.proofs.Common.{inl, inr, ◌⊎◌, cases_Bool, is_open_new, Ghosts, Event, Open, Kind, Place, MayFollow, IsLawful, IsPromised, Writes, Key}
+use Rattle.rx_ground.proofs.Common.{Slots, find, Closed, ResKey, owed_in, Tree, IsSound, hubs_after, with_made, Hubs, Gathers, MakesWay, ClearsHubs, ListsWay}
+use Rattle.rx_ground.proofs.Common.{ListsReplaced, TakesNoMemory, Ground, closed_keys, AreTied}
+use Rattle.rx_register.specs.State.{State as Register}
 use Rattle.rx_ground.proofs.Memory.{written_memory}
 use Rattle.rx_ground.proofs.HubsAtOpening.{hubs_opened}
 use Rattle.rx_ground.proofs.ReadyToOpen.{IsReadyToOpen, IsOpenedBelow, few_above, none_closed, way_left}

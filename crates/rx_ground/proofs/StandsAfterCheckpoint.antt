@@ -1,46 +1,14 @@
 -- A ground stands after a checkpoint as it did before.
-use Rattle.std.proofs.Common.{◌≡◌, ℕ, Bool, true, false, List, map, slice_get, Option, Some, None, count_by, IfSome, IsSome, refl, sym, ap, subst, ◌∙◌, arith}
-use Rattle.std.proofs.Math.Bool.{not, ◌&&◌, ◌||◌}
-use Rattle.std.specs.List.{AllByRecursion, list_any, range_with_len}
-use Rattle.std.proofs.lemmas.Bool.{false≢true}
-use Rattle.rx_note.specs.declared.note.Terminal.{Terminal}
-use Rattle.rx_resource.specs.declared.Resource.{Ghosts}
-use Rattle.rx_event.specs.declared.event.Event.{Event}
-use Rattle.rx_event.specs.declared.event.Event.TheVariants.{End}
-use Rattle.rx_event.specs.Events.{makes_resource, is_take_of}
-use Rattle.rx_event.specs.Kept.{Kept as Base, shown}
-use Rattle.rx_event.specs.Tree.{at}
+use Rattle.rx_ground.proofs.Common.{◌≡◌, ℕ, Bool, true, false, List, map, slice_get, Option, Some, None, count_by, IfSome, IsSome, refl, sym, ap, subst, ◌∙◌}
+use Rattle.rx_ground.proofs.Common.{arith, not, ◌&&◌, ◌||◌, AllByRecursion, list_any, range_with_len, false≢true, Terminal, Ghosts, Event, End, is_take_of}
+use Rattle.rx_ground.proofs.Common.{makes_resource, shown, at, debt, open_count, base_of, is_untaken, Agree, Started, IsLawful, IsSettled, none_waits, Alike}
+use Rattle.rx_ground.proofs.Common.{length_base, made_untaken, held_resource, held_not_taken, waiting_parts, alike_of, sound_of, settled_connected, same_debt}
+use Rattle.rx_ground.proofs.Common.{s_leases_of, s_resource_at, base_started, kept_agrees, base_settled, base_marks, Slots, find, Node, ResKey, Stowed, Tree}
+use Rattle.rx_ground.proofs.Common.{HubDue, IsQuiet, NoneWaits, connects, acts, connect_of, due_of, event_of, Hub, Hubs, without_end, AreHubsOf, hubs_forced}
+use Rattle.rx_ground.proofs.Common.{forgot_get, forgotten_hubs, Ground, IsCheckpoint, IsRecordOf, IsStored, AreJoined, AreLeased, IsTied, AreTied, IsStanding}
+use Rattle.rx_event.specs.Kept.{Kept as Base}
 use Rattle.rx_event.specs.Resources.{is_held, is_waiting, is_taken}
-use Rattle.rx_event.specs.Totals.{debt, open_count}
-use Rattle.rx_event.specs.Bases.{base_of, is_untaken, Agree}
-use Rattle.rx_event.specs.Lawful.{Started, IsLawful}
-use Rattle.rx_event.specs.Forced.{IsSettled, none_waits}
-use Rattle.rx_event.proofs.Laws.Bases.{length_base}
-use Rattle.rx_event.proofs.Laws.MakingRemovesNothing.{made_untaken}
-use Rattle.rx_event.proofs.Laws.Resources.{held_resource, held_not_taken, waiting_parts}
-use Rattle.rx_event.proofs.Laws.SameTree.{Alike, alike_of}
-use Rattle.rx_event.proofs.Laws.Sound.{sound_of}
-use Rattle.rx_event.proofs.Laws.Waits.{settled_connected}
-use Rattle.rx_event.proofs.Laws.BaseAgrees.{s_leases_of, s_resource_at}
-use Rattle.rx_event.proofs.Laws.BaseStarted.{base_started}
-use Rattle.rx_event.proofs.Laws.Checkpoints.{kept_agrees, same_debt}
-use Rattle.rx_event.proofs.Laws.CheckpointMarks.{base_settled, base_marks}
-use Rattle.rx_slots.specs.Slots.{Slots, find}
-use Rattle.rx_tree.specs.declared.node.Node.{Node}
-use Rattle.rx_tree.specs.declared.node.ResKey.{ResKey}
-use Rattle.rx_tree.specs.declared.node.Stowed.{Stowed}
-use Rattle.rx_tree.specs.Tree.{Tree}
 use Rattle.rx_register.specs.State.{Rebases, IsPromised as IsRegisterPromised}
-use Rattle.rx_hub.specs.declared.hub.HubDue.{HubDue}
-use Rattle.rx_hub.specs.Due.{IsQuiet, NoneWaits, connects, acts, connect_of, due_of, event_of}
-use Rattle.rx_hub.specs.Hubs.{Hub, Hubs, without_end}
-use Rattle.rx_hub.specs.Records.{AreHubsOf}
-use Rattle.rx_hub.proofs.Laws.Dues.{hubs_forced}
-use Rattle.rx_hub.proofs.Laws.HubsWithoutEnds.{forgot_get, forgotten_hubs}
-use Rattle.rx_ground.specs.Shown.{Ground}
-use Rattle.rx_ground.specs.Checkpoints.{IsCheckpoint}
-use Rattle.rx_hub.specs.TreeRecords.{IsRecordOf}
-use Rattle.rx_ground.specs.Ties.{IsStored, AreJoined, AreLeased, IsTied, AreTied, IsStanding}
 
 -- in a settled history nothing is due at any hub
 pub settled_quiet_hubs : (base : Base) (h : List Event) (hubs : List Hub) → AreHubsOf h hubs → IsSettled base h → IsQuiet hubs

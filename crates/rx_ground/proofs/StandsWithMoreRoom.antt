@@ -1,29 +1,11 @@
 -- A ground that has just been made stands, and one that stands does so with more room.
-use Rattle.std.proofs.Common.{◌≡◌, ℕ, ◌+◌, ◌≤◌, List, [], get_or, slice_get, Option, None, refl, sym, ap, subst, ◌∙◌, arith, is_some}
-use Rattle.std.specs.Prelude.{Result, Ok, Err, OnOk, OnErr}
-use Rattle.std.proofs.lemmas.Bool.{both_ways, false≢true}
-use Rattle.std.proofs.lemmas.Option.{none-some}
-use Rattle.rx_event.specs.Kept.{Kept}
-use Rattle.rx_resource.specs.declared.Resource.{Ghosts}
-use Rattle.rx_event.specs.declared.event.Event.{Event}
-use Rattle.rx_event.specs.Tree.{is_open}
-use Rattle.rx_event.specs.Totals.{debt, open_count}
-use Rattle.rx_event.specs.declared.event.Event.TheVariants.{Connect}
-use Rattle.rx_event.specs.Forced.{IsSettled, MayWait, none_waits, connecting}
+use Rattle.rx_ground.proofs.Common.{◌≡◌, ℕ, ◌+◌, ◌≤◌, List, [], get_or, slice_get, Option, None, refl, sym, ap, subst, ◌∙◌, arith, is_some, Result, Ok, Err}
+use Rattle.rx_ground.proofs.Common.{OnOk, OnErr, both_ways, false≢true, none-some, Kept, Ghosts, Event, is_open, debt, open_count, Connect, IsSettled, Entry}
+use Rattle.rx_ground.proofs.Common.{MayWait, none_waits, connecting, Key, Slots, find, with_number, Node, ResKey, Stowed, store_key, Tree, is_on, Ground, Hub}
+use Rattle.rx_ground.proofs.Common.{Hubs, HasKey, AreRecords, IsStored, IsTied, AreTied, AreLeased, IsStanding, IsRoomier, SetsAside, HasRoom, HasRoomBeside}
 use Rattle.rx_event.proofs.Laws.Openness.{is_open_past}
-use Rattle.rx_slots.specs.declared.Entry.{Entry}
-use Rattle.rx_slots.specs.declared.Key.{Key}
-use Rattle.rx_slots.specs.Slots.{Slots, find, with_number}
-use Rattle.rx_tree.specs.declared.node.Node.{Node}
-use Rattle.rx_tree.specs.declared.node.ResKey.{ResKey}
-use Rattle.rx_tree.specs.declared.node.Stowed.{Stowed}
-use Rattle.rx_tree.specs.Resources.{store_key}
-use Rattle.rx_tree.specs.Tree.{Tree, is_on}
 use Rattle.rx_register.specs.State.{State as Register}
 use Rattle.rx_register.proofs.Laws.Empty.{settled_empty, paid_empty}
-use Rattle.rx_ground.specs.Shown.{Ground}
-use Rattle.rx_hub.specs.Hubs.{Hub, Hubs}
-use Rattle.rx_ground.specs.Ties.{HasKey, AreRecords, IsStored, IsTied, AreTied, AreLeased, IsStanding, IsRoomier, SetsAside, HasRoom, HasRoomBeside}
 use Rattle.rx_ground.specs.declared.base.Wanted.{Wanted}
 use Rattle.rx_ground.proofs.LeasesAfterEvent.{leased_empty, leased_same}
 use Rattle.rx_ground.proofs.HubsAfterEvent.{tied_beside}

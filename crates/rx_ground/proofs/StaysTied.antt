@@ -1,35 +1,12 @@
 -- A tree that is tied to a history is tied to the longer one, after an event is written on both.
-use Rattle.std.proofs.Common.{◌≡◌, ◌≢◌, ℕ, ◌==◌, Bool, true, false, cond, List, [], ◌∷◌, ◌++◌, length, Option, Some, None}
-use Rattle.std.proofs.Common.{is_some, IsSome, option_map, slice_get, refl, sym, ap, subst, ◌∙◌, inl, inr, ◌⊎◌, arith}
-use Rattle.std.proofs.Math.Bool.{not, ◌&&◌}
-use Rattle.std.specs.List.{list_any}
-use Rattle.std.proofs.lemmas.Bool.{false≢true, and_parts, eq-eqb, ne_eqb, not-true, false_from_ne_true}
-use Rattle.std.proofs.lemmas.Option.{none-some, same_Some}
-use Rattle.rx_event.specs.Kept.{Kept}
-use Rattle.rx_resource.specs.declared.Resource.{Ghosts}
-use Rattle.rx_note.specs.declared.note.Terminal.{Terminal}
-use Rattle.rx_event.specs.declared.marks.Marks.{Marks}
-use Rattle.rx_event.specs.declared.event.Place.{Place}
-use Rattle.rx_event.specs.declared.event.Place.TheVariants.{Root, Source}
-use Rattle.rx_event.specs.declared.event.Kind.{Kind}
-use Rattle.rx_event.specs.declared.event.Event.{Event}
-use Rattle.rx_event.specs.declared.event.Event.TheVariants.{Open, Decline, End, Close}
-use Rattle.rx_event.specs.Events.{makes_node, makes_resource, parent_named, source_named, is_source_of, is_merging}
-use Rattle.rx_event.specs.Tree.{is_open, parent, ancestors, is_within}
-use Rattle.rx_event.specs.Marks.{marks_of, touches, is_child_of, after_child, after_decline}
-use Rattle.rx_event.specs.Lawful.{MayFollow, IsLawful}
-use Rattle.rx_event.proofs.Laws.Parents.{is_within-le, parent-lt, parent_name}
-use Rattle.rx_event.proofs.Laws.Openness.{shuts_none, is_open_outside-end, is_open_outside-close}
-use Rattle.rx_event.proofs.Laws.MarksFound.{is_child_parent}
-use Rattle.rx_event.proofs.Laws.MarksEnds.{marks_closed, marks-end_other}
-use Rattle.rx_event.proofs.Laws.MarksTouched.{marks-decline_at, marks-end_at}
-use Rattle.rx_slots.specs.declared.Key.{Key}
-use Rattle.rx_slots.specs.Slots.{Slots, find, entry_at, with_number, KeepsOthers}
-use Rattle.rx_tree.specs.declared.node.Node.{Node}
-use Rattle.rx_tree.specs.Tree.{Tree, IsSound, AreApart, Rewrites, blank_node, with_due}
-use Rattle.rx_tree.specs.Below.{is_below}
-use Rattle.rx_tree.proofs.Laws.Keys.{cases_key, some_of}
-use Rattle.rx_ground.specs.Ties.{AreRecords, AreStored, IsTied, KeepsNodes, Remarks, Cuts}
+use Rattle.rx_ground.proofs.Common.{◌≡◌, ◌≢◌, ℕ, ◌==◌, Bool, true, false, cond, List, [], ◌∷◌, ◌++◌, length, Option, Some, None, is_some, IsSome, option_map}
+use Rattle.rx_ground.proofs.Common.{slice_get, refl, sym, ap, subst, ◌∙◌, inl, inr, ◌⊎◌, arith, not, ◌&&◌, list_any, false≢true, and_parts, eq-eqb, ne_eqb}
+use Rattle.rx_ground.proofs.Common.{not-true, false_from_ne_true, none-some, same_Some, Kept, Ghosts, Terminal, Marks, Place, Root, Source, Kind, Event, Open}
+use Rattle.rx_ground.proofs.Common.{Decline, End, Close, makes_node, makes_resource, parent_named, source_named, is_source_of, is_merging, is_open, parent}
+use Rattle.rx_ground.proofs.Common.{ancestors, is_within, marks_of, touches, is_child_of, after_child, after_decline, MayFollow, IsLawful, is_within-le, Key}
+use Rattle.rx_ground.proofs.Common.{parent-lt, parent_name, shuts_none, is_open_outside-end, is_open_outside-close, is_child_parent, marks_closed, Slots}
+use Rattle.rx_ground.proofs.Common.{marks-end_other, marks-decline_at, marks-end_at, find, entry_at, with_number, KeepsOthers, Node, Tree, IsSound, AreApart}
+use Rattle.rx_ground.proofs.Common.{Rewrites, blank_node, with_due, is_below, cases_key, some_of, AreRecords, AreStored, IsTied, KeepsNodes, Remarks, Cuts}
 use Rattle.rx_ground.proofs.Records.{AreNearly, AreLeft, all_fresh, remarked, records_still, records_touched, records_opened, records_cut, below_is_within}
 use Rattle.rx_ground.proofs.ResourcesAfterEvent.{IsApart, all_stored}
 

@@ -1,23 +1,10 @@
 -- What is known of a resource that is taken out of a tree.
-use Rattle.std.proofs.Common.{◌≡◌, ℕ, Bool, true, false, List, [], ◌∷◌, map, Some, refl, sym, ap, subst, ◌∙◌}
-use Rattle.std.proofs.Math.Bool.{not, ◌&&◌, ◌||◌}
-use Rattle.std.specs.Prelude.{IsTrue}
-use Rattle.std.specs.List.{Contains, list_any}
-use Rattle.std.proofs.lemmas.Bool.{false≢true}
+use Rattle.rx_ground.proofs.Common.{◌≡◌, ℕ, Bool, true, false, List, [], ◌∷◌, map, Some, refl, sym, ap, subst, ◌∙◌, not, ◌&&◌, ◌||◌, IsTrue, Contains, Ghosts}
+use Rattle.rx_ground.proofs.Common.{list_any, false≢true, Live, Event, makes_resource, is_take_of, at, Key, find, Stowed, Tree, Takes, is_owned, is_lent}
+use Rattle.rx_ground.proofs.Common.{is_held, IsTied, IsStored, IsListed}
 use Rattle.rx_event.specs.Kept.{Kept as Base}
-use Rattle.rx_resource.specs.declared.Resource.{Ghosts}
-use Rattle.rx_resource.specs.declared.Life.TheVariants.{Live}
-use Rattle.rx_event.specs.declared.event.Event.{Event}
-use Rattle.rx_event.specs.Events.{makes_resource, is_take_of}
-use Rattle.rx_event.specs.Tree.{at}
 use Rattle.rx_event.specs.Resources.{is_owned as is_owned_in, is_held as is_held_in, is_waiting, is_taken}
-use Rattle.rx_slots.specs.declared.Key.{Key}
-use Rattle.rx_slots.specs.Slots.{find}
-use Rattle.rx_tree.specs.declared.node.Stowed.{Stowed}
-use Rattle.rx_tree.specs.Tree.{Tree}
-use Rattle.rx_tree.specs.Resources.{Takes, is_owned, is_lent, is_held}
 use Rattle.rx_ground.specs.Shown.{Label, label_of, Kept, kept_in, waiting_in, label_in}
-use Rattle.rx_ground.specs.Ties.{IsTied, IsStored, IsListed}
 use Rattle.rx_ground.proofs.Laws.Members.{Contains-head, Contains-map}
 use Rattle.rx_ground.proofs.TreeAgreesOnResource.{owned_agrees, held_agrees as stored_held, is_alone}
 use Rattle.rx_ground.proofs.FoundIsListed.{filter_member, filter_has, kept_found, kept_listed}

@@ -1,52 +1,20 @@
 -- What the loop that settles leaves of the tie.
-use Rattle.std.proofs.Common.{◌≡◌, ℕ, ◌<◌, Bool, true, false, List, [], ◌∷◌, ◌++◌, length, Option, Some, None, is_some, IsSome, IfSome}
-use Rattle.std.proofs.Common.{option_map, slice_get, refl, sym, ap, subst, ◌∙◌, ◌≤◌, ◌+◌, arith, length-append}
-use Rattle.std.specs.List.{AllByRecursion}
-use Rattle.std.specs.Option.{option_and_then}
-use Rattle.std.proofs.Math.Bool.{◌||◌}
-use Rattle.std.proofs.lemmas.Bool.{false≢true}
-use Rattle.std.proofs.lemmas.Option.{none-some, same_Some}
-use Rattle.rx_event.specs.Kept.{Kept}
-use Rattle.rx_resource.specs.declared.Resource.{Ghosts}
-use Rattle.rx_note.specs.declared.note.Terminal.{Terminal}
-use Rattle.rx_event.specs.declared.marks.Marks.{Marks}
-use Rattle.rx_event.specs.declared.event.Event.{Event}
-use Rattle.rx_event.specs.declared.event.Event.TheVariants.{Connect, End}
-use Rattle.rx_event.specs.Events.{is_merging}
-use Rattle.rx_event.specs.Tree.{is_open}
-use Rattle.rx_event.specs.Marks.{due_at, after_child}
-use Rattle.rx_event.specs.Notes.{mail_of}
-use Rattle.rx_event.specs.Forced.{IsConnectDue, IsForced, IsSettled, connecting, due}
-use Rattle.rx_event.specs.Lawful.{IsLawful, IsForcedOn, forced, stays, more}
-use Rattle.rx_event.proofs.Laws.Openness.{is_open_within, stays_closed}
-use Rattle.rx_event.proofs.Laws.Waits.{forced_connected}
-use Rattle.rx_slots.specs.declared.Key.{Key}
-use Rattle.rx_slots.specs.Slots.{Slots, find}
-use Rattle.rx_tree.specs.declared.node.Node.{Node}
-use Rattle.rx_tree.specs.Tree.{Tree, Rewrites, is_on, is_key, with_marks, with_due}
-use Rattle.rx_tree.proofs.Laws.Keys.{key_is, some_of}
-use Rattle.rx_register.specs.State.{State as Register, Writes}
-use Rattle.rx_register.specs.Paid.{IsPaid}
+use Rattle.rx_ground.proofs.Common.{◌≡◌, ℕ, ◌<◌, Bool, true, false, List, [], ◌∷◌, ◌++◌, length, Option, Some, None, is_some, IsSome, IfSome, option_map, sym}
+use Rattle.rx_ground.proofs.Common.{slice_get, refl, ap, subst, ◌∙◌, ◌≤◌, ◌+◌, arith, length-append, AllByRecursion, option_and_then, ◌||◌, false≢true, Kept}
+use Rattle.rx_ground.proofs.Common.{none-some, same_Some, Ghosts, Terminal, Marks, Event, Connect, End, is_merging, is_open, due_at, after_child, mail_of}
+use Rattle.rx_ground.proofs.Common.{IsConnectDue, IsForced, IsSettled, connecting, due, IsLawful, IsForcedOn, forced, stays, more, is_open_within, Key, Slots}
+use Rattle.rx_ground.proofs.Common.{stays_closed, forced_connected, find, Node, Tree, Rewrites, is_on, is_key, with_marks, with_due, key_is, some_of, Writes}
+use Rattle.rx_ground.proofs.Common.{IsPaid, told_by_end, Due, IsChained, AreRecordsOf, due_at_in, due_forced, AreLeased, AreRecords, AreTied, IsReady, IsNext}
+use Rattle.rx_ground.proofs.Common.{WithChain, KeepsOlder, Remarks, HasRoomToConnect, is_there, key_due, TakesNoMemory, Settles, Gathers, Ground, list_room}
+use Rattle.rx_ground.proofs.Common.{HubDue, event_of, IsDueIn, IsQuiet, ConcernsHub, Hub, Hubs, find_hub, hubs_forced, found_hub}
+use Rattle.rx_register.specs.State.{State as Register}
 use Rattle.rx_register.proofs.Laws.Paid.{forced_room, end_room, forced_pays}
-use Rattle.rx_register.proofs.Laws.Fits.{told_by_end}
-use Rattle.rx_hub.specs.declared.operators.Due.{Due}
-use Rattle.rx_hub.specs.Operators.{IsChained, IsDueAt, IsQuiet as IsQuietTree}
-use Rattle.rx_hub.specs.TreeRecords.{AreRecordsOf}
-use Rattle.rx_hub.proofs.Laws.DuesInTree.{due_at_in, due_forced}
-use Rattle.rx_ground.specs.Ties.{AreLeased, AreRecords, AreTied, IsReady, WithChain, IsNext, KeepsOlder, Remarks, HasRoomToConnect, is_there, key_due}
-use Rattle.rx_ground.specs.Memory.{TakesNoMemory}
-use Rattle.rx_ground.specs.Settling.{Settles}
+use Rattle.rx_hub.specs.Operators.{IsDueAt, IsQuiet as IsQuietTree}
 use Rattle.rx_ground.proofs.Memory.{memory_on}
-use Rattle.rx_ground.specs.Gone.{Gathers}
-use Rattle.rx_ground.specs.Shown.{Ground, list_room}
 use Rattle.rx_ground.proofs.Laws.GoneStaysGone.{IsFurther, gone_push, gone_forced, gathers_nothing, gathers_on}
 use Rattle.rx_ground.proofs.Records.{as_records, rechained}
-use Rattle.rx_hub.specs.declared.hub.HubDue.{HubDue}
 use Rattle.rx_hub.specs.declared.hub.HubDue.TheVariants.{Connect as ConnectDue, End as EndDue, Close as CloseDue}
-use Rattle.rx_hub.specs.Due.{event_of, IsDueIn, IsQuiet, ConcernsHub}
-use Rattle.rx_hub.specs.Hubs.{Hub, Hubs, find_hub}
-use Rattle.rx_hub.proofs.Laws.Dues.{hubs_forced, none_waits, quiet_settles}
-use Rattle.rx_hub.proofs.Laws.Walks.{found_hub}
+use Rattle.rx_hub.proofs.Laws.Dues.{none_waits, quiet_settles}
 
 -- settling ------------------------------------------------------------------------------------------
 

@@ -1,39 +1,12 @@
 -- What the record of a node says of the causes.
-use Rattle.std.proofs.Common.{◌≡◌, ℕ, ◌+◌, ◌==◌, Bool, true, false, cond, List, [], ◌∷◌, Option, Some, None}
-use Rattle.std.proofs.Common.{is_some, option_map, slice_get, refl, sym, ap, ◌∙◌, arith, zero-add}
-use Rattle.std.specs.Prelude.{nat_lt}
-use Rattle.std.proofs.Math.Bool.{not, ◌||◌}
-use Rattle.std.specs.List.{list_any, count_by}
-use Rattle.std.specs.Option.{option_map_or}
-use Rattle.std.proofs.lemmas.Bool.{lt-ltb}
-use Rattle.std.proofs.lemmas.List.Sums.{sum_by-cons}
-use Rattle.std.proofs.lemmas.Option.{none-some, same_Some}
-use Rattle.rx_event.specs.Kept.{Kept}
-use Rattle.rx_resource.specs.declared.Resource.{Ghosts}
-use Rattle.rx_event.specs.declared.marks.Marks.{Marks}
-use Rattle.rx_event.specs.declared.event.Place.{Place}
-use Rattle.rx_event.specs.declared.event.Place.TheVariants.{Root, Source, Inner, Notifier}
-use Rattle.rx_event.specs.declared.event.Event.{Event}
-use Rattle.rx_event.specs.Events.{has_source, is_merging, is_until, named_by}
-use Rattle.rx_event.specs.Tree.{at, places, is_open, is_open_child_of, has_open_child}
-use Rattle.rx_event.specs.Opened.{source_opened, notifier_opened}
-use Rattle.rx_event.specs.Moments.{owed}
+use Rattle.rx_ground.proofs.Common.{◌≡◌, ℕ, ◌+◌, ◌==◌, Bool, true, false, cond, List, [], ◌∷◌, Option, Some, None, is_some, option_map, slice_get, refl, sym}
+use Rattle.rx_ground.proofs.Common.{ap, ◌∙◌, arith, zero-add, nat_lt, not, ◌||◌, list_any, option_map_or, lt-ltb, sum_by-cons, none-some, same_Some, Kept, at}
+use Rattle.rx_ground.proofs.Common.{Ghosts, Marks, Place, Root, Source, Inner, Notifier, Event, has_source, is_merging, is_until, named_by, places, is_open}
+use Rattle.rx_ground.proofs.Common.{is_open_child_of, has_open_child, source_opened, notifier_opened, owed, marks_of, open_children, is_wrong_place, Key}
+use Rattle.rx_ground.proofs.Common.{is_taken_place, is_unowed_place, Slots, find, Node, Stowed, ResKey, Tree, store_key, is_owned, is_owned_at, is_held_at}
+use Rattle.rx_ground.proofs.Common.{some_of, LeaseKey, is_out_at, Record, IsTied, AreLeased, record_of, IsTold, has_place, is_used, is_unowed}
+use Rattle.std.specs.List.{count_by}
 use Rattle.rx_event.specs.Resources.{is_owned as is_owned_in, is_out, is_held as is_held_in}
-use Rattle.rx_event.specs.Marks.{marks_of, open_children}
-use Rattle.rx_event.specs.Causes.{is_wrong_place, is_taken_place, is_unowed_place}
-use Rattle.rx_slots.specs.declared.Key.{Key}
-use Rattle.rx_slots.specs.Slots.{Slots, find}
-use Rattle.rx_tree.specs.declared.node.Node.{Node}
-use Rattle.rx_tree.specs.declared.node.Stowed.{Stowed}
-use Rattle.rx_tree.specs.declared.node.ResKey.{ResKey}
-use Rattle.rx_tree.specs.Tree.{Tree}
-use Rattle.rx_tree.specs.Resources.{store_key, is_owned, is_owned_at, is_held_at}
-use Rattle.rx_tree.proofs.Laws.Keys.{some_of}
-use Rattle.rx_ground.specs.declared.leases.LeaseKey.{LeaseKey}
-use Rattle.rx_ground.specs.Leases.{is_out_at}
-use Rattle.rx_ground.specs.declared.base.Record.{Record}
-use Rattle.rx_ground.specs.Ties.{IsTied, AreLeased, record_of}
-use Rattle.rx_ground.specs.Told.{IsTold, has_place, is_used, is_unowed}
 use Rattle.rx_ground.proofs.TreeAgreesOnResource.{owned_agrees, held_agrees}
 use Rattle.rx_ground.proofs.LeasesAfterEvent.{out_in_history as lease_in_history}
 use Rattle.rx_ground.proofs.Newest.{held_found}

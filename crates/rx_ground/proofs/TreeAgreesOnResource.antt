@@ -1,23 +1,8 @@
 -- What a tree says of a stored resource, whether it is owned, leased and held, the history says too.
-use Rattle.std.proofs.Common.{◌≡◌, ℕ, zero, suc, ◌==◌, Bool, List, Some, is_some, refl, sym, ap, ◌∙◌}
-use Rattle.std.specs.Prelude.{nat_lt}
-use Rattle.std.proofs.Math.Bool.{not, ◌&&◌, ◌||◌}
+use Rattle.rx_ground.proofs.Common.{◌≡◌, ℕ, zero, suc, ◌==◌, Bool, List, Some, is_some, refl, sym, ap, ◌∙◌, nat_lt, not, ◌&&◌, ◌||◌, lt-ltb, ne_eqb, arith}
+use Rattle.rx_ground.proofs.Common.{Kept, Ghosts, Event, is_open, held_is, Key, find, Stowed, Tree, is_owned, is_lent, is_held, some_of, IsTied, IsStored}
 use Rattle.std.specs.Cmp.{both_ways as same_test}
-use Rattle.std.proofs.lemmas.Bool.{lt-ltb, ne_eqb}
-use Rattle.std.proofs.Common.{arith}
-use Rattle.rx_event.specs.Kept.{Kept}
-use Rattle.rx_resource.specs.declared.Resource.{Ghosts}
-use Rattle.rx_event.specs.declared.event.Event.{Event}
-use Rattle.rx_event.specs.Tree.{is_open}
 use Rattle.rx_event.specs.Resources.{is_owned as is_owned_in, is_leased, is_held as is_held_in, leases_of}
-use Rattle.rx_event.proofs.Laws.Resources.{held_is}
-use Rattle.rx_slots.specs.declared.Key.{Key}
-use Rattle.rx_slots.specs.Slots.{find}
-use Rattle.rx_tree.specs.declared.node.Stowed.{Stowed}
-use Rattle.rx_tree.specs.Tree.{Tree}
-use Rattle.rx_tree.specs.Resources.{is_owned, is_lent, is_held}
-use Rattle.rx_tree.proofs.Laws.Keys.{some_of}
-use Rattle.rx_ground.specs.Ties.{IsTied, IsStored}
 
 -- some are, where they are not none
 some_are : (n : ℕ) → nat_lt 0 n ≡ not (n == 0)

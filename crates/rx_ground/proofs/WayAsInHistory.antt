@@ -1,40 +1,13 @@
 -- Where an item goes by a tree and hubs is where it goes by their history, and what it wants there.
-use Rattle.std.proofs.Common.{◌≡◌, ℕ, ℤ, Bool, cond, count_by, ◌+◌, true, false, nat_lt, List, [], ◌∷◌, length, Option, Some, None, IsSome}
-use Rattle.std.proofs.Common.{IfSome, is_some, option_map, refl, sym, ap, ◌∙◌, arith}
-use Rattle.std.proofs.Math.Bool.{not}
-use Rattle.std.specs.List.{filter_map}
-use Rattle.std.specs.Option.{option_map_or}
-use Rattle.std.proofs.lemmas.List.Sums.{sum_by-cons}
-use Rattle.std.proofs.lemmas.Option.{same_Some, none-some}
-use Rattle.rx_event.specs.Kept.{Kept}
-use Rattle.rx_resource.specs.declared.Resource.{Ghosts}
-use Rattle.rx_event.specs.declared.event.Event.{Event}
-use Rattle.rx_event.specs.Events.{is_leaf}
-use Rattle.rx_event.specs.Tree.{at, is_open}
-use Rattle.rx_event.specs.Moments.{is_projection}
-use Rattle.rx_event.specs.Notes.{told}
-use Rattle.rx_event.specs.Calls.{Emitting}
+use Rattle.rx_ground.proofs.Common.{◌≡◌, ℕ, ℤ, Bool, cond, count_by, ◌+◌, true, false, nat_lt, List, [], ◌∷◌, length, Option, Some, None, IsSome, IfSome, sym}
+use Rattle.rx_ground.proofs.Common.{is_some, option_map, refl, ap, ◌∙◌, arith, not, filter_map, option_map_or, sum_by-cons, same_Some, none-some, Kept, Event}
+use Rattle.rx_ground.proofs.Common.{Ghosts, is_leaf, at, is_open, is_projection, told, Emitting, Full, Gone, WrongKind, TooMany, first_cause, is_over, Key}
+use Rattle.rx_ground.proofs.Common.{most_visits, Slots, find, Node, Tree, IsSound, Stop, Delivery, Projection, Firing, Connection, numbered, Hub, Hubs, Reach}
+use Rattle.rx_ground.proofs.Common.{IsWalk, stops_over, all_stops_told, found_hub, Way, AreRecords, AreTied, IsReach, IsMeasured, owed_at, told_at, sum_at}
 use Rattle.rx_event.specs.declared.refusal.Refusal.{Refusal}
-use Rattle.rx_event.specs.declared.refusal.Refusal.TheVariants.{Full, Gone, WrongKind, TooMany}
-use Rattle.rx_event.specs.Refusals.{first_cause}
-use Rattle.rx_event.specs.Causes.{causes, by_key, is_over}
-use Rattle.rx_event.specs.Climb.{Stop as NumberedStop, Delivery as DeliveryTo, Projection as ProjectionTo, Firing as FiringOf, stops, visits, most_visits}
-use Rattle.rx_slots.specs.declared.Key.{Key}
-use Rattle.rx_slots.specs.Slots.{Slots, find}
-use Rattle.rx_tree.specs.declared.node.Node.{Node}
-use Rattle.rx_tree.specs.Tree.{Tree, IsSound}
-use Rattle.rx_hub.specs.declared.stop.Stop.{Stop}
-use Rattle.rx_hub.specs.declared.stop.Stop.TheVariants.{Delivery, Projection, Firing, Connection}
-use Rattle.rx_hub.specs.TreeClaims.{numbered}
-use Rattle.rx_hub.specs.Hubs.{Hub, Hubs}
-use Rattle.rx_hub.specs.Walk.{IsWalk, stops_over}
-use Rattle.rx_hub.proofs.Laws.Walks.{all_stops_told, found_hub}
-use Rattle.rx_ground.specs.declared.route.Reach.{Reach}
-use Rattle.rx_ground.specs.declared.route.Way.{Way}
-use Rattle.rx_ground.specs.Ties.{AreRecords, AreTied}
-use Rattle.rx_ground.specs.Reached.{IsReach}
+use Rattle.rx_event.specs.Causes.{causes, by_key}
+use Rattle.rx_event.specs.Climb.{Stop as NumberedStop, Delivery as DeliveryTo, Projection as ProjectionTo, Firing as FiringOf, stops, visits}
 use Rattle.rx_ground.proofs.Records.{as_records}
-use Rattle.rx_ground.specs.Passing.{IsMeasured, owed_at, told_at, sum_at}
 
 -- an item may go over a tree and hubs of one history
 pub walk_tied : (base : Kept) → {T : Type 0} {g : Ghosts T} {h : List Event} {tree : Tree T} {hubs : Hubs} → AreTied base g h tree hubs → IsSound tree.nodes →

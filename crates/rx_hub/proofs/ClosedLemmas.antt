@@ -1,24 +1,10 @@
 -- What a closing takes away from hubs, one closed node after the other.
-use Rattle.std.proofs.Common.{◌≡◌, ◌≢◌, ℕ, zero, suc, ◌<◌, ◌==◌, ◌||◌, cond, map, Bool, true, false, List}
-use Rattle.std.proofs.Common.{[], ◌∷◌, ◌++◌, length, get_or, slice_get, take, Option, Some, None}
-use Rattle.std.proofs.Common.{is_some, IsSome, IfSome, refl, sym, ap, subst, ◌∙◌, arith, true≢false}
+use Rattle.rx_hub.proofs.Common.{◌≡◌, ◌≢◌, ℕ, zero, suc, ◌<◌, ◌==◌, ◌||◌, cond, map, Bool, true, false, List, [], ◌∷◌, ◌++◌, length, get_or, slice_get, take}
+use Rattle.rx_hub.proofs.Common.{Option, Some, None, is_some, IsSome, IfSome, refl, sym, ap, subst, ◌∙◌, arith, true≢false, option_map_or, option_or, not}
+use Rattle.rx_hub.proofs.Common.{take-suc, nat_tests, same_Some, none-some, Event, Open, Connect, Sub, hub_connected, hub_subscribed, is_connect_of, Key, Hub}
+use Rattle.rx_hub.proofs.Common.{is_subscriber_of, Closed, is_key, is_on, key_is, LastEnd, is_closed, remaining, without_gone, after_closing, IsKnown, Hubs}
+use Rattle.rx_hub.proofs.Common.{AreClosing, find_hub, at_hub, disconnected, unsubscribed, without_key}
 use Rattle.std.specs.List.{filter, AllPairs}
-use Rattle.std.specs.Option.{option_map_or, option_or}
-use Rattle.std.proofs.Math.Bool.{not}
-use Rattle.std.proofs.Math.Seq.{take-suc}
-use Rattle.std.proofs.lemmas.Bool.Decides.{nat_tests}
-use Rattle.std.proofs.lemmas.Option.{same_Some, none-some}
-use Rattle.rx_event.specs.declared.event.Event.{Event}
-use Rattle.rx_event.specs.declared.event.Event.TheVariants.{Open, Connect}
-use Rattle.rx_event.specs.declared.event.Kind.TheVariants.{Sub}
-use Rattle.rx_event.specs.Events.{hub_connected, hub_subscribed, is_connect_of, is_subscriber_of}
-use Rattle.rx_slots.specs.declared.Key.{Key}
-use Rattle.rx_tree.specs.Closing.{Closed}
-use Rattle.rx_tree.specs.Tree.{is_key, is_on}
-use Rattle.rx_tree.proofs.Laws.Keys.{key_is}
-use Rattle.rx_hub.specs.declared.hub.LastEnd.{LastEnd}
-use Rattle.rx_hub.specs.Closing.{is_closed, remaining, without_gone, after_closing, IsKnown, AreClosing}
-use Rattle.rx_hub.specs.Hubs.{Hub, Hubs, find_hub, at_hub, disconnected, unsubscribed, without_key}
 use Rattle.rx_hub.proofs.Laws.Walks.{found_hub}
 use Rattle.rx_hub.proofs.StoreShowsHubs.{get_some}
 

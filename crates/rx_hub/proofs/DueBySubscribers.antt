@@ -1,25 +1,13 @@
 -- What a hub has to do is told by its oldest and its youngest subscriber.
-use Rattle.std.proofs.Common.{◌≡◌, ℕ, ◌<◌, ◌≤◌, ◌==◌, ◌++◌, ◌&&◌, ◌||◌, cond, Bool, true, false, List, [], ◌∷◌, length, slice_get, Option, Some, None, option_map}
-use Rattle.std.proofs.Common.{is_some, is_none, refl, sym, ap, subst, ◌∙◌, arith, true≢false, IfSome}
-use Rattle.std.specs.Prelude.{if◌then◌else◌, nat_lt}
-use Rattle.std.specs.List.{filter, list_any}
-use Rattle.std.specs.Option.{option_map_or, option_and_then, option_or}
-use Rattle.std.proofs.Math.Bool.{not}
-use Rattle.std.proofs.lemmas.Bool.Decides.{nat_tests}
-use Rattle.std.proofs.lemmas.Option.{same_Some, none-some}
-use Rattle.rx_slots.specs.declared.Key.{Key}
-use Rattle.rx_tree.specs.Tree.{first_of, is_key}
-use Rattle.rx_hub.specs.declared.hub.HubDue.{HubDue}
+use Rattle.rx_hub.proofs.Common.{◌≡◌, ℕ, ◌<◌, ◌≤◌, ◌==◌, ◌++◌, ◌&&◌, ◌||◌, cond, Bool, true, false, List, [], ◌∷◌, length, slice_get, Option, Some, None, sym}
+use Rattle.rx_hub.proofs.Common.{option_map, is_some, is_none, refl, ap, subst, ◌∙◌, arith, true≢false, IfSome, if◌then◌else◌, nat_lt, list_any, option_or}
+use Rattle.rx_hub.proofs.Common.{option_map_or, option_and_then, not, nat_tests, same_Some, none-some, Key, first_of, is_key, HubDue, LastEnd, Published, Hub}
+use Rattle.rx_hub.proofs.Common.{Rule, IsCalm, IsChain, IsAt, IsDueIn, IsQuiet, NoneWaits, connects, acts, is_auto, is_cut, connect_of, due_of, cut_of, Hubs}
+use Rattle.rx_hub.proofs.Common.{left_of, IsPromised, AreAbove, Rises, published_of, last_from, subscribed, unsubscribed, without_key, Lists, list_at, is_in}
+use Rattle.rx_hub.proofs.Common.{take_out, head_of, connect_by, cut_by, due_by, given_by}
+use Rattle.std.specs.List.{filter}
 use Rattle.rx_hub.specs.declared.hub.HubDue.TheVariants.{Connect as Connecting, End}
-use Rattle.rx_hub.specs.declared.hub.LastEnd.{LastEnd}
-use Rattle.rx_hub.specs.declared.hub.Published.{Published}
-use Rattle.rx_hub.specs.declared.forcing.Rule.{Rule}
 use Rattle.rx_hub.specs.declared.forcing.Rule.TheVariants.{Connect, Other}
-use Rattle.rx_hub.specs.Chains.{IsCalm, IsChain, IsAt}
-use Rattle.rx_hub.specs.Due.{IsDueIn, IsQuiet, NoneWaits, connects, acts, is_auto, is_cut, connect_of, due_of, cut_of, left_of}
-use Rattle.rx_hub.specs.Hubs.{Hub, Hubs, IsPromised, AreAbove, Rises, published_of, last_from, subscribed, unsubscribed, without_key}
-use Rattle.rx_lists.specs.Lists.{Lists, list_at, is_in, take_out, head_of}
-use Rattle.rx_hub.specs.Rules.{connect_by, cut_by, due_by, given_by}
 
 -- the youngest tells ------------------------------------------------------------------------------
 

@@ -1,19 +1,9 @@
 -- Looking for the first of a chain at which something is due.
-use Rattle.std.proofs.Common.{◌≡◌, ◌==◌, Bool, true, false, List, [], ◌∷◌, cond, Option, Some, None, is_some, option_map, refl, sym, ap, ◌∙◌}
+use Rattle.rx_hub.proofs.Common.{◌≡◌, ◌==◌, Bool, true, false, List, [], ◌∷◌, cond, Option, Some, None, is_some, option_map, refl, sym, ap, ◌∙◌, and_parts}
+use Rattle.rx_hub.proofs.Common.{eqb-true, same_Some, none-some, option_and_then, Terminal, Event, End, due_at, terminal_due, Key, Slots, find, Node, Tree}
+use Rattle.rx_hub.proofs.Common.{is_key, is_on, first_of, same_key, from_due, IsChained}
 use Rattle.std.proofs.Math.Bool.{◌||◌}
-use Rattle.std.proofs.lemmas.Bool.{and_parts, eqb-true}
-use Rattle.std.proofs.lemmas.Option.{same_Some, none-some}
-use Rattle.std.specs.Option.{option_and_then}
-use Rattle.rx_note.specs.declared.note.Terminal.{Terminal}
-use Rattle.rx_event.specs.declared.event.Event.{Event}
-use Rattle.rx_event.specs.declared.event.Event.TheVariants.{End}
-use Rattle.rx_event.specs.Marks.{due_at, terminal_due}
-use Rattle.rx_slots.specs.declared.Key.{Key}
-use Rattle.rx_slots.specs.Slots.{Slots, find}
-use Rattle.rx_tree.specs.declared.node.Node.{Node}
-use Rattle.rx_tree.specs.Tree.{Tree, is_key, is_on, first_of}
-use Rattle.rx_tree.proofs.Laws.Keys.{same_key}
-use Rattle.rx_hub.specs.Operators.{terminal_of, IsDueAt, due_of, from_due, IsQuiet, IsChained}
+use Rattle.rx_hub.specs.Operators.{terminal_of, IsDueAt, due_of, IsQuiet}
 
 first_is : (chain : List Key) (key : Key) → first_of chain ≡ Some key → (rest : List Key) × (chain ≡ key ∷ rest)
 first_is [] key none = absurd (none-some key none)

@@ -1,19 +1,9 @@
 -- Hubs by their numbers, and what is known of those off a chain.
-use Rattle.std.proofs.Common.{◌≡◌, ◌≢◌, ℕ, zero, suc, ◌<◌, ◌==◌, ◌++◌, cond, map, Bool, true, false, List, [], ◌∷◌, length, slice_get, Option, Some, None}
-use Rattle.std.proofs.Common.{option_map, is_some, IsSome, IfSome, refl, sym, ap, subst, ◌∙◌, ◌⊎◌, inl, inr, arith, true≢false}
-use Rattle.std.proofs.lemmas.Bool.{cases_lt, cases_Bool}
-use Rattle.std.proofs.lemmas.Bool.Decides.{nat_tests}
-use Rattle.std.proofs.lemmas.Option.{same_Some, none-some}
-use Rattle.rx_event.specs.declared.event.Mode.{Mode}
-use Rattle.rx_event.specs.declared.event.Mode.TheVariants.{Auto, Manual}
-use Rattle.std.specs.Option.{option_and_then}
-use Rattle.rx_slots.specs.declared.Key.{Key}
-use Rattle.rx_tree.specs.Tree.{first_of}
-use Rattle.rx_hub.specs.declared.hub.HubDue.{HubDue}
-use Rattle.rx_hub.specs.Chains.{IsCalm, IsChain, Notes, IsLinked}
-use Rattle.rx_hub.specs.Due.{connect_of, due_of}
-use Rattle.rx_hub.specs.Hubs.{Hub, Hubs, IsPromised, find_hub, at_hub, new_hub}
-use Rattle.rx_lists.specs.Lists.{Lists, list_at, is_in}
+use Rattle.rx_hub.proofs.Common.{◌≡◌, ◌≢◌, ℕ, zero, suc, ◌<◌, ◌==◌, ◌++◌, cond, map, Bool, true, false, List, [], ◌∷◌, length, slice_get, Option, Some, None}
+use Rattle.rx_hub.proofs.Common.{option_map, is_some, IsSome, IfSome, refl, sym, ap, subst, ◌∙◌, ◌⊎◌, inl, inr, arith, true≢false, cases_lt, nat_tests, Mode}
+use Rattle.rx_hub.proofs.Common.{same_Some, none-some, Auto, Manual, option_and_then, Key, first_of, HubDue, IsCalm, IsChain, Notes, IsLinked, connect_of}
+use Rattle.rx_hub.proofs.Common.{due_of, Hub, Hubs, IsPromised, find_hub, at_hub, new_hub, Lists, list_at, is_in}
+use Rattle.std.proofs.lemmas.Bool.{cases_Bool}
 
 eq_is : (a b : ℕ) → (a == b) ≡ true → a ≡ b
 eq_is a b e = grind (arith, nat_tests, e)

@@ -1,22 +1,10 @@
 -- Hubs that forget how their connections ended, and what is kept of hubs.
-use Rattle.std.proofs.Common.{◌≡◌, ℕ, zero, suc, ◌<◌, ◌+◌, ◌-◌, ◌++◌, ◌&&◌, ◌||◌, map, take, drop, Bool, true}
-use Rattle.std.proofs.Common.{false, List, [], ◌∷◌, length, set, get_or, slice_get, Option, Some, None}
-use Rattle.std.proofs.Common.{option_map, is_none, refl, sym, ap, ◌∙◌, arith, nat_lt}
-use Rattle.std.specs.Prelude.{if◌then◌else◌}
-use Rattle.std.specs.List.{range_with_len, list_any, filter_map, cons_option}
-use Rattle.std.specs.Option.{option_or}
-use Rattle.std.proofs.Math.Bool.{not}
-use Rattle.std.proofs.lemmas.List.{length-map}
-use Rattle.std.proofs.lemmas.Option.{same_Some, none-some}
-use Rattle.rx_slots.specs.declared.Key.{Key}
-use Rattle.rx_hub.specs.declared.hub.HubDue.{HubDue}
+use Rattle.rx_hub.proofs.Common.{◌≡◌, ℕ, zero, suc, ◌<◌, ◌+◌, ◌-◌, ◌++◌, ◌&&◌, ◌||◌, map, take, drop, Bool, true, false, List, [], ◌∷◌, length, set, get_or}
+use Rattle.rx_hub.proofs.Common.{slice_get, Option, Some, None, option_map, is_none, refl, sym, ap, ◌∙◌, arith, nat_lt, if◌then◌else◌, range_with_len, not}
+use Rattle.rx_hub.proofs.Common.{list_any, filter_map, cons_option, option_or, length-map, same_Some, none-some, Key, HubDue, LastEnd, IsLinked, IsCalm, Hub}
+use Rattle.rx_hub.proofs.Common.{IsQuiet, is_auto, is_cut, connect_of, due_of, cut_of, left_of, Hubs, hub_as_kept, without_end, Lists}
 use Rattle.rx_hub.specs.declared.hub.HubDue.TheVariants.{Connect as Connecting, End as Ending}
-use Rattle.rx_hub.specs.declared.hub.LastEnd.{LastEnd}
-use Rattle.rx_hub.specs.Chains.{IsLinked, IsCalm}
-use Rattle.rx_hub.specs.Due.{IsQuiet, is_auto, is_cut, connect_of, due_of, cut_of, left_of}
-use Rattle.rx_hub.specs.Hubs.{Hub, Hubs, hub_as_kept, without_end}
 use Rattle.rx_hub.proofs.Laws.HubsWithoutEnds.{forgot_get}
-use Rattle.rx_lists.specs.Lists.{Lists}
 
 -- what is kept of all -------------------------------------------------------------------------------
 

@@ -1,3 +1,4 @@
+pub mod Common
 pub mod Laws
 mod WayWalkedSoFar
 mod FirstDueOnChain

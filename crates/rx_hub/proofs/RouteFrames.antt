@@ -1,18 +1,8 @@
 -- The frames of a way: how many there may be, and how it goes on over them.
-use Rattle.std.proofs.Common.{◌≡◌, ℕ, suc, ◌+◌, ◌<◌, ◌≤◌, ◌==◌, ◌&&◌, ◌||◌, ◌++◌, cond, Bool, true, false, List, [], ◌∷◌, length, Option, Some, None}
-use Rattle.std.proofs.Common.{option_map, refl, sym, ap, subst, ◌∙◌, arith}
-use Rattle.std.specs.Prelude.{nat_lt}
-use Rattle.std.specs.List.{cons_option}
-use Rattle.std.specs.Option.{option_map_or}
-use Rattle.std.proofs.lemmas.Bool.{false≢true}
-use Rattle.std.proofs.lemmas.Bool.Decides.{nat_tests}
-use Rattle.std.proofs.lemmas.Option.{same_Some, none-some}
-use Rattle.rx_slots.specs.declared.Key.{Key}
-use Rattle.rx_tree.specs.Tree.{is_key, is_on, first_of}
-use Rattle.rx_tree.proofs.Laws.Keys.{key_is}
-use Rattle.rx_hub.specs.declared.route.Frame.{Frame}
-use Rattle.rx_hub.specs.Hubs.{Hub, Hubs, IsPromised, find_hub, key_after, AreAbove, Rises}
-use Rattle.rx_hub.specs.Route.{keys_from, frame_keys, after_frames, IsFrame, IsBehind, AreFrames, GoesOn}
+use Rattle.rx_hub.proofs.Common.{◌≡◌, ℕ, suc, ◌+◌, ◌<◌, ◌≤◌, ◌==◌, ◌&&◌, ◌||◌, ◌++◌, cond, Bool, true, false, List, [], ◌∷◌, length, Option, Some, None, refl}
+use Rattle.rx_hub.proofs.Common.{option_map, sym, ap, subst, ◌∙◌, arith, nat_lt, cons_option, option_map_or, false≢true, nat_tests, same_Some, none-some, Key}
+use Rattle.rx_hub.proofs.Common.{is_key, is_on, first_of, key_is, Frame, Hub, Hubs, IsPromised, find_hub, key_after, AreAbove, Rises, keys_from, frame_keys}
+use Rattle.rx_hub.proofs.Common.{after_frames, IsFrame, IsBehind, AreFrames, GoesOn}
 use Rattle.rx_hub.proofs.Laws.Walks.{found_hub}
 
 -- keys from one on ----------------------------------------------------------------------------------

@@ -1,26 +1,13 @@
 -- One climb further on an item's way.
-use Rattle.std.proofs.Common.{◌≡◌, ℕ, zero, suc, ◌+◌, ◌-◌, ◌<◌, ◌≤◌, ◌++◌, List, [], ◌∷◌, length, Option, Some, None, IsSome, IfSome, IfNone}
-use Rattle.std.proofs.Common.{refl, sym, ap, subst, ◌∙◌, arith, length-append}
-use Rattle.std.specs.List.{AllByRecursion, filter_map, cons_option}
-use Rattle.std.specs.Option.{option_and_then, option_to_list}
-use Rattle.std.proofs.lemmas.Bool.{false≢true}
-use Rattle.std.proofs.lemmas.List.Elements.{filter_map-append}
+use Rattle.rx_hub.proofs.Common.{◌≡◌, ℕ, zero, suc, ◌+◌, ◌-◌, ◌<◌, ◌≤◌, ◌++◌, List, [], ◌∷◌, length, Option, Some, None, IsSome, IfSome, IfNone, refl, sym}
+use Rattle.rx_hub.proofs.Common.{ap, subst, ◌∙◌, arith, length-append, AllByRecursion, filter_map, cons_option, option_and_then, option_to_list, false≢true}
+use Rattle.rx_hub.proofs.Common.{filter_map-append, most_visits, Key, Slots, find, Node, is_key, is_on, Stop, Delivery, Projection, Firing, Connection, way}
+use Rattle.rx_hub.proofs.Common.{end_of, Frame, Hub, visited_over, arrival, arrival_at, Route, after_frames, todo, visits_left, stops_left, IsBehind, GoesOn}
+use Rattle.rx_hub.proofs.Common.{ReachesFrom, IsOrdered, IsUnderWay, beyond_end, hub_keys, key_is}
 use Rattle.std.proofs.Math.Bool.{Bool, true, false, ◌||◌}
-use Rattle.rx_event.specs.Climb.{most_visits}
-use Rattle.rx_slots.specs.declared.Key.{Key}
-use Rattle.rx_slots.specs.Slots.{Slots, find}
-use Rattle.rx_tree.specs.declared.node.Node.{Node}
-use Rattle.rx_tree.specs.Tree.{is_key, is_on}
-use Rattle.rx_hub.specs.declared.stop.Stop.{Stop}
-use Rattle.rx_hub.specs.declared.stop.Stop.TheVariants.{Delivery, Projection, Firing, Connection}
-use Rattle.rx_hub.specs.Way.{way, end_of, hub_of}
-use Rattle.rx_hub.specs.declared.route.Frame.{Frame}
-use Rattle.rx_hub.specs.Hubs.{Hub}
-use Rattle.rx_hub.specs.Walk.{visited_over, arrival, arrival_at}
-use Rattle.rx_hub.specs.Route.{Route, after_frames, todo, visits_left, visited_next, stops_left, all_visits}
-use Rattle.rx_hub.specs.Route.{IsBehind, ReachesFrom, IsOrdered, IsUnderWay, IsTurn, beyond_end, hub_keys, first_keys, GoesOn, Climbs, Arrives}
+use Rattle.rx_hub.specs.Way.{hub_of}
+use Rattle.rx_hub.specs.Route.{visited_next, all_visits, IsTurn, first_keys, Climbs, Arrives}
 use Rattle.rx_hub.proofs.RouteWays.{visited_way, stops_way, visited_cut}
-use Rattle.rx_tree.proofs.Laws.Keys.{key_is}
 
 pub limit_is : most_visits ≡ 1048576
 unfolding most_visits

@@ -1,17 +1,7 @@
 -- What one climb makes of the visits and the stops that are still to come.
-use Rattle.std.proofs.Common.{◌≡◌, ℕ, zero, suc, ◌-◌, ◌<◌, ◌≤◌, ◌++◌, List, [], ◌∷◌, length, Option, Some, None, is_some}
-use Rattle.std.proofs.Common.{refl, sym, ap, ◌∙◌, arith}
-use Rattle.std.specs.Prelude.{if◌then◌else◌}
-use Rattle.std.specs.List.{filter_map, cons_option}
-use Rattle.std.specs.Option.{option_and_then, option_map_or, option_or, option_to_list}
-use Rattle.rx_slots.specs.declared.Key.{Key}
-use Rattle.rx_slots.specs.Slots.{Slots}
-use Rattle.rx_tree.specs.declared.node.Node.{Node}
-use Rattle.rx_hub.specs.declared.stop.Stop.{Stop}
-use Rattle.rx_hub.specs.Way.{above_of, stop_of, way_within, end_of}
-use Rattle.rx_hub.specs.Hubs.{Hub}
-use Rattle.rx_hub.specs.Walk.{beyond, onward_by, onward_over, visited_over, arrival, arrival_at}
-use Rattle.rx_hub.specs.Route.{beyond_end}
+use Rattle.rx_hub.proofs.Common.{◌≡◌, ℕ, zero, suc, ◌-◌, ◌<◌, ◌≤◌, ◌++◌, List, [], ◌∷◌, length, Option, Some, None, is_some, refl, sym, ap, ◌∙◌, arith, Key}
+use Rattle.rx_hub.proofs.Common.{if◌then◌else◌, filter_map, cons_option, option_and_then, option_map_or, option_or, option_to_list, Slots, Node, Stop, end_of}
+use Rattle.rx_hub.proofs.Common.{above_of, stop_of, way_within, Hub, beyond, onward_by, onward_over, visited_over, arrival, arrival_at, beyond_end}
 
 or_none : (s : Option Stop) → option_or s None ≡ s
 or_none None = refl

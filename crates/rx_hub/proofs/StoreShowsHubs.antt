@@ -1,22 +1,14 @@
 -- What the records and the lists of subscribers show as hubs.
-use Rattle.std.proofs.Common.{◌≡◌, ◌≢◌, ℕ, zero, suc, ◌<◌, ◌≤◌, ◌+◌, ◌==◌, ◌||◌, ◌&&◌, ◌++◌, cond, map, Bool}
-use Rattle.std.proofs.Common.{true, false, List, [], ◌∷◌, length, get_or, set, slice_get, Option, Some, None}
-use Rattle.std.proofs.Common.{◌-◌, min, option_map, is_some, IsSome, IfSome, refl, sym, ap, subst, ◌∙◌, inl, inr, arith, true≢false, zero-add}
-use Rattle.std.specs.List.{range_with_len, list_any}
-use Rattle.std.proofs.Math.Bool.{not}
-use Rattle.std.proofs.lemmas.Bool.{cases_eq, cases_lt, false≢true}
-use Rattle.std.proofs.lemmas.Bool.Decides.{nat_tests}
-use Rattle.std.proofs.lemmas.List.{get_or_past, get_or-set_same, get_or-set_other, length-set, length-append, length-map}
+use Rattle.rx_hub.proofs.Common.{◌≡◌, ◌≢◌, ℕ, zero, suc, ◌<◌, ◌≤◌, ◌+◌, ◌==◌, ◌||◌, ◌&&◌, ◌++◌, cond, map, Bool, true, false, List, [], ◌∷◌, length, get_or}
+use Rattle.rx_hub.proofs.Common.{set, slice_get, Option, Some, None, ◌-◌, min, option_map, is_some, IsSome, IfSome, refl, sym, ap, subst, ◌∙◌, inl, inr, not}
+use Rattle.rx_hub.proofs.Common.{arith, true≢false, zero-add, range_with_len, list_any, cases_eq, cases_lt, false≢true, nat_tests, get_or_past, length-set}
+use Rattle.rx_hub.proofs.Common.{get_or-set_same, get_or-set_other, length-append, length-map, same_Some, none-some, Key, is_key, is_on, first_of, same_key}
+use Rattle.rx_hub.proofs.Common.{Published, Hub, IsPromised, IsFree, AreBelow, AreAbove, Rises, hub_of, at_hub, published_of, with_published, subscribed}
+use Rattle.rx_hub.proofs.Common.{unsubscribed, without_key, last_from, key_after, ended_never, without_end, Lists, list_at, is_in, take_out, head_of, no_hub}
+use Rattle.rx_hub.proofs.Common.{record_at, key_in, hub_in, hubs_in, IsKept}
 use Rattle.std.proofs.lemmas.List.FromFn.{map-range_with_len_more}
-use Rattle.std.proofs.lemmas.Option.{same_Some, none-some}
-use Rattle.rx_slots.specs.declared.Key.{Key}
-use Rattle.rx_tree.specs.Tree.{is_key, is_on, first_of}
-use Rattle.rx_tree.proofs.Laws.Keys.{same_key}
-use Rattle.rx_hub.specs.declared.hub.Published.{Published}
-use Rattle.rx_hub.specs.Hubs.{Hub, IsPromised, IsFree, AreBelow, AreAbove, Rises, hub_of, at_hub, published_of, with_published, subscribed}
-use Rattle.rx_hub.specs.Hubs.{unsubscribed, without_key, last_from, key_after, ended_never, without_end}
-use Rattle.rx_lists.specs.Lists.{Lists, IsPlain, list_at, is_in, take_out, head_of, last_from as last_after, after}
-use Rattle.rx_hub.specs.Store.{no_hub, record_at, key_in, keys_at, hub_in, hubs_in, store_in, IsKept}
+use Rattle.rx_lists.specs.Lists.{IsPlain, last_from as last_after, after}
+use Rattle.rx_hub.specs.Store.{keys_at, store_in}
 
 -- tables ------------------------------------------------------------------------------------------
 

@@ -1,14 +1,7 @@
 -- How far an item's way was walked.
-use Rattle.std.proofs.Common.{◌≡◌, ℕ, zero, suc, ◌+◌, ◌≤◌, Bool, true, false, Option, Some, None, is_some, IfSome, IsSome, List, [], ◌∷◌, length}
-use Rattle.std.proofs.Common.{refl, sym, ap, ◌∙◌, arith, true≢false}
-use Rattle.std.proofs.Math.Bool.{not}
-use Rattle.std.specs.Option.{option_and_then, option_map_or, option_or}
-use Rattle.rx_event.specs.Climb.{most_visits}
-use Rattle.rx_slots.specs.declared.Key.{Key}
-use Rattle.rx_slots.specs.Slots.{Slots, find}
-use Rattle.rx_tree.specs.declared.node.Node.{Node}
-use Rattle.rx_hub.specs.declared.stop.Stop.{Stop}
-use Rattle.rx_hub.specs.Way.{above_of, stop_of, onward_of, way_within, way, end_of}
+use Rattle.rx_hub.proofs.Common.{◌≡◌, ℕ, zero, suc, ◌+◌, ◌≤◌, Bool, true, false, Option, Some, None, is_some, IfSome, IsSome, List, [], ◌∷◌, length, refl, ap}
+use Rattle.rx_hub.proofs.Common.{sym, ◌∙◌, arith, true≢false, not, option_and_then, option_map_or, option_or, most_visits, Key, Slots, find, Node, Stop, way}
+use Rattle.rx_hub.proofs.Common.{above_of, stop_of, onward_of, way_within, end_of}
 
 -- so many nodes were visited from the first on, and of the way what begins at this node is left
 pub record IsOnWay (nodes : Slots Node) (first at : Key) (visits : ℕ) : Type 0 where

@@ -1,13 +1,7 @@
 -- Values that are kept for numbers, one after another.
-use Rattle.std.proofs.Common.{◌≡◌, ℕ, ◌+◌, ◌<◌, Bool, true, false, cond, List, [], ◌∷◌, ◌++◌, length, take, Option, None, refl, sym, ap, ◌∙◌, arith, get_or}
-use Rattle.std.proofs.Math.Bool.{◌||◌}
-use Rattle.std.specs.Bool.{nat_eq}
-use Rattle.std.specs.List.{list_any}
+use Rattle.rx_listing.proofs.Common.{◌≡◌, ℕ, ◌+◌, ◌<◌, Bool, true, false, cond, List, [], ◌∷◌, ◌++◌, length, take, Option, None, refl, sym, ap, ◌∙◌, arith}
+use Rattle.rx_listing.proofs.Common.{get_or, ◌||◌, nat_eq, list_any, take_more, take_all, list_any-append, list_any_push, IsKept}
 use Rattle.std.proofs.lemmas.Bool.{eq-eqb, ne_eqb, eqb-true, eqb-false}
-use Rattle.std.proofs.lemmas.List.{take_more, take_all}
-use Rattle.std.proofs.lemmas.List.Folds.{list_any-append}
-use Rattle.rx_event.proofs.Laws.Searches.{list_any_push}
-use Rattle.rx_listing.specs.Parts.{IsKept}
 
 pub turned : (k n : ℕ) → nat_eq k n ≡ nat_eq n k
 turned k n = by_test (nat_eq k n) refl where

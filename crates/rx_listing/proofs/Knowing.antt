@@ -1,8 +1,5 @@
 -- A number that has a name is below those that have none.
-use Rattle.std.proofs.Common.{◌≡◌, ℕ, ◌<◌, ◌≤◌, true, None, sym, ap, ◌∙◌, inl, inr, ◌⊎◌, is_some}
-use Rattle.std.proofs.lemmas.Bool.{cases_lt, false≢true}
-use Rattle.rx_line.specs.declared.names.Names.{Names}
-use Rattle.rx_line.specs.Names.{name_of}
+use Rattle.rx_listing.proofs.Common.{◌≡◌, ℕ, ◌<◌, ◌≤◌, true, None, sym, ap, ◌∙◌, inl, inr, ◌⊎◌, is_some, cases_lt, false≢true, Names, name_of}
 
 pub within_of : (names : Names) (len : ℕ) → ((n : ℕ) → len ≤ n → name_of names n ≡ None) → (n : ℕ) → is_some (name_of names n) ≡ true → n < len
 within_of names len placed n named = by_place (cases_lt n len) where

@@ -1,3 +1,4 @@
+pub mod Common
 pub mod Rises
 pub mod Knowing
 pub mod Keeping

@@ -1,29 +1,14 @@
 -- Numbers that have names, and the objects of those.
-use Rattle.std.proofs.Common.{◌≡◌, ◌↔◌, ℕ, ◌+◌, ◌<◌, ◌≤◌, Bool, true, false, cond, List, [], ◌∷◌, ◌++◌, length, take, filter, count_by}
-use Rattle.std.proofs.Common.{filter_map, get_or, Option, Some, None, HashMap, refl, sym, ap, ◌∙◌, arith, is_some}
-use Rattle.std.specs.Prelude.{IsTrue}
-use Rattle.std.specs.Bool.{nat_eq}
-use Rattle.std.specs.HashMap.{get, values, IsUnique}
-use Rattle.std.specs.List.{list_any, cons_option, range_with_len}
-use Rattle.std.specs.Option.{option_and_then}
-use Rattle.std.proofs.lemmas.Bool.{false≢true}
-use Rattle.std.proofs.lemmas.Cmp.{nat_eq_equiv}
-use Rattle.std.proofs.lemmas.List.{take_more, take_all}
+use Rattle.rx_listing.proofs.Common.{◌≡◌, ◌↔◌, ℕ, ◌+◌, ◌<◌, ◌≤◌, Bool, true, false, cond, List, [], ◌∷◌, ◌++◌, length, take, filter, count_by, filter_map, ap}
+use Rattle.rx_listing.proofs.Common.{get_or, Option, Some, None, HashMap, refl, sym, ◌∙◌, arith, is_some, IsTrue, nat_eq, get, list_any, cons_option, State}
+use Rattle.rx_listing.proofs.Common.{range_with_len, option_and_then, false≢true, nat_eq_equiv, take_more, take_all, sum_by-cons, list_any_same_at, name_of}
+use Rattle.rx_listing.proofs.Common.{joined, Known, Part, Nodes, Resources, Leases, Hubs, is_nil, led_text, names_of, part_object, ArePlaced, subscribes}
+use Rattle.std.specs.HashMap.{values, IsUnique}
 use Rattle.std.proofs.lemmas.List.Elements.{filter_map-append}
-use Rattle.std.proofs.lemmas.List.Sums.{sum_by-cons}
 use Rattle.std.proofs.lemmas.Map.Made.{Contains-from_values_of, Contains-values_of}
 use Rattle.std.proofs.lemmas.Map.Views.{Contains-from_any, list_any-from_Contains, exact_unsigned_eq, hash_map_get_iff}
-use Rattle.rx_event.proofs.Laws.Searches.{list_any_same_at}
-use Rattle.rx_book.specs.State.{State}
-use Rattle.rx_line.specs.Names.{name_of}
-use Rattle.rx_line.specs.Pieces.{joined}
-use Rattle.rx_listing.specs.declared.known.Known.{Known}
-use Rattle.rx_listing.specs.declared.list.Part.{Part}
-use Rattle.rx_listing.specs.declared.list.Part.TheVariants.{Nodes, Resources, Leases, Hubs}
 use Rattle.rx_listing.specs.Listed.{open_name, if_open, IsPlaced}
-use Rattle.rx_listing.specs.Parts.{is_nil, led_text, names_of, part_object}
-use Rattle.rx_listing.specs.Recalled.{ArePlaced}
-use Rattle.rx_listing.specs.Whole.{Counted, node_object, resource_object, lease_object, hub_object, hub_by, subscribes}
+use Rattle.rx_listing.specs.Whole.{Counted, node_object, resource_object, lease_object, hub_object, hub_by}
 use Rattle.rx_listing.proofs.Keeping.{turned}
 use Rattle.rx_listing.proofs.Laws.Texts.{same_texts, more_nil, more_text}
 

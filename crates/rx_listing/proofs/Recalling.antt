@@ -1,17 +1,7 @@
 -- What a past and the events since it tell, place by place.
-use Rattle.std.proofs.Common.{◌≡◌, ℕ, zero, suc, ◌+◌, ◌<◌, ◌≤◌, Bool, true, false, cond, List, Option, Some, None, refl, sym, ap, ◌∙◌, arith}
-use Rattle.std.specs.Bool.{nat_eq}
-use Rattle.std.specs.List.{list_any}
-use Rattle.std.specs.Option.{option_map_or}
-use Rattle.std.specs.Prelude.{if◌then◌else◌, slice_get}
-use Rattle.std.proofs.lemmas.Bool.{lt-ltb}
-use Rattle.rx_event.specs.declared.event.Event.{Event}
-use Rattle.rx_event.specs.Kept.{Kept, event_since}
-use Rattle.rx_event.specs.Events.{is_use_of}
-use Rattle.rx_book.specs.State.{State}
-use Rattle.rx_listing.specs.declared.past.Past.{Past}
-use Rattle.rx_listing.specs.Parts.{IsKept}
-use Rattle.rx_listing.specs.Recalled.{uses_in, connected_in, uses_by, connection_after, connection_by}
+use Rattle.rx_listing.proofs.Common.{◌≡◌, ℕ, zero, suc, ◌+◌, ◌<◌, ◌≤◌, Bool, true, false, cond, List, Option, Some, None, refl, sym, ap, ◌∙◌, arith, nat_eq}
+use Rattle.rx_listing.proofs.Common.{list_any, option_map_or, if◌then◌else◌, slice_get, lt-ltb, Event, Kept, event_since, is_use_of, State, Past, IsKept}
+use Rattle.rx_listing.proofs.Common.{uses_in, connected_in, uses_by, connection_after, connection_by}
 
 gone : (b : Kept) (h : List Event) (n : ℕ) → n < b.at_length → event_since b h n ≡ None
 gone b h n l = ap (λ (t : Bool). if t then None else slice_get h n) (lt-ltb n b.at_length l)

@@ -1,12 +1,10 @@
 -- Numbers that are sorted, each once.
-use Rattle.std.proofs.Common.{◌≡◌, ℕ, zero, suc, ◌<◌, ◌≤◌, ◌==◌, Bool, true, false, cond, List, [], ◌∷◌, refl, sym, ◌∙◌, inl, inr, ◌⊎◌, arith, filter, nat_lt}
-use Rattle.std.specs.Bool.{nat_eq}
-use Rattle.std.specs.List.{AllByRecursion, Contains, list_any, range_with_len, dedup}
+use Rattle.rx_listing.proofs.Common.{◌≡◌, ℕ, zero, suc, ◌<◌, ◌≤◌, ◌==◌, Bool, true, false, cond, List, [], ◌∷◌, refl, sym, ◌∙◌, inl, inr, ◌⊎◌, arith, filter}
+use Rattle.rx_listing.proofs.Common.{nat_lt, nat_eq, list_any, range_with_len, cases_lt, ltb-true, false≢true, nat_eq_equiv}
+use Rattle.std.specs.List.{AllByRecursion, Contains, dedup}
 use Rattle.std.specs.List.Sorted.{IsStrictlySortedBy, IsSorted, IsPermutation}
 use Rattle.std.specs.Ordering.{nat_cmp}
 use Rattle.std.specs.declared.cmp.Ordering.TheVariants.{Less, Equal, Greater}
-use Rattle.std.proofs.lemmas.Bool.{cases_lt, ltb-true, false≢true}
-use Rattle.std.proofs.lemmas.Cmp.{nat_eq_equiv}
 use Rattle.std.proofs.lemmas.List.Kept.{Contains-dedup_nat, Contains-from_dedup}
 use Rattle.std.proofs.lemmas.List.Sorted.{Contains-permutation, IsPermutation-sym}
 use Rattle.std.proofs.lemmas.Map.Keys.{sorted_head, sorted_tail, IsStrictlyIncreasing-dedup, sorted_from_strictly_increasing}

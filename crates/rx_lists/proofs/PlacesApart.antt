@@ -1,8 +1,6 @@
 -- The places of rings are told apart.
-use Rattle.std.proofs.Common.{◌≡◌, ℕ, ◌==◌, cond, refl}
-use Rattle.rx_lists.specs.declared.links.Place.{Place}
-use Rattle.rx_lists.specs.declared.links.Place.TheVariants.{End, Member}
-use Rattle.rx_lists.specs.Places.{tag_of, number_of, is_end, places}
+use Rattle.rx_lists.proofs.Common.{◌≡◌, ℕ, ◌==◌, cond, refl, Place, End, Member, number_of, is_end, places}
+use Rattle.rx_lists.specs.Places.{tag_of}
 use Rattle.rx_lists.proofs.Laws.Places.{Tells, told_by}
 
 place_from : ℕ → ℕ → Place

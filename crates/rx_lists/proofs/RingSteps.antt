@@ -1,21 +1,12 @@
 -- What joining, leaving and growing leave of tied rings.
-use Rattle.std.proofs.Common.{◌≡◌, ◌≢◌, ℕ, zero, suc, ◌<◌, ◌≤◌, ◌+◌, ◌==◌, ◌++◌, cond, map, true, false, List, [], ◌∷◌, length, get_or, Option, Some, None}
-use Rattle.std.proofs.Common.{refl, sym, ap, subst, ◌∙◌, inl, inr, arith, zero-add, length-append}
-use Rattle.std.specs.List.{range_with_len}
+use Rattle.rx_lists.proofs.Common.{◌≡◌, ◌≢◌, ℕ, zero, suc, ◌<◌, ◌≤◌, ◌+◌, ◌==◌, ◌++◌, cond, map, true, false, List, [], ◌∷◌, length, get_or, Option, Some, ap}
+use Rattle.rx_lists.proofs.Common.{None, refl, sym, subst, ◌∙◌, inl, inr, arith, zero-add, length-append, range_with_len, cases_eq, nat_tests, Link, Place}
+use Rattle.rx_lists.proofs.Common.{End, Member, list_at, is_in, take_out, without, AreRings, Joins, Leaves, number_of, is_place, places, alone, link_in}
+use Rattle.rx_lists.proofs.Common.{next_in, previous_in, within, IsTiedIn, lists_in}
 use Rattle.std.proofs.lemmas.List.FromFn.{map-range_with_len_more}
-use Rattle.std.proofs.lemmas.Bool.{cases_eq}
-use Rattle.std.proofs.lemmas.Bool.Decides.{nat_tests}
-use Rattle.rx_lists.specs.declared.links.Link.{Link}
-use Rattle.rx_lists.specs.declared.links.Place.{Place}
-use Rattle.rx_lists.specs.declared.links.Place.TheVariants.{End, Member}
-use Rattle.rx_lists.specs.Lists.{list_at, is_in, take_out}
-use Rattle.rx_lists.specs.Rings.{without, AreRings, Joins, Leaves}
-use Rattle.rx_lists.specs.Places.{number_of, is_place, places}
 use Rattle.rx_lists.proofs.PlacesApart.{tells}
 use Rattle.rx_lists.proofs.Laws.Places.{place_apart, cases_place}
 use Rattle.rx_lists.proofs.Laws.Rings.{some_same, some_none, put_ring, rings_joined, rings_left}
-use Rattle.rx_lists.specs.Links.{alone, link_in}
-use Rattle.rx_lists.specs.Links.{next_in, previous_in, within, IsTiedIn, lists_in}
 use Rattle.rx_lists.proofs.RingsShowLists.{seen, of_lt, free_home, out_ring, end_ring, ring_members, rings_seen, past_empty}
 
 module _ (ends members ends' members' : List Link) (same_ends : length ends' ≡ length ends) (same_members : length members' ≡ length members)

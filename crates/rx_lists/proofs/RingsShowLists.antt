@@ -1,23 +1,14 @@
 -- What rings of links show as lists.
-use Rattle.std.proofs.Common.{◌≡◌, ◌≢◌, ℕ, ◌<◌, ◌≤◌, ◌==◌, ◌||◌, ◌++◌, cond, map, Bool, true, false, List, [], ◌∷◌, length, Option, Some, None}
-use Rattle.std.proofs.Common.{refl, sym, ap, subst, ◌∙◌, inl, inr, arith, true≢false, zero-add}
-use Rattle.std.specs.Prelude.{nat_lt}
-use Rattle.std.proofs.Math.Bool.{not}
-use Rattle.std.proofs.lemmas.Bool.{cases_lt, false≢true}
-use Rattle.std.proofs.lemmas.Bool.Decides.{nat_tests}
-use Rattle.std.proofs.lemmas.List.{get_or_past}
+use Rattle.rx_lists.proofs.Common.{◌≡◌, ◌≢◌, ℕ, ◌<◌, ◌≤◌, ◌==◌, ◌||◌, ◌++◌, cond, map, Bool, true, false, List, [], ◌∷◌, length, Option, Some, None, refl, ap}
+use Rattle.rx_lists.proofs.Common.{sym, subst, ◌∙◌, inl, inr, arith, true≢false, zero-add, nat_lt, not, cases_lt, false≢true, nat_tests, get_or_past, Link}
+use Rattle.rx_lists.proofs.Common.{Place, End, Member, list_at, is_in, take_out, is_among, AreDifferent, without, Steps, IsLink, Leads, walk, number_of}
+use Rattle.rx_lists.proofs.Common.{is_place, is_end, places, next_in, previous_in, within, IsTiedIn, ring_in, lists_in}
 use Rattle.std.proofs.lemmas.List.FromFn.{length-map-range_with_len, get_or-map-range_with_len}
-use Rattle.rx_lists.specs.declared.links.Link.{Link}
-use Rattle.rx_lists.specs.declared.links.Place.{Place}
-use Rattle.rx_lists.specs.declared.links.Place.TheVariants.{End, Member}
-use Rattle.rx_lists.specs.Lists.{IsPlain, AreApart, list_at, is_in, take_out, head_of, last_from, last_of, after}
-use Rattle.rx_lists.specs.Rings.{is_among, AreDifferent, without, Steps, IsLink, Leads, walk}
-use Rattle.rx_lists.specs.Places.{number_of, is_place, is_end, places}
+use Rattle.rx_lists.specs.Lists.{IsPlain, AreApart, head_of, last_from, last_of, after}
 use Rattle.rx_lists.proofs.PlacesApart.{tells}
 use Rattle.rx_lists.proofs.Laws.Places.{few_places, cases_place, among_here, among_there}
 use Rattle.rx_lists.proofs.Laws.Links.{walk_leads, no_loop, last_among, next_in as next_among, previous_in as previous_among}
 use Rattle.rx_lists.proofs.Laws.Rings.{some_same, some_none}
-use Rattle.rx_lists.specs.Links.{next_in, previous_in, within, IsTiedIn, ring_in, lists_in}
 
 -- the places are members
 abbrev pub AreMembers : List Place → Type 0

@@ -1,12 +1,7 @@
 -- What ties between places change.
-use Rattle.std.proofs.Common.{◌≡◌, Bool, true, false, cond, refl, ap, ◌∙◌}
-use Rattle.rx_lists.specs.declared.links.Link.{Link}
-use Rattle.rx_lists.specs.declared.links.Place.{Place}
-use Rattle.rx_lists.specs.declared.links.Links.{Links}
-use Rattle.rx_lists.specs.Rings.{set_step}
-use Rattle.rx_lists.specs.Places.{is_place, places}
+use Rattle.rx_lists.proofs.Common.{◌≡◌, Bool, true, false, cond, refl, ap, ◌∙◌, Link, Place, Links, set_step, is_place, places, within}
 use Rattle.rx_lists.proofs.PlacesApart.{tells}
-use Rattle.rx_lists.specs.Links.{within, is_there, Relinks}
+use Rattle.rx_lists.specs.Links.{is_there, Relinks}
 
 module _ (l l1 l2 : Place → Link) (one other : Place) (first second : Link) (h1 : (q : Place) → l1 q ≡ cond (is_place one q) first (l q))
     (h2 : (q : Place) → l2 q ≡ cond (is_place other q) second (l1 q)) where

@@ -1,36 +1,13 @@
 -- Names that are bound where a call is accepted, and a session that stays alike where one is refused.
-use Rattle.std.proofs.Common.{◌≡◌, ℕ, ◌==◌, ◌<◌, ◌≤◌, Bool, true, false, cond, List, length, Option, Some, None, option_map, Result}
-use Rattle.std.proofs.Common.{Ok, Err, refl, sym, ap, ◌∙◌, arith, subst, inl, inr, ◌⊎◌, String, Global, string_bytes}
-use Rattle.std.specs.Prelude.{IfOk, IfSome, is_some}
-use Rattle.std.proofs.Math.Bool.{◌||◌, ◌&&◌}
-use Rattle.std.specs.Str.{bytes_eq}
-use Rattle.std.specs.Option.{option_map_or}
-use Rattle.std.specs.declared.alloc.AllocError.{AllocError}
-use Rattle.std.proofs.lemmas.Bool.{ne_eqb}
-use Rattle.std.proofs.lemmas.Option.{none-some, same_Some}
-use Rattle.rx_event.specs.declared.mail.Mail.{Mail}
-use Rattle.rx_event.specs.declared.event.Event.{Event}
-use Rattle.rx_event.specs.declared.refusal.Refusal.{Refusal}
-use Rattle.rx_event.specs.Calls.{Call, Holding, Leasing, GivingBack}
-use Rattle.rx_event.specs.Refusals.{IsRefusal}
-use Rattle.rx_event.specs.Resources.{is_out}
-use Rattle.rx_event.proofs.Laws.Leases.{is_out_past}
-use Rattle.rx_scenario.specs.Scenario.{Name}
+use Rattle.rx_live.proofs.Common.{◌≡◌, ℕ, ◌==◌, ◌<◌, ◌≤◌, Bool, true, false, cond, List, length, Option, Some, None, option_map, Result, Ok, Err, refl, sym}
+use Rattle.rx_live.proofs.Common.{ap, ◌∙◌, arith, subst, inl, inr, ◌⊎◌, String, Global, string_bytes, IfOk, IfSome, is_some, ◌||◌, ◌&&◌, bytes_eq, AllocError}
+use Rattle.rx_live.proofs.Common.{option_map_or, ne_eqb, none-some, same_Some, Mail, Event, Refusal, Call, Holding, Leasing, GivingBack, IsRefusal, is_out}
+use Rattle.rx_live.proofs.Common.{is_out_past, Name, LeaseKey, State, IsPromised, is_kept, Request, is_live, stands, Accepts, IsCauseOrWant, Spot, Names}
+use Rattle.rx_live.proofs.Common.{spot_of, name_of, IsPaired, AreSame, Binds, Forgets, Book, Outcome, Accepted, Refused, Session, IsSound, IsPlaced, lease_of}
+use Rattle.rx_live.proofs.Common.{has_resource, lease_key_at, AreOpenSame, IsAlike, GivesBy, GivesNames, IsUnchanged, BindsResource, BindsLease, BindsHub}
+use Rattle.rx_live.proofs.Common.{keeps_resources, keeps_leases, kept_same, out_same, kept_held, kept_past, out_leased, out_returned}
 use Rattle.rx_resource.specs.declared.Life.{Life}
 use Rattle.rx_resource.specs.declared.Life.TheVariants.{Live}
-use Rattle.rx_book.specs.declared.key.LeaseKey.{LeaseKey}
-use Rattle.rx_book.specs.State.{State, IsPromised, is_kept}
-use Rattle.rx_book.specs.Requests.{Request, is_live, stands}
-use Rattle.rx_book.specs.Answers.{Accepts, IsCauseOrWant}
-use Rattle.rx_line.specs.declared.names.Spot.{Spot}
-use Rattle.rx_line.specs.declared.names.Names.{Names}
-use Rattle.rx_line.specs.Names.{spot_of, name_of, IsPaired, AreSame, Binds, Forgets}
-use Rattle.rx_line.specs.declared.outcome.Cause.TheVariants.{Book}
-use Rattle.rx_line.specs.declared.outcome.Outcome.{Outcome}
-use Rattle.rx_line.specs.declared.outcome.Outcome.TheVariants.{Accepted, Refused}
-use Rattle.rx_live.specs.Session.{Session, IsSound, IsPlaced, has_resource, lease_of, lease_key_at}
-use Rattle.rx_live.specs.Given.{AreOpenSame, IsAlike, GivesBy, GivesNames, IsUnchanged, BindsResource, BindsLease, BindsHub}
-use Rattle.rx_book.proofs.Laws.LastsThroughSteps.{keeps_resources, keeps_leases, kept_same, out_same, kept_held, kept_past, out_leased, out_returned}
 use Rattle.rx_live.proofs.Soundness.{accepted_longer}
 
 -- names ----------------------------------------------------------------------------------------------

@@ -1,26 +1,10 @@
 -- What a command hands in, and what the lines of a session come to.
-use Rattle.std.proofs.Common.{◌≡◌, ℕ, Bool, true, false, cond, List, [], ◌++◌, map, Option, Some, None, refl, sym, ap, ◌∙◌, subst}
-use Rattle.std.specs.Prelude.{is_some}
-use Rattle.std.proofs.Math.Bool.{◌||◌}
-use Rattle.std.specs.Str.{bytes_eq}
-use Rattle.std.specs.Option.{option_map_or}
-use Rattle.rx_scenario.specs.Scenario.{Name, Command, using, open_node, hold, apply, remove, lease, give_back, next, end}
-use Rattle.rx_scenario.specs.Scenario.{abort, decline, fail, dispose, make_hub, connect, disconnect, drain, checkpoint}
-use Rattle.rx_event.specs.declared.refusal.Refusal.{Refusal}
-use Rattle.rx_book.specs.State.{State}
-use Rattle.rx_book.specs.Requests.{Request, stands, hub_request}
-use Rattle.rx_book.specs.Answers.{Accepts}
-use Rattle.rx_line.specs.Orders.{Task, plain, open_holding}
-use Rattle.rx_line.specs.declared.outcome.Cause.{Cause}
-use Rattle.rx_line.specs.declared.outcome.Cause.TheVariants.{NoName, NameTaken, Book}
-use Rattle.rx_line.specs.declared.outcome.Outcome.TheVariants.{Accepted, Refused}
-use Rattle.rx_line.specs.Names.{spot_of}
-use Rattle.rx_live.specs.Session.{Session, hub_of, has_resource}
-use Rattle.rx_live.specs.Carried.{Carries, Goes}
-use Rattle.rx_live.specs.Given.{IsAlike, Gives, NamesOne, BindsHub}
-use Rattle.rx_live.specs.Promise.{Act, released, with_held, Leads, no_act, hands_in, IsKept}
-use Rattle.rx_live.specs.Openings.{holder_causes, OpensHolder}
-use Rattle.rx_live.specs.Lines.{Runs, Does, handed_by, IsCarried, Ends, GoesOn, no_line, one_line, IsFresh}
+use Rattle.rx_live.proofs.Common.{◌≡◌, ℕ, Bool, true, false, cond, List, [], ◌++◌, map, Option, Some, None, refl, sym, ap, ◌∙◌, subst, is_some, ◌||◌, Name}
+use Rattle.rx_live.proofs.Common.{bytes_eq, option_map_or, Command, using, open_node, hold, apply, remove, lease, give_back, next, end, abort, decline, fail}
+use Rattle.rx_live.proofs.Common.{dispose, make_hub, connect, disconnect, drain, checkpoint, Refusal, State, Request, stands, hub_request, Accepts, Task, Act}
+use Rattle.rx_live.proofs.Common.{plain, open_holding, Cause, NoName, NameTaken, Book, Accepted, Refused, spot_of, Session, hub_of, has_resource, Carries}
+use Rattle.rx_live.proofs.Common.{Goes, IsAlike, Gives, NamesOne, BindsHub, released, with_held, Leads, no_act, hands_in, IsKept, holder_causes, OpensHolder}
+use Rattle.rx_live.proofs.Common.{Runs, Does, handed_by, IsCarried, Ends, GoesOn, no_line, one_line, IsFresh}
 use Rattle.rx_live.proofs.AcceptedBindsNames.{or_false, alike_same}
 use Rattle.rx_live.proofs.Laws.HeldStaysHeld.{leads_on, leads_same, alike_held, fresh_held}
 use Rattle.rx_live.proofs.SessionAfterCheckpoint.{refused_same}

@@ -1,24 +1,10 @@
 -- What an answer says of the session.
-use Rattle.std.proofs.Common.{◌≡◌, ℕ, List, [], ◌++◌, codes, map, Option, Some, None, Result}
-use Rattle.std.proofs.Common.{Ok, Err, refl, ap, ◌∙◌, append_assoc, subst, Bool, true, false}
-use Rattle.std.specs.Prelude.{IfOk, OnOk, is_some}
-use Rattle.std.specs.declared.alloc.AllocError.{AllocError}
-use Rattle.rx_scenario.specs.Scenario.{Name}
-use Rattle.rx_line.specs.Orders.{Task, Order, task, query, list, dump}
-use Rattle.rx_line.specs.Pieces.{refused_text, faulty_text, name_text, member_text}
-use Rattle.rx_line.specs.declared.outcome.Cause.{Cause}
-use Rattle.rx_line.specs.declared.outcome.Outcome.TheVariants.{Accepted, Refused}
-use Rattle.rx_live.specs.Session.{Session, IsSound, has_resource}
-use Rattle.rx_live.specs.Promise.{released, no_act}
-use Rattle.rx_live.specs.Answers.{told_text, WritesNotes, is_late, late_text}
-use Rattle.rx_live.specs.Listed.{all_names}
-use Rattle.rx_live.specs.Openings.{front_text}
-use Rattle.rx_live.specs.Closings.{closed_names, SaysClosed}
-use Rattle.rx_live.specs.Renewals.{Renews, IsFullByOpen}
-use Rattle.rx_live.specs.Dumps.{query_text, dump_text}
-use Rattle.rx_live.specs.Lines.{Does, handed_by, TellsAll, CarriesOut, refuses, carries, is_faulty, is_refused}
-use Rattle.rx_live.specs.Lines.{as_it_was, renewed, FindsFull, is_carried, is_queried, is_listed, is_dumped, AnswersAsked, Ends, IsClosed}
-use Rattle.rx_live.specs.Taken.{Answered, IsFullByAge, Writes, Tries}
+use Rattle.rx_live.proofs.Common.{◌≡◌, ℕ, List, [], ◌++◌, codes, map, Option, Some, None, Result, Ok, Err, refl, ap, ◌∙◌, append_assoc, subst, Bool, true}
+use Rattle.rx_live.proofs.Common.{false, IfOk, OnOk, is_some, AllocError, Name, Task, Order, task, query, list, dump, refused_text, faulty_text, name_text}
+use Rattle.rx_live.proofs.Common.{member_text, Cause, Accepted, Refused, Session, IsSound, has_resource, released, no_act, told_text, WritesNotes, is_late}
+use Rattle.rx_live.proofs.Common.{late_text, all_names, front_text, closed_names, SaysClosed, Renews, IsFullByOpen, query_text, dump_text, Does, handed_by}
+use Rattle.rx_live.proofs.Common.{TellsAll, as_it_was, renewed, FindsFull, Ends, IsClosed, Answered, IsFullByAge, Writes, Tries}
+use Rattle.rx_live.specs.Lines.{CarriesOut, refuses, carries, is_faulty, is_refused, is_carried, is_queried, is_listed, is_dumped, AnswersAsked}
 use Rattle.rx_live.proofs.Laws.HeldStaysHeld.{leads_same, alike_held, renewed_held}
 use Rattle.rx_live.proofs.AcceptedBindsNames.{alike_same}
 use Rattle.rx_live.proofs.Acts.{carried_leads, refused_alike}

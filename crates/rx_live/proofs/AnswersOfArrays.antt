@@ -1,23 +1,11 @@
 -- What the answer to an array says of the session, and what that to a line.
-use Rattle.std.proofs.Common.{◌≡◌, ℕ, Bool, true, false, List, [], ◌∷◌, ◌++◌, codes, Option, Some, None, refl, sym, ap, ◌∙◌, subst, append_assoc}
-use Rattle.std.proofs.Common.{Result, Ok, Err, String, Global, string_bytes}
-use Rattle.std.specs.Prelude.{IfOk, OnErr}
-use Rattle.std.specs.declared.alloc.AllocError.{AllocError}
-use Rattle.std.proofs.lemmas.List.{append-nil}
-use Rattle.std.proofs.lemmas.Option.{none-some}
-use Rattle.serde_json.specs.Data.{Data, Items, no_items, item}
-use Rattle.serde_json.specs.Find.{as_array}
-use Rattle.rx_device.specs.Input.{IsJsonOf}
-use Rattle.rx_event.specs.declared.refusal.Refusal.TheVariants.{NoMemory}
-use Rattle.rx_line.specs.Orders.{Order, order_in, IsOrderOf}
-use Rattle.rx_line.specs.Pieces.{refused_text, faulty_text, joined}
-use Rattle.rx_line.specs.declared.outcome.Cause.TheVariants.{Book}
-use Rattle.rx_live.specs.Session.{Session, IsSound, has_resource}
-use Rattle.rx_live.specs.Promise.{Act, Leads, no_act}
-use Rattle.rx_live.specs.Lines.{as_it_was, WaitsFor, AnswersAsked, AnswersOne, is_taken, is_put_off, AnswersEach, none_left, one_more}
-use Rattle.rx_live.specs.Lines.{one_asked, many_asked, no_json, is_json, IsPutOff, Sends}
+use Rattle.rx_live.proofs.Common.{◌≡◌, ℕ, Bool, true, false, List, [], ◌∷◌, ◌++◌, codes, Option, Some, None, refl, sym, ap, ◌∙◌, subst, append_assoc, Result}
+use Rattle.rx_live.proofs.Common.{Ok, Err, String, Global, string_bytes, IfOk, OnErr, AllocError, append-nil, none-some, Data, Items, no_items, item, Order}
+use Rattle.rx_live.proofs.Common.{as_array, IsJsonOf, NoMemory, order_in, IsOrderOf, refused_text, faulty_text, joined, Book, Session, IsSound, has_resource}
+use Rattle.rx_live.proofs.Common.{Act, Leads, no_act, as_it_was, WaitsFor, is_put_off, IsPutOff, Writes, AnsweredOne, AreAnswering}
+use Rattle.rx_live.specs.Lines.{AnswersAsked, AnswersOne, is_taken, AnswersEach, none_left, one_more, one_asked, many_asked, no_json, is_json, Sends}
 use Rattle.rx_live.specs.Listed.{is_nil}
-use Rattle.rx_live.specs.Taken.{Writes, AnsweredOne, WritesEach, comma_if, AreAnswering, AnsweredArray, AnsweredValue}
+use Rattle.rx_live.specs.Taken.{WritesEach, comma_if, AnsweredArray, AnsweredValue}
 use Rattle.rx_live.proofs.Laws.HeldStaysHeld.{leads_on, waits_held}
 use Rattle.rx_live.proofs.AcceptedBindsNames.{alike_same}
 use Rattle.rx_live.proofs.Tellings.{joined_more}

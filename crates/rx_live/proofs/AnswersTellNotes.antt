@@ -1,37 +1,15 @@
 -- The notes of a session's events, and those that its answers tell.
-use Rattle.std.proofs.Common.{◌≡◌, ℕ, ◌≤◌, Bool, List, [], ◌∷◌, ◌++◌, drop, length, Option}
-use Rattle.std.proofs.Common.{Some, None, refl, sym, ap, ◌∙◌, arith, subst, append_assoc}
-use Rattle.std.specs.Prelude.{is_some}
-use Rattle.std.specs.Option.{option_to_list}
-use Rattle.std.proofs.lemmas.List.{append-nil, drop_at, drop-append-le}
-use Rattle.rx_event.specs.declared.mail.Mail.{Mail}
-use Rattle.rx_event.specs.declared.event.Event.{Event}
-use Rattle.rx_event.specs.Kept.{Kept}
-use Rattle.rx_event.specs.Notes.{notes, mail_of}
-use Rattle.rx_event.specs.Moments.{moments}
-use Rattle.rx_event.specs.Calls.{Call, outside_of, IsStepOf}
-use Rattle.rx_event.specs.Lawful.{IsForcedOn, stays, more}
-use Rattle.rx_event.proofs.Laws.Counts.{notes-push}
-use Rattle.serde_json.specs.Data.{Data, Items}
-use Rattle.rx_line.specs.Orders.{Task, plain, open_holding, Order}
-use Rattle.rx_scenario.specs.Scenario.{Command, using, open_node, hold, apply, remove, lease, give_back, next, end, abort}
-use Rattle.rx_scenario.specs.Scenario.{decline, fail, dispose, make_hub, connect, disconnect, drain, checkpoint}
-use Rattle.rx_book.specs.State.{State}
-use Rattle.rx_book.specs.Requests.{Request, stands, hub_request, take_request}
-use Rattle.rx_book.specs.Answers.{Accepts}
-use Rattle.rx_line.specs.declared.outcome.Outcome.TheVariants.{Accepted}
-use Rattle.rx_live.specs.Session.{Session, hub_of}
-use Rattle.rx_live.specs.Carried.{Carries, Goes}
-use Rattle.rx_live.specs.Given.{IsAlike, Gives, BindsHub}
-use Rattle.rx_live.specs.Answers.{to_tell, Takes, none_taken, one_taken}
-use Rattle.rx_live.specs.Renewals.{Renews}
-use Rattle.rx_live.specs.Openings.{holder_causes, OpensHolder}
-use Rattle.rx_live.specs.Lines.{Runs, Does, IsCarried, IsAnswer, is_faulty, is_refused, is_carried, is_queried, is_listed, is_dumped}
-use Rattle.rx_live.specs.Lines.{GoesOn, no_line, one_line, IsFresh, IsAged, as_it_was, renewed, AnswersAsked, AnswersOne, is_taken, is_put_off}
-use Rattle.rx_live.specs.Lines.{AnswersEach, none_left, one_more, AnswersValue, one_asked, many_asked, IsAnswered, no_json, is_json}
-use Rattle.rx_live.specs.Promise.{Act}
-use Rattle.rx_live.specs.Sessions.{told_by, written_of, written_by, told_one, written_one, told_each, written_each}
-use Rattle.rx_live.specs.Sessions.{told_value, written_value, told_line, written_line, told_in, written_in}
+use Rattle.rx_live.proofs.Common.{◌≡◌, ℕ, ◌≤◌, Bool, List, [], ◌∷◌, ◌++◌, drop, length, Option, Some, None, refl, sym, ap, ◌∙◌, arith, subst, append_assoc}
+use Rattle.rx_live.proofs.Common.{is_some, option_to_list, append-nil, drop_at, drop-append-le, Mail, Event, Kept, notes, mail_of, moments, Call, outside_of}
+use Rattle.rx_live.proofs.Common.{IsStepOf, IsForcedOn, stays, more, notes-push, Data, Items, Task, plain, open_holding, Order, Command, using, open_node}
+use Rattle.rx_live.proofs.Common.{hold, apply, remove, lease, give_back, next, end, abort, decline, fail, dispose, make_hub, connect, disconnect, drain, Goes}
+use Rattle.rx_live.proofs.Common.{checkpoint, State, Request, stands, hub_request, take_request, Accepts, Accepted, Session, hub_of, Carries, IsAlike, Gives}
+use Rattle.rx_live.proofs.Common.{BindsHub, to_tell, Takes, none_taken, one_taken, Renews, holder_causes, OpensHolder, Runs, Does, IsCarried, GoesOn, no_line}
+use Rattle.rx_live.proofs.Common.{one_line, IsFresh, IsAged, as_it_was, renewed, is_put_off, Act}
+use Rattle.rx_live.specs.Lines.{IsAnswer, is_faulty, is_refused, is_carried, is_queried, is_listed, is_dumped, AnswersAsked, AnswersOne, is_taken, none_left}
+use Rattle.rx_live.specs.Lines.{AnswersEach, one_more, AnswersValue, one_asked, many_asked, IsAnswered, no_json, is_json}
+use Rattle.rx_live.specs.Sessions.{told_by, written_of, written_by, told_one, written_one, told_each, written_each, told_value, written_value, told_line}
+use Rattle.rx_live.specs.Sessions.{written_line, told_in, written_in}
 use Rattle.rx_live.proofs.Acts.{gave, gave_by, refused_alike}
 use Rattle.rx_live.proofs.OpenedNodesHold.{opening, holding}
 

@@ -1,18 +1,11 @@
 -- The names of what was closed, as they are written.
-use Rattle.std.proofs.Common.{◌≡◌, ℕ, zero, suc, ◌+◌, ◌≤◌, ◌<◌, Bool, true, false, List, [], ◌∷◌, ◌++◌, codes, length, take, map, get_or, Option, Some, None}
-use Rattle.std.proofs.Common.{option_map, refl, sym, ap, ◌∙◌, arith}
-use Rattle.std.specs.Prelude.{option_and_then, slice_get, if◌then◌else◌}
-use Rattle.std.specs.List.{filter_map, cons_option, range_with_len}
-use Rattle.std.proofs.lemmas.List.{append-nil, map-append, take_more, take_all}
-use Rattle.std.proofs.lemmas.List.Elements.{filter_map-append}
+use Rattle.rx_live.proofs.Common.{◌≡◌, ℕ, zero, suc, ◌+◌, ◌≤◌, ◌<◌, Bool, true, false, List, [], ◌∷◌, ◌++◌, codes, length, take, map, get_or, Option, Some}
+use Rattle.rx_live.proofs.Common.{None, option_map, refl, sym, ap, ◌∙◌, arith, slice_get, if◌then◌else◌, filter_map, cons_option, range_with_len, append-nil}
+use Rattle.rx_live.proofs.Common.{map-append, take_more, take_all, filter_map-append, Name, Key, name_text, member_text, joined, is_nil, Session, closed_at}
+use Rattle.rx_live.proofs.Common.{closed_texts}
+use Rattle.std.specs.Prelude.{option_and_then}
 use Rattle.std.proofs.lemmas.Option.{slice_get-get_or}
-use Rattle.rx_scenario.specs.Scenario.{Name}
-use Rattle.rx_book.specs.declared.key.Key.{Key}
-use Rattle.rx_line.specs.Pieces.{name_text, member_text, joined}
-use Rattle.rx_listing.specs.Parts.{is_nil}
-use Rattle.rx_live.specs.Session.{Session}
 use Rattle.rx_live.specs.Closings.{name_beside, names_closed, all_said, none_said, WritesClosed}
-use Rattle.rx_live.specs.ClosedAt.{closed_at, closed_texts}
 use Rattle.rx_live.proofs.Listings.{range_more}
 
 quoted : (o : Option Name) → cons_option (option_map name_text o) [] ≡ map name_text (cons_option o [])

@@ -1,22 +1,8 @@
 -- Names of closed nodes are forgotten, one after another.
-use Rattle.std.proofs.Common.{◌≡◌, ℕ, ◌==◌, Bool, true, false, cond, List, [], ◌∷◌, ◌++◌, length, arith, Option, Some, None}
-use Rattle.std.proofs.Common.{option_map, refl, sym, ap, ◌∙◌, subst, inl, inr, ◌⊎◌, String, Global, string_bytes}
-use Rattle.std.specs.Prelude.{IfSome, is_some}
-use Rattle.std.specs.Bool.{nat_eq}
-use Rattle.std.specs.List.{list_any}
-use Rattle.std.specs.Option.{option_and_then}
-use Rattle.std.proofs.Math.Bool.{◌||◌}
-use Rattle.std.proofs.lemmas.Bool.{eqb-true, eq-eqb}
-use Rattle.std.proofs.lemmas.Option.{none-some, same_Some}
-use Rattle.rx_event.proofs.Laws.Searches.{list_any_push}
-use Rattle.rx_scenario.specs.Scenario.{Name}
-use Rattle.rx_book.specs.State.{State, has_key}
-use Rattle.rx_line.specs.declared.names.Spot.{Spot}
-use Rattle.rx_line.specs.declared.names.Names.{Names}
-use Rattle.rx_line.specs.Names.{spot_of, name_of, IsPaired, Forgets}
-use Rattle.rx_live.specs.Session.{node_in, key_at}
-use Rattle.rx_live.specs.Given.{AreOpenSame}
-use Rattle.rx_live.specs.Renewals.{AreOpen}
+use Rattle.rx_live.proofs.Common.{◌≡◌, ℕ, ◌==◌, Bool, true, false, cond, List, [], ◌∷◌, ◌++◌, length, arith, Option, Some, None, option_map, refl, sym, ap}
+use Rattle.rx_live.proofs.Common.{◌∙◌, subst, inl, inr, ◌⊎◌, String, Global, string_bytes, IfSome, is_some, nat_eq, list_any, option_and_then, ◌||◌, eqb-true}
+use Rattle.rx_live.proofs.Common.{eq-eqb, none-some, same_Some, list_any_push, Name, State, has_key, Spot, Names, spot_of, name_of, IsPaired, Forgets, key_at}
+use Rattle.rx_live.proofs.Common.{node_in, AreOpenSame, AreOpen}
 use Rattle.rx_live.proofs.AcceptedBindsNames.{forgot}
 use Rattle.rx_live.proofs.NamesOfOpenNodes.{no_node, node_found, open_forgot}
 

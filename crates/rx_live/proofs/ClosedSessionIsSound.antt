@@ -1,18 +1,8 @@
 -- A session that was closed is sound.
-use Rattle.std.proofs.Common.{◌≡◌, ℕ, ◌<◌, Bool, true, false, List, [], map, refl, sym, ap, ◌∙◌, arith, subst, inl, inr, ◌⊎◌}
-use Rattle.std.specs.Prelude.{is_some}
-use Rattle.std.proofs.Math.Bool.{not, ◌&&◌}
-use Rattle.std.specs.List.{Contains, list_any}
+use Rattle.rx_live.proofs.Common.{◌≡◌, ℕ, ◌<◌, Bool, true, false, List, [], map, refl, sym, ap, ◌∙◌, arith, subst, inl, inr, ◌⊎◌, is_some, not, ◌&&◌, Event}
+use Rattle.rx_live.proofs.Common.{Contains, list_any, none-some, makes_resource, is_take_of, at, is_out, is_held, is_waiting, is_taken, IsPromised, is_kept}
+use Rattle.rx_live.proofs.Common.{IsPaired, Session, IsSound, IsClosed}
 use Rattle.std.proofs.lemmas.Bool.{false_from_ne_true}
-use Rattle.std.proofs.lemmas.Option.{none-some}
-use Rattle.rx_event.specs.declared.event.Event.{Event}
-use Rattle.rx_event.specs.Events.{makes_resource, is_take_of}
-use Rattle.rx_event.specs.Tree.{at}
-use Rattle.rx_event.specs.Resources.{is_out, is_held, is_waiting, is_taken}
-use Rattle.rx_book.specs.State.{IsPromised, is_kept}
-use Rattle.rx_line.specs.Names.{IsPaired}
-use Rattle.rx_live.specs.Session.{Session, IsSound}
-use Rattle.rx_live.specs.Lines.{IsClosed}
 
 kept_shape : (made held gone : Bool) → (made && not gone) ≡ true → (held ≡ true) ⊎ ((made && not held && not (made && gone)) ≡ true)
 kept_shape made true gone p = inl refl

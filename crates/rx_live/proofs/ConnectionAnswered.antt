@@ -1,22 +1,9 @@
 -- What the answer to an opening says of the connection that it made.
-use Rattle.std.proofs.Common.{◌≡◌, ℕ, ◌+◌, ◌==◌, ◌≤◌, ◌++◌, Bool, true, false, List, [], ◌∷◌, length, Some, None}
-use Rattle.std.proofs.Common.{refl, sym, ap, ◌∙◌, arith, inl, inr, ◌⊎◌}
-use Rattle.std.specs.Prelude.{is_some, slice_get, if◌then◌else◌}
-use Rattle.std.specs.Option.{option_map_or}
-use Rattle.std.proofs.lemmas.Bool.{le-ltb, eqb-true}
-use Rattle.std.proofs.lemmas.List.{append-nil}
-use Rattle.rx_event.specs.Tree.{at}
-use Rattle.rx_scenario.specs.Scenario.{Command, using, open_node, hold, apply, remove, lease, give_back, next, end, abort}
-use Rattle.rx_scenario.specs.Scenario.{decline, fail, dispose, make_hub, connect, disconnect, drain, checkpoint}
-use Rattle.rx_book.specs.State.{State}
-use Rattle.rx_book.specs.Answers.{makes_connection, connection_made}
-use Rattle.rx_line.specs.Orders.{Task, plain, open_holding}
-use Rattle.rx_line.specs.Pieces.{ok_text}
-use Rattle.rx_line.specs.declared.outcome.Outcome.TheVariants.{Accepted}
-use Rattle.rx_live.specs.Session.{Session, IsSound}
-use Rattle.rx_live.specs.Lines.{Runs, Does}
-use Rattle.rx_live.specs.Openings.{holder_causes, OpensHolder, connected_by, said_if, front_text}
-use Rattle.rx_live.specs.Taken.{connects_at}
+use Rattle.rx_live.proofs.Common.{◌≡◌, ℕ, ◌+◌, ◌==◌, ◌≤◌, ◌++◌, Bool, true, false, List, [], ◌∷◌, length, Some, None, refl, sym, ap, ◌∙◌, arith, inl, inr, at}
+use Rattle.rx_live.proofs.Common.{◌⊎◌, is_some, slice_get, if◌then◌else◌, option_map_or, le-ltb, eqb-true, append-nil, Command, using, open_node, hold, apply}
+use Rattle.rx_live.proofs.Common.{remove, lease, give_back, next, end, abort, decline, fail, dispose, make_hub, connect, disconnect, drain, checkpoint, State}
+use Rattle.rx_live.proofs.Common.{makes_connection, connection_made, Task, plain, open_holding, ok_text, Accepted, Session, IsSound, Runs, Does, OpensHolder}
+use Rattle.rx_live.proofs.Common.{holder_causes, connected_by, said_if, front_text, connects_at}
 use Rattle.rx_live.proofs.Acts.{gave, gave_by}
 
 pub nothing_said : (b : Bool) → said_if b [] ≡ []

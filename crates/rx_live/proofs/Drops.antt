@@ -1,34 +1,12 @@
 -- Names that are released one after another.
-use Rattle.std.proofs.Common.{◌≡◌, ℕ, ◌≤◌, ◌==◌, zero, suc, Bool, true, false, cond, List, [], ◌∷◌, ◌++◌, codes, length, map}
-use Rattle.std.proofs.Common.{Option, Some, None, option_map, refl, sym, ap, ◌∙◌, arith, subst, String, Global, string_bytes}
-use Rattle.std.specs.Prelude.{IfSome, IfNone, is_some, IsTrue}
-use Rattle.std.proofs.Math.Bool.{not, ◌&&◌, ◌||◌}
-use Rattle.std.specs.Str.{bytes_eq}
-use Rattle.std.specs.List.{Contains, list_any}
-use Rattle.std.specs.Option.{option_map_or}
-use Rattle.std.proofs.lemmas.List.{append-nil, map-append}
-use Rattle.std.proofs.lemmas.List.Elements.{All-contains}
-use Rattle.std.proofs.lemmas.Option.{none-some}
-use Rattle.std.proofs.lemmas.Slice.Eq.{bytes_eq-Decides}
-use Rattle.rx_event.specs.Calls.{Taking}
-use Rattle.rx_event.specs.declared.event.Event.{Event}
-use Rattle.rx_event.specs.Events.{makes_resource, is_take_of}
-use Rattle.rx_event.specs.Tree.{at}
-use Rattle.rx_event.specs.Resources.{is_waiting, is_held, is_taken}
-use Rattle.rx_scenario.specs.Scenario.{Name}
-use Rattle.rx_book.specs.State.{State, IsPromised, is_kept}
-use Rattle.rx_book.specs.Requests.{take_request}
-use Rattle.rx_book.specs.Answers.{Accepts}
-use Rattle.rx_line.specs.declared.names.Spot.{Spot}
-use Rattle.rx_line.specs.declared.names.Names.{Names}
-use Rattle.rx_line.specs.Names.{spot_of, name_of, IsPaired, Forgets}
-use Rattle.rx_line.specs.Pieces.{name_text, joined}
-use Rattle.rx_live.specs.Session.{Session, IsSound, has_resource}
-use Rattle.rx_live.specs.Promise.{Act, released, Leads, no_act, releases}
-use Rattle.rx_live.specs.Answers.{Takes, none_taken, one_taken, WritesNames}
-use Rattle.rx_live.specs.Steps.{TakesName, DropsName, WritesName, WritesNoName, AreNamesWritten}
+use Rattle.rx_live.proofs.Common.{◌≡◌, ℕ, ◌≤◌, ◌==◌, zero, suc, Bool, true, false, cond, List, [], ◌∷◌, ◌++◌, codes, length, map, Option, Some, None, refl}
+use Rattle.rx_live.proofs.Common.{option_map, sym, ap, ◌∙◌, arith, subst, String, Global, string_bytes, IfSome, IfNone, is_some, IsTrue, not, ◌&&◌, ◌||◌, at}
+use Rattle.rx_live.proofs.Common.{bytes_eq, Contains, list_any, option_map_or, append-nil, map-append, All-contains, none-some, bytes_eq-Decides, Taking, Act}
+use Rattle.rx_live.proofs.Common.{Event, makes_resource, is_take_of, is_waiting, is_held, is_taken, Name, State, IsPromised, is_kept, take_request, Accepts}
+use Rattle.rx_live.proofs.Common.{Spot, Names, spot_of, name_of, IsPaired, Forgets, name_text, joined, Session, IsSound, has_resource, released, Leads, Takes}
+use Rattle.rx_live.proofs.Common.{no_act, releases, none_taken, one_taken, WritesNames, AreNamesWritten, kept_taken, out_same}
+use Rattle.rx_live.specs.Steps.{TakesName, DropsName, WritesName, WritesNoName}
 use Rattle.rx_live.proofs.Laws.HeldStaysHeld.{leads_on}
-use Rattle.rx_book.proofs.Laws.LastsThroughSteps.{kept_taken, out_same}
 use Rattle.rx_live.proofs.Soundness.{accepted_longer}
 use Rattle.rx_live.proofs.AcceptedBindsNames.{placed_longer, some_gone}
 use Rattle.rx_live.proofs.NamesOfOpenNodes.{free_forgot}

@@ -1,10 +1,7 @@
 -- The numbers that have names, written one after another.
-use Rattle.std.proofs.Common.{◌≡◌, ℕ, suc, ◌+◌, Bool, false, List, [], ◌∷◌, ◌++◌, filter_map, Option, Some, None, ap, ◌∙◌, arith}
-use Rattle.std.specs.List.{cons_option, range_with_len}
-use Rattle.std.proofs.lemmas.List.Elements.{filter_map-append}
-use Rattle.rx_line.specs.Pieces.{joined}
-use Rattle.rx_listing.specs.Parts.{is_nil, led_text}
-use Rattle.rx_listing.proofs.Laws.Texts.{same_texts, more_nil, more_text}
+use Rattle.rx_live.proofs.Common.{◌≡◌, ℕ, suc, ◌+◌, Bool, false, List, [], ◌∷◌, ◌++◌, Option, Some, None, ap, ◌∙◌, arith, cons_option, range_with_len, joined}
+use Rattle.rx_live.proofs.Common.{filter_map-append, is_nil, led_text, same_texts, more_nil, more_text}
+use Rattle.std.proofs.Common.{filter_map}
 use Rattle.rx_live.proofs.Listings.{range_more}
 
 range_next : (k : ℕ) → range_with_len 0 (k + 1) ≡ range_with_len 0 k ++ k ∷ []

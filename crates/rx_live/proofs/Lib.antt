@@ -1,3 +1,4 @@
+pub mod Common
 pub mod Laws
 pub mod Soundness
 pub mod AcceptedBindsNames

@@ -1,25 +1,11 @@
 -- All names that are bound, as a session ends.
-use Rattle.std.proofs.Common.{◌≡◌, ℕ, ◌+◌, ◌<◌, ◌≤◌, zero, suc, Bool, true, false, cond, List, [], ◌∷◌, ◌++◌, codes, length, take, map, filter, get_or}
-use Rattle.std.proofs.Common.{Option, Some, None, option_map, refl, sym, ap, ◌∙◌, arith, subst, append_assoc, add-one, inl, inr, ◌⊎◌}
-use Rattle.std.specs.Prelude.{is_some, nat_lt}
-use Rattle.std.proofs.Math.Bool.{not, ◌&&◌}
-use Rattle.std.specs.List.{filter_map, cons_option, range_with_len}
-use Rattle.std.specs.Str.{bytes_eq}
-use Rattle.std.specs.Option.{option_map_or, option_to_list}
-use Rattle.std.proofs.lemmas.Bool.{lt-ltb, ltb-false, le-ltb, cases_order}
-use Rattle.std.proofs.lemmas.List.{append-nil, map-append, take_more, take_all}
-use Rattle.std.proofs.lemmas.List.Elements.{filter_map-append}
-use Rattle.std.proofs.lemmas.Option.{none-some, same_Some}
-use Rattle.std.proofs.lemmas.Slice.Eq.{bytes_eq-Decides}
-use Rattle.rx_scenario.specs.Scenario.{Name}
-use Rattle.rx_line.specs.declared.names.Spot.{Spot}
-use Rattle.rx_line.specs.Names.{spot_of, name_of}
-use Rattle.rx_line.specs.Pieces.{name_text, joined}
-use Rattle.rx_book.specs.State.{is_kept}
-use Rattle.rx_live.specs.Session.{Session, IsSound, has_resource}
-use Rattle.rx_live.specs.Promise.{Act, released, with_held, Leads, no_act, releases}
-use Rattle.rx_live.specs.Listed.{names_below, all_names, is_nil, led_text, open_text}
-use Rattle.rx_book.proofs.Laws.LastsThroughSteps.{kept_past}
+use Rattle.rx_live.proofs.Common.{◌≡◌, ℕ, ◌+◌, ◌<◌, ◌≤◌, zero, suc, Bool, true, false, cond, List, [], ◌∷◌, ◌++◌, codes, length, take, map, filter, get_or}
+use Rattle.rx_live.proofs.Common.{Option, Some, None, option_map, refl, sym, ap, ◌∙◌, arith, subst, append_assoc, add-one, inl, inr, ◌⊎◌, is_some, nat_lt}
+use Rattle.rx_live.proofs.Common.{not, ◌&&◌, filter_map, cons_option, range_with_len, bytes_eq, option_map_or, option_to_list, lt-ltb, ltb-false, le-ltb, Act}
+use Rattle.rx_live.proofs.Common.{cases_order, append-nil, map-append, take_more, take_all, filter_map-append, none-some, same_Some, bytes_eq-Decides, Name}
+use Rattle.rx_live.proofs.Common.{Spot, spot_of, name_of, name_text, joined, is_kept, Session, IsSound, has_resource, released, with_held, Leads, no_act}
+use Rattle.rx_live.proofs.Common.{releases, all_names, kept_past}
+use Rattle.rx_live.specs.Listed.{names_below, is_nil, led_text, open_text}
 use Rattle.rx_live.proofs.AcceptedBindsNames.{none_of}
 use Rattle.rx_live.proofs.Tellings.{joined_more}
 use Rattle.rx_live.proofs.Laws.HeldStaysHeld.{leads_on, leads_same}

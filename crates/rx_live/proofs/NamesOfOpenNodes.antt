@@ -1,24 +1,8 @@
 -- Names of nodes, as those of closed ones are forgotten and new ones bound.
-use Rattle.std.proofs.Common.{◌≡◌, ℕ, ◌+◌, ◌==◌, ◌<◌, Bool, true, false, cond, List, length, Option, Some, None, refl, sym, ap, ◌∙◌, arith, inl, inr, ◌⊎◌}
-use Rattle.std.specs.Prelude.{is_some}
-use Rattle.std.proofs.Math.Bool.{◌&&◌, ◌||◌}
-use Rattle.std.specs.Str.{bytes_eq}
-use Rattle.std.specs.Option.{option_and_then}
-use Rattle.std.proofs.lemmas.Option.{none-some, same_Some}
-use Rattle.std.proofs.lemmas.Slice.Eq.{bytes_eq-Decides}
-use Rattle.rx_event.specs.declared.mail.Mail.{Mail}
-use Rattle.rx_event.specs.declared.event.Event.{Event}
-use Rattle.rx_event.specs.Tree.{at}
-use Rattle.rx_event.proofs.Laws.Places.{at_within}
-use Rattle.rx_scenario.specs.Scenario.{Name}
-use Rattle.rx_book.specs.State.{State, has_key}
-use Rattle.rx_book.specs.Answers.{makes_connection, connection_made}
-use Rattle.rx_line.specs.declared.names.Spot.{Spot}
-use Rattle.rx_line.specs.declared.names.Names.{Names}
-use Rattle.rx_line.specs.Names.{spot_of, name_of, AreSame, Forgets}
-use Rattle.rx_live.specs.Session.{IsPlaced, node_in, is_node_in, if_open, key_at}
-use Rattle.rx_live.specs.Given.{AreOpenSame}
-use Rattle.rx_live.specs.Openings.{BindsMade}
+use Rattle.rx_live.proofs.Common.{◌≡◌, ℕ, ◌+◌, ◌==◌, ◌<◌, Bool, true, false, cond, List, length, Option, Some, None, refl, sym, ap, ◌∙◌, arith, inl, inr, ◌⊎◌}
+use Rattle.rx_live.proofs.Common.{is_some, ◌&&◌, ◌||◌, bytes_eq, option_and_then, none-some, same_Some, bytes_eq-Decides, Mail, Event, at, at_within, Name}
+use Rattle.rx_live.proofs.Common.{State, has_key, makes_connection, connection_made, Spot, Names, spot_of, name_of, AreSame, Forgets, IsPlaced, node_in}
+use Rattle.rx_live.proofs.Common.{is_node_in, if_open, key_at, AreOpenSame, BindsMade}
 use Rattle.rx_live.proofs.AcceptedBindsNames.{same_on, placed_bound}
 
 pub no_node : (book : State) (t : Names) (name : Name) → spot_of t name ≡ None → node_in book t name ≡ None

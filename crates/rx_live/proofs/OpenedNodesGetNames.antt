@@ -1,30 +1,10 @@
 -- Nodes that are opened and connected, and the names that they get.
-use Rattle.std.proofs.Common.{◌≡◌, ℕ, ◌+◌, ◌==◌, ◌<◌, ◌≤◌, Bool, true, false, cond, List, length, Option, Some}
-use Rattle.std.proofs.Common.{None, option_map, Result, Ok, Err, refl, sym, ap, ◌∙◌, arith, subst}
-use Rattle.std.specs.Prelude.{IfSome, OnErr, is_some}
-use Rattle.std.proofs.Math.Bool.{◌||◌}
-use Rattle.std.proofs.lemmas.Bool.{or_parts, ne_eqb}
-use Rattle.std.specs.Str.{bytes_eq}
-use Rattle.std.specs.Option.{option_map_or}
-use Rattle.std.proofs.lemmas.Option.{none-some, same_Some}
-use Rattle.rx_event.specs.declared.event.Event.{Event}
-use Rattle.rx_event.specs.declared.event.Kind.{Kind}
-use Rattle.rx_event.specs.Tree.{at}
-use Rattle.rx_scenario.specs.Scenario.{Name}
-use Rattle.rx_book.specs.declared.key.Key.{Key}
-use Rattle.rx_book.specs.declared.answer.At.{At}
-use Rattle.rx_book.specs.declared.answer.Opened.{Opened}
-use Rattle.rx_book.specs.State.{State, IsPromised}
-use Rattle.rx_book.specs.Requests.{Request, open_request, connect_request}
-use Rattle.rx_book.specs.Answers.{Accepts, IsOpened, makes_connection, connection_made}
-use Rattle.rx_book.proofs.Laws.StepsContinue.{step_longer}
-use Rattle.rx_line.specs.declared.names.Spot.{Spot}
-use Rattle.rx_line.specs.declared.names.Names.{Names}
-use Rattle.rx_line.specs.Names.{spot_of, name_of, IsPaired, AreSame, Binds}
-use Rattle.rx_live.specs.Session.{Session, IsSound, IsPlaced, has_resource}
-use Rattle.rx_live.specs.Given.{AreOpenSame, IsAlike, IsUnchanged, NamesOne}
-use Rattle.rx_live.specs.Openings.{using_at, is_node, is_open_taken, BindsMade, BindsNode, BindsUsing, BindsConnection}
-use Rattle.rx_book.proofs.Laws.LastsThroughSteps.{keeps_resources, keeps_leases, kept_same, out_same, kept_used, kept_past}
+use Rattle.rx_live.proofs.Common.{◌≡◌, ℕ, ◌+◌, ◌==◌, ◌<◌, ◌≤◌, Bool, true, false, cond, List, length, Option, Some, None, option_map, Result, Ok, Err, refl}
+use Rattle.rx_live.proofs.Common.{sym, ap, ◌∙◌, arith, subst, IfSome, OnErr, is_some, ◌||◌, or_parts, ne_eqb, bytes_eq, option_map_or, none-some, same_Some}
+use Rattle.rx_live.proofs.Common.{Event, Kind, at, Name, Key, At, Opened, State, IsPromised, Request, open_request, connect_request, Accepts, IsOpened, Spot}
+use Rattle.rx_live.proofs.Common.{makes_connection, connection_made, step_longer, Names, spot_of, name_of, IsPaired, AreSame, Binds, Session, IsSound}
+use Rattle.rx_live.proofs.Common.{IsPlaced, has_resource, AreOpenSame, IsAlike, IsUnchanged, NamesOne, using_at, is_node, is_open_taken, BindsMade, BindsNode}
+use Rattle.rx_live.proofs.Common.{BindsUsing, BindsConnection, keeps_resources, keeps_leases, kept_same, out_same, kept_used, kept_past}
 use Rattle.rx_live.proofs.Soundness.{accepted_longer}
 use Rattle.rx_live.proofs.AcceptedBindsNames.{same_names, bound_after, none_of, some_cond, not_unnamed, placed_longer, placed_bound, sound_alike}
 use Rattle.rx_live.proofs.NamesOfOpenNodes.{open_same, open_on, placed_open, made_placed, made_within}

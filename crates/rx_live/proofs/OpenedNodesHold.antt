@@ -1,32 +1,12 @@
 -- A node that holds a resource from its opening on, and the names that both get.
-use Rattle.std.proofs.Common.{◌≡◌, ℕ, ◌+◌, ◌==◌, ◌<◌, [], ◌∷◌, Bool, true, false, cond, length, length-append, Option, Some}
-use Rattle.std.proofs.Common.{option_map, refl, sym, ap, ◌∙◌, arith, subst}
-use Rattle.std.specs.Prelude.{is_some}
-use Rattle.rx_event.specs.declared.event.Event.{Event}
-use Rattle.rx_event.specs.declared.event.Event.TheVariants.{Accept}
-use Rattle.rx_event.specs.Kept.{Kept}
-use Rattle.rx_event.specs.Lawful.{IsLawful}
-use Rattle.rx_event.specs.Calls.{Call}
-use Rattle.rx_event.specs.Causes.{by_key}
-use Rattle.rx_event.specs.declared.event.Place.{Place}
-use Rattle.rx_event.specs.declared.event.Kind.{Kind}
-use Rattle.rx_event.specs.declared.refusal.Refusal.{Refusal}
-use Rattle.rx_event.specs.declared.refusal.Refusal.TheVariants.{Full}
+use Rattle.rx_live.proofs.Common.{◌≡◌, ℕ, ◌+◌, ◌==◌, ◌<◌, [], ◌∷◌, Bool, true, false, cond, length, length-append, Option, Some, option_map, refl, sym, ap}
+use Rattle.rx_live.proofs.Common.{◌∙◌, arith, subst, is_some, Event, Accept, Kept, IsLawful, Call, by_key, Place, Kind, Refusal, Full, At, Name, Opened}
+use Rattle.rx_live.proofs.Common.{State, is_kept, IsPromised, place_of, is_known_place, open_request, IsOpened, connection_made, step_longer, kept_same}
+use Rattle.rx_live.proofs.Common.{out_same, kept_held, Names, spot_of, name_of, IsPaired, AreSame, Binds, Session, IsSound, IsPlaced, has_resource, NamesOne}
+use Rattle.rx_live.proofs.Common.{AreOpenSame, hold_tagged, holder_at, holder_causes, OpensHolder, BindsMade, BindsHolder}
 use Rattle.rx_ground.specs.OpeningHolding.{opening_holding_causes}
-use Rattle.rx_book.specs.declared.answer.At.{At}
-use Rattle.rx_scenario.specs.Scenario.{Name}
-use Rattle.rx_book.specs.declared.answer.Opened.{Opened}
-use Rattle.rx_book.specs.State.{State, is_kept, IsPromised}
-use Rattle.rx_book.specs.Requests.{place_of, is_known_place, open_request}
 use Rattle.rx_book.specs.OpensHolding.{stands_holding}
-use Rattle.rx_book.specs.Answers.{IsOpened, connection_made}
-use Rattle.rx_book.proofs.Laws.StepsContinue.{step_longer}
-use Rattle.rx_book.proofs.Laws.LastsThroughSteps.{kept_same, out_same, kept_held}
-use Rattle.rx_line.specs.declared.names.Names.{Names}
-use Rattle.rx_line.specs.Names.{spot_of, name_of, IsPaired, AreSame, Binds}
-use Rattle.rx_live.specs.Session.{Session, IsSound, IsPlaced, has_resource}
-use Rattle.rx_live.specs.Given.{AreOpenSame, NamesOne, hold_tagged}
-use Rattle.rx_live.specs.Openings.{Holder, holder_at, opening_with_causes, holder_causes, OpensHolder, BindsMade, BindsHolder}
+use Rattle.rx_live.specs.Openings.{Holder, opening_with_causes}
 use Rattle.rx_live.proofs.AcceptedBindsNames.{bound_after, some_cond, not_unnamed, placed_longer, placed_bound}
 use Rattle.rx_live.proofs.NamesOfOpenNodes.{made_placed, made_within}
 use Rattle.rx_live.proofs.OpenedNodesGetNames.{placed, opened_bound}

@@ -1,44 +1,13 @@
 -- What a checkpoint makes of a session.
-use Rattle.std.proofs.Common.{◌≡◌, ℕ, ◌-◌, ◌<◌, ◌≤◌, suc, Bool, true, false, List, [], ◌++◌, length, drop, Option}
-use Rattle.std.proofs.Common.{Some, None, Result, Ok, Err, refl, sym, ap, ◌∙◌, arith, subst, inl, inr, ◌⊎◌}
-use Rattle.std.specs.Prelude.{IfOk, is_some, nat_lt}
-use Rattle.std.specs.List.{list_any}
-use Rattle.std.specs.Option.{option_to_list}
-use Rattle.std.proofs.Math.Bool.{not, ◌&&◌, ◌||◌}
-use Rattle.std.proofs.lemmas.Bool.{and_cases, and_parts, and_right, not-false, ltb-true, ltb-false, lt-ltb, le-ltb, cases_lt}
-use Rattle.std.proofs.lemmas.List.{drop_all, length-drop}
-use Rattle.rx_event.specs.declared.mail.Mail.{Mail}
-use Rattle.rx_event.specs.declared.event.Event.{Event}
-use Rattle.rx_event.specs.declared.refusal.Refusal.{Refusal}
-use Rattle.rx_event.specs.declared.refusal.Refusal.TheVariants.{Full, MailLeft, TooMany}
-use Rattle.rx_event.specs.Events.{makes_resource, is_take_of}
-use Rattle.rx_event.specs.Kept.{Kept, shown}
-use Rattle.rx_event.specs.Bases.{base_of}
-use Rattle.rx_event.specs.Tree.{at}
-use Rattle.rx_event.specs.Resources.{is_held, is_waiting, is_taken}
-use Rattle.rx_event.specs.Lawful.{IsLawful}
-use Rattle.rx_event.specs.Notes.{notes}
-use Rattle.rx_event.specs.Refusals.{first_cause, IsRefusal}
-use Rattle.rx_event.proofs.Laws.MakingRemovesNothing.{made_untold}
-use Rattle.rx_event.proofs.Laws.Resources.{held_resource, held_not_taken}
-use Rattle.rx_event.specs.Causes.{checkpoint_causes, most_places}
+use Rattle.rx_live.proofs.Common.{◌≡◌, ℕ, ◌-◌, ◌<◌, ◌≤◌, suc, Bool, true, false, List, [], ◌++◌, length, drop, Option, Some, None, Result, Ok, Err, refl, sym}
+use Rattle.rx_live.proofs.Common.{ap, ◌∙◌, arith, subst, inl, inr, ◌⊎◌, IfOk, is_some, nat_lt, list_any, option_to_list, not, ◌&&◌, ◌||◌, and_cases, ltb-true}
+use Rattle.rx_live.proofs.Common.{and_parts, and_right, not-false, ltb-false, lt-ltb, le-ltb, cases_lt, drop_all, length-drop, Mail, Event, Refusal, Full, at}
+use Rattle.rx_live.proofs.Common.{MailLeft, TooMany, makes_resource, is_take_of, Kept, shown, base_of, is_held, is_waiting, is_taken, IsLawful, notes, State}
+use Rattle.rx_live.proofs.Common.{first_cause, IsRefusal, made_untold, held_resource, held_not_taken, checkpoint_causes, most_places, IsPromised, is_kept}
+use Rattle.rx_live.proofs.Common.{Names, Cause, NoName, NameTaken, Book, Outcome, Refused, AllocError, name_of, IsPaired, Session, IsSound, AreOpenSame, Task}
+use Rattle.rx_live.proofs.Common.{IsAlike, to_tell, AreOpen, Renews, renewing_causes, Renewing, IsFullByOpen, may_renew, Does, FindsFull, is_full}
 use Rattle.rx_register.proofs.Laws.NoCause.{no_cause}
-use Rattle.rx_book.specs.State.{State, IsPromised, is_kept}
 use Rattle.rx_book.specs.Checkpoints.{Checkpoints}
-use Rattle.rx_line.specs.declared.names.Names.{Names}
-use Rattle.rx_line.specs.declared.outcome.Cause.{Cause}
-use Rattle.rx_line.specs.declared.outcome.Cause.TheVariants.{NoName, NameTaken, Book}
-use Rattle.rx_line.specs.declared.outcome.Outcome.{Outcome}
-use Rattle.rx_line.specs.declared.outcome.Outcome.TheVariants.{Refused}
-use Rattle.std.specs.declared.alloc.AllocError.{AllocError}
-use Rattle.rx_line.specs.Names.{name_of, IsPaired}
-use Rattle.rx_live.specs.Session.{Session, IsSound}
-use Rattle.rx_live.specs.Given.{AreOpenSame, IsAlike}
-use Rattle.rx_live.specs.Answers.{to_tell}
-use Rattle.rx_live.specs.Renewals.{AreOpen, Renews, renewing_causes, Renewing, IsFullByOpen, may_renew}
-use Rattle.rx_line.specs.Orders.{Task}
-use Rattle.rx_live.specs.Lines.{Does, FindsFull}
-use Rattle.rx_live.specs.Taken.{is_full}
 
 -- what is kept ----------------------------------------------------------------------------------------
 

@@ -1,23 +1,8 @@
 -- A session stays sound as its book goes on.
-use Rattle.std.proofs.Common.{◌≡◌, ℕ, ◌≤◌, true, false, Option, Some, Result, Ok, Err, length}
-use Rattle.std.proofs.Common.{refl, sym, ap, ◌∙◌, arith, subst, inl, option_map, List, []}
-use Rattle.std.specs.Prelude.{IfOk, IfErr, OnOk, OnErr, is_some}
-use Rattle.std.specs.declared.alloc.AllocError.{AllocError}
-use Rattle.rx_event.specs.declared.refusal.Refusal.{Refusal}
-use Rattle.std.proofs.lemmas.Option.{none-some}
-use Rattle.rx_event.specs.declared.event.Event.{Event}
-use Rattle.rx_event.specs.Resources.{is_out}
-use Rattle.rx_event.proofs.Laws.Leases.{is_out_past}
-use Rattle.rx_line.specs.Names.{IsPaired}
-use Rattle.rx_book.specs.State.{State, IsPromised, is_kept}
-use Rattle.rx_book.specs.Requests.{Request}
-use Rattle.rx_book.specs.Answers.{Accepts, IsCause, IsCauseOrWant}
-use Rattle.rx_book.proofs.Laws.StepsContinue.{step_longer}
-use Rattle.rx_line.specs.declared.outcome.Outcome.{Outcome}
-use Rattle.rx_live.specs.Session.{Session, IsSound}
-use Rattle.rx_live.specs.Lines.{IsFresh}
-use Rattle.rx_live.specs.Carried.{outcome_of, Goes}
-use Rattle.rx_book.proofs.Laws.LastsThroughSteps.{keeps_resources, keeps_leases, kept_same, out_same}
+use Rattle.rx_live.proofs.Common.{◌≡◌, ℕ, ◌≤◌, true, false, Option, Some, Result, Ok, Err, length, refl, sym, ap, ◌∙◌, arith, subst, inl, option_map, List}
+use Rattle.rx_live.proofs.Common.{[], IfOk, IfErr, OnOk, OnErr, is_some, AllocError, Refusal, none-some, Event, is_out, is_out_past, IsPaired, State, is_kept}
+use Rattle.rx_live.proofs.Common.{IsPromised, Request, Accepts, IsCause, IsCauseOrWant, step_longer, Outcome, Session, IsSound, IsFresh, outcome_of, Goes}
+use Rattle.rx_live.proofs.Common.{keeps_resources, keeps_leases, kept_same, out_same}
 
 pub accepted_longer : (old new : State) (asked : Request) → Accepts old asked new → length old.history ≤ length new.history
 accepted_longer old new asked accepts = let l = step_longer old.base old.history new.history asked.call accepts.step in omega arith

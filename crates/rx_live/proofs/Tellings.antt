@@ -1,20 +1,10 @@
 -- Notes that are told one after another.
-use Rattle.std.proofs.Common.{◌≡◌, ℕ, ◌+◌, ◌<◌, ◌≤◌, suc, List, [], ◌∷◌, ◌++◌, codes, length, map, drop, Option}
-use Rattle.std.proofs.Common.{Some, None, refl, sym, ap, ◌∙◌, append_assoc, add-one, drop-cons, inl, inr, ◌⊎◌}
-use Rattle.std.specs.Prelude.{IfSome, IfNone, is_some, slice_get, get_or, if◌then◌else◌}
-use Rattle.std.specs.List.{flat_map}
-use Rattle.std.specs.Option.{option_to_list}
-use Rattle.std.proofs.lemmas.Grind.{flat_map-append}
-use Rattle.std.proofs.lemmas.List.{append-nil, map-append, drop_all}
-use Rattle.std.proofs.lemmas.Option.{slice_get_within, slice_get_cases, none-some, get_or_from_slice_get}
-use Rattle.rx_event.specs.declared.mail.Mail.{Mail}
-use Rattle.rx_event.specs.Notes.{notes}
-use Rattle.rx_book.specs.State.{State}
-use Rattle.rx_line.specs.declared.names.Names.{Names}
-use Rattle.rx_line.specs.Pieces.{joined}
-use Rattle.rx_live.specs.Session.{Session}
-use Rattle.rx_live.specs.Answers.{Told, told_of, told_text, to_tell, IsTelling, WritesNotes}
-use Rattle.rx_live.specs.Steps.{TellsOne, WritesNote, WritesNoNote, AreNotesWritten}
+use Rattle.rx_live.proofs.Common.{◌≡◌, ℕ, ◌+◌, ◌<◌, ◌≤◌, suc, List, [], ◌∷◌, ◌++◌, codes, length, map, drop, Option, Some, None, refl, sym, ap, ◌∙◌, add-one}
+use Rattle.rx_live.proofs.Common.{append_assoc, drop-cons, inl, inr, ◌⊎◌, IfSome, IfNone, is_some, slice_get, get_or, if◌then◌else◌, flat_map, option_to_list}
+use Rattle.rx_live.proofs.Common.{flat_map-append, append-nil, map-append, drop_all, slice_get_within, slice_get_cases, none-some, get_or_from_slice_get}
+use Rattle.rx_live.proofs.Common.{Mail, notes, State, Names, joined, Session, told_text, to_tell, WritesNotes, AreNotesWritten}
+use Rattle.rx_live.specs.Answers.{Told, told_of, IsTelling}
+use Rattle.rx_live.specs.Steps.{TellsOne, WritesNote, WritesNoNote}
 
 pub dropped_one : (xs : List Mail) (k : ℕ) (x : Mail) → slice_get xs k ≡ Some x → drop k xs ≡ x ∷ drop (k + 1) xs
 dropped_one xs k x at_k =

@@ -1,6 +1,5 @@
 -- What a session keeps beside what its book promises.
-use Rattle.rx_book.specs.State.{IsPromised}
-use Rattle.rx_live.specs.Session.{Session, IsSound, IsTied}
+use Rattle.rx_live.proofs.Common.{IsPromised, Session, IsSound, IsTied}
 
 pub sound_of : (s : Session) → IsPromised s.book → IsTied s → IsSound s
 sound_of s kept tied = record {

@@ -1,14 +1,8 @@
 -- What the free slots are while values come and go.
-use Rattle.std.proofs.Common.{List, ◌≡◌, ◌≢◌, ◌⊎◌, ℕ, ◌+◌, ◌-◌, ◌<◌, ◌≤◌, [], ◌∷◌, ◌++◌, length, get_or, set, replicate, Option, Some, None, is_some, option_map}
-use Rattle.std.specs.Prelude.{slice_get}
-use Rattle.std.proofs.Common.{IsSome, count_by, cond, refl, sym, ap, subst, ◌∙◌, inl, inr, arith, true≢false}
-use Rattle.std.proofs.lemmas.Bool.{cases_eq, cases_lt}
-use Rattle.std.proofs.lemmas.Option.{get_or_from_slice_get}
-use Rattle.std.proofs.lemmas.List.{get_or_past, get_or-set_same, get_or-set_other, length-set, length_push, get_or_push, get_or_append_left, set_at, append-nil}
-use Rattle.std.proofs.lemmas.List.Sums.{sum_by-append, sum_by-set}
-use Rattle.rx_slots.specs.declared.Entry.{Entry}
-use Rattle.rx_slots.specs.Slots.{IsWithin, placed}
-use Rattle.rx_slots.specs.Kept.{last_or, shown, IsKept}
+use Rattle.rx_slots.proofs.Common.{List, ◌≡◌, ◌≢◌, ◌⊎◌, ℕ, ◌+◌, ◌-◌, ◌<◌, ◌≤◌, [], ◌∷◌, ◌++◌, length, get_or, set, replicate, Option, Some, None, is_some, ap}
+use Rattle.rx_slots.proofs.Common.{option_map, slice_get, IsSome, count_by, cond, refl, sym, subst, ◌∙◌, inl, inr, arith, true≢false, cases_eq, cases_lt}
+use Rattle.rx_slots.proofs.Common.{get_or_from_slice_get, get_or_past, get_or-set_same, get_or-set_other, length-set, length_push, get_or_push, set_at, Entry}
+use Rattle.rx_slots.proofs.Common.{get_or_append_left, append-nil, sum_by-append, sum_by-set, IsWithin, placed, last_or, shown, IsKept}
 use Rattle.rx_slots.proofs.Laws.EntryByNumber.{found_there}
 
 pub last_or-push : (further : ℕ) (slots : List ℕ) (slot : ℕ) → last_or further (slots ++ slot ∷ []) ≡ slot

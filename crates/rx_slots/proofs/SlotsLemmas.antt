@@ -1,11 +1,8 @@
 -- Lemmas on what a contract sees of `Slots`, for this crate and its callers.
-use Rattle.std.proofs.Common.{◌≡◌, ◌≢◌, ℕ, zero, suc, ◌+◌, ◌-◌, ◌<◌, List, [], ◌∷◌, ◌++◌, length, get_or, set, replicate}
-use Rattle.std.proofs.Common.{Option, Some, None, is_some, IsSome, refl, sym, ap, ◌∙◌, inl, inr, arith, true≢false}
-use Rattle.std.proofs.lemmas.Bool.{cases_eq, cases_lt}
-use Rattle.std.proofs.lemmas.List.{length-set, length-append, length-replicate, get_or_past, get_or-set_same, get_or-set_other}
-use Rattle.rx_slots.specs.declared.Entry.{Entry}
-use Rattle.rx_slots.specs.declared.Key.{Key}
-use Rattle.rx_slots.specs.Slots.{Slots, slot_count, entry_at, with_number, find, placed, Changes, KeepsOthers}
+use Rattle.rx_slots.proofs.Common.{◌≡◌, ◌≢◌, ℕ, zero, suc, ◌+◌, ◌-◌, ◌<◌, List, [], ◌∷◌, ◌++◌, length, get_or, set, replicate, Option, Some, None, is_some}
+use Rattle.rx_slots.proofs.Common.{IsSome, refl, sym, ap, ◌∙◌, inl, inr, arith, true≢false, cases_eq, cases_lt, length-set, get_or_past, get_or-set_same, Key}
+use Rattle.rx_slots.proofs.Common.{get_or-set_other, Entry, Slots, slot_count, entry_at, with_number, find, placed, Changes, KeepsOthers}
+use Rattle.std.proofs.lemmas.List.{length-append, length-replicate}
 use Rattle.rx_slots.proofs.Laws.EntryByNumber.{with_number-other, found_entry}
 
 -- nothing more is read past the end of a list that is longer by nothing

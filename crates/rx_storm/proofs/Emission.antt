@@ -1,24 +1,10 @@
 -- What a thread emits, number by number.
-use Rattle.std.proofs.Common.{◌≡◌, ℕ, zero, suc, ◌+◌, ◌-◌, ◌≤◌, ◌<◌, List, [], ◌∷◌, ◌++◌, map, length, take, refl, sym, ap, ◌∙◌, arith}
-use Rattle.std.specs.Prelude.{◌≢◌, ℤ, pos, cond, Result, Ok, Err, OnOk, IfErr}
-use Rattle.std.proofs.lemmas.List.{map-append, append_assoc, append-nil}
-use Rattle.std.proofs.lemmas.List.Sums.{sum_by-cons}
-use Rattle.std.proofs.Math.Seq.{take-length}
-use Rattle.std.specs.List.{sum_by}
-use Rattle.rx_note.specs.declared.note.Terminal.TheVariants.{Completed}
-use Rattle.rx_event.specs.declared.event.Event.{Event}
-use Rattle.rx_event.specs.declared.event.Event.TheVariants.{Item, End}
-use Rattle.rx_event.specs.declared.refusal.Refusal.{Refusal}
-use Rattle.rx_event.specs.Events.{is_item}
-use Rattle.rx_event.specs.Calls.{Emitting}
-use Rattle.rx_ledger.specs.Shares.{Shares}
-use Rattle.rx_ledger.specs.declared.receipt.Receipt.{Receipt}
-use Rattle.rx_crew.specs.declared.feeding.Pull.{Pull}
-use Rattle.rx_crew.specs.declared.working.Stop.{Stop}
+use Rattle.rx_storm.proofs.Common.{◌≡◌, ℕ, zero, suc, ◌+◌, ◌-◌, ◌≤◌, ◌<◌, List, [], ◌∷◌, ◌++◌, map, length, take, refl, sym, ap, ◌∙◌, arith, ◌≢◌, ℤ, pos, Ok}
+use Rattle.rx_storm.proofs.Common.{cond, Result, Err, OnOk, IfErr, map-append, append_assoc, append-nil, sum_by-cons, take-length, sum_by, Completed, Event}
+use Rattle.rx_storm.proofs.Common.{End, Refusal, is_item, Emitting, Shares, Receipt, Pull, Stop, seat_after, event_of, items_in, AreOfPulls, IsFed, count_up}
+use Rattle.rx_storm.proofs.Common.{items_at, events_of, HasEmitted}
+use Rattle.rx_event.specs.declared.event.Event.TheVariants.{Item}
 use Rattle.rx_crew.specs.declared.working.Stop.TheVariants.{Done, Turns, Refused}
-use Rattle.rx_crew.specs.Counting.{seat_after}
-use Rattle.rx_crew.specs.Feeds.{event_of, items_in, AreOfPulls, IsFed}
-use Rattle.rx_storm.specs.Storms.{count_up, items_at, events_of, HasEmitted}
 
 -- one receipt more
 pub events_of-kept : (receipts receipts' : List Receipt) (receipt : Receipt) → receipts' ≡ receipts ++ receipt ∷ []

@@ -1,3 +1,4 @@
+pub mod Common
 mod CountUp
 mod Emission
 mod Mail

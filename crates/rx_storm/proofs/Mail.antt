@@ -1,7 +1,5 @@
 -- Mail that is taken note by note.
-use Rattle.std.proofs.Common.{◌≡◌, ◌+◌, ◌-◌, ◌≤◌, ℕ, zero, suc, List, [], ◌∷◌, length, arith, sym, ◌∙◌}
-use Rattle.std.specs.Prelude.{None, min, slice_get}
-use Rattle.std.proofs.Math.Nat.{min-eq_left}
+use Rattle.rx_storm.proofs.Common.{◌≡◌, ◌+◌, ◌-◌, ◌≤◌, ℕ, zero, suc, List, [], ◌∷◌, length, arith, sym, ◌∙◌, None, min, slice_get, min-eq_left}
 
 slice_get-past : {A : Type 0} (xs : List A) (n : ℕ) → slice_get xs n ≡ None → length xs ≤ n
 slice_get-past [] n missing = omega arith

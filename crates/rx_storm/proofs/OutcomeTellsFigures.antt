@@ -1,16 +1,8 @@
 -- What an outcome tells.
-use Rattle.std.proofs.Common.{◌≡◌, Option, Some, None, Result, Ok, Err, IfOk, Bool, ℕ, List, refl, subst, ◌∙◌}
-use Rattle.std.specs.Prelude.{is_ok, IfErr, OnOk}
-use Rattle.rx_book.specs.State.{State}
-use Rattle.rx_crew.specs.declared.finishing.Totals.{Totals}
-use Rattle.rx_crew.specs.declared.finishing.Mismatch.{Mismatch}
-use Rattle.rx_storm.specs.declared.outcome.Lack.{Lack}
-use Rattle.rx_storm.specs.declared.figures.Figures.{Figures}
-use Rattle.rx_storm.specs.Storms.{figures_of, figures_text, outcome_of, IsEnd, TellsOf, TellsFrontOf, Tells, TellsFront}
+use Rattle.rx_storm.proofs.Common.{◌≡◌, Option, Some, None, Result, Ok, Err, IfOk, Bool, ℕ, List, refl, subst, ◌∙◌, is_ok, IfErr, OnOk, State, Totals, Lack}
+use Rattle.rx_storm.proofs.Common.{Mismatch, Figures, IsEnd, Sums, Receipt, StormFault}
+use Rattle.rx_storm.specs.Storms.{figures_of, figures_text, outcome_of, TellsOf, TellsFrontOf, Tells, TellsFront}
 use Rattle.rx_device.specs.Device.{AppendsPrefix}
-use Rattle.rx_ledger.specs.declared.ledgers.Sums.{Sums}
-use Rattle.rx_ledger.specs.declared.receipt.Receipt.{Receipt}
-use Rattle.rx_storm.specs.declared.StormFault.{StormFault}
 
 -- what holds of the figures with the answer of their verdict
 pub outcome_tells : (lack : Option Lack) (figures : Figures) (verdict : Result Totals Mismatch) (P : Figures → Bool → Type 0)

@@ -1,31 +1,12 @@
 -- The chain that callers see, and the ring that it is kept in.
-use Rattle.std.proofs.Common.{◌≡◌, ℕ, ◌<◌, ◌==◌, ◌&&◌, ◌||◌, cond, map, Bool, true, false, List, [], ◌∷◌, length, Option, Some, None}
-use Rattle.std.proofs.Common.{is_some, IsSome, refl, sym, ap, subst, ◌∙◌, inl, inr, arith, true≢false}
-use Rattle.std.specs.Option.{option_map_or, option_and_then, option_map}
-use Rattle.rx_event.specs.Events.{is_root}
-use Rattle.std.proofs.lemmas.Bool.{cases_lt, false≢true, false_from_ne_true}
-use Rattle.std.proofs.lemmas.Bool.Decides.{nat_tests}
-use Rattle.std.proofs.lemmas.List.{get_or_past, length-map}
-use Rattle.rx_slots.specs.declared.Entry.{Entry}
-use Rattle.rx_slots.specs.declared.Key.{Key}
-use Rattle.rx_slots.specs.Slots.{Slots, entry_at, find}
-use Rattle.rx_tree.specs.declared.links.Place.{Place}
-use Rattle.rx_tree.specs.declared.links.Place.TheVariants.{Roots, Due, Waiting, Children, Held, Sibling, Noted, Stored}
-use Rattle.rx_tree.specs.declared.node.Node.{Node}
-use Rattle.rx_tree.specs.declared.node.Stowed.{Stowed}
-use Rattle.rx_tree.specs.declared.store.Store.{Store}
-use Rattle.rx_lists.specs.Rings.{is_among, AreDifferent, walk}
-use Rattle.rx_tree.specs.Places.{is_place, slot_of, places}
-use Rattle.rx_tree.proofs.PlacesApart.{tells}
-use Rattle.rx_lists.proofs.Laws.Places.{few_places, among_here, among_there, among_cons, or_true}
-use Rattle.rx_lists.proofs.Laws.Links.{walk_leads}
-use Rattle.rx_lists.proofs.Laws.Rings.{some_same}
-use Rattle.rx_tree.specs.Store.{on_entry, key_on, nodes_of, resources_of, next_of, previous_of, stands, shown}
-use Rattle.rx_tree.specs.Ties.{home_of, sibling_ring, resource_ring, IsTiedAt, IsTied}
-use Rattle.rx_tree.specs.Tree.{IsPromised, AreDistinct, is_key, is_on}
-use Rattle.rx_tree.proofs.Laws.Keys.{same_key}
-use Rattle.rx_tree.proofs.Laws.FoundAfterWrite.{entry_found, found_entry}
-use Rattle.rx_tree.specs.Resources.{is_owned, is_lent}
+use Rattle.rx_tree.proofs.Common.{◌≡◌, ℕ, ◌<◌, ◌==◌, ◌&&◌, ◌||◌, cond, map, Bool, true, false, List, [], ◌∷◌, length, Option, Some, None, is_some, IsSome, ap}
+use Rattle.rx_tree.proofs.Common.{refl, sym, subst, ◌∙◌, inl, inr, arith, true≢false, option_map_or, option_and_then, is_root, cases_lt, false≢true, Entry}
+use Rattle.rx_tree.proofs.Common.{false_from_ne_true, nat_tests, get_or_past, length-map, Key, Slots, entry_at, find, Place, Roots, Due, Waiting, Children}
+use Rattle.rx_tree.proofs.Common.{Held, Sibling, Noted, Stored, Node, Stowed, Store, is_among, AreDifferent, walk, is_place, slot_of, places, tells, or_true}
+use Rattle.rx_tree.proofs.Common.{few_places, among_here, among_there, among_cons, walk_leads, some_same, on_entry, key_on, nodes_of, resources_of, next_of}
+use Rattle.rx_tree.proofs.Common.{previous_of, stands, shown, home_of, sibling_ring, resource_ring, IsTiedAt, IsTied, IsPromised, AreDistinct, is_key, is_on}
+use Rattle.rx_tree.proofs.Common.{same_key, entry_found, found_entry, is_owned, is_lent}
+use Rattle.std.specs.Option.{option_map}
 use Rattle.rx_tree.proofs.TieRecords.{home_stands}
 
 module _ {T : Type 0} where

@@ -1,27 +1,12 @@
 -- What is left of a tree while a subtree is cut away from it, and after.
-use Rattle.std.proofs.Common.{◌≡◌, ◌≢◌, ℕ, suc, ◌+◌, ◌<◌, ◌≤◌, ◌==◌, ◌||◌, cond, Bool, true, false, List, [], ◌∷◌, ◌++◌, length, Option, Some, None, is_some}
-use Rattle.std.proofs.Common.{IsSome, IfSome, take, drop, refl, sym, ap, subst, ◌∙◌, inl, inr, arith, true≢false}
-use Rattle.std.specs.List.{filter}
-use Rattle.std.proofs.Math.Bool.{not}
+use Rattle.rx_tree.proofs.Common.{◌≡◌, ◌≢◌, ℕ, suc, ◌+◌, ◌<◌, ◌≤◌, ◌==◌, ◌||◌, cond, Bool, true, false, List, [], ◌∷◌, ◌++◌, length, Option, Some, None, take}
+use Rattle.rx_tree.proofs.Common.{is_some, IsSome, IfSome, drop, refl, sym, ap, subst, ◌∙◌, inl, inr, arith, true≢false, filter, not, nat_tests, append_assoc}
+use Rattle.rx_tree.proofs.Common.{Key, find, Node, Store, is_key, is_on, is_below, Closed, IsSubtree, outside, owed_in, Descends, still_open, CutsLeaf, shown}
+use Rattle.rx_tree.proofs.Common.{IsCutting, nodes_of, IsTied, cases_key, none_not_some, or_true}
 use Rattle.std.proofs.Math.Seq.{take-append_seam, drop-append_seam}
-use Rattle.std.proofs.lemmas.Bool.Decides.{nat_tests}
-use Rattle.std.proofs.lemmas.List.{append_assoc}
-use Rattle.rx_slots.specs.declared.Key.{Key}
-use Rattle.rx_slots.specs.Slots.{find}
-use Rattle.rx_tree.specs.declared.node.Node.{Node}
-use Rattle.rx_tree.specs.declared.store.Store.{Store}
-use Rattle.rx_tree.specs.Tree.{is_key, is_on}
-use Rattle.rx_tree.specs.Below.{is_below}
-use Rattle.rx_tree.specs.Closing.{Closed, IsSubtree, outside}
-use Rattle.rx_tree.specs.Owed.{owed_in}
-use Rattle.rx_tree.specs.Cuts.{Descends, still_open, CutsLeaf, IsCutting}
-use Rattle.rx_tree.specs.Store.{nodes_of, shown}
-use Rattle.rx_tree.specs.Ties.{IsTied}
 use Rattle.rx_tree.proofs.Chain.{promised, key_self}
 use Rattle.rx_tree.proofs.CutLemmas.{descends_on, descends_in, descends_above, part_start, part_step, kept_by_cuts, subtree_moved}
-use Rattle.rx_tree.proofs.Laws.Keys.{cases_key, none_not_some}
 use Rattle.rx_tree.proofs.Laws.Owed.{owed_fewer}
-use Rattle.rx_lists.proofs.Laws.Places.{or_true}
 
 filter_on : (p q : Key → Bool) (xs : List Key) → ((x : Key) → is_on x xs ≡ true → p x ≡ q x) → filter p xs ≡ filter q xs
 filter_on p q [] same = refl

@@ -1,20 +1,8 @@
 -- How many resources of those that pass a test no node owns, and how many each node owns, as records come, change and go.
-use Rattle.std.proofs.Common.{◌≡◌, ◌≢◌, ℕ, suc, ◌+◌, ◌<◌, ◌==◌, ◌&&◌, cond, Bool, true, false, List, [], ◌∷◌, length, get_or, set, Option, Some, None}
-use Rattle.std.proofs.Common.{is_some, count_by, refl, sym, ap, subst, ◌∙◌, inl, inr, arith, ◌⊎◌}
-use Rattle.std.specs.List.{sum_by}
-use Rattle.std.proofs.Math.Bool.{not}
-use Rattle.std.proofs.lemmas.Bool.{cases_eq}
-use Rattle.std.proofs.lemmas.Bool.Decides.{nat_tests}
-use Rattle.std.proofs.lemmas.List.{get_or-set_same, get_or-set_other}
-use Rattle.std.proofs.lemmas.List.Sums.{sum_by-cons, sum_by-set}
-use Rattle.rx_slots.specs.declared.Entry.{Entry}
-use Rattle.rx_slots.specs.declared.Key.{Key}
-use Rattle.rx_slots.specs.Slots.{Slots, entry_at, find, with_number, Changes}
-use Rattle.rx_tree.specs.declared.node.Node.{Node}
-use Rattle.rx_tree.specs.declared.node.Stowed.{Stowed}
-use Rattle.rx_tree.specs.Resources.{is_owned}
-use Rattle.rx_tree.specs.Ties.{unowned_in, owned_at, AreCounted}
-use Rattle.rx_tree.proofs.Laws.FoundAfterWrite.{found_entry, slot_within}
+use Rattle.rx_tree.proofs.Common.{◌≡◌, ◌≢◌, ℕ, suc, ◌+◌, ◌<◌, ◌==◌, ◌&&◌, cond, Bool, true, false, List, [], ◌∷◌, length, get_or, set, Option, Some, None, ap}
+use Rattle.rx_tree.proofs.Common.{is_some, count_by, refl, sym, subst, ◌∙◌, inl, inr, arith, ◌⊎◌, sum_by, not, cases_eq, nat_tests, get_or-set_same, Entry}
+use Rattle.rx_tree.proofs.Common.{get_or-set_other, sum_by-cons, sum_by-set, Key, Slots, entry_at, find, with_number, Changes, Node, Stowed, is_owned}
+use Rattle.rx_tree.proofs.Common.{unowned_in, owned_at, AreCounted, found_entry, slot_within}
 
 -- one for what passes a test, none for what does not
 abbrev pub bit : Bool → ℕ

@@ -1,30 +1,14 @@
 -- How the counts of a store follow what changes of its records.
-use Rattle.std.proofs.Common.{◌≡◌, ◌≢◌, ℕ, ◌+◌, ◌-◌, ◌<◌, ◌≤◌, ◌==◌, cond, Bool, true, false, [], length, get_or, map, Option, Some, None, option_map}
-use Rattle.std.proofs.Common.{is_some, count_by, refl, sym, ap, subst, ◌∙◌, inl, inr, ◌⊎◌, arith, true≢false}
-use Rattle.std.specs.Option.{option_map_or}
-use Rattle.std.proofs.Math.Bool.{not, ◌&&◌, ◌||◌}
-use Rattle.std.proofs.lemmas.Bool.{cases_eq}
-use Rattle.std.proofs.lemmas.List.{length-map}
-use Rattle.std.proofs.lemmas.List.Sums.{count_by-le-length}
-use Rattle.rx_slots.specs.declared.Entry.{Entry}
-use Rattle.rx_slots.specs.declared.Key.{Key}
-use Rattle.rx_slots.specs.Slots.{Slots, entry_of, value_at, find, Changes}
-use Rattle.rx_tree.specs.declared.node.Node.{Node}
-use Rattle.rx_tree.specs.declared.node.Stowed.{Stowed}
-use Rattle.rx_tree.specs.declared.linked.Record.{Record}
-use Rattle.rx_tree.specs.declared.store.Counts.{Counts}
-use Rattle.rx_tree.specs.declared.store.Store.{Store}
+use Rattle.rx_tree.proofs.Common.{◌≡◌, ◌≢◌, ℕ, ◌+◌, ◌-◌, ◌<◌, ◌≤◌, ◌==◌, cond, Bool, true, false, [], length, get_or, map, Option, Some, None, option_map, ap}
+use Rattle.rx_tree.proofs.Common.{is_some, count_by, refl, sym, subst, ◌∙◌, inl, inr, ◌⊎◌, arith, true≢false, option_map_or, not, cases_eq, length-map, Entry}
+use Rattle.rx_tree.proofs.Common.{count_by-le-length, Key, Slots, entry_of, value_at, find, Changes, Node, Stowed, Record, Counts, Store, owed_in, is_owned}
+use Rattle.rx_tree.proofs.Common.{is_lent, is_held, removed, one_lease_more, one_lease_less, waits_in, waiting_count, on_entry, project, nodes_of, no_counts}
+use Rattle.rx_tree.proofs.Common.{resources_of, held_count_at, count_if, one_more, one_less, freed, Relinks, Inserts, shown, Rewrites, unowned_in, owned_at}
+use Rattle.rx_tree.proofs.Common.{AreCounted, is_free, IsCounted, cases_key, entry_found, slot_within}
+use Rattle.std.proofs.Math.Bool.{◌&&◌, ◌||◌}
 use Rattle.rx_tree.specs.declared.store.Stored.{Stored as Kept}
-use Rattle.rx_tree.specs.Owed.{owed_in}
-use Rattle.rx_tree.specs.Resources.{is_owned, is_lent, is_held, removed, one_lease_more, one_lease_less, waits_in, waiting_count}
-use Rattle.rx_tree.specs.Store.{on_entry, project, nodes_of, resources_of, held_count_at, no_counts, count_if, one_more, one_less, freed, Relinks, Inserts}
-use Rattle.rx_tree.specs.Store.{shown}
-use Rattle.rx_tree.specs.Tree.{Rewrites}
-use Rattle.rx_tree.specs.Ties.{unowned_in, owned_at, AreCounted, is_free, IsCounted}
 use Rattle.rx_tree.proofs.CountLemmas.{bit, same_here, same_apart, count_changed, counted_changed, counted_placed, counted_out, are_counted_still}
-use Rattle.rx_tree.proofs.Laws.Keys.{cases_key}
 use Rattle.rx_tree.proofs.Laws.Owed.{owed_came, owed_taken, owed_empty}
-use Rattle.rx_tree.proofs.Laws.FoundAfterWrite.{entry_found, slot_within}
 use Rattle.rx_tree.proofs.StoreLemmas.{find-project}
 
 -- what of the counts is of those with a lease out, or of the others

@@ -1,17 +1,9 @@
 -- What is left of a tree, and what was moved out, while a subtree is cut away.
-use Rattle.std.proofs.Common.{◌≡◌, ◌≢◌, ℕ, zero, suc, ◌-◌, ◌<◌, cond, Bool, true, false, List, [], ◌∷◌, ◌++◌, get_or, Option, Some, None, is_some, IsSome}
-use Rattle.std.proofs.Common.{IfSome, Contains, refl, sym, ap, subst, ◌∙◌, inl, inr, ◌⊎◌, arith, true≢false}
+use Rattle.rx_tree.proofs.Common.{◌≡◌, ◌≢◌, ℕ, zero, suc, ◌-◌, ◌<◌, cond, Bool, true, false, List, [], ◌∷◌, ◌++◌, get_or, Option, Some, None, is_some, IsSome}
+use Rattle.rx_tree.proofs.Common.{IfSome, Contains, refl, sym, ap, subst, ◌∙◌, inl, inr, ◌⊎◌, arith, true≢false, Key, Slots, find, Node, IsSound, is_below}
+use Rattle.rx_tree.proofs.Common.{Closed, IsInside, IsSubtree, Descends, from_top, one_down, IsPart, Takes_out, some_of, none_not_some, cases_key}
 use Rattle.std.proofs.lemmas.List.Elements.{Contains-append_left, Contains-push, Contains-push_cases, Contains-get_or}
 use Rattle.std.proofs.lemmas.List.Quantifiers.{all_pairs_push}
-use Rattle.rx_slots.specs.declared.Key.{Key}
-use Rattle.rx_slots.specs.Slots.{Slots, find}
-use Rattle.rx_tree.specs.declared.node.Node.{Node}
-use Rattle.rx_tree.specs.Tree.{IsSound}
-use Rattle.rx_tree.specs.Below.{is_below}
-use Rattle.rx_tree.specs.Closing.{Closed, IsInside, IsSubtree}
-use Rattle.rx_tree.specs.Cuts.{Descends, from_top, one_down, IsPart}
-use Rattle.rx_tree.specs.Store.{Takes_out}
-use Rattle.rx_tree.proofs.Laws.Keys.{some_of, none_not_some, cases_key}
 use Rattle.rx_tree.proofs.Laws.Below.{below_itself, below_child, not_below}
 
 pub nearer : (limit a b : ℕ) → a < b → a < limit → limit - b < limit - a

@@ -1,14 +1,6 @@
 -- What is read in place, at a slot that has a record, is what callers see there.
-use Rattle.std.proofs.Common.{◌≡◌, ℕ, Option, Some, None, option_map, is_some, IsSome, IfSome, refl, sym, ap, ◌∙◌, true≢false}
-use Rattle.rx_slots.specs.declared.Entry.{Entry}
-use Rattle.rx_slots.specs.declared.Key.{Key}
-use Rattle.rx_slots.specs.Slots.{Slots, entry_of, entry_at, value_at, number_at, key_at, find}
-use Rattle.rx_lists.proofs.Laws.Rings.{some_same}
-use Rattle.rx_tree.specs.declared.linked.Record.{Record}
-use Rattle.rx_tree.specs.declared.node.Node.{Node}
-use Rattle.rx_tree.specs.Store.{on_entry, project}
-use Rattle.rx_tree.specs.Tree.{IsSound}
-use Rattle.rx_tree.proofs.Laws.FoundAfterWrite.{found_entry}
+use Rattle.rx_tree.proofs.Common.{◌≡◌, ℕ, Option, Some, None, option_map, is_some, IsSome, IfSome, refl, sym, ap, ◌∙◌, true≢false, Entry, Key, Slots, key_at}
+use Rattle.rx_tree.proofs.Common.{entry_of, entry_at, value_at, number_at, find, some_same, Record, Node, on_entry, project, IsSound, found_entry}
 use Rattle.rx_tree.proofs.StoreLemmas.{entry_at-project}
 
 module _ {X Y : Type 0} (f : X → Y) (s : Slots X) (i : ℕ) where

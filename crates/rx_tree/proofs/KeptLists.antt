@@ -1,11 +1,6 @@
 -- What is kept of slots that are seen through a function, and lists by rising number.
-use Rattle.std.proofs.Common.{◌≡◌, option_map, sym, ap}
-use Rattle.std.specs.List.{range_with_len, filter_map}
-use Rattle.std.proofs.lemmas.List.{length-map}
-use Rattle.rx_slots.specs.declared.Entry.{Entry}
-use Rattle.rx_slots.specs.Slots.{Slots, entry_at, slot_count}
-use Rattle.rx_tree.specs.Bases.{kept_by}
-use Rattle.rx_tree.specs.Store.{on_entry, project}
+use Rattle.rx_tree.proofs.Common.{◌≡◌, option_map, sym, ap, range_with_len, filter_map, length-map, Entry, Slots, entry_at, kept_by, on_entry, project}
+use Rattle.rx_slots.specs.Slots.{slot_count}
 
 module _ {X Y Z : Type 0} (f : X → Y) (keep : Entry Y → Z) where
   -- at all slots

@@ -1,25 +1,9 @@
 -- What rings say of the node at their end, and what the removal of a childless node leaves of them.
-use Rattle.std.proofs.Common.{◌≡◌, ◌≢◌, ℕ, ◌<◌, ◌&&◌, cond, Bool, true, false, List, [], ◌∷◌, Option, Some, None, option_map, is_some, IsSome, IfSome, refl}
-use Rattle.std.proofs.Common.{sym, ap, subst, ◌∙◌, inl, inr, true≢false}
-use Rattle.std.specs.Option.{option_map_or, option_and_then}
-use Rattle.std.proofs.lemmas.Bool.{false≢true}
-use Rattle.rx_event.specs.Events.{is_root}
-use Rattle.rx_slots.specs.declared.Entry.{Entry}
-use Rattle.rx_slots.specs.declared.Key.{Key}
-use Rattle.rx_slots.specs.Slots.{Slots, entry_at, key_at, find}
-use Rattle.rx_tree.specs.declared.links.Place.{Place}
-use Rattle.rx_tree.specs.declared.links.Place.TheVariants.{Roots, Due, Children, Held, Sibling, Noted, Stored}
-use Rattle.rx_tree.specs.declared.node.Node.{Node}
-use Rattle.rx_tree.specs.declared.node.Stowed.{Stowed}
-use Rattle.rx_lists.specs.Rings.{is_among, Steps, IsLink, Leads, AreRings}
-use Rattle.rx_tree.specs.Places.{is_place, is_end, slot_of, places}
-use Rattle.rx_tree.proofs.PlacesApart.{tells}
-use Rattle.rx_lists.proofs.Laws.Places.{cases_place, place_apart, among_here}
-use Rattle.rx_lists.proofs.Laws.Links.{next_in, previous_in, first_among, last_among}
-use Rattle.rx_lists.proofs.Laws.Rings.{some_same}
-use Rattle.rx_tree.specs.Ties.{sibling_ring, home_of, IsTiedAt}
-use Rattle.rx_tree.proofs.Laws.Keys.{some_of}
-use Rattle.rx_tree.proofs.Laws.FoundAfterWrite.{entry_found, found_entry, one_key}
+use Rattle.rx_tree.proofs.Common.{◌≡◌, ◌≢◌, ℕ, ◌<◌, ◌&&◌, cond, Bool, true, false, List, [], ◌∷◌, Option, Some, None, option_map, is_some, IsSome, IfSome, ap}
+use Rattle.rx_tree.proofs.Common.{refl, sym, subst, ◌∙◌, inl, inr, true≢false, option_map_or, option_and_then, false≢true, is_root, Entry, Key, Slots, key_at}
+use Rattle.rx_tree.proofs.Common.{entry_at, find, Place, Roots, Due, Children, Held, Sibling, Noted, Stored, Node, Stowed, is_among, Steps, IsLink, Leads}
+use Rattle.rx_tree.proofs.Common.{AreRings, is_place, is_end, slot_of, places, tells, cases_place, place_apart, among_here, next_in, previous_in, first_among}
+use Rattle.rx_tree.proofs.Common.{last_among, some_same, sibling_ring, home_of, IsTiedAt, some_of, entry_found, found_entry, one_key}
 use Rattle.rx_tree.proofs.TieRecords.{aged}
 
 -- as it was, but for one place that has no home

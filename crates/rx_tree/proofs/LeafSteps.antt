@@ -1,33 +1,13 @@
 -- What the removal of a childless node leaves of a tree.
-use Rattle.std.proofs.Common.{◌≡◌, ◌≢◌, ℕ, ◌&&◌, cond, map, Bool, true, false, List, [], ◌∷◌, ◌++◌, Option, Some, None, option_map, is_some, IsSome, refl}
-use Rattle.std.proofs.Common.{sym, ap, subst, ◌∙◌, inl, inr, ◌⊎◌, true≢false}
-use Rattle.std.specs.List.{filter}
-use Rattle.std.specs.Option.{option_map_or, option_and_then}
-use Rattle.std.proofs.Math.Bool.{not}
-use Rattle.std.proofs.lemmas.Bool.{false≢true, false_from_ne_true}
-use Rattle.rx_slots.specs.declared.Entry.{Entry}
-use Rattle.rx_slots.specs.declared.Key.{Key}
-use Rattle.rx_slots.specs.Slots.{Slots, entry_at, with_number, find}
-use Rattle.rx_tree.specs.declared.links.Place.{Place}
-use Rattle.rx_tree.specs.declared.links.Place.TheVariants.{Due, Waiting, Children, Held, Sibling, Noted, Stored}
-use Rattle.rx_tree.specs.declared.node.Node.{Node}
-use Rattle.rx_tree.specs.declared.node.Stowed.{Stowed}
-use Rattle.rx_tree.specs.declared.store.Store.{Store}
-use Rattle.rx_tree.specs.Cuts.{still_open, waiting_home, LetsWait}
-use Rattle.rx_tree.specs.Resources.{is_owned, is_lent}
-use Rattle.rx_lists.specs.Rings.{is_among, without, Steps, set_step, AreRings, PassesBy, Leaves, Merges}
-use Rattle.rx_tree.specs.Places.{is_place, is_end, slot_of, places}
-use Rattle.rx_tree.proofs.PlacesApart.{tells}
-use Rattle.rx_lists.proofs.Laws.Places.{cases_place, place_apart, among_here, among_there, among_without, without_none}
-use Rattle.rx_lists.proofs.Laws.Links.{no_loop}
-use Rattle.rx_lists.proofs.Laws.Rings.{merged_rings, rings_merged, rings_left, some_same}
-use Rattle.rx_lists.proofs.Laws.JoinsLeavesMerges.{leaves_of}
-use Rattle.rx_tree.specs.Store.{alone, key_on, nodes_of, resources_of, link_at, set_link_at, next_of, previous_of, stands, is_there, Relinks, Takes_out, shown}
-use Rattle.rx_tree.specs.Ties.{sibling_ring, resource_ring, Rises, is_by_age, home_of, IsTiedAt, IsTied}
-use Rattle.rx_tree.specs.Tree.{IsSound}
+use Rattle.rx_tree.proofs.Common.{◌≡◌, ◌≢◌, ℕ, ◌&&◌, cond, map, Bool, true, false, List, [], ◌∷◌, ◌++◌, Option, Some, None, option_map, is_some, IsSome, refl}
+use Rattle.rx_tree.proofs.Common.{sym, ap, subst, ◌∙◌, inl, inr, ◌⊎◌, true≢false, filter, option_map_or, option_and_then, not, false≢true, false_from_ne_true}
+use Rattle.rx_tree.proofs.Common.{Entry, Key, Slots, entry_at, with_number, find, Place, Due, Waiting, Children, Held, Sibling, Noted, Stored, Node, Stowed}
+use Rattle.rx_tree.proofs.Common.{Store, still_open, waiting_home, LetsWait, is_owned, is_lent, is_among, without, Steps, set_step, AreRings, PassesBy, tells}
+use Rattle.rx_tree.proofs.Common.{Leaves, Merges, is_place, is_end, slot_of, places, cases_place, place_apart, among_here, among_there, among_without, alone}
+use Rattle.rx_tree.proofs.Common.{without_none, no_loop, merged_rings, rings_merged, rings_left, some_same, leaves_of, key_on, nodes_of, resources_of, stands}
+use Rattle.rx_tree.proofs.Common.{link_at, set_link_at, next_of, previous_of, is_there, Relinks, Takes_out, shown, sibling_ring, resource_ring, Rises, IsTied}
+use Rattle.rx_tree.proofs.Common.{is_by_age, home_of, IsTiedAt, IsSound, cases_key, some_of, none_not_some, same_key, one_key, with_number-same}
 use Rattle.rx_tree.proofs.Chain.{chain_is, retie, due_is}
-use Rattle.rx_tree.proofs.Laws.Keys.{cases_key, some_of, none_not_some, same_key}
-use Rattle.rx_tree.proofs.Laws.FoundAfterWrite.{one_key, with_number-same}
 use Rattle.rx_tree.proofs.LeafRings.{lone, lone_here, lone_other, lone_some, next_there, previous_there, empty_ring, nothing_on, held_is, no_above, none_held}
 use Rattle.rx_tree.proofs.Sound.{IfSome-same}
 use Rattle.rx_tree.proofs.TieRecords.{HomesStay, home_by, home_stands, aged}

@@ -1,16 +1,7 @@
 -- A write of one link in a store: what it says of every place's link, and of the one side that it writes.
-use Rattle.std.proofs.Common.{◌≡◌, ℕ, Some, refl, sym, ap}
-use Rattle.std.specs.Option.{option_map_or}
-use Rattle.rx_slots.specs.Slots.{value_at, with_value_at}
-use Rattle.rx_tree.specs.declared.links.Link.{Link}
-use Rattle.rx_tree.specs.declared.links.Place.{Place}
-use Rattle.rx_tree.specs.declared.links.Place.TheVariants.{Children, Held, Sibling, Noted, Stored}
-use Rattle.rx_tree.specs.declared.linked.Record.{Record}
+use Rattle.rx_tree.proofs.Common.{◌≡◌, ℕ, Some, refl, sym, ap, option_map_or, value_at, with_value_at, Link, Place, Children, Held, Sibling, Noted, Stored}
+use Rattle.rx_tree.proofs.Common.{Record, Store, set_step, places, alone, link_at, set_link_at, next_of, previous_of, Relinks}
 use Rattle.rx_tree.specs.declared.store.Stored.{Stored as Kept}
-use Rattle.rx_tree.specs.declared.store.Store.{Store}
-use Rattle.rx_lists.specs.Rings.{set_step}
-use Rattle.rx_tree.specs.Places.{places}
-use Rattle.rx_tree.specs.Store.{alone, link_at, set_link_at, next_of, previous_of, Relinks}
 use Rattle.rx_tree.proofs.StoreLemmas.{linked-Children, linked-Held, linked-Sibling, linked-Noted, linked-Stored, relinks-Children, relinks-Held}
 use Rattle.rx_tree.proofs.StoreLemmas.{relinks-Sibling, relinks-Noted, relinks-Stored}
 use Rattle.rx_tree.proofs.TieLemmas.{wrote_next, wrote_previous, left_next, left_previous}

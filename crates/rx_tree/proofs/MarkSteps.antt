@@ -1,31 +1,14 @@
 -- What calls on the chain leave of a tree.
-use Rattle.std.proofs.Common.{◌≡◌, ◌≢◌, ℕ, ◌&&◌, cond, map, drop, Bool, true, false, List, [], ◌∷◌, ◌++◌, Option, Some, None, option_map, is_some, IsSome, refl, sym}
-use Rattle.std.proofs.Common.{ap, subst, ◌∙◌}
-use Rattle.std.specs.Option.{option_map_or}
-use Rattle.std.proofs.Math.Bool.{not}
-use Rattle.std.proofs.lemmas.Bool.{false≢true, false_from_ne_true}
-use Rattle.rx_event.specs.declared.marks.Marks.{Marks}
-use Rattle.rx_slots.specs.declared.Key.{Key}
-use Rattle.rx_slots.specs.declared.Entry.{Entry}
-use Rattle.rx_slots.specs.Slots.{Slots, entry_at, find, key_at}
-use Rattle.rx_tree.specs.declared.links.Place.{Place}
-use Rattle.rx_tree.specs.declared.links.Place.TheVariants.{Due, Noted}
-use Rattle.rx_tree.specs.declared.node.Node.{Node}
-use Rattle.rx_tree.specs.declared.node.Stowed.{Stowed}
-use Rattle.rx_tree.specs.declared.store.Store.{Store}
-use Rattle.rx_lists.specs.Rings.{is_among, without, Steps, Leads, AreDifferent, Joins, Leaves}
-use Rattle.rx_tree.specs.Places.{is_place, is_end, slot_of, places}
-use Rattle.rx_tree.proofs.PlacesApart.{tells}
-use Rattle.rx_lists.proofs.Laws.Places.{place_differs, among_here, without_none}
-use Rattle.rx_lists.proofs.Laws.Links.{no_loop, first_among}
-use Rattle.rx_lists.proofs.Laws.Rings.{some_none}
-use Rattle.rx_tree.specs.Store.{key_on, project, nodes_of, resources_of, next_of, previous_of, Relinks, shown}
-use Rattle.rx_tree.specs.Ties.{home_of, IsTiedAt, IsTied, IsKept, IsRemarked}
-use Rattle.rx_tree.specs.Tree.{is_on, with_last, with_due, with_marks, first_of, Rewrites}
+use Rattle.rx_tree.proofs.Common.{◌≡◌, ◌≢◌, ℕ, ◌&&◌, cond, map, drop, Bool, true, false, List, [], ◌∷◌, ◌++◌, Option, Some, None, option_map, is_some, IsSome}
+use Rattle.rx_tree.proofs.Common.{refl, sym, ap, subst, ◌∙◌, option_map_or, not, false≢true, false_from_ne_true, Marks, Key, Entry, Slots, entry_at, find}
+use Rattle.rx_tree.proofs.Common.{key_at, Place, Due, Noted, Node, Stowed, Store, is_among, without, Steps, Leads, AreDifferent, Joins, Leaves, is_place}
+use Rattle.rx_tree.proofs.Common.{is_end, slot_of, places, tells, among_here, without_none, no_loop, first_among, some_none, key_on, project, nodes_of, shown}
+use Rattle.rx_tree.proofs.Common.{resources_of, next_of, previous_of, Relinks, home_of, IsTiedAt, IsTied, IsKept, IsRemarked, is_on, with_last, with_due}
+use Rattle.rx_tree.proofs.Common.{with_marks, first_of, Rewrites, same_key, some_of}
+use Rattle.rx_lists.proofs.Laws.Places.{place_differs}
 use Rattle.rx_tree.proofs.TieSteps.{tied_links, tied_noted, tied_unnoted}
 use Rattle.rx_tree.proofs.TieRecords.{tied_marked, by_entry, home_stands}
 use Rattle.rx_tree.proofs.Chain.{chain_is, retie, due_is, on_places, places_on, key_on_found}
-use Rattle.rx_tree.proofs.Laws.Keys.{same_key, some_of}
 use Rattle.rx_tree.proofs.There.{slot_stands}
 
 map_append : {X Y : Type 0} (f : X → Y) (xs ys : List X) → map f (xs ++ ys) ≡ map f xs ++ map f ys

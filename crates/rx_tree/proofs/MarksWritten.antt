@@ -1,17 +1,8 @@
 -- What a store has once the marks of one record are written in place.
-use Rattle.std.proofs.Common.{◌≡◌, ℕ, ◌+◌, ◌-◌, ◌<◌, ◌≤◌, Some, option_map, IsSome, IfSome, refl, sym, ap, subst, ◌∙◌, arith}
-use Rattle.rx_event.specs.declared.marks.Marks.{Marks}
-use Rattle.rx_slots.specs.declared.Key.{Key}
-use Rattle.rx_slots.specs.Slots.{Slots, entry_at, value_at, find, with_value, with_value_at}
-use Rattle.rx_slots.proofs.Laws.EntryByNumber.{found_there, find-value_at, with_value_at-found}
-use Rattle.rx_lists.proofs.Laws.Rings.{some_same}
-use Rattle.rx_tree.specs.declared.linked.Record.{Record}
-use Rattle.rx_tree.specs.declared.links.Place.TheVariants.{Children, Held, Sibling, Noted}
-use Rattle.rx_tree.specs.declared.node.Node.{Node}
-use Rattle.rx_tree.specs.declared.store.Store.{Store}
-use Rattle.rx_tree.specs.Store.{alone, no_counts, nodes_of}
-use Rattle.rx_tree.specs.Ties.{IsCounted, IsRemarked}
-use Rattle.rx_tree.specs.Tree.{with_marks}
+use Rattle.rx_tree.proofs.Common.{◌≡◌, ℕ, ◌+◌, ◌-◌, ◌<◌, ◌≤◌, Some, option_map, IsSome, IfSome, refl, sym, ap, subst, ◌∙◌, arith, Marks, Key, Slots, entry_at}
+use Rattle.rx_tree.proofs.Common.{value_at, find, with_value, with_value_at, found_there, find-value_at, some_same, Record, Children, Held, Sibling, Noted}
+use Rattle.rx_tree.proofs.Common.{Node, Store, alone, no_counts, nodes_of, IsCounted, IsRemarked, with_marks}
+use Rattle.rx_slots.proofs.Laws.EntryByNumber.{with_value_at-found}
 use Rattle.rx_tree.proofs.Laws.Owed.{owed_part, owed_written}
 use Rattle.rx_tree.proofs.StoreLemmas.{find-project, found-project, changes-written, rewrites-project, part-rewritten, nodes_keep_links}
 use Rattle.rx_tree.proofs.CountSteps.{counted_kept, found_marked}

@@ -1,16 +1,8 @@
 -- What made a node is what its words and numbers tell.
-use Rattle.std.proofs.Common.{◌≡◌, ℕ, Option, Some, None, true, option_map, is_some, IfSome, refl, sym, ap, true≢false}
-use Rattle.std.specs.Option.{option_map_or}
-use Rattle.rx_event.specs.Events.{makes_node, parent_named}
-use Rattle.rx_event.specs.declared.event.Event.{Event}
-use Rattle.rx_event.specs.declared.event.Event.TheVariants.{Open, Connect}
+use Rattle.rx_tree.proofs.Common.{◌≡◌, ℕ, Option, Some, None, true, option_map, is_some, IfSome, refl, sym, ap, true≢false, option_map_or, makes_node, Event}
+use Rattle.rx_tree.proofs.Common.{parent_named, Open, Connect, Key, Node, Origin, PlaceWord, place_word, kind_word, origin_of, made_of, above_of, node_of}
 use Rattle.rx_event.specs.declared.event.Kind.TheVariants.{Leaf, Pass, Flat, Switch, Until, Sub}
 use Rattle.rx_event.specs.declared.event.Place.TheVariants.{Root, Source, Inner, Notifier}
-use Rattle.rx_slots.specs.declared.Key.{Key}
-use Rattle.rx_tree.specs.declared.node.Node.{Node}
-use Rattle.rx_tree.specs.declared.origin.Origin.{Origin}
-use Rattle.rx_tree.specs.declared.origin.PlaceWord.{PlaceWord}
-use Rattle.rx_tree.specs.Record.{place_word, kind_word, origin_of, made_of, above_of, node_of}
 
 -- of a number that the key of the node above has
 named : (n : ℕ) (above : Option Key) → Some n ≡ option_map (λ key. key.number) above → option_map_or (λ key. key.number) above 0 ≡ n

@@ -1,10 +1,5 @@
 -- A place is what its kind and its slot tell.
-use Rattle.std.proofs.Common.{◌≡◌, refl}
-use Rattle.rx_tree.specs.declared.links.Link.{Link}
-use Rattle.rx_tree.specs.declared.links.Place.{Place}
-use Rattle.rx_tree.specs.declared.links.Place.TheVariants.{Roots}
-use Rattle.rx_tree.specs.Places.{slot_of}
-use Rattle.rx_tree.specs.Record.{kind_of, place_of, link_of}
+use Rattle.rx_tree.proofs.Common.{◌≡◌, refl, Link, Place, Roots, slot_of, kind_of, place_of, link_of}
 
 pub leads_back : (p : Place) → place_of (kind_of p) (slot_of p) ≡ p
 leads_back Roots = refl

@@ -1,30 +1,12 @@
 -- What calls that add records leave of a tree.
-use Rattle.std.proofs.Common.{◌≡◌, ℕ, ◌<◌, cond, map, Bool, true, false, List, [], ◌∷◌, ◌++◌, get_or, Option, Some, None, option_map, is_some, IsSome, IfSome}
-use Rattle.std.proofs.Common.{refl, sym, ap, subst, ◌∙◌, inl, inr, true≢false}
-use Rattle.std.specs.Option.{option_map_or, option_and_then}
-use Rattle.std.proofs.lemmas.Bool.{false≢true, cases_eq}
-use Rattle.rx_event.specs.Events.{is_root}
-use Rattle.rx_slots.specs.declared.Key.{Key}
-use Rattle.rx_lists.specs.Rings.{is_among, Joins}
-use Rattle.rx_tree.specs.Places.{is_place, is_end, slot_of, places}
-use Rattle.rx_tree.proofs.PlacesApart.{tells}
-use Rattle.rx_lists.proofs.Laws.Places.{among_here, among_there}
-use Rattle.rx_lists.proofs.Laws.Rings.{some_same, some_none}
-use Rattle.rx_slots.specs.Slots.{Slots, entry_at, with_number, find}
-use Rattle.rx_tree.specs.declared.links.Place.{Place}
-use Rattle.rx_tree.specs.declared.links.Place.TheVariants.{Roots, Due, Waiting, Children, Held, Sibling, Noted, Stored}
-use Rattle.rx_tree.specs.declared.node.Node.{Node}
-use Rattle.rx_tree.specs.declared.node.Stowed.{Stowed}
-use Rattle.rx_tree.specs.declared.linked.Record.{Record}
+use Rattle.rx_tree.proofs.Common.{◌≡◌, ℕ, ◌<◌, cond, map, Bool, true, false, List, [], ◌∷◌, ◌++◌, get_or, Option, Some, None, option_map, is_some, IsSome, ap}
+use Rattle.rx_tree.proofs.Common.{IfSome, refl, sym, subst, ◌∙◌, inl, inr, true≢false, option_map_or, option_and_then, false≢true, cases_eq, is_root, Key}
+use Rattle.rx_tree.proofs.Common.{is_among, Joins, is_place, is_end, slot_of, places, tells, among_here, among_there, some_same, some_none, Slots, entry_at}
+use Rattle.rx_tree.proofs.Common.{with_number, find, Place, Roots, Due, Waiting, Children, Held, Sibling, Noted, Stored, Node, Stowed, Record, Store, is_lent}
+use Rattle.rx_tree.proofs.Common.{is_owned, on_entry, key_on, alone, is_there, nodes_of, resources_of, next_of, previous_of, link_at, stands, Inserts, shown}
+use Rattle.rx_tree.proofs.Common.{KeepsLinks, Relinks, home_of, sibling_ring, resource_ring, IsTiedAt, IsTied, IsPast, IsPlaced, none_not_some}
 use Rattle.rx_tree.specs.declared.store.Stored.{Stored as Kept}
-use Rattle.rx_tree.specs.declared.store.Store.{Store}
-use Rattle.rx_tree.specs.Resources.{is_owned, is_lent}
-use Rattle.rx_tree.specs.Store.{on_entry, key_on, alone, is_there, nodes_of, resources_of, next_of, previous_of, link_at, stands, Inserts, KeepsLinks}
-use Rattle.rx_tree.specs.Store.{Relinks, shown}
-use Rattle.rx_tree.specs.Ties.{home_of, sibling_ring, resource_ring, IsTiedAt, IsTied}
-use Rattle.rx_tree.specs.Tree.{IsPast, IsPlaced}
 use Rattle.rx_tree.proofs.Chain.{chain_is, retie, due_is}
-use Rattle.rx_tree.proofs.Laws.Keys.{none_not_some}
 use Rattle.rx_tree.proofs.StoreLemmas.{entry_at-project}
 use Rattle.rx_tree.proofs.There.{slot_stands, previous_stands}
 use Rattle.rx_tree.proofs.Sound.{IsSound-same}

@@ -1,23 +1,10 @@
 -- What is left of a tree when a resource leaves its ring, is written anew, and joins the ring where it then belongs.
-use Rattle.std.proofs.Common.{◌≡◌, ◌∷◌, [], ◌++◌, cond, map, Bool, true, false, Option, Some, None, is_some, refl, sym, ap, subst, ◌∙◌, inl, inr, true≢false}
-use Rattle.std.specs.Option.{option_map_or, option_and_then}
-use Rattle.std.proofs.lemmas.Bool.{cases_eq, false≢true, false_from_ne_true}
-use Rattle.rx_slots.specs.declared.Key.{Key}
-use Rattle.rx_slots.specs.Slots.{entry_of, entry_at, find, Changes}
-use Rattle.rx_tree.specs.declared.links.Place.{Place}
-use Rattle.rx_tree.specs.declared.links.Place.TheVariants.{Roots, Due, Waiting, Children, Held, Sibling, Noted, Stored}
-use Rattle.rx_tree.specs.declared.node.Stowed.{Stowed}
-use Rattle.rx_tree.specs.declared.store.Store.{Store}
-use Rattle.rx_lists.specs.Rings.{is_among, without, Joins, Leaves}
-use Rattle.rx_tree.specs.Places.{is_place, places}
-use Rattle.rx_tree.proofs.PlacesApart.{tells}
-use Rattle.rx_lists.proofs.Laws.Places.{without_none}
-use Rattle.rx_lists.proofs.Laws.JoinsLeavesMerges.{leaves_nothing}
-use Rattle.rx_tree.specs.Resources.{is_owned, is_lent}
-use Rattle.rx_tree.specs.Store.{key_on, nodes_of, resources_of, next_of, previous_of, stands, is_there, KeepsLinks, Relinks, shown}
-use Rattle.rx_tree.specs.Ties.{resource_ring, IsTiedAt, IsTied}
+use Rattle.rx_tree.proofs.Common.{◌≡◌, ◌∷◌, [], ◌++◌, cond, map, Bool, true, false, Option, Some, None, is_some, refl, sym, ap, subst, ◌∙◌, inl, inr, Key}
+use Rattle.rx_tree.proofs.Common.{true≢false, option_map_or, option_and_then, cases_eq, false≢true, false_from_ne_true, entry_of, entry_at, find, Changes}
+use Rattle.rx_tree.proofs.Common.{Place, Roots, Due, Waiting, Children, Held, Sibling, Noted, Stored, Stowed, Store, is_among, without, Joins, Leaves, places}
+use Rattle.rx_tree.proofs.Common.{is_place, tells, without_none, leaves_nothing, is_owned, is_lent, key_on, nodes_of, resources_of, next_of, previous_of}
+use Rattle.rx_tree.proofs.Common.{stands, is_there, KeepsLinks, Relinks, shown, resource_ring, IsTiedAt, IsTied, entry_found}
 use Rattle.rx_tree.proofs.Chain.{chain_is, retie}
-use Rattle.rx_tree.proofs.Laws.FoundAfterWrite.{entry_found}
 use Rattle.rx_tree.proofs.There.{previous_stands, next_stands}
 use Rattle.rx_tree.proofs.TieResources.{ring_ends, tied_off, tied_on}
 use Rattle.rx_tree.proofs.TieSteps.{tied_links}

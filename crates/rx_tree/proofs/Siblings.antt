@@ -1,29 +1,12 @@
 -- The oldest of a ring of siblings, and the next younger of each.
-use Rattle.std.proofs.Common.{◌≡◌, ◌≢◌, ℕ, ◌+◌, ◌<◌, ◌≤◌, cond, Bool, true, false, List, [], ◌∷◌, Option, Some, None, option_map, is_some, IsSome, IfSome}
-use Rattle.std.proofs.Common.{IfNone, IsTrue, refl, sym, ap, subst, ◌∙◌, inl, inr, ◌⊎◌, arith, true≢false}
-use Rattle.std.specs.Option.{option_map_or, option_and_then}
-use Rattle.std.proofs.lemmas.Bool.{false≢true}
-use Rattle.rx_event.specs.declared.event.Event.{Event}
-use Rattle.rx_event.specs.declared.event.Event.TheVariants.{Open}
+use Rattle.rx_tree.proofs.Common.{◌≡◌, ◌≢◌, ℕ, ◌+◌, ◌<◌, ◌≤◌, cond, Bool, true, false, List, [], ◌∷◌, Option, Some, None, option_map, is_some, IsSome, IfSome}
+use Rattle.rx_tree.proofs.Common.{IfNone, IsTrue, refl, sym, ap, subst, ◌∙◌, inl, inr, ◌⊎◌, arith, true≢false, option_map_or, option_and_then, false≢true}
+use Rattle.rx_tree.proofs.Common.{Event, Open, is_root, parent_named, Key, Slots, key_at, find, Place, Roots, Children, Sibling, Node, Stowed, is_among}
+use Rattle.rx_tree.proofs.Common.{Steps, Leads, is_place, is_end, slot_of, places, tells, among_here, among_there, among_cons, some_same, key_on, Rises}
+use Rattle.rx_tree.proofs.Common.{sibling_ring, is_by_age, home_of, IsTiedAt, IsChild, IsRoot, IsFirst, HasNone, parent_number, some_of, entry_found, one_key}
+use Rattle.rx_tree.proofs.Common.{found_entry}
 use Rattle.rx_event.specs.declared.event.Place.TheVariants.{Source, Inner, Notifier}
-use Rattle.rx_event.specs.Events.{is_root, parent_named}
-use Rattle.rx_slots.specs.declared.Key.{Key}
-use Rattle.rx_slots.specs.Slots.{Slots, key_at, find}
-use Rattle.rx_tree.specs.declared.links.Place.{Place}
-use Rattle.rx_tree.specs.declared.links.Place.TheVariants.{Roots, Children, Sibling}
-use Rattle.rx_tree.specs.declared.node.Node.{Node}
-use Rattle.rx_tree.specs.declared.node.Stowed.{Stowed}
-use Rattle.rx_lists.specs.Rings.{is_among, Steps, Leads}
-use Rattle.rx_tree.specs.Places.{is_place, is_end, slot_of, places}
-use Rattle.rx_tree.proofs.PlacesApart.{tells}
-use Rattle.rx_lists.proofs.Laws.Places.{among_here, among_there, among_cons}
-use Rattle.rx_lists.proofs.Laws.Rings.{some_same}
-use Rattle.rx_tree.specs.Store.{key_on}
-use Rattle.rx_tree.specs.Ties.{sibling_ring, Rises, is_by_age, home_of, IsTiedAt}
-use Rattle.rx_tree.specs.Tree.{IsChild, IsRoot, IsFirst, HasNone, parent_number}
-use Rattle.rx_tree.proofs.Laws.Keys.{some_of}
 use Rattle.rx_tree.proofs.Laws.Parents.{named_parent, child_found, parent_key}
-use Rattle.rx_tree.proofs.Laws.FoundAfterWrite.{entry_found, found_entry, one_key}
 use Rattle.rx_tree.proofs.Chain.{key_on_found}
 use Rattle.rx_tree.proofs.TieRecords.{aged}
 

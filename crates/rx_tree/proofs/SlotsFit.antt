@@ -1,18 +1,9 @@
 -- The slots of what stands in a store fit a link and a record.
-use Rattle.std.proofs.Common.{◌≡◌, ℕ, ◌+◌, ◌<◌, ◌≤◌, cond, true, length, get_or, count_by, Option, Some, None, is_some, IsSome, IfSome}
-use Rattle.std.proofs.Common.{refl, sym, ap, ◌∙◌, inl, inr, arith, true≢false}
-use Rattle.std.proofs.lemmas.Bool.{cases_lt}
-use Rattle.std.proofs.lemmas.List.{get_or_past}
+use Rattle.rx_tree.proofs.Common.{◌≡◌, ℕ, ◌+◌, ◌<◌, ◌≤◌, cond, true, length, get_or, count_by, Option, Some, None, is_some, IsSome, IfSome, refl, sym, ap}
+use Rattle.rx_tree.proofs.Common.{◌∙◌, inl, inr, arith, true≢false, cases_lt, get_or_past, Entry, Key, Slots, entry_at, with_number, find, IsWithin, Place}
+use Rattle.rx_tree.proofs.Common.{Roots, Due, Waiting, Children, Held, Sibling, Noted, Stored, Store, slot_of, nodes_of, resources_of, is_there}
 use Rattle.std.proofs.lemmas.List.Sums.{get_or-le-sum_by}
-use Rattle.rx_slots.specs.declared.Entry.{Entry}
-use Rattle.rx_slots.specs.declared.Key.{Key}
-use Rattle.rx_slots.specs.Slots.{Slots, entry_at, with_number, find, IsWithin}
 use Rattle.rx_slots.proofs.Laws.EntryByNumber.{with_number-same}
-use Rattle.rx_tree.specs.declared.links.Place.{Place}
-use Rattle.rx_tree.specs.declared.links.Place.TheVariants.{Roots, Due, Waiting, Children, Held, Sibling, Noted, Stored}
-use Rattle.rx_tree.specs.declared.store.Store.{Store}
-use Rattle.rx_tree.specs.Places.{slot_of}
-use Rattle.rx_tree.specs.Store.{nodes_of, resources_of, is_there}
 use Rattle.rx_tree.proofs.StoreLemmas.{within-project}
 
 module _ {X : Type 0} (s : Slots X) where

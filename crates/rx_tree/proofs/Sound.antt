@@ -1,11 +1,6 @@
 -- What keeps a tree sound.
-use Rattle.std.proofs.Common.{◌≡◌, ◌≢◌, ℕ, Option, Some, None, is_some, IsSome, IfSome, refl, sym, ap, subst, ◌∙◌, inl, inr, ◌⊎◌}
-use Rattle.rx_event.specs.declared.event.Event.{Event}
-use Rattle.rx_slots.specs.declared.Key.{Key}
-use Rattle.rx_tree.proofs.Laws.Keys.{cases_key, none_not_some}
-use Rattle.rx_slots.specs.Slots.{Slots, find, KeepsOthers}
-use Rattle.rx_tree.specs.declared.node.Node.{Node}
-use Rattle.rx_tree.specs.Tree.{IsPlaced, IsSound}
+use Rattle.rx_tree.proofs.Common.{◌≡◌, ◌≢◌, ℕ, Option, Some, None, is_some, IsSome, IfSome, refl, sym, ap, subst, ◌∙◌, inl, inr, ◌⊎◌, Event, Key, cases_key}
+use Rattle.rx_tree.proofs.Common.{none_not_some, Slots, find, KeepsOthers, Node, IsPlaced, IsSound}
 
 pub IfSome-same : {X : Type 0} (P Q : X → Type 0) (o : Option X) → ((x : X) → o ≡ Some x → P x → Q x) → IfSome o P → IfSome o Q
 IfSome-same P Q None more h = tt

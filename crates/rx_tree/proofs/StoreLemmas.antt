@@ -1,24 +1,12 @@
 -- Slots that are seen through a function, and what a write of one link changes.
-use Rattle.std.proofs.Common.{◌≡◌, ℕ, ◌+◌, ◌==◌, ◌<◌, cond, length, get_or, set, Bool, true, false, Option, Some, None, option_map, is_some, IsSome, refl, sym, ap}
-use Rattle.std.proofs.Common.{subst, ◌∙◌, inl, inr, arith, true≢false}
-use Rattle.std.specs.Option.{option_map_or}
+use Rattle.rx_tree.proofs.Common.{◌≡◌, ℕ, ◌+◌, ◌==◌, ◌<◌, cond, length, get_or, set, Bool, true, false, Option, Some, None, option_map, is_some, IsSome, refl}
+use Rattle.rx_tree.proofs.Common.{sym, ap, subst, ◌∙◌, inl, inr, arith, true≢false, option_map_or, map-set_same, cases_eq, cases_lt, nat_tests, get_or_past}
+use Rattle.rx_tree.proofs.Common.{get_or-set_same, get_or-set_other, Entry, Key, Slots, entry_of, entry_at, value_at, number_at, with_number, find, IsWithin}
+use Rattle.rx_tree.proofs.Common.{with_value, with_value_at, Changes, KeepsOthers, Link, Place, Children, Held, Sibling, Noted, Stored, Record, Store, alone}
+use Rattle.rx_tree.proofs.Common.{on_entry, project, link_at, set_link_at, Relinks, KeepsLinks, Inserts, Takes_out, no_counts, Rewrites, find-written}
+use Rattle.rx_tree.proofs.Common.{KeepsOthers-written, entry_found, slot_within}
 use Rattle.std.proofs.Math.ListN.{get_or-map}
-use Rattle.std.proofs.Math.Seq.{map-set_same}
-use Rattle.std.proofs.lemmas.Bool.{cases_eq, cases_lt}
-use Rattle.std.proofs.lemmas.Bool.Decides.{nat_tests}
-use Rattle.std.proofs.lemmas.List.{get_or_past, get_or-set_same, get_or-set_other}
-use Rattle.rx_slots.specs.declared.Entry.{Entry}
-use Rattle.rx_slots.specs.declared.Key.{Key}
-use Rattle.rx_slots.specs.Slots.{Slots, entry_of, entry_at, value_at, number_at, with_number, find, IsWithin, with_value, with_value_at, Changes, KeepsOthers}
-use Rattle.rx_tree.specs.declared.links.Link.{Link}
-use Rattle.rx_tree.specs.declared.links.Place.{Place}
-use Rattle.rx_tree.specs.declared.links.Place.TheVariants.{Children, Held, Sibling, Noted, Stored}
-use Rattle.rx_tree.specs.declared.linked.Record.{Record}
 use Rattle.rx_tree.specs.declared.store.Stored.{Stored as Kept}
-use Rattle.rx_tree.specs.declared.store.Store.{Store}
-use Rattle.rx_tree.specs.Store.{on_entry, project, alone, link_at, set_link_at, Relinks, KeepsLinks, Inserts, Takes_out, no_counts}
-use Rattle.rx_tree.specs.Tree.{Rewrites}
-use Rattle.rx_tree.proofs.Laws.FoundAfterWrite.{find-written, KeepsOthers-written, entry_found, slot_within}
 
 module _ {X Y : Type 0} (f : X → Y) where
   pub entry_at-project : (s : Slots X) (i : ℕ) → entry_at (project f s) i ≡ option_map (on_entry f) (entry_at s i)

@@ -1,27 +1,9 @@
 -- Links lead to places where something stands.
-use Rattle.std.proofs.Common.{◌≡◌, ℕ, ◌&&◌, cond, Bool, true, false, Option, Some, None, is_some, IsSome, IfSome, refl, sym, ap, subst, inl, inr}
-use Rattle.std.proofs.Common.{true≢false}
-use Rattle.std.specs.Option.{option_map_or, option_and_then}
-use Rattle.std.proofs.Math.Bool.{not}
-use Rattle.rx_event.specs.Events.{is_root}
-use Rattle.rx_slots.specs.declared.Entry.{Entry}
-use Rattle.rx_slots.specs.declared.Key.{Key}
-use Rattle.rx_slots.specs.Slots.{Slots, entry_at, find, with_number}
-use Rattle.rx_tree.specs.declared.links.Place.{Place}
-use Rattle.rx_tree.specs.declared.links.Place.TheVariants.{Roots, Due, Waiting, Children, Held, Sibling, Noted, Stored}
-use Rattle.rx_tree.specs.declared.node.Node.{Node}
-use Rattle.rx_tree.specs.declared.node.Stowed.{Stowed}
-use Rattle.rx_tree.specs.Resources.{is_owned, is_lent}
-use Rattle.rx_lists.specs.Rings.{is_among, Steps}
-use Rattle.rx_tree.specs.Places.{is_end, places}
-use Rattle.rx_tree.proofs.PlacesApart.{tells}
-use Rattle.rx_lists.proofs.Laws.Places.{cases_place}
-use Rattle.rx_lists.proofs.Laws.Links.{next_in, previous_in, first_among, last_among}
-use Rattle.rx_lists.proofs.Laws.Rings.{some_same}
-use Rattle.rx_tree.specs.Store.{stands}
-use Rattle.rx_tree.specs.Ties.{sibling_ring, resource_ring, home_of, IsTiedAt}
-use Rattle.rx_tree.specs.Tree.{IsSound}
-use Rattle.rx_tree.proofs.Laws.FoundAfterWrite.{found_entry}
+use Rattle.rx_tree.proofs.Common.{◌≡◌, ℕ, ◌&&◌, cond, Bool, true, false, Option, Some, None, is_some, IsSome, IfSome, refl, sym, ap, subst, inl, inr, not}
+use Rattle.rx_tree.proofs.Common.{true≢false, option_map_or, option_and_then, is_root, Entry, Key, Slots, entry_at, find, with_number, Place, Roots, Due}
+use Rattle.rx_tree.proofs.Common.{Waiting, Children, Held, Sibling, Noted, Stored, Node, Stowed, is_owned, is_lent, is_among, Steps, is_end, places, tells}
+use Rattle.rx_tree.proofs.Common.{cases_place, next_in, previous_in, first_among, last_among, some_same, stands, sibling_ring, resource_ring, home_of}
+use Rattle.rx_tree.proofs.Common.{IsTiedAt, IsSound, found_entry}
 use Rattle.rx_tree.proofs.TieRecords.{home_stands}
 
 -- the slot of a key that finds a node is not free

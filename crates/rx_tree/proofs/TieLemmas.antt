@@ -1,12 +1,6 @@
 -- What ties between places change.
-use Rattle.std.proofs.Common.{◌≡◌, Bool, true, false, cond, IsTrue, refl, ap, ◌∙◌}
-use Rattle.rx_tree.specs.declared.links.Link.{Link}
-use Rattle.rx_tree.specs.declared.links.Place.{Place}
-use Rattle.rx_tree.specs.declared.store.Store.{Store}
-use Rattle.rx_lists.specs.Rings.{set_step}
-use Rattle.rx_tree.specs.Places.{is_place, places}
-use Rattle.rx_tree.proofs.PlacesApart.{tells}
-use Rattle.rx_tree.specs.Store.{stands, is_there, Relinks}
+use Rattle.rx_tree.proofs.Common.{◌≡◌, Bool, true, false, cond, IsTrue, refl, ap, ◌∙◌, Link, Place, Store, set_step, is_place, places, tells, stands, Relinks}
+use Rattle.rx_tree.proofs.Common.{is_there}
 
 -- one link is written
 module _ (l l1 : Place → Link) (p : Place) (link : Link) (h : (q : Place) → l1 q ≡ cond (is_place p q) link (l q)) where

@@ -1,29 +1,10 @@
 -- How a tree stays tied when a record changes or comes.
-use Rattle.std.proofs.Common.{◌≡◌, ◌≢◌, ℕ, ◌<◌, ◌==◌, ◌&&◌, cond, Bool, true, false, [], ◌∷◌, ◌++◌, Option, Some, None, option_map, is_some, IsSome, refl}
-use Rattle.std.proofs.Common.{sym, ap, subst, ◌∙◌, inl, inr, ◌⊎◌, arith, true≢false}
-use Rattle.std.specs.Option.{option_map_or, option_and_then}
-use Rattle.std.proofs.Math.Bool.{not}
-use Rattle.std.proofs.lemmas.Bool.{cases_eq, false≢true}
-use Rattle.std.proofs.lemmas.Bool.Decides.{nat_tests}
-use Rattle.rx_event.specs.declared.marks.Marks.{Marks}
-use Rattle.rx_slots.specs.declared.Entry.{Entry}
-use Rattle.rx_slots.specs.declared.Key.{Key}
-use Rattle.rx_slots.specs.Slots.{Slots, entry_of, entry_at, find, with_number, Changes, KeepsOthers}
-use Rattle.rx_tree.specs.declared.links.Place.{Place}
-use Rattle.rx_tree.specs.declared.links.Place.TheVariants.{Roots, Due, Waiting, Held, Sibling, Noted, Stored}
-use Rattle.rx_tree.specs.declared.node.Node.{Node}
-use Rattle.rx_tree.specs.declared.node.Stowed.{Stowed}
-use Rattle.rx_tree.specs.Resources.{is_owned, is_lent}
-use Rattle.rx_lists.specs.Rings.{Steps, Joins}
-use Rattle.rx_tree.specs.Places.{is_end, slot_of, places}
-use Rattle.rx_tree.proofs.PlacesApart.{tells}
-use Rattle.rx_lists.proofs.Laws.Places.{cases_place}
-use Rattle.rx_lists.proofs.Laws.Rings.{put_ring, by_ring, some_same, rings_joined}
-use Rattle.rx_tree.specs.Store.{key_on, stands, Inserts}
-use Rattle.rx_tree.specs.Ties.{sibling_ring, Rises, is_by_age, resource_ring, home_of, IsTiedAt}
-use Rattle.rx_tree.specs.Tree.{IsSound, IsPlaced, IsPast, AreApart, with_marks}
-use Rattle.rx_tree.proofs.Laws.Keys.{same_key, cases_key}
-use Rattle.rx_tree.proofs.Laws.FoundAfterWrite.{entry_found, found_entry}
+use Rattle.rx_tree.proofs.Common.{◌≡◌, ◌≢◌, ℕ, ◌<◌, ◌==◌, ◌&&◌, cond, Bool, true, false, [], ◌∷◌, ◌++◌, Option, Some, None, option_map, is_some, IsSome, refl}
+use Rattle.rx_tree.proofs.Common.{sym, ap, subst, ◌∙◌, inl, inr, ◌⊎◌, arith, true≢false, option_map_or, option_and_then, not, cases_eq, false≢true, nat_tests}
+use Rattle.rx_tree.proofs.Common.{Marks, Entry, Key, Slots, entry_of, entry_at, find, with_number, Changes, KeepsOthers, Place, Roots, Due, Waiting, Held}
+use Rattle.rx_tree.proofs.Common.{Sibling, Noted, Stored, Node, Stowed, is_owned, is_lent, Steps, Joins, is_end, slot_of, places, tells, cases_place, by_ring}
+use Rattle.rx_tree.proofs.Common.{put_ring, some_same, rings_joined, key_on, stands, Inserts, sibling_ring, Rises, is_by_age, resource_ring, home_of, IsSound}
+use Rattle.rx_tree.proofs.Common.{IsTiedAt, IsPlaced, IsPast, AreApart, with_marks, same_key, cases_key, entry_found, found_entry}
 use Rattle.rx_tree.proofs.Sound.{same_found, IsSound-at, IsSound-opened}
 use Rattle.rx_tree.proofs.TieSteps.{rings_same, rises_last, rises_same, unnoted}
 

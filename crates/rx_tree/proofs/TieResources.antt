@@ -1,26 +1,9 @@
 -- How a tree stays tied when a resource is removed from its node or taken out.
-use Rattle.std.proofs.Common.{◌≡◌, ◌≢◌, ℕ, cond, Bool, true, false, [], ◌∷◌, ◌++◌, Option, Some, None, is_some, IsSome, refl, sym, ap, ◌∙◌}
-use Rattle.std.proofs.Common.{inl, inr, true≢false, subst, ◌==◌}
-use Rattle.std.proofs.lemmas.Bool.{cases_eq, false≢true}
-use Rattle.rx_slots.specs.declared.Entry.{Entry}
-use Rattle.rx_slots.specs.declared.Key.{Key}
-use Rattle.std.specs.Option.{option_and_then}
-use Rattle.rx_slots.specs.Slots.{Slots, entry_of, entry_at, find, with_number, Changes}
-use Rattle.rx_tree.proofs.Laws.FoundAfterWrite.{entry_found}
-use Rattle.rx_tree.specs.declared.links.Place.{Place}
-use Rattle.rx_tree.specs.declared.links.Place.TheVariants.{Due, Waiting, Held, Stored}
-use Rattle.rx_tree.specs.declared.node.Node.{Node}
-use Rattle.rx_tree.specs.declared.node.Stowed.{Stowed}
-use Rattle.rx_tree.specs.Resources.{is_owned, is_lent}
-use Rattle.rx_lists.specs.Rings.{without, Steps, AreRings, Joins, Leaves}
-use Rattle.rx_tree.specs.Places.{is_place, is_end, places}
-use Rattle.rx_tree.proofs.PlacesApart.{tells}
-use Rattle.rx_lists.proofs.Laws.Places.{place_apart}
-use Rattle.rx_lists.proofs.Laws.Rings.{put_ring, by_ring, some_same, rings_joined, rings_left}
-use Rattle.rx_tree.specs.Store.{Takes_out}
-use Rattle.rx_tree.specs.Ties.{resource_ring, Rises, is_by_age, home_of, IsTiedAt}
-use Rattle.rx_tree.specs.Tree.{AreApart}
-use Rattle.rx_tree.proofs.Laws.Keys.{cases_key}
+use Rattle.rx_tree.proofs.Common.{◌≡◌, ◌≢◌, ℕ, cond, Bool, true, false, [], ◌∷◌, ◌++◌, Option, Some, None, is_some, IsSome, refl, sym, ap, ◌∙◌, inl, inr, Key}
+use Rattle.rx_tree.proofs.Common.{true≢false, subst, ◌==◌, cases_eq, false≢true, Entry, option_and_then, Slots, entry_of, entry_at, find, with_number, Place}
+use Rattle.rx_tree.proofs.Common.{Changes, entry_found, Due, Waiting, Held, Stored, Node, Stowed, is_owned, is_lent, without, Steps, AreRings, Joins, Leaves}
+use Rattle.rx_tree.proofs.Common.{is_place, is_end, places, tells, place_apart, put_ring, by_ring, some_same, rings_joined, rings_left, Takes_out, Rises}
+use Rattle.rx_tree.proofs.Common.{resource_ring, is_by_age, home_of, IsTiedAt, AreApart, cases_key}
 use Rattle.rx_tree.proofs.TieRecords.{HomesStay, home_by}
 use Rattle.rx_tree.proofs.TieSteps.{rises_without}
 

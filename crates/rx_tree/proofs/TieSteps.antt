@@ -1,21 +1,9 @@
 -- How a tree stays tied when places join and leave rings and when records come, change and go.
-use Rattle.std.proofs.Common.{◌≡◌, ◌≢◌, ℕ, ◌<◌, ◌==◌, ◌&&◌, cond, Bool, true, false, List, [], ◌∷◌, ◌++◌, Option, Some, None, is_some, refl, sym, ap, subst}
-use Rattle.std.proofs.Common.{◌∙◌, inl, inr, arith, true≢false}
-use Rattle.std.proofs.Math.Bool.{not}
-use Rattle.std.proofs.lemmas.Bool.{false≢true, false_from_ne_true}
-use Rattle.std.proofs.lemmas.Bool.Decides.{nat_tests}
-use Rattle.rx_slots.specs.Slots.{Slots, entry_at}
-use Rattle.rx_tree.specs.declared.links.Place.{Place}
-use Rattle.rx_tree.specs.declared.links.Place.TheVariants.{Roots, Due, Noted}
-use Rattle.rx_tree.specs.declared.node.Node.{Node}
-use Rattle.rx_tree.specs.declared.node.Stowed.{Stowed}
-use Rattle.rx_lists.specs.Rings.{is_among, without, Steps, AreRings, Joins, Leaves}
-use Rattle.rx_tree.specs.Places.{is_place, places}
-use Rattle.rx_tree.proofs.PlacesApart.{tells}
-use Rattle.rx_lists.proofs.Laws.Places.{among_here, among_there, among_cons, among_append, among_without}
-use Rattle.rx_lists.proofs.Laws.Rings.{put_ring, by_ring, rings_joined, rings_left}
-use Rattle.rx_tree.specs.Store.{key_on}
-use Rattle.rx_tree.specs.Ties.{Rises, is_by_age, home_of, IsTiedAt}
+use Rattle.rx_tree.proofs.Common.{◌≡◌, ◌≢◌, ℕ, ◌<◌, ◌==◌, ◌&&◌, cond, Bool, true, false, List, [], ◌∷◌, ◌++◌, Option, Some, None, is_some, refl, sym, ap, ◌∙◌}
+use Rattle.rx_tree.proofs.Common.{subst, inl, inr, arith, true≢false, not, false≢true, false_from_ne_true, nat_tests, Slots, entry_at, Place, Roots, Due}
+use Rattle.rx_tree.proofs.Common.{Noted, Node, Stowed, is_among, without, Steps, AreRings, Joins, Leaves, is_place, places, tells, among_here, among_there}
+use Rattle.rx_tree.proofs.Common.{among_cons, among_without, put_ring, by_ring, rings_joined, rings_left, key_on, Rises, is_by_age, home_of, IsTiedAt}
+use Rattle.rx_lists.proofs.Laws.Places.{among_append}
 
 -- the same rings, where each place has the home that it had
 pub rings_same : (n p : Steps Place) (home home' : Place → Option Place) (rings : Place → List Place) → AreRings places n p home rings →

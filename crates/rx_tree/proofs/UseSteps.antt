@@ -1,25 +1,12 @@
 -- What the use of a resource leaves of a tree.
-use Rattle.std.proofs.Common.{◌≡◌, ℕ, ◌+◌, Option, Some, option_map, is_some, IfSome, refl, sym, ap, subst, ◌∙◌, inl, inr}
-use Rattle.std.proofs.lemmas.Bool.{cases_eq}
+use Rattle.rx_tree.proofs.Common.{◌≡◌, ℕ, ◌+◌, Option, Some, option_map, is_some, IfSome, refl, sym, ap, subst, ◌∙◌, inl, inr, cases_eq, option_and_then, Key}
+use Rattle.rx_tree.proofs.Common.{Place, Entry, entry_of, entry_at, find, with_value, Changes, Stored, ResKey, Stowed, Store, store_key, stowed_of, Uses}
+use Rattle.rx_tree.proofs.Common.{with_resource, alone, nodes_of, resources_of, next_of, previous_of, KeepsLinks, shown, resource_ring, home_of, IsTied}
+use Rattle.rx_tree.proofs.Common.{IsCounted, IsKept, Rewrites, cases_key, entry_found}
 use Rattle.rx_resource.specs.declared.Resource.{Ghosts}
-use Rattle.std.specs.Option.{option_and_then}
-use Rattle.rx_tree.specs.declared.links.Place.{Place}
-use Rattle.rx_slots.specs.declared.Entry.{Entry}
-use Rattle.rx_slots.specs.declared.Key.{Key}
-use Rattle.rx_slots.specs.Slots.{entry_of, entry_at, find, with_value, Changes}
-use Rattle.rx_tree.specs.declared.links.Place.TheVariants.{Stored}
-use Rattle.rx_tree.specs.declared.node.ResKey.{ResKey}
-use Rattle.rx_tree.specs.declared.node.Stowed.{Stowed}
-use Rattle.rx_tree.specs.declared.store.Store.{Store}
 use Rattle.rx_tree.specs.declared.store.Stored.{Stored as Kept}
-use Rattle.rx_tree.specs.Resources.{store_key, stowed_of, with_resource, Uses}
-use Rattle.rx_tree.specs.Store.{alone, nodes_of, resources_of, next_of, previous_of, KeepsLinks, shown}
-use Rattle.rx_tree.specs.Ties.{resource_ring, home_of, IsTied, IsCounted, IsKept}
-use Rattle.rx_tree.specs.Tree.{Rewrites}
 use Rattle.rx_tree.proofs.Chain.{chain_is}
 use Rattle.rx_tree.proofs.CountSteps.{counted_written}
-use Rattle.rx_tree.proofs.Laws.Keys.{cases_key}
-use Rattle.rx_tree.proofs.Laws.FoundAfterWrite.{entry_found}
 use Rattle.rx_tree.proofs.StoreLemmas.{find-project, changes-written, rewrites-project, part-rewritten, resources_keep_links}
 use Rattle.rx_tree.proofs.TieRecords.{HomesStay, home_by}
 use Rattle.rx_tree.proofs.TieSteps.{rings_same, tied_links}

@@ -1,29 +1,12 @@
 -- What the ring of those that wait tells, and what a taking leaves of a tree.
-use Rattle.std.proofs.Common.{◌≡◌, ◌≢◌, ℕ, cond, map, Bool, true, false, List, [], ◌∷◌, Option, Some, None, option_map, is_some, IsTrue, ◌&&◌, refl, sym, ap}
+use Rattle.rx_tree.proofs.Common.{◌≡◌, ◌≢◌, ℕ, cond, map, Bool, true, false, List, [], ◌∷◌, Option, Some, None, option_map, is_some, IsTrue, ◌&&◌, refl, sym}
+use Rattle.rx_tree.proofs.Common.{ap, subst, ◌∙◌, true≢false, option_map_or, option_and_then, false≢true, false_from_ne_true, is_root, Entry, Key, Slots, Due}
+use Rattle.rx_tree.proofs.Common.{entry_at, key_at, find, Place, Roots, Waiting, Children, Held, Sibling, Noted, Stored, Node, Stowed, Store, is_owned, Takes}
+use Rattle.rx_tree.proofs.Common.{is_lent, is_held, is_among, set_step, Leads, Leaves, is_place, is_end, slot_of, places, tells, among_here, without_none}
+use Rattle.rx_tree.proofs.Common.{set_same, first_among, some_same, alone, link_at, key_on, nodes_of, resources_of, next_of, previous_of, KeepsLinks, Relinks}
+use Rattle.rx_tree.proofs.Common.{Takes_out, shown, home_of, sibling_ring, resource_ring, IsTiedAt, IsTied, entry_found, found_entry}
 use Rattle.std.proofs.Math.Bool.{◌||◌}
-use Rattle.std.proofs.Common.{subst, ◌∙◌, true≢false}
-use Rattle.std.specs.Option.{option_map_or, option_and_then}
-use Rattle.std.proofs.lemmas.Bool.{false≢true, false_from_ne_true}
-use Rattle.rx_event.specs.Events.{is_root}
-use Rattle.rx_slots.specs.declared.Entry.{Entry}
-use Rattle.rx_slots.specs.declared.Key.{Key}
-use Rattle.rx_slots.specs.Slots.{Slots, entry_at, key_at, find}
-use Rattle.rx_tree.specs.declared.links.Place.{Place}
-use Rattle.rx_tree.specs.declared.links.Place.TheVariants.{Roots, Due, Waiting, Children, Held, Sibling, Noted, Stored}
-use Rattle.rx_tree.specs.declared.node.Node.{Node}
-use Rattle.rx_tree.specs.declared.node.Stowed.{Stowed}
-use Rattle.rx_tree.specs.declared.store.Store.{Store}
-use Rattle.rx_tree.specs.Resources.{is_owned, is_lent, is_held, Takes}
-use Rattle.rx_lists.specs.Rings.{is_among, set_step, Leads, Leaves}
-use Rattle.rx_tree.specs.Places.{is_place, is_end, slot_of, places}
-use Rattle.rx_tree.proofs.PlacesApart.{tells}
-use Rattle.rx_lists.proofs.Laws.Places.{among_here, without_none}
-use Rattle.rx_lists.proofs.Laws.Links.{set_same, first_among}
-use Rattle.rx_lists.proofs.Laws.Rings.{some_same}
-use Rattle.rx_tree.specs.Store.{alone, link_at, key_on, nodes_of, resources_of, next_of, previous_of, KeepsLinks, Relinks, Takes_out, shown}
-use Rattle.rx_tree.specs.Ties.{home_of, sibling_ring, resource_ring, IsTiedAt, IsTied}
 use Rattle.rx_tree.proofs.Chain.{chain_is, retie}
-use Rattle.rx_tree.proofs.Laws.FoundAfterWrite.{entry_found, found_entry}
 use Rattle.rx_tree.proofs.TieRecords.{home_stands}
 use Rattle.rx_tree.proofs.TieResources.{tied_taken}
 use Rattle.rx_tree.proofs.TieSteps.{tied_links}

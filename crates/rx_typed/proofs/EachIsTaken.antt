@@ -1,16 +1,7 @@
 -- Where as many resources were taken as were accepted, each of them was.
-use Rattle.std.proofs.Common.{◌≡◌, ◌<◌, ℕ, Bool, true, false, List, length, map, refl, sym, ◌∙◌, arith}
-use Rattle.std.proofs.Math.Bool.{not, ◌&&◌}
-use Rattle.std.specs.List.{Contains}
-use Rattle.std.proofs.lemmas.Bool.{false≢true}
-use Rattle.std.proofs.lemmas.List.{length-map}
-use Rattle.rx_event.specs.declared.event.Event.{Event}
-use Rattle.rx_event.specs.Events.{makes_resource}
-use Rattle.rx_event.specs.Tree.{at}
-use Rattle.rx_event.specs.Resources.{is_held, is_waiting, is_taken}
-use Rattle.rx_event.specs.Totals.{accepted_count, taken_count}
-use Rattle.rx_book.specs.State.{State, IsPromised, AreJust}
-use Rattle.rx_typed.specs.Calls.{IsTakenWhole}
+use Rattle.rx_typed.proofs.Common.{◌≡◌, ◌<◌, ℕ, Bool, true, false, List, length, map, refl, sym, ◌∙◌, arith, not, ◌&&◌, Contains, false≢true, length-map, at}
+use Rattle.rx_typed.proofs.Common.{Event, makes_resource, is_held, is_waiting, is_taken, accepted_count, taken_count, State, IsPromised, IsTakenWhole}
+use Rattle.rx_book.specs.State.{AreJust}
 
 -- a list of none lists no number that passes
 none_passes : {T : Type 0} (number : T → ℕ) (test : ℕ → Bool) (ls : List T) → AreJust test (map number ls) → length ls ≡ 0 → (r : ℕ) → test r ≡ true → ⊥

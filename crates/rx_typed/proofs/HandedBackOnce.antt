@@ -1,53 +1,21 @@
 -- Of the calls on a book: what is handed in is handed back once.
-use Rattle.std.proofs.Common.{◌≡◌, ℕ, ℤ, ◌+◌, ◌<◌, ◌≤◌, Bool, true, false, List, [], ◌∷◌, ◌++◌, map, length, cond, slice_get}
-use Rattle.std.proofs.Common.{Option, Some, None, Result, Ok, Err, refl, sym, ap, ◌∙◌, arith, subst, ◌==◌, append-nil, append_assoc, length-append}
-use Rattle.std.proofs.lemmas.List.{map-append}
-use Rattle.std.specs.Prelude.{option_and_then}
-use Rattle.std.specs.List.{Contains, list_any}
-use Rattle.std.specs.Option.{option_map_or}
-use Rattle.std.proofs.Math.Bool.{not, ◌&&◌, ◌||◌}
-use Rattle.std.proofs.lemmas.Bool.{eqb-true, and_parts}
-use Rattle.rx_resource.specs.declared.Resource.{Ghosts}
-use Rattle.rx_event.specs.declared.event.Event.{Event}
-use Rattle.rx_event.specs.declared.event.Event.TheVariants.{Open, Accept}
-use Rattle.rx_event.specs.declared.event.Kind.TheVariants.{Pass}
-use Rattle.rx_event.specs.declared.refusal.Refusal.{Refusal}
-use Rattle.rx_event.specs.declared.refusal.Refusal.TheVariants.{NoMemory, Full, Gone, WrongKind, PlaceTaken, NothingOwed, NotRoot, NoHub, HubOrder}
-use Rattle.rx_event.specs.declared.refusal.Refusal.TheVariants.{Connected, NotConnected, NotFresh, NotHeld, HasChild, TooMany, NoLease, Leased, MailLeft}
-use Rattle.rx_event.specs.Kept.{Kept, resource_kept, shown}
-use Rattle.rx_event.specs.Events.{makes_resource, is_take_of}
-use Rattle.rx_event.specs.Tree.{at}
-use Rattle.rx_event.specs.Resources.{accepted_by, is_held, is_waiting, is_taken}
-use Rattle.rx_event.specs.Calls.{Call, IsStepOf, outside_of, GivingBack, Disposing, Disconnecting}
-use Rattle.rx_event.specs.Lawful.{IsLawful}
-use Rattle.rx_event.proofs.Laws.Places.{at_within, slice_get_last}
-use Rattle.rx_event.proofs.Laws.Resources.{held_resource, held_not_taken}
-use Rattle.rx_event.proofs.Laws.Lawful.{shown_within}
-use Rattle.rx_ground.specs.Shown.{Label, label_of}
-use Rattle.rx_ground.proofs.Laws.Members.{Contains-map}
-use Rattle.rx_book.specs.declared.key.Key.{Key}
-use Rattle.rx_book.specs.declared.key.ResKey.{ResKey}
-use Rattle.rx_book.specs.declared.answer.At.{At}
-use Rattle.rx_book.specs.declared.answer.OpenedUsing.{OpenedUsing}
-use Rattle.rx_book.specs.declared.answer.Refused.{Refused}
-use Rattle.rx_book.specs.State.{State, IsPromised, IsLabelOf, accepted_tag, is_kept}
+use Rattle.rx_typed.proofs.Common.{◌≡◌, ℕ, ℤ, ◌+◌, ◌<◌, ◌≤◌, Bool, true, false, List, [], ◌∷◌, ◌++◌, map, length, cond, slice_get, Option, Some, None, Result}
+use Rattle.rx_typed.proofs.Common.{Ok, Err, refl, sym, ap, ◌∙◌, arith, subst, ◌==◌, append-nil, append_assoc, length-append, map-append, option_and_then, not}
+use Rattle.rx_typed.proofs.Common.{Contains, list_any, option_map_or, ◌&&◌, ◌||◌, eqb-true, and_parts, Ghosts, Event, Open, Accept, Pass, Refusal, Kept, at}
+use Rattle.rx_typed.proofs.Common.{resource_kept, shown, makes_resource, is_take_of, accepted_by, is_held, is_waiting, is_taken, Call, IsStepOf, outside_of}
+use Rattle.rx_typed.proofs.Common.{GivingBack, Disposing, Disconnecting, IsLawful, at_within, slice_get_last, held_resource, held_not_taken, shown_within, At}
+use Rattle.rx_typed.proofs.Common.{Label, label_of, Contains-map, Key, ResKey, OpenedUsing, Refused, State, IsPromised, Accepts, Answers, AnswersOpenedUsing}
+use Rattle.rx_typed.proofs.Common.{AnswersResKey, AnswersHanded, AnswersCheckpoint, goes_step, Token, RxTaken, RxMail, RxNode, RxRes, RxUsing, fresh, takes}
+use Rattle.rx_typed.proofs.Common.{IsTakenWhole, AreTaken, none_taken, one_taken, AreMailsTaken, no_mail_taken, mail_taken}
+use Rattle.rx_event.specs.declared.refusal.Refusal.TheVariants.{NoMemory, Full, Gone, WrongKind, PlaceTaken, NothingOwed, NotRoot, NoHub, HubOrder, Connected}
+use Rattle.rx_event.specs.declared.refusal.Refusal.TheVariants.{NotConnected, NotFresh, NotHeld, HasChild, TooMany, NoLease, Leased, MailLeft}
+use Rattle.rx_book.specs.State.{IsLabelOf, accepted_tag, is_kept}
 use Rattle.rx_book.specs.Requests.{Request, place_of, next_request, hold_request, using_request, take_request}
-use Rattle.rx_book.specs.Answers.{Accepts, Answers, AnswersOpenedUsing, AnswersResKey, AnswersHanded}
-use Rattle.rx_book.specs.Checkpoints.{AnswersCheckpoint}
 use Rattle.rx_book.specs.Courses.{LetsGo, none_let_go, next_let_go, lets_go, Emits, none_emitted, next_emitted}
 use Rattle.rx_book.proofs.Laws.LastsThroughSteps.{keeps_resources, kept_same, kept_taken, kept_held, kept_used, kept_past}
-use Rattle.rx_book.proofs.Laws.NotesGoOn.{goes_step, goes_forced, same_event}
-use Rattle.rx_typed.specs.declared.token.Token.{Token}
-use Rattle.rx_typed.specs.declared.shapes.RxTaken.{RxTaken}
-use Rattle.rx_typed.specs.declared.shapes.RxMail.{RxMail}
-use Rattle.rx_typed.specs.declared.shapes.RxNode.{RxNode}
-use Rattle.rx_typed.specs.declared.shapes.RxRes.{RxRes}
-use Rattle.rx_typed.specs.declared.shapes.RxUsing.{RxUsing}
-use Rattle.rx_typed.specs.Tokens.{fresh}
+use Rattle.rx_book.proofs.Laws.NotesGoOn.{goes_forced, same_event}
 use Rattle.rx_typed.specs.Codes.{key_of, refusal_status, status_given_back, used_told, res_told}
-use Rattle.rx_typed.specs.Calls.{IsTaken, takes, none_waits, IsMailTaken, tells as tells_mail, has_no_mail, new_book, IsTakenWhole}
-use Rattle.rx_typed.specs.Calls.{IsCheckpoint, IsUsing, IsHold}
-use Rattle.rx_typed.specs.Drained.{AreTaken, none_taken, one_taken, AreMailsTaken, no_mail_taken, mail_taken}
+use Rattle.rx_typed.specs.Calls.{IsTaken, none_waits, IsMailTaken, tells as tells_mail, has_no_mail, new_book, IsCheckpoint, IsUsing, IsHold}
 use Rattle.rx_typed.specs.Courses.{Act, handed_in, handed_back, told, Leads, no_act, comes, goes, tells, with_entry, tag_in, taken_in, given_back, note_told}
 use Rattle.rx_typed.specs.Courses.{Course, no_call, calls, drains, checkpoints, AreHandedBackOnce, IsCall, next, next_all, end, abort, fail, decline, dispose}
 use Rattle.rx_typed.specs.Courses.{open_node, using, hold, hub, connect, disconnect, apply, remove, lease, give_back, take_one, take_mail, close, asks}

@@ -1,34 +1,18 @@
 -- Of the calls on a book: the notes are told in order, each once.
-use Rattle.std.proofs.Common.{◌≡◌, ℕ, ℤ, ◌+◌, ◌≤◌, Bool, true, false, List, [], ◌∷◌, ◌++◌, map, drop, length, slice_get, Some, Result, Ok, Err}
-use Rattle.std.proofs.Common.{refl, sym, ap, ◌∙◌, arith, subst, cond, ◌==◌, suc, zero, append-nil, append_assoc}
-use Rattle.std.proofs.lemmas.Bool.{ltb-false}
-use Rattle.std.proofs.lemmas.Option.{same_Some}
-use Rattle.std.proofs.lemmas.List.{drop_all, drop_at, drop-append-le, map-append}
-use Rattle.rx_resource.specs.declared.Resource.{Ghosts}
-use Rattle.rx_event.specs.declared.mail.Mail.{Mail}
-use Rattle.rx_event.specs.declared.refusal.Refusal.{Refusal}
+use Rattle.rx_typed.proofs.Common.{◌≡◌, ℕ, ℤ, ◌+◌, ◌≤◌, Bool, true, false, List, [], ◌∷◌, ◌++◌, map, drop, length, slice_get, Some, Result, Ok, Err, refl, ap}
+use Rattle.rx_typed.proofs.Common.{sym, ◌∙◌, arith, subst, cond, ◌==◌, append-nil, append_assoc, ltb-false, same_Some, map-append, Ghosts, Mail, Refusal, Key}
+use Rattle.rx_typed.proofs.Common.{shown, moments, notes, checkpoint_causes, State, IsPromised, Accepts, Answers, AnswersCheckpoint, goes_step, Token, RxMail}
+use Rattle.rx_typed.proofs.Common.{RxTaken, takes, AreTaken, none_taken, one_taken, AreMailsTaken, no_mail_taken, mail_taken, notes_left}
+use Rattle.std.proofs.Common.{suc, zero}
+use Rattle.std.proofs.lemmas.List.{drop_all, drop_at, drop-append-le}
 use Rattle.rx_event.specs.declared.refusal.Refusal.TheVariants.{MailLeft}
-use Rattle.rx_event.specs.Kept.{shown}
-use Rattle.rx_event.specs.Moments.{moments}
-use Rattle.rx_event.specs.Notes.{notes}
-use Rattle.rx_event.specs.Causes.{checkpoint_causes}
 use Rattle.rx_event.proofs.Laws.MakingRemovesNothing.{made_untold}
 use Rattle.rx_register.proofs.Laws.NoCause.{no_cause}
-use Rattle.rx_book.specs.declared.key.Key.{Key}
-use Rattle.rx_book.specs.State.{State, IsPromised}
 use Rattle.rx_book.specs.Requests.{Request, next_request, take_request}
-use Rattle.rx_book.specs.Answers.{Accepts, Answers}
-use Rattle.rx_book.specs.Checkpoints.{AnswersCheckpoint}
 use Rattle.rx_book.specs.Courses.{LetsGo, none_let_go, next_let_go, Emits, none_emitted, next_emitted}
-use Rattle.rx_book.proofs.Laws.NotesGoOn.{goes_step}
-use Rattle.rx_typed.specs.declared.token.Token.{Token}
-use Rattle.rx_typed.specs.declared.shapes.RxMail.{RxMail}
-use Rattle.rx_typed.specs.declared.shapes.RxTaken.{RxTaken}
 use Rattle.rx_typed.specs.Codes.{mail_of}
-use Rattle.rx_typed.specs.Calls.{IsTaken, takes, none_waits, IsMailTaken, tells as tells_mail, has_no_mail, new_book, IsCheckpoint}
-use Rattle.rx_typed.specs.Drained.{AreTaken, none_taken, one_taken, AreMailsTaken, no_mail_taken, mail_taken}
-use Rattle.rx_typed.specs.Courses.{Act, handed_in, handed_back, told, given_back, taken_in, note_told, notes_told, notes_between, notes_made}
-use Rattle.rx_typed.specs.Courses.{notes_left, all_drained}
+use Rattle.rx_typed.specs.Calls.{IsTaken, none_waits, IsMailTaken, tells as tells_mail, has_no_mail, new_book, IsCheckpoint}
+use Rattle.rx_typed.specs.Courses.{Act, handed_in, handed_back, told, given_back, taken_in, note_told, notes_told, notes_between, notes_made, all_drained}
 use Rattle.rx_typed.specs.Courses.{Course, no_call, calls, drains, checkpoints, AreNotesToldOnce, IsCall, next, next_all, end, abort, fail, decline, dispose}
 use Rattle.rx_typed.specs.Courses.{open_node, using, hold, hub, connect, disconnect, apply, remove, lease, give_back, take_one, take_mail, close, asks}
 

@@ -1,12 +1,7 @@
 -- The events of a history that has no base, one after another.
-use Rattle.std.proofs.Common.{◌≡◌, ℕ, ◌+◌, ◌<◌, List, [], ◌∷◌, ◌++◌, length, take, Some, None, sym, ◌∙◌, refl, arith}
-use Rattle.std.specs.Prelude.{slice_get, get_or}
-use Rattle.std.proofs.lemmas.Bool.{le-ltb}
-use Rattle.std.proofs.lemmas.List.{take_more}
-use Rattle.std.proofs.lemmas.Option.{none-some, get_or_from_slice_get, slice_get-get_or}
-use Rattle.rx_event.specs.declared.event.Event.{Event}
-use Rattle.rx_event.specs.declared.event.Event.TheVariants.{Close}
-use Rattle.rx_event.specs.Kept.{Kept, event_since}
+use Rattle.rx_book.proofs.Common.{◌≡◌, ℕ, ◌+◌, ◌<◌, List, [], ◌∷◌, ◌++◌, length, take, Some, None, sym, ◌∙◌, refl, arith, slice_get, get_or, le-ltb, Event}
+use Rattle.rx_book.proofs.Common.{take_more, get_or_from_slice_get, Close, Kept, event_since}
+use Rattle.std.proofs.lemmas.Option.{none-some, slice_get-get_or}
 
 whole_at : (b : Kept) (h : List Event) (n : ℕ) → b.at_length ≡ 0 → event_since b h n ≡ slice_get h n
 whole_at b h n none = rw (le-ltb n b.at_length (omega (arith, none))) refl

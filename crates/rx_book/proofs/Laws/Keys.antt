@@ -1,11 +1,6 @@
 -- A key that is known stands in the list of keys.
-use Rattle.std.proofs.Common.{◌≡◌, true, List, subst, nat_eq}
-use Rattle.std.proofs.Math.Bool.{◌&&◌}
-use Rattle.std.specs.List.{Contains}
-use Rattle.std.proofs.lemmas.Bool.{and_parts, eqb-true}
+use Rattle.rx_book.proofs.Common.{◌≡◌, true, List, subst, nat_eq, ◌&&◌, Contains, and_parts, eqb-true, Key, has_key}
 use Rattle.std.proofs.lemmas.List.Folds.{Any-from_list_any}
-use Rattle.rx_book.specs.declared.key.Key.{Key}
-use Rattle.rx_book.specs.State.{has_key}
 
 pub same_key : (j k : Key) → j.slot ≡ k.slot → j.number ≡ k.number → j ≡ k
 same_key j k slot number = λ i. record { slot = slot i; number = number i }

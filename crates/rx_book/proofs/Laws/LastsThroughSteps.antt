@@ -1,28 +1,11 @@
 -- What an event of one sort makes and one of another takes away, and what a step of the book leaves of it.
-use Rattle.std.proofs.Common.{◌≡◌, ℕ, ◌+◌, ◌<◌, ◌≤◌, Bool, true, false, List, [], ◌∷◌, ◌++◌, length, map, cond, refl}
-use Rattle.std.proofs.Common.{sym, ap, ◌∙◌, arith, inl, inr, ◌⊎◌, ◌==◌, append_assoc, length-append, slice_get}
-use Rattle.std.proofs.Math.Bool.{not, ◌&&◌, ◌||◌}
-use Rattle.std.specs.List.{list_any, list_all}
-use Rattle.std.specs.Option.{option_map_or}
-use Rattle.std.proofs.lemmas.Bool.{cases_order, and_parts, ne_eqb, eqb-true, eq-eqb, false_from_ne_true}
-use Rattle.std.proofs.lemmas.List.{append-nil}
-use Rattle.rx_event.specs.Kept.{Kept}
-use Rattle.rx_event.specs.declared.event.Event.{Event}
-use Rattle.rx_event.specs.declared.event.Event.TheVariants.{Open, Accept, Lease, Return, Close, Take}
-use Rattle.rx_event.specs.declared.event.Place.{Place}
-use Rattle.rx_event.specs.declared.event.Kind.TheVariants.{Pass}
-use Rattle.rx_event.specs.Events.{makes_resource, makes_lease, is_take_of, is_return_of}
-use Rattle.rx_event.specs.Tree.{at, open_connections}
-use Rattle.rx_event.specs.Resources.{is_out}
-use Rattle.rx_event.specs.Lawful.{IsLawful, IsForcedOn, stays, more}
-use Rattle.rx_event.specs.Calls.{Call, outside_of, IsStepOf}
-use Rattle.rx_event.specs.Calls.{Opening, OpeningUsing, Holding, Applying, Removing, Leasing, GivingBack, Emitting, Ending}
-use Rattle.rx_event.specs.Calls.{Aborting, Declining, Failing, Disposing, Publishing, Connecting, Disconnecting, Taking}
-use Rattle.rx_event.proofs.Laws.Places.{slice_get_last, at-append, at_within}
-use Rattle.rx_event.proofs.Laws.Waits.{at_before}
-use Rattle.rx_event.proofs.Laws.Searches.{list_any_push}
-use Rattle.rx_event.proofs.Laws.Steps.{forced_kind, may_be_forced}
-use Rattle.rx_event.proofs.Laws.Resources.{no_take}
+use Rattle.rx_book.proofs.Common.{◌≡◌, ℕ, ◌+◌, ◌<◌, ◌≤◌, Bool, true, false, List, [], ◌∷◌, ◌++◌, length, map, cond, refl, sym, ap, ◌∙◌, arith, inl, inr, ◌⊎◌}
+use Rattle.rx_book.proofs.Common.{◌==◌, append_assoc, length-append, slice_get, not, ◌&&◌, ◌||◌, list_any, list_all, option_map_or, cases_order, and_parts}
+use Rattle.rx_book.proofs.Common.{ne_eqb, eqb-true, eq-eqb, false_from_ne_true, append-nil, Kept, Event, Open, Accept, Lease, Return, Close, Take, Place, at}
+use Rattle.rx_book.proofs.Common.{Pass, makes_resource, makes_lease, is_take_of, is_return_of, open_connections, is_out, IsLawful, IsForcedOn, stays, more}
+use Rattle.rx_book.proofs.Common.{Call, outside_of, IsStepOf, Opening, OpeningUsing, Holding, Applying, Removing, Leasing, GivingBack, Emitting, Ending}
+use Rattle.rx_book.proofs.Common.{Aborting, Declining, Failing, Disposing, Publishing, Connecting, Disconnecting, Taking, slice_get_last, at-append, no_take}
+use Rattle.rx_book.proofs.Common.{at_within, at_before, list_any_push, forced_kind, may_be_forced}
 use Rattle.rx_event.proofs.Laws.Leases.{no_return}
 use Rattle.rx_book.specs.State.{is_kept}
 

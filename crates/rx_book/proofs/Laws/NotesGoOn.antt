@@ -1,14 +1,7 @@
 -- A step of the book adds notes behind those that were told, and keeps each event at its place.
-use Rattle.std.proofs.Common.{◌≡◌, ℕ, ◌<◌, ◌≤◌, List, [], ◌∷◌, ◌++◌, length, slice_get, refl, sym, ap, ◌∙◌, arith, subst, append_assoc, length-append}
-use Rattle.std.proofs.lemmas.List.{append-nil}
-use Rattle.rx_event.specs.declared.mail.Mail.{Mail}
-use Rattle.rx_event.specs.declared.event.Event.{Event}
-use Rattle.rx_event.specs.Kept.{Kept}
-use Rattle.rx_event.specs.Notes.{notes, mail_of}
-use Rattle.rx_event.specs.Calls.{Call, outside_of, IsStepOf}
-use Rattle.rx_event.specs.Lawful.{IsForcedOn, stays, more}
-use Rattle.rx_event.proofs.Laws.Counts.{notes-push}
-use Rattle.rx_event.proofs.Laws.Places.{slice_get-append}
+use Rattle.rx_book.proofs.Common.{◌≡◌, ℕ, ◌<◌, ◌≤◌, List, [], ◌∷◌, ◌++◌, length, slice_get, refl, sym, ap, ◌∙◌, arith, subst, append_assoc, length-append}
+use Rattle.rx_book.proofs.Common.{append-nil, Mail, Event, Kept, notes, mail_of, Call, outside_of, IsStepOf, IsForcedOn, stays, more, notes-push}
+use Rattle.rx_book.proofs.Common.{slice_get-append}
 
 -- k is h and more events behind it, and its notes are those of h and more behind them
 pub record GoesOn (h k : List Event) : Type 0 where

@@ -1,16 +1,6 @@
 -- What one more step of a history leaves as it was.
-use Rattle.std.proofs.Common.{◌≡◌, ◌≤◌, ◌+◌, ◌++◌, ◌∷◌, [], Bool, List, length, length-append, cond, refl, ◌∙◌, arith}
-use Rattle.std.specs.Prelude.{count_by}
-use Rattle.std.proofs.lemmas.List.Sums.{sum_by-append}
-use Rattle.rx_event.specs.Kept.{Kept}
-use Rattle.rx_event.specs.declared.event.Event.{Event}
-use Rattle.rx_event.specs.Events.{is_take}
-use Rattle.rx_event.specs.Totals.{taken_count}
-use Rattle.rx_event.specs.Lawful.{IsForcedOn, stays, more}
-use Rattle.rx_event.specs.Calls.{Call, outside_of, IsStepOf}
-use Rattle.rx_book.specs.State.{State, Continues}
-use Rattle.rx_book.specs.Requests.{Request}
-use Rattle.rx_book.specs.Answers.{Accepts}
+use Rattle.rx_book.proofs.Common.{◌≡◌, ◌≤◌, ◌+◌, ◌++◌, ◌∷◌, [], Bool, List, length, length-append, cond, refl, ◌∙◌, arith, count_by, sum_by-append, Kept}
+use Rattle.rx_book.proofs.Common.{Event, is_take, taken_count, IsForcedOn, stays, more, Call, outside_of, IsStepOf, State, Continues, Request, Accepts}
 
 pub count_by-append : (p : Event → Bool) (xs ys : List Event) → count_by p (xs ++ ys) ≡ count_by p xs + count_by p ys
 count_by-append p xs ys = sum_by-append (λ x. cond (p x) 1 0) xs ys

@@ -1,17 +1,9 @@
 -- What follows from a verdict: with all parts and no receipt it is Ok, and an Ok has the book's totals.
-use Rattle.std.proofs.Common.{◌≡◌, ◌+◌, ℕ, Result, Ok, Err, Some, None, List, [], refl, sym, ap, ◌∙◌, arith}
-use Rattle.std.specs.Prelude.{IsOk, IfOk}
-use Rattle.std.proofs.lemmas.Option.{slice_get_past}
-use Rattle.rx_event.specs.Kept.{Kept}
-use Rattle.rx_event.specs.declared.event.Event.{Event}
-use Rattle.rx_event.specs.Totals.{held_count, waiting_count}
-use Rattle.rx_ledger.specs.declared.ledgers.Sums.{Sums}
+use Rattle.rx_crew.proofs.Common.{◌≡◌, ◌+◌, ℕ, Result, Ok, Err, Some, None, List, refl, sym, ap, ◌∙◌, arith, IsOk, IfOk, Kept, Event, Sums, Totals, Mismatch}
+use Rattle.rx_crew.proofs.Common.{sums_of, IsVerdict}
+use Rattle.rx_event.proofs.Laws.Common.{[], slice_get_past, held_count, waiting_count}
 use Rattle.rx_ledger.specs.declared.receipt.Receipt.{Receipt as Slip}
-use Rattle.rx_crew.specs.declared.finishing.Totals.{Totals}
-use Rattle.rx_crew.specs.declared.finishing.Mismatch.{Mismatch}
 use Rattle.rx_crew.specs.declared.finishing.Mismatch.TheVariants.{Items, Accepted, Taken, Receipt}
-use Rattle.rx_crew.specs.Counting.{sums_of}
-use Rattle.rx_crew.specs.Verdicts.{IsVerdict}
 
 pub agreed : (base : Kept) → (h : List Event) (s : Sums) (verdict : Result Totals Mismatch) → s ≡ sums_of base h → IsVerdict base h s [] verdict → IsOk verdict
 agreed base h s (Ok totals) same is = refl

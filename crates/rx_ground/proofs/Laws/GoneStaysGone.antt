@@ -1,24 +1,12 @@
 -- What has gone stays gone. So lists of what went go on from one history to the next, and an event that closes none adds none.
-use Rattle.std.proofs.Common.{◌≡◌, ◌≢◌, ℕ, ◌<◌, true, false, List, [], ◌∷◌, ◌++◌, length, IsTrue, refl, sym, ap, subst, ◌∙◌}
-use Rattle.std.proofs.Common.{inl, inr, ◌⊎◌, arith, length-append, append-nil, append_assoc}
-use Rattle.std.proofs.lemmas.List.{map-append}
-use Rattle.std.proofs.Math.Bool.{not}
-use Rattle.std.specs.List.{All, AllPairs, Contains}
-use Rattle.std.proofs.lemmas.Bool.{and_parts, and_from, both_ways, cases_Bool, cases_order, false_from_ne_true, not-true, not_from_false}
-use Rattle.std.proofs.lemmas.List.Elements.{All-contains, Contains-append_left, Contains-append_right, Contains-append_cases}
-use Rattle.rx_event.specs.Kept.{Kept}
-use Rattle.rx_event.specs.declared.event.Event.{Event}
-use Rattle.rx_event.specs.Events.{makes_node}
-use Rattle.rx_event.specs.Tree.{at, is_open}
-use Rattle.rx_event.specs.Lawful.{MayFollow, IsForcedOn, stays, more}
-use Rattle.rx_event.proofs.Laws.Places.{at-append, at_within, slice_get_last}
-use Rattle.rx_event.proofs.Laws.Openness.{open_old, shuts_none, is_open_kept}
-use Rattle.rx_event.proofs.Laws.Totals.{is_open_new}
-use Rattle.rx_slots.specs.declared.Key.{Key}
-use Rattle.rx_register.specs.State.{State as Register, Writes}
-use Rattle.rx_ground.specs.Gone.{has_gone, goes, numbers_of, Gathers}
+use Rattle.rx_ground.proofs.Common.{◌≡◌, ◌≢◌, ℕ, ◌<◌, true, false, List, [], ◌∷◌, ◌++◌, length, IsTrue, refl, sym, ap, subst, ◌∙◌, inl, inr, ◌⊎◌, arith, not}
+use Rattle.rx_ground.proofs.Common.{length-append, append-nil, append_assoc, map-append, All, AllPairs, Contains, and_parts, and_from, both_ways, cases_Bool}
+use Rattle.rx_ground.proofs.Common.{cases_order, false_from_ne_true, not-true, not_from_false, All-contains, Kept, Event, makes_node, at, is_open, MayFollow}
+use Rattle.rx_ground.proofs.Common.{IsForcedOn, stays, more, at-append, at_within, slice_get_last, open_old, shuts_none, is_open_kept, is_open_new, Key, goes}
+use Rattle.rx_ground.proofs.Common.{Writes, has_gone, numbers_of, Gathers, AllPairs-cons}
+use Rattle.std.proofs.lemmas.List.Elements.{Contains-append_left, Contains-append_right, Contains-append_cases}
+use Rattle.rx_register.specs.State.{State as Register}
 use Rattle.rx_ground.proofs.Laws.Members.{Contains-head, Contains-later, All-members, AllPairs-head, AllPairs-tail, AllPairs-nil}
-use Rattle.std.proofs.lemmas.List.Kept.{AllPairs-cons}
 
 -- histories ---------------------------------------------------------------------------------------
 

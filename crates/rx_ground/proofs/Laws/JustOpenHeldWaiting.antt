@@ -1,34 +1,14 @@
 -- What stands in slots, as lists and as counts; and that a tree keeps just what its history leaves open, held and waiting.
-use Rattle.std.proofs.Common.{◌≡◌, ◌≢◌, ℕ, suc, ◌<◌, Bool, true, false, List, [], ◌∷◌, map, length, get_or, Option, Some}
-use Rattle.std.proofs.Common.{None, is_some, cond, count_by, IsTrue, IsSome, refl, sym, ap, subst, ◌∙◌, arith}
-use Rattle.std.proofs.Math.Bool.{not, ◌&&◌}
-use Rattle.std.specs.List.{AllPairs, Contains, filter, list_any, range_with_len}
-use Rattle.std.specs.Option.{option_map_or}
-use Rattle.std.proofs.lemmas.Bool.{false≢true, and_parts}
-use Rattle.std.proofs.lemmas.List.{length-map}
-use Rattle.std.proofs.lemmas.List.Kept.{AllPairs-cons, AllPairs-filter}
-use Rattle.std.proofs.lemmas.List.Sums.{sum_by-cons, length-filter}
+use Rattle.rx_ground.proofs.Common.{◌≡◌, ◌≢◌, ℕ, suc, ◌<◌, Bool, true, false, List, [], ◌∷◌, map, length, get_or, Option, Some, None, is_some, cond, count_by}
+use Rattle.rx_ground.proofs.Common.{IsTrue, IsSome, refl, sym, ap, subst, ◌∙◌, arith, not, ◌&&◌, AllPairs, Contains, filter, list_any, range_with_len, Ghosts}
+use Rattle.rx_ground.proofs.Common.{option_map_or, false≢true, and_parts, length-map, AllPairs-cons, sum_by-cons, length-filter, Event, makes_resource, at}
+use Rattle.rx_ground.proofs.Common.{is_take_of, places, is_open, open_count, held_count, lease_count, waiting_count, IsLawful, is_open_within, is_out_within}
+use Rattle.rx_ground.proofs.Common.{is_held_within, is_waiting_within, held_resource, held_not_taken, waiting_parts, Entry, Key, Slots, entry_of, find, Tree}
+use Rattle.rx_ground.proofs.Common.{ResKey, Stowed, AreApart, is_owned, is_lent, is_held, lent_alone_count, found_entry, HasKey, IsTied, IsStored, AreLeased}
+use Rattle.std.proofs.lemmas.List.Kept.{AllPairs-filter}
 use Rattle.rx_event.specs.Kept.{Kept as Base}
-use Rattle.rx_resource.specs.declared.Resource.{Ghosts}
-use Rattle.rx_event.specs.declared.event.Event.{Event}
-use Rattle.rx_event.specs.Events.{makes_resource, is_take_of}
-use Rattle.rx_event.specs.Tree.{at, places, is_open}
 use Rattle.rx_event.specs.Resources.{is_out, is_held as is_held_in, is_waiting, is_taken}
-use Rattle.rx_event.specs.Totals.{open_count, held_count, lease_count, waiting_count}
-use Rattle.rx_event.specs.Lawful.{IsLawful}
-use Rattle.rx_event.proofs.Laws.Openness.{is_open_within}
-use Rattle.rx_event.proofs.Laws.Leases.{is_out_within}
-use Rattle.rx_event.proofs.Laws.Resources.{is_held_within, is_waiting_within, held_resource, held_not_taken, waiting_parts}
-use Rattle.rx_slots.specs.declared.Entry.{Entry}
-use Rattle.rx_slots.specs.declared.Key.{Key}
-use Rattle.rx_slots.specs.Slots.{Slots, entry_of, find}
-use Rattle.rx_tree.specs.declared.node.ResKey.{ResKey}
-use Rattle.rx_tree.specs.declared.node.Stowed.{Stowed}
-use Rattle.rx_tree.specs.Tree.{Tree, AreApart}
-use Rattle.rx_tree.specs.Resources.{is_owned, is_lent, is_held, lent_alone_count}
-use Rattle.rx_tree.proofs.Laws.FoundAfterWrite.{found_entry}
 use Rattle.rx_ground.specs.Shown.{Kept, kept_from, kept_in, held_in, waiting_in}
-use Rattle.rx_ground.specs.Ties.{HasKey, IsTied, IsStored, AreLeased}
 use Rattle.rx_ground.proofs.Laws.Members.{Contains-map, All-members, AllPairs-nil, AllPairs-map, Contains-from_map}
 use Rattle.rx_ground.proofs.FoundIsListed.{filter_member, filter_has, stands_from, kept_found, kept_listed}
 use Rattle.rx_ground.proofs.TreeAgreesOnResource.{is_alone}

@@ -1,11 +1,5 @@
 -- What stands in slots, what a tree holds and what waits in it: the lists that contracts see, and what keys find.
-use Rattle.std.proofs.Common.{◌≡◌, Bool, true, Some}
-use Rattle.std.specs.List.{Contains}
-use Rattle.rx_slots.specs.declared.Key.{Key}
-use Rattle.rx_slots.specs.Slots.{Slots, find}
-use Rattle.rx_tree.specs.declared.node.Stowed.{Stowed}
-use Rattle.rx_tree.specs.Tree.{Tree}
-use Rattle.rx_tree.specs.Resources.{is_held}
+use Rattle.rx_ground.proofs.Common.{◌≡◌, Bool, true, Some, Contains, Key, Slots, find, Stowed, Tree, is_held}
 use Rattle.rx_ground.specs.Shown.{Kept, kept_in, held_in}
 use Rattle.rx_ground.proofs.FoundIsListed.{filter_member, filter_has, kept_found, kept_listed}
 

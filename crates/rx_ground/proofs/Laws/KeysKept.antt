@@ -1,20 +1,7 @@
 -- No key of an old node or resource comes back: not by one write, nor by more of them.
-use Rattle.std.proofs.Common.{◌≡◌, ℕ, ◌<◌, ◌≤◌, Bool, true, false, List, length, Option, Some, None, is_some, IsSome, refl, sym, ap, ◌∙◌, arith}
-use Rattle.std.proofs.Math.Bool.{not, ◌&&◌, ◌||◌}
-use Rattle.std.specs.Option.{option_map_or}
-use Rattle.std.proofs.lemmas.Bool.{and_parts, and_from}
-use Rattle.rx_event.specs.Kept.{Kept}
-use Rattle.rx_resource.specs.declared.Resource.{Ghosts}
-use Rattle.rx_event.specs.declared.event.Event.{Event}
-use Rattle.rx_event.specs.Lawful.{IsLawful}
-use Rattle.rx_slots.specs.declared.Key.{Key}
-use Rattle.rx_slots.specs.Slots.{Slots, find}
-use Rattle.rx_tree.specs.declared.node.Node.{Node}
-use Rattle.rx_tree.specs.declared.node.Stowed.{Stowed}
-use Rattle.rx_tree.specs.declared.node.ResKey.{ResKey}
-use Rattle.rx_tree.specs.Tree.{Tree}
-use Rattle.rx_tree.specs.Resources.{store_key, is_lent, is_held, is_held_at}
-use Rattle.rx_ground.specs.Ties.{IsTied, KeepsNodes, KeepsOlder, KeepsHeld, KeepsLeases, IsNewNode}
+use Rattle.rx_ground.proofs.Common.{◌≡◌, ℕ, ◌<◌, ◌≤◌, Bool, true, false, List, length, Option, Some, None, is_some, IsSome, refl, sym, ap, ◌∙◌, arith, not}
+use Rattle.rx_ground.proofs.Common.{◌&&◌, ◌||◌, option_map_or, and_parts, and_from, Kept, Ghosts, Event, IsLawful, Key, Slots, find, Node, Stowed, ResKey}
+use Rattle.rx_ground.proofs.Common.{Tree, store_key, is_lent, is_held, is_held_at, IsTied, KeepsNodes, KeepsOlder, KeepsHeld, KeepsLeases, IsNewNode}
 use Rattle.rx_ground.proofs.ResourcesAfterEvent.{stored_within}
 
 or_true : (b : Bool) → (b || true) ≡ true

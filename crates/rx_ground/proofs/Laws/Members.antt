@@ -1,8 +1,6 @@
 -- Members of a list, pairs of them, and the members of a list that is mapped.
-use Rattle.std.proofs.Common.{◌≡◌, zero, suc, List, [], ◌∷◌, map, get_or, refl, ap, subst, arith, inl, inr, ◌⊎◌}
-use Rattle.std.specs.List.{All, AllPairs, Contains}
+use Rattle.rx_ground.proofs.Common.{◌≡◌, zero, suc, List, [], ◌∷◌, map, get_or, refl, ap, subst, arith, inl, inr, ◌⊎◌, All, AllPairs, Contains, AllPairs-cons}
 use Rattle.std.proofs.lemmas.List.Elements.{Contains-get_or}
-use Rattle.std.proofs.lemmas.List.Kept.{AllPairs-cons}
 
 module _ {X : Type 0} where
   pub Contains-head : (x : X) (xs : List X) → Contains (x ∷ xs) x

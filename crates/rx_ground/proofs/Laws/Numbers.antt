@@ -1,11 +1,7 @@
 -- Lists of just the numbers that pass a test, each once: they are as many as pass it.
-use Rattle.std.proofs.Common.{◌≡◌, ◌≢◌, ℕ, zero, suc, ◌+◌, ◌<◌, ◌==◌, Bool, true, false, cond, List}
-use Rattle.std.proofs.Common.{[], ◌∷◌, length, count_by, IsTrue, refl, sym, ap, ◌∙◌, arith, eq-eqb}
-use Rattle.std.proofs.Math.Bool.{not, ◌&&◌}
-use Rattle.std.specs.List.{All, AllPairs, Contains, range_with_len}
-use Rattle.std.proofs.lemmas.Bool.{and_parts, and_from, not_from_false, ne_eqb, eqb-true, false≢true, false_from_ne_true}
-use Rattle.std.proofs.lemmas.List.Elements.{All-contains, All-head}
-use Rattle.rx_event.proofs.Laws.Sums.{sums_balance, sum_by_none, count_by_one}
+use Rattle.rx_ground.proofs.Common.{◌≡◌, ◌≢◌, ℕ, zero, suc, ◌+◌, ◌<◌, ◌==◌, Bool, true, false, cond, List, [], ◌∷◌, length, count_by, IsTrue, refl, sym, ap}
+use Rattle.rx_ground.proofs.Common.{◌∙◌, arith, eq-eqb, not, ◌&&◌, All, AllPairs, Contains, range_with_len, and_parts, and_from, not_from_false, ne_eqb}
+use Rattle.rx_ground.proofs.Common.{eqb-true, false≢true, false_from_ne_true, All-contains, All-head, sums_balance, sum_by_none, count_by_one}
 use Rattle.rx_ground.proofs.Laws.Members.{Contains-later, All-members, AllPairs-head, AllPairs-tail}
 
 -- the numbers of the list are those that pass the test, each once

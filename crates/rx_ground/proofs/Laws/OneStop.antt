@@ -1,15 +1,5 @@
 -- An item of a leaf that makes one stop makes no other however much room there is.
-use Rattle.std.proofs.Common.{Option, Some, None, sym, ap, ◌∙◌}
-use Rattle.rx_slots.specs.declared.Key.{Key}
-use Rattle.rx_slots.specs.Slots.{Slots}
-use Rattle.rx_tree.specs.declared.node.Node.{Node}
-use Rattle.rx_hub.specs.declared.stop.Stop.{Stop}
-use Rattle.rx_hub.specs.Hubs.{Hubs}
-use Rattle.rx_hub.specs.Walk.{stops_over}
-use Rattle.rx_ground.specs.Passing.{nodes_at}
-use Rattle.rx_ground.specs.Reached.{MakesOnly}
-use Rattle.rx_ground.specs.Shown.{Ground}
-use Rattle.rx_ground.specs.Ties.{IsRoomier}
+use Rattle.rx_ground.proofs.Common.{Option, Some, None, sym, ap, ◌∙◌, Key, Slots, Node, Stop, Hubs, stops_over, nodes_at, MakesOnly, Ground, IsRoomier}
 use Rattle.rx_ground.proofs.Bare.{stops_bare}
 
 pub MakesOnly-roomier : {T : Type 0} (old new : Ground T) (leaf : Key) (only : Option Stop) → IsRoomier old new →

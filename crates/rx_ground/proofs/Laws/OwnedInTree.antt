@@ -1,13 +1,6 @@
 -- A resource that is held under its key, and that the history leaves owned, is owned there.
-use Rattle.std.proofs.Common.{◌≡◌, true, List, sym, ◌∙◌}
-use Rattle.rx_event.specs.Kept.{Kept}
-use Rattle.rx_resource.specs.declared.Resource.{Ghosts}
-use Rattle.rx_event.specs.declared.event.Event.{Event}
+use Rattle.rx_ground.proofs.Common.{◌≡◌, true, List, sym, ◌∙◌, Kept, Ghosts, Event, ResKey, Tree, is_owned_at, is_held_at, IsTied}
 use Rattle.rx_event.specs.Resources.{is_owned as is_owned_in}
-use Rattle.rx_tree.specs.declared.node.ResKey.{ResKey}
-use Rattle.rx_tree.specs.Tree.{Tree}
-use Rattle.rx_tree.specs.Resources.{is_owned_at, is_held_at}
-use Rattle.rx_ground.specs.Ties.{IsTied}
 use Rattle.rx_ground.proofs.Told.{owned_in_history}
 
 module _ (base : Kept) {T : Type 0} (g : Ghosts T) (h : List Event) (tree : Tree T) (tied : IsTied base g h tree) where

@@ -1,15 +1,6 @@
 -- What is forced takes no resource from a node that stays open.
-use Rattle.std.proofs.Common.{◌≡◌, ℕ, true, Some, sym, ap, ◌∙◌}
-use Rattle.rx_resource.specs.declared.Resource.{Ghosts}
-use Rattle.rx_event.specs.declared.event.Event.TheVariants.{Accept}
-use Rattle.rx_event.specs.Tree.{is_open}
-use Rattle.rx_event.specs.Resources.{accepted_by}
-use Rattle.rx_slots.specs.Slots.{Slots, find}
-use Rattle.rx_tree.specs.declared.node.Stowed.{Stowed}
-use Rattle.rx_tree.specs.declared.node.ResKey.{ResKey}
-use Rattle.rx_tree.specs.Resources.{store_key, is_held_at}
-use Rattle.rx_ground.specs.Shown.{Ground}
-use Rattle.rx_ground.specs.Ties.{IsTied, KeepsOlder}
+use Rattle.rx_ground.proofs.Common.{◌≡◌, ℕ, true, Some, sym, ap, ◌∙◌, Ghosts, Accept, is_open, accepted_by, Slots, find, Stowed, ResKey, store_key, Ground}
+use Rattle.rx_ground.proofs.Common.{is_held_at, IsTied, KeepsOlder}
 use Rattle.rx_ground.proofs.Laws.KeysKept.{held_before}
 
 module _ {T : Type 0} (g : Ghosts T) (mid new : Ground T) (tied : IsTied mid.register.base g mid.register.history mid.tree) (number : ℕ)

@@ -1,13 +1,6 @@
 -- The key above a node is the only one of the number that its place names.
-use Rattle.std.proofs.Common.{◌≡◌, Option, Some, None, IsSome, IfSome, option_map, refl, sym, ap, ◌∙◌}
-use Rattle.std.specs.Option.{option_and_then}
-use Rattle.std.proofs.lemmas.Option.{same_Some, none-some}
-use Rattle.rx_slots.specs.declared.Key.{Key}
-use Rattle.rx_slots.specs.Slots.{Slots, find}
-use Rattle.rx_tree.specs.declared.node.Node.{Node}
-use Rattle.rx_tree.specs.Tree.{IsSound, named_above, parent_number}
-use Rattle.rx_tree.proofs.Laws.Parents.{named_parent}
-use Rattle.rx_hub.specs.Way.{above_of}
+use Rattle.rx_hub.proofs.Common.{◌≡◌, Option, Some, None, IsSome, IfSome, option_map, refl, sym, ap, ◌∙◌, option_and_then, same_Some, none-some, Key, Slots}
+use Rattle.rx_hub.proofs.Common.{find, Node, IsSound, named_above, parent_number, named_parent, above_of}
 
 same_number : (nodes : Slots Node) → IsSound nodes → (r above : Option Key) → IfSome r (λ k. IsSome (find nodes k)) →
     IfSome above (λ k. IsSome (find nodes k)) → option_map (λ k. k.number) r ≡ option_map (λ k. k.number) above → r ≡ above

@@ -1,24 +1,12 @@
 -- The hubs after one more event are those of the longer history.
-use Rattle.std.proofs.Common.{◌≡◌, ℕ, zero, suc, ◌<◌, ◌==◌, ◌&&◌, ◌++◌, cond, map, Bool, true, false, List, [], ◌∷◌, length, slice_get, Option, Some, None}
-use Rattle.std.proofs.Common.{refl, sym, ap, subst, ◌∙◌, inl, inr, ◌⊎◌, arith, option_map, length-append}
-use Rattle.std.proofs.lemmas.Bool.{cases_order, false≢true, and_parts, both_ways, eq-eqb, eqb-true}
-use Rattle.std.proofs.lemmas.Option.{same_Some, none-some, slice_get-map, slice_get_within}
-use Rattle.rx_event.specs.Kept.{Kept}
-use Rattle.rx_event.specs.declared.event.Kind.TheVariants.{Leaf, Pass, Flat, Switch, Until, Sub}
-use Rattle.rx_event.specs.declared.event.Mode.{Mode}
-use Rattle.rx_event.specs.declared.event.Event.{Event}
-use Rattle.rx_event.specs.declared.event.Event.TheVariants.{Open, Hub as Publish, Connect, Accept, Use, Remove, Lease, Return, Item, Decline, End, Close, Take}
-use Rattle.rx_event.specs.Events.{makes_hub, is_connect, is_subscriber_of, is_connect_of}
-use Rattle.rx_event.specs.Tree.{at, places, is_open}
-use Rattle.rx_event.specs.Lawful.{MayFollow, IsLawful}
-use Rattle.rx_event.proofs.Laws.Hubs.{at_connect, may_subscribe, connection_hub, subscriber_hub}
-use Rattle.rx_event.proofs.Laws.Lists.{first_passes}
-use Rattle.rx_event.proofs.Laws.OpenAfter.{open_of}
-use Rattle.rx_event.proofs.Laws.Places.{slice_get_last, at-append, at_within, cases_push}
-use Rattle.rx_hub.specs.After.{end_by, is_gone_after, with_made, next_key, hubs_after}
-use Rattle.rx_hub.specs.Closing.{without_gone}
-use Rattle.rx_hub.specs.Hubs.{Hub, at_hub, new_hub, subscribed, connected}
-use Rattle.rx_hub.specs.Records.{IsHubOf, HasHub, AreHubsOf}
+use Rattle.rx_hub.proofs.Common.{◌≡◌, ℕ, zero, suc, ◌<◌, ◌==◌, ◌&&◌, ◌++◌, cond, map, Bool, true, false, List, [], ◌∷◌, length, slice_get, Option, Some, None}
+use Rattle.rx_hub.proofs.Common.{refl, sym, ap, subst, ◌∙◌, inl, inr, ◌⊎◌, arith, option_map, length-append, cases_order, false≢true, and_parts, both_ways}
+use Rattle.rx_hub.proofs.Common.{eq-eqb, eqb-true, same_Some, none-some, slice_get-map, slice_get_within, Kept, Leaf, Pass, Flat, Switch, Until, Sub, Mode}
+use Rattle.rx_hub.proofs.Common.{Event, Open, Connect, End, Close, makes_hub, is_connect, is_subscriber_of, is_connect_of, at, places, is_open, MayFollow}
+use Rattle.rx_hub.proofs.Common.{IsLawful, at_connect, may_subscribe, connection_hub, subscriber_hub, first_passes, open_of, slice_get_last, at-append, Hub}
+use Rattle.rx_hub.proofs.Common.{at_within, cases_push, end_by, is_gone_after, with_made, next_key, hubs_after, without_gone, at_hub, new_hub, subscribed}
+use Rattle.rx_hub.proofs.Common.{connected, IsHubOf, HasHub, AreHubsOf}
+use Rattle.rx_event.specs.declared.event.Event.TheVariants.{Hub as Publish, Accept, Use, Remove, Lease, Return, Item, Decline, Take}
 use Rattle.rx_hub.proofs.Laws.AfterLeft.{hub_left, without_closed, at_push}
 use Rattle.rx_hub.proofs.Laws.AfterOne.{hub_kept, hub_with_subscriber, hub_with_connection}
 

@@ -1,32 +1,12 @@
 -- The hubs after one more event, by the kinds of event.
-use Rattle.std.proofs.Common.{◌≡◌, ℕ, ◌&&◌, ◌++◌, cond, map, Bool, true, false, List, [], ◌∷◌, length, slice_get, filter, Option, Some, None}
-use Rattle.std.proofs.Common.{refl, sym, ap, subst, ◌∙◌}
-use Rattle.std.specs.List.{AllByRecursion}
-use Rattle.std.specs.Option.{option_map_or, option_to_list}
-use Rattle.std.proofs.Math.Bool.{not}
-use Rattle.std.proofs.lemmas.Bool.{false≢true, and_parts}
-use Rattle.rx_event.specs.Kept.{Kept}
-use Rattle.rx_note.specs.declared.note.Terminal.{Terminal}
-use Rattle.rx_event.specs.declared.event.Place.{Place}
-use Rattle.rx_event.specs.declared.event.Place.TheVariants.{Inner}
-use Rattle.rx_event.specs.declared.event.Kind.{Kind}
-use Rattle.rx_event.specs.declared.event.Kind.TheVariants.{Leaf, Pass, Flat, Switch, Until, Sub}
-use Rattle.rx_event.specs.declared.event.Mode.{Mode}
-use Rattle.rx_event.specs.declared.event.Event.{Event}
-use Rattle.rx_event.specs.declared.event.Event.TheVariants.{Open, Hub as Publish, Connect, Accept, Use, Remove, Lease, Return, Item, Decline, End, Close, Take}
-use Rattle.rx_event.specs.Events.{is_subscriber_of}
-use Rattle.rx_event.specs.Tree.{at, places, is_open, is_within}
-use Rattle.rx_event.specs.Lawful.{MayFollow, IsLawful}
-use Rattle.rx_event.specs.Claims.Nodes.{IsOpenInner}
-use Rattle.rx_event.proofs.Laws.Lists.{AllByRecursion-both, filtered}
-use Rattle.rx_event.proofs.Laws.Openness.{shuts_none, is_open_kept, is_open_within, is_open_outside-end, is_open_outside-close}
-use Rattle.rx_event.proofs.Laws.Switches.{is_open-inner_switch}
-use Rattle.rx_slots.specs.declared.Key.{Key}
-use Rattle.rx_hub.specs.declared.hub.LastEnd.{LastEnd}
-use Rattle.rx_hub.specs.After.{AgreeAt, end_by, is_gone_after, ClosesNone, is_inside, with_made, joins_hubs, next_key, hubs_after}
-use Rattle.rx_hub.specs.Closing.{remaining, without_gone}
-use Rattle.rx_hub.specs.Hubs.{Hub, at_hub, new_hub, subscribed, connected, disconnected}
-use Rattle.rx_hub.specs.Records.{numbers, IsHubOf, AreHubsOf}
+use Rattle.rx_hub.proofs.Common.{◌≡◌, ℕ, ◌&&◌, ◌++◌, cond, map, Bool, true, false, List, [], ◌∷◌, length, slice_get, filter, Option, Some, None, refl, sym}
+use Rattle.rx_hub.proofs.Common.{ap, subst, ◌∙◌, AllByRecursion, option_map_or, option_to_list, not, false≢true, and_parts, Kept, Terminal, Place, Inner, Sub}
+use Rattle.rx_hub.proofs.Common.{Kind, Leaf, Pass, Flat, Switch, Until, Mode, Event, Open, Connect, End, Close, is_subscriber_of, at, places, is_open, Key}
+use Rattle.rx_hub.proofs.Common.{is_within, MayFollow, IsLawful, IsOpenInner, AllByRecursion-both, filtered, shuts_none, is_open_kept, is_open_within, end_by}
+use Rattle.rx_hub.proofs.Common.{is_open_outside-end, is_open_outside-close, is_open-inner_switch, LastEnd, AgreeAt, is_gone_after, ClosesNone, is_inside}
+use Rattle.rx_hub.proofs.Common.{with_made, joins_hubs, next_key, hubs_after, remaining, without_gone, Hub, at_hub, new_hub, subscribed, connected, numbers}
+use Rattle.rx_hub.proofs.Common.{disconnected, IsHubOf, AreHubsOf}
+use Rattle.rx_event.specs.declared.event.Event.TheVariants.{Hub as Publish, Accept, Use, Remove, Lease, Return, Item, Decline, Take}
 use Rattle.rx_hub.proofs.Laws.AfterLeft.{filter_agrees, own_connection}
 use Rattle.rx_hub.proofs.Laws.AfterAll.{map_agrees, hubs_follow}
 

@@ -1,31 +1,12 @@
 -- What one more event leaves of a hub: those of its nodes that are open after it.
-use Rattle.std.proofs.Common.{◌≡◌, ℕ, ◌≤◌, ◌&&◌, ◌++◌, cond, Bool, true, false, List, [], ◌∷◌, length, slice_get, filter, Option, Some, None}
-use Rattle.std.proofs.Common.{refl, sym, ap, ◌∙◌, inl, inr, ◌⊎◌, arith, length-append}
-use Rattle.std.specs.Prelude.{if◌then◌else◌}
-use Rattle.std.specs.List.{AllByRecursion}
-use Rattle.std.specs.Option.{option_map_or, option_or, option_to_list}
-use Rattle.std.proofs.Math.Bool.{not}
-use Rattle.std.proofs.lemmas.Bool.{false≢true, and_parts, and_from, both_ways}
-use Rattle.std.proofs.lemmas.Option.{none-some, slice_get_within}
-use Rattle.rx_event.specs.Kept.{Kept}
-use Rattle.rx_note.specs.declared.note.Terminal.{Terminal}
-use Rattle.rx_event.specs.declared.event.Event.{Event}
-use Rattle.rx_event.specs.declared.event.Event.TheVariants.{Connect, End}
-use Rattle.rx_event.specs.Events.{is_connect_of}
-use Rattle.rx_event.specs.Tree.{at, places, parent, is_open, is_within}
-use Rattle.rx_event.specs.Lawful.{IsLawful}
+use Rattle.rx_hub.proofs.Common.{◌≡◌, ℕ, ◌≤◌, ◌&&◌, ◌++◌, cond, Bool, true, false, List, [], ◌∷◌, length, slice_get, filter, Option, Some, None, refl, sym}
+use Rattle.rx_hub.proofs.Common.{ap, ◌∙◌, inl, inr, ◌⊎◌, arith, length-append, if◌then◌else◌, AllByRecursion, option_map_or, option_or, option_to_list, not}
+use Rattle.rx_hub.proofs.Common.{false≢true, and_parts, and_from, both_ways, none-some, slice_get_within, Kept, Terminal, Event, Connect, End, is_connect_of}
+use Rattle.rx_hub.proofs.Common.{at, places, parent, is_open, is_within, IsLawful, first_passes, filter_nonempty, is_open_outside-end, is_open_within, Key}
+use Rattle.rx_hub.proofs.Common.{slice_get-append, cases_push, LastEnd, end_by, is_gone_after, remaining, without_gone, Hub, disconnected, numbers, IsHubOf}
 use Rattle.rx_event.proofs.Laws.Hubs.{TwoConnections, one_connection}
-use Rattle.rx_event.proofs.Laws.Lists.{first_passes, filter_nonempty}
-use Rattle.rx_event.proofs.Laws.Openness.{is_open_outside-end, is_open_within}
 use Rattle.rx_event.proofs.Laws.Parents.{within_cases}
-use Rattle.rx_event.proofs.Laws.Places.{slice_get-append, cases_push}
 use Rattle.rx_event.proofs.Laws.Stands.{connection_parent}
-use Rattle.rx_slots.specs.declared.Key.{Key}
-use Rattle.rx_hub.specs.declared.hub.LastEnd.{LastEnd}
-use Rattle.rx_hub.specs.After.{end_by, is_gone_after}
-use Rattle.rx_hub.specs.Closing.{remaining, without_gone}
-use Rattle.rx_hub.specs.Hubs.{Hub, disconnected}
-use Rattle.rx_hub.specs.Records.{numbers, IsHubOf}
 
 -- older places ------------------------------------------------------------------------------------
 

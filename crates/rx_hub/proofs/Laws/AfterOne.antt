@@ -1,34 +1,13 @@
 -- A hub after one more event: how its connection ended, and what the event adds to it.
-use Rattle.std.proofs.Common.{◌≡◌, ℕ, ◌<◌, ◌≤◌, ◌&&◌, ◌++◌, cond, Bool, true, false, List, [], ◌∷◌, length, slice_get, filter, Option, Some, None}
-use Rattle.std.proofs.Common.{IfSome, refl, sym, ap, subst, ◌∙◌, inl, inr, ◌⊎◌, arith, append-nil}
-use Rattle.std.specs.Prelude.{if◌then◌else◌}
-use Rattle.std.specs.Option.{option_map_or, option_or, option_to_list}
-use Rattle.std.proofs.Math.Bool.{not}
-use Rattle.std.proofs.lemmas.Bool.{false≢true, eq-eqb}
-use Rattle.std.proofs.lemmas.List.{map-append}
-use Rattle.std.proofs.lemmas.Option.{slice_get_within}
-use Rattle.rx_event.specs.Kept.{Kept}
-use Rattle.rx_note.specs.declared.note.Terminal.{Terminal}
-use Rattle.rx_event.specs.declared.event.Place.{Place}
-use Rattle.rx_event.specs.declared.event.Kind.TheVariants.{Sub}
-use Rattle.rx_event.specs.declared.event.Event.{Event}
-use Rattle.rx_event.specs.declared.event.Event.TheVariants.{Open, Connect, End}
-use Rattle.rx_event.specs.Events.{makes_node, is_subscriber_of, is_connect_of}
-use Rattle.rx_event.specs.Tree.{at, is_open, open_subscribers, open_connections}
-use Rattle.rx_event.specs.Lawful.{MayFollow, IsLawful}
-use Rattle.rx_event.proofs.Laws.Hubs.{at_connect, may_connect}
-use Rattle.rx_event.proofs.Laws.Lawful.{ended_after, may_end}
-use Rattle.rx_event.proofs.Laws.Openness.{is_open_outside-end, is_open_within}
+use Rattle.rx_hub.proofs.Common.{◌≡◌, ℕ, ◌<◌, ◌≤◌, ◌&&◌, ◌++◌, cond, Bool, true, false, List, [], ◌∷◌, length, slice_get, filter, Option, Some, None, IfSome}
+use Rattle.rx_hub.proofs.Common.{refl, sym, ap, subst, ◌∙◌, inl, inr, ◌⊎◌, arith, append-nil, if◌then◌else◌, option_map_or, option_or, option_to_list, not}
+use Rattle.rx_hub.proofs.Common.{false≢true, eq-eqb, map-append, slice_get_within, Kept, Terminal, Place, Sub, Event, Open, Connect, End, makes_node, at, Key}
+use Rattle.rx_hub.proofs.Common.{is_subscriber_of, is_connect_of, is_open, open_subscribers, open_connections, MayFollow, IsLawful, at_connect, may_connect}
+use Rattle.rx_hub.proofs.Common.{ended_after, may_end, is_open_outside-end, is_open_within, slice_get-append, slice_get_last, cases_push, is_within_self, Hub}
+use Rattle.rx_hub.proofs.Common.{LastEnd, end_by, next_key, subscribed, connected, numbers, EndsConnection, IsUpTo, IsHubOf}
 use Rattle.rx_event.proofs.Laws.OpenAfter.{open_of-push}
-use Rattle.rx_event.proofs.Laws.Places.{slice_get-append, slice_get_last, cases_push}
-use Rattle.rx_event.proofs.Laws.Totals.{is_within_self}
-use Rattle.rx_slots.specs.declared.Key.{Key}
-use Rattle.rx_hub.specs.declared.hub.LastEnd.{LastEnd}
-use Rattle.rx_hub.specs.After.{end_by, next_key}
-use Rattle.rx_hub.specs.Hubs.{Hub, subscribed, connected}
-use Rattle.rx_hub.specs.Records.{numbers, EndsConnection, IsUpTo, IsHubOf}
-use Rattle.rx_hub.proofs.Laws.AfterLeft.{still_at, within_push, hub_left, last_end_left, is_open_after, numbers_filter, numbers_left}
-use Rattle.rx_hub.proofs.Laws.AfterLeft.{own_connection, named_connection, connection_ended}
+use Rattle.rx_hub.proofs.Laws.AfterLeft.{still_at, within_push, hub_left, last_end_left, is_open_after, numbers_filter, numbers_left, own_connection}
+use Rattle.rx_hub.proofs.Laws.AfterLeft.{named_connection, connection_ended}
 
 -- how a hub's last connection ended ---------------------------------------------------------------
 

@@ -1,19 +1,7 @@
 -- The order of hubs: what stands inside a connection subscribes to earlier hubs.
-use Rattle.std.proofs.Common.{◌≡◌, ℕ, ◌<◌, ◌==◌, true, List, [], ◌∷◌, slice_get, Some}
-use Rattle.std.proofs.Common.{sym, subst, inl, inr, ◌⊎◌}
-use Rattle.std.specs.List.{AllByRecursion}
-use Rattle.std.proofs.lemmas.Bool.{false≢true, and_parts, or_cases, eqb-true}
-use Rattle.rx_event.specs.Kept.{Kept}
-use Rattle.rx_event.specs.declared.event.Event.{Event}
-use Rattle.rx_event.specs.Events.{is_subscriber_of}
-use Rattle.rx_event.specs.Lawful.{IsLawful}
-use Rattle.rx_event.specs.Tree.{at, is_open}
-use Rattle.rx_event.proofs.Laws.Hubs.{at_connect, hubs_in_order}
-use Rattle.rx_slots.specs.declared.Key.{Key}
-use Rattle.rx_tree.specs.Tree.{is_key, is_on}
-use Rattle.rx_hub.specs.Hubs.{Hub}
-use Rattle.rx_hub.specs.Records.{AreHubsOf}
-use Rattle.rx_hub.specs.Claims.{SubscribesInside}
+use Rattle.rx_hub.proofs.Common.{◌≡◌, ℕ, ◌<◌, ◌==◌, true, List, [], ◌∷◌, slice_get, Some, sym, subst, inl, inr, ◌⊎◌, AllByRecursion, false≢true, and_parts}
+use Rattle.rx_hub.proofs.Common.{or_cases, eqb-true, Kept, Event, is_subscriber_of, IsLawful, at, is_open, at_connect, hubs_in_order, Key, is_key, is_on, Hub}
+use Rattle.rx_hub.proofs.Common.{AreHubsOf, SubscribesInside}
 use Rattle.rx_hub.proofs.Laws.AfterLeft.{own_connection}
 use Rattle.rx_hub.proofs.Laws.AfterCases.{IsOpenAt, subscribers_open}
 

@@ -1,26 +1,9 @@
 -- Before an event that may follow, the hubs are ready for the call that writes it.
-use Rattle.std.proofs.Common.{◌≡◌, ℕ, zero, suc, ◌<◌, ◌==◌, Bool, true, false, cond, List, [], ◌∷◌, map, length, slice_get, filter, Option, Some, None}
-use Rattle.std.proofs.Common.{refl, ap, ◌∙◌, arith}
-use Rattle.std.specs.List.{AllByRecursion}
-use Rattle.std.specs.Option.{option_map_or, option_to_list}
-use Rattle.std.proofs.Math.Bool.{not}
-use Rattle.std.proofs.lemmas.Bool.{and_parts, eq-eqb}
-use Rattle.std.proofs.lemmas.Option.{same_Some, none-some, slice_get_within}
-use Rattle.rx_event.specs.Kept.{Kept}
-use Rattle.rx_event.specs.declared.event.Place.{Place}
-use Rattle.rx_event.specs.declared.event.Kind.TheVariants.{Sub}
-use Rattle.rx_event.specs.declared.event.Event.{Event}
-use Rattle.rx_event.specs.declared.event.Event.TheVariants.{Open, Connect}
-use Rattle.rx_event.specs.Events.{is_subscriber_of}
-use Rattle.rx_event.specs.Tree.{at, is_open, open_connections}
-use Rattle.rx_event.specs.Lawful.{MayFollow}
-use Rattle.rx_event.proofs.Laws.Hubs.{may_connect, may_connect_hub, may_subscribe}
-use Rattle.rx_event.proofs.Laws.Openness.{is_open_within}
-use Rattle.rx_slots.specs.declared.Key.{Key}
-use Rattle.rx_hub.specs.declared.hub.LastEnd.{LastEnd}
-use Rattle.rx_hub.specs.Closing.{remaining, without_gone}
-use Rattle.rx_hub.specs.Hubs.{Hub, find_hub, disconnected, AreBelow}
-use Rattle.rx_hub.specs.Records.{numbers, IsHubOf, HasHub, AreHubsOf}
+use Rattle.rx_hub.proofs.Common.{◌≡◌, ℕ, zero, suc, ◌<◌, ◌==◌, Bool, true, false, cond, List, [], ◌∷◌, map, length, slice_get, filter, Option, Some, None, ap}
+use Rattle.rx_hub.proofs.Common.{refl, ◌∙◌, arith, AllByRecursion, option_map_or, option_to_list, not, and_parts, eq-eqb, same_Some, none-some, Kept, Place}
+use Rattle.rx_hub.proofs.Common.{slice_get_within, Sub, Event, Open, Connect, is_subscriber_of, at, is_open, open_connections, MayFollow, may_connect, Key}
+use Rattle.rx_hub.proofs.Common.{may_connect_hub, may_subscribe, is_open_within, LastEnd, remaining, without_gone, Hub, find_hub, disconnected, AreBelow}
+use Rattle.rx_hub.proofs.Common.{numbers, IsHubOf, HasHub, AreHubsOf}
 use Rattle.rx_hub.proofs.Laws.AfterCases.{IsOpenAt, subscribers_open}
 use Rattle.rx_hub.proofs.Laws.Walks.{found_hub}
 

@@ -1,42 +1,18 @@
 -- What is due at hubs is forced in every history whose hubs they are.
-use Rattle.std.proofs.Common.{◌≡◌, ℕ, zero, suc, ◌<◌, ◌≤◌, ◌+◌, ◌==◌, ◌&&◌, ◌||◌, cond, Bool, true}
-use Rattle.std.proofs.Common.{false, List, [], ◌∷◌, length, slice_get, filter, Option, Some, None}
-use Rattle.std.proofs.Common.{is_none, IfSome, refl, sym, ap, subst, ◌∙◌, inl, inr, ◌⊎◌, arith, true≢false}
-use Rattle.std.specs.Prelude.{nat_lt, if◌then◌else◌}
-use Rattle.std.specs.List.{list_any, range_with_len, AllByRecursion}
-use Rattle.std.specs.Option.{option_map_or, option_or, option_to_list}
-use Rattle.std.proofs.Math.Bool.{not}
-use Rattle.std.proofs.lemmas.Bool.{cases_order, false≢true, or_right}
-use Rattle.std.proofs.lemmas.Bool.Decides.{nat_tests}
-use Rattle.std.proofs.lemmas.Option.{same_Some, none-some}
-use Rattle.rx_event.specs.Kept.{Kept}
-use Rattle.rx_note.specs.declared.note.Terminal.{Terminal}
-use Rattle.rx_event.specs.declared.event.Kind.TheVariants.{Sub}
-use Rattle.rx_event.specs.declared.event.Mode.{Mode}
-use Rattle.rx_event.specs.declared.event.Mode.TheVariants.{Auto, Manual}
-use Rattle.rx_event.specs.declared.event.Event.{Event}
-use Rattle.rx_event.specs.declared.event.Event.TheVariants.{Open, Hub as Publish, Connect, Close}
-use Rattle.rx_event.specs.Events.{makes_hub, is_auto_hub, is_subscriber_of, is_connect_of}
-use Rattle.rx_event.specs.Tree.{at, places, is_open, open_subscribers, open_connections}
-use Rattle.rx_event.specs.Forced.{IsForced, connecting, due, IsSettled, IsConnected, IsConnectDue, IsDue, cut, left, SourceEnded}
-use Rattle.rx_event.proofs.Laws.Hubs.{at_connect}
-use Rattle.rx_event.proofs.Laws.Lists.{filtered, first_passes, filter_nonempty}
-use Rattle.rx_event.proofs.Laws.Openness.{is_open_within}
+use Rattle.rx_hub.proofs.Common.{◌≡◌, ℕ, zero, suc, ◌<◌, ◌≤◌, ◌+◌, ◌==◌, ◌&&◌, ◌||◌, cond, Bool, true, false, List, [], ◌∷◌, length, slice_get, filter, Some}
+use Rattle.rx_hub.proofs.Common.{Option, None, is_none, IfSome, refl, sym, ap, subst, ◌∙◌, inl, inr, ◌⊎◌, arith, true≢false, nat_lt, if◌then◌else◌, list_any}
+use Rattle.rx_hub.proofs.Common.{range_with_len, AllByRecursion, option_map_or, option_or, option_to_list, not, cases_order, false≢true, or_right, nat_tests}
+use Rattle.rx_hub.proofs.Common.{same_Some, none-some, Kept, Terminal, Sub, Mode, Auto, Manual, Event, Open, Connect, Close, makes_hub, is_auto_hub, at, due}
+use Rattle.rx_hub.proofs.Common.{is_subscriber_of, is_connect_of, places, is_open, open_subscribers, open_connections, IsForced, connecting, IsSettled, IsDue}
+use Rattle.rx_hub.proofs.Common.{IsConnected, IsConnectDue, cut, left, SourceEnded, at_connect, filtered, first_passes, filter_nonempty, is_open_within, Key}
+use Rattle.rx_hub.proofs.Common.{is_on, Slots, Node, AreRecordsOf, HubDue, LastEnd, IsDueIn, connects, acts, IsQuiet, NoneWaits, is_auto, is_cut, connect_of}
+use Rattle.rx_hub.proofs.Common.{cut_of, left_of, due_of, Hub, Hubs, IsPromised, numbers, EndsConnection, IsUpTo, IsHubOf, AreHubsOf}
+use Rattle.rx_event.specs.declared.event.Event.TheVariants.{Hub as Publish}
 use Rattle.rx_event.proofs.Laws.Searches.{list_any_found}
-use Rattle.rx_slots.specs.declared.Key.{Key}
-use Rattle.rx_tree.specs.Tree.{is_on}
-use Rattle.rx_slots.specs.Slots.{Slots}
-use Rattle.rx_tree.specs.declared.node.Node.{Node}
 use Rattle.rx_hub.specs.Operators.{IsQuiet as IsQuietTree}
-use Rattle.rx_hub.specs.TreeRecords.{AreRecordsOf}
 use Rattle.rx_hub.proofs.Laws.DuesInTree.{quiet_settled}
-use Rattle.rx_hub.specs.declared.hub.HubDue.{HubDue}
 use Rattle.rx_hub.specs.declared.hub.HubDue.TheVariants.{Connect as ConnectDue, End as EndDue, Close as CloseDue}
-use Rattle.rx_hub.specs.declared.hub.LastEnd.{LastEnd}
-use Rattle.rx_hub.specs.Due.{event_of, IsOf, ConcernsHub, IsDueIn, connects, acts, IsQuiet, NoneWaits}
-use Rattle.rx_hub.specs.Due.{is_auto, is_cut, waits, connect_of, cut_of, left_of, due_of}
-use Rattle.rx_hub.specs.Hubs.{Hub, Hubs, IsPromised}
-use Rattle.rx_hub.specs.Records.{numbers, EndsConnection, IsUpTo, IsHubOf, AreHubsOf}
+use Rattle.rx_hub.specs.Due.{event_of, IsOf, ConcernsHub, waits}
 use Rattle.rx_hub.proofs.HubsByNumber.{find_at}
 
 -- tests -------------------------------------------------------------------------------------------

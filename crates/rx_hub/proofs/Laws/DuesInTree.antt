@@ -1,23 +1,10 @@
 -- What is due at a tree's records is forced in every history whose records they are.
-use Rattle.std.proofs.Common.{◌≡◌, ℕ, true, false, List, Option, Some, None, slice_get, option_map, refl, sym, ap, ◌∙◌}
-use Rattle.std.specs.List.{list_any}
-use Rattle.std.specs.Option.{option_and_then}
-use Rattle.std.proofs.lemmas.Option.{same_Some, none-some}
-use Rattle.rx_event.specs.Kept.{Kept}
-use Rattle.rx_note.specs.declared.note.Terminal.{Terminal}
-use Rattle.rx_event.specs.declared.event.Event.{Event}
-use Rattle.rx_event.specs.declared.event.Event.TheVariants.{End, Close}
-use Rattle.rx_event.specs.Events.{makes_hub}
-use Rattle.rx_event.specs.Tree.{is_open}
-use Rattle.rx_event.specs.Marks.{due_at, marks_of}
-use Rattle.rx_event.specs.Forced.{IsForced, IsSettled, IsConnected, IsDue, SourceEnded}
-use Rattle.rx_event.specs.Lawful.{IsLawful}
+use Rattle.rx_hub.proofs.Common.{◌≡◌, ℕ, true, false, List, Option, Some, None, slice_get, option_map, refl, sym, ap, ◌∙◌, list_any, option_and_then, Kept}
+use Rattle.rx_hub.proofs.Common.{same_Some, none-some, Terminal, Event, End, Close, makes_hub, is_open, due_at, marks_of, IsForced, IsSettled, IsConnected}
+use Rattle.rx_hub.proofs.Common.{IsDue, SourceEnded, IsLawful, Slots, find, Node, Due, AreRecordsOf}
 use Rattle.rx_event.proofs.Laws.MarksDue.{due_at_forced, settled_by_marks, settled_hubless, settled_quiet}
-use Rattle.rx_slots.specs.Slots.{Slots, find}
-use Rattle.rx_tree.specs.declared.node.Node.{Node}
-use Rattle.rx_hub.specs.declared.operators.Due.{Due}
 use Rattle.rx_hub.specs.Operators.{IsDueAt, IsDueIn, IsQuiet}
-use Rattle.rx_hub.specs.TreeRecords.{IsRecordOf, HasRecord, AreRecordsOf}
+use Rattle.rx_hub.specs.TreeRecords.{IsRecordOf, HasRecord}
 
 -- where a node has to end so, that end is due
 pub due_at_in : (nodes : Slots Node) (due : Due) → IsDueAt nodes due → IsDueIn nodes (End due.node.number due.terminal)

@@ -1,17 +1,9 @@
 -- Hubs that forgot how their connections ended are those of a history in which nothing ended, and which agrees.
-use Rattle.std.proofs.Common.{◌≡◌, ℕ, zero, suc, map, true, false, List, [], ◌∷◌, slice_get, Option, Some, None, refl, sym, ap, subst, ◌∙◌}
-use Rattle.std.specs.Option.{option_map_or}
-use Rattle.std.proofs.lemmas.Bool.{false≢true}
-use Rattle.std.proofs.lemmas.Option.{same_Some, none-some}
-use Rattle.rx_note.specs.declared.note.Terminal.{Terminal}
-use Rattle.rx_event.specs.declared.event.Event.{Event}
-use Rattle.rx_event.specs.declared.event.Event.TheVariants.{Open, End}
-use Rattle.rx_event.specs.Events.{makes_node, makes_hub, is_subscriber_of}
-use Rattle.rx_event.specs.Tree.{at, is_open}
+use Rattle.rx_hub.proofs.Common.{◌≡◌, ℕ, zero, suc, map, true, false, List, [], ◌∷◌, slice_get, Option, Some, None, refl, sym, ap, subst, ◌∙◌, option_map_or}
+use Rattle.rx_hub.proofs.Common.{false≢true, same_Some, none-some, Terminal, Event, Open, End, makes_node, makes_hub, is_subscriber_of, at, is_open, Hub}
+use Rattle.rx_hub.proofs.Common.{without_end, IsHubOf, HasHub, AreHubsOf}
 use Rattle.rx_event.proofs.Laws.SameTree.{Alike, alike_back, at_alike, at_hub_alike, subscribers_alike, connections_alike}
 use Rattle.rx_event.proofs.Laws.SameForcedAndAllowed.{hub_is}
-use Rattle.rx_hub.specs.Hubs.{Hub, without_end}
-use Rattle.rx_hub.specs.Records.{IsHubOf, HasHub, AreHubsOf}
 
 -- the hubs one by one
 pub forgot_get : (hubs : List Hub) (i : ℕ) (hub : Hub) → slice_get (map without_end hubs) i ≡ Some hub →

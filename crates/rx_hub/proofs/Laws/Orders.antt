@@ -1,35 +1,11 @@
 -- In a lawful history no item goes round in a circle: from a subscriber it gets to connections of later hubs alone.
-use Rattle.std.proofs.Common.{◌≡◌, ℕ, zero, suc, ◌<◌, ◌&&◌, true, List, [], ◌∷◌, slice_get, Option, Some, None, IsSome, IfSome, is_some, option_map}
-use Rattle.std.proofs.Common.{refl, sym, ap, subst, ◌∙◌, arith}
-use Rattle.std.specs.Prelude.{if◌then◌else◌}
-use Rattle.std.specs.List.{AllByRecursion}
-use Rattle.std.specs.Option.{option_and_then, option_map_or, option_or}
-use Rattle.std.proofs.lemmas.Bool.{and_parts}
-use Rattle.std.proofs.lemmas.Bool.Decides.{nat_tests}
-use Rattle.std.proofs.lemmas.Option.{same_Some, none-some}
-use Rattle.rx_event.specs.Kept.{Kept}
-use Rattle.rx_event.specs.declared.event.Event.{Event}
-use Rattle.rx_event.specs.declared.event.Event.TheVariants.{Connect}
-use Rattle.rx_event.specs.Events.{parent_named, is_subscriber_of}
-use Rattle.rx_event.specs.Tree.{at, places, is_open, is_within, parent, if_less, open_subscribers}
-use Rattle.rx_event.specs.Climb.{most_visits}
-use Rattle.rx_event.specs.Lawful.{IsLawful}
-use Rattle.rx_event.proofs.Laws.Hubs.{hubs_in_order}
-use Rattle.rx_event.proofs.Laws.Lists.{filtered}
+use Rattle.rx_hub.proofs.Common.{◌≡◌, ℕ, zero, suc, ◌<◌, ◌&&◌, true, List, [], ◌∷◌, slice_get, Option, Some, None, IsSome, IfSome, is_some, option_map, refl}
+use Rattle.rx_hub.proofs.Common.{sym, ap, subst, ◌∙◌, arith, if◌then◌else◌, AllByRecursion, option_and_then, option_map_or, option_or, and_parts, nat_tests}
+use Rattle.rx_hub.proofs.Common.{same_Some, none-some, Kept, Event, Connect, parent_named, is_subscriber_of, at, places, is_open, is_within, parent, if_less}
+use Rattle.rx_hub.proofs.Common.{open_subscribers, most_visits, IsLawful, hubs_in_order, filtered, is_within_self, Key, Slots, find, Node, Stop, Connection}
+use Rattle.rx_hub.proofs.Common.{made_of, above_of, stop_of, way_within, end_of, some_of, Hub, find_hub, numbers, IsWalk, ReachesFrom, IsOrdered}
 use Rattle.rx_event.proofs.Laws.Parents.{within_parent}
-use Rattle.rx_event.proofs.Laws.Totals.{is_within_self}
-use Rattle.rx_slots.specs.declared.Key.{Key}
-use Rattle.rx_slots.specs.Slots.{Slots, find}
-use Rattle.rx_tree.specs.declared.node.Node.{Node}
-use Rattle.rx_hub.specs.declared.stop.Stop.{Stop}
-use Rattle.rx_hub.specs.declared.stop.Stop.TheVariants.{Connection}
-use Rattle.rx_hub.specs.Way.{made_of, above_of, stop_of, way_within, end_of}
-use Rattle.rx_tree.proofs.Laws.Keys.{some_of}
 use Rattle.rx_hub.proofs.Laws.Ways.{stop_of-found, connection_made, above_found}
-use Rattle.rx_hub.specs.Hubs.{Hub, find_hub}
-use Rattle.rx_hub.specs.Records.{numbers}
-use Rattle.rx_hub.specs.Walk.{IsWalk}
-use Rattle.rx_hub.specs.Route.{ReachesFrom, IsOrdered}
 use Rattle.rx_hub.proofs.Laws.Walks.{found_hub}
 
 -- the node above one is its parent in the history

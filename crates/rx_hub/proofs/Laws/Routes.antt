@@ -1,27 +1,10 @@
 -- Marks that are set on the way change nothing of it.
-use Rattle.std.proofs.Common.{◌≡◌, ◌≢◌, ℕ, zero, suc, ◌++◌, List, [], ◌∷◌, Option, Some, None, IsSome, IfSome, is_some, option_map}
-use Rattle.std.proofs.Common.{refl, sym, ap, ◌∙◌, inl, inr, ◌⊎◌}
-use Rattle.std.specs.Prelude.{false, if◌then◌else◌}
-use Rattle.std.specs.List.{AllByRecursion, filter_map}
-use Rattle.std.specs.Option.{option_and_then, option_map_or, option_to_list}
-use Rattle.rx_event.specs.declared.event.Place.TheVariants.{Root, Source, Inner, Notifier}
-use Rattle.rx_event.specs.declared.event.Event.{Event}
-use Rattle.rx_event.specs.declared.event.Event.TheVariants.{Open, Connect}
-use Rattle.rx_event.specs.declared.marks.Marks.{Marks}
-use Rattle.rx_event.specs.Events.{is_merging}
-use Rattle.rx_event.specs.Climb.{most_visits}
-use Rattle.rx_event.specs.Marks.{first_some}
-use Rattle.rx_slots.specs.declared.Key.{Key}
-use Rattle.rx_slots.specs.Slots.{Slots, find}
-use Rattle.rx_tree.specs.declared.node.Node.{Node}
-use Rattle.rx_tree.specs.Tree.{Rewrites, with_marks}
-use Rattle.rx_tree.proofs.Laws.Keys.{cases_key}
-use Rattle.rx_hub.specs.declared.stop.Stop.{Stop}
-use Rattle.rx_hub.specs.declared.stop.Stop.TheVariants.{Delivery, Projection, Firing, Connection}
-use Rattle.rx_hub.specs.Way.{made_of, above_of, if_merging, stop_made, stop_of, onward_of, way_within, way, end_of}
-use Rattle.rx_hub.specs.Hubs.{Hub}
-use Rattle.rx_hub.specs.Walk.{subscribers_of, onward_by, onward_over, visited_over, arrival, arrival_at}
-use Rattle.rx_hub.specs.Route.{Route, todo, visits_left, stops_left, ReachesFrom, IsOrdered, IsUnderWay}
+use Rattle.rx_hub.proofs.Common.{◌≡◌, ◌≢◌, ℕ, zero, suc, ◌++◌, List, [], ◌∷◌, Option, Some, None, IsSome, IfSome, is_some, option_map, refl, sym, ap, ◌∙◌}
+use Rattle.rx_hub.proofs.Common.{inl, inr, ◌⊎◌, false, if◌then◌else◌, AllByRecursion, filter_map, option_and_then, option_map_or, option_to_list, Root, Inner}
+use Rattle.rx_hub.proofs.Common.{Source, Notifier, Event, Open, Connect, Marks, is_merging, most_visits, first_some, Key, Slots, find, Node, Rewrites, Stop}
+use Rattle.rx_hub.proofs.Common.{with_marks, cases_key, Delivery, Projection, Firing, Connection, made_of, above_of, if_merging, stop_made, stop_of, way, Hub}
+use Rattle.rx_hub.proofs.Common.{onward_of, way_within, end_of, subscribers_of, onward_by, onward_over, visited_over, arrival, arrival_at, Route, todo}
+use Rattle.rx_hub.proofs.Common.{visits_left, stops_left, ReachesFrom, IsOrdered, IsUnderWay}
 
 -- two trees of the same nodes -------------------------------------------------------------------------
 

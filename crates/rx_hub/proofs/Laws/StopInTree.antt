@@ -1,19 +1,8 @@
 -- An item whose way ends in its own tree arrives there alone.
-use Rattle.std.proofs.Common.{◌≡◌, ℕ, zero, suc, ◌-◌, ◌≤◌, ◌++◌, List, [], ◌∷◌, length, Option, Some, None, refl, ap, ◌∙◌, arith}
-use Rattle.std.specs.List.{filter_map}
-use Rattle.std.specs.Option.{option_and_then, option_map_or, option_to_list}
-use Rattle.std.proofs.lemmas.List.{append-nil}
-use Rattle.std.proofs.lemmas.Option.{none-some}
-use Rattle.rx_event.specs.Climb.{most_visits}
-use Rattle.rx_slots.specs.declared.Key.{Key}
-use Rattle.rx_slots.specs.Slots.{Slots}
-use Rattle.rx_tree.specs.declared.node.Node.{Node}
-use Rattle.rx_hub.specs.declared.stop.Stop.{Stop}
-use Rattle.rx_hub.specs.declared.stop.Stop.TheVariants.{Delivery, Projection, Firing, Connection}
-use Rattle.rx_hub.specs.Way.{onward_of, way_within, way, end_of}
-use Rattle.rx_hub.specs.Hubs.{Hub}
-use Rattle.rx_hub.specs.Walk.{beyond, visited_over, climb_over, arrival, arrival_at, stops_over}
-use Rattle.rx_hub.specs.Route.{beyond_end}
+use Rattle.rx_hub.proofs.Common.{◌≡◌, ℕ, zero, suc, ◌-◌, ◌≤◌, ◌++◌, List, [], ◌∷◌, length, Option, Some, None, refl, ap, ◌∙◌, arith, filter_map, append-nil}
+use Rattle.rx_hub.proofs.Common.{option_and_then, option_map_or, option_to_list, none-some, most_visits, Key, Slots, Node, Stop, Delivery, Projection, Firing}
+use Rattle.rx_hub.proofs.Common.{Connection, onward_of, way_within, way, end_of, Hub, beyond, visited_over, climb_over, arrival, arrival_at, stops_over}
+use Rattle.rx_hub.proofs.Common.{beyond_end}
 use Rattle.rx_hub.proofs.RouteWays.{visited_way, stops_way}
 
 -- a way has as many nodes as it may at most

@@ -1,31 +1,12 @@
 -- Where an item goes over a tree and its hubs is its climb in every history that they are of.
-use Rattle.std.proofs.Common.{◌≡◌, ℕ, zero, suc, ◌==◌, ◌&&◌, cond, Bool, true, false, List, [], ◌∷◌}
-use Rattle.std.proofs.Common.{◌++◌, length, slice_get, Option, Some, None, IsSome, option_map}
-use Rattle.std.proofs.Common.{refl, sym, ap, subst, ◌∙◌, arith}
-use Rattle.std.specs.List.{AllByRecursion, filter_map, cons_option}
-use Rattle.std.specs.Option.{option_and_then, option_map_or, option_to_list}
-use Rattle.std.proofs.lemmas.Bool.{false≢true}
-use Rattle.std.proofs.lemmas.Bool.Decides.{nat_tests}
-use Rattle.std.proofs.lemmas.Option.{same_Some, none-some}
-use Rattle.rx_event.specs.Kept.{Kept}
-use Rattle.rx_event.specs.declared.event.Event.{Event}
-use Rattle.rx_event.specs.declared.event.Event.TheVariants.{Connect}
-use Rattle.rx_event.specs.Events.{is_subscriber_of}
-use Rattle.rx_event.specs.Tree.{at, places, is_open, open_subscribers}
-use Rattle.rx_event.specs.Climb.{Stop as NumberedStop, stop_at, onward, onward_from, onward_unless, visited, most_visits, climb, stops, visits}
-use Rattle.rx_event.proofs.Laws.Lists.{AllByRecursion-both, first_passes}
-use Rattle.rx_slots.specs.declared.Key.{Key}
-use Rattle.rx_slots.specs.Slots.{Slots, find}
-use Rattle.rx_tree.specs.declared.node.Node.{Node}
-use Rattle.rx_hub.specs.declared.stop.Stop.{Stop}
-use Rattle.rx_hub.specs.declared.stop.Stop.TheVariants.{Delivery, Projection, Firing, Connection}
-use Rattle.rx_hub.specs.TreeClaims.{numbered}
-use Rattle.rx_hub.specs.Way.{made_of, above_of, stop_of, stop_made}
-use Rattle.rx_tree.proofs.Laws.Keys.{some_of}
+use Rattle.rx_hub.proofs.Common.{◌≡◌, ℕ, zero, suc, ◌==◌, ◌&&◌, cond, Bool, true, false, List, [], ◌∷◌, ◌++◌, length, slice_get, Option, Some, None, IsSome}
+use Rattle.rx_hub.proofs.Common.{option_map, refl, sym, ap, subst, ◌∙◌, arith, AllByRecursion, filter_map, cons_option, option_and_then, option_map_or, Kept}
+use Rattle.rx_hub.proofs.Common.{option_to_list, false≢true, nat_tests, same_Some, none-some, Event, Connect, is_subscriber_of, at, places, is_open, Key, Hub}
+use Rattle.rx_hub.proofs.Common.{open_subscribers, most_visits, AllByRecursion-both, first_passes, Slots, find, Node, Stop, Delivery, Projection, Firing}
+use Rattle.rx_hub.proofs.Common.{Connection, numbered, made_of, above_of, stop_of, stop_made, some_of, find_hub, numbers, subscribers_of, onward_by, arrival}
+use Rattle.rx_hub.proofs.Common.{onward_over, visited_over, climb_over, arrival_at, stops_over, IsWalk}
+use Rattle.rx_event.specs.Climb.{Stop as NumberedStop, stop_at, onward, onward_from, onward_unless, visited, climb, stops, visits}
 use Rattle.rx_hub.proofs.Laws.Ways.{IsTold, stop_of-found, stop_seen, onward_seen, onward_at, connection_made, above_found}
-use Rattle.rx_hub.specs.Hubs.{Hub, find_hub}
-use Rattle.rx_hub.specs.Records.{numbers}
-use Rattle.rx_hub.specs.Walk.{subscribers_of, onward_by, onward_over, visited_over, climb_over, arrival, arrival_at, stops_over, IsWalk}
 
 abbrev AreFound : Slots Node → List Key → Type 0
 AreFound nodes keys = AllByRecursion (λ key. IsSome (find nodes key)) keys

@@ -1,32 +1,13 @@
 -- The way of an item inside one tree is its climb in every history whose records the tree has.
-use Rattle.std.proofs.Common.{◌≡◌, ℕ, zero, suc, ◌-◌, Bool, true, false, List, [], ◌∷◌, ◌++◌, length}
-use Rattle.std.proofs.Common.{Option, Some, None, IsSome, IfSome, is_some, option_map, slice_get, refl, sym, ap, ◌∙◌, arith, append-nil}
-use Rattle.std.specs.Prelude.{if◌then◌else◌}
-use Rattle.std.specs.List.{filter_map}
-use Rattle.std.specs.Option.{option_and_then, option_map_or, option_or, option_to_list}
-use Rattle.std.proofs.lemmas.Bool.{false≢true}
-use Rattle.std.proofs.lemmas.List.Elements.{filter_map-append}
-use Rattle.std.proofs.lemmas.Option.{same_Some, none-some}
-use Rattle.rx_event.specs.Kept.{Kept}
-use Rattle.rx_event.specs.declared.event.Place.TheVariants.{Root, Source, Inner, Notifier}
-use Rattle.rx_event.specs.declared.event.Event.{Event}
-use Rattle.rx_event.specs.declared.event.Event.TheVariants.{Open, Connect}
-use Rattle.rx_event.specs.Events.{is_merging, parent_named, hub_connected}
-use Rattle.rx_event.specs.Tree.{at, parent, if_less, open_subscribers}
-use Rattle.rx_event.specs.Climb.{Stop as NumberedStop, Projection as ProjectionTo, Firing as FiringOf}
-use Rattle.rx_event.specs.Climb.{stop_made as stop_made_in, stop_at, onward, onward_from, onward_unless, visited, most_visits, climb, stops}
-use Rattle.rx_slots.specs.declared.Key.{Key}
-use Rattle.rx_slots.specs.Slots.{Slots, find}
-use Rattle.rx_tree.specs.declared.node.Node.{Node}
-use Rattle.rx_tree.specs.Tree.{IsSound, named_above}
-use Rattle.rx_tree.proofs.Laws.Keys.{some_of}
-use Rattle.rx_tree.proofs.Laws.Parents.{named_parent}
-use Rattle.rx_hub.specs.declared.stop.Stop.{Stop}
-use Rattle.rx_hub.specs.declared.stop.Stop.TheVariants.{Delivery, Projection, Firing, Connection}
-use Rattle.rx_hub.specs.Way.{made_of, above_of, if_merging, stop_made, stop_of, onward_of, way_within, way, end_of}
-use Rattle.rx_hub.specs.TreeRecords.{AreRecordsOf}
-use Rattle.rx_hub.specs.Records.{numbers}
-use Rattle.rx_hub.specs.TreeClaims.{IsWay, numbered}
+use Rattle.rx_hub.proofs.Common.{◌≡◌, ℕ, zero, suc, ◌-◌, Bool, true, false, List, [], ◌∷◌, ◌++◌, length, Option, Some, None, IsSome, IfSome, is_some, refl}
+use Rattle.rx_hub.proofs.Common.{option_map, slice_get, sym, ap, ◌∙◌, arith, append-nil, if◌then◌else◌, filter_map, option_and_then, option_map_or, option_or}
+use Rattle.rx_hub.proofs.Common.{option_to_list, false≢true, filter_map-append, same_Some, none-some, Kept, Root, Source, Inner, Notifier, Event, Open, at}
+use Rattle.rx_hub.proofs.Common.{Connect, is_merging, parent_named, hub_connected, parent, if_less, open_subscribers, most_visits, Key, Slots, find, Node}
+use Rattle.rx_hub.proofs.Common.{IsSound, named_above, some_of, named_parent, Stop, Delivery, Projection, Firing, Connection, made_of, above_of, if_merging}
+use Rattle.rx_hub.proofs.Common.{stop_made, stop_of, onward_of, way_within, way, end_of, AreRecordsOf, numbers, numbered}
+use Rattle.rx_event.specs.Climb.{Stop as NumberedStop, Projection as ProjectionTo, Firing as FiringOf, stop_made as stop_made_in, stop_at, onward, visited}
+use Rattle.rx_event.specs.Climb.{onward_from, onward_unless, climb, stops}
+use Rattle.rx_hub.specs.TreeClaims.{IsWay}
 
 -- one node ------------------------------------------------------------------------------------------
 

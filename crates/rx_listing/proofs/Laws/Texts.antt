@@ -1,10 +1,7 @@
 -- Texts behind one another, with a comma between them, as one more is written.
-use Rattle.std.proofs.Common.{◌≡◌, ℕ, Bool, false, List, [], ◌∷◌, ◌++◌, codes, flat_map, Some, None, refl, sym, ap, ◌∙◌, append_assoc}
-use Rattle.std.specs.List.{cons_option}
-use Rattle.std.proofs.lemmas.List.{append-nil}
+use Rattle.rx_listing.proofs.Common.{◌≡◌, ℕ, Bool, false, List, [], ◌∷◌, ◌++◌, codes, flat_map, Some, None, refl, sym, ap, ◌∙◌, append_assoc, cons_option}
+use Rattle.rx_listing.proofs.Common.{append-nil, joined, is_nil, led_text}
 use Rattle.std.proofs.lemmas.List.Concat.{flat_map-append}
-use Rattle.rx_line.specs.Pieces.{joined}
-use Rattle.rx_listing.specs.Parts.{is_nil, led_text}
 
 -- texts behind one another, as there is one more, or none
 module _ (xs ys : List (List ℕ)) where

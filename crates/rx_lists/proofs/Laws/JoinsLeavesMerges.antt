@@ -1,6 +1,5 @@
 -- What a few ties between places make.
-use Rattle.std.proofs.Common.{◌≡◌, cond, Bool, true, false, refl, sym, ap, ◌∙◌}
-use Rattle.rx_lists.specs.Rings.{Places, Steps, set_step, Joins, PassesBy, Leaves, Merges}
+use Rattle.rx_lists.proofs.Common.{◌≡◌, cond, Bool, true, false, refl, sym, ap, ◌∙◌, Places, Steps, set_step, Joins, PassesBy, Leaves, Merges}
 use Rattle.rx_lists.proofs.Laws.Places.{Tells}
 
 module _ {Place : Type 0} (places : Places Place) where

@@ -1,10 +1,7 @@
 -- What links lead over, once a few of them changed.
-use Rattle.std.proofs.Common.{◌≡◌, ◌≢◌, ℕ, zero, suc, ◌≤◌, cond, Bool, true, false, List, [], ◌∷◌, ◌++◌, length}
-use Rattle.std.proofs.Common.{refl, sym, ap, subst, ◌∙◌, inl, inr, ◌⊎◌, arith, true≢false}
-use Rattle.std.proofs.Math.Bool.{not}
-use Rattle.std.proofs.lemmas.Bool.{false≢true}
+use Rattle.rx_lists.proofs.Common.{◌≡◌, ◌≢◌, ℕ, zero, suc, ◌≤◌, cond, Bool, true, false, List, [], ◌∷◌, ◌++◌, length, refl, sym, ap, subst, ◌∙◌, inl, inr}
+use Rattle.rx_lists.proofs.Common.{◌⊎◌, arith, true≢false, not, false≢true, Places, Steps, IsLink, Leads, is_among, AreDifferent, without, walk, set_step}
 use Rattle.std.proofs.lemmas.List.{append-nil}
-use Rattle.rx_lists.specs.Rings.{Places, Steps, IsLink, Leads, is_among, AreDifferent, without, walk, set_step}
 use Rattle.rx_lists.proofs.Laws.Places.{Tells, place_apart, place_differs, cases_place, among_here, among_there, among_cons, without_none}
 
 -- a place that is next and previous of its own neighbours

@@ -1,10 +1,7 @@
 -- Places, and lists of them.
-use Rattle.std.proofs.Common.{◌≡◌, ◌≢◌, ℕ, zero, suc, ◌<◌, ◌≤◌, ◌==◌, ◌&&◌, ◌||◌, cond, Bool, true, false, List, [], ◌∷◌, ◌++◌, length}
-use Rattle.std.proofs.Common.{refl, sym, ap, subst, ◌∙◌, inl, inr, ◌⊎◌, arith, true≢false}
-use Rattle.std.proofs.Math.Bool.{not}
-use Rattle.std.proofs.lemmas.Bool.{and_parts, cases_eq, false≢true, false_from_ne_true}
-use Rattle.std.proofs.lemmas.Bool.Decides.{nat_tests}
-use Rattle.rx_lists.specs.Rings.{Places, is_among, AreDifferent, without}
+use Rattle.rx_lists.proofs.Common.{◌≡◌, ◌≢◌, ℕ, zero, suc, ◌<◌, ◌≤◌, ◌==◌, ◌&&◌, ◌||◌, cond, Bool, true, false, List, [], ◌∷◌, ◌++◌, length, refl, sym, ap}
+use Rattle.rx_lists.proofs.Common.{subst, ◌∙◌, inl, inr, ◌⊎◌, arith, true≢false, not, and_parts, cases_eq, false≢true, false_from_ne_true, nat_tests, Places}
+use Rattle.rx_lists.proofs.Common.{is_among, AreDifferent, without}
 
 -- the test of places tells them apart
 pub record Tells {Place : Type 0} (places : Places Place) : Type 0 where

@@ -1,12 +1,11 @@
 -- What rings go over, once a place joined one, left it, or one was put at the end of another.
-use Rattle.std.proofs.Common.{◌≡◌, ◌≢◌, cond, Bool, true, false, List, [], ◌∷◌, ◌++◌, Option, Some, None, is_some}
-use Rattle.std.proofs.Common.{refl, sym, ap, subst, ◌∙◌, inl, inr, true≢false}
-use Rattle.std.proofs.lemmas.Bool.{false≢true, false_from_ne_true}
-use Rattle.rx_lists.specs.Rings.{Places, Steps, IsLink, Leads, is_among, AreDifferent, without, set_step, AreRings, Joins, Leaves, Merges}
+use Rattle.rx_lists.proofs.Common.{◌≡◌, ◌≢◌, cond, Bool, true, false, List, [], ◌∷◌, ◌++◌, Option, Some, None, is_some, refl, sym, ap, subst, ◌∙◌, inl, inr}
+use Rattle.rx_lists.proofs.Common.{true≢false, false≢true, false_from_ne_true, Places, Steps, IsLink, Leads, is_among, AreDifferent, without, set_step, Joins}
+use Rattle.rx_lists.proofs.Common.{AreRings, Leaves, Merges}
 use Rattle.rx_lists.proofs.Laws.Places.{Tells, place_apart, cases_place, among_here, among_cons, among_append, among_left, among_right, among_without}
 use Rattle.rx_lists.proofs.Laws.Places.{without_keeps, different_without, different_append}
-use Rattle.rx_lists.proofs.Laws.Links.{IsRound, LeadsOver, set_same, set_other, round, frame, splice, move_ring, cut_out}
-use Rattle.rx_lists.proofs.Laws.Links.{first_back, first_among, last_among, last_link}
+use Rattle.rx_lists.proofs.Laws.Links.{IsRound, LeadsOver, set_same, set_other, round, frame, splice, move_ring, cut_out, first_back, first_among, last_among}
+use Rattle.rx_lists.proofs.Laws.Links.{last_link}
 
 pub some_same : {A : Type 0} (a b : A) → Some a ≡ Some b → a ≡ b
 some_same {A = A} a b e = ap (λ o. of o a) e where

@@ -1,17 +1,7 @@
 -- Which names are held, along acts and from session to session.
-use Rattle.std.proofs.Common.{◌≡◌, ℕ, Bool, false, List, Option, ◌++◌, refl, ap, ◌∙◌, subst}
-use Rattle.std.specs.Prelude.{is_some}
-use Rattle.std.proofs.Math.Bool.{◌||◌}
-use Rattle.std.specs.Str.{bytes_eq}
-use Rattle.std.specs.Option.{option_map_or}
-use Rattle.rx_scenario.specs.Scenario.{Name}
-use Rattle.rx_line.specs.Names.{spot_of}
-use Rattle.rx_line.specs.Orders.{Order}
-use Rattle.rx_live.specs.Session.{Session, has_resource}
-use Rattle.rx_live.specs.Given.{IsAlike}
-use Rattle.rx_live.specs.Renewals.{Renews}
-use Rattle.rx_live.specs.Promise.{Act, Leads, no_act, hands_in, releases}
-use Rattle.rx_live.specs.Lines.{IsFresh, IsAged, as_it_was, renewed, WaitsFor, IsPutOff}
+use Rattle.rx_live.proofs.Common.{◌≡◌, ℕ, Bool, false, List, Option, ◌++◌, refl, ap, ◌∙◌, subst, is_some, ◌||◌, bytes_eq, option_map_or, Name, spot_of, Order}
+use Rattle.rx_live.proofs.Common.{Session, has_resource, IsAlike, Renews, Act, Leads, no_act, hands_in, releases, IsFresh, IsAged, as_it_was, renewed}
+use Rattle.rx_live.proofs.Common.{WaitsFor, IsPutOff}
 
 -- acts ------------------------------------------------------------------------------------------------
 

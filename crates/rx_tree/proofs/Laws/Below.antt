@@ -1,21 +1,11 @@
 -- Who stands below whom in a sound tree.
-use Rattle.std.proofs.Common.{◌≡◌, ◌≢◌, ℕ, zero, suc, ◌<◌, ◌≤◌, nat_lt, ◌==◌, ◌||◌, Bool, true, false, List, [], ◌∷◌, get_or, Option, Some, None, is_some}
-use Rattle.std.proofs.Common.{option_map, refl, sym, ap, ◌∙◌, inl, inr, arith, true≢false}
-use Rattle.std.specs.List.{list_any}
-use Rattle.std.specs.Option.{option_and_then, option_map_or, option_or}
-use Rattle.std.proofs.lemmas.Bool.{cases_eq, ltb-true}
-use Rattle.std.proofs.lemmas.Bool.Decides.{nat_tests}
-use Rattle.std.proofs.lemmas.Option.{cond_some, option_and_then_some}
-use Rattle.rx_event.specs.Events.{parent_named}
-use Rattle.rx_event.specs.Tree.{if_less}
-use Rattle.rx_slots.specs.declared.Entry.{Entry}
-use Rattle.rx_slots.specs.declared.Key.{Key}
-use Rattle.rx_slots.specs.Slots.{Slots, entry_of, entry_at, with_number, find}
-use Rattle.rx_tree.specs.declared.node.Node.{Node}
-use Rattle.rx_tree.specs.Tree.{IsSound, named_above}
-use Rattle.rx_tree.specs.Below.{ancestors_within, record_in, record_of, up, ancestors, is_below}
+use Rattle.rx_tree.proofs.Common.{◌≡◌, ◌≢◌, ℕ, zero, suc, ◌<◌, ◌≤◌, nat_lt, ◌==◌, ◌||◌, Bool, true, false, List, [], ◌∷◌, get_or, Option, Some, None, is_some}
+use Rattle.rx_tree.proofs.Common.{option_map, refl, sym, ap, ◌∙◌, inl, inr, arith, true≢false, list_any, option_and_then, option_map_or, option_or, cases_eq}
+use Rattle.rx_tree.proofs.Common.{ltb-true, nat_tests, cond_some, option_and_then_some, parent_named, if_less, Entry, Key, Slots, entry_of, entry_at, find}
+use Rattle.rx_tree.proofs.Common.{with_number, Node, IsSound, named_above, is_below, entry_found, with_number-same}
+use Rattle.rx_tree.specs.Below.{ancestors_within, record_in, record_of, up, ancestors}
 use Rattle.rx_tree.proofs.Laws.Parents.{named_parent}
-use Rattle.rx_tree.proofs.Laws.FoundAfterWrite.{entry_found, with_number-same, with_number-other}
+use Rattle.rx_tree.proofs.Laws.FoundAfterWrite.{with_number-other}
 
 -- one test for both
 option_map_or-same : {X Y : Type 0} (f g : X → Y) (o : Option X) (d : Y) → ((x : X) → o ≡ Some x → f x ≡ g x) → option_map_or f o d ≡ option_map_or g o d

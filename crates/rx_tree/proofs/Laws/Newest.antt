@@ -1,9 +1,5 @@
 -- How a number stays the newest, and the next one becomes it.
-use Rattle.std.proofs.Common.{◌≡◌, ℕ, ◌<◌, Some, IsSome, sym, subst}
-use Rattle.rx_slots.specs.declared.Key.{Key}
-use Rattle.rx_slots.specs.Slots.{Slots, find}
-use Rattle.rx_tree.specs.declared.node.Stowed.{Stowed}
-use Rattle.rx_tree.specs.Tree.{Tree, IsNewest, IsPast}
+use Rattle.rx_tree.proofs.Common.{◌≡◌, ℕ, ◌<◌, Some, IsSome, sym, subst, Key, Slots, find, Stowed, Tree, IsNewest, IsPast}
 
 module _ {X : Type 0} (old new : Slots X) where
   -- no number comes that was not there

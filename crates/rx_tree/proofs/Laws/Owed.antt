@@ -1,21 +1,10 @@
 -- What the nodes of a tree owe together, as they come, change and go.
-use Rattle.std.proofs.Common.{◌≡◌, ◌≢◌, ℕ, zero, suc, ◌+◌, ◌<◌, ◌≤◌, ◌==◌, ◌||◌, cond, Bool, true, false, List, [], ◌∷◌, length, get_or, Option, Some, None}
-use Rattle.std.proofs.Common.{is_some, IsSome, option_map, add-zero, refl, sym, ap, ◌∙◌, inl, inr, ◌⊎◌, arith, true≢false}
-use Rattle.std.specs.List.{sum_by, range_with_len}
-use Rattle.std.specs.Option.{option_map_or}
-use Rattle.std.proofs.lemmas.Bool.{cases_eq, cases_lt, false≢true}
-use Rattle.std.proofs.lemmas.Bool.Decides.{nat_tests}
-use Rattle.std.proofs.lemmas.List.Sums.{sum_by-cons}
+use Rattle.rx_tree.proofs.Common.{◌≡◌, ◌≢◌, ℕ, zero, suc, ◌+◌, ◌<◌, ◌≤◌, ◌==◌, ◌||◌, cond, Bool, true, false, List, [], ◌∷◌, length, get_or, Option, Some, ap}
+use Rattle.rx_tree.proofs.Common.{None, is_some, IsSome, option_map, add-zero, refl, sym, ◌∙◌, inl, inr, ◌⊎◌, arith, true≢false, sum_by, range_with_len, Key}
+use Rattle.rx_tree.proofs.Common.{option_map_or, cases_eq, cases_lt, false≢true, nat_tests, sum_by-cons, Entry, Slots, entry_of, entry_at, find, Changes}
+use Rattle.rx_tree.proofs.Common.{Node, owed_by, owed_in, AreApart, Rewrites, some_of, entry_found, found_entry, slot_within}
 use Rattle.rx_event.proofs.Laws.Sums.{sum_by-same, sum_by-plus, sum_by_one, sum_by_none}
-use Rattle.rx_slots.specs.declared.Entry.{Entry}
-use Rattle.rx_slots.specs.declared.Key.{Key}
-use Rattle.rx_slots.specs.Slots.{Slots, entry_of, entry_at, find, Changes}
-use Rattle.rx_tree.specs.declared.node.Node.{Node}
-use Rattle.rx_tree.specs.Owed.{owed_by, owed_in}
-use Rattle.rx_tree.specs.Tree.{AreApart, Rewrites}
 use Rattle.rx_tree.proofs.CountLemmas.{sum_none, sum_changed}
-use Rattle.rx_tree.proofs.Laws.Keys.{some_of}
-use Rattle.rx_tree.proofs.Laws.FoundAfterWrite.{entry_found, found_entry, slot_within}
 
 -- sums over slots ---------------------------------------------------------------------------------
 

@@ -1,12 +1,6 @@
 -- What the keys of a sound tree say of parents and children.
-use Rattle.std.proofs.Common.{◌≡◌, ℕ, ◌<◌, Option, Some, None, is_some, IsSome, IfSome, option_map, refl, sym, ap, ◌∙◌, arith, true≢false}
-use Rattle.std.specs.Option.{option_and_then}
-use Rattle.std.proofs.lemmas.Bool.Decides.{nat_tests}
-use Rattle.rx_event.specs.Tree.{if_less}
-use Rattle.rx_slots.specs.declared.Key.{Key}
-use Rattle.rx_slots.specs.Slots.{Slots, find}
-use Rattle.rx_tree.specs.declared.node.Node.{Node}
-use Rattle.rx_tree.specs.Tree.{IsSound, IsChild, named_above, parent_number}
+use Rattle.rx_tree.proofs.Common.{◌≡◌, ℕ, ◌<◌, Option, Some, None, is_some, IsSome, IfSome, option_map, refl, sym, ap, ◌∙◌, arith, true≢false, nat_tests, Key}
+use Rattle.rx_tree.proofs.Common.{option_and_then, if_less, Slots, find, Node, IsSound, IsChild, named_above, parent_number}
 
 -- the number of the parent's key is that which the place names
 pub named_parent : (s : Slots Node) (key : Key) (node : Node) → find s key ≡ Some node → IsSound s → option_map (λ p. p.number) node.above ≡ parent_number s key

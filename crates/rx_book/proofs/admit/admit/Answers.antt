@@ -1,5 +1,4 @@
-use Rattle.std.proofs.Common.{is_some, sym, subst, inr, ◌∙◌}
-use Rattle.rx_ground.specs.Ties.{IsStanding}
+use Rattle.rx_book.proofs.Common.{is_some, sym, subst, inr, ◌∙◌, IsStanding}
 use Rattle.rx_book.proofs.Admitted.{refused_for, admits}
 use Rattle.rx_book.proofs.AnswersOkOrErr.{refused_with, on_refusal}
 use Rattle.rx_book.proofs.CallWithoutCause.{state_roomier}

@@ -1,6 +1,4 @@
-use Rattle.std.proofs.Common.{true, sym}
-use Rattle.rx_event.specs.Calls.{Ending, Aborting, Declining, Failing, Disposing, Applying, Removing, Leasing, GivingBack}
-use Rattle.rx_event.specs.Causes.{causes}
+use Rattle.rx_book.proofs.Common.{true, sym, Ending, Aborting, Declining, Failing, Disposing, Applying, Removing, Leasing, GivingBack, causes}
 use Rattle.rx_book.proofs.CausesByKey.{first_of_node, first_of_res, first_by_lease_key}
 use Rattle.rx_book.proofs.call.cause.Goals as goal
 

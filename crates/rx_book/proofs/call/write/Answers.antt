@@ -1,13 +1,6 @@
-use Rattle.std.proofs.Common.{true, refl, ◌∙◌}
-use Rattle.std.proofs.lemmas.Bool.{not-false}
-use Rattle.rx_event.specs.declared.event.Event.TheVariants.{Use, Lease, Hub as Publish, Connect}
-use Rattle.rx_event.specs.declared.refusal.Refusal.TheVariants.{Leased}
-use Rattle.rx_event.specs.Calls.{Leasing}
-use Rattle.rx_event.specs.Causes.{causes}
-use Rattle.rx_register.proofs.Laws.NoCause.{no_cause}
-use Rattle.rx_ground.proofs.Laws.GoneStaysGone.{gathers_quiet}
-use Rattle.rx_ground.proofs.Laws.KeysKept.{leases_stay, keeps_same, keeps_opened}
-use Rattle.rx_book.specs.Shown.{key_shown, lease_key_shown}
+use Rattle.rx_book.proofs.Common.{true, refl, ◌∙◌, not-false, Lease, Connect, Leased, Leasing, causes, no_cause, gathers_quiet, leases_stay, keeps_same}
+use Rattle.rx_book.proofs.Common.{keeps_opened, key_shown, lease_key_shown}
+use Rattle.rx_event.specs.declared.event.Event.TheVariants.{Use, Hub as Publish}
 use Rattle.rx_book.proofs.CallWithoutCause.{one_ready, held_asked, owned_asked, written_held, written_keeping}
 use Rattle.rx_book.proofs.Openings.{node_space}
 use Rattle.rx_book.proofs.ShownKeys.{has_key_is, has_lease_key_is}

@@ -1,14 +1,6 @@
-use Rattle.std.proofs.Common.{◌≡◌, true, List, [], ◌∷◌, map, refl, sym, ap, subst}
-use Rattle.std.proofs.lemmas.Bool.{not-false}
-use Rattle.rx_event.specs.declared.event.Event.{Event}
-use Rattle.rx_event.specs.declared.event.Event.TheVariants.{Close, Decline as Declined, Remove as Removed, Return as Returned}
-use Rattle.rx_event.specs.declared.refusal.Refusal.TheVariants.{Leased}
-use Rattle.rx_event.specs.Calls.{Removing, Disconnecting, outside_of}
-use Rattle.rx_event.specs.Causes.{causes}
-use Rattle.rx_register.specs.State.{Writes}
-use Rattle.rx_register.proofs.Laws.NoCause.{no_cause}
-use Rattle.rx_ground.proofs.Laws.GoneStaysGone.{gathers_quiet}
-use Rattle.rx_ground.proofs.Laws.KeysKept.{leases_stay}
+use Rattle.rx_book.proofs.Common.{◌≡◌, true, List, [], ◌∷◌, map, refl, sym, ap, subst, not-false, Event, Close, Leased, Removing, Disconnecting, outside_of}
+use Rattle.rx_book.proofs.Common.{causes, Writes, no_cause, gathers_quiet, leases_stay}
+use Rattle.rx_event.specs.declared.event.Event.TheVariants.{Decline as Declined, Remove as Removed, Return as Returned}
 use Rattle.rx_book.proofs.CallWithoutCause.{one_ready, open_asked, owned_asked, out_asked, written_closed, written_held}
 use Rattle.rx_book.proofs.call.write_free.Goals as goal
 

@@ -1,5 +1,4 @@
-use Rattle.std.proofs.Common.{◌∙◌}
-use Rattle.rx_book.specs.Shown.{key_shown}
+use Rattle.rx_book.proofs.Common.{◌∙◌, key_shown}
 use Rattle.rx_book.proofs.ShownKeys.{has_key_is}
 use Rattle.rx_book.proofs.opening.connection_of.Goals as goal
 

@@ -1,5 +1,4 @@
-use Rattle.std.proofs.Common.{Err}
-use Rattle.rx_device.specs.declared.fault.ScriptError.TheVariants.{Memory}
+use Rattle.rx_cli.proofs.Common.{Err, Memory}
 use Rattle.rx_storm.specs.declared.StormFault.TheVariants.{Memory as NoMemory}
 use Rattle.rx_cli.proofs.NotBegunWithoutMemory.{ran_without_memory, audited_without_memory, stormed_without_memory}
 use Rattle.rx_cli.proofs.program.serve.Goals as goal

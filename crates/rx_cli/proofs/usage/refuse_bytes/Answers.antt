@@ -1,5 +1,4 @@
-use Rattle.std.proofs.Common.{subst}
-use Rattle.rx_cli.specs.Told.{IsTold}
+use Rattle.rx_cli.proofs.Common.{subst, IsTold}
 use Rattle.rx_cli.proofs.usage.refuse_bytes.Goals as goal
 
 pub returns-clause-line : goal.returns-clause-line

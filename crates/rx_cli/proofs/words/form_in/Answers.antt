@@ -1,7 +1,4 @@
-use Rattle.std.proofs.Common.{◌∙◌, ap₂, codes}
-use Rattle.clap.specs.Words.{found_of}
-use Rattle.clap.proofs.WalkLemmas.{first_value-rows}
-use Rattle.rx_cli.specs.Words.{form_by}
+use Rattle.rx_cli.proofs.Common.{◌∙◌, ap₂, codes, found_of, first_value-rows, form_by}
 use Rattle.rx_cli.proofs.words.form_in.Goals as goal
 
 pub returns : goal.returns

@@ -1,6 +1,4 @@
-use Rattle.std.proofs.Common.{◌∙◌, ◌≤◌, ap, sym, subst}
-use Rattle.std.specs.Prelude.{option_map}
-use Rattle.rx_cli.specs.Words.{number_by}
+use Rattle.rx_cli.proofs.Common.{◌∙◌, ◌≤◌, ap, sym, subst, option_map, number_by}
 use Rattle.rx_cli.proofs.Numbers.{number_read}
 use Rattle.rx_cli.proofs.words.number_by.Goals as goal
 

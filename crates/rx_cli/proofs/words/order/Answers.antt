@@ -1,8 +1,5 @@
-use Rattle.std.proofs.Common.{◌≡◌, ◌∙◌, ap, sym, refl, true, map, List}
-use Rattle.clap.specs.Words.{App, Text, is_simple, app_of, subcommand_of, fault_of}
-use Rattle.clap.specs.Words.{is_simple_and_free}
-use Rattle.clap.proofs.OnLiterals.{clap_on_literals}
-use Rattle.rx_cli.specs.Words.{rxbook, order_of}
+use Rattle.rx_cli.proofs.Common.{◌≡◌, ◌∙◌, ap, sym, refl, true, map, List, App, Text, is_simple, app_of, subcommand_of, fault_of, is_simple_and_free, rxbook}
+use Rattle.rx_cli.proofs.Common.{clap_on_literals, order_of}
 use Rattle.rx_cli.proofs.words.order.Goals as goal
 
 is_ready : is_simple rxbook ≡ true

@@ -1,6 +1,4 @@
-use Rattle.std.proofs.Common.{◌≡◌, ◌∙◌, ◌&&◌, not, Bool, true, false, ap, ap₂, refl, true≢false, sym}
-use Rattle.std.proofs.lemmas.Result.{IfOk-weaker}
-use Rattle.clap.specs.Words.{App, with_subcommand}
+use Rattle.rx_cli.proofs.Common.{◌≡◌, ◌∙◌, ◌&&◌, not, Bool, true, false, ap, ap₂, refl, true≢false, sym, IfOk-weaker, App, with_subcommand}
 use Rattle.rx_cli.proofs.words.program.Goals as goal
 
 top_is : {a b : App} → a ≡ b → a.top ≡ b.top

@@ -1,6 +1,4 @@
-use Rattle.std.proofs.Common.{◌≡◌, ◌∙◌, ap₂, codes, rules}
-use Rattle.std.proofs.lemmas.Result.{IfOk-weaker}
-use Rattle.clap.specs.Words.{app_of, new_app, with_rule}
+use Rattle.rx_cli.proofs.Common.{◌≡◌, ◌∙◌, ap₂, codes, rules, IfOk-weaker, app_of, new_app, with_rule}
 use Rattle.rx_cli.proofs.words.storm_command.Goals as goal
 
 pub returns : goal.returns

@@ -1,7 +1,4 @@
-use Rattle.std.proofs.Common.{◌∙◌, ap, codes, refl}
-use Rattle.clap.specs.Words.{found_of}
-use Rattle.clap.proofs.WalkLemmas.{first_value-rows}
-use Rattle.rx_cli.specs.Words.{number_by}
+use Rattle.rx_cli.proofs.Common.{◌∙◌, ap, codes, refl, found_of, first_value-rows, number_by}
 use Rattle.rx_cli.proofs.words.storm_in.Goals as goal
 
 pub returns-clause-is : goal.returns-clause-is

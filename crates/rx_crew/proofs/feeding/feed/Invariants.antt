@@ -1,5 +1,4 @@
-use Rattle.std.specs.Prelude.{◌≡◌, IsTrue, length}
-use Rattle.rx_crew.specs.Feeds.{ends_once}
+use Rattle.rx_crew.proofs.Common.{◌≡◌, IsTrue, length, ends_once}
 use Rattle.rx_crew.proofs.Pulls.{SoFar}
 use Rattle.rx_crew.proofs.feeding.feed.Given as goal
 

@@ -1,7 +1,4 @@
-use Rattle.std.proofs.Common.{subst}
-use Rattle.std.specs.Prelude.{IfOk}
-use Rattle.rx_ledger.specs.declared.ledgers.Sums.{Sums}
-use Rattle.rx_crew.specs.Verdicts.{AllTaken, IsVerdict}
+use Rattle.rx_crew.proofs.Common.{subst, IfOk, Sums, AllTaken, IsVerdict}
 use Rattle.rx_crew.proofs.finishing.finish.Goals as goal
 
 pub returns-clause-verdict : goal.returns-clause-verdict

@@ -1,6 +1,4 @@
-use Rattle.std.specs.Prelude.{◌≡◌, ℕ, ◌<◌, slice_get, Some}
-use Rattle.rx_ledger.specs.declared.receipt.Receipt.{Receipt}
-use Rattle.rx_crew.specs.Verdicts.{Stands}
+use Rattle.rx_crew.proofs.Common.{◌≡◌, ℕ, ◌<◌, slice_get, Some, Receipt, Stands}
 use Rattle.rx_crew.proofs.finishing.first_wrong.Given as goal
 
 -- the receipts so far stand

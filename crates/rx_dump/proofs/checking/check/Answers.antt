@@ -1,8 +1,4 @@
-use Rattle.std.proofs.Common.{rules, inr, arith}
-use Rattle.std.specs.Prelude.{IsErrOf}
-use Rattle.rx_device.specs.declared.fault.ScriptError.TheVariants.{Syntax}
-use Rattle.rx_device.specs.Device.{device_of}
-use Rattle.rx_device.specs.Input.{GivesJson}
+use Rattle.rx_dump.proofs.Common.{rules, inr, arith, IsErrOf, Syntax, device_of, GivesJson}
 use Rattle.rx_dump.proofs.checking.check.Goals as goal
 
 pub returns-in_err-verdict-clause-syntax : goal.returns-in_err-verdict-clause-syntax

@@ -1,7 +1,5 @@
 -- The events so far, each after a comma.
-use Rattle.std.proofs.Common.{◌≡◌, ◌++◌, take, string_bytes}
-use Rattle.std.specs.Prelude.{flat_map}
-use Rattle.rx_dump.specs.Dump.{next_text}
+use Rattle.rx_dump.proofs.Common.{◌≡◌, ◌++◌, take, string_bytes, flat_map, next_text}
 use Rattle.rx_dump.proofs.dump.push_rest.Given as goal
 
 abbrev pub invariant-loop-event : goal.invariant-loop-event

@@ -1,7 +1,5 @@
 -- The events that were read, before those that are left.
-use Rattle.std.proofs.Common.{◌≡◌, drop}
-use Rattle.serde_json.specs.View.{items_view}
-use Rattle.rx_dump.specs.History.{each_event}
+use Rattle.rx_dump.proofs.Common.{◌≡◌, drop, items_view, each_event}
 use Rattle.rx_dump.proofs.Histories.{with_past}
 use Rattle.rx_dump.proofs.history.each_event.Given as goal
 

@@ -1,8 +1,4 @@
-use Rattle.std.proofs.Common.{◌≡◌, List, Some, None, subst, sym, arith}
-use Rattle.json.specs.Token.{Token}
-use Rattle.json.specs.Json.{after_end_array}
-use Rattle.rx_event.specs.declared.event.Event.{Event}
-use Rattle.rx_dump.specs.Tokens.{in_dump, IsEvent}
+use Rattle.rx_dump.proofs.Common.{◌≡◌, List, Some, None, subst, sym, arith, Token, after_end_array, Event, in_dump, IsEvent}
 use Rattle.rx_dump.proofs.Arrays.{value_takes}
 use Rattle.rx_dump.proofs.EventsRead.{AreEventsBefore, no_events_yet, one_more_event, all_events_read}
 use Rattle.rx_dump.proofs.reading.events_of.Goals as goal

@@ -1,7 +1,4 @@
-use Rattle.std.proofs.Common.{◌≡◌, [], ◌∷◌, subst, sym, ◌∙◌, arith, rules}
-use Rattle.json.specs.Token.{Token, begin_array}
-use Rattle.std.proofs.Common.{List}
-use Rattle.rx_dump.specs.Tokens.{AreEvents}
+use Rattle.rx_dump.proofs.Common.{◌≡◌, [], ◌∷◌, subst, sym, ◌∙◌, arith, rules, Token, begin_array, List, AreEvents}
 use Rattle.rx_dump.proofs.Openings.{text_opened}
 use Rattle.rx_dump.proofs.reading.history_of_text.Goals as goal
 

@@ -1,8 +1,4 @@
-use Rattle.std.proofs.Common.{◌≡◌, ◌∷◌, Some, arith}
-use Rattle.json.specs.Token.{begin_array}
-use Rattle.serde_json.specs.Data.{array}
-use Rattle.serde_json.specs.View.{items_view}
-use Rattle.rx_dump.specs.History.{event_of}
+use Rattle.rx_dump.proofs.Common.{◌≡◌, ◌∷◌, Some, arith, begin_array, array, items_view, event_of}
 use Rattle.rx_dump.proofs.Openings.{event_opened}
 use Rattle.rx_dump.proofs.reading.next_event.Goals as goal
 

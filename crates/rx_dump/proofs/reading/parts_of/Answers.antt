@@ -1,10 +1,5 @@
-use Rattle.std.proofs.Common.{◌≡◌, ◌∷◌, List, Some, None, subst, sym, ◌∙◌, arith}
-use Rattle.json.specs.Token.{Token}
-use Rattle.json.specs.Json.{after_end_array}
-use Rattle.json.specs.Reads.{token_of}
-use Rattle.serde_json.specs.View.{view, items_view}
-use Rattle.serde_json.specs.declared.value.Value.{Value}
-use Rattle.rx_dump.specs.Tokens.{in_event, IsValue}
+use Rattle.rx_dump.proofs.Common.{◌≡◌, ◌∷◌, List, Some, None, subst, sym, ◌∙◌, arith, Token, after_end_array, token_of, view, items_view, Value, in_event}
+use Rattle.rx_dump.proofs.Common.{IsValue}
 use Rattle.rx_dump.proofs.Arrays.{AreBefore, none_yet, one_more, all_read, joined-view}
 use Rattle.rx_dump.proofs.reading.parts_of.Goals as goal
 

@@ -1,7 +1,5 @@
 -- The parts that were read, before those that are left.
-use Rattle.std.proofs.Common.{length}
-use Rattle.serde_json.specs.View.{items_view}
-use Rattle.rx_dump.specs.Tokens.{in_event}
+use Rattle.rx_dump.proofs.Common.{length, items_view, in_event}
 use Rattle.rx_dump.proofs.Arrays.{AreBefore}
 use Rattle.rx_dump.proofs.reading.parts_of.Given as goal
 

@@ -1,7 +1,5 @@
 -- The numbers so far.
-use Rattle.std.proofs.Common.{◌≡◌, ◌++◌, take, string_bytes}
-use Rattle.std.specs.Prelude.{flat_map}
-use Rattle.rx_dump.specs.Verdict.{number_text}
+use Rattle.rx_dump.proofs.Common.{◌≡◌, ◌++◌, take, string_bytes, flat_map, number_text}
 use Rattle.rx_dump.proofs.verdict.push_each.Given as goal
 
 abbrev pub invariant-loop-number : goal.invariant-loop-number

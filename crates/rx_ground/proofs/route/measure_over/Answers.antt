@@ -1,5 +1,4 @@
-use Rattle.std.proofs.Common.{ap, ◌∙◌}
-use Rattle.rx_hub.specs.Route.{Route}
+use Rattle.rx_ground.proofs.Common.{ap, ◌∙◌, Route}
 use Rattle.rx_ground.proofs.CountsOnTheWay.{measuring_starts, measuring_on, measuring_ends, measuring_only, visits_past, visits_within}
 use Rattle.rx_ground.proofs.route.measure_over.Goals as goal
 

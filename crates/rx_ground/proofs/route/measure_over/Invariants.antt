@@ -1,5 +1,4 @@
-use Rattle.std.proofs.Common.{length}
-use Rattle.rx_hub.specs.Route.{stops_left}
+use Rattle.rx_ground.proofs.Common.{length, stops_left}
 use Rattle.rx_ground.proofs.CountsOnTheWay.{IsMeasuring}
 use Rattle.rx_ground.proofs.route.measure_over.Given as goal
 

@@ -1,5 +1,4 @@
-use Rattle.std.proofs.Common.{w64}
-use Rattle.std.proofs.lemmas.Int.{to_z-of_z}
+use Rattle.rx_ground.proofs.Common.{w64, to_z-of_z}
 use Rattle.rx_ground.proofs.route.pass.Goals as goal
 
 pub returns-in-Some-clause-passed : goal.returns-in-Some-clause-passed

@@ -1,6 +1,4 @@
-use Rattle.std.proofs.Common.{ap, w64}
-use Rattle.std.proofs.lemmas.Int.{to_z-of_z}
-use Rattle.rx_hub.specs.Route.{Route}
+use Rattle.rx_ground.proofs.Common.{ap, w64, to_z-of_z, Route}
 use Rattle.rx_ground.proofs.Passage.{going_starts, going_on, going_fewer, stop_room}
 use Rattle.rx_ground.proofs.MarksMakeNothingDue.{off_undue}
 use Rattle.rx_ground.proofs.route.pass_on.Goals as goal

@@ -1,5 +1,4 @@
-use Rattle.std.proofs.Common.{w64}
-use Rattle.std.proofs.lemmas.Int.{to_z-of_z}
+use Rattle.rx_ground.proofs.Common.{w64, to_z-of_z}
 use Rattle.rx_ground.proofs.Passage.{one_there, one_room, one_passed}
 use Rattle.rx_ground.proofs.MarksMakeNothingDue.{off_undue}
 use Rattle.rx_ground.proofs.route.pass_one.Goals as goal

@@ -1,6 +1,4 @@
-use Rattle.std.proofs.Common.{◌≡◌, ◌≤◌, Some, IfSome, IsSome, sym, ◌∙◌, arith, rules, length}
-use Rattle.rx_slots.specs.Slots.{find}
-use Rattle.rx_hub.specs.Way.{way, end_of}
+use Rattle.rx_hub.proofs.Common.{◌≡◌, ◌≤◌, Some, IfSome, IsSome, sym, ◌∙◌, arith, rules, length, find, way, end_of}
 use Rattle.rx_hub.proofs.WayWalkedSoFar.{climbing_starts, climbing_on, climbing_top, climbing_stop, climbing_limit, limit_is, free_of, stop_there}
 use Rattle.rx_hub.proofs.climbing.climb.Given as given
 use Rattle.rx_hub.proofs.climbing.climb.Goals as goal

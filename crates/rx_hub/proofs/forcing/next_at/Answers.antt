@@ -1,6 +1,4 @@
-use Rattle.std.proofs.Common.{List, ℕ, ◌<◌, length, sym, subst, ◌∙◌}
-use Rattle.rx_lists.specs.Lists.{list_at}
-use Rattle.rx_hub.specs.Rules.{given_by}
+use Rattle.rx_hub.proofs.Common.{List, ℕ, ◌<◌, length, sym, subst, ◌∙◌, list_at, given_by}
 use Rattle.rx_hub.proofs.DueBySubscribers.{one_fewer, none_of, calm_dropped, chain_left}
 use Rattle.rx_hub.proofs.forcing.next_at.Goals as goal
 

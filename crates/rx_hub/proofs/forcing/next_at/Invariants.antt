@@ -1,7 +1,4 @@
-use Rattle.std.proofs.Common.{◌≡◌, length}
-use Rattle.rx_hub.specs.Chains.{IsCalm, IsChain}
-use Rattle.rx_lists.specs.Lists.{list_at}
-use Rattle.rx_hub.specs.Rules.{given_by}
+use Rattle.rx_hub.proofs.Common.{◌≡◌, length, IsCalm, IsChain, list_at, given_by}
 use Rattle.rx_hub.proofs.forcing.next_at.Given as goal
 
 abbrev pub invariant-loop-index : goal.invariant-loop-index

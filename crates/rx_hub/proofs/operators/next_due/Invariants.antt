@@ -1,5 +1,4 @@
-use Rattle.std.proofs.Common.{◌≡◌, length}
-use Rattle.rx_hub.specs.Operators.{IsChained, from_due}
+use Rattle.rx_hub.proofs.Common.{◌≡◌, length, IsChained, from_due}
 use Rattle.rx_hub.proofs.operators.next_due.Given as goal
 
 abbrev pub invariant-loop-node : goal.invariant-loop-node

@@ -1,8 +1,4 @@
-use Rattle.std.proofs.Common.{List, Option, Some, None, reverse, sym, ap, subst, ◌∙◌, arith}
-use Rattle.std.proofs.lemmas.List.{length-reverse, reverse-append}
-use Rattle.rx_slots.specs.declared.Key.{Key}
-use Rattle.rx_hub.specs.declared.route.Frame.{Frame}
-use Rattle.rx_hub.specs.Route.{GoesOn}
+use Rattle.rx_hub.proofs.Common.{List, Option, Some, None, reverse, sym, ap, subst, ◌∙◌, arith, length-reverse, reverse-append, Key, Frame, GoesOn}
 use Rattle.rx_hub.proofs.RouteFrames.{frame_fits, next_frame, turned}
 use Rattle.rx_hub.proofs.route.turn_to.Goals as goal
 use Rattle.rx_hub.proofs.route.turn_to.Goals.{in-Some, in_default}

@@ -1,6 +1,4 @@
-use Rattle.std.proofs.Common.{None, arith, rules}
-use Rattle.rx_event.specs.declared.event.Mode.TheVariants.{Auto}
-use Rattle.rx_hub.specs.Hubs.{ended_never}
+use Rattle.rx_hub.proofs.Common.{None, arith, rules, Auto, ended_never}
 use Rattle.rx_hub.proofs.HubsForgetEnds.{next_changed}
 use Rattle.rx_hub.proofs.store.forget_all.Goals as goal
 

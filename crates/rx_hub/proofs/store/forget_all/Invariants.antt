@@ -1,5 +1,4 @@
-use Rattle.std.proofs.Common.{◌≡◌, ◌++◌, map, take, drop}
-use Rattle.rx_hub.specs.Hubs.{ended_never}
+use Rattle.rx_hub.proofs.Common.{◌≡◌, ◌++◌, map, take, drop, ended_never}
 use Rattle.rx_hub.proofs.store.forget_all.Given as goal
 
 abbrev pub invariant-loop-hub : goal.invariant-loop-hub

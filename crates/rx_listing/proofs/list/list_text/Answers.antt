@@ -1,9 +1,6 @@
-use Rattle.std.proofs.Common.{◌++◌, ℕ, List, codes, length, ap, ◌∙◌}
+use Rattle.rx_listing.proofs.Common.{◌++◌, ℕ, List, codes, length, ap, ◌∙◌, counted_of, part_object, Part, Nodes, Resources, Leases, Hubs}
 use Rattle.rx_line.specs.Pieces.{ok_text}
-use Rattle.rx_listing.specs.Parts.{counted_of, part_object}
 use Rattle.rx_listing.specs.Whole.{part_text, whole_text}
-use Rattle.rx_listing.specs.declared.list.Part.{Part}
-use Rattle.rx_listing.specs.declared.list.Part.TheVariants.{Nodes, Resources, Leases, Hubs}
 use Rattle.rx_listing.proofs.list.list_text.Goals as goal
 
 pub returns : goal.returns

@@ -1,6 +1,4 @@
-use Rattle.std.proofs.Common.{◌≡◌, option_map, string_bytes, IfOk, subst, sym}
-use Rattle.rx_listing.specs.declared.list.Part.{Part}
-use Rattle.rx_listing.specs.Parts.{counted_of, part_object}
+use Rattle.rx_listing.proofs.Common.{◌≡◌, option_map, string_bytes, IfOk, subst, sym, Part, counted_of, part_object}
 use Rattle.rx_listing.proofs.list.object_at.Goals as goal
 
 pub returns-in-Resources : goal.returns-in-Resources

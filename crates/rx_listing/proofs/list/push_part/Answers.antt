@@ -1,7 +1,5 @@
-use Rattle.std.proofs.Common.{◌≡◌, ℕ, ◌++◌, ◌<◌, List, Option, Some, option_map, length, string_bytes, slice_index_or, sym, ap, ◌∙◌, is_some}
-use Rattle.rx_line.specs.Names.{name_of}
-use Rattle.rx_line.specs.Pieces.{joined}
-use Rattle.rx_listing.specs.Parts.{counted_of, is_nil, led_text, names_of, part_object}
+use Rattle.rx_listing.proofs.Common.{◌≡◌, ℕ, ◌++◌, ◌<◌, List, Option, Some, option_map, length, string_bytes, slice_index_or, sym, ap, ◌∙◌, is_some, name_of}
+use Rattle.rx_listing.proofs.Common.{joined, counted_of, is_nil, led_text, names_of, part_object}
 use Rattle.rx_listing.proofs.Objects.{object_same, object_nil, object_text, objects_all, no_object, placed_part}
 use Rattle.rx_listing.proofs.list.push_part.Goals.{in-Some+in_ok-push_object, in_default}
 use Rattle.rx_listing.proofs.list.push_part.Goals as goal

@@ -1,6 +1,4 @@
-use Rattle.std.proofs.Common.{◌≡◌, ◌++◌, take, filter_map, string_bytes}
-use Rattle.rx_line.specs.Pieces.{joined}
-use Rattle.rx_listing.specs.Parts.{counted_of, is_nil, part_object}
+use Rattle.rx_listing.proofs.Common.{◌≡◌, ◌++◌, take, filter_map, string_bytes, joined, counted_of, is_nil, part_object}
 use Rattle.rx_listing.proofs.list.push_part.Given as goal
 
 abbrev pub invariant-numbers : goal.invariant-numbers

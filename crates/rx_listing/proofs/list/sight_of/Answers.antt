@@ -1,5 +1,4 @@
-use Rattle.std.proofs.Common.{length}
-use Rattle.rx_listing.specs.Recalled.{connection_by}
+use Rattle.rx_listing.proofs.Common.{length, connection_by}
 use Rattle.rx_listing.proofs.Objects.{is_connected}
 use Rattle.rx_listing.proofs.list.sight_of.Goals as goal
 

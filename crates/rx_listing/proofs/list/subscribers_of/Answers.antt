@@ -1,8 +1,4 @@
-use Rattle.std.proofs.Common.{ap, ◌∙◌, count_by, length, is_some}
-use Rattle.std.specs.List.{range_with_len}
-use Rattle.std.proofs.lemmas.List.{take_all}
-use Rattle.rx_line.specs.Names.{name_of}
-use Rattle.rx_listing.specs.Whole.{subscribes}
+use Rattle.rx_listing.proofs.Common.{ap, ◌∙◌, count_by, length, is_some, range_with_len, take_all, name_of, subscribes}
 use Rattle.rx_listing.proofs.Objects.{count_named, no_subscriber}
 use Rattle.rx_listing.proofs.list.subscribers_of.Goals as goal
 

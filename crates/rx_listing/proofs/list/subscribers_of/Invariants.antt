@@ -1,7 +1,4 @@
-use Rattle.std.proofs.Common.{◌≡◌, ℕ, count_by, take, unwrap_or}
-use Rattle.std.specs.Bool.{nat_eq}
-use Rattle.std.specs.HashMap.{get}
-use Rattle.rx_listing.specs.Whole.{subscribes}
+use Rattle.rx_listing.proofs.Common.{◌≡◌, ℕ, count_by, take, unwrap_or, nat_eq, get, subscribes}
 use Rattle.rx_listing.proofs.list.subscribers_of.Given as goal
 
 abbrev pub invariant-numbers : goal.invariant-numbers

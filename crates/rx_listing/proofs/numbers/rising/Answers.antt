@@ -1,7 +1,5 @@
-use Rattle.std.proofs.Common.{ap, ◌∙◌, is_some}
-use Rattle.std.specs.Bool.{nat_eq}
+use Rattle.rx_listing.proofs.Common.{ap, ◌∙◌, is_some, nat_eq, name_of}
 use Rattle.std.proofs.lemmas.List.Filters.{dedup_is}
-use Rattle.rx_line.specs.Names.{name_of}
 use Rattle.rx_listing.proofs.Rises.{sorted_once}
 use Rattle.rx_listing.proofs.numbers.rising.Goals as goal
 

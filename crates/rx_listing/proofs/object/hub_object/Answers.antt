@@ -1,6 +1,5 @@
-use Rattle.std.proofs.Common.{◌≡◌, ◌++◌, List, ℕ, Some, codes, string_bytes, sym, ◌∙◌, append_assoc}
+use Rattle.rx_listing.proofs.Common.{◌≡◌, ◌++◌, List, ℕ, Some, codes, string_bytes, sym, ◌∙◌, append_assoc, front_text, member_of, mode_word, hub_text}
 use Rattle.std.specs.Fmt.{decimal}
-use Rattle.rx_listing.specs.Text.{front_text, member_of, mode_word, hub_text}
 use Rattle.rx_listing.proofs.object.hub_object.Goals as goal
 
 nested : (a b c d e f : List ℕ) → a ++ (b ++ (c ++ (d ++ (e ++ f)))) ≡ a ++ b ++ c ++ d ++ e ++ f

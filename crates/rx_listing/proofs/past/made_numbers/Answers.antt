@@ -1,7 +1,4 @@
-use Rattle.std.proofs.Common.{◌<◌, ap, ◌∙◌, is_some}
-use Rattle.std.specs.Bool.{nat_eq}
-use Rattle.std.specs.List.{list_any}
-use Rattle.rx_line.specs.Names.{name_of}
+use Rattle.rx_listing.proofs.Common.{◌<◌, ap, ◌∙◌, is_some, nat_eq, list_any, name_of}
 use Rattle.rx_listing.proofs.Keeping.{any_in_first, any_in_second, any_in_third}
 use Rattle.rx_listing.proofs.Knowing.{within_of}
 use Rattle.rx_listing.proofs.Rises.{listed}

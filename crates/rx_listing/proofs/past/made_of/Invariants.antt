@@ -1,8 +1,4 @@
-use Rattle.std.proofs.Common.{take}
-use Rattle.std.specs.Bool.{nat_eq}
-use Rattle.std.specs.HashMap.{get}
-use Rattle.rx_listing.specs.Parts.{IsKept}
-use Rattle.rx_listing.specs.Recalled.{made_by}
+use Rattle.rx_listing.proofs.Common.{take, nat_eq, get, IsKept, made_by}
 use Rattle.rx_listing.proofs.past.made_of.Given as goal
 
 abbrev pub invariant-numbers : goal.invariant-numbers

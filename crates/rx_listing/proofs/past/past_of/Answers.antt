@@ -1,9 +1,4 @@
-use Rattle.std.proofs.Common.{◌<◌, ℕ, Option, Some, ap, ◌∙◌, length, is_some, unwrap_or}
-use Rattle.std.specs.Bool.{nat_eq}
-use Rattle.std.specs.HashMap.{get}
-use Rattle.std.specs.List.{list_any}
-use Rattle.rx_line.specs.Names.{name_of}
-use Rattle.rx_listing.specs.Recalled.{made_by, holder_by}
+use Rattle.rx_listing.proofs.Common.{◌<◌, ℕ, Option, Some, ap, ◌∙◌, length, is_some, unwrap_or, nat_eq, get, list_any, name_of, made_by, holder_by}
 use Rattle.rx_listing.proofs.Knowing.{within_of}
 use Rattle.rx_listing.proofs.Recalling.{kept_at}
 use Rattle.rx_listing.proofs.Rises.{listed}

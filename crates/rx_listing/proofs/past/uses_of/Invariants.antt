@@ -1,7 +1,4 @@
-use Rattle.std.proofs.Common.{Some, take, unwrap_or}
-use Rattle.std.specs.Bool.{nat_eq}
-use Rattle.std.specs.HashMap.{get}
-use Rattle.rx_listing.specs.Parts.{IsKept}
+use Rattle.rx_listing.proofs.Common.{Some, take, unwrap_or, nat_eq, get, IsKept}
 use Rattle.rx_listing.proofs.past.uses_of.Given as goal
 
 abbrev pub invariant-numbers : goal.invariant-numbers

@@ -1,9 +1,4 @@
-use Rattle.std.proofs.Common.{◌≡◌, ◌<◌, length, Some, unwrap_or, sym, ap, ◌∙◌, arith}
-use Rattle.std.specs.Bool.{nat_eq}
-use Rattle.std.specs.HashMap.{get}
-use Rattle.rx_event.specs.Kept.{event_since}
-use Rattle.rx_listing.specs.declared.seen.Seen.{Seen}
-use Rattle.rx_listing.specs.Recalled.{connection_by, uses_by}
+use Rattle.rx_listing.proofs.Common.{◌≡◌, ◌<◌, length, Some, unwrap_or, sym, ap, ◌∙◌, arith, nat_eq, get, event_since, Seen, connection_by, uses_by}
 use Rattle.rx_listing.proofs.Recalling.{uses_start, uses_most, use_more, use_same, connection_start, connection_more, connection_same}
 use Rattle.rx_listing.proofs.seen.seen_of.Goals.{in-Some+in_ok-see, in_default}
 use Rattle.rx_listing.proofs.seen.seen_of.Goals as goal

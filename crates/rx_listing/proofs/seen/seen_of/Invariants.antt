@@ -1,7 +1,4 @@
-use Rattle.std.proofs.Common.{◌≡◌, ℕ, unwrap_or}
-use Rattle.std.specs.Bool.{nat_eq}
-use Rattle.std.specs.HashMap.{get}
-use Rattle.rx_listing.specs.Recalled.{connection_by, uses_by, IsCountable}
+use Rattle.rx_listing.proofs.Common.{◌≡◌, ℕ, unwrap_or, nat_eq, get, connection_by, uses_by, IsCountable}
 use Rattle.rx_listing.proofs.seen.seen_of.Given as goal
 
 abbrev pub invariant-places : goal.invariant-places

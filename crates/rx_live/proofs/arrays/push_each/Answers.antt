@@ -1,12 +1,6 @@
-use Rattle.std.proofs.Common.{◌≡◌, ℕ, ◌+◌, ◌<◌, ◌≤◌, List, ◌∷◌, drop, length, slice_index_or, subst, string_bytes, sym, ap, ◌∙◌, arith}
+use Rattle.rx_live.proofs.Common.{◌≡◌, ℕ, ◌+◌, ◌<◌, ◌≤◌, List, ◌∷◌, drop, length, slice_index_or, subst, string_bytes, sym, ap, ◌∙◌, arith, Data, Items, item}
+use Rattle.rx_live.proofs.Common.{no_items, Value, value_view, items_view, data_of, items_data, order_in, session_of, Writes, AnsweredOne}
 use Rattle.std.proofs.lemmas.List.{at_drop_more, at_drop_all}
-use Rattle.serde_json.specs.Data.{Data, Items, item, no_items}
-use Rattle.json.specs.declared.value.Value.{Value}
-use Rattle.json.specs.Value.{value_view, items_view}
-use Rattle.rx_device.specs.Part.{data_of, items_data}
-use Rattle.rx_line.specs.Orders.{order_in}
-use Rattle.rx_live.specs.Session.{session_of}
-use Rattle.rx_live.specs.Taken.{Writes, AnsweredOne}
 use Rattle.rx_live.proofs.AnswersOfArrays.{answering_begun, answering_on, answering_ended}
 use Rattle.rx_live.proofs.arrays.push_each.Goals as goal
 

@@ -1,9 +1,4 @@
-use Rattle.std.proofs.Common.{◌≡◌, ◌+◌, ◌*◌, drop, length, string_bytes}
-use Rattle.json.specs.Value.{items_view}
-use Rattle.rx_device.specs.Part.{items_data}
-use Rattle.rx_live.specs.Session.{session_of, IsSound}
-use Rattle.rx_live.specs.Taken.{AreAnswering}
-use Rattle.rx_live.specs.Room.{HasRoom}
+use Rattle.rx_live.proofs.Common.{◌≡◌, ◌+◌, ◌*◌, drop, length, string_bytes, items_view, items_data, session_of, IsSound, AreAnswering, HasRoom}
 use Rattle.rx_live.proofs.arrays.push_each.Given as goal
 
 abbrev pub invariant-values : goal.invariant-values

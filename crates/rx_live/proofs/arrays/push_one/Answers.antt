@@ -1,7 +1,4 @@
-use Rattle.std.proofs.Common.{string_bytes}
-use Rattle.rx_device.specs.Part.{part_data}
-use Rattle.rx_line.specs.Orders.{order_in}
-use Rattle.rx_live.specs.Session.{session_of}
+use Rattle.rx_live.proofs.Common.{string_bytes, part_data, order_in, session_of}
 use Rattle.rx_live.proofs.AnswersOfArrays.{element_taken, element_put_off}
 use Rattle.rx_live.proofs.arrays.push_one.Goals as goal
 

@@ -1,7 +1,4 @@
-use Rattle.std.proofs.Common.{◌≡◌, codes, ◌∙◌, rules, string_bytes}
-use Rattle.json.specs.Value.{items_view}
-use Rattle.rx_device.specs.Part.{items_data}
-use Rattle.rx_live.specs.Session.{session_of}
+use Rattle.rx_live.proofs.Common.{◌≡◌, codes, ◌∙◌, rules, string_bytes, items_view, items_data, session_of}
 use Rattle.rx_live.proofs.AnswersOfArrays.{array_answered}
 use Rattle.rx_live.proofs.arrays.send_array.Goals as goal
 

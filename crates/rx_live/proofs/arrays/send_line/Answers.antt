@@ -1,10 +1,4 @@
-use Rattle.std.proofs.Common.{subst, string_bytes, sym}
-use Rattle.serde_json.specs.Data.{Data}
-use Rattle.rx_device.specs.Input.{IsJsonOf}
-use Rattle.rx_device.specs.Part.{part_data}
-use Rattle.rx_line.specs.declared.order.Unread.{Unread}
-use Rattle.rx_line.specs.Orders.{IsUnread}
-use Rattle.rx_live.specs.Session.{session_of}
+use Rattle.rx_live.proofs.Common.{subst, string_bytes, sym, Data, IsJsonOf, part_data, Unread, IsUnread, session_of}
 use Rattle.rx_live.proofs.OpenedNodesGetNames.{on_err}
 use Rattle.rx_live.proofs.AnswersOfArrays.{line_sent, line_waits, line_faulty, line_unread}
 use Rattle.rx_live.proofs.arrays.send_line.Goals as goal

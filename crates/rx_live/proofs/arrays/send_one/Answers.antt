@@ -1,5 +1,4 @@
-use Rattle.rx_live.specs.Session.{session_of}
-use Rattle.rx_live.specs.Lines.{as_it_was}
+use Rattle.rx_live.proofs.Common.{session_of, as_it_was}
 use Rattle.rx_live.proofs.AcceptedBindsNames.{alike_same}
 use Rattle.rx_live.proofs.OpenedNodesGetNames.{on_err}
 use Rattle.rx_live.proofs.arrays.send_one.Goals as goal

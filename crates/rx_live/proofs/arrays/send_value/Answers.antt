@@ -1,9 +1,4 @@
-use Rattle.std.proofs.Common.{◌≡◌, Some, None, option_map, sym, ap, ◌∙◌}
-use Rattle.serde_json.specs.Find.{as_array}
-use Rattle.json.specs.Value.{items_view}
-use Rattle.rx_device.specs.Part.{part_data, items_data}
-use Rattle.rx_line.specs.Orders.{order_in}
-use Rattle.rx_live.specs.Session.{session_of}
+use Rattle.rx_live.proofs.Common.{◌≡◌, Some, None, option_map, sym, ap, ◌∙◌, as_array, items_view, part_data, items_data, order_in, session_of}
 use Rattle.rx_live.proofs.AnswersOfArrays.{value_one, value_many, array_waits}
 use Rattle.rx_live.proofs.arrays.send_value.Goals as goal
 

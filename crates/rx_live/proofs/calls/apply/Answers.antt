@@ -1,7 +1,4 @@
-use Rattle.std.proofs.Common.{◌≡◌, Some, refl, sym, ◌∙◌}
-use Rattle.rx_book.specs.declared.key.ResKey.{ResKey}
-use Rattle.rx_book.specs.Requests.{Request, apply_request}
-use Rattle.rx_live.specs.Session.{session_of, resource_of}
+use Rattle.rx_live.proofs.Common.{◌≡◌, Some, refl, sym, ◌∙◌, ResKey, Request, apply_request, session_of, resource_of}
 use Rattle.rx_live.proofs.Soundness.{call_ok}
 use Rattle.rx_live.proofs.calls.apply.Goals as goal
 

@@ -1,12 +1,6 @@
-use Rattle.std.proofs.Common.{◌≡◌, true, Some, refl, sym, ◌∙◌}
-use Rattle.rx_book.specs.State.{State}
-use Rattle.rx_book.specs.declared.key.Key.{Key}
-use Rattle.rx_book.specs.Requests.{Request}
+use Rattle.rx_live.proofs.Common.{◌≡◌, true, Some, refl, sym, ◌∙◌, State, Key, Request, deed_request, session_of, node_of, keeps_resources, keeps_leases}
 use Rattle.rx_live.specs.declared.deeds.Deed.{Deed}
 use Rattle.rx_live.specs.declared.deeds.Deed.TheVariants.{End, Abort, Decline, Fail, Dispose}
-use Rattle.rx_live.specs.Deeds.{deed_request}
-use Rattle.rx_live.specs.Session.{session_of, node_of}
-use Rattle.rx_book.proofs.Laws.LastsThroughSteps.{keeps_resources, keeps_leases}
 use Rattle.rx_live.proofs.Soundness.{call_ok, of_cause}
 use Rattle.rx_live.proofs.calls.at_node.Goals as goal
 

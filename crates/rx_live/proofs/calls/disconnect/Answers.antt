@@ -1,6 +1,4 @@
-use Rattle.std.proofs.Common.{◌≡◌, Some, ℕ, refl, sym, ◌∙◌}
-use Rattle.rx_book.specs.Requests.{Request, disconnect_request}
-use Rattle.rx_live.specs.Session.{session_of, hub_of}
+use Rattle.rx_live.proofs.Common.{◌≡◌, Some, ℕ, refl, sym, ◌∙◌, Request, disconnect_request, session_of, hub_of}
 use Rattle.rx_live.proofs.Soundness.{call_ok, of_cause}
 use Rattle.rx_live.proofs.calls.disconnect.Goals as goal
 

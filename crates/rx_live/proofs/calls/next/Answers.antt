@@ -1,8 +1,4 @@
-use Rattle.std.proofs.Common.{◌≡◌, Some, refl, sym, ◌∙◌, w64}
-use Rattle.std.proofs.lemmas.Int.{to_z-of_z}
-use Rattle.rx_book.specs.declared.key.Key.{Key}
-use Rattle.rx_book.specs.Requests.{Request, next_request}
-use Rattle.rx_live.specs.Session.{session_of, node_of}
+use Rattle.rx_live.proofs.Common.{◌≡◌, Some, refl, sym, ◌∙◌, w64, to_z-of_z, Key, Request, next_request, session_of, node_of}
 use Rattle.rx_live.proofs.Soundness.{call_ok}
 use Rattle.rx_live.proofs.calls.next.Goals as goal
 

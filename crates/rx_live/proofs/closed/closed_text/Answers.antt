@@ -1,5 +1,4 @@
-use Rattle.std.proofs.Common.{string_bytes}
-use Rattle.rx_live.specs.Session.{session_of}
+use Rattle.rx_live.proofs.Common.{string_bytes, session_of}
 use Rattle.rx_live.proofs.ClosedNamed.{no_member, whole_member}
 use Rattle.rx_live.proofs.closed.closed_text.Goals as goal
 

@@ -1,8 +1,5 @@
-use Rattle.std.proofs.Common.{◌≡◌, ℕ, ◌++◌, List, Option, Some, option_map, length, string_bytes, sym, ap, ◌∙◌, arith}
-use Rattle.rx_line.specs.Pieces.{name_text, joined}
-use Rattle.rx_listing.specs.Parts.{is_nil}
-use Rattle.rx_live.specs.Session.{session_of}
-use Rattle.rx_live.specs.ClosedAt.{closed_at, closed_texts}
+use Rattle.rx_live.proofs.Common.{◌≡◌, ℕ, ◌++◌, List, Option, Some, option_map, length, string_bytes, sym, ap, ◌∙◌, arith, name_text, joined, is_nil}
+use Rattle.rx_live.proofs.Common.{session_of, closed_at, closed_texts}
 use Rattle.rx_live.proofs.EntriesWritten.{entry_same, entry_nil, entry_written}
 use Rattle.rx_live.proofs.closed.push_names.Goals.{in-Some+in_ok-push_led, in_default}
 use Rattle.rx_live.proofs.closed.push_names.Goals as goal

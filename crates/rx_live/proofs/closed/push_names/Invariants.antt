@@ -1,8 +1,4 @@
-use Rattle.std.proofs.Common.{◌≡◌, ◌++◌, string_bytes}
-use Rattle.rx_line.specs.Pieces.{joined}
-use Rattle.rx_listing.specs.Parts.{is_nil}
-use Rattle.rx_live.specs.Session.{session_of}
-use Rattle.rx_live.specs.ClosedAt.{closed_texts}
+use Rattle.rx_live.proofs.Common.{◌≡◌, ◌++◌, string_bytes, joined, is_nil, session_of, closed_texts}
 use Rattle.rx_live.proofs.closed.push_names.Given as goal
 
 abbrev pub invariant-places : goal.invariant-places

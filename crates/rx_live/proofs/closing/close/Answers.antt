@@ -1,6 +1,4 @@
-use Rattle.std.proofs.Common.{None, refl}
-use Rattle.rx_live.specs.Session.{Session, session_of}
-use Rattle.rx_live.specs.Lines.{IsClosed}
+use Rattle.rx_live.proofs.Common.{None, refl, Session, session_of, IsClosed}
 use Rattle.rx_live.proofs.ClosedSessionIsSound.{closed_sound}
 use Rattle.rx_live.proofs.closing.close.Goals as goal
 

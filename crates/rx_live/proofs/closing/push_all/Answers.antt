@@ -1,7 +1,4 @@
-use Rattle.std.proofs.Common.{◌++◌, ◌+◌, ℕ, List, take, option_map, string_bytes, arith, ap, ◌∙◌}
-use Rattle.std.specs.Option.{option_to_list}
-use Rattle.rx_scenario.specs.Scenario.{Name}
-use Rattle.rx_live.specs.Session.{session_of}
+use Rattle.rx_live.proofs.Common.{◌++◌, ◌+◌, ℕ, List, take, option_map, string_bytes, arith, ap, ◌∙◌, option_to_list, Name, session_of}
 use Rattle.rx_live.specs.Listed.{is_nil, open_text}
 use Rattle.rx_live.proofs.Listings.{names_at, names_more, names_all, first_step, text_step}
 use Rattle.rx_live.proofs.closing.push_all.Goals as goal

@@ -1,5 +1,4 @@
-use Rattle.std.proofs.Common.{string_bytes, sym, ◌∙◌}
-use Rattle.rx_live.specs.Taken.{connects_at}
+use Rattle.rx_live.proofs.Common.{string_bytes, sym, ◌∙◌, connects_at}
 use Rattle.rx_live.proofs.ConnectionAnswered.{said_nothing}
 use Rattle.rx_live.proofs.connected.push_connected.Goals as goal
 

@@ -1,8 +1,5 @@
-use Rattle.std.proofs.Common.{◌≡◌, ℕ, ◌++◌, List, Option, Some, option_map, length, string_bytes, sym, ap, ◌∙◌, arith}
-use Rattle.rx_line.specs.Pieces.{joined}
-use Rattle.rx_listing.specs.Parts.{is_nil, led_text}
-use Rattle.rx_live.specs.Session.{session_of}
-use Rattle.rx_live.specs.Dumps.{entry_at, entries}
+use Rattle.rx_live.proofs.Common.{◌≡◌, ℕ, ◌++◌, List, Option, Some, option_map, length, string_bytes, sym, ap, ◌∙◌, arith, joined, is_nil, led_text, entry_at}
+use Rattle.rx_live.proofs.Common.{session_of, entries}
 use Rattle.rx_live.proofs.EntriesWritten.{entry_same, entry_nil, entry_written}
 use Rattle.rx_live.proofs.dumping.push_entries.Goals.{in-Some+in_ok-push_entry, in_default}
 use Rattle.rx_live.proofs.dumping.push_entries.Goals as goal

@@ -1,22 +1,7 @@
-use Rattle.std.proofs.Common.{◌≡◌, ℕ, ◌++◌, [], ◌∷◌, Bool, false, Option, Some, None, length, refl, sym, ap, ◌∙◌, subst, option_map, string_bytes}
-use Rattle.std.proofs.Math.Bool.{◌||◌}
-use Rattle.std.specs.Prelude.{IfSome}
-use Rattle.std.specs.Str.{bytes_eq}
-use Rattle.std.specs.Option.{option_map_or}
-use Rattle.rx_event.specs.declared.event.Event.TheVariants.{Accept}
-use Rattle.rx_event.specs.declared.refusal.Refusal.{Refusal}
-use Rattle.rx_event.specs.Calls.{Holding}
-use Rattle.rx_event.specs.Refusals.{first_cause, IsRefusal}
-use Rattle.rx_scenario.specs.Scenario.{Name}
-use Rattle.rx_book.specs.declared.key.Key.{Key}
-use Rattle.rx_book.specs.State.{has_key}
-use Rattle.rx_book.specs.Requests.{Request, open_request}
-use Rattle.rx_book.specs.Answers.{Accepts}
-use Rattle.rx_line.specs.declared.names.Spot.{Spot}
-use Rattle.rx_line.specs.Names.{spot_of, name_of, Binds}
-use Rattle.rx_live.specs.Session.{session_of, has_resource}
-use Rattle.rx_live.specs.Given.{NamesOne}
-use Rattle.rx_live.specs.Openings.{holder_at, holder_causes, is_open_taken, is_holder_taken, OpensHolder, BindsMade, BindsHolder}
+use Rattle.rx_live.proofs.Common.{◌≡◌, ℕ, ◌++◌, [], ◌∷◌, Bool, false, Option, Some, None, length, refl, sym, ap, ◌∙◌, subst, option_map, string_bytes, ◌||◌}
+use Rattle.rx_live.proofs.Common.{IfSome, bytes_eq, option_map_or, Accept, Refusal, Holding, first_cause, IsRefusal, Name, Key, has_key, Request, Accepts}
+use Rattle.rx_live.proofs.Common.{open_request, Spot, spot_of, name_of, Binds, session_of, has_resource, NamesOne, holder_at, holder_causes, is_open_taken}
+use Rattle.rx_live.proofs.Common.{is_holder_taken, OpensHolder, BindsMade, BindsHolder}
 use Rattle.rx_live.proofs.Soundness.{accepted_longer}
 use Rattle.rx_live.proofs.AcceptedBindsNames.{none_of, or_false, is_new, accepted_by, refused_by}
 use Rattle.rx_live.proofs.OpenedNodesGetNames.{placed, unchanged_room, unchanged_rooms, connection_free, made_unnamed, unnamed_past, on_err, with_book}

@@ -1,9 +1,5 @@
-use Rattle.std.proofs.Common.{◌≡◌, false, Some, sym, ap, ◌∙◌, refl, option_map}
+use Rattle.rx_live.proofs.Common.{◌≡◌, false, Some, sym, ap, ◌∙◌, refl, option_map, give_back_request, name_of, session_of, lease_of, FreesLease}
 use Rattle.rx_book.specs.State.{has_lease_key}
-use Rattle.rx_book.specs.Requests.{give_back_request}
-use Rattle.rx_line.specs.Names.{name_of}
-use Rattle.rx_live.specs.Session.{session_of, lease_of}
-use Rattle.rx_live.specs.Given.{FreesLease}
 use Rattle.rx_live.proofs.AcceptedBindsNames.{given_accepted, lease_named, forgot, returned_sound}
 use Rattle.rx_live.proofs.holding.give_back.Goals as goal
 

@@ -1,13 +1,5 @@
-use Rattle.std.proofs.Common.{◌≡◌, ℕ, Bool, false, Some, length, sym, ap, ◌∙◌, subst, option_map, string_bytes}
-use Rattle.rx_event.specs.Calls.{Holding}
-use Rattle.rx_book.specs.Requests.{Request}
-use Rattle.rx_scenario.specs.Scenario.{Name}
-use Rattle.rx_book.specs.State.{has_key}
-use Rattle.rx_book.specs.Answers.{Accepts}
-use Rattle.rx_line.specs.declared.names.Spot.{Spot}
-use Rattle.rx_line.specs.Names.{name_of, Binds}
-use Rattle.rx_live.specs.Session.{Session, session_of, node_of, has_resource}
-use Rattle.rx_live.specs.Given.{hold_asked, BindsResource}
+use Rattle.rx_live.proofs.Common.{◌≡◌, ℕ, Bool, false, Some, length, sym, ap, ◌∙◌, subst, option_map, string_bytes, Holding, Request, Name, has_key, Accepts}
+use Rattle.rx_live.proofs.Common.{Spot, name_of, Binds, Session, session_of, node_of, has_resource, hold_asked, BindsResource}
 use Rattle.rx_live.proofs.AcceptedBindsNames.{unnamed_resource, is_new, given_accepted, held_bound, held_sound}
 use Rattle.rx_live.proofs.holding.hold.Goals as goal
 

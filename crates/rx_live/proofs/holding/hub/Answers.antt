@@ -1,13 +1,5 @@
-use Rattle.std.proofs.Common.{◌≡◌, ◌<◌, false, Some, length, sym, ap, ◌∙◌, subst, refl, arith, string_bytes}
-use Rattle.std.specs.Prelude.{is_some}
-use Rattle.rx_scenario.specs.Scenario.{Name}
-use Rattle.rx_book.specs.Requests.{hub_request}
-use Rattle.rx_book.specs.Answers.{Accepts}
-use Rattle.rx_book.proofs.Laws.StepsContinue.{step_longer}
-use Rattle.rx_line.specs.declared.names.Spot.{Spot}
-use Rattle.rx_line.specs.Names.{Binds}
-use Rattle.rx_live.specs.Session.{Session, session_of, hub_of}
-use Rattle.rx_live.specs.Given.{BindsHub}
+use Rattle.rx_live.proofs.Common.{◌≡◌, ◌<◌, false, Some, length, sym, ap, ◌∙◌, subst, refl, arith, string_bytes, is_some, Name, hub_request, Accepts, Spot}
+use Rattle.rx_live.proofs.Common.{step_longer, Binds, Session, session_of, hub_of, BindsHub}
 use Rattle.rx_live.proofs.AcceptedBindsNames.{given_accepted, hub_bound, hub_sound}
 use Rattle.rx_live.proofs.holding.hub.Goals as goal
 

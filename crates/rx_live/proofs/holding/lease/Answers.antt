@@ -1,13 +1,5 @@
-use Rattle.std.proofs.Common.{◌≡◌, false, Some, length, sym, ap, ◌∙◌, subst, option_map, string_bytes}
-use Rattle.std.specs.Prelude.{is_some}
-use Rattle.rx_scenario.specs.Scenario.{Name}
-use Rattle.rx_book.specs.State.{has_res_key}
-use Rattle.rx_book.specs.Requests.{lease_request}
-use Rattle.rx_book.specs.Answers.{Accepts}
-use Rattle.rx_line.specs.declared.names.Spot.{Spot}
-use Rattle.rx_line.specs.Names.{name_of, Binds}
-use Rattle.rx_live.specs.Session.{Session, session_of, resource_of, lease_of}
-use Rattle.rx_live.specs.Given.{BindsLease}
+use Rattle.rx_live.proofs.Common.{◌≡◌, false, Some, length, sym, ap, ◌∙◌, subst, option_map, string_bytes, is_some, Name, has_res_key, lease_request, Accepts}
+use Rattle.rx_live.proofs.Common.{Spot, name_of, Binds, Session, session_of, resource_of, lease_of, BindsLease}
 use Rattle.rx_live.proofs.AcceptedBindsNames.{unnamed_lease, given_accepted, leased_bound, leased_sound}
 use Rattle.rx_live.proofs.holding.lease.Goals as goal
 

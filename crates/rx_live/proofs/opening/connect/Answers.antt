@@ -1,10 +1,5 @@
-use Rattle.std.proofs.Common.{◌≡◌, ℕ, false, Option, Some, length, sym, ap, ◌∙◌, subst, option_map, string_bytes}
-use Rattle.std.specs.Option.{option_map_or}
-use Rattle.rx_scenario.specs.Scenario.{Name}
-use Rattle.rx_book.specs.Requests.{connect_request}
-use Rattle.rx_book.specs.Answers.{Accepts}
-use Rattle.rx_live.specs.Session.{session_of, hub_of}
-use Rattle.rx_live.specs.Openings.{is_node, BindsMade, BindsConnection}
+use Rattle.rx_live.proofs.Common.{◌≡◌, ℕ, false, Option, Some, length, sym, ap, ◌∙◌, subst, option_map, string_bytes, option_map_or, Name, connect_request}
+use Rattle.rx_live.proofs.Common.{Accepts, session_of, hub_of, is_node, BindsMade, BindsConnection}
 use Rattle.rx_live.proofs.AcceptedBindsNames.{given_accepted, given_refused}
 use Rattle.rx_live.proofs.OpenedNodesGetNames.{unchanged_room, on_err, with_book, connected_bound, connected_sound}
 use Rattle.rx_live.proofs.opening.connect.Goals as goal

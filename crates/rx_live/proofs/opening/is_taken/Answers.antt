@@ -1,5 +1,4 @@
-use Rattle.std.proofs.Common.{◌≡◌, Some, sym, ◌∙◌}
-use Rattle.rx_line.specs.Names.{spot_of, name_of}
+use Rattle.rx_live.proofs.Common.{◌≡◌, Some, sym, ◌∙◌, spot_of, name_of}
 use Rattle.rx_live.proofs.AcceptedBindsNames.{forgot}
 use Rattle.rx_live.proofs.NamesOfOpenNodes.{unbound_name, late_name, known_name, open_forgot}
 use Rattle.rx_live.proofs.opening.is_taken.Goals as goal

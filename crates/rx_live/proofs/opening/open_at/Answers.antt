@@ -1,14 +1,5 @@
-use Rattle.std.proofs.Common.{◌≡◌, false, Option, Some, None, length, refl, sym, ap, ◌∙◌, subst, option_map, string_bytes}
-use Rattle.std.specs.Prelude.{IfSome}
-use Rattle.rx_scenario.specs.Scenario.{Name}
-use Rattle.rx_book.specs.declared.key.Key.{Key}
-use Rattle.rx_book.specs.Requests.{open_request}
-use Rattle.rx_book.specs.Answers.{Accepts}
-use Rattle.rx_line.specs.declared.names.Spot.{Spot}
-use Rattle.rx_line.specs.Names.{spot_of, Binds}
-use Rattle.rx_live.specs.Session.{session_of}
-use Rattle.rx_live.specs.Given.{NamesOne}
-use Rattle.rx_live.specs.Openings.{is_open_taken, BindsMade, BindsNode}
+use Rattle.rx_live.proofs.Common.{◌≡◌, false, Option, Some, None, length, refl, sym, ap, ◌∙◌, subst, option_map, string_bytes, IfSome, Name, Key, Accepts}
+use Rattle.rx_live.proofs.Common.{open_request, Spot, spot_of, Binds, session_of, NamesOne, is_open_taken, BindsMade, BindsNode}
 use Rattle.rx_live.proofs.AcceptedBindsNames.{given_accepted, given_refused}
 use Rattle.rx_live.proofs.OpenedNodesGetNames.{unchanged_room, connection_free, on_err, with_book, opened_bound, opened_sound}
 use Rattle.rx_live.proofs.opening.open_at.Goals as goal

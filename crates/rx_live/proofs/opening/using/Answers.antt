@@ -1,16 +1,6 @@
-use Rattle.std.proofs.Common.{arith, ◌≡◌, ℕ, ◌+◌, Bool, false, Some, length, sym, ap, ◌∙◌, subst, option_map, string_bytes}
-use Rattle.std.proofs.Math.Bool.{◌||◌}
-use Rattle.rx_event.specs.Calls.{OpeningUsing}
-use Rattle.rx_scenario.specs.Scenario.{Name, site_of}
-use Rattle.rx_book.specs.declared.answer.At.{At}
-use Rattle.rx_book.specs.State.{State}
-use Rattle.rx_book.specs.Requests.{Request, place_of, is_known_place}
-use Rattle.rx_book.specs.Answers.{Accepts, IsCauseOrWant}
-use Rattle.rx_line.specs.declared.names.Spot.{Spot}
-use Rattle.rx_line.specs.Names.{name_of, Binds}
-use Rattle.rx_live.specs.Session.{session_of, has_resource}
-use Rattle.rx_live.specs.Given.{NamesOne}
-use Rattle.rx_live.specs.Openings.{place_at, using_asked, using_at, is_node, is_using_taken, BindsUsing}
+use Rattle.rx_live.proofs.Common.{arith, ◌≡◌, ℕ, ◌+◌, Bool, false, Some, length, sym, ap, ◌∙◌, subst, option_map, string_bytes, ◌||◌, OpeningUsing, Name, At}
+use Rattle.rx_live.proofs.Common.{site_of, State, Request, place_of, is_known_place, Accepts, IsCauseOrWant, Spot, name_of, Binds, session_of, has_resource}
+use Rattle.rx_live.proofs.Common.{NamesOne, place_at, using_asked, using_at, is_node, is_using_taken, BindsUsing}
 use Rattle.rx_live.proofs.AcceptedBindsNames.{is_new, given_accepted, given_refused}
 use Rattle.rx_live.proofs.OpenedNodesGetNames.{unchanged_room, unchanged_rooms, unnamed_past, on_err, with_book, used_bound, used_sound}
 use Rattle.rx_live.proofs.opening.using.Goals as goal

@@ -1,6 +1,4 @@
-use Rattle.std.proofs.Common.{None, length}
-use Rattle.rx_line.specs.Names.{IsPaired}
-use Rattle.rx_live.specs.Given.{AreOpenSame}
+use Rattle.rx_live.proofs.Common.{None, length, IsPaired, AreOpenSame}
 use Rattle.rx_live.proofs.ClosedNamesForgotten.{AreLeft}
 use Rattle.rx_live.proofs.renewing.forget_all_closed.Given as goal
 

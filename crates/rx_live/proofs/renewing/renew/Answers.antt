@@ -1,5 +1,4 @@
-use Rattle.std.proofs.Common.{sym, ◌∙◌, refl}
-use Rattle.rx_live.specs.Session.{session_of}
+use Rattle.rx_live.proofs.Common.{sym, ◌∙◌, refl, session_of}
 use Rattle.rx_live.proofs.AcceptedBindsNames.{none_of}
 use Rattle.rx_live.proofs.SessionAfterCheckpoint.{renews, renewed_sound, mail_left, refused_cause, renewing_refused}
 use Rattle.rx_live.proofs.renewing.renew.Goals as goal

@@ -1,10 +1,6 @@
-use Rattle.std.proofs.Common.{◌≡◌, Some, None, subst, string_bytes, ap, ◌∙◌}
-use Rattle.rx_device.specs.Part.{part_data}
+use Rattle.rx_live.proofs.Common.{◌≡◌, Some, None, subst, string_bytes, ap, ◌∙◌, part_data, Unread, task, query, list, dump, order_in, task_of, order_of}
+use Rattle.rx_live.proofs.Common.{IsUnread, session_of, query_text}
 use Rattle.rx_line.specs.declared.order.Order.{Order as OrderInCode}
-use Rattle.rx_line.specs.declared.order.Unread.{Unread}
-use Rattle.rx_line.specs.Orders.{task, query, list, dump, order_in, task_of, order_of, IsUnread}
-use Rattle.rx_live.specs.Session.{session_of}
-use Rattle.rx_live.specs.Dumps.{query_text}
 use Rattle.rx_live.proofs.AnswerToEachLine.{tried_task, tried_said, answered_queried, answered_listed, answered_dumped, answered_faulty}
 use Rattle.rx_live.proofs.sending.answer.Goals as goal
 

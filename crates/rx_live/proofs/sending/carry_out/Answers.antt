@@ -1,15 +1,6 @@
-use Rattle.std.specs.Prelude.{if◌then◌else◌}
-use Rattle.rx_scenario.specs.Scenario.{Name}
-use Rattle.std.proofs.Common.{◌≡◌, ℕ, ◌++◌, List, [], subst, string_bytes, refl, sym, ap, ◌∙◌, append_assoc}
-use Rattle.rx_line.specs.Orders.{Task, task_of}
-use Rattle.rx_line.specs.declared.outcome.Outcome.{Outcome}
-use Rattle.rx_line.specs.declared.outcome.Outcome.TheVariants.{Accepted, Refused}
-use Rattle.rx_line.specs.Pieces.{ok_text}
-use Rattle.rx_live.specs.Session.{session_of}
-use Rattle.rx_live.specs.Openings.{said_if, front_text}
-use Rattle.rx_live.specs.Closings.{names_closed, closed_names, SaysClosed}
-use Rattle.rx_live.specs.Lines.{Does, TellsAll}
-use Rattle.rx_live.specs.Taken.{connects_at}
+use Rattle.rx_live.proofs.Common.{if◌then◌else◌, Name, ◌≡◌, ℕ, ◌++◌, List, [], subst, string_bytes, refl, sym, ap, ◌∙◌, append_assoc, Task, task_of, Outcome}
+use Rattle.rx_live.proofs.Common.{Accepted, Refused, ok_text, session_of, said_if, front_text, closed_names, SaysClosed, Does, TellsAll, connects_at}
+use Rattle.rx_live.specs.Closings.{names_closed}
 use Rattle.rx_live.proofs.Acts.{refused_alike}
 use Rattle.rx_live.proofs.OpenedNodesGetNames.{on_err}
 use Rattle.rx_live.proofs.SessionAfterCheckpoint.{full_by_age, full_by_open}

@@ -1,8 +1,5 @@
-use Rattle.std.proofs.Common.{◌≡◌, ℕ, Bool, List, ◌++◌, codes, map, ap, ◌∙◌, rules, string_bytes}
-use Rattle.rx_line.specs.Pieces.{name_text, member_text}
-use Rattle.rx_live.specs.Session.{session_of}
-use Rattle.rx_live.specs.Answers.{late_text}
-use Rattle.rx_live.specs.Listed.{all_names}
+use Rattle.rx_live.proofs.Common.{◌≡◌, ℕ, Bool, List, ◌++◌, codes, map, ap, ◌∙◌, rules, string_bytes, name_text, member_text, session_of, late_text}
+use Rattle.rx_live.proofs.Common.{all_names}
 use Rattle.rx_live.proofs.AnswerToEachLine.{ended}
 use Rattle.rx_live.proofs.sending.end.Goals as goal
 

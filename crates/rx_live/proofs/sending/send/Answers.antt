@@ -1,10 +1,4 @@
-use Rattle.std.proofs.Common.{ℕ, List, subst, string_bytes, sym}
-use Rattle.rx_device.specs.Part.{part_data}
-use Rattle.rx_line.specs.Orders.{order_in}
-use Rattle.rx_live.specs.Session.{Session, session_of}
-use Rattle.rx_live.specs.Given.{IsAlike}
-use Rattle.rx_live.specs.Lines.{as_it_was, renewed}
-use Rattle.rx_live.specs.Taken.{Answered, Writes}
+use Rattle.rx_live.proofs.Common.{ℕ, List, subst, string_bytes, sym, part_data, order_in, Session, session_of, IsAlike, as_it_was, renewed, Answered, Writes}
 use Rattle.rx_live.proofs.OpenedNodesGetNames.{on_err}
 use Rattle.rx_live.proofs.SessionAfterCheckpoint.{young}
 use Rattle.rx_live.proofs.AnswerToEachLine.{sent_first, sent_again, answered_so, found_so}

@@ -1,5 +1,4 @@
-use Rattle.std.proofs.Common.{sym, ◌∙◌}
-use Rattle.rx_live.specs.Session.{session_of}
+use Rattle.rx_live.proofs.Common.{sym, ◌∙◌, session_of}
 use Rattle.rx_live.proofs.Tellings.{next_told, none_told}
 use Rattle.rx_live.proofs.telling.next_mail.Goals as goal
 

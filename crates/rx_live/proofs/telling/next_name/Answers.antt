@@ -1,5 +1,4 @@
-use Rattle.std.proofs.Common.{◌≡◌, None, option_map, string_bytes, sym, ap, ◌∙◌}
-use Rattle.rx_live.specs.Session.{session_of}
+use Rattle.rx_live.proofs.Common.{◌≡◌, None, option_map, string_bytes, sym, ap, ◌∙◌, session_of}
 use Rattle.rx_live.proofs.Drops.{dropped_unnamed, dropped_taken}
 use Rattle.rx_live.proofs.telling.next_name.Goals as goal
 

@@ -1,5 +1,4 @@
-use Rattle.std.proofs.Common.{string_bytes}
-use Rattle.rx_live.specs.Session.{session_of}
+use Rattle.rx_live.proofs.Common.{string_bytes, session_of}
 use Rattle.rx_live.proofs.Drops.{wrote_no_name}
 use Rattle.rx_live.proofs.telling.push_name.Goals as goal
 

@@ -1,9 +1,4 @@
-use Rattle.std.proofs.Common.{◌≡◌, ℕ, true, sym, subst}
-use Rattle.rx_book.specs.Requests.{take_request}
-use Rattle.rx_book.specs.Answers.{Accepts}
-use Rattle.std.specs.Prelude.{is_some}
-use Rattle.rx_line.specs.Names.{name_of}
-use Rattle.rx_live.specs.Session.{session_of}
+use Rattle.rx_live.proofs.Common.{◌≡◌, ℕ, true, sym, subst, take_request, Accepts, is_some, name_of, session_of}
 use Rattle.rx_live.proofs.Drops.{contains_number, waiting_named, IsForgotten, never_none, taken_sound}
 use Rattle.rx_live.proofs.telling.take_name.Goals as goal
 

@@ -1,7 +1,4 @@
-use Rattle.std.proofs.Common.{ℕ, ◌+◌, List, sym, subst, arith, string_bytes}
-use Rattle.rx_live.specs.Session.{session_of}
-use Rattle.rx_live.specs.Answers.{WritesNotes}
-use Rattle.rx_live.specs.Room.{HasRoom}
+use Rattle.rx_live.proofs.Common.{ℕ, ◌+◌, List, sym, subst, arith, string_bytes, session_of, WritesNotes, HasRoom}
 use Rattle.rx_live.proofs.Tellings.{notes_begun, notes_more, notes_ended}
 use Rattle.rx_live.proofs.telling.tell_notes.Goals as goal
 

@@ -1,8 +1,4 @@
-use Rattle.std.proofs.Common.{◌+◌, length, string_bytes}
-use Rattle.rx_live.specs.Session.{session_of, IsSound}
-use Rattle.rx_live.specs.Answers.{to_tell}
-use Rattle.rx_live.specs.Steps.{AreNotesWritten}
-use Rattle.rx_live.specs.Room.{HasRoom}
+use Rattle.rx_live.proofs.Common.{◌+◌, length, string_bytes, session_of, IsSound, to_tell, AreNotesWritten, HasRoom}
 use Rattle.rx_live.proofs.telling.tell_notes.Given as goal
 
 abbrev pub invariant-notes : goal.invariant-notes

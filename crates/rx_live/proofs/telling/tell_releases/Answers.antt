@@ -1,7 +1,4 @@
-use Rattle.std.proofs.Common.{ℕ, ◌+◌, List, sym, subst, arith, string_bytes}
-use Rattle.rx_live.specs.Session.{session_of}
-use Rattle.rx_live.specs.Answers.{WritesNames}
-use Rattle.rx_live.specs.Room.{HasRoom}
+use Rattle.rx_live.proofs.Common.{ℕ, ◌+◌, List, sym, subst, arith, string_bytes, session_of, WritesNames, HasRoom}
 use Rattle.rx_live.proofs.Drops.{names_begun, names_more, names_ended, names_none}
 use Rattle.rx_live.proofs.telling.tell_releases.Goals as goal
 

@@ -1,7 +1,4 @@
-use Rattle.std.proofs.Common.{◌+◌, string_bytes}
-use Rattle.rx_live.specs.Session.{session_of, IsSound}
-use Rattle.rx_live.specs.Steps.{AreNamesWritten, names_left}
-use Rattle.rx_live.specs.Room.{HasRoom}
+use Rattle.rx_live.proofs.Common.{◌+◌, string_bytes, session_of, IsSound, AreNamesWritten, names_left, HasRoom}
 use Rattle.rx_live.proofs.telling.tell_releases.Given as goal
 
 abbrev pub invariant-names : goal.invariant-names

@@ -1,5 +1,4 @@
-use Rattle.std.proofs.Common.{◌≡◌, ℕ, ◌<◌, ◌≤◌, None}
-use Rattle.rx_slots.specs.Slots.{entry_at}
+use Rattle.rx_slots.proofs.Common.{◌≡◌, ℕ, ◌<◌, ◌≤◌, None, entry_at}
 use Rattle.rx_slots.proofs.Slots.next_key.Given as goal
 
 -- nothing stands at the slots that were looked at

@@ -1,5 +1,4 @@
-use Rattle.std.proofs.Common.{◌≡◌, ◌-◌, ℕ, List, Some, length, subst}
-use Rattle.std.specs.Prelude.{slice_get}
+use Rattle.rx_slots.proofs.Common.{◌≡◌, ◌-◌, ℕ, List, Some, length, subst, slice_get}
 use Rattle.rx_slots.proofs.KeptLemmas.{last_or_at}
 use Rattle.rx_slots.proofs.Slots.next_slot.Goals as goal
 

@@ -1,9 +1,5 @@
-use Rattle.std.proofs.Common.{◌≡◌, None, is_some, length, refl, sym, ap, ◌∙◌, arith, true≢false}
-use Rattle.std.proofs.lemmas.List.{get_or_past, get_or_read}
-use Rattle.rx_slots.specs.declared.Entry.{Entry}
-use Rattle.rx_slots.specs.declared.Key.{Key}
-use Rattle.rx_slots.specs.Kept.{shown}
-use Rattle.rx_slots.specs.Slots.{Slots, with_number, placed, entry_at}
+use Rattle.rx_slots.proofs.Common.{◌≡◌, None, is_some, length, refl, sym, ap, ◌∙◌, arith, true≢false, get_or_past, get_or_read, Entry, Key, shown, Slots}
+use Rattle.rx_slots.proofs.Common.{with_number, placed, entry_at}
 use Rattle.rx_slots.proofs.SlotsLemmas.{length-placed, Changes-placed, KeepsOthers-insert}
 use Rattle.rx_slots.proofs.Laws.EntryByNumber.{with_number-same}
 use Rattle.rx_slots.proofs.KeptLemmas.{placed_next, placed_within, reused_below, reused_free, reused_next, kept_reused}

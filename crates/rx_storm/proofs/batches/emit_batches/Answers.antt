@@ -1,6 +1,4 @@
-use Rattle.std.proofs.Common.{◌≡◌, ◌+◌, [], sym, ap, ◌∙◌, rules}
-use Rattle.rx_ledger.specs.Shares.{Shares}
-use Rattle.rx_storm.specs.Storms.{events_of}
+use Rattle.rx_storm.proofs.Common.{◌≡◌, ◌+◌, [], sym, ap, ◌∙◌, rules, Shares, events_of}
 use Rattle.rx_storm.proofs.Emission.{events_counted, from_nothing, done_alone, never_over}
 use Rattle.rx_storm.proofs.batches.emit_batches.Goals as goal
 

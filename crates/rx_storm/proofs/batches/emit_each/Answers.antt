@@ -1,10 +1,5 @@
-use Rattle.std.proofs.Common.{◌≡◌, ◌≤◌, ◌<◌, ◌+◌, ℕ, List, [], ◌∷◌, ◌++◌, sym, ap, ◌∙◌, refl, arith}
-use Rattle.std.proofs.lemmas.List.{append-nil}
-use Rattle.std.proofs.lemmas.Result.{on_ok_weaker}
-use Rattle.rx_note.specs.declared.note.Terminal.TheVariants.{Completed}
-use Rattle.rx_event.specs.declared.event.Event.{Event}
-use Rattle.rx_event.specs.declared.event.Event.TheVariants.{End}
-use Rattle.rx_storm.specs.Storms.{items_at, events_of}
+use Rattle.rx_storm.proofs.Common.{◌≡◌, ◌≤◌, ◌<◌, ◌+◌, ℕ, List, [], ◌∷◌, ◌++◌, sym, ap, ◌∙◌, refl, arith, append-nil, on_ok_weaker, Completed, Event, End}
+use Rattle.rx_storm.proofs.Common.{items_at, events_of}
 use Rattle.rx_storm.proofs.Emission.{none_counted, items_at-joined, counts_joined}
 use Rattle.rx_storm.proofs.batches.emit_each.Goals as goal
 

@@ -1,6 +1,5 @@
 -- The numbers below the next one are emitted, and counted.
-use Rattle.std.proofs.Common.{◌≡◌, ◌≤◌, ◌+◌, ◌-◌, ◌++◌}
-use Rattle.rx_storm.specs.Storms.{items_at, events_of}
+use Rattle.rx_storm.proofs.Common.{◌≡◌, ◌≤◌, ◌+◌, ◌-◌, ◌++◌, items_at, events_of}
 use Rattle.rx_storm.proofs.batches.emit_each.Given as goal
 
 abbrev pub invariant-loop-next : goal.invariant-loop-next

@@ -1,5 +1,4 @@
-use Rattle.std.proofs.Common.{◌-◌, pos, arith}
-use Rattle.rx_storm.specs.Storms.{events_of}
+use Rattle.rx_storm.proofs.Common.{◌-◌, pos, arith, events_of}
 use Rattle.rx_storm.proofs.Emission.{items_at-none, none_counted, items_at-more, one_counted}
 use Rattle.rx_storm.proofs.batches.emit_some.Goals as goal
 

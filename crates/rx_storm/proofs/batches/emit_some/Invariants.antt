@@ -1,6 +1,5 @@
 -- The numbers below the one at hand are emitted, and counted.
-use Rattle.std.proofs.Common.{◌≡◌, ◌+◌, ◌-◌, ◌++◌}
-use Rattle.rx_storm.specs.Storms.{items_at, events_of}
+use Rattle.rx_storm.proofs.Common.{◌≡◌, ◌+◌, ◌-◌, ◌++◌, items_at, events_of}
 use Rattle.rx_storm.proofs.batches.emit_some.Given as goal
 
 abbrev pub invariant-loop-number : goal.invariant-loop-number

@@ -1,7 +1,4 @@
-use Rattle.std.proofs.Common.{◌≡◌, refl, ap, rules}
-use Rattle.rx_ledger.specs.Shares.{together, sums_in}
-use Rattle.rx_storm.specs.declared.figures.Figures.{Figures}
-use Rattle.rx_storm.specs.Storms.{IsEnd}
+use Rattle.rx_storm.proofs.Common.{◌≡◌, refl, ap, rules, together, sums_in, Figures, IsEnd}
 use Rattle.rx_storm.proofs.OutcomeTellsFigures.{outcome_tells, outcome_done, outcome_lacks, own_figures}
 use Rattle.rx_storm.proofs.ending.settle.Goals as goal
 

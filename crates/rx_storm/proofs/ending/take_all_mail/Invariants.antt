@@ -1,6 +1,5 @@
 -- So many notes were handed out, and nothing else of the book was changed.
-use Rattle.std.specs.Prelude.{◌≡◌, ◌+◌}
-use Rattle.rx_book.specs.State.{IsPromised}
+use Rattle.rx_storm.proofs.Common.{◌≡◌, ◌+◌, IsPromised}
 use Rattle.rx_storm.proofs.ending.take_all_mail.Given as goal
 
 abbrev pub invariant-loop-taken : goal.invariant-loop-taken

@@ -1,6 +1,4 @@
-use Rattle.std.proofs.Common.{◌≡◌, [], ap₂, arith}
-use Rattle.std.specs.Prelude.{if◌then◌else◌}
-use Rattle.rx_storm.specs.Storms.{count_up}
+use Rattle.rx_storm.proofs.Common.{◌≡◌, [], ap₂, arith, if◌then◌else◌, count_up}
 use Rattle.rx_storm.proofs.CountUp.{count_up_ends}
 use Rattle.rx_storm.proofs.Emission.{fed_whole, turns_left}
 use Rattle.rx_storm.proofs.threads.emit_all.Goals as goal

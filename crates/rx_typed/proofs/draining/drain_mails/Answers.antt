@@ -1,8 +1,4 @@
-use Rattle.std.proofs.Common.{◌+◌, ◌∙◌, refl, sym, arith}
-use Rattle.std.proofs.lemmas.List.{drop-set-lt, length-set}
-use Rattle.std.proofs.lemmas.Grind.{take-set_at}
-use Rattle.rx_typed.specs.Calls.{tells}
-use Rattle.rx_typed.specs.Drained.{no_mail_taken, mail_taken}
+use Rattle.rx_typed.proofs.Common.{◌+◌, ◌∙◌, refl, sym, arith, drop-set-lt, length-set, take-set_at, tells, no_mail_taken, mail_taken}
 use Rattle.rx_typed.proofs.draining.drain_mails.Goals as goal
 
 pub loop-count-init : goal.loop-count-init

@@ -1,6 +1,5 @@
 -- So far these notes were handed out, to the front of the array.
-use Rattle.std.proofs.Common.{length, ◌-◌, ◌≡◌, ◌≤◌, ℕ, take, drop}
-use Rattle.rx_typed.specs.Drained.{AreMailsTaken}
+use Rattle.rx_typed.proofs.Common.{length, ◌-◌, ◌≡◌, ◌≤◌, ℕ, take, drop, AreMailsTaken}
 use Rattle.rx_typed.proofs.draining.drain_mails.Given as goal
 
 abbrev pub invariant-loop-count : goal.invariant-loop-count

@@ -1,9 +1,4 @@
-use Rattle.std.proofs.Common.{◌+◌, ◌∙◌, refl, arith}
-use Rattle.std.proofs.lemmas.List.{drop-set-lt, length-set}
-use Rattle.std.proofs.lemmas.Grind.{take-set_at}
-use Rattle.rx_typed.specs.declared.shapes.RxTaken.{RxTaken}
-use Rattle.rx_typed.specs.Calls.{takes}
-use Rattle.rx_typed.specs.Drained.{none_taken, one_taken}
+use Rattle.rx_typed.proofs.Common.{◌+◌, ◌∙◌, refl, arith, drop-set-lt, length-set, take-set_at, RxTaken, takes, none_taken, one_taken}
 use Rattle.rx_typed.proofs.draining.drain_resources.Goals as goal
 
 pub loop-count-init : goal.loop-count-init

@@ -1,6 +1,5 @@
 -- So far these resources were taken, to the front of the array.
-use Rattle.std.proofs.Common.{length, ◌-◌, ◌≡◌, ◌≤◌, ℕ, take, drop}
-use Rattle.rx_typed.specs.Drained.{AreTaken}
+use Rattle.rx_typed.proofs.Common.{length, ◌-◌, ◌≡◌, ◌≤◌, ℕ, take, drop, AreTaken}
 use Rattle.rx_typed.specs.contracts.token.TokenResource.TheImpl.{ghosts}
 use Rattle.rx_typed.proofs.draining.drain_resources.Given as goal
 

@@ -1,17 +1,10 @@
-use Rattle.std.proofs.Common.{Bool, sym, subst, ◌∙◌}
-use Rattle.std.specs.Prelude.{Ok}
-use Rattle.rx_book.specs.State.{State}
-use Rattle.rx_book.specs.Requests.{Request, stands}
-use Rattle.rx_book.specs.Answers.{Answers, IsRefusalOf}
+use Rattle.rx_book.proofs.Common.{Bool, sym, subst, ◌∙◌, Ok, State, Request, stands, Answers, IsRefusalOf, state_of, IsLetIn}
 use Rattle.rx_book.specs.Asks.{request_of, refuses, gives, Asks}
-use Rattle.rx_book.specs.Shown.{state_of}
-use Rattle.rx_book.specs.Steps.{IsLetIn}
 use Rattle.rx_book.proofs.Admitted.{state_admitted}
 use Rattle.rx_book.proofs.AnswersOkOrErr.{answers_ok, passed_refusal}
 use Rattle.rx_book.proofs.CallWithoutCause.{pays, connects_none, accepts_written, settles_to}
 use Rattle.rx_book.proofs.ListOfClosed.{answers_begun, begun_at}
-use Rattle.rx_book.proofs.PlainCalls.{plain_within, plain_wants, plain_let_in, plain_room, plain_subscribes_none, unlisted}
-use Rattle.rx_book.proofs.PlainCalls.{gives_settled, gives_begun}
+use Rattle.rx_book.proofs.PlainCalls.{plain_within, plain_wants, plain_let_in, plain_room, plain_subscribes_none, unlisted, gives_settled, gives_begun}
 use Rattle.rx_book.proofs.book.Book.answer.Given as given
 use Rattle.rx_book.proofs.book.Book.answer.Goals as goal
 use Rattle.rx_book.proofs.book.Book.answer.Goals.{In_ok-admit}

@@ -1,10 +1,4 @@
-use Rattle.std.proofs.Common.{refl, sym, ap, subst, inr}
-use Rattle.std.specs.Prelude.{Result, ℕ}
-use Rattle.rx_event.specs.declared.refusal.Refusal.{Refusal}
-use Rattle.rx_event.specs.declared.refusal.Refusal.TheVariants.{NoMemory}
-use Rattle.rx_book.specs.State.{State}
-use Rattle.rx_book.specs.Checkpoints.{AnswersCheckpoint}
-use Rattle.rx_book.specs.Shown.{state_of}
+use Rattle.rx_book.proofs.Common.{refl, sym, ap, subst, inr, Result, ℕ, Refusal, NoMemory, State, AnswersCheckpoint, state_of}
 use Rattle.rx_book.proofs.SeenAcrossCheckpoint.{checkpointed, answers_made, answers_refused}
 use Rattle.rx_book.proofs.book.Book.checkpoint.Goals as goal
 use Rattle.rx_book.proofs.book.Book.checkpoint.Goals.{in-Ok, in-Err}

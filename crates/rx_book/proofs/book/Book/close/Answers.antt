@@ -1,6 +1,4 @@
-use Rattle.std.proofs.Common.{◌≡◌, [], ap, ◌∙◌}
-use Rattle.rx_event.specs.Kept.{Kept}
-use Rattle.rx_event.specs.Totals.{accepted_count}
+use Rattle.rx_book.proofs.Common.{◌≡◌, [], ap, ◌∙◌, Kept, accepted_count}
 use Rattle.rx_book.proofs.Closings.{closed_book, closed_released, takes_accepted, shut_let_go, shut_none_out}
 use Rattle.rx_book.proofs.book.Book.close.Given as given
 use Rattle.rx_book.proofs.book.Book.close.Goals as goal

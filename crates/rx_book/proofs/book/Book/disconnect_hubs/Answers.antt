@@ -1,9 +1,6 @@
-use Rattle.std.proofs.Common.{refl, ap, ◌∙◌}
-use Rattle.rx_event.specs.Kept.{Kept}
-use Rattle.rx_event.specs.Totals.{accepted_count, taken_count}
-use Rattle.rx_book.proofs.Closings.{disconnected_out, disconnected_taken, disconnected_accepted, roots_older}
-use Rattle.rx_book.proofs.Closings.{hub_found, hub_missing, disconnectable, closes_some, less_room}
-use Rattle.rx_book.specs.Courses.{none_let_go, next_let_go}
+use Rattle.rx_book.proofs.Common.{refl, ap, ◌∙◌, Kept, accepted_count, taken_count, none_let_go, next_let_go}
+use Rattle.rx_book.proofs.Closings.{disconnected_out, disconnected_taken, disconnected_accepted, roots_older, hub_found, hub_missing, disconnectable}
+use Rattle.rx_book.proofs.Closings.{closes_some, less_room}
 use Rattle.rx_book.proofs.book.Book.disconnect_hubs.Goals as goal
 
 pub loop-hub-init : goal.loop-hub-init

@@ -1,10 +1,5 @@
 -- So far only connections were closed that a caller had made.
-use Rattle.std.proofs.Common.{◌≡◌, ◌-◌, ℕ, true, length, ◌+◌}
-use Rattle.rx_event.specs.Claims.Closing.{is_open_root}
-use Rattle.rx_event.specs.Resources.{is_out}
-use Rattle.rx_event.specs.Totals.{accepted_count, taken_count}
-use Rattle.rx_book.specs.State.{IsPromised}
-use Rattle.rx_book.specs.Courses.{LetsGo}
+use Rattle.rx_book.proofs.Common.{◌≡◌, ◌-◌, ℕ, true, length, ◌+◌, is_open_root, is_out, accepted_count, taken_count, IsPromised, LetsGo}
 use Rattle.rx_book.proofs.book.Book.disconnect_hubs.Given as goal
 
 abbrev pub invariant-loop-hub : goal.invariant-loop-hub

@@ -1,8 +1,5 @@
-use Rattle.std.proofs.Common.{refl, ap, ◌∙◌, arith}
-use Rattle.rx_event.specs.Kept.{Kept}
-use Rattle.rx_event.specs.Totals.{accepted_count, taken_count}
+use Rattle.rx_book.proofs.Common.{refl, ap, ◌∙◌, arith, Kept, accepted_count, taken_count, none_let_go, next_let_go}
 use Rattle.rx_book.proofs.Closings.{disposed_out, disposed_taken, disposed_accepted, root_found, root_missing, disposable, less_room}
-use Rattle.rx_book.specs.Courses.{none_let_go, next_let_go}
 use Rattle.rx_book.proofs.book.Book.dispose_roots.Goals as goal
 
 pub loop-root-init : goal.loop-root-init

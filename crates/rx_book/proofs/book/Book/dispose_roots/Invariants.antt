@@ -1,9 +1,5 @@
 -- So far only roots were disposed of.
-use Rattle.std.proofs.Common.{◌≡◌, ◌-◌, ℕ, true, length, ◌+◌}
-use Rattle.rx_event.specs.Resources.{is_out}
-use Rattle.rx_event.specs.Totals.{accepted_count, taken_count}
-use Rattle.rx_book.specs.State.{IsPromised}
-use Rattle.rx_book.specs.Courses.{LetsGo}
+use Rattle.rx_book.proofs.Common.{◌≡◌, ◌-◌, ℕ, true, length, ◌+◌, is_out, accepted_count, taken_count, IsPromised, LetsGo}
 use Rattle.rx_book.proofs.book.Book.dispose_roots.Given as goal
 
 abbrev pub invariant-loop-root : goal.invariant-loop-root

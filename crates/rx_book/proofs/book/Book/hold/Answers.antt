@@ -1,27 +1,13 @@
-use Rattle.std.proofs.Common.{List, length, refl, ap, subst, ◌∙◌, arith}
-use Rattle.std.specs.Prelude.{Ok}
-use Rattle.rx_event.specs.declared.event.Event.{Event}
-use Rattle.rx_event.specs.declared.event.Event.TheVariants.{Accept}
-use Rattle.rx_event.specs.Calls.{Holding}
-use Rattle.rx_event.specs.Kept.{Kept}
-use Rattle.rx_event.specs.Resources.{accepted_by}
-use Rattle.rx_event.proofs.Laws.Resources.{accepted_by_new}
-use Rattle.rx_event.proofs.Laws.StaysOpen.{accepted_stays}
-use Rattle.rx_ground.proofs.Laws.GoneStaysGone.{gathers_quiet}
-use Rattle.rx_ground.proofs.Laws.KeysKept.{leases_stay}
-use Rattle.rx_book.specs.State.{State}
-use Rattle.rx_book.specs.Requests.{hold_request, stands}
-use Rattle.rx_book.specs.Answers.{AnswersResKey}
-use Rattle.rx_book.specs.Shown.{state_of}
+use Rattle.rx_book.proofs.Common.{List, length, refl, ap, subst, ◌∙◌, arith, Ok, Event, Accept, Holding, Kept, accepted_by, accepted_by_new, accepted_stays}
+use Rattle.rx_book.proofs.Common.{gathers_quiet, leases_stay, State, hold_request, stands, AnswersResKey, state_of, IsLetIn, IsAdmitted}
 use Rattle.rx_book.proofs.AnswersOkOrErr.{answers_ok, answers_err}
-use Rattle.rx_book.proofs.CallWithoutCause.{one_ready, open_asked, fresh_asked, live_fresh, unused_fresh, pays, connects_none}
-use Rattle.rx_book.proofs.CallWithoutCause.{written_held, accepts_written, settles_to}
+use Rattle.rx_book.proofs.CallWithoutCause.{one_ready, open_asked, fresh_asked, live_fresh, unused_fresh, pays, connects_none, written_held, accepts_written}
+use Rattle.rx_book.proofs.CallWithoutCause.{settles_to}
 use Rattle.rx_book.proofs.MadeKeyIsListed.{res_key_listed}
 use Rattle.rx_book.proofs.ListOfClosed.{answers_begun, begun_at}
 use Rattle.rx_book.proofs.book.Book.hold.Given as given
 use Rattle.rx_book.proofs.book.Book.hold.Goals as goal
 use Rattle.rx_book.proofs.book.Book.hold.Goals.{In_default}
-use Rattle.rx_book.specs.Steps.{IsLetIn, IsAdmitted}
 use Rattle.rx_book.proofs.Admitted.{admitted_as, state_admitted, within_limit}
 use Rattle.rx_book.proofs.CausesByKey.{first_of_node}
 

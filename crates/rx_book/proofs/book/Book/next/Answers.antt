@@ -1,19 +1,7 @@
-use Rattle.std.proofs.Common.{true, None, Some, [], refl, sym, ap, subst, ◌∙◌, inl, arith, w64}
-use Rattle.std.specs.Prelude.{Ok}
-use Rattle.std.proofs.lemmas.Int.{to_z-of_z}
-use Rattle.rx_event.specs.declared.event.Event.TheVariants.{Item}
-use Rattle.rx_event.specs.Calls.{Emitting}
-use Rattle.rx_ground.specs.declared.base.Wanted.{Wanted}
-use Rattle.rx_ground.specs.Reached.{MakesOnly}
-use Rattle.rx_ground.specs.Shown.{Ground}
-use Rattle.rx_ground.specs.Ties.{IsStanding}
-use Rattle.rx_ground.proofs.Laws.GoneStaysGone.{gathers_quiet}
+use Rattle.rx_book.proofs.Common.{true, None, Some, [], refl, sym, ap, subst, ◌∙◌, inl, arith, w64, Ok, to_z-of_z, Item, Emitting, Wanted, MakesOnly, Ground}
+use Rattle.rx_book.proofs.Common.{IsStanding, gathers_quiet, State, next_request, stands, state_of, tree_key_of, IsLetIn, IsWithin, Admits}
 use Rattle.rx_ground.proofs.Laws.OneStop.{MakesOnly-roomier}
-use Rattle.rx_book.specs.State.{State}
-use Rattle.rx_book.specs.Requests.{next_request, stands}
 use Rattle.rx_book.specs.Answers.{AnswersPlaceOrWant}
-use Rattle.rx_book.specs.Shown.{state_of, tree_key_of}
-use Rattle.rx_book.specs.Steps.{IsLetIn, IsWithin, Admits}
 use Rattle.rx_book.proofs.Admitted.{admitted_as, state_admitted, within_limit, item_cost}
 use Rattle.rx_book.proofs.CausesByKey.{first_of_node}
 use Rattle.rx_book.proofs.AnswersOkOrErr.{answers_ok, passed_refusal}

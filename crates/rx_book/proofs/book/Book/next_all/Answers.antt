@@ -1,11 +1,5 @@
-use Rattle.std.proofs.Common.{◌≡◌, ℤ, ◌+◌, ◌++◌, ◌∷◌, [], List, take, sym, ap, subst, ◌∙◌, arith, w64}
-use Rattle.std.proofs.lemmas.Int.{to_z-of_z}
-use Rattle.std.proofs.lemmas.List.{take_more}
-use Rattle.std.proofs.lemmas.Option.{get_or_from_slice_get, same_Some}
-use Rattle.rx_book.specs.State.{State}
-use Rattle.rx_book.specs.Requests.{next_request}
-use Rattle.rx_book.specs.Answers.{IsCauseOrWant}
-use Rattle.rx_book.specs.Courses.{Emits, none_emitted, next_emitted}
+use Rattle.rx_book.proofs.Common.{◌≡◌, ℤ, ◌+◌, ◌++◌, ◌∷◌, [], List, take, sym, ap, subst, ◌∙◌, arith, w64, to_z-of_z, take_more, get_or_from_slice_get, State}
+use Rattle.rx_book.proofs.Common.{same_Some, next_request, IsCauseOrWant, Emits, none_emitted, next_emitted}
 use Rattle.rx_book.proofs.book.Book.next_all.Goals as goal
 
 pub loop-count-init : goal.loop-count-init

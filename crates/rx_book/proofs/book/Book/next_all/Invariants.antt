@@ -1,6 +1,5 @@
 -- So far these values were emitted.
-use Rattle.std.proofs.Common.{length, ◌-◌, ◌≤◌, take}
-use Rattle.rx_book.specs.Courses.{Emits}
+use Rattle.rx_book.proofs.Common.{length, ◌-◌, ◌≤◌, take, Emits}
 use Rattle.rx_book.proofs.book.Book.next_all.Given as goal
 
 abbrev pub invariant-loop-count : goal.invariant-loop-count

@@ -1,11 +1,4 @@
-use Rattle.std.proofs.Common.{◌≡◌, true, refl, subst, ◌∙◌, arith}
-use Rattle.std.specs.Prelude.{Ok}
-use Rattle.rx_event.specs.Calls.{Opening}
-use Rattle.rx_event.specs.Refusals.{first_cause}
-use Rattle.rx_book.specs.State.{State}
-use Rattle.rx_book.specs.Requests.{open_request, stands}
-use Rattle.rx_book.specs.Answers.{AnswersOpened}
-use Rattle.rx_book.specs.Shown.{state_of}
+use Rattle.rx_book.proofs.Common.{◌≡◌, true, refl, subst, ◌∙◌, arith, Ok, Opening, first_cause, State, open_request, stands, AnswersOpened, state_of}
 use Rattle.rx_book.proofs.Admitted.{admitted_as, state_admitted, within_limit, few_opened}
 use Rattle.rx_book.proofs.AnswersOkOrErr.{answers_ok, passed_refusal}
 use Rattle.rx_book.proofs.CausesByKey.{first_of_place}

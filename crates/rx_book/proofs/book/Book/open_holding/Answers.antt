@@ -1,16 +1,6 @@
-use Rattle.std.proofs.Common.{◌≡◌, refl, sym, ap, map, subst, ◌∙◌, ◌∷◌, []}
-use Rattle.std.specs.Prelude.{Ok}
-use Rattle.rx_event.specs.declared.event.Event.TheVariants.{Accept}
-use Rattle.rx_event.specs.Calls.{Opening, outside_of}
-use Rattle.rx_event.specs.Refusals.{first_cause}
-use Rattle.rx_slots.specs.Slots.{Slots}
-use Rattle.rx_tree.specs.declared.node.Node.{Node}
+use Rattle.rx_book.proofs.Common.{◌≡◌, refl, sym, ap, map, subst, ◌∙◌, ◌∷◌, [], Ok, Accept, Opening, outside_of, first_cause, Slots, Node, IsFurther, gone_on}
+use Rattle.rx_book.proofs.Common.{gathers_on, State, place_of, AnswersOpenedHolding, IsAdmittedHolding, stands_holding, key_shown, state_of}
 use Rattle.rx_ground.specs.Shown.{Kept, kept_in}
-use Rattle.rx_ground.proofs.Laws.GoneStaysGone.{IsFurther, gone_on, gathers_on}
-use Rattle.rx_book.specs.State.{State}
-use Rattle.rx_book.specs.Requests.{place_of}
-use Rattle.rx_book.specs.OpensHolding.{AnswersOpenedHolding, IsAdmittedHolding, stands_holding}
-use Rattle.rx_book.specs.Shown.{key_shown, state_of}
 use Rattle.rx_book.proofs.Admitted.{state_admitted}
 use Rattle.rx_book.proofs.AdmittedHolding.{first_stands, holding_within, admitted_holding}
 use Rattle.rx_book.proofs.HoldingUnstood.{fresh_with}

@@ -1,5 +1,4 @@
-use Rattle.std.proofs.Common.{sym}
-use Rattle.rx_ground.specs.Leases.{lease_key}
+use Rattle.rx_book.proofs.Common.{sym, lease_key}
 use Rattle.rx_book.proofs.ShownLeases.{open_lease_none, open_lease_some, lease_listed}
 use Rattle.rx_book.proofs.book.Book.open_lease.Goals as goal
 

@@ -1,27 +1,8 @@
-use Rattle.std.proofs.Common.{◌≡◌, ◌+◌, List, ◌∷◌, [], ◌++◌, length, is_some, refl, sym, ap, subst, ◌∙◌, arith, length-append}
-use Rattle.std.specs.Prelude.{Ok}
-use Rattle.rx_event.specs.declared.event.Place.{Place}
-use Rattle.rx_event.specs.declared.event.Kind.TheVariants.{Pass}
-use Rattle.rx_event.specs.declared.event.Event.{Event}
-use Rattle.rx_event.specs.declared.event.Event.TheVariants.{Open, Accept}
-use Rattle.rx_event.specs.Calls.{OpeningUsing}
-use Rattle.rx_event.specs.Kept.{Kept}
-use Rattle.rx_event.specs.Resources.{accepted_by}
-use Rattle.rx_event.proofs.Laws.Lawful.{IsLawful-push}
-use Rattle.rx_event.proofs.Laws.Resources.{accepted_by_new}
-use Rattle.rx_event.proofs.Laws.StaysOpen.{opened_using_stays}
-use Rattle.rx_slots.specs.Slots.{Slots, find}
-use Rattle.rx_tree.specs.declared.node.Node.{Node}
-use Rattle.rx_register.specs.State.{State as Register, Writes}
-use Rattle.rx_register.proofs.Laws.Paid.{Writes-append}
-use Rattle.rx_ground.specs.Ties.{IsReady}
-use Rattle.rx_ground.proofs.Laws.GoneStaysGone.{gathers_quiet, gathers_then}
-use Rattle.rx_ground.proofs.Laws.KeysKept.{leases_stay, keeps_on, keeps_held, keeps_opened}
-use Rattle.rx_book.specs.State.{State}
-use Rattle.rx_book.specs.Requests.{using_request, place_of, stands}
-use Rattle.rx_book.specs.Answers.{AnswersOpenedUsing}
-use Rattle.rx_book.specs.Shown.{state_of}
-use Rattle.rx_book.specs.Steps.{IsLetIn, IsAdmitted}
+use Rattle.rx_book.proofs.Common.{◌≡◌, ◌+◌, List, ◌∷◌, [], ◌++◌, length, is_some, refl, sym, ap, subst, ◌∙◌, arith, length-append, Ok, Place, Pass, Event}
+use Rattle.rx_book.proofs.Common.{Open, Accept, OpeningUsing, Kept, accepted_by, IsLawful-push, accepted_by_new, opened_using_stays, Slots, find, Node, State}
+use Rattle.rx_book.proofs.Common.{Writes, Writes-append, IsReady, gathers_quiet, gathers_then, leases_stay, keeps_on, keeps_held, keeps_opened, using_request}
+use Rattle.rx_book.proofs.Common.{place_of, stands, AnswersOpenedUsing, state_of, IsLetIn, IsAdmitted}
+use Rattle.rx_register.specs.State.{State as Register}
 use Rattle.rx_book.proofs.Admitted.{admitted_as, state_admitted, within_limit}
 use Rattle.rx_book.proofs.CausesByKey.{first_of_place}
 use Rattle.rx_book.proofs.ShownKeys.{is_known_place_is}

@@ -1,8 +1,5 @@
-use Rattle.std.proofs.Common.{ap, sym, ◌∙◌}
-use Rattle.std.specs.Prelude.{Some, None, ◌&&◌, if◌then◌else◌}
-use Rattle.rx_event.specs.Events.{is_merging}
-use Rattle.rx_event.specs.Tree.{at}
-use Rattle.rx_event.specs.Moments.{owed}
+use Rattle.rx_book.proofs.Common.{ap, sym, ◌∙◌, Some, None, is_merging, at, owed}
+use Rattle.std.specs.Prelude.{◌&&◌, if◌then◌else◌}
 use Rattle.rx_book.proofs.ShownKeys.{has_key_is}
 use Rattle.rx_book.proofs.book.Book.owed.Goals as goal
 

@@ -1,8 +1,4 @@
-use Rattle.std.proofs.Common.{sym, ap, subst, arith}
-use Rattle.rx_event.specs.Kept.{Kept}
-use Rattle.rx_event.specs.Totals.{taken_count}
-use Rattle.rx_event.specs.Calls.{Taking, IsStepOf}
-use Rattle.rx_book.specs.Drains.{Drains, none_taken, next_taken}
+use Rattle.rx_book.proofs.Common.{sym, ap, subst, arith, Kept, taken_count, Taking, IsStepOf, Drains, none_taken, next_taken}
 use Rattle.rx_book.proofs.Laws.StepsContinue.{accepted_continues, continues_none, continues_more}
 use Rattle.rx_book.proofs.Closings.{taken_one, less_room, none_waits}
 use Rattle.rx_book.proofs.book.Book.release_waiting.Goals as goal

@@ -1,8 +1,5 @@
 -- So far resources were taken, one after another, and at most as many releases met a fault.
-use Rattle.std.proofs.Common.{◌≤◌, ◌+◌, ◌-◌, length}
-use Rattle.rx_event.specs.Totals.{taken_count}
-use Rattle.rx_book.specs.State.{IsPromised, Continues}
-use Rattle.rx_book.specs.Drains.{Takes}
+use Rattle.rx_book.proofs.Common.{◌≤◌, ◌+◌, ◌-◌, length, taken_count, IsPromised, Continues, Takes}
 use Rattle.rx_book.proofs.book.Book.release_waiting.Given as goal
 
 abbrev pub invariant-loop-handed : goal.invariant-loop-handed

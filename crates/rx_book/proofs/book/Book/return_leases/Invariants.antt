@@ -1,8 +1,5 @@
 -- So far only leases were given back.
-use Rattle.std.proofs.Common.{◌≡◌, ◌-◌, length, ◌+◌}
-use Rattle.rx_event.specs.Totals.{accepted_count, taken_count}
-use Rattle.rx_book.specs.State.{IsPromised}
-use Rattle.rx_book.specs.Courses.{LetsGo}
+use Rattle.rx_book.proofs.Common.{◌≡◌, ◌-◌, length, ◌+◌, accepted_count, taken_count, IsPromised, LetsGo}
 use Rattle.rx_book.proofs.book.Book.return_leases.Given as goal
 
 abbrev pub invariant-loop-lease : goal.invariant-loop-lease

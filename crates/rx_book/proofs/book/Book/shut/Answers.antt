@@ -1,8 +1,4 @@
-use Rattle.std.proofs.Common.{◌≡◌, ℕ, false, [], length, ap, ◌∙◌, arith}
-use Rattle.std.proofs.lemmas.Bool.{false_from_ne_true, both_ways}
-use Rattle.rx_event.specs.Resources.{is_out}
-use Rattle.rx_event.specs.Claims.Closing.{is_open_root, IsLetGo}
-use Rattle.rx_book.specs.Drains.{none_taken}
+use Rattle.rx_book.proofs.Common.{◌≡◌, ℕ, false, [], length, ap, ◌∙◌, arith, false_from_ne_true, both_ways, is_out, is_open_root, IsLetGo, none_taken}
 use Rattle.rx_book.proofs.Closings.{closed_book, lets_all}
 use Rattle.rx_book.proofs.book.Book.shut.Given as given
 use Rattle.rx_book.proofs.book.Book.shut.Goals as goal

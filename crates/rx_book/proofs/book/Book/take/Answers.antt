@@ -1,15 +1,5 @@
-use Rattle.std.proofs.Common.{[], length, refl, sym, subst, ◌∙◌}
-use Rattle.rx_event.specs.declared.event.Event.TheVariants.{Take}
-use Rattle.rx_event.specs.Forced.{IsSettled}
-use Rattle.rx_event.specs.Kept.{Kept}
-use Rattle.rx_event.proofs.Laws.Calm.{closes_none_kept, settled_on, unforced}
-use Rattle.rx_register.specs.Paid.{IsPaid}
-use Rattle.rx_ground.specs.Shown.{Ground, list_room}
-use Rattle.rx_ground.specs.Ties.{AreTied, AreLeased, HasRoomToConnect}
-use Rattle.rx_ground.proofs.Laws.GoneStaysGone.{gathers_quiet}
-use Rattle.rx_ground.proofs.Laws.KeysKept.{leases_stay, keeps_held}
-use Rattle.rx_book.specs.Requests.{take_request}
-use Rattle.rx_book.specs.Steps.{IsLetIn}
+use Rattle.rx_book.proofs.Common.{[], length, refl, sym, subst, ◌∙◌, Take, IsSettled, Kept, closes_none_kept, settled_on, unforced, IsPaid, Ground, list_room}
+use Rattle.rx_book.proofs.Common.{AreTied, AreLeased, HasRoomToConnect, gathers_quiet, leases_stay, keeps_held, take_request, IsLetIn}
 use Rattle.rx_book.proofs.CallWithoutCause.{let_in_free, one_ready, pays, connects_none, accepts, SettlesTo, settles_to}
 use Rattle.rx_book.proofs.ListOfClosed.{standing_begun, accepts_begun}
 use Rattle.rx_book.proofs.OneFewerWaits.{listed_waits, fewer_wait}

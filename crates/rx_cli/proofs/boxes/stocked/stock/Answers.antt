@@ -1,11 +1,4 @@
-use Rattle.std.proofs.Common.{◌≡◌, ◌+◌, ◌++◌, [], ◌∷◌, ap, rules}
-use Rattle.std.specs.Prelude.{vec_len}
-use Rattle.rx_resource.specs.declared.Life.TheVariants.{Live}
-use Rattle.rx_cli.specs.declared.boxes.kind.ResourceKind.{ResourceKind}
-use Rattle.rx_cli.specs.declared.boxes.stocked.Stocked.{Stocked}
-use Rattle.rx_cli.specs.Boxes.{shown, fresh_by, marks_of}
-use Rattle.rx_cli.specs.Marks.{Marks}
-use Rattle.rx_resource.proofs.Laws.Stocks.{shown_more}
+use Rattle.rx_cli.proofs.Common.{◌≡◌, ◌+◌, ◌++◌, [], ◌∷◌, ap, rules, vec_len, Live, ResourceKind, Stocked, shown, fresh_by, marks_of, Marks, shown_more}
 use Rattle.rx_cli.proofs.StockGrowsByOne.{all_more}
 use Rattle.rx_cli.proofs.boxes.stocked.stock.Goals as goal
 

@@ -1,9 +1,5 @@
 -- The resources made so far have the tags from 0 on, each of the kind of its tag, and are live and unused.
-use Rattle.std.proofs.Common.{◌≡◌, map}
-use Rattle.std.specs.Prelude.{vec_len}
-use Rattle.std.specs.List.{All, range_with_len}
-use Rattle.rx_resource.specs.declared.Life.TheVariants.{Live}
-use Rattle.rx_cli.specs.Boxes.{shown, fresh_by, marks_of}
+use Rattle.rx_cli.proofs.Common.{◌≡◌, map, vec_len, All, range_with_len, Live, shown, fresh_by, marks_of}
 use Rattle.rx_cli.proofs.boxes.stocked.stock.Given as goal
 
 abbrev pub invariant-loop-tag : goal.invariant-loop-tag

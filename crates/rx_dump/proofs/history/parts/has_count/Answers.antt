@@ -1,6 +1,4 @@
-use Rattle.std.proofs.Common.{◌≡◌, ◌∙◌, sym, ap, length, arith}
-use Rattle.std.specs.Prelude.{◌==◌}
-use Rattle.rx_dump.specs.History.{has_count}
+use Rattle.rx_dump.proofs.Common.{◌≡◌, ◌∙◌, sym, ap, length, arith, ◌==◌, has_count}
 use Rattle.rx_dump.proofs.Counts.{count-items_view}
 use Rattle.rx_dump.proofs.history.parts.has_count.Goals as goal
 

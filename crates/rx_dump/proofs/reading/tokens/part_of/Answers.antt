@@ -1,8 +1,4 @@
-use Rattle.std.proofs.Common.{sym, ap, subst}
-use Rattle.json.specs.Token.{Token}
-use Rattle.json.specs.Reads.{token_of}
-use Rattle.serde_json.specs.View.{view}
-use Rattle.rx_dump.specs.Tokens.{IsAlone}
+use Rattle.rx_dump.proofs.Common.{sym, ap, subst, Token, token_of, view, IsAlone}
 use Rattle.rx_dump.proofs.Alone.{word_alone, number_alone}
 use Rattle.rx_dump.proofs.reading.tokens.part_of.Goals as goal
 

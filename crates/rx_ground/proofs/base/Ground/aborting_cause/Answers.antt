@@ -1,10 +1,5 @@
-use Rattle.std.proofs.Common.{rules, ◌≡◌, true, false, Option, refl, ap, ◌∙◌, arith}
-use Rattle.std.specs.Prelude.{nat_lt}
-use Rattle.std.specs.Option.{option_map_or}
-use Rattle.std.proofs.lemmas.Bool.{lt-ltb}
-use Rattle.rx_event.specs.declared.event.Event.{Event}
+use Rattle.rx_ground.proofs.Common.{rules, ◌≡◌, true, false, Option, refl, ap, ◌∙◌, arith, nat_lt, option_map_or, lt-ltb, Event, at, has_open_child}
 use Rattle.rx_event.specs.Allowed.{may_abort}
-use Rattle.rx_event.specs.Tree.{at, has_open_child}
 use Rattle.rx_ground.proofs.Told.{child_marked}
 use Rattle.rx_ground.proofs.base.Ground.aborting_cause.Goals as goal
 

@@ -1,6 +1,4 @@
-use Rattle.std.proofs.Common.{◌≡◌, true, is_some, ◌∙◌}
-use Rattle.rx_slots.specs.Slots.{find}
-use Rattle.rx_ground.specs.Ties.{IsTied}
+use Rattle.rx_ground.proofs.Common.{◌≡◌, true, is_some, ◌∙◌, find, IsTied}
 use Rattle.rx_ground.proofs.InsideConnections.{parent_told}
 use Rattle.rx_ground.proofs.base.Ground.above.Goals as goal
 

@@ -1,7 +1,4 @@
-use Rattle.std.proofs.Common.{refl, sym, ap, subst, ◌∙◌}
-use Rattle.rx_event.specs.Totals.{debt}
-use Rattle.rx_hub.specs.Due.{IsQuiet}
-use Rattle.rx_ground.specs.Shown.{Ground}
+use Rattle.rx_ground.proofs.Common.{refl, sym, ap, subst, ◌∙◌, debt, IsQuiet, Ground}
 use Rattle.rx_ground.proofs.StandsAfterCheckpoint.{settled_quiet_hubs}
 use Rattle.rx_ground.proofs.CheckpointMakesBase.{checkpoint_made, standing_after}
 use Rattle.rx_ground.proofs.base.Ground.checkpoint.Goals as goal

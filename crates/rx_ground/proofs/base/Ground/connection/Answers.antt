@@ -1,7 +1,4 @@
-use Rattle.std.proofs.Common.{Option, Some, None, option_map, sym, ap, ◌∙◌}
-use Rattle.std.specs.Option.{option_to_list}
-use Rattle.rx_slots.specs.declared.Key.{Key}
-use Rattle.rx_ground.specs.Ties.{AreTied}
+use Rattle.rx_ground.proofs.Common.{Option, Some, None, option_map, sym, ap, ◌∙◌, option_to_list, Key, AreTied}
 use Rattle.rx_ground.proofs.Connections.{connection_known}
 use Rattle.rx_ground.proofs.base.Ground.connection.Goals as goal
 

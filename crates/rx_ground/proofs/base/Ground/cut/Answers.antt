@@ -1,9 +1,4 @@
-use Rattle.std.proofs.Common.{◌≡◌, List, sym, ap, subst, ◌∙◌, drop, length, map, arith}
-use Rattle.rx_hub.specs.Closing.{AreClosing}
-use Rattle.rx_hub.specs.Hubs.{Hub}
-use Rattle.rx_tree.specs.Closing.{Closed}
-use Rattle.rx_hub.specs.Closing.{after_closing}
-use Rattle.rx_ground.specs.Ties.{AreTied}
+use Rattle.rx_ground.proofs.Common.{◌≡◌, List, sym, ap, subst, ◌∙◌, drop, length, map, arith, AreClosing, Hub, Closed, after_closing, AreTied}
 use Rattle.rx_ground.proofs.HubsBesideTree.{are_closing, moved_left}
 use Rattle.rx_ground.proofs.MovedHaveGone.{behind, moves_subtree}
 use Rattle.rx_ground.proofs.base.Ground.cut.Goals as goal

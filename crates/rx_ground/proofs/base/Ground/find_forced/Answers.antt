@@ -1,10 +1,5 @@
-use Rattle.std.proofs.Common.{◌≡◌, Option, None, MatchOption, is_some, sym, ap, subst, ◌∙◌}
-use Rattle.rx_slots.specs.Slots.{find}
-use Rattle.rx_tree.specs.Tree.{Tree}
-use Rattle.rx_hub.specs.declared.hub.HubDue.{HubDue}
-use Rattle.rx_hub.specs.Due.{IsDueIn, ConcernsHub}
-use Rattle.rx_hub.specs.Hubs.{Hubs}
-use Rattle.rx_ground.specs.Ties.{AreTied, IsNext}
+use Rattle.rx_ground.proofs.Common.{◌≡◌, Option, None, is_some, sym, ap, subst, ◌∙◌, find, Tree, HubDue, IsDueIn, ConcernsHub, Hubs, AreTied, IsNext}
+use Rattle.std.proofs.Common.{MatchOption}
 use Rattle.rx_ground.proofs.TiedWhileSettling.{hub_next, node_forced, quiet_settled, tied_rechained}
 use Rattle.rx_ground.proofs.base.Ground.find_forced.Goals as goal
 

@@ -1,5 +1,4 @@
-use Rattle.std.proofs.Common.{◌≤◌, length, sym, ◌∙◌, arith}
-use Rattle.rx_hub.specs.Records.{AreHubsOf}
+use Rattle.rx_ground.proofs.Common.{◌≤◌, length, sym, ◌∙◌, arith, AreHubsOf}
 use Rattle.rx_ground.proofs.Connections.{first_by_hand, none_by_hand}
 use Rattle.rx_ground.proofs.base.Ground.first_manual.Goals as goal
 

@@ -1,5 +1,4 @@
-use Rattle.std.proofs.Common.{is_some, ap, ◌∙◌}
-use Rattle.rx_ground.specs.Ties.{AreTied}
+use Rattle.rx_ground.proofs.Common.{is_some, ap, ◌∙◌, AreTied}
 use Rattle.rx_ground.proofs.HubsAfterEvent.{hub_found}
 use Rattle.rx_ground.proofs.base.Ground.has_hub.Goals as goal
 

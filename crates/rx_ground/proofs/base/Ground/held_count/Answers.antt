@@ -1,5 +1,4 @@
-use Rattle.std.proofs.Common.{arith}
-use Rattle.rx_event.proofs.Laws.Totals.{accepted_count-parts}
+use Rattle.rx_ground.proofs.Common.{arith, accepted_count-parts}
 use Rattle.rx_ground.proofs.base.Ground.held_count.Goals as goal
 
 pub overflow_sub-result : goal.overflow_sub-result

@@ -1,10 +1,4 @@
-use Rattle.std.proofs.Common.{◌≡◌, IsSome, true, is_some, sym, ap, ◌∙◌}
-use Rattle.rx_event.specs.declared.event.Event.{Event}
-use Rattle.rx_event.specs.Events.{is_switch, inner_named}
-use Rattle.rx_event.specs.Tree.{at}
-use Rattle.rx_slots.specs.Slots.{find}
-use Rattle.rx_ground.specs.Ties.{IsTied}
-use Rattle.rx_ground.specs.Inners.{IsInner, HasNoInner}
+use Rattle.rx_ground.proofs.Common.{◌≡◌, IsSome, true, is_some, sym, ap, ◌∙◌, Event, is_switch, inner_named, at, find, IsTied, IsInner, HasNoInner}
 use Rattle.rx_ground.proofs.Inners.{no_child, inner_first, inner_next, no_next, if_none, if_some_by, if_none_by, made_found}
 use Rattle.rx_ground.proofs.base.Ground.inner_of.Goals as goal
 

@@ -1,6 +1,4 @@
-use Rattle.std.proofs.Common.{refl}
-use Rattle.std.proofs.lemmas.Bool.{false≢true}
-use Rattle.rx_ground.specs.Ties.{AreTied}
+use Rattle.rx_ground.proofs.Common.{refl, false≢true, AreTied}
 use Rattle.rx_ground.proofs.TiedWhileSettling.{quiet_settled, quiet_chain}
 use Rattle.rx_ground.proofs.base.Ground.is_calm.Goals as goal
 

@@ -1,8 +1,4 @@
-use Rattle.std.proofs.Common.{◌≡◌, suc, true, option_map}
-use Rattle.std.specs.Option.{option_map_or}
-use Rattle.rx_slots.specs.declared.Key.{Key}
-use Rattle.rx_ground.specs.Ties.{is_there}
-use Rattle.rx_ground.specs.Told.{is_inside_up_to}
+use Rattle.rx_ground.proofs.Common.{◌≡◌, suc, true, option_map, option_map_or, Key, is_there, is_inside_up_to}
 use Rattle.rx_ground.proofs.base.Ground.is_inside_up_to.Given as goal
 
 abbrev pub invariant-loop-at : goal.invariant-loop-at

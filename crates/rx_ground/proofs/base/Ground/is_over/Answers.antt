@@ -1,6 +1,4 @@
-use Rattle.std.proofs.Common.{◌+◌, length, sym, arith}
-use Rattle.std.proofs.lemmas.Bool.{le-ltb}
-use Rattle.rx_event.specs.Totals.{debt}
+use Rattle.rx_ground.proofs.Common.{◌+◌, length, sym, arith, le-ltb, debt}
 use Rattle.rx_ground.proofs.base.Ground.is_over.Goals as goal
 
 pub returns-then-has_spare : goal.returns-then-has_spare

@@ -1,10 +1,7 @@
-use Rattle.std.proofs.Common.{sym, ap, subst, ◌∙◌}
-use Rattle.rx_event.specs.Bases.{base_of}
+use Rattle.rx_ground.proofs.Common.{sym, ap, subst, ◌∙◌, base_of, AreApart, Ground, IsStanding}
 use Rattle.rx_register.specs.State.{IsPromised as IsRegisterPromised}
-use Rattle.rx_tree.specs.Tree.{AreApart, IsPromised as IsTreePromised}
+use Rattle.rx_tree.specs.Tree.{IsPromised as IsTreePromised}
 use Rattle.rx_hub.specs.Hubs.{IsPromised as IsHubsPromised}
-use Rattle.rx_ground.specs.Shown.{Ground}
-use Rattle.rx_ground.specs.Ties.{IsStanding}
 use Rattle.rx_ground.proofs.CheckpointMakesBase.{whole_base}
 use Rattle.rx_ground.proofs.base.Ground.kept_base.Goals as goal
 

@@ -1,5 +1,4 @@
-use Rattle.std.proofs.Common.{◌∙◌}
-use Rattle.rx_ground.specs.Ties.{AreLeased}
+use Rattle.rx_ground.proofs.Common.{◌∙◌, AreLeased}
 use Rattle.rx_ground.proofs.Laws.JustOpenHeldWaiting.{count-leases}
 use Rattle.rx_ground.proofs.base.Ground.lease_count.Goals as goal
 

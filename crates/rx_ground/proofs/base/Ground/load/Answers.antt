@@ -1,12 +1,6 @@
-use Rattle.std.proofs.Common.{◌≡◌, ◌+◌, ◌-◌, ◌*◌, ap, ◌∙◌, arith}
+use Rattle.rx_ground.proofs.Common.{◌≡◌, ◌+◌, ◌-◌, ◌*◌, ap, ◌∙◌, arith, places, debt, accepted_count-parts, owed_in, Ground, lent_alone_count}
 use Rattle.std.specs.List.{count_by}
-use Rattle.rx_event.specs.Tree.{places}
-use Rattle.rx_event.specs.Totals.{debt}
-use Rattle.rx_event.proofs.Laws.Totals.{accepted_count-parts}
-use Rattle.rx_tree.specs.Owed.{owed_in}
-use Rattle.rx_ground.specs.Shown.{Ground}
 use Rattle.rx_ground.proofs.OwedCountBounded.{owed_in-count}
-use Rattle.rx_tree.specs.Resources.{lent_alone_count}
 use Rattle.rx_ground.proofs.TreeAgreesOnResource.{is_alone}
 use Rattle.rx_ground.proofs.Laws.JustOpenHeldWaiting.{length-alone}
 use Rattle.rx_ground.proofs.Loads.{held_counted, debt_counted, debt_bounded}

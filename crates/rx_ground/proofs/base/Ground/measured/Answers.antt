@@ -1,10 +1,4 @@
-use Rattle.std.proofs.Common.{nat_lt, ℕ, IfSome, sym, ap, subst, ◌∙◌}
-use Rattle.std.proofs.Math.Bool.{not}
-use Rattle.rx_event.specs.Climb.{most_visits}
-use Rattle.rx_hub.proofs.Laws.Orders.{IsOrdered-walk}
-use Rattle.rx_hub.proofs.Laws.Walks.{visits_told}
-use Rattle.rx_ground.specs.Reached.{MakesOnly}
-use Rattle.rx_ground.specs.Shown.{Ground}
+use Rattle.rx_ground.proofs.Common.{nat_lt, ℕ, IfSome, sym, ap, subst, ◌∙◌, not, most_visits, IsOrdered-walk, visits_told, MakesOnly, Ground}
 use Rattle.rx_ground.proofs.WayAsInHistory.{walk_tied, all_reach_told}
 use Rattle.rx_ground.proofs.base.Ground.measured.Goals as goal
 

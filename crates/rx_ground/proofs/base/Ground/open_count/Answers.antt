@@ -1,5 +1,4 @@
-use Rattle.std.proofs.Common.{sym, ◌∙◌}
-use Rattle.rx_ground.specs.Ties.{IsTied}
+use Rattle.rx_ground.proofs.Common.{sym, ◌∙◌, IsTied}
 use Rattle.rx_ground.proofs.Laws.JustOpenHeldWaiting.{length-kept, length-nodes}
 use Rattle.rx_ground.proofs.base.Ground.open_count.Goals as goal
 

@@ -1,5 +1,4 @@
-use Rattle.std.proofs.Common.{sym, ◌∙◌}
-use Rattle.rx_ground.specs.Ties.{IsTied}
+use Rattle.rx_ground.proofs.Common.{sym, ◌∙◌, IsTied}
 use Rattle.rx_ground.proofs.Inners.{no_switch}
 use Rattle.rx_ground.proofs.base.Ground.replaced.Goals as goal
 

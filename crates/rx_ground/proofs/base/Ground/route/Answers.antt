@@ -1,7 +1,5 @@
-use Rattle.std.proofs.Common.{false, true, sym, ap, ◌∙◌}
-use Rattle.rx_event.specs.Causes.{is_over}
+use Rattle.rx_ground.proofs.Common.{false, true, sym, ap, ◌∙◌, is_over, Ground}
 use Rattle.rx_register.specs.State.{State as Register}
-use Rattle.rx_ground.specs.Shown.{Ground}
 use Rattle.rx_ground.proofs.WayAsInHistory.{cause_of-no_leaf, cause_of-visits, cause_of-room}
 use Rattle.rx_ground.proofs.base.Ground.route.Goals as goal
 

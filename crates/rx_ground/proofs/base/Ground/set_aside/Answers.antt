@@ -1,8 +1,4 @@
-use Rattle.std.proofs.Common.{◌+◌, ◌≤◌, length, sym, subst, arith}
-use Rattle.std.specs.Prelude.{OnOk}
-use Rattle.rx_event.specs.Totals.{debt}
-use Rattle.rx_ground.specs.Shown.{Ground}
-use Rattle.rx_ground.specs.Ties.{IsStanding, SetsAside}
+use Rattle.rx_ground.proofs.Common.{◌+◌, ◌≤◌, length, sym, subst, arith, OnOk, debt, Ground, IsStanding, SetsAside}
 use Rattle.rx_ground.proofs.StandsWithMoreRoom.{sets_aside, same_register}
 use Rattle.rx_ground.proofs.base.Ground.set_aside.Goals as goal
 

@@ -1,5 +1,4 @@
-use Rattle.std.proofs.Common.{ap, arith}
-use Rattle.rx_ground.specs.Shown.{Ground}
+use Rattle.rx_ground.proofs.Common.{ap, arith, Ground}
 use Rattle.rx_ground.proofs.TiedWhileSettling.{settled, way_starts, way_rechained, way_on, next_ready, next_room}
 use Rattle.rx_ground.proofs.base.Ground.settle_all.Goals as goal
 

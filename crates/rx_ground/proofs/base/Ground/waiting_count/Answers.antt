@@ -1,7 +1,4 @@
-use Rattle.std.proofs.Common.{sym, ◌∙◌}
-use Rattle.std.proofs.Math.Bool.{not}
-use Rattle.rx_tree.specs.Resources.{is_held}
-use Rattle.rx_ground.specs.Ties.{IsTied}
+use Rattle.rx_ground.proofs.Common.{sym, ◌∙◌, not, is_held, IsTied}
 use Rattle.rx_ground.proofs.Laws.JustOpenHeldWaiting.{length-filter_kept, length-waiting}
 use Rattle.rx_ground.proofs.base.Ground.waiting_count.Goals as goal
 

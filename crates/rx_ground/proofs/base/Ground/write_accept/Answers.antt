@@ -1,12 +1,5 @@
-use Rattle.std.proofs.Common.{◌≡◌, ◌∷◌, ◌++◌, [], List, length, is_some, refl, sym, subst, ◌∙◌, IsSome, ◌+◌, ◌-◌, ◌<◌, ap, arith, vec_capacity}
-use Rattle.rx_event.specs.declared.event.Event.{Event}
-use Rattle.rx_event.specs.declared.event.Event.TheVariants.{Accept}
-use Rattle.rx_event.specs.Lawful.{MayFollow}
-use Rattle.rx_slots.specs.Slots.{find, Slots, with_number}
-use Rattle.rx_tree.specs.Resources.{store_key}
-use Rattle.rx_event.proofs.Laws.Steps.{may_accept}
-use Rattle.rx_ground.specs.Ties.{AreLeased, IsTied, AreTied}
-use Rattle.rx_tree.specs.declared.node.Node.{Node}
+use Rattle.rx_ground.proofs.Common.{◌≡◌, ◌∷◌, ◌++◌, [], List, length, is_some, refl, sym, subst, ◌∙◌, IsSome, ◌+◌, ◌-◌, ◌<◌, ap, arith, vec_capacity, Event}
+use Rattle.rx_ground.proofs.Common.{Accept, MayFollow, find, Slots, with_number, store_key, may_accept, AreLeased, IsTied, AreTied, Node, none_not_some}
 use Rattle.rx_ground.proofs.Memory.{written_memory}
 use Rattle.rx_ground.proofs.RegisterAfterWrite.{writes_silent}
 use Rattle.rx_ground.proofs.ResourcesAfterEvent.{stored_accepted}
@@ -15,7 +8,6 @@ use Rattle.rx_ground.proofs.HeldKept.{held_new}
 use Rattle.rx_ground.proofs.Newest.{past_resources}
 use Rattle.rx_ground.proofs.HubsAfterEvent.{rebased, tied_on_same}
 use Rattle.rx_ground.proofs.LeasesAfterEvent.{leased_kept}
-use Rattle.rx_tree.proofs.Laws.Keys.{none_not_some}
 use Rattle.rx_ground.proofs.base.Ground.write_accept.Goals as goal
 
 pub hold-requires-clause-newest : goal.hold-requires-clause-newest

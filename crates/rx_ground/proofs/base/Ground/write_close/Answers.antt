@@ -1,14 +1,6 @@
-use Rattle.std.proofs.Common.{◌≡◌, List, ◌∷◌, ◌++◌, [], ◌+◌, ◌-◌, None, length, vec_capacity, refl, sym, ap, subst, ◌∙◌}
-use Rattle.rx_event.specs.declared.event.Event.{Event}
-use Rattle.rx_event.specs.declared.event.Event.TheVariants.{Close}
-use Rattle.rx_event.specs.Lawful.{MayFollow}
-use Rattle.rx_event.proofs.Laws.Openness.{is_open_outside-close}
-use Rattle.rx_register.specs.State.{State, Writes}
-use Rattle.rx_hub.specs.After.{is_inside}
-use Rattle.rx_hub.specs.Hubs.{Hubs}
+use Rattle.rx_ground.proofs.Common.{◌≡◌, List, ◌∷◌, ◌++◌, [], ◌+◌, ◌-◌, None, length, vec_capacity, refl, sym, ap, subst, ◌∙◌, Event, Close, MayFollow, State}
+use Rattle.rx_ground.proofs.Common.{is_open_outside-close, Writes, is_inside, Hubs, Ground, AreLeased, IsTied, AreTied, KeepsNodes, Cuts, Moves, left_inside}
 use Rattle.rx_hub.proofs.Laws.AfterCases.{hubs_closed}
-use Rattle.rx_ground.specs.Shown.{Ground}
-use Rattle.rx_ground.specs.Ties.{AreLeased, IsTied, AreTied, KeepsNodes, Cuts, Moves, left_inside}
 use Rattle.rx_ground.proofs.MovedHaveGone.{gathers_closed}
 use Rattle.rx_ground.proofs.Memory.{written_memory}
 use Rattle.rx_ground.proofs.RegisterAfterWrite.{writes_silent}

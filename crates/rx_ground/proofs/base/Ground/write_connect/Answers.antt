@@ -1,17 +1,6 @@
-use Rattle.std.proofs.Common.{is_some, Option, None, ◌≡◌, ℕ, List, refl, sym, subst, ◌∙◌, arith}
-use Rattle.std.proofs.Common.{◌∷◌, [], ◌+◌, ◌-◌, ◌<◌, ap, vec_capacity, IfSome, IsSome, length}
-use Rattle.rx_event.specs.declared.event.Event.{Event}
-use Rattle.rx_event.specs.declared.event.Event.TheVariants.{Connect}
-use Rattle.rx_event.specs.Lawful.{MayFollow}
-use Rattle.rx_event.proofs.Laws.Openness.{is_open_kept}
-use Rattle.rx_slots.specs.declared.Key.{Key}
-use Rattle.rx_slots.specs.Slots.{Slots, find}
-use Rattle.rx_tree.specs.declared.node.Stowed.{Stowed}
-use Rattle.rx_hub.specs.After.{hubs_after}
-use Rattle.rx_hub.specs.Hubs.{Hub, Hubs, connected}
-use Rattle.rx_hub.proofs.Laws.AfterReady.{ready_to_connect}
-use Rattle.rx_ground.specs.Shown.{Ground, closed_keys}
-use Rattle.rx_ground.specs.Ties.{AreLeased, AreTied, IsNewNode, KeepsOlder}
+use Rattle.rx_ground.proofs.Common.{is_some, Option, None, ◌≡◌, ℕ, List, refl, sym, subst, ◌∙◌, arith, ◌∷◌, [], ◌+◌, ◌-◌, ◌<◌, ap, vec_capacity, IfSome, Key}
+use Rattle.rx_ground.proofs.Common.{IsSome, length, Event, Connect, MayFollow, is_open_kept, Slots, find, Stowed, hubs_after, Hub, Hubs, connected, Ground}
+use Rattle.rx_ground.proofs.Common.{ready_to_connect, closed_keys, AreLeased, AreTied, IsNewNode, KeepsOlder}
 use Rattle.rx_ground.proofs.StaysTied.{IsOpenedIn, OpensTop, found_still, tied_top}
 use Rattle.rx_ground.proofs.Records.{all_left}
 use Rattle.rx_ground.proofs.HubsBesideTree.{as_many_at}

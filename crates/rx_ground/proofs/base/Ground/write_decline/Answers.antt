@@ -1,13 +1,5 @@
-use Rattle.std.proofs.Common.{◌∷◌, [], List, refl, sym, ap, subst, IsSome, ◌+◌, ◌-◌, vec_capacity, arith}
-use Rattle.rx_event.specs.declared.event.Event.{Event}
-use Rattle.rx_event.specs.declared.event.Event.TheVariants.{Decline}
-use Rattle.rx_event.specs.Lawful.{MayFollow}
-use Rattle.rx_event.specs.Marks.{after_decline}
-use Rattle.rx_event.proofs.Laws.Steps.{may_decline}
-use Rattle.rx_slots.specs.Slots.{find, Slots}
-use Rattle.rx_tree.specs.declared.node.Node.{Node}
-use Rattle.rx_tree.specs.declared.node.Stowed.{Stowed}
-use Rattle.rx_ground.specs.Ties.{AreLeased, IsTied, AreTied, Remarks}
+use Rattle.rx_ground.proofs.Common.{◌∷◌, [], List, refl, sym, ap, subst, IsSome, ◌+◌, ◌-◌, vec_capacity, arith, Event, Decline, MayFollow, after_decline}
+use Rattle.rx_ground.proofs.Common.{may_decline, find, Slots, Node, Stowed, AreLeased, IsTied, AreTied, Remarks}
 use Rattle.rx_ground.proofs.Memory.{written_memory, same_places}
 use Rattle.rx_ground.proofs.RegisterAfterWrite.{writes_silent}
 use Rattle.rx_ground.proofs.OwedCountBounded.{owes_told}

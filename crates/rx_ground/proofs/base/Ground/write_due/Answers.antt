@@ -1,5 +1,4 @@
-use Rattle.std.proofs.Common.{refl}
-use Rattle.rx_event.specs.declared.event.Event.TheVariants.{Connect}
+use Rattle.rx_ground.proofs.Common.{refl, Connect}
 use Rattle.rx_ground.proofs.Laws.GoneStaysGone.{gathers_quiet}
 use Rattle.rx_ground.proofs.base.Ground.write_due.Goals as goal
 

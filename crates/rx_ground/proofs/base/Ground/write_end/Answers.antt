@@ -1,17 +1,6 @@
-use Rattle.std.proofs.Common.{◌≡◌, ◌∷◌, [], refl, sym, ap, subst, ◌∙◌, arith, Option, Some, option_map, false, ◌+◌, ◌-◌, vec_capacity, length}
-use Rattle.std.specs.Option.{option_map_or}
-use Rattle.rx_event.specs.declared.event.Event.{Event}
-use Rattle.rx_event.specs.declared.event.Event.TheVariants.{End}
-use Rattle.rx_event.specs.Events.{is_root}
-use Rattle.rx_slots.specs.Slots.{find, Slots}
-use Rattle.rx_register.specs.State.{State, Writes}
-use Rattle.rx_tree.specs.declared.node.Stowed.{Stowed}
-use Rattle.rx_hub.specs.After.{is_inside, end_by}
-use Rattle.rx_hub.specs.Hubs.{Hubs}
-use Rattle.rx_hub.proofs.Laws.AfterCases.{hubs_ended}
-use Rattle.rx_event.proofs.Laws.Openness.{is_open_outside-end}
-use Rattle.rx_ground.specs.Shown.{Ground}
-use Rattle.rx_ground.specs.Ties.{AreLeased, IsTied, AreTied, record_of, left_inside}
+use Rattle.rx_ground.proofs.Common.{◌≡◌, ◌∷◌, [], refl, sym, ap, subst, ◌∙◌, arith, Option, Some, option_map, false, ◌+◌, ◌-◌, vec_capacity, length, Event}
+use Rattle.rx_ground.proofs.Common.{option_map_or, End, is_root, find, Slots, State, Writes, Stowed, is_inside, end_by, Hubs, hubs_ended, is_open_outside-end}
+use Rattle.rx_ground.proofs.Common.{Ground, AreLeased, IsTied, AreTied, record_of, left_inside}
 use Rattle.rx_ground.proofs.MovedHaveGone.{gathers_closed}
 use Rattle.rx_ground.proofs.Memory.{written_memory, same_places}
 use Rattle.rx_ground.proofs.RegisterAfterWrite.{TellsOf, writes_told}

@@ -1,9 +1,5 @@
-use Rattle.std.proofs.Common.{◌∷◌, [], length, refl, ap, arith, length-append}
-use Rattle.rx_event.specs.declared.event.Event.{Event}
+use Rattle.rx_ground.proofs.Common.{◌∷◌, [], length, refl, ap, arith, length-append, Event, MayFollow, Hub, new_hub, AreLeased, AreTied}
 use Rattle.rx_event.specs.declared.event.Event.TheVariants.{Hub as Publish}
-use Rattle.rx_event.specs.Lawful.{MayFollow}
-use Rattle.rx_hub.specs.Hubs.{Hub, new_hub}
-use Rattle.rx_ground.specs.Ties.{AreLeased, AreTied}
 use Rattle.rx_ground.proofs.Memory.{written_memory}
 use Rattle.rx_ground.proofs.RegisterAfterWrite.{writes_silent}
 use Rattle.rx_ground.proofs.StaysTied.{tied_same}

@@ -1,13 +1,5 @@
-use Rattle.std.proofs.Common.{◌+◌, ◌-◌, ◌∷◌, ◌++◌, [], sym, ap, subst, ◌∙◌, w64, refl, vec_capacity}
-use Rattle.std.proofs.lemmas.Int.{to_z-of_z}
-use Rattle.rx_event.specs.declared.event.Event.TheVariants.{Item}
-use Rattle.rx_event.specs.Lawful.{MayFollow}
-use Rattle.rx_slots.specs.Slots.{Slots}
-use Rattle.rx_tree.specs.declared.node.Node.{Node}
-use Rattle.rx_tree.specs.declared.node.Stowed.{Stowed}
-use Rattle.rx_ground.specs.Reached.{MakesOnly}
-use Rattle.rx_ground.specs.Shown.{Ground}
-use Rattle.rx_ground.specs.Ties.{AreLeased, AreTied}
+use Rattle.rx_ground.proofs.Common.{◌+◌, ◌-◌, ◌∷◌, ◌++◌, [], sym, ap, subst, ◌∙◌, w64, refl, vec_capacity, to_z-of_z, Item, MayFollow, Slots, Node, Stowed}
+use Rattle.rx_ground.proofs.Common.{MakesOnly, Ground, AreLeased, AreTied}
 use Rattle.rx_ground.proofs.HubsAfterEvent.{rebased}
 use Rattle.rx_register.specs.State.{State as Register}
 use Rattle.rx_ground.proofs.ItemWentItsWay.{arrived_writes, arrived_tied}

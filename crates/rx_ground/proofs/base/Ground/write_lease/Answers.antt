@@ -1,12 +1,5 @@
-use Rattle.std.proofs.Common.{◌≡◌, ◌∷◌, ◌++◌, [], List, length, is_some, refl, sym, ap, subst, ◌∙◌, true, ◌+◌, ◌-◌, ◌<◌, arith, vec_capacity}
-use Rattle.rx_event.specs.declared.event.Event.{Event}
-use Rattle.rx_event.specs.declared.event.Event.TheVariants.{Lease}
-use Rattle.rx_event.specs.Lawful.{MayFollow}
-use Rattle.rx_slots.specs.Slots.{Slots}
-use Rattle.rx_tree.specs.declared.node.Node.{Node}
-use Rattle.rx_tree.specs.Resources.{store_key, stowed_of, is_owned_at}
-use Rattle.rx_ground.specs.Leases.{lease_key}
-use Rattle.rx_ground.specs.Ties.{IsTied, AreTied, AreLeased}
+use Rattle.rx_ground.proofs.Common.{◌≡◌, ◌∷◌, ◌++◌, [], List, length, is_some, refl, sym, ap, subst, ◌∙◌, true, ◌+◌, ◌-◌, ◌<◌, arith, vec_capacity, Event}
+use Rattle.rx_ground.proofs.Common.{Lease, MayFollow, Slots, Node, store_key, stowed_of, is_owned_at, lease_key, IsTied, AreTied, AreLeased}
 use Rattle.rx_ground.proofs.Memory.{written_memory, same_places}
 use Rattle.rx_ground.proofs.RegisterAfterWrite.{writes_silent}
 use Rattle.rx_ground.proofs.ResourcesAfterEvent.{stored_leased}

@@ -1,12 +1,8 @@
-use Rattle.std.proofs.Common.{is_some, ◌≡◌, refl, subst, ◌∙◌, arith, ◌∷◌, [], ◌+◌, ◌<◌, ap, vec_capacity}
-use Rattle.rx_event.specs.declared.event.Event.TheVariants.{Open}
-use Rattle.rx_slots.specs.Slots.{Slots}
-use Rattle.rx_register.specs.State.{State, Writes}
-use Rattle.rx_tree.specs.declared.node.Node.{Node}
-use Rattle.rx_hub.specs.Hubs.{Hubs}
-use Rattle.rx_ground.specs.Ties.{AreLeased}
+use Rattle.rx_ground.proofs.Common.{is_some, ◌≡◌, refl, subst, ◌∙◌, arith, ◌∷◌, [], ◌+◌, ◌<◌, ap, vec_capacity, Open, Slots, State, Writes, Node, Hubs}
+use Rattle.rx_ground.proofs.Common.{AreLeased}
 use Rattle.rx_ground.proofs.RegisterAfterWrite.{writes_silent}
-use Rattle.rx_ground.proofs.ReadyToOpen.{IsOpenedBelow, stands_below, opened_new, owes_above, above_there_still, quiet_above, newest_left, placed_left, way_resources}
+use Rattle.rx_ground.proofs.ReadyToOpen.{IsOpenedBelow, stands_below, opened_new, owes_above, above_there_still, quiet_above, newest_left, placed_left}
+use Rattle.rx_ground.proofs.ReadyToOpen.{way_resources}
 use Rattle.rx_ground.proofs.HubsAtOpening.{rest_same, joined_left, ready_left, older_left, all_opened, as_many_opened}
 use Rattle.rx_ground.proofs.RoomAtOpening.{ground_of, IsWayMade, way_made, few_children, hubs_told, slot_within, left_memory, gathers_opened}
 use Rattle.rx_ground.proofs.HubsAfterEvent.{tied_written}

@@ -1,11 +1,5 @@
-use Rattle.std.proofs.Common.{◌≡◌, List, length, refl, sym, subst, true, ◌∷◌, [], ◌+◌, ◌-◌, ap, vec_capacity}
-use Rattle.rx_event.specs.declared.event.Event.{Event}
-use Rattle.rx_event.specs.declared.event.Event.TheVariants.{Remove}
-use Rattle.rx_event.specs.Lawful.{MayFollow}
-use Rattle.rx_slots.specs.Slots.{Slots}
-use Rattle.rx_tree.specs.Resources.{store_key, removed, is_owned_at}
-use Rattle.rx_ground.specs.Ties.{AreLeased, IsTied, AreTied}
-use Rattle.rx_tree.specs.declared.node.Node.{Node}
+use Rattle.rx_ground.proofs.Common.{◌≡◌, List, length, refl, sym, subst, true, ◌∷◌, [], ◌+◌, ◌-◌, ap, vec_capacity, Event, Remove, MayFollow, Slots, removed}
+use Rattle.rx_ground.proofs.Common.{store_key, is_owned_at, AreLeased, IsTied, AreTied, Node}
 use Rattle.rx_ground.proofs.Memory.{written_memory, same_places}
 use Rattle.rx_ground.proofs.RegisterAfterWrite.{writes_silent}
 use Rattle.rx_ground.proofs.ResourcesAfterEvent.{stored_removed}

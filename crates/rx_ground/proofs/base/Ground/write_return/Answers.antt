@@ -1,13 +1,5 @@
-use Rattle.std.proofs.Common.{◌∷◌, ◌++◌, [], List, length, is_some, refl, sym, ap, subst, ◌∙◌, ◌+◌, ◌-◌, vec_capacity}
-use Rattle.rx_event.specs.declared.event.Event.{Event}
-use Rattle.rx_event.specs.declared.event.Event.TheVariants.{Return}
-use Rattle.rx_event.specs.Lawful.{MayFollow}
-use Rattle.rx_slots.specs.Slots.{Slots, find}
-use Rattle.rx_tree.specs.declared.node.Node.{Node}
-use Rattle.rx_tree.specs.Resources.{store_key, one_lease_less}
-use Rattle.rx_tree.proofs.Laws.Keys.{some_of}
-use Rattle.rx_ground.specs.Leases.{lease_key}
-use Rattle.rx_ground.specs.Ties.{IsTied, AreTied, AreLeased}
+use Rattle.rx_ground.proofs.Common.{◌∷◌, ◌++◌, [], List, length, is_some, refl, sym, ap, subst, ◌∙◌, ◌+◌, ◌-◌, vec_capacity, Event, Return, MayFollow, Slots}
+use Rattle.rx_ground.proofs.Common.{find, Node, store_key, one_lease_less, some_of, lease_key, IsTied, AreTied, AreLeased}
 use Rattle.rx_ground.proofs.Memory.{written_memory, same_places}
 use Rattle.rx_ground.proofs.RegisterAfterWrite.{writes_silent}
 use Rattle.rx_ground.proofs.ResourcesAfterEvent.{stored_returned}

@@ -1,13 +1,6 @@
-use Rattle.std.proofs.Common.{◌≡◌, ◌∷◌, ◌++◌, [], List, length, refl, sym, ap, subst, ◌∙◌, true, is_some, ◌+◌, ◌-◌, arith, vec_capacity}
-use Rattle.rx_event.specs.declared.event.Event.{Event}
-use Rattle.rx_event.specs.declared.event.Event.TheVariants.{Take}
+use Rattle.rx_ground.proofs.Common.{◌≡◌, ◌∷◌, ◌++◌, [], List, length, refl, sym, ap, subst, ◌∙◌, true, is_some, ◌+◌, ◌-◌, arith, vec_capacity, Event, Take}
+use Rattle.rx_ground.proofs.Common.{IsSettled, taken, MayFollow, allowed, AreLeased, IsTied, AreTied, IsReady, Slots, Node}
 use Rattle.rx_event.specs.Resources.{is_waiting}
-use Rattle.rx_event.specs.Forced.{IsSettled}
-use Rattle.rx_event.specs.Allowed.{taken}
-use Rattle.rx_event.specs.Lawful.{MayFollow, allowed}
-use Rattle.rx_ground.specs.Ties.{AreLeased, IsTied, AreTied, IsReady}
-use Rattle.rx_slots.specs.Slots.{Slots}
-use Rattle.rx_tree.specs.declared.node.Node.{Node}
 use Rattle.rx_ground.proofs.Memory.{written_memory}
 use Rattle.rx_ground.proofs.RegisterAfterWrite.{writes_silent}
 use Rattle.rx_ground.proofs.ResourcesAfterEvent.{stored_taken}

@@ -1,12 +1,5 @@
-use Rattle.std.proofs.Common.{◌≡◌, ◌<◌, ◌+◌, List, length, refl, sym, subst, arith, true, ◌∷◌, [], ◌-◌, ap, vec_capacity}
-use Rattle.rx_event.specs.declared.event.Event.{Event}
-use Rattle.rx_event.specs.declared.event.Event.TheVariants.{Use}
-use Rattle.rx_event.specs.Lawful.{MayFollow}
-use Rattle.rx_resource.specs.declared.Life.TheVariants.{Live}
-use Rattle.rx_tree.specs.Resources.{store_key, stowed_of, with_resource, is_held_at, Uses}
-use Rattle.rx_ground.specs.Ties.{AreLeased, IsTied, AreTied}
-use Rattle.rx_slots.specs.Slots.{Slots}
-use Rattle.rx_tree.specs.declared.node.Node.{Node}
+use Rattle.rx_ground.proofs.Common.{◌≡◌, ◌<◌, ◌+◌, List, length, refl, sym, subst, arith, true, ◌∷◌, [], ◌-◌, ap, vec_capacity, Event, Use, MayFollow, Live}
+use Rattle.rx_ground.proofs.Common.{store_key, stowed_of, with_resource, is_held_at, Uses, AreLeased, IsTied, AreTied, Slots, Node}
 use Rattle.rx_ground.proofs.Memory.{written_memory, same_places}
 use Rattle.rx_ground.proofs.RegisterAfterWrite.{writes_silent}
 use Rattle.rx_ground.proofs.ResourcesAfterEvent.{stored_used}

@@ -1,7 +1,4 @@
-use Rattle.std.proofs.Common.{List, rules, subst}
-use Rattle.std.specs.List.Sorted.{IsPermutation}
-use Rattle.std.proofs.lemmas.List.Sorted.{IsNonDecreasingBy-from_sort_by_key}
-use Rattle.rx_event.specs.declared.base.BaseLease.{BaseLease}
+use Rattle.rx_ground.proofs.Common.{List, rules, subst, IsPermutation, IsNonDecreasingBy-from_sort_by_key, BaseLease}
 use Rattle.rx_ground.proofs.leases.Leases.base_leases.Goals as goal
 
 pub returns : goal.returns

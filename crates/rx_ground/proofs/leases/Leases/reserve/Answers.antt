@@ -1,7 +1,4 @@
-use Rattle.std.proofs.Common.{length, refl, ap, ◌∙◌, arith}
-use Rattle.rx_slots.specs.Slots.{Slots}
-use Rattle.rx_tree.specs.declared.node.ResKey.{ResKey}
-use Rattle.rx_lists.specs.Lists.{Lists, list_at}
+use Rattle.rx_ground.proofs.Common.{length, refl, ap, ◌∙◌, arith, Slots, ResKey, Lists, list_at}
 use Rattle.rx_ground.proofs.LeasesStayInOrder.{order_same}
 use Rattle.rx_ground.proofs.leases.Leases.reserve.Goals as goal
 

@@ -1,8 +1,5 @@
-use Rattle.std.proofs.Common.{ℕ, ◌≡◌, ◌<◌, ◌+◌, ◌∷◌, [], List, Some, length, slice_get, sym, ap, subst, ◌∙◌, arith}
-use Rattle.rx_hub.specs.Hubs.{Hub, Hubs, new_hub}
-use Rattle.std.proofs.lemmas.List.{length-append}
-use Rattle.rx_hub.specs.Due.{connect_of, due_of}
-use Rattle.rx_hub.specs.Chains.{IsCalm}
+use Rattle.rx_hub.proofs.Common.{ℕ, ◌≡◌, ◌<◌, ◌+◌, ◌∷◌, [], List, Some, length, slice_get, sym, ap, subst, ◌∙◌, arith, Hub, Hubs, new_hub, length-append}
+use Rattle.rx_hub.proofs.Common.{connect_of, due_of, IsCalm}
 use Rattle.rx_hub.proofs.HubsByNumber.{calm_added, nothing_new_waits, nothing_new_due}
 use Rattle.rx_hub.proofs.hubs.Hubs.add.Goals as goal
 

@@ -1,5 +1,4 @@
-use Rattle.std.proofs.Common.{◌∙◌}
-use Rattle.std.proofs.lemmas.Result.{IfOk-weaker}
+use Rattle.rx_hub.proofs.Common.{◌∙◌, IfOk-weaker}
 use Rattle.rx_hub.proofs.HubsForgetEnds.{kept_of_all}
 use Rattle.rx_hub.proofs.hubs.Hubs.base_hubs.Goals as goal
 

@@ -1,5 +1,4 @@
-use Rattle.std.proofs.Common.{IsSome, sym, subst, arith}
-use Rattle.rx_hub.specs.Hubs.{Hubs, find_hub, connected}
+use Rattle.rx_hub.proofs.Common.{IsSome, sym, subst, arith, Hubs, find_hub, connected}
 use Rattle.rx_hub.proofs.HubsByNumber.{index_below, not_found, linked_changed}
 use Rattle.rx_hub.proofs.hubs.Hubs.connect.Goals as goal
 

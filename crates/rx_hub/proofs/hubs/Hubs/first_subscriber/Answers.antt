@@ -1,7 +1,4 @@
-use Rattle.std.proofs.Common.{sym, ap, ◌∙◌}
-use Rattle.std.specs.Option.{option_and_then}
-use Rattle.rx_tree.specs.Tree.{first_of}
-use Rattle.rx_hub.specs.Hubs.{Hub}
+use Rattle.rx_hub.proofs.Common.{sym, ap, ◌∙◌, option_and_then, first_of, Hub}
 use Rattle.rx_hub.proofs.HubsByNumber.{find_none, first_found}
 use Rattle.rx_hub.proofs.hubs.Hubs.first_subscriber.Goals as goal
 

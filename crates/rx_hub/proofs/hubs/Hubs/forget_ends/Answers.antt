@@ -1,7 +1,4 @@
-use Rattle.std.proofs.Common.{sym, subst}
-use Rattle.rx_hub.specs.Chains.{IsLinked}
-use Rattle.rx_hub.specs.Due.{IsQuiet}
-use Rattle.rx_hub.specs.Hubs.{Hubs}
+use Rattle.rx_hub.proofs.Common.{sym, subst, IsLinked, IsQuiet, Hubs}
 use Rattle.rx_hub.proofs.HubsForgetEnds.{linked_forgot, shown_forgot}
 use Rattle.rx_hub.proofs.hubs.Hubs.forget_ends.Goals as goal
 

@@ -1,5 +1,4 @@
-use Rattle.std.proofs.Common.{option_map, sym, ap, ◌∙◌}
-use Rattle.rx_hub.specs.Hubs.{published_of}
+use Rattle.rx_hub.proofs.Common.{option_map, sym, ap, ◌∙◌, published_of}
 use Rattle.rx_hub.proofs.HubsByNumber.{find_index, find_none}
 use Rattle.rx_hub.proofs.hubs.Hubs.get.Goals as goal
 

@@ -1,5 +1,4 @@
-use Rattle.std.proofs.Common.{true≢false, sym, ap, ◌∙◌, arith}
-use Rattle.std.proofs.Math.Bool.{not}
+use Rattle.rx_hub.proofs.Common.{true≢false, sym, ap, ◌∙◌, arith, not}
 use Rattle.rx_hub.proofs.DueBySubscribers.{none_of, quiet_none, quiet_chains}
 use Rattle.rx_hub.proofs.hubs.Hubs.is_calm.Goals as goal
 

@@ -1,7 +1,5 @@
-use Rattle.std.proofs.Common.{◌≡◌, Option, Some, None, IfSome, IsSome, slice_get, true, sym, subst, arith}
-use Rattle.rx_hub.specs.Due.{connect_of, due_of}
-use Rattle.rx_tree.specs.Tree.{is_on}
-use Rattle.rx_hub.specs.Hubs.{Hub, Hubs, find_hub, unsubscribed}
+use Rattle.rx_hub.proofs.Common.{◌≡◌, Option, Some, None, IfSome, IsSome, slice_get, true, sym, subst, arith, connect_of, due_of, is_on, Hub, Hubs, find_hub}
+use Rattle.rx_hub.proofs.Common.{unsubscribed}
 use Rattle.rx_hub.proofs.DueBySubscribers.{due_left, wait_left}
 use Rattle.rx_hub.proofs.HubsByNumber.{find_index, index_below, not_found, linked_changed, at_changed, still_none, not_noted, others_there}
 use Rattle.rx_hub.proofs.hubs.Hubs.leave.Goals as goal

@@ -1,6 +1,4 @@
-use Rattle.std.proofs.Common.{◌≡◌, List, [], ◌∷◌, length, map, refl, sym, ap, subst, ◌∙◌, arith}
-use Rattle.rx_hub.specs.Closing.{IsKnown, after_closing}
-use Rattle.rx_hub.specs.Hubs.{Hub, Hubs}
+use Rattle.rx_hub.proofs.Common.{◌≡◌, List, [], ◌∷◌, length, map, refl, sym, ap, subst, ◌∙◌, arith, IsKnown, after_closing, Hub, Hubs}
 use Rattle.rx_hub.proofs.ClosedLemmas.{closed_first, closed_step, known_at}
 use Rattle.rx_hub.proofs.hubs.Hubs.leave_closed.Goals as goal
 

@@ -1,5 +1,4 @@
-use Rattle.std.proofs.Common.{◌≡◌, map, take}
-use Rattle.rx_hub.specs.Closing.{after_closing}
+use Rattle.rx_hub.proofs.Common.{◌≡◌, map, take, after_closing}
 use Rattle.rx_hub.proofs.hubs.Hubs.leave_closed.Given as goal
 
 abbrev pub invariant-loop-one : goal.invariant-loop-one

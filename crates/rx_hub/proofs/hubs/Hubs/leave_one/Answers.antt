@@ -1,6 +1,4 @@
-use Rattle.std.proofs.Common.{◌≡◌, List, true, IfSome, sym, ap, subst, ◌∙◌}
-use Rattle.rx_tree.specs.Tree.{is_on}
-use Rattle.rx_hub.specs.Hubs.{Hub, find_hub, at_hub, unsubscribed}
+use Rattle.rx_hub.proofs.Common.{◌≡◌, List, true, IfSome, sym, ap, subst, ◌∙◌, is_on, Hub, find_hub, at_hub, unsubscribed}
 use Rattle.rx_hub.proofs.ClosedLemmas.{subscriber_on, subscriber_left, connection_left, none_left}
 use Rattle.rx_hub.proofs.hubs.Hubs.leave_one.Goals as goal
 

@@ -1,6 +1,4 @@
-use Rattle.std.proofs.Common.{Option, IfNone, subst}
-use Rattle.rx_hub.specs.declared.hub.HubDue.{HubDue}
-use Rattle.rx_hub.specs.Due.{NoneWaits}
+use Rattle.rx_hub.proofs.Common.{Option, IfNone, subst, HubDue, NoneWaits}
 use Rattle.rx_hub.proofs.Laws.Dues.{concerns_hub}
 use Rattle.rx_hub.proofs.DueBySubscribers.{none_of, connects_if, acts_if}
 use Rattle.rx_hub.proofs.hubs.Hubs.next_forced.Goals as goal

@@ -1,6 +1,4 @@
-use Rattle.std.proofs.Common.{◌≡◌, Option, Some, None, IfSome, IsSome, slice_get, sym, subst, arith}
-use Rattle.rx_hub.specs.Due.{due_of}
-use Rattle.rx_hub.specs.Hubs.{Hub, Hubs, AreBelow, find_hub, subscribed}
+use Rattle.rx_hub.proofs.Common.{◌≡◌, Option, Some, None, IfSome, IsSome, slice_get, sym, subst, arith, due_of, Hub, Hubs, AreBelow, find_hub, subscribed}
 use Rattle.rx_hub.proofs.DueBySubscribers.{due_behind}
 use Rattle.rx_hub.proofs.HubsByNumber.{find_index, index_below, not_found, linked_changed, still_none, others_there}
 use Rattle.rx_hub.proofs.hubs.Hubs.subscribe.Goals as goal

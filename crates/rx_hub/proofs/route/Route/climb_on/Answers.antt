@@ -1,7 +1,4 @@
-use Rattle.std.proofs.Common.{refl, ap, ◌∙◌, arith}
-use Rattle.std.specs.Option.{option_and_then}
-use Rattle.rx_hub.specs.Walk.{arrival}
-use Rattle.rx_hub.specs.Route.{Route, beyond_end, hub_keys}
+use Rattle.rx_hub.proofs.Common.{refl, ap, ◌∙◌, arith, option_and_then, arrival, Route, beyond_end, hub_keys}
 use Rattle.rx_hub.proofs.RouteSteps.{limit_is, cut_seen, hub_beyond, climbs_seen}
 use Rattle.rx_hub.proofs.route.Route.climb_on.Goals as goal
 

@@ -1,5 +1,4 @@
-use Rattle.std.proofs.Common.{ap, arith}
-use Rattle.rx_hub.specs.Route.{Route}
+use Rattle.rx_hub.proofs.Common.{ap, arith, Route}
 use Rattle.rx_hub.proofs.RouteSteps.{limit_is, ends_cut}
 use Rattle.rx_hub.proofs.route.Route.next.Goals as goal
 

@@ -1,5 +1,4 @@
-use Rattle.std.proofs.Common.{ℕ, ◌≡◌, ◌<◌, Some, slice_get, sym, subst}
-use Rattle.rx_hub.specs.Hubs.{Hub, Hubs}
+use Rattle.rx_hub.proofs.Common.{ℕ, ◌≡◌, ◌<◌, Some, slice_get, sym, subst, Hub, Hubs}
 use Rattle.rx_hub.proofs.StoreShowsHubs.{hubs_added, kept_added}
 use Rattle.rx_hub.proofs.store.Store.add.Goals as goal
 

@@ -1,5 +1,4 @@
-use Rattle.std.proofs.Common.{ap, arith}
-use Rattle.rx_lists.specs.Lists.{Lists}
+use Rattle.rx_hub.proofs.Common.{ap, arith, Lists}
 use Rattle.rx_hub.proofs.StoreShowsHubs.{kept_same}
 use Rattle.rx_hub.proofs.store.Store.admit_more.Goals as goal
 

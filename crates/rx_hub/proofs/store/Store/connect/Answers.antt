@@ -1,7 +1,4 @@
-use Rattle.std.proofs.Common.{◌≡◌, Some, option_map, sym, ap, ◌∙◌}
-use Rattle.std.proofs.lemmas.Option.{same_Some}
-use Rattle.rx_hub.specs.declared.hub.Published.{Published}
-use Rattle.rx_hub.specs.Hubs.{Hub, at_hub, published_of, with_published, connected}
+use Rattle.rx_hub.proofs.Common.{◌≡◌, Some, option_map, sym, ap, ◌∙◌, same_Some, Published, Hub, at_hub, published_of, with_published, connected}
 use Rattle.rx_hub.proofs.HubsByNumber.{at_same, only_hub}
 use Rattle.rx_hub.proofs.store.Store.connect.Goals as goal
 

@@ -1,8 +1,5 @@
-use Rattle.std.proofs.Common.{◌≡◌, None, option_map, sym, ap, ◌∙◌}
-use Rattle.std.specs.Option.{option_or}
-use Rattle.std.proofs.lemmas.Option.{same_Some}
-use Rattle.rx_hub.specs.declared.hub.Published.{Published}
-use Rattle.rx_hub.specs.Hubs.{Hub, at_hub, published_of, with_published, disconnected}
+use Rattle.rx_hub.proofs.Common.{◌≡◌, None, option_map, sym, ap, ◌∙◌, option_or, same_Some, Published, Hub, at_hub, published_of, with_published}
+use Rattle.rx_hub.proofs.Common.{disconnected}
 use Rattle.rx_hub.proofs.HubsByNumber.{at_same, only_hub}
 use Rattle.rx_hub.proofs.store.Store.disconnect.Goals as goal
 

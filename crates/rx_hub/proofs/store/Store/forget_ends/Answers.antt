@@ -1,6 +1,4 @@
-use Rattle.std.proofs.Common.{List, vec_capacity, sym, subst}
-use Rattle.rx_hub.specs.declared.hub.Published.{Published}
-use Rattle.rx_hub.specs.Store.{IsKept}
+use Rattle.rx_hub.proofs.Common.{List, vec_capacity, sym, subst, Published, IsKept}
 use Rattle.rx_hub.proofs.StoreShowsHubs.{kept_forgot, store_forgot}
 use Rattle.rx_hub.proofs.store.Store.forget_ends.Goals as goal
 

@@ -1,6 +1,4 @@
-use Rattle.std.proofs.Common.{ℕ, ◌<◌, ◌-◌, ◌/◌, ◌+◌, Some, length, sym, ap, subst, ◌∙◌, arith}
-use Rattle.rx_hub.specs.declared.hub.Published.{Published}
-use Rattle.rx_hub.specs.Store.{no_hub, record_at}
+use Rattle.rx_hub.proofs.Common.{ℕ, ◌<◌, ◌-◌, ◌/◌, ◌+◌, Some, length, sym, ap, subst, ◌∙◌, arith, Published, no_hub, record_at}
 use Rattle.rx_hub.proofs.StoreShowsHubs.{get_same, number_at, not_between, all_before, all_behind}
 use Rattle.rx_hub.proofs.store.Store.index_of.Goals as goal
 

@@ -1,5 +1,4 @@
-use Rattle.std.proofs.Common.{ℕ, ◌<◌, ◌≤◌, ◌-◌, length}
-use Rattle.rx_hub.specs.Store.{record_at}
+use Rattle.rx_hub.proofs.Common.{ℕ, ◌<◌, ◌≤◌, ◌-◌, length, record_at}
 use Rattle.rx_hub.proofs.store.Store.index_of.Given as goal
 
 abbrev pub invariant-loop-low : goal.invariant-loop-low

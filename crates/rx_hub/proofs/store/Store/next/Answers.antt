@@ -1,5 +1,4 @@
-use Rattle.std.proofs.Common.{option_map, ap, ◌∙◌}
-use Rattle.rx_hub.specs.Store.{key_in}
+use Rattle.rx_hub.proofs.Common.{option_map, ap, ◌∙◌, key_in}
 use Rattle.rx_hub.proofs.StoreShowsHubs.{subscriber_in, after_shown}
 use Rattle.rx_hub.proofs.store.Store.next.Goals as goal
 

@@ -1,5 +1,4 @@
-use Rattle.std.proofs.Common.{arith}
-use Rattle.std.proofs.lemmas.Result.{on_ok_weaker}
+use Rattle.rx_hub.proofs.Common.{arith, on_ok_weaker}
 use Rattle.rx_hub.proofs.StoreShowsHubs.{count_hubs}
 use Rattle.rx_hub.proofs.store.Store.reserve.Goals as goal
 

@@ -1,7 +1,5 @@
-use Rattle.std.proofs.Common.{◌≡◌, ◌<◌, ◌-◌, Some, min, option_map, slice_get, vec_capacity, sym, subst}
-use Rattle.rx_hub.specs.Hubs.{Hub, Hubs}
+use Rattle.rx_hub.proofs.Common.{◌≡◌, ◌<◌, ◌-◌, Some, min, option_map, slice_get, vec_capacity, sym, subst, Hub, Hubs, length-set}
 use Rattle.rx_hub.proofs.StoreShowsHubs.{named, hubs_written, kept_written}
-use Rattle.std.proofs.lemmas.List.{length-set}
 use Rattle.rx_hub.proofs.store.Store.set_published.Goals as goal
 
 pub index_mut-requires : goal.index_mut-requires

@@ -1,8 +1,6 @@
-use Rattle.std.proofs.Common.{◌<◌, ◌-◌, IfSome, IsSome, min, length, slice_get, vec_capacity, sym, ap, subst, ◌∙◌}
-use Rattle.rx_hub.specs.Hubs.{Hub, Hubs, IsFree, AreBelow, at_hub, subscribed}
-use Rattle.rx_hub.specs.Store.{hubs_in}
+use Rattle.rx_hub.proofs.Common.{◌<◌, ◌-◌, IfSome, IsSome, min, length, slice_get, vec_capacity, sym, ap, subst, ◌∙◌, Hub, Hubs, IsFree, AreBelow, at_hub}
+use Rattle.rx_hub.proofs.Common.{subscribed, hubs_in, length-set}
 use Rattle.rx_hub.proofs.StoreShowsHubs.{hub_within, hub_is, free_lists, below_here, hubs_joined, kept_joined}
-use Rattle.std.proofs.lemmas.List.{length-set}
 use Rattle.rx_hub.proofs.store.Store.subscribe.Goals as goal
 
 pub join-requires-clause-list : goal.join-requires-clause-list

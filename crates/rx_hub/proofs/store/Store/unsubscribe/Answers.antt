@@ -1,10 +1,5 @@
-use Rattle.std.proofs.Common.{ℕ, ◌≡◌, ◌<◌, ◌-◌, List, Option, IfSome, IsSome, true, min, length, slice_get, vec_capacity, sym, ap, subst, ◌∙◌}
-use Rattle.rx_slots.specs.declared.Key.{Key}
-use Rattle.rx_tree.specs.Tree.{is_on}
-use Rattle.rx_hub.specs.declared.hub.Published.{Published}
-use Rattle.rx_hub.specs.Hubs.{Hub, Hubs, at_hub, unsubscribed}
-use Rattle.rx_lists.specs.Lists.{Lists, is_in, list_at}
-use Rattle.rx_hub.specs.Store.{key_in, hub_in, hubs_in, IsKept}
+use Rattle.rx_hub.proofs.Common.{ℕ, ◌≡◌, ◌<◌, ◌-◌, List, Option, IfSome, IsSome, true, min, length, slice_get, vec_capacity, sym, ap, subst, ◌∙◌, Key, is_on}
+use Rattle.rx_hub.proofs.Common.{Published, Hub, Hubs, at_hub, unsubscribed, Lists, is_in, list_at, key_in, hub_in, hubs_in, IsKept}
 use Rattle.rx_hub.proofs.StoreShowsHubs.{hub_within, hub_get, hub_is, subscriber_in, hubs_left, kept_left}
 use Rattle.rx_hub.proofs.store.Store.unsubscribe.Goals as goal
 

@@ -1,6 +1,4 @@
-use Rattle.std.proofs.Common.{◌≡◌, ◌≤◌, ◌-◌, max, length, vec_capacity}
-use Rattle.rx_lists.specs.declared.links.Place.{Place}
-use Rattle.rx_lists.specs.Links.{link_at}
+use Rattle.rx_lists.proofs.Common.{◌≡◌, ◌≤◌, ◌-◌, max, length, vec_capacity, Place, link_at}
 use Rattle.rx_lists.proofs.links.Links.grow.Given as goal
 
 abbrev pub invariant-loop-self : goal.invariant-loop-self

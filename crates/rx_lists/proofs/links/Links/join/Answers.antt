@@ -1,6 +1,4 @@
-use Rattle.std.proofs.Common.{ap}
-use Rattle.rx_lists.specs.Links.{next_of, previous_of}
-use Rattle.rx_lists.specs.Places.{places}
+use Rattle.rx_lists.proofs.Common.{ap, next_of, previous_of, places}
 use Rattle.rx_lists.proofs.Laws.JoinsLeavesMerges.{joins_of}
 use Rattle.rx_lists.proofs.TieLemmas.{relinks_both}
 use Rattle.rx_lists.proofs.links.Links.join.Goals as goal

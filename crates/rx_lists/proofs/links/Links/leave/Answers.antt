@@ -1,7 +1,4 @@
-use Rattle.std.proofs.Common.{ap, ◌∙◌}
-use Rattle.rx_lists.specs.Rings.{set_step}
-use Rattle.rx_lists.specs.Links.{next_of, previous_of}
-use Rattle.rx_lists.specs.Places.{places}
+use Rattle.rx_lists.proofs.Common.{ap, ◌∙◌, set_step, next_of, previous_of, places}
 use Rattle.rx_lists.proofs.Laws.JoinsLeavesMerges.{leaves_of}
 use Rattle.rx_lists.proofs.TieLemmas.{relinks_both}
 use Rattle.rx_lists.proofs.links.Links.leave.Goals as goal

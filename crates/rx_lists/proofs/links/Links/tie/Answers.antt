@@ -1,5 +1,4 @@
-use Rattle.std.proofs.Common.{refl, ap}
-use Rattle.rx_lists.specs.Links.{link_at}
+use Rattle.rx_lists.proofs.Common.{refl, ap, link_at}
 use Rattle.rx_lists.proofs.TieLemmas.{tied_next, tied_previous, relinks_both}
 use Rattle.rx_lists.proofs.links.Links.tie.Goals as goal
 

@@ -1,7 +1,4 @@
-use Rattle.std.proofs.Common.{◌≡◌, ◌≤◌, ◌-◌, List, length, vec_capacity, sym, ap, subst, ◌∙◌}
-use Rattle.rx_lists.specs.declared.links.Link.{Link}
-use Rattle.rx_lists.specs.declared.links.Place.{Place}
-use Rattle.rx_lists.specs.Links.{link_in, lists_in, IsTiedIn}
+use Rattle.rx_lists.proofs.Common.{◌≡◌, ◌≤◌, ◌-◌, List, length, vec_capacity, sym, ap, subst, ◌∙◌, Link, Place, link_in, lists_in, IsTiedIn}
 use Rattle.rx_lists.proofs.RingSteps.{tied_more, lists_more}
 use Rattle.rx_lists.proofs.rings.Rings.admit.Goals as goal
 

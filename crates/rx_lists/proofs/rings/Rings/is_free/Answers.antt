@@ -1,7 +1,4 @@
-use Rattle.std.proofs.Common.{◌==◌, true≢false, sym, ap, ◌∙◌}
-use Rattle.rx_lists.specs.declared.links.Place.TheVariants.{Member}
-use Rattle.std.proofs.lemmas.Bool.{false_from_ne_true}
-use Rattle.rx_lists.specs.Places.{is_end}
+use Rattle.rx_lists.proofs.Common.{◌==◌, true≢false, sym, ap, ◌∙◌, Member, false_from_ne_true, is_end}
 use Rattle.rx_lists.proofs.RingsShowLists.{not_itself, eq_is, member_is, stands_on, eq_refl}
 use Rattle.rx_lists.proofs.rings.Rings.is_free.Goals as goal
 

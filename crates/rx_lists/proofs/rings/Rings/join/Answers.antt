@@ -1,5 +1,4 @@
-use Rattle.std.proofs.Common.{ℕ, ◌≡◌, ◌-◌, ◌<◌, false, length, sym, ap, subst, ◌∙◌}
-use Rattle.rx_lists.specs.Lists.{Lists, list_at, is_in}
+use Rattle.rx_lists.proofs.Common.{ℕ, ◌≡◌, ◌-◌, ◌<◌, false, length, sym, ap, subst, ◌∙◌, Lists, list_at, is_in}
 use Rattle.rx_lists.proofs.RingsShowLists.{of_lt, last_there, within_ends}
 use Rattle.rx_lists.proofs.RingSteps.{tied_joined, lists_joined}
 use Rattle.rx_lists.proofs.rings.Rings.join.Goals as goal

@@ -1,5 +1,4 @@
-use Rattle.std.proofs.Common.{◌-◌, ◌<◌, sym, ap, subst, ◌∙◌}
-use Rattle.rx_lists.specs.Lists.{Lists}
+use Rattle.rx_lists.proofs.Common.{◌-◌, ◌<◌, sym, ap, subst, ◌∙◌, Lists}
 use Rattle.rx_lists.proofs.RingsShowLists.{next_there, previous_there}
 use Rattle.rx_lists.proofs.RingSteps.{tied_left, lists_left}
 use Rattle.rx_lists.proofs.rings.Rings.leave.Goals as goal

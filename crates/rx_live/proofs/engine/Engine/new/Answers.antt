@@ -1,10 +1,6 @@
-use Rattle.std.proofs.Common.{refl, ap}
-use Rattle.rx_book.specs.State.{State}
-use Rattle.rx_live.specs.Session.{Session}
-use Rattle.rx_live.specs.Lines.{IsFresh}
+use Rattle.rx_live.proofs.Common.{refl, ap, State, Session, IsFresh, None}
 use Rattle.rx_live.proofs.Soundness.{sound_start}
 use Rattle.rx_live.proofs.engine.Engine.new.Goals as goal
-use Rattle.std.specs.Prelude.{None}
 
 pub returns : goal.returns
 returns c =

@@ -1,6 +1,4 @@
-use Rattle.std.proofs.Common.{None}
-use Rattle.std.proofs.lemmas.List.{get_or_read}
-use Rattle.rx_slots.specs.Slots.{entry_of}
+use Rattle.rx_slots.proofs.Common.{None, get_or_read, entry_of}
 use Rattle.rx_slots.proofs.KeptLemmas.{below_length, kept_changed}
 use Rattle.rx_slots.proofs.records.Records.at_mut.Goals as goal
 

@@ -1,9 +1,5 @@
-use Rattle.std.proofs.Common.{◌≡◌, [], ◌∷◌, ◌++◌, None, length, refl, sym, ap, ◌∙◌, arith}
-use Rattle.std.proofs.lemmas.List.{get_or_past}
-use Rattle.rx_slots.specs.declared.Entry.{Entry}
-use Rattle.rx_slots.specs.declared.Key.{Key}
-use Rattle.rx_slots.specs.Kept.{shown}
-use Rattle.rx_slots.specs.Slots.{Slots, with_number, placed, entry_at}
+use Rattle.rx_slots.proofs.Common.{◌≡◌, [], ◌∷◌, ◌++◌, None, length, refl, sym, ap, ◌∙◌, arith, get_or_past, Entry, Key, shown, Slots, with_number, placed}
+use Rattle.rx_slots.proofs.Common.{entry_at}
 use Rattle.rx_slots.proofs.SlotsLemmas.{length-placed, Changes-placed, KeepsOthers-insert}
 use Rattle.rx_slots.proofs.Laws.EntryByNumber.{with_number-same}
 use Rattle.rx_slots.proofs.KeptLemmas.{placed_next, placed_within, reused_below, reused_next, kept_reused}

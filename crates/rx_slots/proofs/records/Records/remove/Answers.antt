@@ -1,5 +1,4 @@
-use Rattle.std.proofs.Common.{IsSome}
-use Rattle.rx_slots.specs.Slots.{entry_at}
+use Rattle.rx_slots.proofs.Common.{IsSome, entry_at}
 use Rattle.rx_slots.proofs.KeptLemmas.{kept_taken, last_or-push}
 use Rattle.rx_slots.proofs.Laws.EntryByNumber.{found_there}
 use Rattle.rx_slots.proofs.records.Records.remove.Goals as goal

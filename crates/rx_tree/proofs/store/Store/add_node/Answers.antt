@@ -1,7 +1,4 @@
-use Rattle.std.proofs.Common.{refl, sym, ap, ◌∙◌}
-use Rattle.rx_tree.specs.declared.links.Place.TheVariants.{Children, Held, Sibling, Noted}
-use Rattle.rx_tree.specs.declared.node.Node.{Node}
-use Rattle.rx_tree.specs.Store.{alone, no_counts}
+use Rattle.rx_tree.proofs.Common.{refl, sym, ap, ◌∙◌, Children, Held, Sibling, Noted, Node, alone, no_counts}
 use Rattle.rx_tree.proofs.StoreLemmas.{inserts-project, part-added, nodes_keep_links}
 use Rattle.rx_tree.proofs.CountSteps.{counted_kept, found_before, owed_opened}
 use Rattle.rx_tree.proofs.store.Store.add_node.Goals as goal

@@ -1,6 +1,4 @@
-use Rattle.std.proofs.Common.{false, ◌==◌, cond, sym, ap, subst, ◌∙◌, arith}
-use Rattle.rx_tree.specs.declared.links.Place.TheVariants.{Stored}
-use Rattle.rx_tree.specs.Store.{alone, project, resources_of, held_count_at, one_more, Inserts}
+use Rattle.rx_tree.proofs.Common.{false, ◌==◌, cond, sym, ap, subst, ◌∙◌, arith, Stored, alone, project, resources_of, held_count_at, one_more, Inserts}
 use Rattle.rx_tree.proofs.StoreLemmas.{inserts-project, part-added, resources_keep_links}
 use Rattle.rx_tree.proofs.CountSteps.{count_fits, counted_came}
 use Rattle.rx_tree.proofs.store.Store.add_resource.Goals as goal

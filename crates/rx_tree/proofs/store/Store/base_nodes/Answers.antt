@@ -1,8 +1,4 @@
-use Rattle.std.proofs.Common.{List, rules, subst, ◌∙◌}
-use Rattle.std.specs.List.Sorted.{IsPermutation}
-use Rattle.std.proofs.lemmas.List.Sorted.{IsNonDecreasingBy-from_sort_by_key}
-use Rattle.rx_event.specs.declared.base.BaseNode.{BaseNode}
-use Rattle.rx_tree.specs.Bases.{node_as_kept}
+use Rattle.rx_tree.proofs.Common.{List, rules, subst, ◌∙◌, IsPermutation, IsNonDecreasingBy-from_sort_by_key, BaseNode, node_as_kept}
 use Rattle.rx_tree.proofs.KeptLists.{list_kept}
 use Rattle.rx_tree.proofs.store.Store.base_nodes.Goals as goal
 

@@ -1,9 +1,4 @@
-use Rattle.std.proofs.Common.{List, rules, subst, ◌∙◌}
-use Rattle.std.specs.List.Sorted.{IsPermutation}
-use Rattle.std.proofs.lemmas.List.Sorted.{IsNonDecreasingBy-from_sort_by_key}
-use Rattle.rx_event.specs.declared.base.BaseResource.{BaseResource}
-use Rattle.rx_tree.specs.Bases.{resource_as_kept}
-use Rattle.rx_tree.specs.Store.{nodes_of}
+use Rattle.rx_tree.proofs.Common.{List, rules, subst, ◌∙◌, IsPermutation, IsNonDecreasingBy-from_sort_by_key, BaseResource, resource_as_kept, nodes_of}
 use Rattle.rx_tree.proofs.KeptLists.{list_kept}
 use Rattle.rx_tree.proofs.store.Store.base_resources.Goals as goal
 

@@ -1,8 +1,5 @@
-use Rattle.std.proofs.Common.{◌≡◌, ◌<◌, true, is_some, IsSome, IfSome, sym, ap, subst, ◌∙◌, true≢false}
-use Rattle.rx_tree.specs.declared.links.Place.TheVariants.{Children}
-use Rattle.rx_slots.specs.Slots.{find}
-use Rattle.rx_tree.specs.Cuts.{Descends, from_top, one_down}
-use Rattle.rx_tree.specs.Store.{stands, nodes_of, resources_of, next_of, previous_of}
+use Rattle.rx_tree.proofs.Common.{◌≡◌, ◌<◌, true, is_some, IsSome, IfSome, sym, ap, subst, ◌∙◌, true≢false, Children, find, Descends, from_top, one_down}
+use Rattle.rx_tree.proofs.Common.{stands, nodes_of, resources_of, next_of, previous_of}
 use Rattle.rx_tree.proofs.LeafRings.{first_child_at, no_child}
 use Rattle.rx_tree.proofs.There.{slot_stands, next_stands}
 use Rattle.rx_tree.proofs.store.Store.child.Goals as goal

@@ -1,5 +1,4 @@
-use Rattle.std.proofs.Common.{◌∙◌, sym, arith}
-use Rattle.rx_tree.specs.Store.{nodes_of}
+use Rattle.rx_tree.proofs.Common.{◌∙◌, sym, arith, nodes_of}
 use Rattle.rx_tree.proofs.InPlace.{there_project}
 use Rattle.rx_tree.proofs.SlotsFit.{some_count}
 use Rattle.rx_tree.proofs.There.{slot_stands}

@@ -1,6 +1,5 @@
+use Rattle.rx_tree.proofs.Common.{◌<◌, arith, after_decline}
 use Rattle.rx_tree.proofs.MarksWritten.{slot_there, node_holds, owed_within, owed_less, remarked}
-use Rattle.std.proofs.Common.{◌<◌, arith}
-use Rattle.rx_event.specs.Marks.{after_decline}
 use Rattle.rx_tree.proofs.store.Store.decline.Goals as goal
 
 pub at_mut-requires : goal.at_mut-requires

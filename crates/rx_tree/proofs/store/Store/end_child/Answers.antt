@@ -1,7 +1,5 @@
+use Rattle.rx_tree.proofs.Common.{is_merging, after_child, ◌<◌}
 use Rattle.rx_tree.proofs.MarksWritten.{slot_there, node_holds, owed_alike, remarked}
-use Rattle.rx_event.specs.Events.{is_merging}
-use Rattle.rx_event.specs.Marks.{after_child}
-use Rattle.std.proofs.Common.{◌<◌}
 use Rattle.rx_tree.proofs.store.Store.end_child.Goals as goal
 
 pub at_mut-requires : goal.at_mut-requires

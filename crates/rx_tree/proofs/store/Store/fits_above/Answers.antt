@@ -1,5 +1,4 @@
-use Rattle.std.proofs.Common.{arith}
-use Rattle.rx_tree.specs.Store.{nodes_of}
+use Rattle.rx_tree.proofs.Common.{arith, nodes_of}
 use Rattle.rx_tree.proofs.StoreLemmas.{within-project}
 use Rattle.rx_tree.proofs.SlotsFit.{above_fits}
 use Rattle.rx_tree.proofs.store.Store.fits_above.Goals as goal

@@ -1,6 +1,4 @@
-use Rattle.std.proofs.Common.{sym, ap, ◌∙◌}
-use Rattle.std.specs.Option.{option_map_or}
-use Rattle.rx_tree.specs.Store.{no_counts}
+use Rattle.rx_tree.proofs.Common.{sym, ap, ◌∙◌, option_map_or, no_counts}
 use Rattle.rx_tree.proofs.InPlace.{there_project}
 use Rattle.rx_tree.proofs.store.Store.held_count.Goals as goal
 

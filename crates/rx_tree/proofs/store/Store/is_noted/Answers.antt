@@ -1,9 +1,4 @@
-use Rattle.std.proofs.Common.{sym, ap, ◌∙◌}
-use Rattle.std.specs.Option.{option_map_or}
-use Rattle.std.proofs.Math.Bool.{not}
-use Rattle.rx_tree.specs.declared.links.Place.TheVariants.{Noted}
-use Rattle.rx_tree.specs.Places.{is_place}
-use Rattle.rx_tree.specs.Store.{alone}
+use Rattle.rx_tree.proofs.Common.{sym, ap, ◌∙◌, option_map_or, not, Noted, is_place, alone}
 use Rattle.rx_tree.proofs.InPlace.{there_project}
 use Rattle.rx_tree.proofs.store.Store.is_noted.Goals as goal
 

@@ -1,8 +1,4 @@
-use Rattle.std.proofs.Common.{cond, refl, ap, ◌∙◌}
-use Rattle.rx_tree.specs.declared.links.Link.{Link}
-use Rattle.rx_tree.specs.Places.{is_place, places}
-use Rattle.rx_lists.proofs.Laws.JoinsLeavesMerges.{joins_of}
-use Rattle.rx_tree.specs.Store.{link_at, next_of, previous_of}
+use Rattle.rx_tree.proofs.Common.{cond, refl, ap, ◌∙◌, Link, is_place, places, joins_of, link_at, next_of, previous_of}
 use Rattle.rx_tree.proofs.TieLemmas.{wrote_next, wrote_previous, relinks_both}
 use Rattle.rx_tree.proofs.store.Store.join.Goals as goal
 

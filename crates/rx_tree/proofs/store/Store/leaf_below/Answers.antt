@@ -1,5 +1,4 @@
-use Rattle.std.proofs.Common.{◌<◌, ◌^◌, subst}
-use Rattle.rx_tree.specs.Cuts.{from_top}
+use Rattle.rx_tree.proofs.Common.{◌<◌, ◌^◌, subst, from_top}
 use Rattle.rx_tree.proofs.CutLemmas.{nearer, descends_on}
 use Rattle.rx_tree.proofs.store.Store.leaf_below.Goals as goal
 

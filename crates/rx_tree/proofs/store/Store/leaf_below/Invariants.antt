@@ -1,7 +1,4 @@
-use Rattle.std.proofs.Common.{◌-◌, ◌^◌, IsSome}
-use Rattle.rx_slots.specs.Slots.{find}
-use Rattle.rx_tree.specs.Cuts.{Descends}
-use Rattle.rx_tree.specs.Store.{nodes_of}
+use Rattle.rx_tree.proofs.Common.{◌-◌, ◌^◌, IsSome, find, Descends, nodes_of}
 use Rattle.rx_tree.proofs.store.Store.leaf_below.Given as goal
 
 abbrev pub invariant-loop-child : goal.invariant-loop-child

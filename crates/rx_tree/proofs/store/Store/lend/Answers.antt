@@ -1,11 +1,6 @@
-use Rattle.std.proofs.Common.{◌≤◌, ◌==◌, true, false, cond, option_map, Some, IfSome, IsTrue, refl, sym, ap, subst, ◌∙◌, arith}
-use Rattle.std.proofs.Math.Bool.{not}
-use Rattle.std.specs.Option.{option_copied_mut}
-use Rattle.rx_tree.specs.declared.links.Place.TheVariants.{Stored}
-use Rattle.rx_slots.specs.Slots.{with_value, entry_of, Changes}
-use Rattle.rx_tree.specs.Store.{alone, project, nodes_of, resources_of, held_count_at, one_less, one_more}
-use Rattle.rx_tree.specs.Resources.{is_owned, one_lease_more}
-use Rattle.rx_tree.specs.Tree.{Rewrites}
+use Rattle.rx_tree.proofs.Common.{◌≤◌, ◌==◌, true, false, cond, option_map, Some, IfSome, IsTrue, refl, sym, ap, subst, ◌∙◌, arith, not, option_copied_mut}
+use Rattle.rx_tree.proofs.Common.{Stored, with_value, entry_of, Changes, alone, project, nodes_of, resources_of, held_count_at, one_less, one_more, is_owned}
+use Rattle.rx_tree.proofs.Common.{one_lease_more, Rewrites}
 use Rattle.rx_tree.proofs.StoreLemmas.{find-project, changes-written, rewrites-project, part-rewritten, resources_keep_links}
 use Rattle.rx_tree.proofs.CountSteps.{first_some, first_fits, counted_first, counted_again}
 use Rattle.rx_tree.proofs.CountLemmas.{same_here, same_apart}

@@ -1,6 +1,4 @@
-use Rattle.std.proofs.Common.{refl, sym, ap, ◌∙◌}
-use Rattle.rx_tree.specs.declared.links.Place.TheVariants.{Waiting, Held}
-use Rattle.rx_tree.specs.Store.{nodes_of, resources_of, next_of, previous_of}
+use Rattle.rx_tree.proofs.Common.{refl, sym, ap, ◌∙◌, Waiting, Held, nodes_of, resources_of, next_of, previous_of}
 use Rattle.rx_tree.proofs.There.{next_stands, previous_stands}
 use Rattle.rx_tree.proofs.LeafSteps.{waits_merged, waits_already}
 use Rattle.rx_tree.proofs.store.Store.let_wait.Goals as goal

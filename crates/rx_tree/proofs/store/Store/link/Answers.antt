@@ -1,7 +1,4 @@
-use Rattle.std.proofs.Common.{sym, ap, ◌∙◌}
-use Rattle.std.specs.Option.{option_map_or}
-use Rattle.rx_tree.specs.declared.links.Place.TheVariants.{Children, Held, Sibling, Noted, Stored}
-use Rattle.rx_tree.specs.Store.{alone}
+use Rattle.rx_tree.proofs.Common.{sym, ap, ◌∙◌, option_map_or, Children, Held, Sibling, Noted, Stored, alone}
 use Rattle.rx_tree.proofs.InPlace.{there_project}
 use Rattle.rx_tree.proofs.store.Store.link.Goals as goal
 

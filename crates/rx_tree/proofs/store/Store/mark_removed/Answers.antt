@@ -1,10 +1,6 @@
-use Rattle.std.proofs.Common.{◌≤◌, length, ◌==◌, cond, option_map, Some, IfSome, IsTrue, refl, sym, ap, subst, ◌∙◌, arith}
-use Rattle.std.specs.Option.{option_copied_mut}
-use Rattle.rx_tree.specs.declared.links.Place.TheVariants.{Stored}
-use Rattle.rx_slots.specs.Slots.{with_value, entry_of, Changes}
-use Rattle.rx_tree.specs.Store.{alone, project, nodes_of, resources_of, held_count_at, count_if, one_less, one_more}
-use Rattle.rx_tree.specs.Resources.{is_owned, is_lent, removed}
-use Rattle.rx_tree.specs.Tree.{Rewrites}
+use Rattle.rx_tree.proofs.Common.{◌≤◌, length, ◌==◌, cond, option_map, Some, IfSome, IsTrue, refl, sym, ap, subst, ◌∙◌, arith, option_copied_mut, Stored}
+use Rattle.rx_tree.proofs.Common.{with_value, entry_of, Changes, alone, project, nodes_of, resources_of, held_count_at, count_if, one_less, one_more, is_lent}
+use Rattle.rx_tree.proofs.Common.{is_owned, removed, Rewrites}
 use Rattle.rx_tree.proofs.StoreLemmas.{find-project, changes-written, rewrites-project, part-rewritten, resources_keep_links}
 use Rattle.rx_tree.proofs.CountSteps.{removed_some, removed_fits, counted_removed}
 use Rattle.rx_tree.proofs.store.Store.mark_removed.Goals as goal

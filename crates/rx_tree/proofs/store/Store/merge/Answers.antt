@@ -1,7 +1,4 @@
-use Rattle.std.proofs.Common.{ap}
-use Rattle.rx_tree.specs.Store.{link_at, next_of, previous_of}
-use Rattle.rx_tree.specs.Places.{places}
-use Rattle.rx_lists.proofs.Laws.JoinsLeavesMerges.{merges_of}
+use Rattle.rx_tree.proofs.Common.{ap, link_at, next_of, previous_of, places, merges_of}
 use Rattle.rx_tree.proofs.TieLemmas.{wrote_next, wrote_previous, relinks_both}
 use Rattle.rx_tree.proofs.store.Store.merge.Goals as goal
 

@@ -1,5 +1,4 @@
-use Rattle.std.proofs.Common.{◌∙◌}
-use Rattle.rx_tree.specs.Store.{nodes_of}
+use Rattle.rx_tree.proofs.Common.{◌∙◌, nodes_of}
 use Rattle.rx_tree.proofs.InPlace.{number_at-project, there_project, key_of_number}
 use Rattle.rx_tree.proofs.store.Store.node_key.Goals as goal
 

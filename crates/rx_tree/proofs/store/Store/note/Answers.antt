@@ -1,7 +1,4 @@
-use Rattle.std.proofs.Common.{◌≡◌, Bool, true, false, refl, sym, ◌∙◌, true≢false}
-use Rattle.std.proofs.Math.Bool.{not}
-use Rattle.rx_tree.specs.declared.links.Place.TheVariants.{Due}
-use Rattle.rx_tree.specs.Store.{nodes_of, resources_of, next_of, previous_of}
+use Rattle.rx_tree.proofs.Common.{◌≡◌, Bool, true, false, refl, sym, ◌∙◌, true≢false, not, Due, nodes_of, resources_of, next_of, previous_of}
 use Rattle.rx_tree.proofs.CountSteps.{counted_relinked}
 use Rattle.rx_tree.proofs.MarkSteps.{noted_already, noted_tied, noted_chain}
 use Rattle.rx_tree.proofs.There.{slot_stands, previous_stands}

@@ -1,9 +1,4 @@
-use Rattle.std.proofs.Common.{◌≡◌, cond, true, false, is_some, sym, ap, ◌∙◌}
-use Rattle.std.specs.Option.{option_map_or}
-use Rattle.rx_event.specs.Marks.{terminal_due}
-use Rattle.rx_tree.specs.declared.node.Node.{Node}
-use Rattle.rx_tree.specs.Store.{nodes_of, shown}
-use Rattle.rx_tree.specs.Tree.{is_due, with_last}
+use Rattle.rx_tree.proofs.Common.{◌≡◌, cond, true, false, is_some, sym, ap, ◌∙◌, option_map_or, terminal_due, Node, nodes_of, shown, is_due, with_last}
 use Rattle.rx_tree.proofs.MarksWritten.{node_found}
 use Rattle.rx_tree.proofs.store.Store.note_due.Goals as goal
 

@@ -1,6 +1,5 @@
+use Rattle.rx_tree.proofs.Common.{◌+◌, ◌<◌, ◌^◌, after_notifier}
 use Rattle.rx_tree.proofs.MarksWritten.{slot_there, node_holds, owed_alike, remarked}
-use Rattle.std.proofs.Common.{◌+◌, ◌<◌, ◌^◌}
-use Rattle.rx_event.specs.Marks.{after_notifier}
 use Rattle.rx_tree.proofs.store.Store.open_notifier.Goals as goal
 
 pub at_mut-requires : goal.at_mut-requires

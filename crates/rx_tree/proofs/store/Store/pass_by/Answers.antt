@@ -1,7 +1,4 @@
-use Rattle.std.proofs.Common.{ap, ◌∙◌}
-use Rattle.rx_lists.specs.Rings.{set_step}
-use Rattle.rx_tree.specs.Places.{places}
-use Rattle.rx_tree.specs.Store.{next_of, previous_of}
+use Rattle.rx_tree.proofs.Common.{ap, ◌∙◌, set_step, places, next_of, previous_of}
 use Rattle.rx_tree.proofs.store.Store.pass_by.Goals as goal
 
 pub returns-clause-passes : goal.returns-clause-passes

@@ -1,6 +1,5 @@
+use Rattle.rx_tree.proofs.Common.{arith, after_projection}
 use Rattle.rx_tree.proofs.MarksWritten.{slot_there, owed_within, owed_more, remarked}
-use Rattle.std.proofs.Common.{arith}
-use Rattle.rx_event.specs.Marks.{after_projection}
 use Rattle.rx_tree.proofs.store.Store.project.Goals as goal
 
 pub at_mut-requires : goal.at_mut-requires

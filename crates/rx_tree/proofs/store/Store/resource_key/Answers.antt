@@ -1,5 +1,4 @@
-use Rattle.std.proofs.Common.{◌∙◌}
-use Rattle.rx_tree.specs.Store.{resources_of}
+use Rattle.rx_tree.proofs.Common.{◌∙◌, resources_of}
 use Rattle.rx_tree.proofs.InPlace.{number_at-project, there_project, key_of_number}
 use Rattle.rx_tree.proofs.store.Store.resource_key.Goals as goal
 

@@ -1,7 +1,4 @@
-use Rattle.std.proofs.Common.{refl}
-use Rattle.rx_slots.specs.Slots.{with_value_at}
-use Rattle.rx_tree.specs.declared.links.Place.TheVariants.{Children, Held, Sibling, Noted}
-use Rattle.rx_tree.specs.Store.{alone}
+use Rattle.rx_tree.proofs.Common.{refl, with_value_at, Children, Held, Sibling, Noted, alone}
 use Rattle.rx_tree.proofs.InPlace.{there_project}
 use Rattle.rx_tree.proofs.StoreLemmas.{part-kept, project-written, nodes_keep_links}
 use Rattle.rx_tree.proofs.store.Store.set_held_count.Goals as goal

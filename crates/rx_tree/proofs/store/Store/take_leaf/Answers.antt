@@ -1,9 +1,6 @@
-use Rattle.std.proofs.Common.{◌≡◌, true, is_some, sym, ap, subst, ◌∙◌}
-use Rattle.rx_slots.specs.Slots.{find, entry_at}
-use Rattle.rx_tree.specs.Store.{project, nodes_of}
-use Rattle.rx_tree.proofs.Laws.Keys.{some_of}
-use Rattle.rx_tree.proofs.LeafSteps.{noted_before, noted_after, noted_loop, sibling_before, sibling_after, noted_alone, children_alone, held_alone}
-use Rattle.rx_tree.proofs.LeafSteps.{taken, leaf_tied, leaf_chain}
+use Rattle.rx_tree.proofs.Common.{◌≡◌, true, is_some, sym, ap, subst, ◌∙◌, find, entry_at, project, nodes_of, some_of}
+use Rattle.rx_tree.proofs.LeafSteps.{noted_before, noted_after, noted_loop, sibling_before, sibling_after, noted_alone, children_alone, held_alone, taken}
+use Rattle.rx_tree.proofs.LeafSteps.{leaf_tied, leaf_chain}
 use Rattle.rx_tree.proofs.CountSteps.{counted_relinked}
 use Rattle.rx_tree.proofs.There.{slot_stands}
 use Rattle.rx_tree.proofs.store.Store.take_leaf.Goals as goal

@@ -1,7 +1,4 @@
-use Rattle.std.proofs.Common.{◌≡◌, ◌+◌, ◌-◌, Bool, true, false, refl, ap, arith}
-use Rattle.rx_tree.specs.declared.links.Place.TheVariants.{Children, Held, Sibling, Noted}
-use Rattle.rx_tree.specs.declared.store.Counts.{Counts}
-use Rattle.rx_tree.specs.Store.{alone, count_if}
+use Rattle.rx_tree.proofs.Common.{◌≡◌, ◌+◌, ◌-◌, Bool, true, false, refl, ap, arith, Children, Held, Sibling, Noted, Counts, alone, count_if}
 use Rattle.rx_tree.proofs.StoreLemmas.{takes-project, changes-project, part-taken, part-gone, links_taken}
 use Rattle.rx_tree.proofs.CountSteps.{out_fits, some_owed, counted_gone}
 use Rattle.rx_tree.proofs.MarksWritten.{found_in}

@@ -1,5 +1,4 @@
-use Rattle.std.proofs.Common.{cond, ap, ◌∙◌}
-use Rattle.rx_tree.specs.Places.{is_place}
+use Rattle.rx_tree.proofs.Common.{cond, ap, ◌∙◌, is_place}
 use Rattle.rx_tree.proofs.TieLemmas.{relinks_both}
 use Rattle.rx_tree.proofs.store.Store.tie.Goals as goal
 

@@ -1,11 +1,5 @@
-use Rattle.std.proofs.Common.{◌-◌, false, option_map, Some, IfSome, IsTrue, refl, sym, ap, subst, ◌∙◌, arith}
-use Rattle.std.proofs.Math.Bool.{not}
-use Rattle.std.specs.Option.{option_copied_mut, option_map_or}
-use Rattle.rx_tree.specs.declared.links.Place.TheVariants.{Stored}
-use Rattle.rx_slots.specs.Slots.{with_value, entry_of, Changes}
-use Rattle.rx_tree.specs.Store.{alone, project, nodes_of, resources_of}
-use Rattle.rx_tree.specs.Resources.{is_owned, is_lent, one_lease_less}
-use Rattle.rx_tree.specs.Tree.{Rewrites}
+use Rattle.rx_tree.proofs.Common.{◌-◌, false, option_map, Some, IfSome, IsTrue, refl, sym, ap, subst, ◌∙◌, arith, not, option_copied_mut, option_map_or}
+use Rattle.rx_tree.proofs.Common.{Stored, with_value, entry_of, Changes, alone, project, nodes_of, resources_of, is_owned, is_lent, one_lease_less, Rewrites}
 use Rattle.rx_tree.proofs.StoreLemmas.{find-project, changes-written, rewrites-project, part-rewritten, resources_keep_links}
 use Rattle.rx_tree.proofs.CountSteps.{last_some, last_fits, counted_last, counted_fewer}
 use Rattle.rx_tree.proofs.CountLemmas.{same_here, same_apart}

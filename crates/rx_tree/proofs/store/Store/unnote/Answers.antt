@@ -1,9 +1,4 @@
-use Rattle.std.proofs.Common.{◌≡◌, Bool, true, false, refl, sym, ◌∙◌, true≢false}
-use Rattle.std.proofs.Math.Bool.{not}
-use Rattle.rx_tree.specs.declared.links.Place.TheVariants.{Noted}
-use Rattle.rx_tree.specs.Store.{next_of, previous_of}
-use Rattle.rx_tree.proofs.PlacesApart.{tells}
-use Rattle.rx_lists.proofs.Laws.JoinsLeavesMerges.{leaves_nothing}
+use Rattle.rx_tree.proofs.Common.{◌≡◌, Bool, true, false, refl, sym, ◌∙◌, true≢false, not, Noted, next_of, previous_of, tells, leaves_nothing}
 use Rattle.rx_tree.proofs.store.Store.unnote.Goals as goal
 
 not_false : (b : Bool) → false ≡ not b → b ≡ true

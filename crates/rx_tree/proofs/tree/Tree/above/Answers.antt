@@ -1,9 +1,5 @@
-use Rattle.std.proofs.Common.{◌≡◌, Some, option_map, is_some, IsSome, sym, ap, ◌∙◌}
-use Rattle.rx_slots.specs.Slots.{entry_at, value_at, find}
-use Rattle.rx_slots.proofs.Laws.EntryByNumber.{find-value_at}
-use Rattle.rx_tree.specs.Store.{nodes_of}
+use Rattle.rx_tree.proofs.Common.{◌≡◌, Some, option_map, is_some, IsSome, sym, ap, ◌∙◌, entry_at, value_at, find, find-value_at, nodes_of, some_of}
 use Rattle.rx_tree.proofs.InPlace.{value_at-project, there_project, above_at}
-use Rattle.rx_tree.proofs.Laws.Keys.{some_of}
 use Rattle.rx_tree.proofs.There.{slot_stands}
 use Rattle.rx_tree.proofs.tree.Tree.above.Goals as goal
 

@@ -1,5 +1,4 @@
-use Rattle.std.proofs.Common.{sym, ap, ◌∙◌}
-use Rattle.std.specs.Option.{option_copied_mut}
+use Rattle.rx_tree.proofs.Common.{sym, ap, ◌∙◌, option_copied_mut}
 use Rattle.rx_tree.proofs.UseSteps.{used_kept, used}
 use Rattle.rx_tree.proofs.tree.Tree.apply.Goals as goal
 

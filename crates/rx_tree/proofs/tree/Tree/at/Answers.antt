@@ -1,5 +1,4 @@
-use Rattle.std.proofs.Common.{option_map, ap, ◌∙◌}
-use Rattle.rx_tree.specs.Store.{nodes_of}
+use Rattle.rx_tree.proofs.Common.{option_map, ap, ◌∙◌, nodes_of}
 use Rattle.rx_tree.proofs.InPlace.{value_at-project, there_project, above_at}
 use Rattle.rx_tree.proofs.tree.Tree.at.Goals as goal
 

@@ -1,9 +1,6 @@
-use Rattle.std.proofs.Common.{◌+◌, ◌∙◌, vec_len, ap, refl}
-use Rattle.rx_tree.specs.Cuts.{from_top}
-use Rattle.rx_tree.specs.Tree.{Tree}
-use Rattle.rx_tree.proofs.CloseSteps.{cutting_start, cutting_step, next_down, top_out, closed_before, closed_moved}
-use Rattle.rx_tree.proofs.CloseSteps.{closed_kept, closed_owed, closed_chain, room_left}
-use Rattle.rx_tree.proofs.CloseSteps.{one_moved, one_less}
+use Rattle.rx_tree.proofs.Common.{◌+◌, ◌∙◌, vec_len, ap, refl, from_top, Tree}
+use Rattle.rx_tree.proofs.CloseSteps.{cutting_start, cutting_step, next_down, top_out, closed_before, closed_moved, closed_kept, closed_owed, closed_chain}
+use Rattle.rx_tree.proofs.CloseSteps.{room_left, one_moved, one_less}
 use Rattle.rx_tree.proofs.tree.Tree.close_below.Goals as goal
 
 pub loop-above-init : goal.loop-above-init

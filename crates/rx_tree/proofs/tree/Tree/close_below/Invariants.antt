@@ -1,8 +1,4 @@
-use Rattle.std.proofs.Common.{◌≡◌, ◌+◌, IsSome, vec_len, vec_capacity}
-use Rattle.rx_slots.specs.Slots.{find}
-use Rattle.rx_tree.specs.Cuts.{Descends, IsCutting}
-use Rattle.rx_tree.specs.Store.{nodes_of}
-use Rattle.rx_tree.specs.Ties.{IsCounted}
+use Rattle.rx_tree.proofs.Common.{◌≡◌, ◌+◌, IsSome, vec_len, vec_capacity, find, Descends, IsCutting, nodes_of, IsCounted}
 use Rattle.rx_tree.proofs.tree.Tree.close_below.Given as goal
 
 abbrev pub invariant-loop-above : goal.invariant-loop-above

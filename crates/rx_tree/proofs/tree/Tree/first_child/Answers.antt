@@ -1,7 +1,5 @@
-use Rattle.std.proofs.Common.{refl, is_some, IfSome, IfNone, sym, ap, subst, ◌∙◌}
-use Rattle.rx_tree.specs.declared.links.Place.TheVariants.{Children}
-use Rattle.rx_tree.specs.Store.{nodes_of, resources_of, next_of, previous_of}
-use Rattle.rx_tree.specs.Tree.{IsChild, IsFirst, HasNone}
+use Rattle.rx_tree.proofs.Common.{refl, is_some, IfSome, IfNone, sym, ap, subst, ◌∙◌, Children, nodes_of, resources_of, next_of, previous_of, IsChild}
+use Rattle.rx_tree.proofs.Common.{IsFirst, HasNone}
 use Rattle.rx_tree.proofs.Siblings.{children_ring, first_some, first_there, first_none}
 use Rattle.rx_tree.proofs.There.{slot_stands}
 use Rattle.rx_tree.proofs.tree.Tree.first_child.Goals as goal

@@ -1,7 +1,4 @@
-use Rattle.std.proofs.Common.{refl, IfSome, IfNone, sym, ap, subst, ◌∙◌}
-use Rattle.rx_tree.specs.declared.links.Place.TheVariants.{Roots}
-use Rattle.rx_tree.specs.Store.{nodes_of, resources_of, next_of, previous_of}
-use Rattle.rx_tree.specs.Tree.{IsRoot, IsFirst, HasNone}
+use Rattle.rx_tree.proofs.Common.{refl, IfSome, IfNone, sym, ap, subst, ◌∙◌, Roots, nodes_of, resources_of, next_of, previous_of, IsRoot, IsFirst, HasNone}
 use Rattle.rx_tree.proofs.Siblings.{roots_ring, first_some, first_there, first_none}
 use Rattle.rx_tree.proofs.tree.Tree.first_root.Goals as goal
 

@@ -1,5 +1,4 @@
-use Rattle.std.proofs.Common.{option_map, option_copied, sym, ap, ◌∙◌}
-use Rattle.rx_tree.specs.Store.{nodes_of}
+use Rattle.rx_tree.proofs.Common.{option_map, option_copied, sym, ap, ◌∙◌, nodes_of}
 use Rattle.rx_tree.proofs.InPlace.{above_found}
 use Rattle.rx_tree.proofs.StoreLemmas.{find-project}
 use Rattle.rx_tree.proofs.tree.Tree.get.Goals as goal

@@ -1,7 +1,4 @@
-use Rattle.std.proofs.Common.{true, false, ◌&&◌, refl, sym, ap, subst}
-use Rattle.rx_tree.specs.Store.{nodes_of}
-use Rattle.rx_tree.specs.Ties.{IsKept}
-use Rattle.rx_tree.specs.declared.links.Place.TheVariants.{Held}
+use Rattle.rx_tree.proofs.Common.{true, false, ◌&&◌, refl, sym, ap, subst, nodes_of, IsKept, Held}
 use Rattle.rx_tree.proofs.There.{slot_stands}
 use Rattle.rx_tree.proofs.RecordSteps.{room_resources, held_last, held_tied, held_chain}
 use Rattle.rx_tree.proofs.CountSteps.{counted_room_resources, counted_relinked}

@@ -1,11 +1,5 @@
-use Rattle.std.proofs.Common.{◌≡◌, true, Option, Some, None, is_some, option_map, refl, sym, ap, ◌∙◌}
-use Rattle.std.proofs.lemmas.Bool.{false≢true}
-use Rattle.rx_slots.specs.declared.Entry.{Entry}
-use Rattle.rx_slots.specs.declared.Key.{Key}
-use Rattle.rx_slots.specs.Slots.{entry_at}
-use Rattle.rx_tree.specs.declared.node.Node.{Node}
-use Rattle.rx_tree.specs.Store.{nodes_of}
-use Rattle.rx_tree.specs.Tree.{first_of}
+use Rattle.rx_tree.proofs.Common.{◌≡◌, true, Option, Some, None, is_some, option_map, refl, sym, ap, ◌∙◌, false≢true, Entry, Key, entry_at, Node, nodes_of}
+use Rattle.rx_tree.proofs.Common.{first_of}
 use Rattle.rx_tree.proofs.MarkSteps.{chain_none, chain_first, first_stands}
 use Rattle.rx_tree.proofs.tree.Tree.is_calm.Goals as goal
 

@@ -1,11 +1,6 @@
-use Rattle.std.proofs.Common.{◌≡◌, cond, Some, None, sym, ap, subst}
-use Rattle.rx_slots.specs.declared.Key.{Key}
-use Rattle.rx_slots.specs.Slots.{find}
-use Rattle.rx_tree.specs.Resources.{is_owned, one_lease_more}
-use Rattle.rx_tree.specs.Store.{nodes_of, resources_of}
-use Rattle.rx_tree.specs.Ties.{resource_ring}
+use Rattle.rx_tree.proofs.Common.{◌≡◌, cond, Some, None, sym, ap, subst, Key, find, is_owned, one_lease_more, nodes_of, resources_of, resource_ring, Held}
+use Rattle.rx_tree.proofs.Common.{Waiting}
 use Rattle.rx_tree.proofs.RemoveSteps.{found_where, stored_stands, stored_before, stored_after, off_tied, off_chain}
-use Rattle.rx_tree.specs.declared.links.Place.TheVariants.{Held, Waiting}
 use Rattle.rx_tree.proofs.CountSteps.{counted_relinked, more_lent}
 use Rattle.rx_tree.proofs.tree.Tree.lend.Goals as goal
 

@@ -1,7 +1,4 @@
-use Rattle.std.proofs.Common.{◌≡◌, Some, ◌∙◌}
-use Rattle.rx_slots.specs.Slots.{find}
-use Rattle.rx_tree.specs.Store.{nodes_of}
-use Rattle.rx_tree.proofs.Laws.Keys.{some_of}
+use Rattle.rx_tree.proofs.Common.{◌≡◌, Some, ◌∙◌, find, nodes_of, some_of}
 use Rattle.rx_tree.proofs.MarkSteps.{marked_kept, marked_open, marked_nodes, marked_due, marked_resources}
 use Rattle.rx_tree.proofs.tree.Tree.mark_end.Goals as goal
 

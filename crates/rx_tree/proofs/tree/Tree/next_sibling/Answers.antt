@@ -1,7 +1,5 @@
-use Rattle.std.proofs.Common.{refl, ◌+◌, is_some, IfSome, IfNone, sym, ap, subst, ◌∙◌}
-use Rattle.rx_slots.specs.declared.Key.{Key}
-use Rattle.rx_tree.specs.Store.{nodes_of, resources_of, next_of, previous_of}
-use Rattle.rx_tree.specs.Tree.{IsChild, IsFirst, HasNone}
+use Rattle.rx_tree.proofs.Common.{refl, ◌+◌, is_some, IfSome, IfNone, sym, ap, subst, ◌∙◌, Key, nodes_of, resources_of, next_of, previous_of, IsChild}
+use Rattle.rx_tree.proofs.Common.{IsFirst, HasNone}
 use Rattle.rx_tree.proofs.Siblings.{sibling_some, sibling_there, sibling_none, named_above_one, named_above_none}
 use Rattle.rx_tree.proofs.There.{slot_stands}
 use Rattle.rx_tree.proofs.tree.Tree.next_sibling.Goals as goal

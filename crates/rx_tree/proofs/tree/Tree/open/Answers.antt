@@ -1,11 +1,6 @@
-use Rattle.std.proofs.Common.{refl, sym, ap, subst, ◌∙◌}
-use Rattle.rx_tree.specs.Store.{project, nodes_of, resources_of}
-use Rattle.rx_tree.specs.Ties.{IsKept}
-use Rattle.rx_tree.specs.Owed.{owed_in}
-use Rattle.rx_tree.specs.Tree.{Tree}
+use Rattle.rx_tree.proofs.Common.{refl, sym, ap, subst, ◌∙◌, project, nodes_of, resources_of, IsKept, owed_in, Tree, Marks}
 use Rattle.rx_tree.proofs.RecordSteps.{room_nodes, opened_last, ring_stands, opened_on_tied, opened_on_chain, opened_off_tied, opened_off_chain}
 use Rattle.rx_tree.proofs.CountSteps.{counted_room_nodes, counted_relinked, owed_opened}
-use Rattle.rx_event.specs.declared.marks.Marks.{Marks}
 use Rattle.rx_tree.proofs.tree.Tree.open.Goals as goal
 
 pub invariant_of-self : goal.invariant_of-self

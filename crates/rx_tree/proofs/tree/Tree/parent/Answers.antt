@@ -1,5 +1,4 @@
-use Rattle.std.proofs.Common.{sym, ◌∙◌}
-use Rattle.rx_tree.specs.Store.{nodes_of}
+use Rattle.rx_tree.proofs.Common.{sym, ◌∙◌, nodes_of}
 use Rattle.rx_tree.proofs.Laws.Parents.{named_parent}
 use Rattle.rx_tree.proofs.tree.Tree.parent.Goals as goal
 

@@ -1,5 +1,4 @@
-use Rattle.std.proofs.Common.{sym, ap, ◌∙◌}
-use Rattle.rx_tree.specs.Tree.{first_of}
+use Rattle.rx_tree.proofs.Common.{sym, ap, ◌∙◌, first_of}
 use Rattle.rx_tree.proofs.MarkSteps.{chain_none, chain_first}
 use Rattle.rx_tree.proofs.tree.Tree.pending.Goals as goal
 

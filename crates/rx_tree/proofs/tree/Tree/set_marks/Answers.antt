@@ -1,11 +1,5 @@
-use Rattle.std.proofs.Common.{◌≡◌, cond, true, false, Option, Some, None, option_map, is_some, refl, sym, ap, ◌∙◌, true≢false}
-use Rattle.std.specs.Option.{option_map_or}
-use Rattle.rx_event.specs.Marks.{terminal_due}
-use Rattle.rx_slots.specs.Slots.{find}
-use Rattle.rx_tree.specs.declared.node.Node.{Node}
-use Rattle.rx_tree.specs.Store.{nodes_of}
-use Rattle.rx_tree.specs.Tree.{with_last, with_marks}
-use Rattle.rx_tree.proofs.Laws.Keys.{some_of}
+use Rattle.rx_tree.proofs.Common.{◌≡◌, cond, true, false, Option, Some, None, option_map, is_some, refl, sym, ap, ◌∙◌, true≢false, option_map_or, find, Node}
+use Rattle.rx_tree.proofs.Common.{terminal_due, nodes_of, with_last, with_marks, some_of}
 use Rattle.rx_tree.proofs.MarkSteps.{marked_kept, marked_open, marked_nodes, marked_due, marked_resources}
 use Rattle.rx_tree.proofs.tree.Tree.set_marks.Goals as goal
 

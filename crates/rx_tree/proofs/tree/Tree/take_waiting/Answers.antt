@@ -1,7 +1,4 @@
-use Rattle.std.proofs.Common.{◌≡◌, false, Some, IfSome, is_some, refl, sym, ap, subst, ◌∙◌}
-use Rattle.rx_slots.specs.Slots.{find}
-use Rattle.rx_tree.specs.Store.{project, nodes_of}
-use Rattle.rx_tree.specs.Resources.{is_held}
+use Rattle.rx_tree.proofs.Common.{◌≡◌, false, Some, IfSome, is_some, refl, sym, ap, subst, ◌∙◌, find, project, nodes_of, is_held}
 use Rattle.rx_tree.proofs.RemoveSteps.{stored_before, stored_after}
 use Rattle.rx_tree.proofs.WaitSteps.{all_held, first_there, first_waits, waits_of, left_alone, taken_tied, taken_chain, takes}
 use Rattle.rx_tree.proofs.CountSteps.{counted_relinked}

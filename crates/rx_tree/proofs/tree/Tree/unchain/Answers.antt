@@ -1,6 +1,4 @@
-use Rattle.std.proofs.Common.{sym, ap, ◌∙◌, drop}
-use Rattle.rx_tree.specs.declared.links.Place.TheVariants.{Noted}
-use Rattle.rx_tree.specs.Store.{nodes_of, resources_of, next_of, previous_of, shown}
+use Rattle.rx_tree.proofs.Common.{sym, ap, ◌∙◌, drop, Noted, nodes_of, resources_of, next_of, previous_of, shown}
 use Rattle.rx_tree.proofs.There.{next_stands, previous_stands}
 use Rattle.rx_tree.proofs.MarkSteps.{chain_none, first_stands, dropped_tied, dropped_shown}
 use Rattle.rx_tree.proofs.CountSteps.{counted_relinked}

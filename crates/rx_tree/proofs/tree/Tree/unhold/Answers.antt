@@ -1,15 +1,8 @@
-use Rattle.std.proofs.Common.{◌≡◌, Some, sym, ap, subst, ◌∙◌}
-use Rattle.std.specs.Option.{option_and_then}
-use Rattle.rx_slots.specs.declared.Key.{Key}
-use Rattle.rx_slots.specs.Slots.{find}
-use Rattle.rx_tree.specs.Resources.{is_owned, removed}
-use Rattle.rx_tree.specs.Store.{nodes_of, resources_of}
-use Rattle.rx_tree.specs.Ties.{resource_ring}
+use Rattle.rx_tree.proofs.Common.{◌≡◌, Some, sym, ap, subst, ◌∙◌, option_and_then, Key, find, is_owned, removed, nodes_of, resources_of, resource_ring}
+use Rattle.rx_tree.proofs.Common.{found_entry, Stored}
 use Rattle.rx_tree.proofs.There.{ring_stands}
-use Rattle.rx_tree.proofs.Laws.FoundAfterWrite.{found_entry}
 use Rattle.rx_tree.proofs.RemoveSteps.{found_where, stored_stands, stored_before, stored_after, stands_still, last_there, off_tied, off_chain, on_tied}
 use Rattle.rx_tree.proofs.RemoveSteps.{on_chain}
-use Rattle.rx_tree.specs.declared.links.Place.TheVariants.{Stored}
 use Rattle.rx_tree.proofs.CountSteps.{counted_relinked}
 use Rattle.rx_tree.proofs.tree.Tree.unhold.Goals as goal
 

@@ -1,15 +1,7 @@
-use Rattle.std.proofs.Common.{sym, ap, ◌∙◌}
-use Rattle.std.specs.Option.{option_and_then}
-use Rattle.rx_slots.specs.declared.Key.{Key}
-use Rattle.rx_slots.specs.Slots.{find}
-use Rattle.rx_tree.specs.Resources.{is_lent, one_lease_less}
-use Rattle.rx_tree.specs.Store.{nodes_of, resources_of}
-use Rattle.rx_tree.specs.Ties.{resource_ring}
+use Rattle.rx_tree.proofs.Common.{sym, ap, ◌∙◌, option_and_then, Key, find, is_lent, one_lease_less, nodes_of, resources_of, resource_ring, found_entry}
+use Rattle.rx_tree.proofs.Common.{Stored}
 use Rattle.rx_tree.proofs.There.{ring_stands}
-use Rattle.rx_tree.proofs.Laws.FoundAfterWrite.{found_entry}
-use Rattle.rx_tree.proofs.RemoveSteps.{found_where, stored_stands, lent_stays, relinks_same, stands_still, last_there, off_tied, off_chain, on_tied}
-use Rattle.rx_tree.proofs.RemoveSteps.{on_chain}
-use Rattle.rx_tree.specs.declared.links.Place.TheVariants.{Stored}
+use Rattle.rx_tree.proofs.RemoveSteps.{found_where, stored_stands, lent_stays, relinks_same, stands_still, last_there, off_tied, off_chain, on_tied, on_chain}
 use Rattle.rx_tree.proofs.CountSteps.{counted_relinked}
 use Rattle.rx_tree.proofs.tree.Tree.unlend.Goals as goal
 

@@ -1,5 +1,4 @@
-use Rattle.std.proofs.Common.{refl, sym}
-use Rattle.rx_typed.specs.Events.{tells_event}
+use Rattle.rx_typed.proofs.Common.{refl, sym, tells_event}
 use Rattle.rx_typed.proofs.typed.Typed.event.Goals as goal
 
 pub returns-in-Some : goal.returns-in-Some

@@ -1,5 +1,4 @@
-use Rattle.std.proofs.Common.{◌∙◌, sym}
-use Rattle.std.proofs.lemmas.Bool.{eqb-true}
+use Rattle.rx_typed.proofs.Common.{◌∙◌, sym, eqb-true}
 use Rattle.rx_typed.proofs.EachIsTaken.{each_is_taken}
 use Rattle.rx_typed.proofs.typed.Typed.is_taken_whole.Goals as goal
 

@@ -1,5 +1,4 @@
-use Rattle.std.proofs.Common.{refl}
-use Rattle.rx_typed.specs.Calls.{takes}
+use Rattle.rx_typed.proofs.Common.{refl, takes}
 use Rattle.rx_typed.proofs.typed.Typed.take.Goals as goal
 
 pub returns-in-Some : goal.returns-in-Some

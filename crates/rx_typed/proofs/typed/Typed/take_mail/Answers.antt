@@ -1,5 +1,4 @@
-use Rattle.std.proofs.Common.{refl, sym}
-use Rattle.rx_typed.specs.Calls.{tells}
+use Rattle.rx_typed.proofs.Common.{refl, sym, tells}
 use Rattle.rx_typed.proofs.typed.Typed.take_mail.Goals as goal
 
 pub returns-in-Some : goal.returns-in-Some
