@@ -1,1 +1,2 @@
 pub mod EntryByNumber
+pub mod OthersKept

@@ -1,9 +1,8 @@
--- Lemmas on what a contract sees of `Slots`, for this crate and its callers.
+-- What a write makes of the entries, slot by slot.
 use Rattle.rx_slots.proofs.Common.{◌≡◌, ◌≢◌, ℕ, zero, suc, ◌+◌, ◌-◌, ◌<◌, List, [], ◌∷◌, ◌++◌, length, get_or, set, replicate, Option, Some, None, is_some}
-use Rattle.rx_slots.proofs.Common.{IsSome, refl, sym, ap, ◌∙◌, inl, inr, arith, true≢false, cases_eq, cases_lt, length-set, get_or_past, get_or-set_same, Key}
-use Rattle.rx_slots.proofs.Common.{get_or-set_other, Entry, Slots, slot_count, entry_at, with_number, find, placed, Changes, KeepsOthers}
+use Rattle.rx_slots.proofs.Common.{refl, sym, ap, ◌∙◌, inl, inr, arith, true≢false, cases_lt, length-set, get_or_past, get_or-set_same}
+use Rattle.rx_slots.proofs.Common.{get_or-set_other, Entry, Slots, slot_count, entry_at, placed, Changes}
 use Rattle.std.proofs.lemmas.List.{length-append, length-replicate}
-use Rattle.rx_slots.proofs.Laws.EntryByNumber.{with_number-other, found_entry}
 
 -- nothing more is read past the end of a list that is longer by nothing
 pub get_or-append-nothing : {X : Type 0} (xs : List (Option X)) (more k : ℕ) → get_or (xs ++ replicate more None) k None ≡ get_or xs k None
@@ -12,9 +11,6 @@ get_or-append-nothing [] (suc more) zero = refl
 get_or-append-nothing [] (suc more) (suc k) = get_or-append-nothing [] more k
 get_or-append-nothing (x ∷ xs) more zero = refl
 get_or-append-nothing (x ∷ xs) more (suc k) = get_or-append-nothing xs more k
-
-same_key : (a b : Key) → a.slot ≡ b.slot → a.number ≡ b.number → a ≡ b
-same_key a b slot number = λ i. record { slot = slot i; number = number i }
 
 module _ {T : Type 0} where
   pub length-placed : (entries : List (Option (Entry T))) (slot : ℕ) (e : Entry T) →
@@ -52,25 +48,3 @@ module _ {T : Type 0} where
         changed = rw written (get_or-set_same longer slot (Some e) None within);
         others = λ other differs. rw written (get_or-set_other longer slot other (Some e) None differs ∙ get_or-append-nothing old.entries more other);
       }
-
-  -- where another key finds what it found before, if its slot kept it or found nothing for other numbers
-  KeepsOthers-at : (old new : Slots T) (key : Key) →
-      ((number : ℕ) → key.number ≢ number → with_number number (entry_at new key.slot) ≡ with_number number (entry_at old key.slot)) →
-      ((slot : ℕ) → slot ≢ key.slot → entry_at new slot ≡ entry_at old slot) → KeepsOthers old new key
-  KeepsOthers-at old new key here elsewhere other differs =
-      elim (cases_eq other.slot key.slot) [
-        | inl same ↦ rw same (here other.number (λ q. differs (same_key other key same (sym q))))
-        | inr apart ↦ ap (with_number other.number) (elsewhere other.slot apart)
-      ]
-
-  -- a value put at a free slot leaves what each other key finds
-  pub KeepsOthers-insert : (old new : Slots T) (key : Key) (value : T) → entry_at old key.slot ≡ None →
-      Changes old new key.slot (Some (record { number = key.number; value = value })) → KeepsOthers old new key
-  KeepsOthers-insert old new key value free changes =
-      KeepsOthers-at old new key (λ number apart. rw (changes.changed, free) (with_number-other number _ apart)) changes.others
-
-  -- and so does a value taken out
-  pub KeepsOthers-take : (old new : Slots T) (key : Key) → IsSome (find old key) → Changes old new key.slot None → KeepsOthers old new key
-  KeepsOthers-take old new key found changes =
-      let at = found_entry old key found in
-      KeepsOthers-at old new key (λ number apart. rw (changes.changed, at.1) (sym (with_number-other number at.0 (λ q. apart (sym at.2 ∙ q))))) changes.others

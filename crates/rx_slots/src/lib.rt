@@ -11,8 +11,7 @@
 //! values more need no memory. `entry_at`, `number_at`, `value_at` and `key_at` look a slot up, and
 //! `find` a key. `Changes` says that one slot changes, and `KeepsOthers` that every other key finds
 //! what it found. `placed` is what an insert makes of the entries, `with_value` what a write does.
-//! `proofs/SlotsLemmas.antt` has lemmas on these for callers, and `src/tests.rt` three callers with
-//! contracts of their own: an insert that counts, a walk over all slots, and a write through a key.
+//! `proofs/Laws` has lemmas on these for callers.
 //!
 //! Where a value is known to stand at a slot, [`Slots::at`], [`Slots::number_of`] and [`Slots::at_mut`]
 //! read it in place and [`Slots::take_at`] takes it out, and where there is room [`Slots::place`] puts one

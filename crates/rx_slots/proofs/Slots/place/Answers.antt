@@ -1,6 +1,7 @@
 use Rattle.rx_slots.proofs.Common.{◌≡◌, None, is_some, length, refl, sym, ap, ◌∙◌, arith, true≢false, get_or_past, get_or_read, Entry, Key, shown, Slots}
 use Rattle.rx_slots.proofs.Common.{with_number, placed, entry_at}
-use Rattle.rx_slots.proofs.SlotsLemmas.{length-placed, Changes-placed, KeepsOthers-insert}
+use Rattle.rx_slots.proofs.SlotsLemmas.{length-placed, Changes-placed}
+use Rattle.rx_slots.proofs.Laws.OthersKept.{KeepsOthers-insert}
 use Rattle.rx_slots.proofs.Laws.EntryByNumber.{with_number-same}
 use Rattle.rx_slots.proofs.KeptLemmas.{placed_next, placed_within, reused_below, reused_free, reused_next, kept_reused}
 use Rattle.rx_slots.proofs.Slots.place.Goals as goal

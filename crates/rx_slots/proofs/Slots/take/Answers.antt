@@ -1,5 +1,5 @@
 use Rattle.rx_slots.proofs.Common.{sym, ap, ◌∙◌, with_number}
-use Rattle.rx_slots.proofs.SlotsLemmas.{KeepsOthers-take}
+use Rattle.rx_slots.proofs.Laws.OthersKept.{KeepsOthers-take}
 use Rattle.rx_slots.proofs.Laws.EntryByNumber.{found_there, find-value_at}
 use Rattle.rx_slots.proofs.Slots.take.Goals as goal
 

@@ -1,6 +1,7 @@
 use Rattle.rx_slots.proofs.Common.{◌≡◌, [], ◌∷◌, ◌++◌, None, length, refl, sym, ap, ◌∙◌, arith, get_or_past, Entry, Key, shown, Slots, with_number, placed}
 use Rattle.rx_slots.proofs.Common.{entry_at}
-use Rattle.rx_slots.proofs.SlotsLemmas.{length-placed, Changes-placed, KeepsOthers-insert}
+use Rattle.rx_slots.proofs.SlotsLemmas.{length-placed, Changes-placed}
+use Rattle.rx_slots.proofs.Laws.OthersKept.{KeepsOthers-insert}
 use Rattle.rx_slots.proofs.Laws.EntryByNumber.{with_number-same}
 use Rattle.rx_slots.proofs.KeptLemmas.{placed_next, placed_within, reused_below, reused_next, kept_reused}
 use Rattle.rx_slots.proofs.records.Records.place.Goals as goal

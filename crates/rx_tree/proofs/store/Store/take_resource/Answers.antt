@@ -1,6 +1,6 @@
 use Rattle.rx_tree.proofs.Common.{◌≡◌, false, Some, IsSome, option_map, IfSome, refl, ap, subst, ◌∙◌, find, with_number, found_there, find-value_at, Stored}
 use Rattle.rx_tree.proofs.Common.{alone, nodes_of, resources_of, is_held}
-use Rattle.rx_slots.proofs.SlotsLemmas.{KeepsOthers-take}
+use Rattle.rx_slots.proofs.Laws.OthersKept.{KeepsOthers-take}
 use Rattle.rx_tree.proofs.StoreLemmas.{find-project, found-project, takes-project, changes-project, part-taken, resources_keep_links}
 use Rattle.rx_tree.proofs.CountSteps.{some_waiting, counted_taken}
 use Rattle.rx_tree.proofs.store.Store.take_resource.Goals as goal
