@@ -49,6 +49,7 @@ mod links;
 mod node;
 mod origin;
 mod records;
+mod sibling_rings;
 mod store;
 mod subtree;
 mod tree;

@@ -159,7 +159,7 @@ impl<R: Drop> Store<R> {
 
     // Writes what comes after a place.
     #[inline(always)]
-    fn set_next(&mut self, place: Place, to: Place)
+    pub(crate) fn set_next(&mut self, place: Place, to: Place)
         requires there { IsTrue (is_there self.old place) }
         requires fits { slot_of to < 2 ^ 32 }
         ensures next { (q : _) → next_of self.new q ≡ set_step places place to (next_of self.old) q }
@@ -180,7 +180,7 @@ impl<R: Drop> Store<R> {
 
     // Writes what comes before a place.
     #[inline(always)]
-    fn set_previous(&mut self, place: Place, to: Place)
+    pub(crate) fn set_previous(&mut self, place: Place, to: Place)
         requires there { IsTrue (is_there self.old place) }
         requires fits { slot_of to < 2 ^ 32 }
         ensures next { (q : _) → next_of self.new q ≡ next_of self.old q }

@@ -277,7 +277,7 @@ impl<R: Resource> Tree<R> {
         ensures some { IfSome result (IsFirst (IsRoot self.now.nodes) 0) }
         ensures none { IfNone result (HasNone (IsRoot self.now.nodes) 0) }
     {
-        match self.store.link(Place::Roots).next {
+        match self.store.roots.next {
             Place::Sibling(slot) => self.store.node_at(slot),
             _ => None,
         }
@@ -321,7 +321,7 @@ impl<R: Resource> Tree<R> {
             Err(refused) => return Err(refused),
         };
         if let Some(ring) = sibling_ring(node) {
-            self.store.join(ring, Place::Sibling(key.slot));
+            self.store.join_siblings(ring, key.slot);
         }
         Ok(key)
     }
@@ -444,7 +444,7 @@ impl<R: Resource> Tree<R> {
     pub fn is_calm(&self) -> bool
         ensures { IsTrue result ↔ self.now.chain ≡ [] }
     {
-        match self.store.link(Place::Due).next {
+        match self.store.due.next {
             Place::Noted(_) => false,
             _ => true,
         }
@@ -455,7 +455,7 @@ impl<R: Resource> Tree<R> {
     pub fn pending(&self) -> Option<Key>
         ensures { result ≡ first_of self.now.chain }
     {
-        match self.store.link(Place::Due).next {
+        match self.store.due.next {
             Place::Noted(slot) => self.store.node_at(slot),
             _ => None,
         }
@@ -466,7 +466,7 @@ impl<R: Resource> Tree<R> {
     pub fn unchain(&mut self)
         ensures { self.new ≡ record self.old { chain = drop 1 self.old.chain } }
     {
-        if let Place::Noted(slot) = self.store.link(Place::Due).next {
+        if let Place::Noted(slot) = self.store.due.next {
             self.store.leave(Place::Noted(slot));
         }
     }
@@ -660,7 +660,7 @@ impl<R: Resource> Tree<R> {
         ensures nodes { self.new.nodes ≡ self.old.nodes }
         ensures chain { self.new.chain ≡ self.old.chain }
     {
-        match self.store.link(Place::Waiting).next {
+        match self.store.waiting.next {
             Place::Stored(slot) => {
                 let key = self.store.resource_key(slot);
                 self.store.leave(Place::Stored(key.slot));

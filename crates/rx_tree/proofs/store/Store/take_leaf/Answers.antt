@@ -20,14 +20,14 @@ unnote-requires-clause-alone g c =
     let h = some_of (find (nodes_of c.args.self.now) c.args.key) c.requires.«open» in
     noted_loop c.args.self.now c.let_wait.new.self c.args.key h.0 h.1 c.let_wait.ensures.waits c.let_wait.ensures.rest c.requires.childless
 
-pub pass_by-requires-clause-before : goal.pass_by-requires-clause-before
-pass_by-requires-clause-before g c =
+pub pass_sibling_by-requires-clause-before : goal.pass_sibling_by-requires-clause-before
+pass_sibling_by-requires-clause-before g c =
     let h = some_of (find (nodes_of c.args.self.now) c.args.key) c.requires.«open» in
     sibling_before c.args.self.now c.let_wait.new.self c.args.key h.0 h.1 c.let_wait.ensures.waits c.let_wait.ensures.rest c.requires.childless
     c.unnote.new.self c.unnote.ensures.leaves c.unnote.ensures.rest
 
-pub pass_by-requires-clause-after : goal.pass_by-requires-clause-after
-pass_by-requires-clause-after g c =
+pub pass_sibling_by-requires-clause-after : goal.pass_sibling_by-requires-clause-after
+pass_sibling_by-requires-clause-after g c =
     let h = some_of (find (nodes_of c.args.self.now) c.args.key) c.requires.«open» in
     sibling_after c.args.self.now c.let_wait.new.self c.args.key h.0 h.1 c.let_wait.ensures.waits c.let_wait.ensures.rest c.requires.childless
     c.unnote.new.self c.unnote.ensures.leaves c.unnote.ensures.rest
@@ -36,25 +36,25 @@ pub take_node-requires-clause-noted : goal.take_node-requires-clause-noted
 take_node-requires-clause-noted g c =
     let h = some_of (find (nodes_of c.args.self.now) c.args.key) c.requires.«open» in
     noted_alone c.args.self.now c.let_wait.new.self c.args.key h.0 h.1 c.let_wait.ensures.waits c.let_wait.ensures.rest c.requires.childless c.unnote.new.self
-    c.unnote.ensures.leaves c.unnote.ensures.rest c.pass_by.new.self c.pass_by.ensures.passes c.pass_by.ensures.rest
+    c.unnote.ensures.leaves c.unnote.ensures.rest c.pass_sibling_by.new.self c.pass_sibling_by.ensures.passes c.pass_sibling_by.ensures.rest
 
 pub take_node-requires-clause-children : goal.take_node-requires-clause-children
 take_node-requires-clause-children g c =
     let h = some_of (find (nodes_of c.args.self.now) c.args.key) c.requires.«open» in
     children_alone c.args.self.now c.let_wait.new.self c.args.key h.0 h.1 c.let_wait.ensures.waits c.let_wait.ensures.rest c.requires.childless
-    c.unnote.new.self c.unnote.ensures.leaves c.unnote.ensures.rest c.pass_by.new.self c.pass_by.ensures.passes c.pass_by.ensures.rest
+    c.unnote.new.self c.unnote.ensures.leaves c.unnote.ensures.rest c.pass_sibling_by.new.self c.pass_sibling_by.ensures.passes c.pass_sibling_by.ensures.rest
 
 pub take_node-requires-clause-held : goal.take_node-requires-clause-held
 take_node-requires-clause-held g c =
     let h = some_of (find (nodes_of c.args.self.now) c.args.key) c.requires.«open» in
     held_alone c.args.self.now c.let_wait.new.self c.args.key h.0 h.1 c.let_wait.ensures.waits c.let_wait.ensures.rest c.requires.childless c.unnote.new.self
-    c.unnote.ensures.leaves c.unnote.ensures.rest c.pass_by.new.self c.pass_by.ensures.passes c.pass_by.ensures.rest
+    c.unnote.ensures.leaves c.unnote.ensures.rest c.pass_sibling_by.new.self c.pass_sibling_by.ensures.passes c.pass_sibling_by.ensures.rest
 
 pub returns-clause-tied : goal.returns-clause-tied
 returns-clause-tied g c =
     let h = some_of (find (nodes_of c.args.self.now) c.args.key) c.requires.«open» in
     leaf_tied c.args.self.now c.let_wait.new.self c.args.key h.0 h.1 c.let_wait.ensures.waits c.let_wait.ensures.rest c.requires.childless c.unnote.new.self
-    c.unnote.ensures.leaves c.unnote.ensures.rest c.pass_by.new.self c.pass_by.ensures.passes c.pass_by.ensures.rest c.take_node.new.self
+    c.unnote.ensures.leaves c.unnote.ensures.rest c.pass_sibling_by.new.self c.pass_sibling_by.ensures.passes c.pass_sibling_by.ensures.rest c.take_node.new.self
     c.take_node.ensures.taken
     c.take_node.ensures.links
     (ap (project (λ r. r.stowed)) c.take_node.ensures.resources)
@@ -63,7 +63,7 @@ pub returns-clause-chain : goal.returns-clause-chain
 returns-clause-chain g c =
     let h = some_of (find (nodes_of c.args.self.now) c.args.key) c.requires.«open» in
     leaf_chain c.args.self.now c.let_wait.new.self c.args.key h.0 h.1 c.let_wait.ensures.waits c.let_wait.ensures.rest c.requires.childless c.unnote.new.self
-    c.unnote.ensures.leaves c.unnote.ensures.rest c.pass_by.new.self c.pass_by.ensures.passes c.pass_by.ensures.rest c.take_node.new.self
+    c.unnote.ensures.leaves c.unnote.ensures.rest c.pass_sibling_by.new.self c.pass_sibling_by.ensures.passes c.pass_sibling_by.ensures.rest c.take_node.new.self
     c.take_node.ensures.taken
     c.take_node.ensures.links
     (ap (project (λ r. r.stowed)) c.take_node.ensures.resources)
@@ -72,7 +72,7 @@ pub returns-clause-taken : goal.returns-clause-taken
 returns-clause-taken g c =
     let h = some_of (find (nodes_of c.args.self.now) c.args.key) c.requires.«open» in
     taken c.args.self.now c.let_wait.new.self c.args.key h.0 h.1 c.let_wait.ensures.waits c.let_wait.ensures.rest c.requires.childless c.unnote.new.self
-    c.unnote.ensures.leaves c.unnote.ensures.rest c.pass_by.new.self c.pass_by.ensures.passes c.pass_by.ensures.rest c.take_node.new.self
+    c.unnote.ensures.leaves c.unnote.ensures.rest c.pass_sibling_by.new.self c.pass_sibling_by.ensures.passes c.pass_sibling_by.ensures.rest c.take_node.new.self
     c.take_node.ensures.taken
     c.take_node.ensures.links
     (ap (project (λ r. r.stowed)) c.take_node.ensures.resources)
@@ -81,9 +81,9 @@ pub take_node-requires-clause-counted : goal.take_node-requires-clause-counted
 take_node-requires-clause-counted g c =
     let waiting = counted_relinked c.args.self.now c.let_wait.new.self c.let_wait.ensures.rest c.requires.counted in
     let off = counted_relinked c.let_wait.new.self c.unnote.new.self c.unnote.ensures.rest waiting in
-    counted_relinked c.unnote.new.self c.pass_by.new.self c.pass_by.ensures.rest off
+    counted_relinked c.unnote.new.self c.pass_sibling_by.new.self c.pass_sibling_by.ensures.rest off
 
-pub pass_by-requires-clause-place : goal.pass_by-requires-clause-place
-pass_by-requires-clause-place g c =
+pub pass_sibling_by-requires-clause-place : goal.pass_sibling_by-requires-clause-place
+pass_sibling_by-requires-clause-place g c =
     subst (λ nodes. is_some (entry_at nodes c.args.key.slot) ≡ true) (sym (c.unnote.ensures.rest.nodes ∙ c.let_wait.ensures.rest.nodes))
     (slot_stands (nodes_of c.args.self.now) c.args.key c.requires.«open»)

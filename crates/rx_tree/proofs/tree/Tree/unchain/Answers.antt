@@ -5,24 +5,24 @@ use Rattle.rx_tree.proofs.CountSteps.{counted_relinked}
 use Rattle.rx_tree.proofs.tree.Tree.unchain.Goals as goal
 
 pub leave-requires-clause-place : goal.leave-requires-clause-place
-leave-requires-clause-place g c = first_stands c.self.inside.store c.self.invariant.tied c.in-Noted.slot (ap (λ l. l.next) (sym c.link.ensures) ∙ c.in-Noted.is)
+leave-requires-clause-place g c = first_stands c.self.inside.store c.self.invariant.tied c.in-Noted.slot c.in-Noted.is
 
 pub leave-requires-clause-before : goal.leave-requires-clause-before
 leave-requires-clause-before g c =
     let s = c.self.inside.store in
     previous_stands (nodes_of s) (resources_of s) (next_of s) (previous_of s) c.self.invariant.tied (Noted c.in-Noted.slot)
-    (first_stands s c.self.invariant.tied c.in-Noted.slot (ap (λ l. l.next) (sym c.link.ensures) ∙ c.in-Noted.is))
+    (first_stands s c.self.invariant.tied c.in-Noted.slot c.in-Noted.is)
 
 pub leave-requires-clause-after : goal.leave-requires-clause-after
 leave-requires-clause-after g c =
     let s = c.self.inside.store in
     next_stands (nodes_of s) (resources_of s) (next_of s) (previous_of s) c.self.invariant.tied (Noted c.in-Noted.slot)
-    (first_stands s c.self.invariant.tied c.in-Noted.slot (ap (λ l. l.next) (sym c.link.ensures) ∙ c.in-Noted.is))
+    (first_stands s c.self.invariant.tied c.in-Noted.slot c.in-Noted.is)
 
 pub invariant_of-self : goal.invariant_of-self
 invariant_of-self g c =
     record {
-      tied = dropped_tied c.self.inside.store c.self.invariant.tied c.in-Noted.slot (ap (λ l. l.next) (sym c.link.ensures) ∙ c.in-Noted.is)
+      tied = dropped_tied c.self.inside.store c.self.invariant.tied c.in-Noted.slot c.in-Noted.is
           c.leave.new.self c.leave.ensures.leaves c.leave.ensures.rest;
       counted = counted_relinked c.self.inside.store c.leave.new.self c.leave.ensures.rest
           c.self.invariant.counted;
@@ -30,11 +30,11 @@ invariant_of-self g c =
 
 pub returns-in-Noted : goal.returns-in-Noted
 returns-in-Noted g c = rw (← c.self.view_is)
-    (dropped_shown c.self.inside.store c.self.invariant.tied c.in-Noted.slot (ap (λ l. l.next) (sym c.link.ensures) ∙ c.in-Noted.is) c.leave.new.self
+    (dropped_shown c.self.inside.store c.self.invariant.tied c.in-Noted.slot c.in-Noted.is c.leave.new.self
     c.leave.ensures.leaves c.leave.ensures.rest)
 
 pub returns-in_default : goal.returns-in_default
 returns-in_default g c =
     let s = c.self.inside.store in
-    let none = chain_none s c.self.invariant.tied (λ slot e. c.in_default.not-Noted slot (ap (λ l. l.next) c.link.ensures ∙ e)) in
+    let none = chain_none s c.self.invariant.tied (λ slot e. c.in_default.not-Noted slot e) in
     rw (← c.self.view_is) (λ i. record (shown s) { chain = (none ∙ sym (ap (drop 1) none)) i })
