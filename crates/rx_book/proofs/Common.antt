@@ -26,7 +26,7 @@ pub use Rattle.rx_book.specs.{Checkpoints.AnswersCheckpoint, Checkpoints.Checkpo
 pub use Rattle.rx_book.specs.Courses.{LetsGo, next_let_go, none_let_go, Emits, next_emitted, none_emitted}
 pub use Rattle.rx_book.specs.{OpensHolding.stands_holding, OpensHolding.AnswersOpenedHolding, OpensHolding.IsAdmittedHolding, Places.key_above}
 pub use Rattle.rx_book.specs.State.{State, has_key, IsPromised, has_lease_key, AreJust, has_res_key, Continues, IsLabelOf, accepted_tag, has_subscriber}
-pub use Rattle.rx_book.specs.Steps.{IsLetIn, Admits, IsAdmitted, IsWithin, HasRoomIf, IsCostOf, IsWritten}
+pub use Rattle.rx_book.specs.Steps.{IsLetIn, Admits, IsAdmitted, IsWithin, IsWritten}
 pub use Rattle.rx_book.specs.declared.answer.{Answer.Answer, At.At, Opened.Opened, OpenedHolding.OpenedHolding, OpenedUsing.OpenedUsing}
 pub use Rattle.rx_book.specs.declared.key.{Key.Key, LeaseKey.LeaseKey, ResKey.ResKey}
 pub use Rattle.rx_event.specs.Causes.{causes, added_by, is_over, by_key, forces_connect, has_connection, nodes_opened, by_key_of, holding_causes}

@@ -4,7 +4,7 @@ pub mod AnswersOkOrErr
 pub mod ListOfClosed
 pub mod CausesByKey
 pub mod CallWithoutCause
-pub mod PlainCalls
+pub mod CallsAsValues
 pub mod Admitted
 pub mod ShownRoots
 pub mod ShownPromise

@@ -38,18 +38,13 @@ takes_memory (Hub mode) = true
 takes_memory (Connect hub) = true
 takes_memory _ = false
 
--- all that has to be known of what it costs stands in a table
-abbrev pub is_plain : Call → Bool
-is_plain (Open at kind) = false
-is_plain (Next leaf value) = false
-is_plain _ = true
-
--- and its answer is a place
-abbrev pub has_place : Call → Bool
-has_place (Apply res word) = false
-has_place (Lease res) = false
-has_place (Connect hub) = false
-has_place call = is_plain call
+-- what it costs is the same of any book
+abbrev pub has_fixed_cost : Call → Bool
+has_fixed_cost (Apply res word) = true
+has_fixed_cost (Lease res) = true
+has_fixed_cost (Hub mode) = true
+has_fixed_cost (Connect hub) = true
+has_fixed_cost _ = false
 
 -- the first cause, or want of memory of a call that may take some
 abbrev pub refuses : State → Call → Refusal → Type 0

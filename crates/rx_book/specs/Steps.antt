@@ -1,5 +1,5 @@
 -- When a call is let in, and what it writes before what that forces. No public clause cites this module.
-use Rattle.std.specs.Prelude.{◌≡◌, ◌<◌, ◌+◌, ◌≤◌, Bool, true, false, Option, Some, None, length, IsSome, IfSome, [], ⊤}
+use Rattle.std.specs.Prelude.{◌≡◌, ◌<◌, ◌+◌, ◌≤◌, Option, None, length, IsSome, IfSome, []}
 use Rattle.rx_resource.specs.declared.Resource.{Ghosts}
 use Rattle.rx_event.specs.declared.refusal.Refusal.{Refusal}
 use Rattle.rx_event.specs.Calls.{Call, outside_of}
@@ -15,16 +15,8 @@ use Rattle.rx_ground.specs.Costs.{cost_of}
 use Rattle.rx_ground.specs.Gone.{Gathers}
 use Rattle.rx_ground.specs.Shown.{Ground}
 use Rattle.rx_ground.specs.Ties.{IsStanding, IsRoomier, HasRoomBeside, AreTied, AreLeased, KeepsHeld, KeepsLeases}
-use Rattle.rx_book.specs.declared.call.Call.{Call as Asked}
-use Rattle.rx_book.specs.State.{State}
 use Rattle.rx_book.specs.Requests.{Request, stands}
-use Rattle.rx_book.specs.Asks.{request_of, takes_memory}
 use Rattle.rx_book.specs.Shown.{state_of}
-
--- what a call costs, where it may take memory
-abbrev pub IsCostOf : State → Asked → Option Wanted → Type 0
-IsCostOf s call (Some cost) = (takes_memory call ≡ true) × (cost ≡ cost_of s.history (request_of s call).call)
-IsCostOf s call None = takes_memory call ≡ false
 
 module _ {T : Type 0} where
   -- what a call costs is within the limit on the events, and its notes are few
@@ -52,11 +44,6 @@ module _ {T : Type 0} where
   pub record IsAdmitted (g : Ghosts T) (b : Ground T) (asked : Request) : Type 0 where
     pub let_in : IsLetIn g b asked
     pub room : HasRoomBeside b (cost_of b.register.history asked.call)
-
-  -- there is room for a call, if it may take memory
-  abbrev pub HasRoomIf : Bool → Ground T → Call → Type 0
-  HasRoomIf true b call = HasRoomBeside b (cost_of b.register.history call)
-  HasRoomIf false b call = ⊤
 
   -- the call's events are written, of what is older only what was there is there, and the list went on with what was closed
   pub record IsWritten (g : Ghosts T) (old : Ground T) (call : Call) (new : Ground T) : Type 0 where

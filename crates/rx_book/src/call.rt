@@ -2,13 +2,14 @@
 
 ghost use Rattle.std.specs.Prelude.{◌≡◌, true, false};
 ghost use Rattle.rx_event.specs.Refusals.{first_cause};
+ghost use Rattle.rx_ground.specs.Costs.{cost_of};
 ghost use Rattle.rx_ground.specs.Ties.{IsStanding};
 ghost use Rattle.rx_book.specs.State.{State};
 ghost use Rattle.rx_book.specs.Requests.{stands};
 ghost use Rattle.rx_book.specs.Shown.{state_of};
 ghost use Rattle.rx_book.specs.Answers.{Answers, IsPlace};
-ghost use Rattle.rx_book.specs.Asks.{request_of, takes_memory, is_plain, has_place, refuses, gives, Asks};
-ghost use Rattle.rx_book.specs.Steps.{IsCostOf, IsLetIn, IsWritten, HasRoomIf};
+ghost use Rattle.rx_book.specs.Asks.{request_of, takes_memory, has_fixed_cost, refuses, gives, Asks};
+ghost use Rattle.rx_book.specs.Steps.{IsLetIn, IsAdmitted, IsWritten};
 
 use crate::Book;
 use crate::admit::admit;
@@ -53,10 +54,10 @@ pub enum Call {
     Disconnect(u64),
 }
 
-/// What stands first against a plain call.
+/// What stands first against a call that takes no memory.
 #[inline(always)]
-fn cause<R: Resource>(ground: &Ground<R>, call: Call) -> Option<Refusal>
-    requires plain { is_plain call ≡ true }
+fn cause_free<R: Resource>(ground: &Ground<R>, call: Call) -> Option<Refusal>
+    requires free { takes_memory call ≡ false }
     requires standing { IsStanding R.Resource ground.now }
     ensures { result ≡
         first_cause (stands (state_of R.Resource ground.now) (request_of (state_of R.Resource ground.now) call)) }
@@ -67,29 +68,10 @@ fn cause<R: Resource>(ground: &Ground<R>, call: Call) -> Option<Refusal>
         Call::Decline(merging) => ground.declining_cause(tree_key(merging)),
         Call::Fail(merging, code) => ground.failing_cause(tree_key(merging), code),
         Call::Dispose(root) => ground.disposing_cause(tree_key(root)),
-        Call::Apply(res, _) => ground.applying_cause(tree_res_key(res)),
         Call::Remove(res) => ground.removing_cause(tree_res_key(res)),
-        Call::Lease(res) => ground.leasing_cause(tree_res_key(res)),
         Call::GiveBack(lease) => ground.returning_cause(ground_lease_key(lease)),
-        Call::Hub(mode) => ground.publishing_cause(mode),
-        Call::Connect(hub) => ground.connecting_cause(hub),
         Call::Disconnect(hub) => ground.disconnecting_cause(hub),
         _ => unreachable!(),
-    }
-}
-
-/// What a plain call costs; None where it takes no memory.
-#[inline(always)]
-fn cost(call: Call) -> Option<Wanted>
-    requires { is_plain call ≡ true }
-    ensures { (s : State) → IsCostOf s call result }
-{
-    match call {
-        Call::Apply(_, _) => Some(Wanted::of_applying()),
-        Call::Lease(_) => Some(Wanted::of_leasing()),
-        Call::Hub(_) => Some(Wanted::of_hub()),
-        Call::Connect(_) => Some(Wanted::of_connecting()),
-        _ => None,
     }
 }
 
@@ -117,13 +99,44 @@ fn write_free<R: Resource>(ground: &mut Ground<R>, call: Call)
     }
 }
 
-/// Writes what is asked by a plain call, against which nothing stands, and answers it.
+/// What stands first against a call of fixed cost.
+#[inline(always)]
+fn cause<R: Resource>(ground: &Ground<R>, call: Call) -> Option<Refusal>
+    requires fixed { has_fixed_cost call ≡ true }
+    requires standing { IsStanding R.Resource ground.now }
+    ensures { result ≡
+        first_cause (stands (state_of R.Resource ground.now) (request_of (state_of R.Resource ground.now) call)) }
+{
+    match call {
+        Call::Apply(res, _) => ground.applying_cause(tree_res_key(res)),
+        Call::Lease(res) => ground.leasing_cause(tree_res_key(res)),
+        Call::Hub(mode) => ground.publishing_cause(mode),
+        Call::Connect(hub) => ground.connecting_cause(hub),
+        _ => unreachable!(),
+    }
+}
+
+/// What it costs.
+#[inline(always)]
+fn cost(call: Call) -> Wanted
+    requires { has_fixed_cost call ≡ true }
+    ensures { (s : State) → result ≡ cost_of s.history (request_of s call).call }
+{
+    match call {
+        Call::Apply(_, _) => Wanted::of_applying(),
+        Call::Lease(_) => Wanted::of_leasing(),
+        Call::Hub(_) => Wanted::of_hub(),
+        Call::Connect(_) => Wanted::of_connecting(),
+        _ => unreachable!(),
+    }
+}
+
+/// Writes what it asks, where nothing stands against it and there is room for it, and answers it.
 #[inline(always)]
 fn write<R: Resource>(ground: &mut Ground<R>, call: Call) -> Answer
-    requires plain { is_plain call ≡ true }
+    requires fixed { has_fixed_cost call ≡ true }
     requires standing { IsStanding R.Resource ground.old }
-    requires let_in { IsLetIn R.Resource ground.old (request_of (state_of R.Resource ground.old) call) }
-    requires room { HasRoomIf (takes_memory call) ground.old (request_of (state_of R.Resource ground.old) call).call }
+    requires admitted { IsAdmitted R.Resource ground.old (request_of (state_of R.Resource ground.old) call) }
     ensures written { IsWritten R.Resource ground.old
         (request_of (state_of R.Resource ground.old) call).call ground.new }
     ensures gives { gives (state_of R.Resource ground.old) call (state_of R.Resource ground.new) result }
@@ -135,11 +148,7 @@ fn write<R: Resource>(ground: &mut Ground<R>, call: Call) -> Answer
         }
         Call::Hub(mode) => Answer::Place(ground.write_hub(mode)),
         Call::Connect(hub) => Answer::Connected(shown_key(ground.write_connect(hub))),
-        _ => {
-            let place = ground.len();
-            write_free(ground, call);
-            Answer::Place(place)
-        }
+        _ => unreachable!(),
     }
 }
 
@@ -151,33 +160,38 @@ impl<R: Resource> Book<R> {
         match call {
             Call::Open(at, kind) => Ok(Answer::Opened(self.open(at, kind)?)),
             Call::Next(leaf, value) => Ok(Answer::Place(self.next(leaf, value)?)),
-            _ => self.answer(call),
+            Call::Apply(_, _) | Call::Lease(_) | Call::Hub(_) | Call::Connect(_) => {
+                self.answer(call)
+            }
+            _ => Ok(Answer::Place(self.answer_free(call)?)),
         }
     }
 
-    /// Makes a plain call, and does what it forces.
+    /// Makes a call that takes no memory, and does what it forces; answers the place of its event.
     #[inline(always)]
-    pub(crate) fn answer(&mut self, call: Call) -> Result<Answer, Refusal>
-        requires { is_plain call ≡ true }
-        ensures { Asks self.old call self.new result }
-    {
-        let cause = cause(&self.ground, call);
-        admit(&mut self.ground, cause, cost(call))?;
-        let answer = write(&mut self.ground, call);
-        self.ground.settle();
-        Ok(answer)
-    }
-
-    /// The same for a call that answers a place.
-    #[inline(always)]
-    pub(crate) fn answer_place(&mut self, call: Call) -> Result<u64, Refusal>
-        requires { has_place call ≡ true }
+    pub(crate) fn answer_free(&mut self, call: Call) -> Result<u64, Refusal>
+        requires { takes_memory call ≡ false }
         ensures { Answers (IsPlace self.old) (refuses self.old call) self.old
             (request_of self.old call) self.new result }
     {
-        let Answer::Place(place) = self.answer(call)? else {
-            unreachable!()
-        };
+        let cause = cause_free(&self.ground, call);
+        admit(&mut self.ground, cause, None)?;
+        let place = self.ground.len();
+        write_free(&mut self.ground, call);
+        self.ground.settle();
         Ok(place)
+    }
+
+    /// Makes a call of fixed cost, and does what it forces.
+    #[inline(always)]
+    pub(crate) fn answer(&mut self, call: Call) -> Result<Answer, Refusal>
+        requires { has_fixed_cost call ≡ true }
+        ensures { Asks self.old call self.new result }
+    {
+        let cause = cause(&self.ground, call);
+        admit(&mut self.ground, cause, Some(cost(call)))?;
+        let answer = write(&mut self.ground, call);
+        self.ground.settle();
+        Ok(answer)
     }
 }

@@ -82,7 +82,7 @@ impl<R: Resource> Book<R> {
     pub fn end(&mut self, leaf: Key, terminal: Terminal) -> Result<u64, Refusal>
         ensures { AnswersPlace self.old (end_request self.old leaf terminal) self.new result }
     {
-        self.answer_place(Call::End(leaf, terminal))
+        self.answer_free(Call::End(leaf, terminal))
     }
 
     /// Ends a node that is no leaf with an error (OnError), as an operator that fails does, and after it
@@ -93,7 +93,7 @@ impl<R: Resource> Book<R> {
     pub fn abort(&mut self, node: Key, code: u32) -> Result<u64, Refusal>
         ensures { AnswersPlace self.old (abort_request self.old node code) self.new result }
     {
-        self.answer_place(Call::Abort(node, code))
+        self.answer_free(Call::Abort(node, code))
     }
 
     /// Declines an item that was projected to a FlatMap or a Switch: it gets no inner observable (that a
@@ -104,7 +104,7 @@ impl<R: Resource> Book<R> {
     pub fn decline(&mut self, merging: Key) -> Result<u64, Refusal>
         ensures { AnswersPlace self.old (decline_request self.old merging) self.new result }
     {
-        self.answer_place(Call::Decline(merging))
+        self.answer_free(Call::Decline(merging))
     }
 
     /// Ends a FlatMap or a Switch with an error, as where an item that was projected to it gives no
@@ -116,7 +116,7 @@ impl<R: Resource> Book<R> {
     pub fn fail(&mut self, merging: Key, code: u32) -> Result<u64, Refusal>
         ensures { AnswersPlace self.old (fail_request self.old merging code) self.new result }
     {
-        self.answer_place(Call::Fail(merging, code))
+        self.answer_free(Call::Fail(merging, code))
     }
 
     /// Unsubscribes a root, and closes all below it, the inners of a FlatMap or a Switch too; what these
@@ -126,6 +126,6 @@ impl<R: Resource> Book<R> {
     pub fn dispose(&mut self, root: Key) -> Result<u64, Refusal>
         ensures { AnswersPlace self.old (dispose_request self.old root) self.new result }
     {
-        self.answer_place(Call::Dispose(root))
+        self.answer_free(Call::Dispose(root))
     }
 }

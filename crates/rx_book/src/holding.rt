@@ -61,7 +61,7 @@ impl<R: Resource> Book<R> {
     pub fn remove(&mut self, res: ResKey) -> Result<u64, Refusal>
         ensures { AnswersPlace self.old (remove_request self.old res) self.new result }
     {
-        self.answer_place(Call::Remove(res))
+        self.answer_free(Call::Remove(res))
     }
 
     /// Hands out a resource that waits, for its release; which one is free. None exactly where

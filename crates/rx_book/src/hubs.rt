@@ -22,7 +22,10 @@ impl<R: Resource> Book<R> {
     pub fn hub(&mut self, mode: Mode) -> Result<u64, Refusal>
         ensures { AnswersPlaceOrWant self.old (hub_request mode) self.new result }
     {
-        self.answer_place(Call::Hub(mode))
+        let Answer::Place(place) = self.answer(Call::Hub(mode))? else {
+            unreachable!()
+        };
+        Ok(place)
     }
 
     /// Connects a hub by hand (Connect, at reactivex.io): its subscribers are then told what comes from
@@ -46,7 +49,7 @@ impl<R: Resource> Book<R> {
     pub fn disconnect(&mut self, hub: u64) -> Result<u64, Refusal>
         ensures { AnswersPlace self.old (disconnect_request hub) self.new result }
     {
-        self.answer_place(Call::Disconnect(hub))
+        self.answer_free(Call::Disconnect(hub))
     }
 
     /// The least number of a hub that was connected by hand and is connected still; None where there is

@@ -31,6 +31,6 @@ impl<R: Resource> Book<R> {
     pub fn give_back(&mut self, lease: LeaseKey) -> Result<u64, Refusal>
         ensures { AnswersPlace self.old (give_back_request self.old lease) self.new result }
     {
-        self.answer_place(Call::GiveBack(lease))
+        self.answer_free(Call::GiveBack(lease))
     }
 }

@@ -8,39 +8,47 @@ use Rattle.rx_book.proofs.call.write.Goals as goal
 
 pub write_use-requires-clause-ready : goal.write_use-requires-clause-ready
 write_use-requires-clause-ready g c κs within =
-    rw c.tree_res_key.ensures (one_ready g.R.Resource c.args.ground.now _ (rw c.in-Apply.is at c.requires.let_in) _ refl)
+    let a = rw c.in-Apply.is at c.requires.admitted in
+    rw c.tree_res_key.ensures (one_ready g.R.Resource c.args.ground.now _ a.let_in _ refl)
 
 pub write_use-requires-clause-held : goal.write_use-requires-clause-held
 write_use-requires-clause-held g c κs within =
-    rw c.tree_res_key.ensures (held_asked g.R.Resource c.args.ground.now _ (rw c.in-Apply.is at c.requires.let_in) c.in-Apply.res refl)
+    let a = rw c.in-Apply.is at c.requires.admitted in
+    rw c.tree_res_key.ensures (held_asked g.R.Resource c.args.ground.now _ a.let_in c.in-Apply.res refl)
 
 pub returns-in-Apply-clause-written : goal.returns-in-Apply-clause-written
 returns-in-Apply-clause-written g c =
+    let a = rw c.in-Apply.is at c.requires.admitted in
     let u = c.write_use.ensures in
     let w = rw c.tree_res_key.ensures at u.written in
-    let next = (one_ready g.R.Resource c.args.ground.now _ (rw c.in-Apply.is at c.requires.let_in) (Use c.in-Apply.res.number) refl).next in
+    let next = (one_ready g.R.Resource c.args.ground.now _ a.let_in (Use c.in-Apply.res.number) refl).next in
     rw c.in-Apply.is (written_held c.write_use.new.self _ w u.tied u.leased u.nodes u.kept (leases_stay _ _ _ u.leases)
     (gathers_quiet (Use c.in-Apply.res.number) next refl w u.closed))
 
 pub write_lease-requires-clause-ready : goal.write_lease-requires-clause-ready
 write_lease-requires-clause-ready g c κs within =
-    rw c.tree_res_key-in-Lease.ensures (one_ready g.R.Resource c.args.ground.now _ (rw c.in-Lease.is at c.requires.let_in) _ refl)
+    let a = rw c.in-Lease.is at c.requires.admitted in
+    rw c.tree_res_key-in-Lease.ensures (one_ready g.R.Resource c.args.ground.now _ a.let_in _ refl)
 
 pub write_lease-requires-clause-owned : goal.write_lease-requires-clause-owned
 write_lease-requires-clause-owned g c κs within =
+    let a = rw c.in-Lease.is at c.requires.admitted in
     let b = c.args.ground.now in
-    let l = rw c.in-Lease.is at c.requires.let_in in
+    let l = a.let_in in
     let stand = causes b.register.base b.register.history b.register.limit true (Leasing c.in-Lease.res.number) in
     rw c.tree_res_key-in-Lease.ensures (owned_asked g.R.Resource b _ l c.in-Lease.res refl (not-false _ (no_cause stand l.may.no_cause Leased)))
 
 pub write_lease-requires-clause-room : goal.write_lease-requires-clause-room
-write_lease-requires-clause-room g c κs within = let has = rw c.in-Lease.is at c.requires.room in has.leases
+write_lease-requires-clause-room g c κs within =
+    let a = rw c.in-Lease.is at c.requires.admitted in
+    a.room.leases
 
 pub returns-in-Lease-clause-written : goal.returns-in-Lease-clause-written
 returns-in-Lease-clause-written g c =
+    let a = rw c.in-Lease.is at c.requires.admitted in
     let u = c.write_lease.ensures in
     let w = rw c.tree_res_key-in-Lease.ensures at u.written in
-    let next = (one_ready g.R.Resource c.args.ground.now _ (rw c.in-Lease.is at c.requires.let_in) (Lease c.in-Lease.res.number) refl).next in
+    let next = (one_ready g.R.Resource c.args.ground.now _ a.let_in (Lease c.in-Lease.res.number) refl).next in
     rw c.in-Lease.is (written_held c.write_lease.new.self _ w u.tied u.leased u.nodes u.kept u.leases
     (gathers_quiet (Lease c.in-Lease.res.number) next refl w u.closed))
 
@@ -53,37 +61,46 @@ returns-in-Lease-clause-gives g c =
     })
 
 pub write_hub-requires-clause-ready : goal.write_hub-requires-clause-ready
-write_hub-requires-clause-ready g c κs within = one_ready g.R.Resource c.args.ground.now _ (rw c.in-Hub.is at c.requires.let_in) _ refl
+write_hub-requires-clause-ready g c κs within =
+    let a = rw c.in-Hub.is at c.requires.admitted in
+    one_ready g.R.Resource c.args.ground.now _ a.let_in _ refl
 
 pub write_hub-requires-clause-room : goal.write_hub-requires-clause-room
-write_hub-requires-clause-room g c κs within = let has = rw c.in-Hub.is at c.requires.room in has.hubs
+write_hub-requires-clause-room g c κs within =
+    let a = rw c.in-Hub.is at c.requires.admitted in
+    a.room.hubs
 
 pub returns-in-Hub-clause-written : goal.returns-in-Hub-clause-written
 returns-in-Hub-clause-written g c =
+    let a = rw c.in-Hub.is at c.requires.admitted in
     let b = c.args.ground.now in
     let u = c.write_hub.ensures in
-    let next = (one_ready g.R.Resource b _ (rw c.in-Hub.is at c.requires.let_in) (Publish c.in-Hub.mode) refl).next in
+    let next = (one_ready g.R.Resource b _ a.let_in (Publish c.in-Hub.mode) refl).next in
     rw c.in-Hub.is (written_keeping c.write_hub.new.self _ u.written u.tied u.leased (keeps_same b.tree c.write_hub.new.self.tree _ u.tree)
     (leases_stay _ _ _ u.leases) (gathers_quiet (Publish c.in-Hub.mode) next refl u.written u.closed))
 
 pub write_connect-requires-clause-ready : goal.write_connect-requires-clause-ready
-write_connect-requires-clause-ready g c κs within = one_ready g.R.Resource c.args.ground.now _ (rw c.in-Connect.is at c.requires.let_in) _ refl
+write_connect-requires-clause-ready g c κs within =
+    let a = rw c.in-Connect.is at c.requires.admitted in
+    one_ready g.R.Resource c.args.ground.now _ a.let_in _ refl
 
 pub write_connect-requires-clause-room : goal.write_connect-requires-clause-room
-write_connect-requires-clause-room g c κs within = let has = rw c.in-Connect.is at c.requires.room in has.nodes
+write_connect-requires-clause-room g c κs within =
+    let a = rw c.in-Connect.is at c.requires.admitted in
+    a.room.nodes
 
 pub write_connect-requires-clause-space : goal.write_connect-requires-clause-space
 write_connect-requires-clause-space g c κs within =
-    let has = rw c.in-Connect.is at c.requires.room in
-    let l = rw c.in-Connect.is at c.requires.let_in in
-    node_space c.args.ground.now has.space l.begun
+    let a = rw c.in-Connect.is at c.requires.admitted in
+    node_space c.args.ground.now a.room.space a.let_in.begun
 
 pub returns-in-Connect-clause-written : goal.returns-in-Connect-clause-written
 returns-in-Connect-clause-written g c =
+    let a = rw c.in-Connect.is at c.requires.admitted in
     let b = c.args.ground.now in
     let mid = c.write_connect.new.self in
     let u = c.write_connect.ensures in
-    let l = rw c.in-Connect.is at c.requires.let_in in
+    let l = a.let_in in
     let next = (one_ready g.R.Resource b _ l (Connect c.in-Connect.hub) refl).next in
     let kept = keeps_opened b.register.history b.tree mid.tree c.write_connect.result l.may.lawful l.standing.tied.of_tree u.new u.resources in
     rw c.in-Connect.is (written_keeping mid _ u.written u.tied u.leased kept (leases_stay _ _ _ u.leases)

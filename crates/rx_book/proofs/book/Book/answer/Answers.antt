@@ -1,10 +1,10 @@
-use Rattle.rx_book.proofs.Common.{Bool, sym, subst, ◌∙◌, Ok, State, Request, stands, Answers, IsRefusalOf, state_of, IsLetIn}
+use Rattle.rx_book.proofs.Common.{Bool, sym, subst, ◌∙◌, Ok, State, Request, stands, Answers, IsRefusalOf, state_of, IsAdmitted}
 use Rattle.rx_book.specs.Asks.{request_of, refuses, gives, Asks}
 use Rattle.rx_book.proofs.Admitted.{state_admitted}
 use Rattle.rx_book.proofs.AnswersOkOrErr.{answers_ok, passed_refusal}
 use Rattle.rx_book.proofs.CallWithoutCause.{pays, connects_none, accepts_written, settles_to}
 use Rattle.rx_book.proofs.ListOfClosed.{answers_begun, begun_at}
-use Rattle.rx_book.proofs.PlainCalls.{plain_within, plain_wants, plain_let_in, plain_room, plain_subscribes_none, unlisted, gives_settled, gives_begun}
+use Rattle.rx_book.proofs.CallsAsValues.{fixed_takes, fixed_within, fixed_admitted, fixed_subscribes_none, unlisted, gives_settled, gives_begun}
 use Rattle.rx_book.proofs.book.Book.answer.Given as given
 use Rattle.rx_book.proofs.book.Book.answer.Goals as goal
 use Rattle.rx_book.proofs.book.Book.answer.Goals.{In_ok-admit}
@@ -12,41 +12,36 @@ use Rattle.rx_book.proofs.book.Book.answer.Goals.{In_ok-admit}
 pub admit-requires-clause-within : goal.admit-requires-clause-within
 admit-requires-clause-within g c κs within none =
     let b = c.self.inside.ground in
-    plain_within g.R.Resource b c.args.call c.cost.result c.requires (c.cost.ensures (state_of g.R.Resource b)) (sym c.cause-cause.ensures ∙ none)
+    fixed_within g.R.Resource b c.args.call c.cost.result c.requires (c.cost.ensures (state_of g.R.Resource b)) (sym c.cause-cause.ensures ∙ none)
 
 pub returns-in_err-admit : goal.returns-in_err-admit
 returns-in_err-admit g c =
     let s = state_of g.R.Resource c.self.inside.ground in
     let a = c.in_err-admit in
     let stand = stands s (request_of s c.args.call) in
-    let why = subst (λ (b : Bool). IsRefusalOf b stand a.field-0.0) (plain_wants s c.args.call c.cost.result (c.cost.ensures s))
+    let why = subst (λ (b : Bool). IsRefusalOf b stand a.field-0.0) (sym (fixed_takes c.args.call c.requires))
     (a.ensures.err stand (sym c.cause-cause.ensures)) in
     rw (← c.self.view_is) (passed_refusal c.from_residual.result a.field-0.0 c.from_residual.ensures.1 why a.ensures.same)
 
-called : (g : given.Over) (c : In_ok-admit g) → (let b = c.admit.new.ground in IsLetIn g.R.Resource b (request_of (state_of g.R.Resource b) c.args.call))
+called : (g : given.Over) (c : In_ok-admit g) → (let b = c.admit.new.ground in IsAdmitted g.R.Resource b (request_of (state_of g.R.Resource b) c.args.call))
 called g c =
     let s = state_of g.R.Resource c.self.inside.ground in
-    plain_let_in c.args.call (sym c.cause-cause.ensures) c.cost.result (c.cost.ensures s) c.in_ok-admit.ensures.ok
+    fixed_admitted c.args.call (sym c.cause-cause.ensures) (c.cost.ensures s) c.in_ok-admit.ensures.ok
 
-pub write-answer-requires-clause-let_in : goal.write-answer-requires-clause-let_in
-write-answer-requires-clause-let_in g c κs within = called g (goal.at.write-answer-requires-clause-let_in g c).In_ok-admit
-
-pub write-answer-requires-clause-room : goal.write-answer-requires-clause-room
-write-answer-requires-clause-room g c κs within =
-    let s = state_of g.R.Resource c.self.inside.ground in
-    plain_room c.args.call (sym c.cause-cause.ensures) c.cost.result (c.cost.ensures s) c.in_ok-admit.ensures.ok
+pub write-answer-requires-clause-admitted : goal.write-answer-requires-clause-admitted
+write-answer-requires-clause-admitted g c κs within = called g (goal.at.write-answer-requires-clause-admitted g c).In_ok-admit
 
 pub settle-requires-clause-paid : goal.settle-requires-clause-paid
 settle-requires-clause-paid g c κs within =
-    let l = called g (goal.at.settle-requires-clause-paid g c).In_ok-admit in
+    let l = (called g (goal.at.settle-requires-clause-paid g c).In_ok-admit).let_in in
     pays g.R.Resource c.admit.new.ground _ l c.write-answer.new.ground.register c.write-answer.ensures.written.written
 
 pub settle-requires-clause-room : goal.settle-requires-clause-room
 settle-requires-clause-room g c κs within =
     let b = c.admit.new.ground in
-    let l = called g (goal.at.settle-requires-clause-room g c).In_ok-admit in
+    let l = (called g (goal.at.settle-requires-clause-room g c).In_ok-admit).let_in in
     connects_none g.R.Resource b _ l c.write-answer.new.ground.register c.write-answer.ensures.written.written
-    (plain_subscribes_none (state_of g.R.Resource b) c.args.call c.requires)
+    (fixed_subscribes_none (state_of g.R.Resource b) c.args.call c.requires)
 
 pub returns : goal.returns
 returns g c =
@@ -55,7 +50,7 @@ returns g c =
     let t = c.args.self.now in
     let new = state_of R c.settle.new.self in
     let answer = c.write-answer.result in
-    let l = called g (goal.at.returns g c).In_ok-admit in
+    let l = (called g (goal.at.returns g c).In_ok-admit).let_in in
     let settles = settles_to s.standing s.base s.forced s.nodes s.resources s.limit s.given s.leases s.closed in
     let done = accepts_written R c.admit.new.ground _ l c.write-answer.ensures.written settles in
     let told = gives_settled c.args.call answer c.requires l done settles c.write-answer.ensures.gives in

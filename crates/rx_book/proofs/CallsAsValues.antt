@@ -1,15 +1,16 @@
--- The calls whose costs stand in a table: they are let in, and open no subscriber of a hub; and what they give stays given.
-use Rattle.rx_book.proofs.Common.{◌≡◌, ℕ, ◌≤◌, true, false, Option, Some, None, is_some, IfSome, List, [], ◌∷◌, map, refl, sym, ap, ◌∙◌, arith, true≢false}
+-- Calls as values: those that take no memory, and those of fixed cost. They are let in, and open no subscriber of a hub; and what they give
+-- stays given.
+use Rattle.rx_book.proofs.Common.{◌≡◌, ℕ, ◌≤◌, true, false, Option, Some, None, List, [], ◌∷◌, map, refl, sym, ap, ◌∙◌, arith, true≢false}
 use Rattle.rx_book.proofs.Common.{false≢true, list_all, Ghosts, Refusal, Full, Close, outside_of, first_cause, is_open, open_connections, causes, added_by}
 use Rattle.rx_book.proofs.Common.{is_over, connected_stays, Slots, notes_added, paid_room, Wanted, Ground, Answer, State, has_lease_key, stands, Accepts}
-use Rattle.rx_book.proofs.Common.{connect_request, state_of, tree_key_of, lease_keys_of, IsCostOf, IsWithin, Admits, IsLetIn, HasRoomIf}
+use Rattle.rx_book.proofs.Common.{connect_request, state_of, tree_key_of, lease_keys_of, cost_of, IsWithin, Admits, IsLetIn, IsAdmitted}
 use Rattle.rx_event.specs.declared.event.Event.TheVariants.{Connect as Connected_to}
 use Rattle.rx_tree.specs.declared.node.ResKey.{ResKey}
 use Rattle.rx_register.specs.Claims.{IsReady as IsReadyFor}
 use Rattle.rx_book.specs.declared.call.Call.{Call}
 use Rattle.rx_book.specs.declared.call.Call.TheVariants.{Open, Next, End, Apply, Lease, Hub, Connect, Disconnect}
 use Rattle.rx_book.specs.declared.answer.Answer.TheVariants.{Opened, Leased, Connected}
-use Rattle.rx_book.specs.Asks.{request_of, takes_memory, is_plain, gives}
+use Rattle.rx_book.specs.Asks.{request_of, takes_memory, has_fixed_cost, gives}
 use Rattle.rx_book.proofs.Admitted.{within_limit, admitted_let_in, admitted_as}
 use Rattle.rx_book.proofs.CallWithoutCause.{SettlesTo, subscribes_none, one_ready}
 use Rattle.rx_book.proofs.ListOfClosed.{opened_begun}
@@ -28,33 +29,35 @@ free_adds s (Hub mode) free = absurd (true≢false free)
 free_adds s (Connect hub) free = absurd (true≢false free)
 free_adds s _ free = (refl, refl)
 
--- where what may take some is refused `Full` is told by what it adds
-counted : (s : State) (call : Call) → takes_memory call ≡ true → (let asked = request_of s call in
+-- one of fixed cost may take memory
+pub fixed_takes : (call : Call) → has_fixed_cost call ≡ true → takes_memory call ≡ true
+fixed_takes (Apply res word) fixed = refl
+fixed_takes (Lease res) fixed = refl
+fixed_takes (Hub mode) fixed = refl
+fixed_takes (Connect hub) fixed = refl
+fixed_takes _ fixed = absurd (false≢true fixed)
+
+-- where it is refused `Full` is told by what it adds
+counted : (s : State) (call : Call) → has_fixed_cost call ≡ true → (let asked = request_of s call in
     causes s.base s.history s.limit asked.is_fresh asked.call Full ≡ is_over s.base s.history s.limit (added_by s.history asked.call))
-counted s (Open at kind) takes = refl
-counted s (Next leaf value) takes = refl
-counted s (Apply res word) takes = refl
-counted s (Lease res) takes = refl
-counted s (Hub mode) takes = refl
-counted s (Connect hub) takes = refl
-counted s _ takes = absurd (false≢true takes)
+counted s (Apply res word) fixed = refl
+counted s (Lease res) fixed = refl
+counted s (Hub mode) fixed = refl
+counted s (Connect hub) fixed = refl
+counted s _ fixed = absurd (false≢true fixed)
 
-few_told : (s : State) (call : Call) → is_plain call ≡ true → notes_added s.history (request_of s call).call ≤ 1
-few_told s (Open at kind) plain = absurd (false≢true plain)
-few_told s (Next leaf value) plain = absurd (false≢true plain)
-few_told s _ plain = omega arith
+few_told : (s : State) (call : Call) → has_fixed_cost call ≡ true → notes_added s.history (request_of s call).call ≤ 1
+few_told s (Open at kind) fixed = absurd (false≢true fixed)
+few_told s (Next leaf value) fixed = absurd (false≢true fixed)
+few_told s _ fixed = omega arith
 
--- the cost is within the limit
-pub plain_within : {T : Type 0} (g : Ghosts T) (b : Ground T) (call : Call) (cost : Option Wanted) → is_plain call ≡ true →
-    IsCostOf (state_of g b) call cost → first_cause (stands (state_of g b) (request_of (state_of g b) call)) ≡ None → IfSome cost (IsWithin b)
-plain_within g b call None plain is none = tt
-plain_within g b call (Some w) plain is none =
-    let few = few_told (state_of g b) call plain in
-    within_limit g b (request_of (state_of g b) call) w (counted (state_of g b) call is.0) none is.1 (omega arith)
-
-pub plain_wants : (s : State) (call : Call) (cost : Option Wanted) → IsCostOf s call cost → is_some cost ≡ takes_memory call
-plain_wants s call None free = sym free
-plain_wants s call (Some w) is = sym is.0
+-- its cost is within the limit
+pub fixed_within : {T : Type 0} (g : Ghosts T) (b : Ground T) (call : Call) (w : Wanted) → has_fixed_cost call ≡ true →
+    w ≡ cost_of b.register.history (request_of (state_of g b) call).call → first_cause (stands (state_of g b) (request_of (state_of g b) call)) ≡ None →
+    IsWithin b w
+fixed_within g b call w fixed is none =
+    let few = few_told (state_of g b) call fixed in
+    within_limit g b (request_of (state_of g b) call) w (counted (state_of g b) call fixed) none is (omega arith)
 
 -- letting in ---------------------------------------------------------------------------------------
 
@@ -69,18 +72,15 @@ unlisted _ s = refl
 
 module _ {T : Type 0} {g : Ghosts T} {old new : Ground T} {cause : Option Refusal} (call : Call)
     (first : first_cause (stands (state_of g old) (request_of (state_of g old) call)) ≡ cause) where
-  pub plain_let_in : (cost : Option Wanted) → IsCostOf (state_of g old) call cost → Admits g old cause cost new →
-      IsLetIn g new (request_of (state_of g new) call)
-  plain_let_in None free a =
+  pub free_let_in : takes_memory call ≡ false → Admits g old cause None new → IsLetIn g new (request_of (state_of g new) call)
+  free_let_in free a =
       let adds = free_adds (state_of g new) call free in
       admitted_let_in (λ s. request_of s call) (unlisted call) (ready (state_of g new) call) first a
       (paid_room new.register (request_of (state_of g new) call).call a.standing.paid adds.0 adds.1)
-  plain_let_in (Some w) is a = (admitted_as (λ s. request_of s call) (unlisted call) (ready (state_of g new) call) first a is.1).let_in
 
-  pub plain_room : (cost : Option Wanted) → IsCostOf (state_of g old) call cost → Admits g old cause cost new →
-      HasRoomIf (takes_memory call) new (request_of (state_of g new) call).call
-  plain_room None free a = rw free tt
-  plain_room (Some w) is a = rw is.0 (admitted_as (λ s. request_of s call) (unlisted call) (ready (state_of g new) call) first a is.1).room
+  pub fixed_admitted : {w : Wanted} → w ≡ cost_of old.register.history (request_of (state_of g old) call).call → Admits g old cause (Some w) new →
+      IsAdmitted g new (request_of (state_of g new) call)
+  fixed_admitted is a = admitted_as (λ s. request_of s call) (unlisted call) (ready (state_of g new) call) first a is
 
 -- what is forced -----------------------------------------------------------------------------------
 
@@ -89,21 +89,28 @@ closes_subscribe_none [] = refl
 closes_subscribe_none (n ∷ ns) = closes_subscribe_none ns
 
 -- it opens no subscriber
-pub plain_subscribes_none : (s : State) (call : Call) → is_plain call ≡ true → list_all subscribes_none (outside_of s.history (request_of s call).call) ≡ true
-plain_subscribes_none s (Open at kind) plain = absurd (false≢true plain)
-plain_subscribes_none s (Disconnect hub) plain = closes_subscribe_none (open_connections s.history hub)
-plain_subscribes_none s _ plain = refl
+pub free_subscribes_none : (s : State) (call : Call) → takes_memory call ≡ false →
+    list_all subscribes_none (outside_of s.history (request_of s call).call) ≡ true
+free_subscribes_none s (Open at kind) free = absurd (true≢false free)
+free_subscribes_none s (Disconnect hub) free = closes_subscribe_none (open_connections s.history hub)
+free_subscribes_none s _ free = refl
+
+pub fixed_subscribes_none : (s : State) (call : Call) → has_fixed_cost call ≡ true →
+    list_all subscribes_none (outside_of s.history (request_of s call).call) ≡ true
+fixed_subscribes_none s (Open at kind) fixed = absurd (false≢true fixed)
+fixed_subscribes_none s (Disconnect hub) fixed = absurd (false≢true fixed)
+fixed_subscribes_none s _ fixed = refl
 
 -- answers ------------------------------------------------------------------------------------------
 
 -- what it gives is given still after what is forced
-pub gives_settled : {T : Type 0} {g : Ghosts T} {b mid new : Ground T} (call : Call) (answer : Answer) → is_plain call ≡ true →
+pub gives_settled : {T : Type 0} {g : Ghosts T} {b mid new : Ground T} (call : Call) (answer : Answer) → has_fixed_cost call ≡ true →
     IsLetIn g b (request_of (state_of g b) call) → Accepts (state_of g b) (request_of (state_of g b) call) (state_of g new) → SettlesTo g mid new →
     gives (state_of g b) call (state_of g mid) answer → gives (state_of g b) call (state_of g new) answer
-gives_settled (Open at kind) answer plain l done s is = absurd (false≢true plain)
-gives_settled (Lease res) (Leased k) plain l done s is =
+gives_settled (Open at kind) answer fixed l done s is = absurd (false≢true fixed)
+gives_settled (Lease res) (Leased k) fixed l done s is =
     record { number = is.number; listed = ap (λ (leases : Slots ResKey). has_lease_key (lease_keys_of leases) k) s.leases ∙ is.listed }
-gives_settled {g} {b} {mid} {new} (Connect hub) (Connected k) plain l done s is =
+gives_settled {g} {b} {mid} {new} (Connect hub) (Connected k) fixed l done s is =
     let h = b.register.history in
     let next = (one_ready g b (connect_request hub) l (Connected_to hub) refl).next in
     let alive = connected_stays b.register.base h new.register.history hub l.may.lawful l.may.settled next done.step.forced in
@@ -112,7 +119,7 @@ gives_settled {g} {b} {mid} {new} (Connect hub) (Connected k) plain l done s is 
       number = is.number;
       listed = has_key_is new.tree k ∙ s.nodes.still (tree_key_of k) there (ap (is_open new.register.history) is.number ∙ alive);
     }
-gives_settled _ _ plain l done s is = is
+gives_settled _ _ fixed l done s is = is
 
 pub gives_begun : (s new : State) (call : Call) (answer : Answer) → gives (record s { closed = [] }) call new answer → gives s call new answer
 gives_begun s new (Open at kind) (Opened o) is = opened_begun is
