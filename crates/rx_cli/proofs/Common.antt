@@ -1,12 +1,11 @@
 -- The names that most proofs here cite, passed on from one place. Declares nothing.
 pub use Rattle.std.proofs.Common.{◌∙◌, ◌≡◌, ap, refl, List, codes, Err, ap₂, sym, true, Bool, Result, [], false, map, rules, true≢false, ◌∷◌, Ok, subst, ℕ}
-pub use Rattle.std.proofs.Common.{vec_len, ◌++◌, ◌≤◌, OnErr, OnOk, Some, cond, inl, inr, not, option_map, ◌&&◌, ◌+◌}
-pub use Rattle.std.{proofs.lemmas.List.Elements.All-push, proofs.lemmas.Result.IfOk-weaker, specs.Io.KnownBytes.Appends, specs.Result.result_unwrap_or}
-pub use Rattle.std.specs.{List.All, List.range_with_len, Str.Parse.ParsesUnsigned, Str.Parse.digits_value, Str.Parse.without_leading_plus}
+pub use Rattle.std.proofs.Common.{◌≤◌, OnErr, OnOk, Some, cond, inl, inr, not, option_map, ◌&&◌}
+pub use Rattle.std.{proofs.lemmas.Result.IfOk-weaker, specs.Io.KnownBytes.Appends, specs.Result.result_unwrap_or}
+pub use Rattle.std.specs.{Str.Parse.ParsesUnsigned, Str.Parse.digits_value, Str.Parse.without_leading_plus}
 pub use Rattle.clap.{proofs.WalkLemmas.first_value-rows, specs.Values.IsUnsignedIn, specs.declared.builder.value_parser.ValueParser.TheVariants.Unsigned}
 pub use Rattle.clap.specs.Words.{app_of, App, fault_of, found_of, new_app, with_rule, Text, is_simple, is_simple_and_free, subcommand_of, with_subcommand}
 unfoldable pub use Rattle.clap.proofs.OnLiterals.{clap_on_literals}
-pub use Rattle.rx_cli.specs.{Boxes.fresh_by, Boxes.marks_of, Boxes.shown, Marks.Marks, Told.Bytes, Told.IsTold, declared.boxes.kind.ResourceKind.ResourceKind}
-pub use Rattle.rx_cli.specs.{Words.number_by, Words.rxbook, Words.form_by, Words.order_of, declared.boxes.stocked.Stocked.Stocked}
+pub use Rattle.rx_cli.specs.{Told.Bytes, Told.IsTold}
+pub use Rattle.rx_cli.specs.{Words.number_by, Words.rxbook, Words.form_by, Words.order_of}
 pub use Rattle.rx_device.specs.declared.{fault.ScriptError.TheVariants.Memory, watched.Watched.Watched}
-pub use Rattle.rx_resource.{proofs.Laws.Stocks.shown_more, specs.declared.Life.TheVariants.Live}

@@ -2,5 +2,4 @@ pub mod Common
 pub mod Fronts
 pub mod Literals
 pub mod NotBegunWithoutMemory
-pub mod StockGrowsByOne
 pub mod Numbers

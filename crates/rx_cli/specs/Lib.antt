@@ -1,5 +1,3 @@
-pub mod Boxes
-pub mod Marks
 pub mod Told
 pub mod Served
 pub mod Status

@@ -1,4 +1,4 @@
-//! The program `rxbook` without its `main`: its words, its resources, its exit statuses.
+//! The program `rxbook` without its `main`: its words, what they order, its exit statuses.
 //!
 //! `main` gathers the words, makes the stock of resources and passes the standard streams on; all else
 //! is done here over any streams, so that it can be proved and tested over memory.
@@ -6,9 +6,7 @@
 //! # Vocabulary
 //!
 //! - An [`Order`] is what the words of a command line ask for; [`order`] reads it by `clap`.
-//! - The stock is the list of resources that a scenario may hold, [`STOCK`] of them, of the kinds
-//!   [`Plain`], [`Tally`] and [`Faulty`], by [`ResourceKind::by_tag`]. [`stock`] makes it, of
-//!   [`Stocked`] resources.
+//! - The stock is the list of resources that a scenario may hold; [`stock`] of `rx_script` makes it.
 //! - A [`Watched`] input or output notes whether the stream behind it failed, so that the contract of
 //!   [`serve`] can say when a stream is at fault.
 //! - A dump is a history in JSON, and a verdict what the audit says of it, both of `rx_script`.
@@ -50,7 +48,6 @@
 //!   and the status stays.
 #![tactic(auto)]
 
-mod boxes;
 mod program;
 mod request;
 mod statuses;
@@ -59,10 +56,9 @@ mod usage;
 mod word_laws;
 mod words;
 
-pub use boxes::{Faulty, Plain, ResourceKind, STOCK, Stocked, Tally, stock};
 pub use program::serve;
 pub use request::Order;
-pub use rx_script::{Closed, Form, ScriptError, Watched, check, close, run};
+pub use rx_script::{Closed, Form, ScriptError, Watched, check, close, run, stock};
 pub use statuses::{out_of_memory, weathered};
 pub use usage::refuse_bytes;
 pub use word_laws::words_have_their_orders;

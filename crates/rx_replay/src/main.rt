@@ -15,7 +15,7 @@
 mod program;
 
 use program::{Asked, answer};
-use rx_cli::Form;
+use rx_script::Form;
 use std::fs::DirEntry;
 use std::rt::Files;
 use std::{fs, io};

@@ -1,9 +1,9 @@
 //! What the program `rxbook` makes of a text.
 
-use rx_cli::{Form, ScriptError, Watched, check, run, stock};
 use rx_device::ShapeError;
 use rx_dump::history_of;
 use rx_explain::explain;
+use rx_script::{Form, ScriptError, Watched, check, run, stock};
 use rx_svg::named_picture;
 use serde_json::Value;
 use std::alloc::{AllocError, Global};

@@ -1,164 +1,201 @@
--- Each command, carried out by an engine.
-use Rattle.rx_script.proofs.Common.{◌≡◌, ℕ, List, Bool, true, false, refl, sym, ap, subst, ◌∙◌, cond, inl, inr, ◌≢◌, Some, None, Result, Ok, Err, IfOk, is_none}
-use Rattle.rx_script.proofs.Common.{option_map, not, Kept, Event, Refusal, Gone, NoMemory, is_open, is_held, Call, Applying, Removing, Emitting, Ending}
-use Rattle.rx_script.proofs.Common.{Aborting, Declining, Failing, Disposing, first_cause, IsRefusal, Key, ResKey, State, IsPromised, has_key, has_res_key}
-use Rattle.rx_script.proofs.Common.{causes, by_key, by_res_key, Request, stands, Accepts, Answer, Accepted, Refused, NoName, Book, Engine, Name, Command, apply}
-use Rattle.rx_script.proofs.Common.{remove, next, end, abort, decline, fail, dispose, Stage, own_cause, call_of, front_is_fresh, after, bound, is_unbound}
-use Rattle.rx_script.proofs.Common.{key_of, IsSound, Carries, IsNodeKey, IsHeldKey, key_of-holds}
-use Rattle.std.proofs.Common.{ℤ}
-use Rattle.std.specs.declared.alloc.AllocError.{AllocError}
-use Rattle.rx_note.specs.declared.note.Terminal.{Terminal}
-use Rattle.rx_event.specs.Causes.{by_key_of}
-use Rattle.rx_book.specs.Requests.{node_request, res_request}
-use Rattle.rx_script.proofs.KeysByNumber.{has_key-is_open, has_res_key-is_held}
-use Rattle.rx_script.proofs.NamesStandForKeys.{node_bound, node_unbound, res_bound, res_unbound}
-use Rattle.rx_script.proofs.EngineCarriesOut.{Agrees, first_cause-by_key, with, refused_own, refused_there, accepted_plain, stored_stage}
+-- The commands that make a call of the book as a value: what is known of each by that call, and that an engine carries it out.
+use Rattle.rx_script.proofs.Common.{◌≡◌, ℕ, List, Bool, true, false, refl, sym, ap, subst, ◌∙◌, cond, ◌≢◌, Option, Some, None, is_none, option_map, map, not}
+use Rattle.rx_script.proofs.Common.{option_and_then, Kind, Refusal, Gone, NoMemory, is_open, is_held, Call, Opening, Emitting, Ending, Aborting, Declining}
+use Rattle.rx_script.proofs.Common.{Failing, Disposing, Applying, Removing, Leasing, GivingBack, first_cause, Key, ResKey, At, State, has_key}
+use Rattle.rx_script.proofs.Common.{has_res_key, has_lease_key, place_of, is_known_place, causes, by_key, by_res_key, stands, Refused}
+use Rattle.rx_script.proofs.Common.{Cause, NoName, NameTaken, NoStock, Book, Named, Engine, Name, Site, Sort, Command, open_node, apply, remove, lease}
+use Rattle.rx_script.proofs.Common.{next, end, abort, decline, fail, dispose, make_hub, connect, disconnect, using, hold, false≢true}
+use Rattle.rx_script.proofs.Common.{lacks_name, takes_name, lacks_stock, kind_at, call_of, front_is_fresh, bound, is_unbound, key_of, at_of, kind_of}
+use Rattle.rx_script.proofs.Common.{IsSound, Carries, IsNodeKey, IsHeldKey, IsLeaseKey, key_of-holds}
+use Rattle.rx_script.proofs.Common.{Sub, sub, is_unbound_hub, connection_name, own_cause, ◌||◌, bound-numbers, give_back}
+use Rattle.rx_agenda.proofs.Laws.{bound-keys}
+use Rattle.rx_event.specs.Causes.{by_lease_key}
+use Rattle.rx_event.specs.declared.refusal.Refusal.TheVariants.{NotHeld, NoLease}
+use Rattle.rx_book.specs.Answers.{IsRefusalOf}
+use Rattle.rx_book.specs.Asks.{request_of, takes_memory, refuses}
+use Rattle.rx_book.specs.declared.call.Call.{Call as Asked}
+use Rattle.rx_book.specs.declared.call.Call.TheVariants.{Open, Next, End, Abort, Decline, Fail, Dispose, Apply, Remove, Lease, GiveBack, Connect, Disconnect}
+use Rattle.rx_script.specs.KeyedCalls.{is_asked, keyed_call, rebinds}
+use Rattle.rx_script.proofs.MadeOfOptions.{is_none-map}
+use Rattle.rx_script.proofs.KeysByNumber.{has_key-is_open, has_res_key-is_held, has_lease_key-is_out}
+use Rattle.rx_script.proofs.EngineCarriesOut.{Agrees, first_cause-by_key, with, refused_own, refused_there, stored_stage, cause_of}
+use Rattle.rx_script.proofs.Openings.{binding_by, IsPlaced, site_placed, site_nameless, is_bound-nodes, is_bound-leases, is_bound-hubs}
+use Rattle.rx_script.proofs.Openings.{taken-bound, taken_beside-bound}
 
--- refusals by the book -----------------------------------------------------------------------------
+-- it uses no name that is not bound, and takes nothing of the stock; it is this call of the stage, and refused by keys as by numbers
+pub record IsCalled {R : Type 0} (e : Engine R) (step : Command) (call : Asked) : Type 0 where
+  pub named : lacks_name (stored_stage e) step ≡ false
+  pub stocked : lacks_stock (stored_stage e) step ≡ false
+  pub called : call_of (stored_stage e) step ≡ Some (request_of e.book call).call
+  pub same : first_cause (stands e.book (request_of e.book call))
+      ≡ first_cause (causes e.book.base e.book.history e.book.limit (front_is_fresh (stored_stage e)) (request_of e.book call).call)
 
--- where it is no want of memory, the book's first cause
-pub cause_of : (stand : Refusal → Bool) (why : Refusal) → IsRefusal stand why → why ≢ NoMemory → first_cause stand ≡ Some why
-cause_of stand why refusal other = elim refusal [ inl cause ↦ cause | inr none ↦ absurd (other none.1) ]
+-- so it is with the call that a command makes, and one that makes none lacks a name
+abbrev IsResolved : {R : Type 0} → Engine R → Command → Option Asked → Type 0
+IsResolved e step None = lacks_name (stored_stage e) step ≡ true
+IsResolved e step (Some call) = IsCalled e step call
 
-pub answered : (r : Result Answer AllocError) (why : Refusal) (P : Answer → Type 0)
-    → IfOk r (λ a. (a ≡ Refused (Book why)) × (why ≢ NoMemory)) → (why ≢ NoMemory → P (Refused (Book why))) → IfOk r P
-answered (Ok a) why P told here = subst P (sym told.0) (here told.1)
-answered (Err e) why P told here = tt
+-- kinds: a sort stands for the same by numbers as by names
+kind_same : {R : Type 0} (e : Engine R) (sort : Sort) → kind_at (stored_stage e) sort ≡ kind_of e.hubs sort
+kind_same e (sub hub connection) = ap (option_map Sub) (bound-numbers e.hubs hub)
+kind_same e _ = refl
 
--- commands that name one node ----------------------------------------------------------------------
+hub_same : {R : Type 0} (e : Engine R) (sort : Sort) → is_unbound_hub (stored_stage e) sort ≡ is_none (kind_of e.hubs sort)
+hub_same e (sub hub connection) = ap is_none (bound-numbers e.hubs hub) ∙ sym (is_none-map Sub (key_of e.hubs hub))
+hub_same e _ = refl
 
--- the step makes this call of the node with this name, and binds nothing
-pub record IsNodeStep (step : Command) (name : Name) (call : ℕ → Call) : Type 0 where
-  pub own : (s : Stage) → own_cause s step ≡ cond (is_unbound s.nodes name) (Some NoName) None
-  pub called : (s : Stage) → call_of s step ≡ option_map call (bound s.nodes name)
-  pub binds_none : (s : Stage) (k : List Event) → after s step k ≡ record s { history = k }
-  pub gone : (base : Kept) (h : List Event) (limit : ℕ) (is_fresh : Bool) (n : ℕ) → causes base h limit is_fresh (call n) Gone ≡ not (is_open h n)
-  pub by_node : (n : ℕ) (known : Bool) (stand : Refusal → Bool) → by_key_of (call n) known stand ≡ by_key known stand
-  pub any_front : (base : Kept) (h : List Event) (limit : ℕ) (is_fresh : Bool) (n : ℕ) →
-      causes base h limit true (call n) ≡ causes base h limit is_fresh (call n)
+-- to look for the key is to look whether the resource is held, or the lease out
+by_res_same : (known : Bool) (stand : Refusal → Bool) → (known ≡ false → first_cause stand ≡ Some NotHeld)
+    → first_cause (by_res_key known stand) ≡ first_cause stand
+by_res_same true stand none = refl
+by_res_same false stand none = sym (none refl)
 
-pub next_step : (node : Name) (value : ℤ) → IsNodeStep (next node value) node (λ n. Emitting n value)
-next_step node value =
-    record { own = λ s. refl; called = λ s. refl; binds_none = λ s k. refl; gone = λ b h l f n. refl; by_node = λ n k s. refl; any_front = λ b h l f n. refl }
+by_lease_same : (known : Bool) (stand : Refusal → Bool) → (known ≡ false → first_cause stand ≡ Some NoLease)
+    → first_cause (by_lease_key known stand) ≡ first_cause stand
+by_lease_same true stand none = refl
+by_lease_same false stand none = sym (none refl)
 
-pub end_step : (node : Name) (t : Terminal) → IsNodeStep (end node t) node (λ n. Ending n t)
-end_step node t =
-    record { own = λ s. refl; called = λ s. refl; binds_none = λ s k. refl; gone = λ b h l f n. refl; by_node = λ n k s. refl; any_front = λ b h l f n. refl }
+-- a command that uses one name, for which this stands if it is bound
+by_name : {R K : Type 0} (e : Engine R) (step : Command) (number_of : K → ℕ) (names : List (Named K)) (name : Name) (f : K → Asked) (o : Option K)
+    → key_of names name ≡ o → lacks_name (stored_stage e) step ≡ is_unbound (map (binding_by number_of) names) name
+    → ((k : K) → key_of names name ≡ Some k → bound (map (binding_by number_of) names) name ≡ Some (number_of k) → IsCalled e step (f k))
+    → IsResolved e step (option_map f o)
+by_name e step number_of names name f None at lacks is = lacks ∙ ap is_none (bound-keys number_of names name ∙ ap (option_map number_of) at)
+by_name e step number_of names name f (Some k) at lacks is = is k at (bound-keys number_of names name ∙ ap (option_map number_of) at)
 
-pub abort_step : (node : Name) (code : ℕ) → IsNodeStep (abort node code) node (λ n. Aborting n code)
-abort_step node code =
-    record { own = λ s. refl; called = λ s. refl; binds_none = λ s k. refl; gone = λ b h l f n. refl; by_node = λ n k s. refl; any_front = λ b h l f n. refl }
+module _ {R : Type 0} (e : Engine R) (sound : IsSound e) where
+  -- the causes against a call by numbers
+  abbrev against : Call → Refusal → Bool
+  against = causes e.book.base e.book.history e.book.limit true
 
-pub decline_step : (node : Name) → IsNodeStep (decline node) node Declining
-decline_step node =
-    record { own = λ s. refl; called = λ s. refl; binds_none = λ s k. refl; gone = λ b h l f n. refl; by_node = λ n k s. refl; any_front = λ b h l f n. refl }
+  at_node : (step : Command) (node : Name) (f : Key → Asked) → lacks_name (stored_stage e) step ≡ is_unbound (stored_stage e).nodes node
+      → ((k : Key) → bound (stored_stage e).nodes node ≡ Some k.number
+      → ((stand : Refusal → Bool) → (is_open e.book.history k.number ≡ false → stand Gone ≡ true)
+      → first_cause (by_key (has_key e.book.keys k) stand) ≡ first_cause stand)
+      → IsCalled e step (f k))
+      → IsResolved e step (option_map f (key_of e.nodes node))
+  at_node step node f lacks called = by_name e step (λ k. k.number) e.nodes node f (key_of e.nodes node) refl lacks (λ k at is.
+      called k is (λ stand gone. first_cause-by_key (has_key e.book.keys k) stand (λ unknown.
+      gone (sym (has_key-is_open e.book k sound.kept (key_of-holds (IsNodeKey e.book) e.nodes node k sound.nodes at)) ∙ unknown))))
 
-pub fail_step : (node : Name) (code : ℕ) → IsNodeStep (fail node code) node (λ n. Failing n code)
-fail_step node code =
-    record { own = λ s. refl; called = λ s. refl; binds_none = λ s k. refl; gone = λ b h l f n. refl; by_node = λ n k s. refl; any_front = λ b h l f n. refl }
+  at_res : (step : Command) (res : Name) (f : ResKey → Asked) → lacks_name (stored_stage e) step ≡ is_unbound (stored_stage e).resources res
+      → ((k : ResKey) → bound (stored_stage e).resources res ≡ Some k.number
+      → ((stand : Refusal → Bool) → (is_held e.book.history k.number ≡ false → first_cause stand ≡ Some NotHeld)
+      → first_cause (by_res_key (has_res_key e.book.res_keys k) stand) ≡ first_cause stand)
+      → IsCalled e step (f k))
+      → IsResolved e step (option_map f (key_of e.resources res))
+  at_res step res f lacks called = by_name e step (λ k. k.number) e.resources res f (key_of e.resources res) refl lacks (λ k at is.
+      called k is (λ stand gone. by_res_same (has_res_key e.book.res_keys k) stand (λ unknown.
+      gone (sym (has_res_key-is_held e.book k sound.kept (key_of-holds (IsHeldKey e.book) e.resources res k sound.resources at)) ∙ unknown))))
 
-pub dispose_step : (node : Name) → IsNodeStep (dispose node) node Disposing
-dispose_step node =
-    record { own = λ s. refl; called = λ s. refl; binds_none = λ s k. refl; gone = λ b h l f n. refl; by_node = λ n k s. refl; any_front = λ b h l f n. refl }
+  at_hub : (step : Command) (hub : Name) (f : ℕ → Asked) → lacks_name (stored_stage e) step ≡ is_unbound (stored_stage e).hubs hub
+      → ((number : ℕ) → bound (stored_stage e).hubs hub ≡ Some number → IsCalled e step (f number)) → IsResolved e step (option_map f (key_of e.hubs hub))
+  at_hub step hub f lacks called = by_name e step (λ n. n) e.hubs hub f (key_of e.hubs hub) refl lacks (λ number at is. called number is)
 
-module _ {R : Type 0} (e : Engine R) {step : Command} {name : Name} {call : ℕ → Call} (is_step : IsNodeStep step name call) (sound : IsSound e) where
-  pub node_nameless : key_of e.nodes name ≡ None → Carries e step (Refused NoName) (with e e.book e.stock)
-  node_nameless none =
-      let nameless : is_unbound (stored_stage e).nodes name ≡ true = ap is_none (node_unbound e.nodes name none) in
-      refused_own step NoName e.book e.stock sound refl refl (is_step.own (stored_stage e) ∙ ap (λ b. cond b (Some NoName) None) nameless)
+  at_lease : (name : Name) → IsResolved e (give_back name) (option_map GiveBack (key_of e.leases name))
+  at_lease name = by_name e (give_back name) (λ k. k.number) e.leases name GiveBack (key_of e.leases name) refl refl (λ k at is. record {
+    named = rw is refl;
+    stocked = refl;
+    called = rw is refl;
+    same = by_lease_same (has_lease_key e.book.lease_keys k) (against (GivingBack k.number)) (λ unknown.
+        let none = sym (has_lease_key-is_out e.book k sound.kept (key_of-holds (IsLeaseKey e.book) e.leases name k sound.leases at)) ∙ unknown in
+        rw none refl);
+  })
 
-  module _ (k : Key) (named : key_of e.nodes name ≡ Some k) where
-    number_named : bound (stored_stage e).nodes name ≡ Some k.number
-    number_named = node_bound e.nodes name k named
+  module _ (name : Name) (site : Site) (sort : Sort) where
+    of_kind : (place : At) → IsPlaced e site place → (o : Option Kind) → kind_of e.hubs sort ≡ o
+        → IsResolved e (open_node name site sort) (option_map (Open place) o)
+    of_kind place facts None none =
+        let named = facts.named in
+        let hubless : is_unbound_hub (stored_stage e) sort ≡ true = hub_same e sort ∙ ap is_none none in
+        rw (named, hubless) refl
+    of_kind place facts (Some kind) is =
+        let placed = facts.named in
+        let hubbed : is_unbound_hub (stored_stage e) sort ≡ false = hub_same e sort ∙ ap is_none is in
+        record {
+          named = rw (placed, hubbed) refl;
+          stocked = refl;
+          called = ap (option_and_then (λ p. option_map (Opening p) (kind_at (stored_stage e) sort))) facts.placed
+              ∙ ap (option_map (Opening (place_of place))) (kind_same e sort ∙ is);
+          same = first_cause-by_key (is_known_place e.book.keys place) (against (Opening (place_of place) kind)) facts.gone;
+        }
 
-    no_own_cause : own_cause (stored_stage e) step ≡ None
-    no_own_cause = is_step.own (stored_stage e) ∙ ap (λ o. cond (is_none o) (Some NoName) None) number_named
+    at_place : (o : Option At) → at_of e.nodes site ≡ o
+        → IsResolved e (open_node name site sort) (option_and_then (λ place. option_map (Open place) (kind_of e.hubs sort)) o)
+    at_place None at = let nameless = site_nameless e site at in rw nameless refl
+    at_place (Some place) at = of_kind place (site_placed e site place sound at) (kind_of e.hubs sort) refl
 
-    known : has_key e.book.keys k ≡ is_open e.book.history k.number
-    known = has_key-is_open e.book k sound.kept (key_of-holds (IsNodeKey e.book) e.nodes name k sound.nodes named)
+  resolved : (step : Command) → is_asked step ≡ true → IsResolved e step (keyed_call e step)
+  resolved (open_node name site sort) asked = at_place name site sort (at_of e.nodes site) refl
+  resolved (apply res word) asked = at_res (apply res word) res (λ k. Apply k word) refl (λ k is by.
+      record { named = rw is refl; stocked = refl; called = rw is refl; same = by (against (Applying k.number)) (λ none. rw none refl) })
+  resolved (remove res) asked = at_res (remove res) res Remove refl (λ k is by.
+      record { named = rw is refl; stocked = refl; called = rw is refl; same = by (against (Removing k.number)) (λ none. rw none refl) })
+  resolved (lease res name) asked = at_res (lease res name) res Lease refl (λ k is by.
+      record { named = rw is refl; stocked = refl; called = rw is refl; same = by (against (Leasing k.number)) (λ none. rw none refl) })
+  resolved (give_back name) asked = at_lease name
+  resolved (next node value) asked = at_node (next node value) node (λ k. Next k value) refl (λ k is by.
+      record { named = rw is refl; stocked = refl; called = rw is refl; same = by (against (Emitting k.number value)) (λ none. ap not none) })
+  resolved (end node t) asked = at_node (end node t) node (λ k. End k t) refl (λ k is by.
+      record { named = rw is refl; stocked = refl; called = rw is refl; same = by (against (Ending k.number t)) (λ none. ap not none) })
+  resolved (abort node code) asked = at_node (abort node code) node (λ k. Abort k code) refl (λ k is by.
+      record { named = rw is refl; stocked = refl; called = rw is refl; same = by (against (Aborting k.number code)) (λ none. ap not none) })
+  resolved (decline node) asked = at_node (decline node) node Decline refl (λ k is by.
+      record { named = rw is refl; stocked = refl; called = rw is refl; same = by (against (Declining k.number)) (λ none. ap not none) })
+  resolved (fail node code) asked = at_node (fail node code) node (λ k. Fail k code) refl (λ k is by.
+      record { named = rw is refl; stocked = refl; called = rw is refl; same = by (against (Failing k.number code)) (λ none. ap not none) })
+  resolved (dispose node) asked = at_node (dispose node) node Dispose refl (λ k is by.
+      record { named = rw is refl; stocked = refl; called = rw is refl; same = by (against (Disposing k.number)) (λ none. ap not none) })
+  resolved (make_hub name mode) asked = record { named = refl; stocked = refl; called = refl; same = refl }
+  resolved (connect hub name) asked = at_hub (connect hub name) hub Connect refl (λ number is.
+      record { named = rw is refl; stocked = refl; called = rw is refl; same = refl })
+  resolved (disconnect hub) asked = at_hub (disconnect hub) hub Disconnect refl (λ number is.
+      record { named = rw is refl; stocked = refl; called = rw is refl; same = refl })
+  resolved _ asked = absurd (false≢true asked)
 
-    abbrev asked : Request
-    asked = node_request e.book k (call k.number)
+-- a name that is bound is bound on the stage
+takes_name-rebinds : {R : Type 0} (e : Engine R) (step : Command) → is_asked step ≡ true
+    → takes_name (stored_stage e) step ≡ rebinds e.nodes e.hubs e.leases step
+takes_name-rebinds e (using name site res) asked = absurd (false≢true asked)
+takes_name-rebinds e (hold node res) asked = absurd (false≢true asked)
+takes_name-rebinds e (open_node name site sort) asked =
+    λ i. is_bound-nodes e.nodes name i || taken_beside-bound e.nodes name (connection_name sort) i
+takes_name-rebinds e (lease res name) asked = is_bound-leases e.leases name
+takes_name-rebinds e (make_hub name mode) asked = is_bound-hubs e.hubs name
+takes_name-rebinds e (connect hub name) asked = taken-bound e.nodes name
+takes_name-rebinds e _ asked = refl
 
-    agrees : Agrees e asked step
-    agrees = record {
-      own = no_own_cause;
-      called = is_step.called (stored_stage e) ∙ ap (option_map call) number_named;
-      same =
-          ap first_cause (is_step.by_node k.number (has_key e.book.keys k) (causes e.book.base e.book.history e.book.limit true (call k.number)))
-          ∙ ap (λ stand. first_cause (by_key (has_key e.book.keys k) stand))
-          (is_step.any_front e.book.base e.book.history e.book.limit (front_is_fresh (stored_stage e)) k.number)
-          ∙ first_cause-by_key (has_key e.book.keys k) (causes e.book.base e.book.history e.book.limit (front_is_fresh (stored_stage e)) (call k.number))
-          (λ unknown. is_step.gone e.book.base e.book.history e.book.limit (front_is_fresh (stored_stage e)) k.number ∙ ap not (sym known ∙ unknown));
-    }
+-- carrying out -------------------------------------------------------------------------------------
 
-    pub node_refused : (book : State) (why : Refusal) → book ≡ e.book → IsRefusal (stands e.book (node_request e.book k (call k.number))) why
-        → why ≢ NoMemory → Carries e step (Refused (Book why)) (with e book e.stock)
-    node_refused book why same refusal other =
-        refused_there book e.stock sound same refl agrees (cause_of (stands e.book asked) why refusal other)
+cause_asked : (may_want : Bool) (stand : Refusal → Bool) (why : Refusal) → IsRefusalOf may_want stand why → why ≢ NoMemory → first_cause stand ≡ Some why
+cause_asked true stand why refusal other = cause_of stand why refusal other
+cause_asked false stand why cause other = cause
 
-    pub node_accepted : (book : State) → IsPromised book
-        → Accepts e.book (node_request e.book k (call k.number)) book → Carries e step Accepted (with e book e.stock)
-    node_accepted book kept accepts = accepted_plain sound agrees kept accepts (is_step.binds_none (stored_stage e))
+-- the causes of the scenario's own, in their order
+abbrev own_by : (lacks takes stockless : Bool) → Option Cause
+own_by lacks takes stockless = cond lacks (Some NoName) (cond takes (Some NameTaken) (cond stockless (Some NoStock) None))
 
--- commands that name one resource ------------------------------------------------------------------
+module _ {R : Type 0} (e : Engine R) (sound : IsSound e) (step : Command) (asked : is_asked step ≡ true) where
+  pub call_nameless : keyed_call e step ≡ None → Carries e step (Refused NoName) (with e e.book e.stock)
+  call_nameless none =
+      let lacks : lacks_name (stored_stage e) step ≡ true = subst (λ o. IsResolved e step o) none (resolved e sound step asked) in
+      refused_own step NoName e.book e.stock sound refl refl (λ i. own_by (lacks i) (takes_name (stored_stage e) step) (lacks_stock (stored_stage e) step))
 
--- the step makes this call of the resource with this name, and binds nothing
-pub record IsResStep (step : Command) (name : Name) (call : ℕ → Call) : Type 0 where
-  pub own : (s : Stage) → own_cause s step ≡ cond (is_unbound s.resources name) (Some NoName) None
-  pub called : (s : Stage) → call_of s step ≡ option_map call (bound s.resources name)
-  pub binds_none : (s : Stage) (k : List Event) → after s step k ≡ record s { history = k }
-  -- to look for the key is to look whether the resource is held
-  pub same_cause : (known : Bool) (base : Kept) (h : List Event) (limit : ℕ) (is_fresh : Bool) (n : ℕ) → known ≡ is_held h n
-      → first_cause (by_key_of (call n) known (causes base h limit true (call n))) ≡ first_cause (causes base h limit is_fresh (call n))
+  module _ (call : Asked) (is : keyed_call e step ≡ Some call) where
+    facts : IsCalled e step call
+    facts = subst (λ o. IsResolved e step o) is (resolved e sound step asked)
 
-apply_same_cause : (known : Bool) (base : Kept) (h : List Event) (limit : ℕ) (is_fresh : Bool) (n : ℕ) → known ≡ is_held h n
-    → first_cause (by_res_key known (causes base h limit true (Applying n))) ≡ first_cause (causes base h limit is_fresh (Applying n))
-apply_same_cause true base h limit f n same = refl
-apply_same_cause false base h limit f n same = let not_held : is_held h n ≡ false = sym same in rw not_held refl
+    own_is : (takes : Bool) → rebinds e.nodes e.hubs e.leases step ≡ takes → own_cause (stored_stage e) step ≡ cond takes (Some NameTaken) None
+    own_is takes same = λ i. own_by (facts.named i) ((takes_name-rebinds e step asked ∙ same) i) (facts.stocked i)
 
-remove_same_cause : (known : Bool) (base : Kept) (h : List Event) (limit : ℕ) (is_fresh : Bool) (n : ℕ) → known ≡ is_held h n
-    → first_cause (by_res_key known (causes base h limit true (Removing n))) ≡ first_cause (causes base h limit is_fresh (Removing n))
-remove_same_cause true base h limit f n same = refl
-remove_same_cause false base h limit f n same = let not_held : is_held h n ≡ false = sym same in rw not_held refl
+    pub call_taken : rebinds e.nodes e.hubs e.leases step ≡ true → Carries e step (Refused NameTaken) (with e e.book e.stock)
+    call_taken taken = refused_own step NameTaken e.book e.stock sound refl refl (own_is true taken)
 
-pub apply_step : (res : Name) (word : ℕ) → IsResStep (apply res word) res Applying
-apply_step res word = record { own = λ s. refl; called = λ s. refl; binds_none = λ s k. refl; same_cause = apply_same_cause }
+    module _ (free : rebinds e.nodes e.hubs e.leases step ≡ false) where
+      pub call_agrees : Agrees e (request_of e.book call) step
+      call_agrees = record { own = own_is false free; called = facts.called; same = facts.same }
 
-pub remove_step : (res : Name) → IsResStep (remove res) res Removing
-remove_step res = record { own = λ s. refl; called = λ s. refl; binds_none = λ s k. refl; same_cause = remove_same_cause }
-
-module _ {R : Type 0} (e : Engine R) {step : Command} {name : Name} {call : ℕ → Call} (is_step : IsResStep step name call) (sound : IsSound e) where
-  pub res_nameless : key_of e.resources name ≡ None → Carries e step (Refused NoName) (with e e.book e.stock)
-  res_nameless none =
-      let nameless : is_unbound (stored_stage e).resources name ≡ true = ap is_none (res_unbound e.resources name none) in
-      refused_own step NoName e.book e.stock sound refl refl (is_step.own (stored_stage e) ∙ ap (λ b. cond b (Some NoName) None) nameless)
-
-  module _ (k : ResKey) (named : key_of e.resources name ≡ Some k) where
-    res_number : bound (stored_stage e).resources name ≡ Some k.number
-    res_number = res_bound e.resources name k named
-
-    res_no_own_cause : own_cause (stored_stage e) step ≡ None
-    res_no_own_cause = is_step.own (stored_stage e) ∙ ap (λ o. cond (is_none o) (Some NoName) None) res_number
-
-    res_known : has_res_key e.book.res_keys k ≡ is_held e.book.history k.number
-    res_known = has_res_key-is_held e.book k sound.kept (key_of-holds (IsHeldKey e.book) e.resources name k sound.resources named)
-
-    abbrev res_asked : Request
-    res_asked = res_request e.book k (call k.number)
-
-    res_agrees : Agrees e res_asked step
-    res_agrees = record {
-      own = res_no_own_cause;
-      called = is_step.called (stored_stage e) ∙ ap (option_map call) res_number;
-      same = is_step.same_cause (has_res_key e.book.res_keys k) e.book.base e.book.history e.book.limit (front_is_fresh (stored_stage e)) k.number res_known;
-    }
-
-    pub res_refused : (book : State) (why : Refusal) → book ≡ e.book → IsRefusal (stands e.book (res_request e.book k (call k.number))) why
-        → why ≢ NoMemory → Carries e step (Refused (Book why)) (with e book e.stock)
-    res_refused book why same refusal other =
-        refused_there book e.stock sound same refl res_agrees (cause_of (stands e.book res_asked) why refusal other)
-
-    pub res_accepted : (book : State) → IsPromised book
-        → Accepts e.book (res_request e.book k (call k.number)) book → Carries e step Accepted (with e book e.stock)
-    res_accepted book kept accepts = accepted_plain sound res_agrees kept accepts (is_step.binds_none (stored_stage e))
+      pub call_refused : (book : State) (why : Refusal) → book ≡ e.book → refuses e.book call why → why ≢ NoMemory
+          → Carries e step (Refused (Book why)) (with e book e.stock)
+      call_refused book why same refusal other = refused_there book e.stock sound same refl call_agrees
+          (cause_asked (takes_memory call) (stands e.book (request_of e.book call)) why refusal other)

@@ -5,7 +5,8 @@ use Rattle.rx_script.proofs.Common.{none-some, Event, Refusal, Gone, nothing_kep
 use Rattle.rx_script.proofs.Common.{IsPromised, Continues, by_key, causes, Request, stands, Accepts, connection_made, Answer, Accepted, Refused, Cause, Book}
 use Rattle.rx_script.proofs.Common.{Engine, Command, drain, checkpoint, Stage, own_cause, call_of, after, front_is_fresh, Drains, limited, Executes, refused}
 use Rattle.rx_script.proofs.Common.{refused_by_book, accepted, drained, Shelf, Tallies, AreTalliesOf, stage_of, IsHistoryOf, IsSound, Carries}
-use Rattle.rx_script.proofs.Common.{accepted_continues}
+use Rattle.rx_script.proofs.Common.{◌≢◌, inl, inr, NoMemory, IsRefusal, Result, Ok, Err, IfOk}
+use Rattle.std.specs.declared.alloc.AllocError.{AllocError}
 use Rattle.rx_event.specs.Kept.{stored}
 use Rattle.rx_book.proofs.Laws.StepsContinue.{step_taken}
 use Rattle.rx_script.proofs.GivenKeysStay.{HasKeys, keys_kept}
@@ -83,6 +84,17 @@ module _ {t : Tallies} {s : State} {h : List Event} (w : IsHistoryOf h t s) (kep
     tallies = subst (AreTalliesOf w.front) (sym same_tallies) w.tallies;
     given = same_given ∙ w.given;
   }
+
+-- refusals by the book -------------------------------------------------------------------------------
+
+-- where it is no want of memory, the book's first cause
+pub cause_of : (stand : Refusal → Bool) (why : Refusal) → IsRefusal stand why → why ≢ NoMemory → first_cause stand ≡ Some why
+cause_of stand why refusal other = elim refusal [ inl cause ↦ cause | inr none ↦ absurd (other none.1) ]
+
+pub answered : (r : Result Answer AllocError) (why : Refusal) (P : Answer → Type 0)
+    → IfOk r (λ a. (a ≡ Refused (Book why)) × (why ≢ NoMemory)) → (why ≢ NoMemory → P (Refused (Book why))) → IfOk r P
+answered (Ok a) why P told here = subst P (sym told.0) (here told.1)
+answered (Err e) why P told here = tt
 
 -- carrying out ---------------------------------------------------------------------------------------
 
@@ -178,20 +190,6 @@ module _ {R : Type 0} {e new : Engine R} {step : Command} {asked : Request} (sou
     };
     limit = done.accepts.limit;
   }
-
--- a call that binds no names
-pub accepted_plain : {R : Type 0} {e : Engine R} {step : Command} {asked : Request} {book : State} → IsSound e → Agrees e asked step
-    → IsPromised book → Accepts e.book asked book → ((k : List Event) → after (stored_stage e) step k ≡ record (stored_stage e) { history = k })
-    → Carries e step Accepted (with e book e.stock)
-accepted_plain {e} {asked = asked} {book = book} sound agrees kept accepts plain =
-    let older = keys_kept sound kept (accepted_continues e.book book asked accepts) in
-    accepted_to {new = with e book e.stock} sound agrees (record {
-      kept = kept;
-      accepts = accepts;
-      staged = sym (plain book.history);
-      keys = record { nodes = older.nodes; resources = older.resources; leases = older.leases };
-      rest = (refl, refl);
-    })
 
 -- taking and releasing all that waits
 module _ {R : Type 0} (e : Engine R) (book : State) (faults : ℕ) (sound : IsSound e) (drains : Drains e.book.base e.book.history book.history)

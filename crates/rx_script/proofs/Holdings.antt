@@ -10,8 +10,7 @@ use Rattle.rx_book.specs.Answers.{IsOpenedUsing}
 use Rattle.rx_script.proofs.KeysByNumber.{has_key-is_open}
 use Rattle.rx_script.proofs.NamesStandForKeys.{node_bound, node_unbound}
 use Rattle.rx_script.proofs.GivenKeysStay.{keys_kept}
-use Rattle.rx_script.proofs.EngineCarriesOut.{Agrees, first_cause-by_key, with, refused_own, refused_there, accepted_to, stored_stage}
-use Rattle.rx_script.proofs.Commands.{cause_of}
+use Rattle.rx_script.proofs.EngineCarriesOut.{Agrees, first_cause-by_key, with, refused_own, refused_there, accepted_to, stored_stage, cause_of}
 use Rattle.rx_script.proofs.Openings.{is_bound-nodes, is_bound-resources, IsPlaced, site_placed, site_nameless, Binds, numbers_bound, all_bound, new_node_key}
 use Rattle.rx_script.proofs.Openings.{new_held_key}
 

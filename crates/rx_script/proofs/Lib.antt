@@ -1,5 +1,6 @@
 pub mod Common
 pub mod KeysByNumber
+pub mod MadeOfOptions
 pub mod Texts
 pub mod LinesMade
 pub mod LeasesOut
@@ -19,10 +20,8 @@ pub mod AllStored
 pub mod WrittenBeforeClosing
 pub mod Commands
 pub mod Openings
-pub mod Nodes
+pub mod NamesGiven
 pub mod Holdings
-pub mod LeaseCommands
-pub mod HubCommands
 pub mod CoursesInOrder
 pub mod CallsOfSteps
 pub mod OneCourse
@@ -37,3 +36,4 @@ pub mod EachCourse
 pub mod PossibleCourse
 pub mod WholeReport
 mod Examples
+pub mod StockGrowsByOne

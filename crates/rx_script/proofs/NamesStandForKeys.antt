@@ -16,18 +16,5 @@ node_bound names name k e = bound-nodes names name ∙ ap (option_map (λ k. k.n
 pub node_unbound : (names : List (Named Key)) (name : Name) → key_of names name ≡ None → bound (map node_binding names) name ≡ None
 node_unbound names name e = bound-nodes names name ∙ ap (option_map (λ k. k.number)) e
 
-pub res_bound : (names : List (Named ResKey)) (name : Name) (k : ResKey) → key_of names name ≡ Some k → bound (map res_binding names) name ≡ Some k.number
-res_bound names name k e = bound-resources names name ∙ ap (option_map (λ k. k.number)) e
-
-pub res_unbound : (names : List (Named ResKey)) (name : Name) → key_of names name ≡ None → bound (map res_binding names) name ≡ None
-res_unbound names name e = bound-resources names name ∙ ap (option_map (λ k. k.number)) e
-
 pub bound-leases : (names : List (Named LeaseKey)) (name : Name) → bound (map lease_binding names) name ≡ option_map (λ k. k.number) (key_of names name)
 bound-leases names name = bound-keys (λ k. k.number) names name
-
-pub lease_bound : (names : List (Named LeaseKey)) (name : Name) (k : LeaseKey)
-    → key_of names name ≡ Some k → bound (map lease_binding names) name ≡ Some k.number
-lease_bound names name k e = bound-leases names name ∙ ap (option_map (λ k. k.number)) e
-
-pub lease_unbound : (names : List (Named LeaseKey)) (name : Name) → key_of names name ≡ None → bound (map lease_binding names) name ≡ None
-lease_unbound names name e = bound-leases names name ∙ ap (option_map (λ k. k.number)) e

@@ -1,19 +1,20 @@
 -- Names that commands bind, places where nodes are opened, and what is known of a name that is new.
 use Rattle.rx_script.proofs.Common.{◌≡◌, ◌<◌, ◌+◌, ◌++◌, ◌∷◌, [], ℕ, List, Bool, true, false, cond, String, Global, string_bytes, refl, sym, ap, subst, ◌∙◌}
 use Rattle.rx_script.proofs.Common.{map, length, arith, ◌||◌, Option, Some, None, is_none, is_some, option_map, bytes_eq, option_map_or, not, All, map-append}
-use Rattle.rx_script.proofs.Common.{Event, Place, Source, Inner, Notifier, at, is_open, at_within, outside_of, Key, ResKey, LeaseKey, At, State, has_key}
-use Rattle.rx_script.proofs.Common.{has_res_key, has_lease_key, is_gone, Request, place_of, is_known_place, Accepts, IsNewKey, IsNewResKey, IsNewLeaseKey}
-use Rattle.rx_script.proofs.Common.{IsOpened, makes_connection, Named, Engine, Name, Site, root, source, inner, notifier, Binding, bound, is_bound, is_unbound}
-use Rattle.rx_script.proofs.Common.{with_binding, Stage, is_unbound_site, place_at, with_connection, name_of, key_of, node_binding, res_binding, lease_binding}
+use Rattle.rx_script.proofs.Common.{Source, Inner, Notifier, at, is_open, at_within, outside_of, Key, ResKey, LeaseKey, At, State, has_key}
+use Rattle.rx_script.proofs.Common.{is_gone, Request, place_of, is_known_place, Accepts, IsNewKey, IsNewResKey, IsNewLeaseKey}
+use Rattle.rx_script.proofs.Common.{IsOpened, makes_connection, Named, Engine, Name, Site, root, source, inner, notifier, Binding, is_bound, is_unbound}
+use Rattle.rx_script.proofs.Common.{with_binding, is_unbound_site, place_at, with_connection, name_of, key_of, node_binding, res_binding, lease_binding}
 use Rattle.rx_script.proofs.Common.{IsNodeKey, IsHeldKey, IsLeaseKey, number_binding, at_of, is_taken_beside, with_named, IsSound, key_of-holds, bound-numbers}
-use Rattle.rx_script.proofs.Common.{or_parts}
+use Rattle.rx_script.proofs.Common.{or_parts, none-some, same_Some, false≢true}
 use Rattle.std.specs.Prelude.{IfSome}
 use Rattle.std.proofs.lemmas.List.Elements.{All-push}
 use Rattle.rx_book.specs.declared.answer.At.TheVariants.{Root as AtRoot, Source as AtSource, Inner as AtInner, Notifier as AtNotifier}
 use Rattle.rx_script.specs.Engine.{is_taken}
 use Rattle.rx_agenda.proofs.Laws.{key_of-bind, none_there}
 use Rattle.rx_script.proofs.KeysByNumber.{has_key-is_open, has_key-contained, has_res_key-contained, has_lease_key-contained}
-use Rattle.rx_script.proofs.NamesStandForKeys.{bound-nodes, bound-resources, bound-leases, node_bound, node_unbound}
+use Rattle.rx_script.proofs.MadeOfOptions.{made_of, is_none-map}
+use Rattle.rx_script.proofs.NamesStandForKeys.{bound-nodes, bound-resources, bound-leases, node_bound}
 use Rattle.rx_book.proofs.Laws.StepsContinue.{step_longer}
 use Rattle.rx_script.proofs.EngineCarriesOut.{stored_stage}
 
@@ -43,64 +44,40 @@ pub record IsPlaced {R : Type 0} (e : Engine R) (site : Site) (place : At) : Typ
   pub placed : place_at (stored_stage e) site ≡ Some (place_of place)
   pub gone : is_known_place e.book.keys place ≡ false → is_gone e.book.history (place_of place) ≡ true
 
--- a site below a node, the place at its key, and that at its number
-record IsBelow (site : Name → Site) (at_key : Key → At) (at_number : ℕ → Place) : Type 0 where
-  pub unbound : (s : Stage) (name : Name) → is_unbound_site s (site name) ≡ is_unbound s.nodes name
-  pub placed : (s : Stage) (name : Name) → place_at s (site name) ≡ option_map at_number (bound s.nodes name)
-  pub keyed : (names : List (Named Key)) (name : Name) → at_of names (site name) ≡ option_map at_key (key_of names name)
-  pub number : (k : Key) → place_of (at_key k) ≡ at_number k.number
-  pub known : (keys : List Key) (k : Key) → is_known_place keys (at_key k) ≡ has_key keys k
-  pub gone : (h : List Event) (n : ℕ) → is_gone h (at_number n) ≡ not (is_open h n)
+module _ {R : Type 0} (e : Engine R) where
+  unknown_gone : (name : Name) (k : Key) → IsSound e → key_of e.nodes name ≡ Some k → has_key e.book.keys k ≡ false
+      → not (is_open e.book.history k.number) ≡ true
+  unknown_gone name k sound is unknown =
+      ap not (sym (has_key-is_open e.book k sound.kept (key_of-holds (IsNodeKey e.book) e.nodes name k sound.nodes is)) ∙ unknown)
 
-source_below : IsBelow source AtSource Source
-source_below = record { unbound = λ s n. refl; placed = λ s n. refl; keyed = λ s n. refl; number = λ k. refl; known = λ s k. refl; gone = λ h n. refl }
+  pub site_placed : (site : Site) (place : At) → IsSound e → at_of e.nodes site ≡ Some place → IsPlaced e site place
+  site_placed root place sound at =
+      subst (IsPlaced e root) (same_Some AtRoot place at) (record { named = refl; placed = refl; gone = λ unknown. absurd (false≢true (sym unknown)) })
+  site_placed (source name) place sound at =
+      let v = made_of AtSource (key_of e.nodes name) place at in
+      let number = node_bound e.nodes name v.0 v.1 in
+      subst (IsPlaced e (source name)) v.2
+      (record { named = ap is_none number; placed = ap (option_map Source) number; gone = unknown_gone name v.0 sound v.1 })
+  site_placed (inner name) place sound at =
+      let v = made_of AtInner (key_of e.nodes name) place at in
+      let number = node_bound e.nodes name v.0 v.1 in
+      subst (IsPlaced e (inner name)) v.2
+      (record { named = ap is_none number; placed = ap (option_map Inner) number; gone = unknown_gone name v.0 sound v.1 })
+  site_placed (notifier name) place sound at =
+      let v = made_of AtNotifier (key_of e.nodes name) place at in
+      let number = node_bound e.nodes name v.0 v.1 in
+      subst (IsPlaced e (notifier name)) v.2
+      (record { named = ap is_none number; placed = ap (option_map Notifier) number; gone = unknown_gone name v.0 sound v.1 })
 
-inner_below : IsBelow inner AtInner Inner
-inner_below = record { unbound = λ s n. refl; placed = λ s n. refl; keyed = λ s n. refl; number = λ k. refl; known = λ s k. refl; gone = λ h n. refl }
+  nameless : (f : Key → At) (name : Name) → option_map f (key_of e.nodes name) ≡ None → is_unbound (stored_stage e).nodes name ≡ true
+  nameless f name at =
+      ap is_none (bound-nodes e.nodes name) ∙ is_none-map (λ k. k.number) (key_of e.nodes name) ∙ sym (is_none-map f (key_of e.nodes name)) ∙ ap is_none at
 
-notifier_below : IsBelow notifier AtNotifier Notifier
-notifier_below = record { unbound = λ s n. refl; placed = λ s n. refl; keyed = λ s n. refl; number = λ k. refl; known = λ s k. refl; gone = λ h n. refl }
-
-module _ {R : Type 0} (e : Engine R) {site : Name → Site} {at_key : Key → At} {at_number : ℕ → Place}
-    (below : IsBelow site at_key at_number) (name : Name) where
-  placed_by : (place : At) (o : Option Key) → IsSound e → key_of e.nodes name ≡ o → option_map at_key o ≡ Some place → IsPlaced e (site name) place
-  placed_by place None sound is at = absurd (cc)
-  placed_by place (Some k) sound is at =
-      let same : at_key k ≡ place = cc in
-      let number = node_bound e.nodes name k is in
-      let known = has_key-is_open e.book k sound.kept (key_of-holds (IsNodeKey e.book) e.nodes name k sound.nodes is) in
-      let here : IsPlaced e (site name) (at_key k) = record {
-        named = below.unbound (stored_stage e) name ∙ ap is_none number;
-        placed = below.placed (stored_stage e) name ∙ ap (option_map at_number) number ∙ ap Some (sym (below.number k));
-        gone = λ unknown. ap (is_gone e.book.history) (below.number k)
-            ∙ below.gone e.book.history k.number ∙ ap not (sym known ∙ sym (below.known e.book.keys k) ∙ unknown);
-      } in
-      subst (IsPlaced e (site name)) same here
-
-  below_placed : (place : At) → IsSound e → at_of e.nodes (site name) ≡ Some place → IsPlaced e (site name) place
-  below_placed place sound at = placed_by place (key_of e.nodes name) sound refl (sym (below.keyed e.nodes name) ∙ at)
-
-  nameless_by : (o : Option Key) → key_of e.nodes name ≡ o → option_map at_key o ≡ None → is_unbound_site (stored_stage e) (site name) ≡ true
-  nameless_by None is at = below.unbound (stored_stage e) name ∙ ap is_none (node_unbound e.nodes name is)
-  nameless_by (Some k) is at = absurd (cc)
-
-  below_nameless : at_of e.nodes (site name) ≡ None → is_unbound_site (stored_stage e) (site name) ≡ true
-  below_nameless at = nameless_by (key_of e.nodes name) refl (sym (below.keyed e.nodes name) ∙ at)
-
-pub site_placed : {R : Type 0} (e : Engine R) (site : Site) (place : At) → IsSound e → at_of e.nodes site ≡ Some place → IsPlaced e site place
-site_placed e root place sound at =
-    let same : AtRoot ≡ place = cc in
-    let here : IsPlaced e root AtRoot = record { named = refl; placed = refl; gone = λ unknown. absurd (cc) } in
-    subst (IsPlaced e root) same here
-site_placed e (source name) place sound at = below_placed e source_below name place sound at
-site_placed e (inner name) place sound at = below_placed e inner_below name place sound at
-site_placed e (notifier name) place sound at = below_placed e notifier_below name place sound at
-
-pub site_nameless : {R : Type 0} (e : Engine R) (site : Site) → at_of e.nodes site ≡ None → is_unbound_site (stored_stage e) site ≡ true
-site_nameless e root at = absurd (cc)
-site_nameless e (source name) at = below_nameless e source_below name at
-site_nameless e (inner name) at = below_nameless e inner_below name at
-site_nameless e (notifier name) at = below_nameless e notifier_below name at
+  pub site_nameless : (site : Site) → at_of e.nodes site ≡ None → is_unbound_site (stored_stage e) site ≡ true
+  site_nameless root at = absurd (none-some AtRoot (sym at))
+  site_nameless (source name) at = nameless AtSource name at
+  site_nameless (inner name) at = nameless AtInner name at
+  site_nameless (notifier name) at = nameless AtNotifier name at
 
 -- new names ----------------------------------------------------------------------------------------
 

@@ -1,6 +1,6 @@
 -- What a step binds, it binds at two stages that are the same but for numbers to numbers of the same things.
 use Rattle.rx_script.proofs.Common.{◌≡◌, ℕ, ◌+◌, ◌-◌, ◌<◌, Bool, true, false, List, [], ◌∷◌, ◌++◌, length, drop, Option, Some, None, cond, map, slice_get, refl}
-use Rattle.rx_script.proofs.Common.{sym, ap, subst, ◌∙◌, arith, append_assoc, length-append, option_map, option_and_then, option_map_or, false≢true}
+use Rattle.rx_script.proofs.Common.{sym, ap, subst, ◌∙◌, arith, append_assoc, length-append, option_map, option_map_or, false≢true}
 use Rattle.rx_script.proofs.Common.{slice_get_within, same_Some, none-some, nothing_kept, Place, Kind, Pass, Event, Open, Hub, Connect, Accept, Lease}
 use Rattle.rx_script.proofs.Common.{makes_node, makes_hub, makes_resource, makes_lease, at, IsSettled, IsForcedOn, stays, more, Call, Opening, OpeningUsing}
 use Rattle.rx_script.proofs.Common.{Holding, Leasing, Publishing, Connecting, IsStepOf, event_by, is_named, AreSameBy, AreSameSince, slice_get-append}
@@ -10,6 +10,7 @@ use Rattle.rx_script.proofs.Common.{with_connection, after}
 use Rattle.rx_event.specs.Lawful.{IsStep}
 use Rattle.rx_script.proofs.NamesForOtherNumbers.{renamed, AllNumbers, all_numbers, renamed-same, with_binding-renamed, with_binding-all}
 use Rattle.rx_script.proofs.SameStages.{AreSameStages}
+use Rattle.rx_script.proofs.MadeOfOptions.{made_of, made_of_two}
 
 -- places in a longer history ---------------------------------------------------------------------------------------------------------
 
@@ -258,32 +259,6 @@ module _ (r : ℕ → ℕ) (h c k j : List Event) (since : AreSameSince nothing_
 
 -- each step --------------------------------------------------------------------------------------------------------------------------
 
-using_call : (o : Option Place) (w : Option Ware) (call : Call) → option_and_then (λ place. option_map (λ v. OpeningUsing place v.tag) w) o ≡ Some call
-    → (place : Place) × (tag : ℕ) × (OpeningUsing place tag ≡ call)
-using_call None w call called = absurd (none-some call called)
-using_call (Some place) None call called = absurd (none-some call called)
-using_call (Some place) (Some w) call called = (place, w.tag, same_Some (OpeningUsing place w.tag) call called)
-
-open_call : (o : Option Place) (k : Option Kind) (call : Call) → option_and_then (λ place. option_map (Opening place) k) o ≡ Some call
-    → (place : Place) × (kind : Kind) × (Opening place kind ≡ call)
-open_call None k call called = absurd (none-some call called)
-open_call (Some place) None call called = absurd (none-some call called)
-open_call (Some place) (Some kind) call called = (place, kind, same_Some (Opening place kind) call called)
-
-hold_call : (o : Option ℕ) (w : Option Ware) (call : Call) → option_and_then (λ n. option_map (λ v. Holding n v.tag) w) o ≡ Some call
-    → (n : ℕ) × (tag : ℕ) × (Holding n tag ≡ call)
-hold_call None w call called = absurd (none-some call called)
-hold_call (Some n) None call called = absurd (none-some call called)
-hold_call (Some n) (Some w) call called = (n, w.tag, same_Some (Holding n w.tag) call called)
-
-lease_call : (o : Option ℕ) (call : Call) → option_map Leasing o ≡ Some call → (q : ℕ) × (Leasing q ≡ call)
-lease_call None call called = absurd (none-some call called)
-lease_call (Some q) call called = (q, same_Some (Leasing q) call called)
-
-connect_call : (o : Option ℕ) (call : Call) → option_map Connecting o ≡ Some call → (g : ℕ) × (Connecting g ≡ call)
-connect_call None call called = absurd (none-some call called)
-connect_call (Some g) call called = (g, same_Some (Connecting g) call called)
-
 module _ (r s : ℕ → ℕ) (x y : Stage) (k j : List Event) (a : AreSameStages r s x y) (call : Call) (since : AreSameSince nothing_kept r x.history y.history k j)
     (g : GoAlike r since.reads since.reads_back x y k j) (step : IsStepOf nothing_kept x.history call k) where
   abbrev X : Stage
@@ -378,15 +353,22 @@ module _ (r s : ℕ → ℕ) (x y : Stage) (k j : List Event) (a : AreSameStages
       made = new_event x.history k [] (Connect w.0) (subst (λ (z : Call). IsStepOf nothing_kept x.history z k) (sym w.1) step)
 
   pub after_same : (command : Command) → call_of x command ≡ Some call → AreSameStages since.reads since.reads_back (after x command k) (after y command j)
-  after_same (using name site res) called = after_using name res (using_call (place_at x site) (front x) call called)
-  after_same (open_node name site sort) called = after_open name (connection_name sort) (open_call (place_at x site) (kind_at x sort) call called)
-  after_same (hold node res) called = after_hold res (hold_call (bound x.nodes node) (front x) call called)
-  after_same (lease res name) called = after_lease name (lease_call (bound x.resources res) call called)
+  after_same (using name site res) called =
+      let v = made_of_two (λ (place : Place) (w : Ware). OpeningUsing place w.tag) (place_at x site) (front x) call called in
+      after_using name res (v.0, v.1.tag, v.4)
+  after_same (open_node name site sort) called =
+      let v = made_of_two Opening (place_at x site) (kind_at x sort) call called in
+      after_open name (connection_name sort) (v.0, v.1, v.4)
+  after_same (hold node res) called =
+      let v = made_of_two (λ (n : ℕ) (w : Ware). Holding n w.tag) (bound x.nodes node) (front x) call called in after_hold res (v.0, v.1.tag, v.4)
+  after_same (lease res name) called =
+      let v = made_of Leasing (bound x.resources res) call called in after_lease name (v.0, v.2)
   after_same (make_hub name mode) called =
       let made : slice_get k (length x.history) ≡ Some (Hub mode) =
       new_event x.history k [] (Hub mode) (subst (λ (z : Call). IsStepOf nothing_kept x.history z k) (sym (same_Some (Publishing mode) call called)) step) in
       with_hub since.reads since.reads_back X Y base name (length x.history) (length y.history) (one_there (Hub mode) makes_hub refl made)
       (next_number (Hub mode) refl made)
-  after_same (connect hub name) called = after_connect name (connect_call (bound x.hubs hub) call called)
+  after_same (connect hub name) called =
+      let v = made_of Connecting (bound x.hubs hub) call called in after_connect name (v.0, v.2)
   after_same checkpoint called = absurd (none-some call called)
   after_same _ called = base

@@ -12,6 +12,7 @@ use Rattle.rx_script.proofs.Common.{kind_at, front, call_of}
 use Rattle.rx_event.specs.Renumbered.{place_by, kind_by}
 use Rattle.rx_register.proofs.Laws.SameCauses.{NamesPlace, NamesKind}
 use Rattle.rx_script.proofs.NamesForOtherNumbers.{renamed, AllNumbers, bound-same, is_bound-same, is_unbound-same, bound-holds}
+use Rattle.rx_script.proofs.MadeOfOptions.{made_of, made_of_two}
 
 pub record AreSameStages (r s : ℕ → ℕ) (x y : Stage) : Type 0 where
   pub histories : AreSameBy nothing_kept r s x.history y.history
@@ -181,10 +182,9 @@ module _ (r s : ℕ → ℕ) (x y : Stage) (a : AreSameStages r s x y) where
   by_number : (f : ℕ → Call) (P : ℕ → Type 0) → ((n : ℕ) → P n → NamesKnown x.history (f n)) → (bindings : List Binding) → AllNumbers P bindings
       → (name : Name) (call : Call)
       → option_map f (bound bindings name) ≡ Some call → NamesKnown x.history call
-  by_number f P each bindings all name call called = by_bound (bound bindings name) refl called where
-    by_bound : (o : Option ℕ) → bound bindings name ≡ o → option_map f o ≡ Some call → NamesKnown x.history call
-    by_bound None found called = absurd (none-some call called)
-    by_bound (Some n) found called = subst (NamesKnown x.history) (same_Some (f n) call called) (each n (bound-holds P bindings name n all found))
+  by_number f P each bindings all name call called =
+      let v = made_of f (bound bindings name) call called in
+      subst (NamesKnown x.history) v.2 (each v.0 (bound-holds P bindings name v.0 all v.1))
 
   by_node : (f : ℕ → Call) → ((n : ℕ) → at makes_node x.history n ≡ true → NamesKnown x.history (f n)) → (name : Name) (call : Call)
       → option_map f (bound x.nodes name) ≡ Some call → NamesKnown x.history call
@@ -200,11 +200,9 @@ module _ (r s : ℕ → ℕ) (x y : Stage) (a : AreSameStages r s x y) where
 
   place_of_number : (f : ℕ → Place) → ((n : ℕ) → at makes_node x.history n ≡ true → NamesPlace x.history (f n)) → (name : Name) (place : Place)
       → option_map f (bound x.nodes name) ≡ Some place → NamesPlace x.history place
-  place_of_number f each name place placed = by_bound (bound x.nodes name) refl placed where
-    by_bound : (o : Option ℕ) → bound x.nodes name ≡ o → option_map f o ≡ Some place → NamesPlace x.history place
-    by_bound None found placed = absurd (none-some place placed)
-    by_bound (Some n) found placed = subst (NamesPlace x.history) (same_Some (f n) place placed)
-        (each n (bound-holds (λ m. at makes_node x.history m ≡ true) x.nodes name n a.nodes_made found))
+  place_of_number f each name place placed =
+      let v = made_of f (bound x.nodes name) place placed in
+      subst (NamesPlace x.history) v.2 (each v.0 (bound-holds (λ m. at makes_node x.history m ≡ true) x.nodes name v.0 a.nodes_made v.1))
 
   place_known : (site : Site) (place : Place) → place_at x site ≡ Some place → NamesPlace x.history place
   place_known root place placed = subst (NamesPlace x.history) (same_Some Root place placed) tt
@@ -213,42 +211,25 @@ module _ (r s : ℕ → ℕ) (x y : Stage) (a : AreSameStages r s x y) where
   place_known (notifier name) place placed = place_of_number Notifier (λ n made. made) name place placed
 
   kind_known : (sort : Sort) (kind : Kind) → kind_at x sort ≡ Some kind → NamesKind x.history kind
-  kind_known (sub hub connection) kind of_kind = by_bound (bound x.hubs hub) refl of_kind where
-    by_bound : (o : Option ℕ) → bound x.hubs hub ≡ o → option_map Sub o ≡ Some kind → NamesKind x.history kind
-    by_bound None found of_kind = absurd (none-some kind of_kind)
-    by_bound (Some n) found of_kind = subst (NamesKind x.history) (same_Some (Sub n) kind of_kind)
-        (bound-holds (λ m. at makes_hub x.history m ≡ true) x.hubs hub n a.hubs_made found)
+  kind_known (sub hub connection) kind of_kind =
+      let v = made_of Sub (bound x.hubs hub) kind of_kind in
+      subst (NamesKind x.history) v.2 (bound-holds (λ m. at makes_hub x.history m ≡ true) x.hubs hub v.0 a.hubs_made v.1)
   kind_known leaf kind of_kind = subst (NamesKind x.history) (same_Some Leaf kind of_kind) tt
   kind_known pass kind of_kind = subst (NamesKind x.history) (same_Some Pass kind of_kind) tt
   kind_known flat kind of_kind = subst (NamesKind x.history) (same_Some Flat kind of_kind) tt
   kind_known switch kind of_kind = subst (NamesKind x.history) (same_Some Switch kind of_kind) tt
   kind_known until kind of_kind = subst (NamesKind x.history) (same_Some Until kind of_kind) tt
 
-  using_known : (o : Option Place) (w : Option Ware) (call : Call) → ((place : Place) → o ≡ Some place → NamesPlace x.history place)
-      → option_and_then (λ place. option_map (λ v. OpeningUsing place v.tag) w) o ≡ Some call → NamesKnown x.history call
-  using_known None w call known called = absurd (none-some call called)
-  using_known (Some place) None call known called = absurd (none-some call called)
-  using_known (Some place) (Some w) call known called = subst (NamesKnown x.history) (same_Some (OpeningUsing place w.tag) call called) (known place refl)
-
-  open_known : (o : Option Place) (k : Option Kind) (call : Call) → ((place : Place) → o ≡ Some place → NamesPlace x.history place)
-      → ((kind : Kind) → k ≡ Some kind → NamesKind x.history kind) → option_and_then (λ place. option_map (Opening place) k) o ≡ Some call
-      → NamesKnown x.history call
-  open_known None k call known named called = absurd (none-some call called)
-  open_known (Some place) None call known named called = absurd (none-some call called)
-  open_known (Some place) (Some kind) call known named called =
-      subst (NamesKnown x.history) (same_Some (Opening place kind) call called) (known place refl, named kind refl)
-
-  hold_known : (o : Option ℕ) (w : Option Ware) (call : Call) → ((n : ℕ) → o ≡ Some n → at makes_node x.history n ≡ true)
-      → option_and_then (λ n. option_map (λ v. Holding n v.tag) w) o ≡ Some call → NamesKnown x.history call
-  hold_known None w call known called = absurd (none-some call called)
-  hold_known (Some n) None call known called = absurd (none-some call called)
-  hold_known (Some n) (Some w) call known called = subst (NamesKnown x.history) (same_Some (Holding n w.tag) call called) (known n refl)
-
   pub call_known : (step : Command) (call : Call) → call_of x step ≡ Some call → NamesKnown x.history call
-  call_known (using name site res) call called = using_known (place_at x site) (front x) call (place_known site) called
-  call_known (open_node name site sort) call called = open_known (place_at x site) (kind_at x sort) call (place_known site) (kind_known sort) called
+  call_known (using name site res) call called =
+      let v = made_of_two (λ (place : Place) (w : Ware). OpeningUsing place w.tag) (place_at x site) (front x) call called in
+      subst (NamesKnown x.history) v.4 (place_known site v.0 v.2)
+  call_known (open_node name site sort) call called =
+      let v = made_of_two Opening (place_at x site) (kind_at x sort) call called in
+      subst (NamesKnown x.history) v.4 (place_known site v.0 v.2, kind_known sort v.1 v.3)
   call_known (hold node res) call called =
-      hold_known (bound x.nodes node) (front x) call (λ n found. bound-holds (λ m. at makes_node x.history m ≡ true) x.nodes node n a.nodes_made found) called
+      let v = made_of_two (λ (n : ℕ) (w : Ware). Holding n w.tag) (bound x.nodes node) (front x) call called in
+      subst (NamesKnown x.history) v.4 (bound-holds (λ m. at makes_node x.history m ≡ true) x.nodes node v.0 a.nodes_made v.2)
   call_known (apply res word) call called = by_resource Applying (λ n made. made) res call called
   call_known (remove res) call called = by_resource Removing (λ n made. made) res call called
   call_known (lease res name) call called = by_resource Leasing (λ n made. made) res call called

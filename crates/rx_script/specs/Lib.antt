@@ -1,3 +1,5 @@
+pub mod Boxes
+pub mod Marks
 pub mod Text
 pub mod Keys
 pub mod Lines
@@ -10,4 +12,5 @@ pub mod Report
 pub mod Outputs
 pub mod Shelf
 pub mod Engine
+pub mod KeyedCalls
 pub mod Running

@@ -4,18 +4,16 @@ ghost use Rattle.std.specs.Prelude.{◌≡◌, ◌≢◌, ◌≤◌, [], map, st
 ghost use Rattle.rx_event.specs.declared.refusal.Refusal.{Refusal};
 ghost use Rattle.rx_agenda.specs.declared.answer.Answer.{Answer};
 ghost use Rattle.rx_agenda.specs.declared.answer.Cause.{Cause};
-ghost use Rattle.rx_scenario.specs.Scenario.{site_of, using, hold as holding, apply as applying, remove as removing, lease as leasing};
-ghost use Rattle.rx_scenario.specs.Scenario.{give_back as giving_back, next as emitting, end as ending, abort as aborting};
-ghost use Rattle.rx_scenario.specs.Scenario.{decline as declining, fail as failing, dispose as disposing, drain as draining, checkpoint as checkpointing};
+ghost use Rattle.rx_scenario.specs.Scenario.{site_of, using, hold as holding, drain as draining, checkpoint as checkpointing};
 ghost use Rattle.rx_script.specs.Stage.{start, ware_of};
 ghost use Rattle.rx_script.specs.Engine.{at_of, stage_of, IsHistoryOf, IsSound, Carries};
 
 use crate::gathering::gather;
-use crate::stock::Stock;
+use crate::shelf::Stock;
 use crate::tallies::Tallies;
 use rx_agenda::{Answer, Cause, Names};
 use rx_book::{At, Book, Key, LeaseKey, ResKey};
-use rx_event::{Refusal, Terminal};
+use rx_event::Refusal;
 use rx_resource::Resource;
 use rx_scenario::Site;
 use std::alloc::{AllocError, Global};
@@ -92,204 +90,6 @@ pub fn refused(why: Refusal) -> Result<Answer, AllocError>
     match why {
         Refusal::NoMemory => Err(AllocError),
         _ => Ok(Answer::Refused(Cause::Book(why))),
-    }
-}
-
-/// A leaf emits an item.
-pub fn next<R: Resource>(
-    engine: &mut Engine<R>,
-    node: &str,
-    value: i64,
-) -> Result<Answer, AllocError>
-    requires { IsSound engine.old }
-    ensures { IfOk result (λ a. Carries engine.old (emitting node.now value) a engine.new) }
-{
-    let Some(leaf) = engine.nodes.get(node) else {
-        return Ok(Answer::Refused(Cause::NoName));
-    };
-    match engine.book.next(leaf, value) {
-        Ok(_) => {
-            engine.book.promise();
-            Ok(Answer::Accepted)
-        }
-        Err(why) => refused(why),
-    }
-}
-
-/// A leaf ends.
-pub fn end<R: Resource>(
-    engine: &mut Engine<R>,
-    node: &str,
-    terminal: Terminal,
-) -> Result<Answer, AllocError>
-    requires { IsSound engine.old }
-    ensures { IfOk result (λ a. Carries engine.old (ending node.now terminal) a engine.new) }
-{
-    let Some(leaf) = engine.nodes.get(node) else {
-        return Ok(Answer::Refused(Cause::NoName));
-    };
-    match engine.book.end(leaf, terminal) {
-        Ok(_) => {
-            engine.book.promise();
-            Ok(Answer::Accepted)
-        }
-        Err(why) => refused(why),
-    }
-}
-
-/// A held resource is used on a word. The word that it answers is shown nowhere.
-pub fn apply<R: Resource>(
-    engine: &mut Engine<R>,
-    res: &str,
-    word: u64,
-) -> Result<Answer, AllocError>
-    requires { IsSound engine.old }
-    ensures { IfOk result (λ a. Carries engine.old (applying res.now word) a engine.new) }
-{
-    let Some(key) = engine.resources.get(res) else {
-        return Ok(Answer::Refused(Cause::NoName));
-    };
-    match engine.book.apply(key, word) {
-        Ok(_answered) => {
-            engine.book.promise();
-            Ok(Answer::Accepted)
-        }
-        Err(why) => refused(why),
-    }
-}
-
-/// A held resource is taken off its node.
-pub fn remove<R: Resource>(engine: &mut Engine<R>, res: &str) -> Result<Answer, AllocError>
-    requires { IsSound engine.old }
-    ensures { IfOk result (λ a. Carries engine.old (removing res.now) a engine.new) }
-{
-    let Some(key) = engine.resources.get(res) else {
-        return Ok(Answer::Refused(Cause::NoName));
-    };
-    match engine.book.remove(key) {
-        Ok(_) => {
-            engine.book.promise();
-            Ok(Answer::Accepted)
-        }
-        Err(why) => refused(why),
-    }
-}
-
-/// A lease of an owned resource is given out.
-pub fn lease<R: Resource>(
-    engine: &mut Engine<R>,
-    res: &str,
-    name: String,
-) -> Result<Answer, AllocError>
-    requires { IsSound engine.old }
-    ensures { IfOk result (λ a. Carries engine.old (leasing res.now (string_bytes name)) a engine.new) }
-{
-    let Some(key) = engine.resources.get(res) else {
-        return Ok(Answer::Refused(Cause::NoName));
-    };
-    if engine.leases.is_bound(name.as_str()) {
-        return Ok(Answer::Refused(Cause::NameTaken));
-    }
-    match engine.book.lease(key) {
-        Ok(lease) => {
-            engine.book.promise();
-            engine.leases.bind(name, lease)?;
-            Ok(Answer::Accepted)
-        }
-        Err(why) => refused(why),
-    }
-}
-
-/// A lease is given back.
-pub fn give_back<R: Resource>(engine: &mut Engine<R>, lease: &str) -> Result<Answer, AllocError>
-    requires { IsSound engine.old }
-    ensures { IfOk result (λ a. Carries engine.old (giving_back lease.now) a engine.new) }
-{
-    let Some(key) = engine.leases.get(lease) else {
-        return Ok(Answer::Refused(Cause::NoName));
-    };
-    match engine.book.give_back(key) {
-        Ok(_) => {
-            engine.book.promise();
-            Ok(Answer::Accepted)
-        }
-        Err(why) => refused(why),
-    }
-}
-
-/// A node that is no leaf ends with an error.
-pub fn abort<R: Resource>(
-    engine: &mut Engine<R>,
-    node: &str,
-    code: u32,
-) -> Result<Answer, AllocError>
-    requires { IsSound engine.old }
-    ensures { IfOk result (λ a. Carries engine.old (aborting node.now code) a engine.new) }
-{
-    let Some(key) = engine.nodes.get(node) else {
-        return Ok(Answer::Refused(Cause::NoName));
-    };
-    match engine.book.abort(key, code) {
-        Ok(_) => {
-            engine.book.promise();
-            Ok(Answer::Accepted)
-        }
-        Err(why) => refused(why),
-    }
-}
-
-/// A FlatMap or a Switch gives an item that was projected to it no inner observable.
-pub fn decline<R: Resource>(engine: &mut Engine<R>, node: &str) -> Result<Answer, AllocError>
-    requires { IsSound engine.old }
-    ensures { IfOk result (λ a. Carries engine.old (declining node.now) a engine.new) }
-{
-    let Some(merging) = engine.nodes.get(node) else {
-        return Ok(Answer::Refused(Cause::NoName));
-    };
-    match engine.book.decline(merging) {
-        Ok(_) => {
-            engine.book.promise();
-            Ok(Answer::Accepted)
-        }
-        Err(why) => refused(why),
-    }
-}
-
-/// A FlatMap or a Switch ends with an error in place of giving a projected item its inner observable.
-pub fn fail<R: Resource>(
-    engine: &mut Engine<R>,
-    node: &str,
-    code: u32,
-) -> Result<Answer, AllocError>
-    requires { IsSound engine.old }
-    ensures { IfOk result (λ a. Carries engine.old (failing node.now code) a engine.new) }
-{
-    let Some(merging) = engine.nodes.get(node) else {
-        return Ok(Answer::Refused(Cause::NoName));
-    };
-    match engine.book.fail(merging, code) {
-        Ok(_) => {
-            engine.book.promise();
-            Ok(Answer::Accepted)
-        }
-        Err(why) => refused(why),
-    }
-}
-
-/// A root is unsubscribed.
-pub fn dispose<R: Resource>(engine: &mut Engine<R>, node: &str) -> Result<Answer, AllocError>
-    requires { IsSound engine.old }
-    ensures { IfOk result (λ a. Carries engine.old (disposing node.now) a engine.new) }
-{
-    let Some(root) = engine.nodes.get(node) else {
-        return Ok(Answer::Refused(Cause::NoName));
-    };
-    match engine.book.dispose(root) {
-        Ok(_) => {
-            engine.book.promise();
-            Ok(Answer::Accepted)
-        }
-        Err(why) => refused(why),
     }
 }
 

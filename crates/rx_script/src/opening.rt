@@ -1,17 +1,16 @@
-//! Opening nodes, the subscribers of hubs among them.
+//! The sorts of nodes that are to be opened.
 
-ghost use Rattle.std.specs.Prelude.{◌≡◌, option_map, string_bytes, IfOk};
-ghost use Rattle.rx_scenario.specs.Scenario.{site_of, sort_of, open_node};
+ghost use Rattle.std.specs.Prelude.{◌≡◌};
+ghost use Rattle.rx_scenario.specs.Scenario.{sort_of};
 ghost use Rattle.rx_script.specs.Stage.{connection_name};
-ghost use Rattle.rx_script.specs.Engine.{kind_of, IsSound, Carries};
+ghost use Rattle.rx_script.specs.Engine.{kind_of, is_taken_beside};
+ghost use Rattle.rx_script.specs.KeyedCalls.{connection_of};
 
-use crate::connection::{bind_connection, is_taken_beside};
-use crate::engine::{Engine, place_of, refused};
-use rx_agenda::{Answer, Cause, Names};
+use crate::connection::is_taken_beside;
+use rx_agenda::Names;
+use rx_book::Key;
 use rx_event::Kind;
-use rx_resource::Resource;
-use rx_scenario::{Site, Sort};
-use std::alloc::AllocError;
+use rx_scenario::Sort;
 
 /// The kind that a sort stands for; None where the name of a subscriber's hub is not bound.
 pub fn kind_of(hubs: &Names<u64>, sort: &Sort) -> Option<Kind>
@@ -27,9 +26,9 @@ pub fn kind_of(hubs: &Names<u64>, sort: &Sort) -> Option<Kind>
     }
 }
 
-// The name for the connection that a subscriber's opening may make.
-fn connection_name(sort: Sort) -> Option<String>
-    ensures { option_map string_bytes result ≡ connection_name (sort_of sort) }
+/// The name for the connection that a subscriber's opening may make.
+pub fn connection_name(sort: Sort) -> Option<String>
+    ensures { result ≡ connection_of sort }
 {
     match sort {
         Sort::Sub { hub: _, connection } => connection,
@@ -37,38 +36,12 @@ fn connection_name(sort: Sort) -> Option<String>
     }
 }
 
-/// A node is opened. Where it is a subscriber for which its hub is connected, the connection gets the
-/// name that the step gives it, if it gives one.
-pub fn open<R: Resource>(
-    engine: &mut Engine<R>,
-    name: String,
-    site: &Site,
-    sort: Sort,
-) -> Result<Answer, AllocError>
-    requires { IsSound engine.old }
-    ensures { IfOk result (λ a. Carries engine.old
-        (open_node (string_bytes name) (site_of site.now) (sort_of sort)) a engine.new) }
+/// Whether that name is bound, or is this one of the node itself.
+pub fn is_named_twice(nodes: &Names<Key>, node: &str, sort: &Sort) -> bool
+    ensures { result ≡ is_taken_beside nodes.now node.now (connection_name (sort_of sort.now)) }
 {
-    let Some(place) = place_of(&engine.nodes, site) else {
-        return Ok(Answer::Refused(Cause::NoName));
-    };
-    let Some(kind) = kind_of(&engine.hubs, &sort) else {
-        return Ok(Answer::Refused(Cause::NoName));
-    };
-    if engine.nodes.is_bound(name.as_str()) {
-        return Ok(Answer::Refused(Cause::NameTaken));
-    }
-    let connection = connection_name(sort);
-    if is_taken_beside(&engine.nodes, name.as_str(), &connection) {
-        return Ok(Answer::Refused(Cause::NameTaken));
-    }
-    match engine.book.open(place, kind) {
-        Ok(opened) => {
-            engine.book.promise();
-            engine.nodes.bind(name, opened.key)?;
-            bind_connection(&mut engine.nodes, connection, opened.connected)?;
-            Ok(Answer::Accepted)
-        }
-        Err(why) => refused(why),
+    match sort {
+        Sort::Sub { hub: _, connection } => is_taken_beside(nodes, node, connection),
+        Sort::Leaf | Sort::Pass | Sort::Flat | Sort::Switch | Sort::Until => false,
     }
 }

@@ -7,12 +7,11 @@ ghost use Rattle.rx_resource.specs.declared.Life.{Life};
 use super::same::same;
 use super::streams::{Narrow, Source};
 use clap::error::ErrorKind;
-use rx_cli::{
-    Faulty, Form, Order, Plain, ResourceKind, Tally, order, refuse_bytes, serve, stock, weathered,
-};
+use rx_cli::{Form, Order, order, refuse_bytes, serve, weathered};
 use rx_device::Watched;
 use rx_resource::Resource;
 use rx_scarce::Scarce;
+use rx_script::{Faulty, Plain, ResourceKind, Tally, stock};
 use std::alloc::{AllocError, Global};
 use std::io::{Read, Write};
 use std::process::Abort;
