@@ -1,7 +1,7 @@
 -- What a command hands in, and what the lines of a session come to.
 use Rattle.rx_live.proofs.Common.{◌≡◌, ℕ, Bool, true, false, cond, List, [], ◌++◌, map, Option, Some, None, refl, sym, ap, ◌∙◌, subst, is_some, ◌||◌, Name}
-use Rattle.rx_live.proofs.Common.{bytes_eq, option_map_or, Command, using, open_node, hold, apply, remove, lease, give_back, next, end, abort, decline, fail}
-use Rattle.rx_live.proofs.Common.{dispose, make_hub, connect, disconnect, drain, checkpoint, Refusal, State, Request, stands, hub_request, Accepts, Task, Act}
+use Rattle.rx_live.proofs.Common.{bytes_eq, option_map_or, Command, using, open_node, hold, lease, give_back}
+use Rattle.rx_live.proofs.Common.{make_hub, connect, drain, checkpoint, Refusal, State, Request, stands, hub_request, Accepts, Task, Act}
 use Rattle.rx_live.proofs.Common.{plain, open_holding, Cause, NoName, NameTaken, Book, Accepted, Refused, spot_of, Session, hub_of, has_resource, Carries}
 use Rattle.rx_live.proofs.Common.{Goes, IsAlike, Gives, NamesOne, BindsHub, released, with_held, Leads, no_act, hands_in, IsKept, holder_causes, OpensHolder}
 use Rattle.rx_live.proofs.Common.{Runs, Does, handed_by, IsCarried, Ends, GoesOn, no_line, one_line, IsFresh}
@@ -90,17 +90,9 @@ runs_hands old new (make_hub name mode) runs =
 runs_hands old new (connect hub name) runs =
     let is = (gave old new _ _ _ runs.gives).binds.rest in
     no_act (same_held old new (ap (λ (s : Session). s.resources) is) (ap (λ (s : Session). s.unnamed) is))
-runs_hands old new (apply res word) runs = by_goes old new _ runs
-runs_hands old new (remove res) runs = by_goes old new _ runs
-runs_hands old new (next node value) runs = by_goes old new _ runs
-runs_hands old new (end node terminal) runs = by_goes old new _ runs
-runs_hands old new (abort node code) runs = by_goes old new _ runs
-runs_hands old new (decline node) runs = by_goes old new _ runs
-runs_hands old new (fail node code) runs = by_goes old new _ runs
-runs_hands old new (dispose node) runs = by_goes old new _ runs
-runs_hands old new (disconnect hub) runs = by_goes old new _ runs
 runs_hands old new drain runs = no_act (λ n. ap (λ (s : Session). has_resource s n) runs.1)
 runs_hands old new checkpoint runs = no_act (same_held old new (ap (λ (s : Session). s.resources) runs.rest) (ap (λ (s : Session). s.unnamed) runs.rest))
+runs_hands old new _ runs = by_goes old new _ runs
 
 -- and so does a task
 does_hands : (old new : Session) (t : Task) → Does old t Accepted new → Leads (has_resource old) (handed_by t) (has_resource new)
@@ -154,17 +146,9 @@ command_alike old new (lease res name) why runs = gave_none old new _ _ _ why ru
 command_alike old new (give_back name) why runs = gave_none old new _ _ _ why runs.gives
 command_alike old new (make_hub name mode) why runs = gave_none old new (Some (hub_request mode)) (is_some (hub_of old name)) (BindsHub old name) why runs.gives
 command_alike old new (connect hub name) why runs = gave_none old new _ _ _ why runs.gives
-command_alike old new (apply res word) why runs = same_alike old new (went_none old new _ why runs.carries)
-command_alike old new (remove res) why runs = same_alike old new (went_none old new _ why runs.carries)
-command_alike old new (next node value) why runs = same_alike old new (went_none old new _ why runs.carries)
-command_alike old new (end node terminal) why runs = same_alike old new (went_none old new _ why runs.carries)
-command_alike old new (abort node code) why runs = same_alike old new (went_none old new _ why runs.carries)
-command_alike old new (decline node) why runs = same_alike old new (went_none old new _ why runs.carries)
-command_alike old new (fail node code) why runs = same_alike old new (went_none old new _ why runs.carries)
-command_alike old new (dispose node) why runs = same_alike old new (went_none old new _ why runs.carries)
-command_alike old new (disconnect hub) why runs = same_alike old new (went_none old new _ why runs.carries)
 command_alike old new drain why runs = same_alike old new runs.1
 command_alike old new checkpoint why runs = same_alike old new (refused_same old new why runs)
+command_alike old new _ why runs = same_alike old new (went_none old new _ why runs.carries)
 
 pub refused_alike : (old new : Session) (t : Task) (why : Cause) → Does old t (Refused why) new → IsAlike old new
 refused_alike old new (plain c) why does = command_alike old new c why does

@@ -2,7 +2,7 @@
 use Rattle.rx_live.proofs.Common.{◌≡◌, ℕ, ◌≤◌, Bool, List, [], ◌∷◌, ◌++◌, drop, length, Option, Some, None, refl, sym, ap, ◌∙◌, arith, subst, append_assoc}
 use Rattle.rx_live.proofs.Common.{is_some, option_to_list, append-nil, drop_at, drop-append-le, Mail, Event, Kept, notes, mail_of, moments, Call, outside_of}
 use Rattle.rx_live.proofs.Common.{IsStepOf, IsForcedOn, stays, more, notes-push, Data, Items, Task, plain, open_holding, Order, Command, using, open_node}
-use Rattle.rx_live.proofs.Common.{hold, apply, remove, lease, give_back, next, end, abort, decline, fail, dispose, make_hub, connect, disconnect, drain, Goes}
+use Rattle.rx_live.proofs.Common.{hold, lease, give_back, make_hub, connect, drain, Goes}
 use Rattle.rx_live.proofs.Common.{checkpoint, State, Request, stands, hub_request, take_request, Accepts, Accepted, Session, hub_of, Carries, IsAlike, Gives}
 use Rattle.rx_live.proofs.Common.{BindsHub, to_tell, Takes, none_taken, one_taken, Renews, holder_causes, OpensHolder, Runs, Does, IsCarried, GoesOn, no_line}
 use Rattle.rx_live.proofs.Common.{one_line, IsFresh, IsAged, as_it_was, renewed, is_put_off, Act}
@@ -105,17 +105,9 @@ noted_run old new (make_hub name mode) runs behind =
     (λ binds. ap (λ (s : Session). s.untold) binds.rest) behind)
 noted_run old new (connect hub name) runs behind =
     goes_on (λ b a. refl) (owes_given old new _ _ _ runs.gives (λ binds. ap (λ (s : Session). s.untold) binds.rest) behind)
-noted_run old new (apply res word) runs behind = goes_on (λ b a. refl) (owes_carried old new _ runs behind)
-noted_run old new (remove res) runs behind = goes_on (λ b a. refl) (owes_carried old new _ runs behind)
-noted_run old new (next node value) runs behind = goes_on (λ b a. refl) (owes_carried old new _ runs behind)
-noted_run old new (end node terminal) runs behind = goes_on (λ b a. refl) (owes_carried old new _ runs behind)
-noted_run old new (abort node code) runs behind = goes_on (λ b a. refl) (owes_carried old new _ runs behind)
-noted_run old new (decline node) runs behind = goes_on (λ b a. refl) (owes_carried old new _ runs behind)
-noted_run old new (fail node code) runs behind = goes_on (λ b a. refl) (owes_carried old new _ runs behind)
-noted_run old new (dispose node) runs behind = goes_on (λ b a. refl) (owes_carried old new _ runs behind)
-noted_run old new (disconnect hub) runs behind = goes_on (λ b a. refl) (owes_carried old new _ runs behind)
 noted_run old new drain runs behind = goes_on (λ b a. refl) (owes_same old new runs.1 behind)
 noted_run old new checkpoint runs behind = begins (λ b a. refl) runs
+noted_run old new _ runs behind = goes_on (λ b a. refl) (owes_carried old new _ runs behind)
 
 noted_do : (old new : Session) (t : Task) → Does old t Accepted new → IsBehind old → DoesNoted old new t
 noted_do old new (plain c) does behind = noted_run old new c does behind

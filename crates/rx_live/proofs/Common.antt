@@ -1,5 +1,5 @@
 -- The names that most proofs here cite, passed on from one place. Declares nothing.
-pub use Rattle.std.proofs.Common.{Some, string_bytes, None, Option, is_some, codes, IfSome, Err, Ok, Result, IfOk, Global, String, OnErr, get_or, IfNone, w64}
+pub use Rattle.std.proofs.Common.{Some, string_bytes, None, Option, is_some, codes, IfSome, Err, Ok, Result, IfOk, Global, String, OnErr, get_or, IfNone}
 pub use Rattle.std.proofs.Common.{OnOk, add-one, ltb-false, take_all, IfErr, drop-cons, drop_at, length-drop, get_or as slice_index_or}
 pub use Rattle.rx_event.proofs.Laws.Common.{◌≡◌, ◌∙◌, sym, ap, ℕ, refl, subst, List, length, false, arith, ◌++◌, Bool, option_map, [], true, ◌+◌, ◌∷◌, ◌<◌}
 pub use Rattle.rx_event.proofs.Laws.Common.{◌≤◌, none-some, inl, option_map_or, cond, inr, map, ◌⊎◌, append-nil, ◌==◌, append_assoc, at, option_to_list, suc}
@@ -9,17 +9,17 @@ pub use Rattle.rx_event.proofs.Laws.Common.{option_and_then, GivingBack, IsForce
 pub use Rattle.rx_event.proofs.Laws.Common.{cases_order, eq-eqb, filter, length-append, ltb-true, mail_of, more, or_parts, slice_get_within, stays, ◌*◌, ◌-◌}
 unfoldable pub use Rattle.rx_event.proofs.Laws.Common.{is_held, is_out, is_taken, is_waiting, notes, base_of, moments, shown}
 pub use Rattle.std.proofs.{Math.Bool.◌||◌, Math.Bool.◌&&◌, Math.Bool.not, lemmas.Bool.and_cases, lemmas.Bool.and_right, lemmas.Bool.not-false}
-pub use Rattle.std.proofs.lemmas.{Grind.flat_map-append, Int.to_z-of_z, List.drop_all, List.take_more, List.drop-append-le, Slice.Eq.bytes_eq-Decides}
+pub use Rattle.std.proofs.lemmas.{Grind.flat_map-append, List.drop_all, List.take_more, List.drop-append-le, Slice.Eq.bytes_eq-Decides}
 pub use Rattle.std.proofs.lemmas.{List.Elements.filter_map-append, List.Elements.All-contains, Option.get_or_from_slice_get, Option.slice_get_cases}
 pub use Rattle.std.specs.{Bool.nat_eq, List.Contains, List.flat_map, Str.bytes_eq, declared.alloc.AllocError.AllocError}
 pub use Rattle.json.specs.{Value.items_view, Value.value_view, declared.value.Value.Value}
 pub use Rattle.rx_book.proofs.Laws.LastsThroughSteps.{out_same, keeps_leases, keeps_resources, kept_same, kept_past, kept_held, kept_taken, kept_used}
 pub use Rattle.rx_book.proofs.Laws.LastsThroughSteps.{out_leased, out_returned}
-pub use Rattle.rx_book.specs.Requests.{Request, open_request, hub_request, stands, take_request, connect_request, is_known_place, place_of, apply_request}
-pub use Rattle.rx_book.specs.Requests.{disconnect_request, give_back_request, is_live, lease_request, next_request, remove_request}
+pub use Rattle.rx_book.specs.Requests.{Request, open_request, hub_request, stands, take_request, connect_request, is_known_place, place_of}
+pub use Rattle.rx_book.specs.Requests.{give_back_request, is_live, lease_request}
 pub use Rattle.rx_book.{proofs.Laws.StepsContinue.step_longer, specs.State.State, specs.State.IsPromised, specs.State.has_key, specs.State.has_res_key}
-pub use Rattle.rx_book.specs.Answers.{Accepts, connection_made, IsCauseOrWant, makes_connection, IsOpened, IsCause}
-pub use Rattle.rx_book.specs.declared.{answer.At.At, answer.Opened.Opened, key.Key.Key, key.LeaseKey.LeaseKey, key.ResKey.ResKey}
+pub use Rattle.rx_book.specs.Answers.{Accepts, connection_made, IsCauseOrWant, makes_connection, IsOpened}
+pub use Rattle.rx_book.specs.declared.{answer.At.At, answer.Opened.Opened, key.Key.Key, key.LeaseKey.LeaseKey}
 unfoldable pub use Rattle.rx_book.specs.State.{is_kept}
 pub use Rattle.rx_device.specs.{Input.IsJsonOf, Part.part_data, Part.items_data, Part.data_of}
 pub use Rattle.rx_event.proofs.Laws.{Counts.notes-push, Leases.is_out_past, MakingRemovesNothing.made_untold, Places.at_within, Searches.list_any_push}
@@ -43,7 +43,7 @@ pub use Rattle.rx_live.specs.Openings.{BindsUsing, holder_at, said_if, using_at,
 pub use Rattle.rx_live.specs.Session.{session_of, Session, IsSound, has_resource, hub_of, IsPlaced, lease_of, node_of, resource_of, key_at, IsTied, if_open}
 pub use Rattle.rx_live.specs.Session.{is_node_in, lease_key_at}
 pub use Rattle.rx_live.specs.Answers.{to_tell, WritesNotes, Takes, WritesNames, late_text, none_taken, one_taken, told_text, is_late}
-pub use Rattle.rx_live.specs.{Carried.Goes, Carried.Carries, Carried.outcome_of, ClosedAt.closed_texts, ClosedAt.closed_at, Deeds.deed_request, Room.HasRoom}
+pub use Rattle.rx_live.specs.{Carried.Goes, Carried.Carries, Carried.outcome_of, ClosedAt.closed_texts, ClosedAt.closed_at, Room.HasRoom}
 pub use Rattle.rx_live.specs.{Closings.SaysClosed, Closings.closed_names, Dumps.entries, Dumps.query_text, Dumps.dump_text, Dumps.entry_at, Listed.all_names}
 pub use Rattle.rx_live.specs.Promise.{Act, no_act, Leads, released, releases, hands_in, with_held, IsKept}
 pub use Rattle.rx_live.specs.Renewals.{Renews, AreOpen, IsFullByOpen, Renewing, may_renew, renewing_causes}

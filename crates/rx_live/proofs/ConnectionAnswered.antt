@@ -1,7 +1,7 @@
 -- What the answer to an opening says of the connection that it made.
 use Rattle.rx_live.proofs.Common.{◌≡◌, ℕ, ◌+◌, ◌==◌, ◌≤◌, ◌++◌, Bool, true, false, List, [], ◌∷◌, length, Some, None, refl, sym, ap, ◌∙◌, arith, inl, inr, at}
-use Rattle.rx_live.proofs.Common.{◌⊎◌, is_some, slice_get, if◌then◌else◌, option_map_or, le-ltb, eqb-true, append-nil, Command, using, open_node, hold, apply}
-use Rattle.rx_live.proofs.Common.{remove, lease, give_back, next, end, abort, decline, fail, dispose, make_hub, connect, disconnect, drain, checkpoint, State}
+use Rattle.rx_live.proofs.Common.{◌⊎◌, is_some, slice_get, if◌then◌else◌, option_map_or, le-ltb, eqb-true, append-nil, Command, open_node}
+use Rattle.rx_live.proofs.Common.{State}
 use Rattle.rx_live.proofs.Common.{makes_connection, connection_made, Task, plain, open_holding, ok_text, Accepted, Session, IsSound, Runs, Does, OpensHolder}
 use Rattle.rx_live.proofs.Common.{holder_causes, connected_by, said_if, front_text, connects_at}
 use Rattle.rx_live.proofs.Acts.{gave, gave_by}
@@ -40,23 +40,7 @@ made_since old new begun same =
 same_said : (old done : Session) (c : Command) → IsSound old → Runs old c Accepted done →
     (connects_at done.book (length old.book.history + 1) ≡ is_some (connection_made old.book.history done.book.history)) ⊎ (connected_by (plain c) ≡ [])
 same_said old done (open_node name site sort) sound runs = inl (made_since old.book done.book sound.kept.begun (gave old done _ _ _ runs.gives).does.base)
-same_said old done (using name site res) sound runs = inr refl
-same_said old done (hold node res) sound runs = inr refl
-same_said old done (apply res word) sound runs = inr refl
-same_said old done (remove res) sound runs = inr refl
-same_said old done (lease res name) sound runs = inr refl
-same_said old done (give_back name) sound runs = inr refl
-same_said old done (next node value) sound runs = inr refl
-same_said old done (end node terminal) sound runs = inr refl
-same_said old done (abort node code) sound runs = inr refl
-same_said old done (decline node) sound runs = inr refl
-same_said old done (fail node code) sound runs = inr refl
-same_said old done (dispose node) sound runs = inr refl
-same_said old done (make_hub name mode) sound runs = inr refl
-same_said old done (connect hub name) sound runs = inr refl
-same_said old done (disconnect hub) sound runs = inr refl
-same_said old done drain sound runs = inr refl
-same_said old done checkpoint sound runs = inr refl
+same_said old done _ sound runs = inr refl
 
 same_by : (old done : Session) (t : Task) → IsSound old → Does old t Accepted done →
     (connects_at done.book (length old.book.history + 1) ≡ is_some (connection_made old.book.history done.book.history)) ⊎ (connected_by t ≡ [])

@@ -1,6 +1,7 @@
 pub mod Common
 pub mod Laws
 pub mod Soundness
+pub mod KeyedCalls
 pub mod AcceptedBindsNames
 pub mod NamesOfOpenNodes
 pub mod Tellings

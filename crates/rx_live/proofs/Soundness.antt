@@ -1,7 +1,7 @@
 -- A session stays sound as its book goes on.
-use Rattle.rx_live.proofs.Common.{◌≡◌, ℕ, ◌≤◌, true, false, Option, Some, Result, Ok, Err, length, refl, sym, ap, ◌∙◌, arith, subst, inl, option_map, List}
-use Rattle.rx_live.proofs.Common.{[], IfOk, IfErr, OnOk, OnErr, is_some, AllocError, Refusal, none-some, Event, is_out, is_out_past, IsPaired, State, is_kept}
-use Rattle.rx_live.proofs.Common.{IsPromised, Request, Accepts, IsCause, IsCauseOrWant, step_longer, Outcome, Session, IsSound, IsFresh, outcome_of, Goes}
+use Rattle.rx_live.proofs.Common.{◌≡◌, ℕ, ◌≤◌, true, false, Some, Result, Ok, Err, length, refl, sym, ap, ◌∙◌, arith, subst, List}
+use Rattle.rx_live.proofs.Common.{[], IfErr, OnOk, OnErr, is_some, Refusal, none-some, Event, is_out, is_out_past, IsPaired, State, is_kept}
+use Rattle.rx_live.proofs.Common.{IsPromised, Request, Accepts, IsCauseOrWant, step_longer, Outcome, Session, IsSound, IsFresh, outcome_of, Goes}
 use Rattle.rx_live.proofs.Common.{keeps_resources, keeps_leases, kept_same, out_same}
 
 pub accepted_longer : (old new : State) (asked : Request) → Accepts old asked new → length old.history ≤ length new.history
@@ -43,22 +43,6 @@ goes_on {s = s} {asked = asked} {book = book} {answer = Err why} sound called is
     let stays : record s { book = book } ≡ s = ap (λ (b : State). record s { book = b }) called.same in
     subst (λ (o : Outcome). Goes s (Some asked) o (record s { book = book })) (sym is)
     (record { carries = (called.refuses, stays); sound = subst (λ (t : Session). IsSound t) (sym stays) sound })
-
--- a call that takes no memory is refused for its first cause
-pub of_cause : {A : Type 0} (old : State) (asked : Request) (answer : Result A Refusal) → IfErr answer (IsCause old asked) →
-    IfErr answer (IsCauseOrWant old asked)
-of_cause old asked (Ok a) refuses = refuses
-of_cause old asked (Err why) refuses = inl refuses
-
--- the whole answer, where the name is bound
-pub call_ok : {A K : Type 0} {s : Session} (f : K → Request) (k : K) (key : Option K) → key ≡ Some k →
-    {book : State} {answer : Result A Refusal} (result : Result Outcome AllocError) →
-    IsSound s → Called s.book (f k) answer book → IfOk result (λ o. o ≡ outcome_of answer) →
-    IfOk result (λ o. Goes s (option_map f key) o (record s { book = book }))
-call_ok f k key found (Err e) sound called told = told
-call_ok {s} f k key found {book} (Ok o) sound called told =
-    subst (λ (j : Option _). Goes s (option_map f j) o (record s { book = book })) (sym found)
-    (goes_on sound called told)
 
 -- before the first line
 kept_none : (r : ℕ) → is_kept [] r ≡ false

@@ -2,7 +2,7 @@ pub mod Session
 pub mod Carried
 pub mod ClosedAt
 pub mod Closings
-pub mod Deeds
+pub mod KeyedCalls
 pub mod Given
 pub mod Openings
 pub mod Promise

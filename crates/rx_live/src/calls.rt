@@ -1,18 +1,19 @@
-//! Commands that give no name.
+//! Commands that make a call of the book as a value, and give or free no name.
 
-ghost use Rattle.std.specs.Prelude.{◌≡◌, ◌≢◌, Err, option_map, IfOk, OnErr};
+ghost use Rattle.std.specs.Prelude.{◌≡◌, ◌≢◌, true, Err, IfOk, OnErr};
 ghost use Rattle.rx_event.specs.declared.refusal.Refusal.{Refusal};
-ghost use Rattle.rx_book.specs.Requests.{next_request, apply_request, remove_request, disconnect_request};
-ghost use Rattle.rx_live.specs.Session.{session_of, node_of, resource_of, hub_of, IsSound};
+ghost use Rattle.rx_scenario.specs.Scenario.{command_of};
 ghost use Rattle.rx_line.specs.declared.outcome.Cause.TheVariants.{Book};
 ghost use Rattle.rx_line.specs.declared.outcome.Outcome.TheVariants.{Refused};
-ghost use Rattle.rx_live.specs.Carried.{outcome_of, Goes};
-ghost use Rattle.rx_live.specs.Deeds.{deed_request};
+ghost use Rattle.rx_live.specs.Session.{session_of, IsSound};
+ghost use Rattle.rx_live.specs.Carried.{outcome_of};
+ghost use Rattle.rx_live.specs.KeyedCalls.{is_asked, keyed_call};
+ghost use Rattle.rx_live.specs.Lines.{Runs};
 
-use crate::deeds::{Deed, done_at};
 use crate::engine::Engine;
-use rx_book::Refusal;
+use rx_book::{Call, Refusal};
 use rx_line::{Cause, Outcome};
+use rx_scenario::Command;
 use std::alloc::AllocError;
 
 /// What a call of the book is answered; want of memory is no answer.
@@ -28,82 +29,40 @@ pub fn answered<T: Drop>(answer: Result<T, Refusal>) -> Result<Outcome, AllocErr
     }
 }
 
-/// A leaf emits an item.
-pub fn next(engine: &mut Engine, node: &str, value: i64) -> Result<Outcome, AllocError>
-    requires { IsSound (session_of engine.old) }
-    ensures ok { IfOk result (λ o. Goes (session_of engine.old)
-        (option_map (λ k. next_request engine.old.book k value) (node_of (session_of engine.old) node.now)) o (session_of engine.new)) }
-    ensures err { OnErr result (session_of engine.new ≡ session_of engine.old) }
-    ensures want { IfOk result (λ o. o ≢ Refused (Book Refusal.NoMemory)) }
+/// The call that a command makes, with keys in place of names; None where a name is not bound, and of a command
+/// that makes none, hands a resource in, or gives or frees a name.
+fn keyed_call(engine: &Engine, command: &Command) -> Option<Call>
+    ensures { result ≡ keyed_call (session_of engine.now) (command_of command.now) }
 {
-    let Some(leaf) = engine.node(node) else {
-        return Ok(Outcome::Refused(Cause::NoName));
-    };
-    let answer = engine.book.next(leaf, value);
-    engine.book.promise();
-    answered(answer)
+    match command {
+        Command::Apply { res, word } => Some(Call::Apply(engine.resource(res.as_str())?, *word)),
+        Command::Remove { res } => engine.resource(res.as_str()).map(Call::Remove),
+        Command::Next { node, value } => Some(Call::Next(engine.node(node.as_str())?, *value)),
+        Command::End { node, terminal } => {
+            Some(Call::End(engine.node(node.as_str())?, *terminal))
+        }
+        Command::Abort { node, code } => Some(Call::Abort(engine.node(node.as_str())?, *code)),
+        Command::Decline { node } => engine.node(node.as_str()).map(Call::Decline),
+        Command::Fail { node, code } => Some(Call::Fail(engine.node(node.as_str())?, *code)),
+        Command::Dispose { node } => engine.node(node.as_str()).map(Call::Dispose),
+        Command::Disconnect { hub } => engine.hub_of(hub.as_str()).map(Call::Disconnect),
+        _ => None,
+    }
 }
 
-/// Does this at the node of this name.
-pub fn at_node(engine: &mut Engine, node: &str, deed: Deed) -> Result<Outcome, AllocError>
-    requires { IsSound (session_of engine.old) }
-    ensures ok { IfOk result (λ o. Goes (session_of engine.old)
-        (option_map (λ k. deed_request engine.old.book k deed) (node_of (session_of engine.old) node.now)) o (session_of engine.new)) }
+/// Makes the call of a command.
+pub fn ask(engine: &mut Engine, command: &Command) -> Result<Outcome, AllocError>
+    requires sound { IsSound (session_of engine.old) }
+    requires asked { is_asked (command_of command.now) ≡ true }
+    ensures ok { IfOk result (λ o. Runs (session_of engine.old) (command_of command.now) o (session_of engine.new)) }
     ensures err { OnErr result (session_of engine.new ≡ session_of engine.old) }
+    ensures sound { IsSound (session_of engine.new) }
     ensures want { IfOk result (λ o. o ≢ Refused (Book Refusal.NoMemory)) }
 {
-    let Some(key) = engine.node(node) else {
+    let Some(call) = keyed_call(engine, command) else {
         return Ok(Outcome::Refused(Cause::NoName));
     };
-    let answer = done_at(&mut engine.book, key, deed);
-    engine.book.promise();
-    answered(answer)
-}
-
-/// A held resource is used on a word.
-pub fn apply(engine: &mut Engine, res: &str, word: u64) -> Result<Outcome, AllocError>
-    requires { IsSound (session_of engine.old) }
-    ensures ok { IfOk result (λ o. Goes (session_of engine.old)
-        (option_map (λ k. apply_request engine.old.book k) (resource_of (session_of engine.old) res.now)) o (session_of engine.new)) }
-    ensures err { OnErr result (session_of engine.new ≡ session_of engine.old) }
-    ensures want { IfOk result (λ o. o ≢ Refused (Book Refusal.NoMemory)) }
-{
-    let Some(key) = engine.resource(res) else {
-        return Ok(Outcome::Refused(Cause::NoName));
-    };
-    let answer = engine.book.apply(key, word);
-    engine.book.promise();
-    answered(answer)
-}
-
-/// A held resource is taken off its node.
-pub fn remove(engine: &mut Engine, res: &str) -> Result<Outcome, AllocError>
-    requires { IsSound (session_of engine.old) }
-    ensures ok { IfOk result (λ o. Goes (session_of engine.old)
-        (option_map (λ k. remove_request engine.old.book k) (resource_of (session_of engine.old) res.now)) o (session_of engine.new)) }
-    ensures err { OnErr result (session_of engine.new ≡ session_of engine.old) }
-    ensures want { IfOk result (λ o. o ≢ Refused (Book Refusal.NoMemory)) }
-{
-    let Some(key) = engine.resource(res) else {
-        return Ok(Outcome::Refused(Cause::NoName));
-    };
-    let answer = engine.book.remove(key);
-    engine.book.promise();
-    answered(answer)
-}
-
-/// A hub's connection is closed by hand.
-pub fn disconnect(engine: &mut Engine, hub: &str) -> Result<Outcome, AllocError>
-    requires { IsSound (session_of engine.old) }
-    ensures ok { IfOk result (λ o. Goes (session_of engine.old)
-        (option_map (λ k. disconnect_request k) (hub_of (session_of engine.old) hub.now)) o (session_of engine.new)) }
-    ensures err { OnErr result (session_of engine.new ≡ session_of engine.old) }
-    ensures want { IfOk result (λ o. o ≢ Refused (Book Refusal.NoMemory)) }
-{
-    let Some(number) = engine.hub_of(hub) else {
-        return Ok(Outcome::Refused(Cause::NoName));
-    };
-    let answer = engine.book.disconnect(number);
+    let answer = engine.book.ask(call);
     engine.book.promise();
     answered(answer)
 }

@@ -43,7 +43,6 @@ mod calls;
 mod closed;
 mod closing;
 mod connected;
-mod deeds;
 mod dumping;
 mod engine;
 mod holder;

@@ -7,10 +7,10 @@ ghost use Rattle.rx_live.specs.Session.{session_of, IsSound};
 ghost use Rattle.rx_live.specs.Given.{IsUnchanged};
 ghost use Rattle.rx_live.specs.Lines.{Runs, Does};
 
-use crate::deeds::Deed;
+use crate::calls::ask;
 use crate::engine::Engine;
 use crate::renewing::renew;
-use crate::{calls, holder, holding, opening};
+use crate::{holder, holding, opening};
 use rx_line::{Outcome, Task};
 use rx_scenario::Command;
 use std::alloc::AllocError;
@@ -26,25 +26,13 @@ fn run(engine: &mut Engine, command: Command) -> Result<Outcome, AllocError>
         Command::Using { name, place, res } => opening::using(engine, name, &place, res),
         Command::Open { name, place, kind } => opening::open(engine, name, &place, kind),
         Command::Hold { node, res } => holding::hold(engine, node.as_str(), res),
-        Command::Apply { res, word } => calls::apply(engine, res.as_str(), word),
-        Command::Remove { res } => calls::remove(engine, res.as_str()),
         Command::Lease { res, name } => holding::lease(engine, res.as_str(), name),
         Command::Return { lease } => holding::give_back(engine, lease.as_str()),
-        Command::Next { node, value } => calls::next(engine, node.as_str(), value),
-        Command::End { node, terminal } => calls::at_node(
-            engine,
-            node.as_str(),
-            Deed::End(terminal),
-        ),
-        Command::Abort { node, code } => calls::at_node(engine, node.as_str(), Deed::Abort(code)),
-        Command::Decline { node } => calls::at_node(engine, node.as_str(), Deed::Decline),
-        Command::Fail { node, code } => calls::at_node(engine, node.as_str(), Deed::Fail(code)),
-        Command::Dispose { node } => calls::at_node(engine, node.as_str(), Deed::Dispose),
         Command::Hub { name, mode } => holding::hub(engine, name, mode),
         Command::Connect { hub, name } => opening::connect(engine, hub.as_str(), name),
-        Command::Disconnect { hub } => calls::disconnect(engine, hub.as_str()),
         Command::Drain => Ok(Outcome::Accepted),
         Command::Checkpoint => renew(engine),
+        other => ask(engine, &other),
     }
 }
 
