@@ -1,4 +1,4 @@
-use Rattle.rx_crew_tests.proofs.storms.assert_closed.Given as goal
+use Rattle.rx_book_tests.proofs.desks.storms.assert_closed.Given as goal
 
 abbrev pub ghosts-end_with_an_open_root-I-Ledger : goal.ghosts-end_with_an_open_root-I-Ledger
 ghosts-end_with_an_open_root-I-Ledger g a = record { name = a.blanks.0.name; parts = a.blanks.0.parts }

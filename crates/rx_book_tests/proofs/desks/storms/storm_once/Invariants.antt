@@ -1,4 +1,4 @@
-use Rattle.rx_crew_tests.proofs.storms.storm_once.Given as goal
+use Rattle.rx_book_tests.proofs.desks.storms.storm_once.Given as goal
 
 abbrev pub ghosts-weather-I-Ledger : goal.ghosts-weather-I-Ledger
 ghosts-weather-I-Ledger g a = record { name = a.blanks.0.name; parts = a.blanks.0.parts }

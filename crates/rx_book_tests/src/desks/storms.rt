@@ -8,7 +8,7 @@ ghost use Rattle.rx_ledger.specs.Shares.{Opens};
 
 use super::meetings::Pair;
 use super::parts::{Open, blanks};
-use super::same::same;
+use crate::same::same;
 use rx_book::{At, Book};
 use rx_crew::{Desk, Gate};
 use rx_device::Watched;

@@ -1,4 +1,4 @@
-use Rattle.rx_crew_tests.proofs.trials.assert_told.Given as goal
+use Rattle.rx_book_tests.proofs.desks.trials.assert_told.Given as goal
 
 abbrev pub ghosts-at_desk-I-Ledger : goal.ghosts-at_desk-I-Ledger
 ghosts-at_desk-I-Ledger g a = record { name = a.blanks.0.name; parts = a.blanks.0.parts }

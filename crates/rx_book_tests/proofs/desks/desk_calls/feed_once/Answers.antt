@@ -1,5 +1,5 @@
-use Rattle.rx_crew_tests.proofs.TicksEnd.{ticks_end}
-use Rattle.rx_crew_tests.proofs.desk_calls.feed_once.Goals as goal
+use Rattle.rx_book_tests.proofs.TicksEnd.{ticks_end}
+use Rattle.rx_book_tests.proofs.desks.desk_calls.feed_once.Goals as goal
 
 pub feed-fed-requires-after_bounds : goal.feed-fed-requires-after_bounds
 feed-fed-requires-after_bounds g c κs within =

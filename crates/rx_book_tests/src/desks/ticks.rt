@@ -1,7 +1,7 @@
 //! A source of as many items as one wants, and then an end.
 
 ghost use Rattle.std.specs.Prelude.{◌≡◌, false, [], if◌then◌else◌};
-ghost use Rattle.rx_crew_tests.specs.Ticks.{ticks};
+ghost use Rattle.rx_book_tests.specs.Ticks.{ticks};
 
 use rx_crew::{Pull, Source};
 use rx_event::Terminal;
