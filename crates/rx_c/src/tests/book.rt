@@ -172,7 +172,8 @@ impl Bench {
         }
     }
 
-    // Calls on the book as a whole.
+    // Calls on the book as a whole. Where it gave something, a taking answers its tag, and a draining the value of the
+    // second note.
     fn on_book(&mut self, step: Step) -> u8 {
         let (call, _, _, number) = step;
         let (alloc, handle) = (self.alloc, &mut self.handle);
@@ -182,7 +183,13 @@ impl Bench {
                 let most = u32::try_from(number).unwrap_or(u32::MAX);
                 rx_book_new(alloc, handle, most)
             }
-            Call::Take => rx_book_take(alloc, handle, &mut no_taken()),
+            Call::Take => {
+                let mut taken = no_taken();
+                match rx_book_take(alloc, handle, &mut taken) {
+                    0 => u8::try_from(taken.tag).unwrap_or(255),
+                    why => why,
+                }
+            }
             Call::TakeMail => rx_book_take_mail(alloc, handle, &mut no_mail()),
             Call::Drain => {
                 let (mut mails, mut resources) = ([no_mail(); 2], [no_taken(); 2]);
@@ -190,7 +197,10 @@ impl Bench {
                     mails: 0,
                     resources: 0,
                 };
-                rx_book_drain(alloc, handle, &mut mails, &mut resources, &mut drained)
+                match rx_book_drain(alloc, handle, &mut mails, &mut resources, &mut drained) {
+                    0 => u8::try_from(mails[1].value).unwrap_or(255),
+                    why => why,
+                }
             }
             Call::Event => rx_book_event(alloc, handle, number, &mut no_event()),
             Call::Dump => {
@@ -321,7 +331,7 @@ const REFUSED: [Step; 24] = [
 ];
 
 // To the end of that book, and of one that is full.
-const ENDED: [Step; 20] = [
+const ENDED: [Step; 21] = [
     (Call::Remove, 0, 0, 0),
     (Call::GiveBack, 0, 0, 0),
     (Call::Remove, 0, 0, 0),
@@ -337,6 +347,7 @@ const ENDED: [Step; 20] = [
     (Call::Checkpoint, 0, 0, 0),
     (Call::Dump, 0, 0, 0),
     (Call::Using, 2, 4, 71),
+    (Call::Finish, 0, 0, 0),
     (Call::Close, 0, 0, 0),
     (Call::Finish, 0, 0, 0),
     (Call::Take, 0, 0, 0),
@@ -346,7 +357,7 @@ const ENDED: [Step; 20] = [
 
 const ANSWERED: &str = "1 1 1 1 1 1 1 1 1 1 1 1 1 1 1 1 1 1 1 1 1 1 1 1 1 0 \n\
         3 5 5 5 5 5 17 22 0 0 25 0 24 0 18 0 19 28 21 18 30 0 0 31 \n\
-        31 0 27 0 0 20 0 2 7 32 0 0 0 8 0 0 6 0 2 0 ";
+        31 0 27 0 0 20 0 2 7 32 2 0 0 8 0 6 0 6 71 2 0 ";
 
 #[test]
 fn each_call_has_a_status_for_each_refusal(rt: HostRuntime) -> Result<(), Fail> {
