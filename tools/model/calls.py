@@ -45,7 +45,7 @@ def adds(h: History, call: Call) -> int:
     inner = call.place == 'inner'  # its room was reserved by the projection
     match call.do:
         case 'open':
-            return 2 - inner + 2 * forces_connect(h, outside_of(h, call)[0])
+            return 2 - inner + 2 * forces_connect(h, outside_of(h, call)[0]) + 3 * (call.value is not None)  # with what it holds
         case 'using':
             return 5 - inner
         case 'hold':

@@ -107,6 +107,8 @@ class Commands:
             step['hub'] = self.hub()
             if self.rng.random() < 0.8:
                 step['connection'] = self.new('node')
+        if isinstance(self.book, Live) and self.rng.random() < 0.15:
+            step['res'] = self.new('res')
         return step
 
     def command(self) -> dict[str, Any]:
@@ -231,10 +233,22 @@ def session(rng: random.Random) -> list[bytes]:
         line = json.dumps(step).encode()
         if step['do'] == 'checkpoint':
             lines.append(b'{"do":"dump"}')
+        if 'node' in step and rng.random() < 0.1:
+            lines.append(json.dumps({'do': 'is', 'node': step['node']}).encode())
         lines.append(hurt(rng, line).replace(b'\n', b' ') if rng.random() < 0.04 else line)
         if rng.random() < 0.05:
             lines.append(rng.choice((b'{"do":"list"}', b'{"do":"dump"}', b'{"do":"list"}', b'{"do":"dump","node":"a"}')))
-    return [*lines, b'{"do":"list"}', b'{"do":"dump"}']
+    return [*arrayed(rng, lines), b'{"do":"list"}', b'{"do":"dump"}']
+
+
+def arrayed(rng: random.Random, lines: list[bytes]) -> list[bytes]:
+    """The lines, some of which stand behind each other in an array; what asks for the history stays alone."""
+    made: list[bytes] = []
+    while lines:
+        many = rng.randrange(2, 6) if rng.random() < 0.08 else 1
+        part, lines = lines[:many], lines[many:]
+        made += [b'[' + b','.join(part) + b']'] if len(part) > 1 and not any(b'dump' in line for line in part) else part
+    return made
 
 
 # Histories

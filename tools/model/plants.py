@@ -32,7 +32,8 @@ class Turned:
 
     def line(self, line: bytes) -> bytes:
         try:
-            return json.dumps(self.step(json.loads(line))).encode() if self.step else line
+            value = json.loads(line) if self.step else None
+            return json.dumps([self.step(it) for it in value] if isinstance(value, list) else self.step(value)).encode() if self.step else line
         except (ValueError, TypeError, KeyError, AttributeError):
             return line
 
@@ -101,8 +102,17 @@ def one_more(match: re.Match) -> str:
     return match[1] + str(int(match[2]) + 1)
 
 
+def in_a_row(turn: Callable[[list[dict[str, Any]]], list[dict[str, Any]]]) -> Callable[[list[str]], list[str]]:
+    """Of the answers to commands, one behind the other, whether they stand in an array or not."""
+    def turned(answers: list[str]) -> list[str]:
+        values = [json.loads(it) for it in answers]
+        told = iter(turn([each for value in values for each in (value if isinstance(value, list) else [value])]))
+        return [json.dumps([next(told) for _ in value] if isinstance(value, list) else next(told)) for value in values]
+    return turned
+
+
 def of_answers(turn: Callable[[dict[str, Any]], dict[str, Any]]) -> Callable[[list[str]], list[str]]:
-    return lambda answers: [json.dumps(turn(json.loads(it))) for it in answers]
+    return in_a_row(lambda answers: [turn(it) for it in answers])
 
 
 def no_drain(step: dict[str, Any]) -> dict[str, Any]:
@@ -113,23 +123,25 @@ def forgets(member: str) -> Callable:
     return of_answers(lambda it: {name: value for name, value in it.items() if name != member})
 
 
-def twice(answers: list[str]) -> list[str]:
+@in_a_row
+def twice(answers: list[dict[str, Any]]) -> list[dict[str, Any]]:
     """What was released is released once more, at the next answer."""
     told, last = [], []
-    for it in map(json.loads, answers):
+    for it in answers:
         last, before = it.get('release', []), last
-        told.append(json.dumps({**it, 'release': it.get('release', []) + before} if before and 'ok' in it else it))
+        told.append({**it, 'release': it.get('release', []) + before} if before and 'ok' in it else it)
     return told
 
 
-def late(answers: list[str]) -> list[str]:
+@in_a_row
+def late(answers: list[dict[str, Any]]) -> list[dict[str, Any]]:
     """A release comes one answer too late."""
     told, kept = [], []
-    for it in map(json.loads, answers):
+    for it in answers:
         now, kept = kept, it.get('release', [])
         if 'ok' in it or 'closed' in it:
             it = {name: value for name, value in it.items() if name != 'release'} | ({'release': now} if now else {})
-        told.append(json.dumps(it))
+        told.append(it)
     return told
 
 
@@ -180,6 +192,10 @@ for name, how in {
         'a note is not told': forgets('notes'),
         'notes in reverse': of_answers(notes_reversed),
         'a release is not told': forgets('release'),
+        'what closed is not told': forgets('closed'),
+        'a connection is not told': forgets('connected'),
+        'a name lacks in a dump': of_answers(lambda it: {**it, 'names': dict(list(it['names'].items())[1:])} if it.get('names') else it),
+        'an open node is told as closed': of_answers(lambda it: {**it, 'open': False} if it.get('open') else it),
         'a release is told twice': twice,
         'a release is told too late': late,
         'a place too far': of_answers(lambda it: {**it, 'ok': it['ok'] + 1} if 'ok' in it else it),

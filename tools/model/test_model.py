@@ -18,7 +18,7 @@ from .handle import WORDS
 from .history import History
 from .plants_typed import PLANTS
 from .scenario import Canonical, Course, Differs, Longest
-from .texts import Faulty, dump_of, events_of, json_of, line_of, scenario_of
+from .texts import Faulty, command_of, dump_of, events_of, json_of, scenario_of
 from .typed import TELLS, Typed, event_of, moved, numbers_of
 
 data = pathlib.Path(__file__).resolve().parents[2] / 'crates/rx_replay/data'
@@ -125,7 +125,7 @@ class Texts(unittest.TestCase):
         for text in (b'1e400', b'NaN', b'"\\ud800"', b'\xff', b'', b'[' * 128 + b']' * 128, b'\xef\xbb\xbf1'):
             self.assertRaises(Faulty, json_of, text)
         self.assertEqual(json_of(b'{"a":1,"a":2}'), {'a': 2})
-        self.assertRaises(Faulty, line_of, b'{"do":"cancel","step":"a"}')
+        self.assertRaises(Faulty, command_of, {'do': 'cancel', 'step': 'a'})
         self.assertRaises(Faulty, scenario_of, b'{"steps":[{"do":"drain","after":1}]}')
 
 

@@ -207,13 +207,17 @@ def has_checkpoint(steps: list[Any]) -> bool:
     return any(step['do'] == 'checkpoint' or has_checkpoint(step.get('then', [])) for step in steps)
 
 
-LIVE_COMMANDS = {**{do: it for do, it in COMMANDS.items() if do != 'cancel'}, 'list': ({}, {}), 'dump': ({}, {})}
+LIVE_COMMANDS = {**{do: it for do, it in COMMANDS.items() if do != 'cancel'},
+                 'open': (COMMANDS['open'][0], {**COMMANDS['open'][1], 'res': is_name}), 'list': ({}, {}), 'dump': ({}, {}), 'is': (NODE, {})}
 
 
-def line_of(text: bytes) -> dict[str, Any]:
-    """The command of a line, which is given without its newline."""
+def line_of(text: bytes) -> Any:
+    """What a line has, which is given without its newline: perhaps a command, or an array of what are perhaps commands."""
     if len(text) > MOST_LINE:
         raise Faulty('too long')
-    value = json_of(text)
+    return json_of(text)
+
+
+def command_of(value: Any) -> dict[str, Any]:
     check_command(value, {}, LIVE_COMMANDS)
     return value
