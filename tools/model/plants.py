@@ -31,9 +31,11 @@ class Turned:
         return [self.step({**step, **({'then': self.steps(step['then'])} if 'then' in step else {})}) for step in steps]
 
     def line(self, line: bytes) -> bytes:
+        if not self.step:
+            return line
         try:
-            value = json.loads(line) if self.step else None
-            return json.dumps([self.step(it) for it in value] if isinstance(value, list) else self.step(value)).encode() if self.step else line
+            value = json.loads(line)
+            return json.dumps([self.step(it) for it in value] if isinstance(value, list) else self.step(value)).encode()
         except (ValueError, TypeError, KeyError, AttributeError):
             return line
 
