@@ -9,7 +9,7 @@ use std::alloc::AllocError;
 const MOST: usize = 536_870_912;
 
 // Gets room for so many values more, and answers how many values fit then. Growing may copy all values, so it
-// is done rarely: fourfold, where there is memory for that.
+// is done rarely: eightfold, where there is memory for that.
 pub(crate) fn grow<C>(
     cells: &mut Vec<C>,
     free: &mut Vec<u32>,
@@ -25,10 +25,10 @@ pub(crate) fn grow<C>(
     ensures wider { IfOk result (λ more. capacity ≤ more) }
     ensures enough { IfOk result (λ more. length cells.old.items + additional ≤ more + length free.old.items) }
 {
-    let more = (cells.len() - free.len()).saturating_mul(3);
+    let more = (cells.len() - free.len()).saturating_mul(7);
     if additional < more {
-        if let Ok(fourfold) = extend(cells, free, capacity, more) {
-            return Ok(fourfold);
+        if let Ok(eightfold) = extend(cells, free, capacity, more) {
+            return Ok(eightfold);
         }
     }
     extend(cells, free, capacity, additional)
