@@ -15,6 +15,7 @@ pub mod Lawful
 pub mod Calls
 pub mod Refusals
 pub mod Causes
+pub mod Words
 pub mod Stored
 pub mod Renumbered
 pub mod Canonical

@@ -1,11 +1,13 @@
 //! A base and the events since, which only grow, up to a limit.
 
-ghost use Rattle.std.specs.Prelude.{◌≡◌, ◌+◌, ◌<◌, ◌≤◌, ◌↔◌, ◌⊎◌, [], ◌∷◌, ◌++◌, length, slice_get, OnOk, OnErr, IsErrOf, IfErr};
+ghost use Rattle.std.specs.Prelude.{◌≡◌, ◌+◌, ◌<◌, ◌≤◌, ◌↔◌, ◌⊎◌, [], ◌∷◌, ◌++◌, length, slice_get, option_map, OnOk, OnErr, IsErrOf, IfErr};
 ghost use Rattle.rx_event.specs.Kept.{nothing_kept, shown, event_since};
+ghost use Rattle.rx_event.specs.Words.{event_of};
 
 use crate::base::Base;
 use crate::event::Event;
 use crate::refusal::Refusal;
+use crate::stored::StoredEvent;
 use rx_segments::Segments;
 use std::alloc::{AllocError, Global};
 use std::marker::Model;
@@ -15,20 +17,21 @@ use std::marker::Model;
 #[derive(Drop)]
 pub struct History {
     base: Base,
-    events: Segments<Event>,
+    events: Segments<StoredEvent>,
     // For how many more there is room, within the limit too.
     room: u64,
     limit: u64,
 }
 
 impl Model for History {
-    ghost use Rattle.std.specs.Prelude.{◌+◌, ◌≤◌, length};
+    ghost use Rattle.std.specs.Prelude.{◌+◌, ◌≤◌, length, map};
     ghost use Rattle.rx_event.specs.Kept.{stored};
+    ghost use Rattle.rx_event.specs.Words.{event_of};
     ghost use Rattle.rx_event.specs.Stored.{Stored};
 
     ghost Value = { Stored };
 
-    ghost view = { λ h. record { base = h.base; events = stored h.base h.events.items; limit = h.limit; room = h.room } };
+    ghost view = { λ h. record { base = h.base; events = stored h.base (map event_of h.events.items); limit = h.limit; room = h.room } };
 
     ghost invariant = { λ h. (h.limit ≤ 4294967295) × (length h.events.items + h.room ≤ h.limit) ×
         (h.room ≤ h.events.room) × (h.base.at_length ≤ 9223372036854775807) };
@@ -63,7 +66,7 @@ impl History {
 
     /// How many events there ever were.
     #[inline(always)]
-    #[tactic(auto, using(crate::proofs::Laws::StoredAt::length_stored))]
+    #[tactic(auto, using(crate::proofs::Laws::StoredAt::length_written))]
     pub fn len(&self) -> u64
         ensures value { result ≡ length self.now.events }
         ensures begun { self.now.base.at_length ≤ length self.now.events }
@@ -76,7 +79,7 @@ impl History {
     }
 
     /// The event at a place, if it is one since the base.
-    #[tactic(auto, using(crate::proofs::Laws::StoredAt::length_stored, crate::proofs::Laws::StoredAt::get_stored))]
+    #[tactic(auto, using(crate::proofs::Laws::StoredAt::length_written, crate::proofs::Laws::StoredAt::get_stored))]
     pub fn get(&self, place: u64) -> Option<Event>
         ensures { result ≡ event_since self.now.base self.now.events place }
     {
@@ -116,7 +119,7 @@ impl History {
     /// Gets room for `n` more events. `Full` exactly where with them there were more since the base than
     /// the limit; `NoMemory` where memory was asked for and refused. Neither changes anything.
     #[inline(always)]
-    #[tactic(auto, using(crate::proofs::Laws::StoredAt::length_stored))]
+    #[tactic(auto, using(crate::proofs::Laws::StoredAt::length_written))]
     pub fn reserve(&mut self, n: u64) -> Result<(), Refusal>
         ensures base { self.new.base ≡ self.old.base }
         ensures events { self.new.events ≡ self.old.events }
@@ -137,7 +140,7 @@ impl History {
     // `reserve` where there is not as much room.
     #[cold]
     #[inline(never)]
-    #[tactic(auto, using(crate::proofs::Laws::StoredAt::length_stored))]
+    #[tactic(auto, using(crate::proofs::Laws::StoredAt::length_written))]
     fn ask_for_room(&mut self, n: u64) -> Result<(), Refusal>
         requires { self.old.room < n }
         ensures base { self.new.base ≡ self.old.base }
@@ -165,7 +168,7 @@ impl History {
 
     /// Adds an event last. It takes no memory, since room was reserved.
     #[inline(always)]
-    #[tactic(auto, using(crate::proofs::Laws::StoredAt::length_stored))]
+    #[tactic(auto, using(crate::proofs::Laws::StoredAt::length_written))]
     pub fn push_reserved(&mut self, event: Event)
         requires { 0 < self.old.room }
         ensures base { self.new.base ≡ self.old.base }
@@ -173,14 +176,17 @@ impl History {
         ensures limit { self.new.limit ≡ self.old.limit }
         ensures room { self.new.room + 1 ≡ self.old.room }
     {
-        self.events.push_reserved(event);
+        self.events.push_reserved(StoredEvent::of(event));
         self.room -= 1;
     }
 }
 
 /// The event at an index, if there is one.
-fn nth(events: &Segments<Event>, index: u64) -> Option<Event>
-    ensures { result ≡ slice_get events.now.items index }
+fn nth(events: &Segments<StoredEvent>, index: u64) -> Option<Event>
+    ensures { result ≡ option_map event_of (slice_get events.now.items index) }
 {
-    events.get(index as usize).copied()
+    match events.get(index as usize) {
+        Some(stored) => Some(stored.event()),
+        None => None,
+    }
 }

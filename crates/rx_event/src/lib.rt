@@ -21,6 +21,7 @@ mod limits;
 mod mail;
 mod marks;
 mod refusal;
+mod stored;
 mod theorems;
 
 pub use base::{Base, BaseCounts, BaseHub, BaseLease, BaseNode, BaseResource, BaseState};

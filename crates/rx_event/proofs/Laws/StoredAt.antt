@@ -1,10 +1,16 @@
 -- Places of a stored history.
-use Rattle.rx_event.proofs.Laws.Common.{◌≡◌, ℕ, zero, suc, ◌+◌, ◌-◌, ◌≤◌, List, [], ◌∷◌, ◌++◌, length, ap, ◌∙◌, arith, slice_get, length-append, append-nil}
+use Rattle.rx_event.proofs.Laws.Common.{◌≡◌, ℕ, zero, suc, ◌+◌, ◌-◌, ◌≤◌, List, [], ◌∷◌, ◌++◌, length, ap, ◌∙◌, arith, map, slice_get, length-append, append-nil}
 use Rattle.rx_event.proofs.Laws.Common.{Event, Kept, shown}
+use Rattle.std.proofs.lemmas.List.{length-map}
+use Rattle.rx_event.specs.Words.{event_of}
+use Rattle.rx_event.specs.declared.stored.StoredEvent.{StoredEvent}
 use Rattle.rx_event.proofs.Laws.Bases.{length-shown}
 
 pub length_stored : (b : Kept) (es : List Event) → length (shown b ++ es) ≡ b.at_length + length es
 length_stored b es = length-append (shown b) es ∙ ap (λ n. n + length es) (length-shown b)
+
+pub length_written : (b : Kept) (es : List StoredEvent) → length (shown b ++ map event_of es) ≡ b.at_length + length es
+length_written b es = length_stored b (map event_of es) ∙ ap (λ n. b.at_length + n) (length-map es event_of)
 
 -- with nothing since
 pub stored_nothing : (b : Kept) → shown b ++ [] ≡ shown b
