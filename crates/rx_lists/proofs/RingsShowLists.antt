@@ -9,6 +9,7 @@ use Rattle.rx_lists.proofs.PlacesApart.{tells}
 use Rattle.rx_lists.proofs.Laws.Places.{few_places, cases_place, among_here, among_there}
 use Rattle.rx_lists.proofs.Laws.Links.{walk_leads, no_loop, last_among, next_in as next_among, previous_in as previous_among}
 use Rattle.rx_lists.proofs.Laws.Rings.{some_same, some_none}
+use Rattle.std.proofs.Common.{rules}
 
 -- the places are members
 abbrev pub AreMembers : List Place → Type 0
@@ -147,11 +148,8 @@ module _ (ends members : List Link) (room : ℕ) (tied : IsTiedIn ends members) 
 
   pub plain : IsPlain (lists_in ends members room)
   plain = record {
-    apart = λ e. subst AreApart (sym (seen e)) (apart_ring (tied.rings (End e)) (ring_members (End e)) (tied.ringed.differ (End e)));
-    once = λ e f m i j.
-        let a = tied.ringed.members (End e) (Member m) (sym (seen_in e m) ∙ i) in
-        let b = tied.ringed.members (End f) (Member m) (sym (seen_in f m) ∙ j) in
-        ap number_of (some_same (End e) (End f) (sym a ∙ b));
+    apart = λ e. search (rules, seen, apart_ring, ring_members);
+    once = grind (arith, seen_in, some_same);
     below = λ e m i. lt_of m (length members) (tied.there (End e) (Member m) (tied.ringed.members (End e) (Member m) (sym (seen_in e m) ∙ i))).1;
   }
 
@@ -178,10 +176,7 @@ module _ (ends members : List Link) (room : ℕ) (tied : IsTiedIn ends members) 
   home_there : (q : Place) → (o : Option Place) → tied.home q ≡ o → is_end q ≡ false → within (length ends) (length members) q ≡ true →
       (within (length ends) (length members) (next_in ends members q) ≡ true) × (within (length ends) (length members) (previous_in ends members q) ≡ true)
   home_there q None home inner there =
-      let loop = tied.ringed.loose q inner home in (
-        subst (λ z. within (length ends) (length members) z ≡ true) (sym loop.to) there,
-        subst (λ z. within (length ends) (length members) z ≡ true) (sym loop.back) there,
-      )
+      let loop = tied.ringed.loose q inner home in search (rules, length, ends, members)
   home_there q (Some e) home inner there =
       let R = tied.ringed in
       let i = R.listed e q home in

@@ -1,6 +1,7 @@
 -- What a few ties between places make.
 use Rattle.rx_lists.proofs.Common.{◌≡◌, cond, Bool, true, false, refl, sym, ap, ◌∙◌, Places, Steps, set_step, Joins, PassesBy, Leaves, Merges}
 use Rattle.rx_lists.proofs.Laws.Places.{Tells}
+use Rattle.std.proofs.Common.{rules}
 
 module _ {Place : Type 0} (places : Places Place) where
   -- one place is put directly before another
@@ -10,27 +11,14 @@ module _ {Place : Type 0} (places : Places Place) where
 
   pub joins_of : {n p n1 p1 n2 p2 : Steps Place} {e x last : Place} → last ≡ p e → Ties n p n1 p1 last x → Ties n1 p1 n2 p2 x e →
       Joins places n p n2 p2 e x
-  joins_of {n} {p} {e} {x} is before after = record {
-    to = λ q. after.to q ∙ ap (λ z. cond (places.is_place x q) e z) (before.to q ∙ ap (λ l. set_step places l x n q) is);
-    back = λ q. after.back q ∙ ap (λ z. cond (places.is_place e q) x z) (before.back q ∙ ap (λ l. set_step places x l p q) is);
-  }
+  joins_of {n} {p} {e} {x} is before after = search (rules, cond, set_step)
 
   pub leaves_of : {n p n1 p1 n2 p2 : Steps Place} {x : Place} → PassesBy places n p n1 p1 x → Ties n1 p1 n2 p2 x x → Leaves places n p n2 p2 x
-  leaves_of {x} passes alone = record {
-    to = λ q. alone.to q ∙ ap (λ z. cond (places.is_place x q) x z) (passes.to q);
-    back = λ q. alone.back q ∙ ap (λ z. cond (places.is_place x q) x z) (passes.back q);
-  }
+  leaves_of {x} passes alone = search (rules, cond)
 
   pub merges_of : {n p n1 p1 n2 p2 n3 p3 : Steps Place} {from into last first end : Place} → last ≡ p into → first ≡ n from → end ≡ p from →
       Ties n p n1 p1 last first → Ties n1 p1 n2 p2 end into → Ties n2 p2 n3 p3 from from → Merges places n p n3 p3 from into
-  merges_of {n} {p} {from} {into} {last} {first} {end} is_l is_f is_e before after alone = record {
-    to = λ q. alone.to q ∙ ap (λ z. cond (places.is_place from q) from z)
-        (after.to q ∙ ap (λ z. cond (places.is_place end q) into z) (before.to q ∙ (λ i. set_step places (is_l i) (is_f i) n q)) ∙
-        ap (λ l. set_step places l into (set_step places (p into) (n from) n) q) is_e);
-    back = λ q. alone.back q ∙ ap (λ z. cond (places.is_place from q) from z)
-        (after.back q ∙ ap (λ z. cond (places.is_place into q) end z) (before.back q ∙ (λ i. set_step places (is_f i) (is_l i) p q)) ∙
-        ap (λ l. set_step places into l (set_step places (n from) (p into) p) q) is_e);
-  }
+  merges_of {n} {p} {from} {into} {last} {first} {end} is_l is_f is_e before after alone = search (rules, cond, set_step)
 
 module _ {Place : Type 0} {places : Places Place} (tells : Tells places) where
   -- to take a place off that is on no ring changes nothing

@@ -3,6 +3,7 @@ use Rattle.rx_lists.proofs.Common.{◌≡◌, ◌≢◌, ℕ, zero, suc, ◌≤�
 use Rattle.rx_lists.proofs.Common.{◌⊎◌, arith, true≢false, not, false≢true, Places, Steps, IsLink, Leads, is_among, AreDifferent, without, walk, set_step}
 use Rattle.std.proofs.lemmas.List.{append-nil}
 use Rattle.rx_lists.proofs.Laws.Places.{Tells, place_apart, place_differs, cases_place, among_here, among_there, among_cons, without_none}
+use Rattle.std.proofs.Common.{rules}
 
 -- a place that is next and previous of its own neighbours
 pub record IsRound {Place : Type 0} (n p : Steps Place) (x : Place) : Type 0 where
@@ -155,8 +156,7 @@ module _ {Place : Type 0} {places : Places Place} (tells : Tells places) where
       ((x : Place) → is_among places x xs ≡ true → places.is_end x ≡ false) → length xs ≤ steps → walk places steps n a ≡ xs
   walk_leads zero n p a {xs = []} ends h inner few = refl
   walk_leads zero n p a {xs = x ∷ xs} ends h inner few = absurd (omega arith)
-  walk_leads (suc steps) n p a {xs = []} {e} ends h inner few = ap (λ z. cond (places.is_end z) [] (n a ∷ walk places steps n z)) h.to ∙
-      ap (λ b. cond b [] (n a ∷ walk places steps n e)) ends
+  walk_leads (suc steps) n p a {xs = []} {e} ends h inner few = search (rules, cond, walk)
   walk_leads (suc steps) n p a {xs = x ∷ xs} {e} ends h inner few =
       ap (λ z. cond (places.is_end z) [] (z ∷ walk places steps n z)) h.0.to ∙
       ap (λ b. cond b [] (x ∷ walk places steps n x)) (inner x (among_here tells x xs)) ∙

@@ -2,6 +2,7 @@
 use Rattle.rx_lists.proofs.Common.{◌≡◌, ◌≢◌, ℕ, zero, suc, ◌<◌, ◌≤◌, ◌==◌, ◌&&◌, ◌||◌, cond, Bool, true, false, List, [], ◌∷◌, ◌++◌, length, refl, sym, ap}
 use Rattle.rx_lists.proofs.Common.{subst, ◌∙◌, inl, inr, ◌⊎◌, arith, true≢false, not, and_parts, cases_eq, false≢true, false_from_ne_true, nat_tests, Places}
 use Rattle.rx_lists.proofs.Common.{is_among, AreDifferent, without}
+use Rattle.std.proofs.Common.{rules}
 
 -- the test of places tells them apart
 pub record Tells {Place : Type 0} (places : Places Place) : Type 0 where
@@ -12,11 +13,7 @@ pub record Tells {Place : Type 0} (places : Places Place) : Type 0 where
 pub told_by : {Place : Type 0} (tag number : Place → ℕ) (is_end : Place → Bool) (from : ℕ → ℕ → Place) → ((p : Place) → from (tag p) (number p) ≡ p) →
     Tells (record { is_place = λ p q. (tag p == tag q) && (number p == number q); is_end = is_end })
 told_by tag number is_end from same_from = record {
-  same = λ p q e.
-      let parts = and_parts (tag p == tag q) (number p == number q) e in
-      let tags = eq_of (tag p) (tag q) parts.0 in
-      let numbers = eq_of (number p) (number q) parts.1 in
-      sym (same_from p) ∙ (λ i. from (tags i) (numbers i)) ∙ same_from q;
+  same = search (rules, and_parts);
   self = λ p. (λ i. eq_self (tag p) i && eq_self (number p) i);
 } where
   eq_of : (a b : ℕ) → (a == b) ≡ true → a ≡ b
@@ -31,10 +28,7 @@ or_true false b e = e
 
 module _ {Place : Type 0} {places : Places Place} (tells : Tells places) where
   pub place_apart : (p q : Place) → p ≢ q → places.is_place p q ≡ false
-  place_apart p q apart = of (places.is_place p q) refl where
-    of : (b : Bool) → places.is_place p q ≡ b → b ≡ false
-    of true e = absurd (apart (tells.same p q e))
-    of false e = refl
+  place_apart p q apart = search rules
 
   pub place_differs : (p q : Place) → places.is_place p q ≡ false → p ≢ q
   place_differs p q apart same = true≢false (sym (tells.self p) ∙ ap (places.is_place p) same ∙ apart)
@@ -53,10 +47,7 @@ module _ {Place : Type 0} {places : Places Place} (tells : Tells places) where
 
   -- one of a list is its first or among the rest
   pub among_cons : (p q : Place) (ps : List Place) → is_among places p (q ∷ ps) ≡ true → (p ≡ q) ⊎ (is_among places p ps ≡ true)
-  among_cons p q ps e = of (places.is_place p q) refl e where
-    of : (b : Bool) → places.is_place p q ≡ b → (b || is_among places p ps) ≡ true → (p ≡ q) ⊎ (is_among places p ps ≡ true)
-    of true t e = inl (tells.same p q t)
-    of false t e = inr e
+  among_cons p q ps e = search (rules, is_among)
 
   pub among_append : (p : Place) (ps qs : List Place) → is_among places p (ps ++ qs) ≡ true → (is_among places p ps ≡ true) ⊎ (is_among places p qs ≡ true)
   among_append p [] qs e = inr e

@@ -6,6 +6,7 @@ use Rattle.rx_lists.proofs.Laws.Places.{Tells, place_apart, cases_place, among_h
 use Rattle.rx_lists.proofs.Laws.Places.{without_keeps, different_without, different_append}
 use Rattle.rx_lists.proofs.Laws.Links.{IsRound, LeadsOver, set_same, set_other, round, frame, splice, move_ring, cut_out, first_back, first_among, last_among}
 use Rattle.rx_lists.proofs.Laws.Links.{last_link}
+use Rattle.std.proofs.Common.{rules}
 
 pub some_same : {A : Type 0} (a b : A) → Some a ≡ Some b → a ≡ b
 some_same {A = A} a b e = ap (λ o. of o a) e where
@@ -25,10 +26,7 @@ module _ {Place : Type 0} {places : Places Place} (tells : Tells places) where
       ((q : Place) → e ≢ q → P q (rings q)) →
       (q : Place) → P q (put_ring places e ps rings q)
   by_ring P e ps rings here there q =
-      elim (cases_place tells e q) [
-        | inl same ↦ subst (λ z. P z (put_ring places e ps rings z)) same (subst (λ b. P e (cond b ps (rings e))) (sym (tells.self e)) here)
-        | inr apart ↦ subst (λ b. P q (cond b ps (rings q))) (sym (place_apart tells e q apart)) (there q apart)
-      ]
+      search (rules, cases_place, put_ring, cond, place_apart)
 
   end_apart : (e x : Place) → places.is_end e ≡ true → places.is_end x ≡ false → e ≢ x
   end_apart e x ends inner same = true≢false (sym ends ∙ ap places.is_end same ∙ inner)

@@ -1,6 +1,7 @@
 use Rattle.rx_lists.proofs.Common.{◌≡◌, ◌≤◌, ◌-◌, List, length, vec_capacity, sym, ap, subst, ◌∙◌, Link, Place, link_in, lists_in, IsTiedIn}
 use Rattle.rx_lists.proofs.RingSteps.{tied_more, lists_more}
 use Rattle.rx_lists.proofs.rings.Rings.admit.Goals as goal
+use Rattle.std.proofs.Common.{rules}
 
 -- with other links that are the same for each place
 moved : {ends : List Link} (members ends' members' : List Link) (reserved : List Link) → ends' ≡ ends → reserved ≡ members →
@@ -27,7 +28,4 @@ returns-clause-kept c =
     let lists = lists_more s.ends.items s.members.items 0 c.self.invariant c.grow.new.self.members.items
     (moved s.members.items c.grow.new.self.ends.items c.grow.new.self.members.items c.reserve.new.self.items ends c.reserve.ensures.items
     c.grow.ensures.links) more in
-    rw (← c.self.view_is) (
-    (λ i. lists_in (ends i) c.grow.new.self.members.items (vec_capacity (c.grow.ensures.ends i) - length (ends i))) ∙
-    (λ i. record { lists = lists i; members = length c.grow.new.self.members.items; room = vec_capacity s.ends - length s.ends.items })
-    )
+    search (rules, vec_capacity, length)

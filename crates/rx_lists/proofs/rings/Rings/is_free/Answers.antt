@@ -1,6 +1,7 @@
 use Rattle.rx_lists.proofs.Common.{◌==◌, true≢false, sym, ap, ◌∙◌, Member, false_from_ne_true, is_end}
 use Rattle.rx_lists.proofs.RingsShowLists.{not_itself, eq_is, member_is, stands_on, eq_refl}
 use Rattle.rx_lists.proofs.rings.Rings.is_free.Goals as goal
+use Rattle.std.proofs.Common.{rules}
 
 pub returns-in-Member-clause-free : goal.returns-in-Member-clause-free
 returns-in-Member-clause-free c = let s = c.self.inside.links in rw (← c.self.view_is)
@@ -15,8 +16,7 @@ returns-in-Member-clause-taken c = let s = c.self.inside.links in rw (← c.self
 pub returns-in-Member-clause-stands : goal.returns-in-Member-clause-stands
 returns-in-Member-clause-stands c = let s = c.self.inside.links in rw (← c.self.view_is)
     (λ other. stands_on s.ends.items s.members.items 0 c.self.invariant c.args.member
-    (λ loop. true≢false (sym (eq_refl c.args.member) ∙ ap (λ n. n == c.args.member)
-    (member_is _ _ (sym loop ∙ sym (ap (λ l. l.next) c.link.ensures) ∙ c.in-Member.is)) ∙ other)))
+    (search (rules, true≢false, eq_refl, member_is)))
 
 pub returns-in-End-clause-stands : goal.returns-in-End-clause-stands
 returns-in-End-clause-stands c = let s = c.self.inside.links in rw (← c.self.view_is)

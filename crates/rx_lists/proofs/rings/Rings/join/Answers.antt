@@ -2,6 +2,7 @@ use Rattle.rx_lists.proofs.Common.{ℕ, ◌≡◌, ◌-◌, ◌<◌, false, leng
 use Rattle.rx_lists.proofs.RingsShowLists.{of_lt, last_there, within_ends}
 use Rattle.rx_lists.proofs.RingSteps.{tied_joined, lists_joined}
 use Rattle.rx_lists.proofs.rings.Rings.join.Goals as goal
+use Rattle.std.proofs.Common.{rules}
 
 pub join-requires-clause-end : goal.join-requires-clause-end
 join-requires-clause-end c = let s = c.self.inside.links in
@@ -30,4 +31,4 @@ returns-clause-lists c = let s = c.self.inside.links in let t = c.join.new.self 
     (subst (λ (v : Lists). (k : ℕ) → is_in c.args.member (list_at v k) ≡ false) (sym c.self.view_is) c.requires.free))
 
 pub returns-clause-room : goal.returns-clause-room
-returns-clause-room c = (λ i. c.join.ensures.rest.capacity i - c.join.ensures.rest.ends i) ∙ ap (λ (v : Lists). v.room) c.self.view_is
+returns-clause-room c = search rules

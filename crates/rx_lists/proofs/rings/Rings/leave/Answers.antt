@@ -2,16 +2,13 @@ use Rattle.rx_lists.proofs.Common.{◌-◌, ◌<◌, sym, ap, subst, ◌∙◌, 
 use Rattle.rx_lists.proofs.RingsShowLists.{next_there, previous_there}
 use Rattle.rx_lists.proofs.RingSteps.{tied_left, lists_left}
 use Rattle.rx_lists.proofs.rings.Rings.leave.Goals as goal
+use Rattle.std.proofs.Common.{rules}
 
 pub leave-requires-clause-before : goal.leave-requires-clause-before
-leave-requires-clause-before c = let s = c.self.inside.links in
-    previous_there s.ends.items s.members.items 0 c.self.invariant c.args.member
-    (subst (λ (v : Lists). c.args.member < v.members) (sym c.self.view_is) c.requires.member)
+leave-requires-clause-before c = search (rules, previous_there)
 
 pub leave-requires-clause-after : goal.leave-requires-clause-after
-leave-requires-clause-after c = let s = c.self.inside.links in
-    next_there s.ends.items s.members.items 0 c.self.invariant c.args.member
-    (subst (λ (v : Lists). c.args.member < v.members) (sym c.self.view_is) c.requires.member)
+leave-requires-clause-after c = search (rules, next_there)
 
 pub invariant_of-self : goal.invariant_of-self
 invariant_of-self c = let s = c.self.inside.links in let t = c.leave.new.self in
@@ -24,4 +21,4 @@ returns-clause-lists c = let s = c.self.inside.links in let t = c.leave.new.self
     0 0 c.args.member c.leave.ensures.leaves)
 
 pub returns-clause-room : goal.returns-clause-room
-returns-clause-room c = (λ i. c.leave.ensures.rest.capacity i - c.leave.ensures.rest.ends i) ∙ ap (λ (v : Lists). v.room) c.self.view_is
+returns-clause-room c = search rules
