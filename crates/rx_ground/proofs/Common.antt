@@ -76,7 +76,7 @@ pub use Rattle.rx_hub.specs.{TreeRecords.IsRecordOf, TreeRecords.AreRecordsOf, W
 pub use Rattle.rx_hub.specs.Walk.{stops_over, arrival_at, onward_over, visited_over, IsWalk, arrival, climb_over, onward_by, subscribers_of}
 pub use Rattle.rx_hub.specs.declared.{hub.LastEnd.LastEnd, hub.Published.Published, operators.Due.Due, stop.Reached.Reached}
 pub use Rattle.rx_hub.specs.declared.stop.Stop.TheVariants.{Connection, Delivery, Firing, Projection}
-pub use Rattle.rx_lists.specs.Lists.{Lists, is_in, list_at, take_out, head_of}
+pub use Rattle.rx_slots.specs.Lists.{Lists, is_in, list_at, take_out, head_of}
 pub use Rattle.rx_note.specs.declared.note.Terminal.{Terminal}
 pub use Rattle.rx_register.{proofs.Laws.Fits.told_by_end, specs.Paid.IsPaid, specs.State.Writes, specs.State.State, specs.State.IsPromised}
 pub use Rattle.rx_resource.specs.declared.{Life.TheVariants.Live, Resource.Ghosts}

@@ -3,7 +3,7 @@ use Rattle.std.specs.Prelude.{◌≡◌, ℕ, ◌+◌, ◌<◌, ◌≤◌, true,
 use Rattle.std.specs.Option.{option_map_or}
 use Rattle.rx_slots.specs.Slots.{Slots, entry_at}
 use Rattle.rx_tree.specs.declared.node.ResKey.{ResKey}
-use Rattle.rx_lists.specs.Lists.{Lists, list_at, is_in}
+use Rattle.rx_slots.specs.Lists.{Lists, list_at, is_in}
 
 -- the number of the lease at a slot
 abbrev pub number_in : Slots ResKey → ℕ → ℕ

@@ -3,10 +3,10 @@
 //! RefCountDisposable). How many of each resource are out, the tree counts beside it.
 
 ghost use Rattle.std.specs.Prelude.{◌≡◌, ◌+◌, ◌<◌, ◌≤◌, [], IsOk, Some, None, IfSome, IfNone, IfOk, OnOk, OnSome, option_map, length, is_some, count_by};
-ghost use Rattle.rx_lists.specs.Lists.{list_at};
+ghost use Rattle.rx_slots.specs.Lists.{list_at};
 
 use rx_event::BaseLease;
-use rx_lists::Rings;
+use rx_slots::Rings;
 use rx_slots::{Key, Slots};
 use rx_tree::ResKey;
 use std::alloc::{AllocError, Global};

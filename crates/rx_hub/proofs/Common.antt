@@ -37,7 +37,7 @@ pub use Rattle.rx_hub.specs.Walk.{arrival, arrival_at, visited_over, onward_by, 
 pub use Rattle.rx_hub.specs.Way.{end_of, above_of, stop_of, way, way_within, made_of, onward_of, stop_made, if_merging}
 pub use Rattle.rx_hub.specs.declared.{hub.HubDue.HubDue, hub.LastEnd.LastEnd, hub.Published.Published, operators.Due.Due, route.Frame.Frame, stop.Stop.Stop}
 pub use Rattle.rx_hub.specs.declared.stop.Stop.TheVariants.{Connection, Delivery, Firing, Projection}
-pub use Rattle.rx_lists.specs.Lists.{Lists, list_at, is_in, head_of, take_out}
+pub use Rattle.rx_slots.specs.Lists.{Lists, list_at, is_in, head_of, take_out}
 pub use Rattle.rx_note.specs.declared.note.Terminal.{Terminal}
 pub use Rattle.rx_slots.specs.{Slots.Slots, Slots.find, declared.Key.Key}
 pub use Rattle.rx_tree.proofs.Laws.{Keys.key_is, Keys.some_of, Keys.same_key, Keys.cases_key, Parents.named_parent}

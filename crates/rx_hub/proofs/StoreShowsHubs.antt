@@ -7,7 +7,7 @@ use Rattle.rx_hub.proofs.Common.{Published, Hub, IsPromised, IsFree, AreBelow, A
 use Rattle.rx_hub.proofs.Common.{unsubscribed, without_key, last_from, key_after, ended_never, without_end, Lists, list_at, is_in, take_out, head_of, no_hub}
 use Rattle.rx_hub.proofs.Common.{record_at, key_in, hub_in, hubs_in, IsKept}
 use Rattle.std.proofs.lemmas.List.FromFn.{map-range_with_len_more}
-use Rattle.rx_lists.specs.Lists.{IsPlain, last_from as last_after, after}
+use Rattle.rx_slots.specs.Lists.{IsPlain, last_from as last_after, after}
 use Rattle.rx_hub.specs.Store.{keys_at, store_in}
 
 -- tables ------------------------------------------------------------------------------------------

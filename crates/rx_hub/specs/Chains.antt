@@ -3,7 +3,7 @@ use Rattle.std.specs.Prelude.{◌≡◌, ℕ, ◌+◌, ◌<◌, ◌≤◌, false
 use Rattle.rx_hub.specs.declared.hub.HubDue.{HubDue}
 use Rattle.rx_hub.specs.Due.{connect_of, due_of}
 use Rattle.rx_hub.specs.Hubs.{Hub, Hubs}
-use Rattle.rx_lists.specs.Lists.{Lists, list_at, is_in}
+use Rattle.rx_slots.specs.Lists.{Lists, list_at, is_in}
 
 -- nothing is due at a hub whose index is not on the chain
 abbrev pub IsCalm : (Hub → Option HubDue) → List Hub → Lists → Type 0

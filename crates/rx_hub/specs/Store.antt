@@ -5,7 +5,7 @@ use Rattle.rx_event.specs.declared.event.Mode.TheVariants.{Manual}
 use Rattle.rx_slots.specs.declared.Key.{Key}
 use Rattle.rx_hub.specs.declared.hub.Published.{Published}
 use Rattle.rx_hub.specs.Hubs.{Hub, Hubs, hub_of, Rises}
-use Rattle.rx_lists.specs.Lists.{Lists, list_at}
+use Rattle.rx_slots.specs.Lists.{Lists, list_at}
 
 -- what is read past the last hub
 abbrev pub no_hub : Published

@@ -6,13 +6,13 @@ ghost use Rattle.std.specs.Option.{option_and_then};
 ghost use Rattle.rx_hub.specs.Chains.{IsChain, Notes, Puts};
 ghost use Rattle.rx_hub.specs.Due.{connect_of, due_of};
 ghost use Rattle.rx_hub.specs.Rules.{given_by};
-ghost use Rattle.rx_lists.specs.Lists.{list_at, is_in};
+ghost use Rattle.rx_slots.specs.Lists.{list_at, is_in};
 
 use crate::forcing::{Rule, due_at, next_at};
 use crate::hub::{HubDue, LastEnd, Published};
 use crate::store::Store;
 use rx_event::Mode;
-use rx_lists::Rings;
+use rx_slots::Rings;
 use rx_slots::Key;
 use std::alloc::{AllocError, Global};
 use std::marker::Model;

@@ -1,2 +1,6 @@
 pub mod EntryByNumber
 pub mod OthersKept
+pub mod Places
+pub mod Links
+pub mod Rings
+pub mod JoinsLeavesMerges

@@ -22,6 +22,23 @@
 //! no memory, and a slot is below 2^29: room for more is refused as memory is. A walk over all values,
 //! by [`Slots::slot_count`] or [`Slots::next_key`], takes no memory. Values need not be `Drop`.
 //!
+//! # Lists of slots
+//!
+//! [`Rings`] keeps lists of numbers below a bound, as slots are, each number on one of them at most, by links
+//! in both directions, so that a number leaves its list from anywhere and no call goes over a list. A contract
+//! sees the lists themselves (`specs/Lists.antt`): `lists`, the bound `members`, and `room`, how many lists more
+//! take no memory. `list_at` is one of them, `is_in` says that a number stands on a list, `take_out` is a list
+//! without a number, `head_of`, `last_of` and `after` are its first, its last, and what follows a number.
+//! `IsPlain` is what holds of all lists: no number stands on two, nor twice on one. Only `reserve` and `admit`
+//! ask for memory, and what they refuse changes nothing. A list is in the order of joining.
+//!
+//! Proofs here and above see the rings behind them (`specs/Rings.antt`), over any type of places: a place's next
+//! and previous are `Steps`, `Leads` says which places lie between two, `AreRings` which ring goes over which
+//! places, and `Joins`, `Leaves` and `Merges` what a change writes. A crate that keeps such links in its own
+//! records, as a tree does, cites their laws (`proofs/Laws`).
+//!
+//! # What is not promised
+//!
 //! Not promised: that numbers differ, which is the caller's part, and that there is memory. A store
 //! is `Drop` only where its values are: one of other values can be emptied, but not let go.
 #![tactic(auto)]
@@ -31,10 +48,13 @@ ghost use Rattle.std.specs.Option.{option_copied_mut};
 ghost use Rattle.std.specs.Borrow.{sem};
 
 mod growing;
+mod links;
 mod records;
+mod rings;
 
 use growing::grow;
 pub use records::Records;
+pub use rings::Rings;
 use std::alloc::{AllocError, Global};
 use std::marker::Model;
 use std::mem;

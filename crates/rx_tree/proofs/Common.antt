@@ -12,11 +12,11 @@ pub use Rattle.std.{proofs.lemmas.Option.option_and_then_some, specs.List.filter
 pub use Rattle.rx_event.specs.Marks.{after_child, after_decline, after_inner, after_notifier, after_projection, after_source}
 pub use Rattle.rx_event.specs.declared.{base.BaseNode.BaseNode, base.BaseResource.BaseResource, event.Event.Event}
 pub use Rattle.rx_event.specs.declared.{event.Event.TheVariants.Open, event.Event.TheVariants.Connect, marks.Marks.Marks}
-pub use Rattle.rx_lists.proofs.Laws.JoinsLeavesMerges.{leaves_nothing, leaves_of, joins_of, merges_of}
-pub use Rattle.rx_lists.proofs.Laws.Links.{first_among, last_among, next_in, no_loop, previous_in, set_same, walk_leads}
-pub use Rattle.rx_lists.proofs.Laws.Places.{among_here, among_there, cases_place, without_none, among_cons, place_apart, among_without, or_true, few_places}
-pub use Rattle.rx_lists.proofs.Laws.Rings.{some_same, by_ring, put_ring, rings_joined, rings_left, some_none, merged_rings, rings_merged}
-pub use Rattle.rx_lists.specs.Rings.{is_among, Steps, Joins, Leaves, set_step, without, AreRings, Leads, AreDifferent, IsLink, Merges, PassesBy, walk}
+pub use Rattle.rx_slots.proofs.Laws.JoinsLeavesMerges.{leaves_nothing, leaves_of, joins_of, merges_of}
+pub use Rattle.rx_slots.proofs.Laws.Links.{first_among, last_among, next_in, no_loop, previous_in, set_same, walk_leads}
+pub use Rattle.rx_slots.proofs.Laws.Places.{among_here, among_there, cases_place, without_none, among_cons, place_apart, among_without, or_true, few_places}
+pub use Rattle.rx_slots.proofs.Laws.Rings.{some_same, by_ring, put_ring, rings_joined, rings_left, some_none, merged_rings, rings_merged}
+pub use Rattle.rx_slots.specs.Rings.{is_among, Steps, Joins, Leaves, set_step, without, AreRings, Leads, AreDifferent, IsLink, Merges, PassesBy, walk}
 pub use Rattle.rx_slots.specs.Slots.{find, Slots, entry_at, entry_of, Changes, with_number, value_at, with_value, key_at, with_value_at, KeepsOthers}
 pub use Rattle.rx_slots.specs.Slots.{IsWithin, number_at}
 pub use Rattle.rx_slots.{proofs.Laws.EntryByNumber.find-value_at, proofs.Laws.EntryByNumber.found_there, specs.declared.Entry.Entry, specs.declared.Key.Key}

@@ -5,7 +5,7 @@ use Rattle.rx_tree.proofs.Common.{key_at, Place, Due, Noted, Node, Stowed, Store
 use Rattle.rx_tree.proofs.Common.{is_end, slot_of, places, tells, among_here, without_none, no_loop, first_among, some_none, key_on, project, nodes_of, shown}
 use Rattle.rx_tree.proofs.Common.{resources_of, next_of, previous_of, Relinks, home_of, IsTiedAt, IsTied, IsKept, IsRemarked, is_on, with_last, with_due}
 use Rattle.rx_tree.proofs.Common.{with_marks, first_of, Rewrites, same_key, some_of}
-use Rattle.rx_lists.proofs.Laws.Places.{place_differs}
+use Rattle.rx_slots.proofs.Laws.Places.{place_differs}
 use Rattle.rx_tree.proofs.TieSteps.{tied_links, tied_noted, tied_unnoted}
 use Rattle.rx_tree.proofs.TieRecords.{tied_marked, by_entry, home_stands}
 use Rattle.rx_tree.proofs.Chain.{chain_is, retie, due_is, on_places, places_on, key_on_found}

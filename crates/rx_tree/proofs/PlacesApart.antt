@@ -3,7 +3,7 @@ use Rattle.std.proofs.Common.{◌≡◌, ℕ, ◌==◌, cond, refl}
 use Rattle.rx_tree.specs.declared.links.Place.{Place}
 use Rattle.rx_tree.specs.declared.links.Place.TheVariants.{Roots, Due, Waiting, Children, Held, Sibling, Noted, Stored}
 use Rattle.rx_tree.specs.Places.{tag_of, slot_of, is_end, places}
-use Rattle.rx_lists.proofs.Laws.Places.{Tells, told_by}
+use Rattle.rx_slots.proofs.Laws.Places.{Tells, told_by}
 
 place_from : ℕ → ℕ → Place
 place_from t s = cond (t == 0) Roots

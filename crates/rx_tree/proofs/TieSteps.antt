@@ -3,7 +3,7 @@ use Rattle.rx_tree.proofs.Common.{◌≡◌, ◌≢◌, ℕ, ◌<◌, ◌==◌, 
 use Rattle.rx_tree.proofs.Common.{subst, inl, inr, arith, true≢false, not, false≢true, false_from_ne_true, nat_tests, Slots, entry_at, Place, Roots, Due}
 use Rattle.rx_tree.proofs.Common.{Noted, Node, Stowed, is_among, without, Steps, AreRings, Joins, Leaves, is_place, places, tells, among_here, among_there}
 use Rattle.rx_tree.proofs.Common.{among_cons, among_without, put_ring, by_ring, rings_joined, rings_left, key_on, Rises, is_by_age, home_of, IsTiedAt}
-use Rattle.rx_lists.proofs.Laws.Places.{among_append}
+use Rattle.rx_slots.proofs.Laws.Places.{among_append}
 
 -- the same rings, where each place has the home that it had
 pub rings_same : (n p : Steps Place) (home home' : Place → Option Place) (rings : Place → List Place) → AreRings places n p home rings →

@@ -8,7 +8,7 @@ use Rattle.rx_tree.specs.declared.links.Place.TheVariants.{Waiting, Held}
 use Rattle.rx_tree.specs.declared.node.Node.{Node}
 use Rattle.rx_tree.specs.declared.store.Store.{Store}
 use Rattle.rx_tree.specs.Closing.{Closed, IsInside}
-use Rattle.rx_lists.specs.Rings.{is_among, AreRings}
+use Rattle.rx_slots.specs.Rings.{is_among, AreRings}
 use Rattle.rx_tree.specs.Places.{places}
 use Rattle.rx_tree.specs.Store.{nodes_of, resources_of, next_of, previous_of, shown, Takes_out}
 use Rattle.rx_tree.specs.Ties.{home_of, IsTied}

@@ -2,7 +2,7 @@
 use Rattle.std.specs.Prelude.{ℕ, ◌==◌, Bool, true, false, ◌&&◌}
 use Rattle.rx_tree.specs.declared.links.Place.{Place}
 use Rattle.rx_tree.specs.declared.links.Place.TheVariants.{Roots, Due, Waiting, Children, Held, Sibling, Noted, Stored}
-use Rattle.rx_lists.specs.Rings.{Places}
+use Rattle.rx_slots.specs.Rings.{Places}
 
 -- a place as two numbers
 abbrev pub tag_of : Place → ℕ

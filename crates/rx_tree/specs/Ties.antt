@@ -13,7 +13,7 @@ use Rattle.rx_tree.specs.declared.node.Node.{Node}
 use Rattle.rx_tree.specs.declared.node.Stowed.{Stowed}
 use Rattle.rx_tree.specs.declared.store.Store.{Store}
 use Rattle.rx_tree.specs.Owed.{owed_in}
-use Rattle.rx_lists.specs.Rings.{is_among, Steps, AreRings}
+use Rattle.rx_slots.specs.Rings.{is_among, Steps, AreRings}
 use Rattle.rx_tree.specs.Places.{places}
 use Rattle.rx_tree.specs.Resources.{is_owned, is_lent}
 use Rattle.rx_tree.specs.Store.{key_on, next_of, previous_of, nodes_of, resources_of, held_count_at, KeepsLinks}

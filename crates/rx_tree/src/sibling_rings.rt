@@ -4,7 +4,7 @@
 //! so that what opens or closes a node stays small.
 
 ghost use Rattle.std.specs.Prelude.{◌≡◌, ◌<◌, ◌^◌, IsTrue};
-ghost use Rattle.rx_lists.specs.Rings.{set_step, Joins, PassesBy};
+ghost use Rattle.rx_slots.specs.Rings.{set_step, Joins, PassesBy};
 ghost use Rattle.rx_tree.specs.Places.{places, slot_of};
 ghost use Rattle.rx_tree.specs.Store.{link_at, set_link_at, next_of, previous_of, is_there, Relinks};
 ghost use Rattle.rx_tree.specs.declared.links.Place.TheVariants.{Sibling};

@@ -1,7 +1,7 @@
 //! The records of the nodes and the resources, each with its links, and the rings that the links make.
 
 ghost use Rattle.std.specs.Prelude.{◌≡◌, ◌+◌, ◌<◌, ◌^◌, [], IsTrue};
-ghost use Rattle.rx_lists.specs.Rings.{set_step, Joins, PassesBy, Leaves, Merges};
+ghost use Rattle.rx_slots.specs.Rings.{set_step, Joins, PassesBy, Leaves, Merges};
 ghost use Rattle.rx_tree.specs.Places.{places, slot_of};
 ghost use Rattle.rx_tree.specs.Store.{alone, link_at, set_link_at, next_of, previous_of};
 ghost use Rattle.rx_tree.specs.Store.{is_there, no_counts, count_if, one_more, one_less, Relinks};

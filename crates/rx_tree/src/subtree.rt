@@ -3,7 +3,7 @@
 ghost use Rattle.std.specs.Prelude.{◌≡◌, ◌+◌, ◌<◌, ◌≤◌, ◌^◌, IsSome, IfSome, IsTrue, None, is_some, true, vec_len, vec_capacity};
 ghost use Rattle.rx_slots.specs.Slots.{find, entry_at};
 ghost use Rattle.rx_tree.specs.Cuts.{Descends, LetsWait, CutsLeaf, still_open};
-ghost use Rattle.rx_lists.specs.Rings.{Leaves};
+ghost use Rattle.rx_slots.specs.Rings.{Leaves};
 ghost use Rattle.rx_tree.specs.Places.{places};
 ghost use Rattle.rx_tree.specs.Store.{nodes_of, resources_of, next_of, previous_of, is_there, shown, Relinks, Takes_out};
 ghost use Rattle.rx_tree.specs.Ties.{IsTied, IsCounted};

@@ -1,4 +1,0 @@
-pub mod Places
-pub mod Links
-pub mod Rings
-pub mod JoinsLeavesMerges

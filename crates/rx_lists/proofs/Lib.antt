@@ -1,6 +1,0 @@
-pub mod Common
-pub mod Laws
-mod PlacesApart
-mod TieLemmas
-mod RingsShowLists
-mod RingSteps

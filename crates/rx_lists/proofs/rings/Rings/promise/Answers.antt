@@ -1,5 +1,0 @@
-use Rattle.rx_lists.proofs.RingsShowLists.{plain}
-use Rattle.rx_lists.proofs.rings.Rings.promise.Goals as goal
-
-pub returns : goal.returns
-returns c = rw (← c.self.view_is) (plain _ _ _ c.self.invariant)

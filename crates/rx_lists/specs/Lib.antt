@@ -1,4 +1,0 @@
-pub mod Lists
-pub mod Rings
-pub mod Links
-pub mod Places
