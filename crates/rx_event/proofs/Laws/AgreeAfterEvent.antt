@@ -1,11 +1,11 @@
 -- Two stored histories that agree, followed by one event that may follow, agree again.
 use Rattle.rx_event.proofs.Laws.Common.{◌≡◌, ℕ, ◌+◌, ◌<◌, Bool, true, false, List, [], ◌∷◌, ◌++◌, length, cond, Option, Some, None, refl, sym, ap, ◌∙◌, arith}
 use Rattle.rx_event.proofs.Laws.Common.{inl, inr, ◌⊎◌, slice_get, nat_lt, length-append, subst, ℤ, not, ◌&&◌, ◌||◌, option_and_then, option_map_or}
-use Rattle.rx_event.proofs.Laws.Common.{cases_order, both_ways, and_parts, Event, End, Item, node_of_accept, is_remove_of, is_return_of, is_take_of}
+use Rattle.rx_event.proofs.Laws.Common.{cases_order, both_ways, and_parts, Event, End, Item, is_return_of, is_take_of}
 use Rattle.rx_event.proofs.Laws.Common.{is_use_of, is_open, is_owned, is_out, leases_of, is_held, is_waiting, uses, accepted_by, Kept, resource_kept, Agree}
 use Rattle.rx_event.proofs.Laws.Common.{AreRead, MayFollow, IsLawful, Terminal, is_untaken}
 use Rattle.rx_event.proofs.Laws.Places.{slice_get-append, slice_get_last}
-use Rattle.rx_event.proofs.Laws.Resources.{node_of, held_is, owned_held, is_owned_past, is_owned_new, held_old, is_held_past, is_waiting_past, is_waiting_new}
+use Rattle.rx_event.proofs.Laws.Resources.{held_is, owned_held, is_owned_past, is_owned_new, held_old, is_held_past, is_waiting_past, is_waiting_new}
 use Rattle.rx_event.proofs.Laws.Resources.{is_waiting-unheld}
 use Rattle.rx_event.proofs.Laws.Leases.{is_out-push, is_out_last, is_out_past, is_leased-counted, leases_of_same}
 use Rattle.rx_event.proofs.Laws.Totals.{item_count-push, accepted_count-push, taken_count-push, uses-push, uses_past}
@@ -17,6 +17,7 @@ use Rattle.rx_event.proofs.Laws.SameForcedAndAllowed.{reads_of}
 use Rattle.rx_event.proofs.Laws.Sound.{sound_of, owned-push, node_open}
 use Rattle.rx_event.proofs.Laws.Lawful.{IsLawful-push, shown_within, may_end}
 use Rattle.rx_event.proofs.Laws.Steps.{may_name, may_emit}
+use Rattle.std.proofs.Common.{rules}
 
 pub ends : (b : Kept) (h : List Event) (e : Event) → MayFollow b h e → (n : ℕ) (t : Terminal) → e ≡ End n t → is_open h n ≡ true
 ends b h e next n t same = may_end b (subst (λ x. MayFollow b h x) same next)
@@ -55,20 +56,7 @@ module _ (b : Kept) (h : List Event) (c : Kept) (k : List Event) (e : Event) (la
   node_on (Some n) = pushed.same_open n
 
   owned_on : (r : ℕ) → is_owned (h ++ e ∷ []) r ≡ is_owned (k ++ e ∷ []) r
-  owned_on r = by_place (cases_order r (length h)) where
-    by_owned : (x : Bool) → is_owned h r ≡ x → (x && (node_open (h ++ e ∷ []) h r && not (is_remove_of r e))) ≡
-        (x && (node_open (k ++ e ∷ []) k r && not (is_remove_of r e)))
-    by_owned false owned = refl
-    by_owned true owned = ap (λ x. x && not (is_remove_of r e)) (node_on (node_of h r) ∙ ap
-        (λ o. option_map_or (is_open (k ++ e ∷ [])) (option_and_then node_of_accept o) false) (owned_made r owned))
-
-    by_place : (r ≡ length h) ⊎ ((r < length h) ⊎ (length h < r)) → is_owned (h ++ e ∷ []) r ≡ is_owned (k ++ e ∷ []) r
-    by_place (inl last) = ap (is_owned (h ++ e ∷ [])) last ∙ is_owned_new b h e law next ∙ sym
-        (ap (is_owned (k ++ e ∷ [])) (long_k r last) ∙ is_owned_new c k e law_k next_k)
-    by_place (inr (inl l)) = owned-push b h e law r l ∙ by_owned (is_owned h r) refl ∙ ap (λ x. x &&
-        (node_open (k ++ e ∷ []) k r && not (is_remove_of r e))) (a.owned r) ∙ sym (owned-push c k e law_k r (in_k r l))
-    by_place (inr (inr l)) = is_owned_past (h ++ e ∷ []) r (omega (arith, length-append h (e ∷ []))) ∙ sym
-        (is_owned_past (k ++ e ∷ []) r (let q = a.same_length in omega (arith, length-append k (e ∷ []))))
+  owned_on r = search (rules, cases_order, length, node_open, not, node_on, option_map_or, option_and_then, owned_made, is_owned_new, long_k, owned-push, in_k, is_owned_past, length-append)
 
   out_on : (l : ℕ) → is_out (h ++ e ∷ []) l ≡ is_out (k ++ e ∷ []) l
   out_on l = by_place (cases_order l (length h)) where
@@ -98,17 +86,7 @@ module _ (b : Kept) (h : List Event) (c : Kept) (k : List Event) (e : Event) (la
       sym (held_is (k ++ e ∷ []) r)
 
   waiting_on : (r : ℕ) → is_waiting (h ++ e ∷ []) r ≡ is_waiting (k ++ e ∷ []) r
-  waiting_on r = by_place (cases_order r (length h)) where
-    by_place : (r ≡ length h) ⊎ ((r < length h) ⊎ (length h < r)) → is_waiting (h ++ e ∷ []) r ≡ is_waiting (k ++ e ∷ []) r
-    by_place (inl last) =
-        ap (is_waiting (h ++ e ∷ [])) last ∙
-        is_waiting_new b h e law next ∙
-        sym (ap (is_waiting (k ++ e ∷ [])) (long_k r last) ∙ is_waiting_new c k e law_k next_k)
-    by_place (inr (inl l)) = is_waiting-unheld b h e law next r l ∙ (λ i. (a.waiting r i || (a.held r i && not (held_on r i))) && not (is_take_of r e)) ∙
-        sym (is_waiting-unheld c k e law_k next_k r (in_k r l))
-    by_place (inr (inr l)) =
-        is_waiting_past (h ++ e ∷ []) r (omega (arith, length-append h (e ∷ []))) ∙
-        sym (is_waiting_past (k ++ e ∷ []) r (let q = a.same_length in omega (arith, length-append k (e ∷ []))))
+  waiting_on r = search (rules, cases_order, length, is_waiting_new, long_k, is_waiting-unheld, not, held_on, in_k, is_waiting_past, length-append)
 
   untaken_old : (r : ℕ) → r < length h → is_untaken (h ++ e ∷ []) r ≡ true → is_untaken h r ≡ true
   untaken_old r l untaken =

@@ -1,9 +1,9 @@
 -- Two courses of what is forced after one history come to the same, but for the places of ends and closings.
 use Rattle.rx_event.proofs.Laws.Common.{◌≡◌, ℕ, ◌<◌, ◌≤◌, Bool, true, false, List, [], ◌∷◌, ◌++◌, length, Option, Some, None, cond, slice_get, refl, sym, ap}
-use Rattle.rx_event.proofs.Laws.Common.{subst, ◌∙◌, inl, inr, ◌⊎◌, ◌==◌, nat_lt, arith, filter, append-nil, length-append, ◌+◌, ◌-◌, not, ◌&&◌, ◌||◌}
+use Rattle.rx_event.proofs.Laws.Common.{subst, ◌∙◌, inl, inr, ◌⊎◌, ◌==◌, nat_lt, arith, filter, append-nil, length-append, ◌+◌, ◌-◌, not, ◌&&◌}
 use Rattle.rx_event.proofs.Laws.Common.{list_any, count_by, option_and_then, option_map_or, both_ways, false≢true, eqb-true, false_from_ne_true}
-use Rattle.rx_event.proofs.Laws.Common.{slice_get_within, same_Some, none-some, Terminal, Kept, shown, resource_kept, Root, Event, Open, Connect, End, Close}
-use Rattle.rx_event.proofs.Laws.Common.{makes_node, makes_resource, makes_lease, node_of_accept, is_root, is_remove_of, is_return_of, is_take_of, is_use_of}
+use Rattle.rx_event.proofs.Laws.Common.{slice_get_within, same_Some, none-some, Terminal, Kept, shown, resource_kept, Event, Connect, End, Close}
+use Rattle.rx_event.proofs.Laws.Common.{makes_node, makes_resource, node_of_accept, is_root, is_remove_of, is_use_of}
 use Rattle.rx_event.proofs.Laws.Common.{is_connect_of, is_subscriber_of, at, places, parent, ancestors, is_open, is_within, open_nodes, is_owned, is_out}
 use Rattle.rx_event.proofs.Laws.Common.{leases_of, is_held, is_taken, is_waiting, waiting_resources, uses, mail_of, IsDue, IsConnected, IsSettled, stays}
 use Rattle.rx_event.proofs.Laws.Common.{more, IsLawful, IsForcedOn, and_false, and_true, length-filter, is_lease_of, is_take, held_resources, notes_to}
@@ -26,6 +26,7 @@ use Rattle.rx_event.proofs.Laws.ClosedInEveryCourse.{same_open, spared}
 use Rattle.rx_event.proofs.Laws.SameMarks.{marks_both}
 use Rattle.rx_event.proofs.Laws.Starts.{StartAlike, BeginsWith, begins_with, starts_with, start_alike, lawful_begun}
 use Rattle.rx_event.proofs.Laws.Lawful.{shown_within}
+use Rattle.std.proofs.Common.{rules}
 
 -- notes ------------------------------------------------------------------------------------------------------
 
@@ -35,12 +36,7 @@ root_fails = record { at_end = λ c t. refl; at_close = λ c. refl }
 -- a root stands below nothing
 root_alone : (h : List Event) (n : ℕ) → at is_root h n ≡ true → ancestors h n ≡ n ∷ []
 unfolding parent
-root_alone h n root = by_event (slice_get h n) refl root where
-  by_event : (o : Option Event) → slice_get h n ≡ o → option_map_or is_root o false ≡ true → ancestors h n ≡ n ∷ []
-  by_event None at_n root = absurd (false≢true root)
-  by_event (Some (Open Root kind)) at_n root = ancestors_step h n ∙ rw at_n refl
-  by_event (Some (Open place kind)) at_n root = absurd (false≢true root)
-  by_event (Some _) at_n root = absurd (false≢true root)
+root_alone h n root = search (rules, slice_get, option_map_or, false≢true, ancestors_step)
 
 -- what n was told since b: nothing, or as a root its end
 data Tells (base : Kept) (b k : List Event) (n : ℕ) : Type 0 where
@@ -130,11 +126,7 @@ plain (Some e) = cond (is_closing e) None (Some e)
 plain None = None
 
 plain_back : (o : Option Event) (e : Event) → plain o ≡ Some e → o ≡ Some e
-plain_back None e same = absurd (none-some e same)
-plain_back (Some x) e same = by_test (is_closing x) same where
-  by_test : (a : Bool) → cond {A = Option Event} a None (Some x) ≡ Some e → Some x ≡ Some e
-  by_test true same = absurd (none-some e same)
-  by_test false same = same
+plain_back x0 e same = search (rules, none-some, cond)
 
 module _ (base : Kept) (b k j : List Event) (law : IsLawful base b) (whole : IsConnected b) (on_k : IsDueOn base b k) (settled_k : IsSettled base k)
     (on_j : IsDueOn base b j)
@@ -171,8 +163,7 @@ module _ (base : Kept) (b k j : List Event) (law : IsLawful base b) (whole : IsC
   -- leases are neither ended nor closed
   out_both : (l : ℕ) → is_out k l ≡ is_out j l
   unfolding is_out
-  out_both l = λ i. at_both makes_lease (record { at_end = λ c t. refl; at_close = λ c. refl }) l i && not
-      (any_both (is_return_of l) (record { at_end = λ c t. refl; at_close = λ c. refl }) i)
+  out_both l = search (rules, at_both, not, any_both)
 
   leases_both : (r : ℕ) → leases_of k r ≡ leases_of j r
   unfolding leases_of
@@ -186,17 +177,16 @@ module _ (base : Kept) (b k j : List Event) (law : IsLawful base b) (whole : IsC
 
   held_both : (r : ℕ) → is_held k r ≡ is_held j r
   unfolding is_held
-  held_both r = λ i. owned_both r i || (at_both makes_resource (record { at_end = λ c t. refl; at_close = λ c. refl }) r i && nat_lt 0 (leases_both r i))
+  held_both r = search (rules, owned_both, at_both, nat_lt, leases_both)
 
   taken_both : (r : ℕ) → is_taken k r ≡ is_taken j r
   unfolding is_taken
   taken_both r =
-      λ i. at_both makes_resource (record { at_end = λ c t. refl; at_close = λ c. refl }) r i &&
-      any_both (is_take_of r) (record { at_end = λ c t. refl; at_close = λ c. refl }) i
+      search (rules, at_both, any_both)
 
   waiting_both : (r : ℕ) → is_waiting k r ≡ is_waiting j r
   unfolding is_waiting
-  waiting_both r = λ i. at_both makes_resource (record { at_end = λ c t. refl; at_close = λ c. refl }) r i && not (held_both r i) && not (taken_both r i)
+  waiting_both r = search (rules, at_both, not, held_both, taken_both)
 
   uses_both : (r : ℕ) → uses base k r ≡ uses base j r
   unfolding uses
@@ -213,16 +203,16 @@ module _ (base : Kept) (b k j : List Event) (law : IsLawful base b) (whole : IsC
   nodes_both = same_filter (is_open k) (is_open j) (length k) (length j) opens (is_open_past k) (is_open_past j)
 
   all_held : held_resources k ≡ held_resources j
-  all_held = same_filter (is_held k) (is_held j) (length k) (length j) held_both (is_held_past k) (is_held_past j)
+  all_held = search (rules, same_filter, length, held_both, is_held_past)
 
   all_owned : filter (is_owned k) (places k) ≡ filter (is_owned j) (places j)
-  all_owned = same_filter (is_owned k) (is_owned j) (length k) (length j) owned_both (is_owned_past k) (is_owned_past j)
+  all_owned = search (rules, same_filter, length, owned_both, is_owned_past)
 
   all_out : leases_out k ≡ leases_out j
   all_out = same_filter (is_out k) (is_out j) (length k) (length j) out_both (is_out_past k) (is_out_past j)
 
   all_waiting : waiting_resources k ≡ waiting_resources j
-  all_waiting = same_filter (is_waiting k) (is_waiting j) (length k) (length j) waiting_both (is_waiting_past k) (is_waiting_past j)
+  all_waiting = search (rules, same_filter, length, waiting_both, is_waiting_past)
 
   alike : AreAlike base k j
   alike = record {
@@ -303,7 +293,7 @@ ends_after base s {q = q} on n i t l at_i = by_place (end_stands base on s.law s
 -- nothing stands past the end
 nothing_past : (b k : List Event) (i : ℕ) (x : Event) → k ≡ b → length b ≤ i → slice_get k i ≡ Some x → ⊥
 nothing_past b k i x same l at_i =
-    let w : i < length b = slice_get_within b i x (ap (λ (q : List Event). slice_get q i) (sym same) ∙ at_i) in omega arith
+    search (rules, length, slice_get_within, slice_get)
 
 -- all ends of two courses are alike
 pub one_terminal : {base : Kept} {b k j : List Event} → IsLawful base b → IsForcedOn base b k → IsForcedOn base b j → {t u : Terminal} →
@@ -330,9 +320,7 @@ connects_first {base} {b} {k} law on c {g} l at_c = by_first (begins_with base o
 closed_forced : (base : Kept) → {b k : List Event} → IsForcedOn base b k → (n : ℕ) → n < length b → is_open b n ≡ false → (n < length k) × (is_open k n ≡ false)
 closed_forced base stays n l closed = (l, closed)
 closed_forced base (more {k = k} {e = e} on f) n l closed =
-    let before : (n < length k) × (is_open k n ≡ false) = closed_forced base on n l closed in
-    let within : n < length k = before.0 in
-    ((let w = within in omega (arith, length-append k (e ∷ []))), stays_closed k e n within before.1)
+    search (rules, length, length-append, stays_closed, closed_forced base on n l closed)
 
 -- what one course has closed so far, another has closed in the end
 pub closed_in_both : {base : Kept} {b p k : List Event} → IsLawful base b → IsForcedOn base b p → IsForcedOn base b k → IsSettled base k → (n : ℕ) →

@@ -3,7 +3,7 @@ use Rattle.rx_event.proofs.Laws.Common.{◌≡◌, ℕ, suc, ◌+◌, ◌-◌, �
 use Rattle.rx_event.proofs.Laws.Common.{ap, ◌∙◌, arith, inl, inr, ◌⊎◌, slice_get, nat_lt, not, ◌&&◌, ◌||◌, list_any, option_and_then, option_map_or}
 use Rattle.rx_event.proofs.Laws.Common.{cases_Bool, cases_lt, both_ways, false≢true, and_parts, eqb-true, slice_get_past, slice_get_within, none-some}
 use Rattle.rx_event.proofs.Laws.Common.{same_Some, sum_by-cons, Terminal, Completed, Error, Place, Leaf, Sub, IsInOrderAt, Root, Source, Inner, Notifier}
-use Rattle.rx_event.proofs.Laws.Common.{Event, Open, Hub, Connect, Accept, Use, Lease, Item, End, Close, has_source, is_merging, is_until, makes_node}
+use Rattle.rx_event.proofs.Laws.Common.{Event, Open, Hub, Connect, Accept, Lease, Item, End, Close, has_source, is_merging, is_until, makes_node}
 use Rattle.rx_event.proofs.Laws.Common.{makes_hub, makes_resource, makes_lease, parent_named, node_of_accept, is_source_of, is_inner_of, is_switch}
 use Rattle.rx_event.proofs.Laws.Common.{is_remove_of, is_return_of, is_take_of, is_use_of, pays, at, is_open, is_owned, is_out, leases_of, is_held, is_taken}
 use Rattle.rx_event.proofs.Laws.Common.{is_waiting, uses, accepted_by, Stop, Moment, moments, moments_after, is_projection_to, stops_of, projections}
@@ -16,10 +16,7 @@ use Rattle.rx_event.proofs.Laws.SameForcedAndAllowed.{hub_is, in_order_too}
 use Rattle.rx_event.specs.Events.{is_item, is_making}
 use Rattle.rx_event.specs.Moments.{projected_by}
 use Rattle.rx_event.specs.Totals.{item_count}
-use Rattle.rx_event.specs.declared.base.BaseResource.{BaseResource}
-use Rattle.rx_event.specs.declared.base.BaseLease.{BaseLease}
-use Rattle.rx_event.specs.declared.base.BaseState.TheVariants.{Owned, Leased, Waiting}
-use Rattle.rx_event.specs.Kept.{hub_kept, lease_kept, node_shown, resource_shown, lease_shown}
+use Rattle.rx_event.specs.Kept.{lease_kept, resource_shown, lease_shown}
 use Rattle.rx_event.specs.Bases.{keep_hub, keep_resource, keep_lease, lease_resource, accept_node, accept_tag}
 use Rattle.rx_event.proofs.Laws.SoundForm.{StandsWell, SubscribesWell, TwoOpenInners, Sound}
 use Rattle.rx_event.proofs.Laws.Searches.{list_any_found, list_any_holds}
@@ -41,21 +38,15 @@ use Rattle.rx_event.proofs.Laws.Bases.{found, node_of_base, hub_of_base, shown_g
 use Rattle.rx_event.proofs.Laws.Bases.{base_alike}
 use Rattle.rx_event.proofs.Laws.Sound.{count_none, sound_of}
 use Rattle.rx_event.proofs.Laws.MakingRemovesNothing.{made_unremoved, made_unreturned, made_untaken, made_unfired}
+use Rattle.std.proofs.Common.{rules}
 
 pub resource_of_base : (b : Kept) (h : List Event) (r : ℕ) → resource_kept (base_of b h) r ≡ cond (is_untaken h r) (Some (keep_resource b h r)) None
 unfolding base_of
-resource_of_base b h = found (λ (k : BaseResource). k.number) (keep_resource b h) (λ r. refl) (is_untaken h) (length h) within where
-  by_tests : (r : ℕ) (x y : Bool) → is_held h r ≡ x → is_waiting h r ≡ y → (x || y) ≡ true → r < length h
-  by_tests r true y held waits some = is_held_within h r held
-  by_tests r false true held waits some = is_waiting_within h r waits
-  by_tests r false false held waits some = absurd (false≢true some)
-
-  within : (r : ℕ) → is_untaken h r ≡ true → r < length h
-  within r untaken = by_tests r (is_held h r) (is_waiting h r) refl refl untaken
+resource_of_base b h = search (rules, found, length, is_held_within, is_waiting_within, false≢true)
 
 lease_of_base : (b : Kept) (h : List Event) (l : ℕ) → lease_kept (base_of b h) l ≡ cond (is_out h l) (Some (keep_lease h l)) None
 unfolding base_of
-lease_of_base b h = found (λ (k : BaseLease). k.number) (keep_lease h) (λ l. refl) (is_out h) (length h) (is_out_within h)
+lease_of_base b h = search (rules, found, length, is_out_within)
 
 waiting_is : (h : List Event) (r : ℕ) → is_waiting h r ≡ ((at makes_resource h r && not (is_held h r)) && not (is_taken h r))
 unfolding is_waiting
@@ -94,8 +85,7 @@ leaf_of _ = None
 -- lists without items -------------------------------------------------------------------------------
 
 no_stops : (before : List Event) (x : Event) → leaf_of x ≡ None → stops_of before x ≡ []
-no_stops before (Item l v) none = absurd (none-some l (sym none))
-no_stops before _ none = refl
+no_stops before x1 none = search (rules, none-some)
 
 itemless_sum : (f : List Stop → ℕ) → f [] ≡ 0 → (before xs : List Event) → ((i : ℕ) (x : Event) → slice_get xs i ≡ Some x → leaf_of x ≡ None) →
     sum_by (λ (m : Moment). f (stops_of m.before m.event)) (moments_after before xs) ≡ 0
@@ -113,11 +103,7 @@ itemless_projections xs none f = itemless_sum (count_by (is_projection_to f)) re
 -- what a base shows -----------------------------------------------------------------------------------
 
 inert_making : (m : ℕ) (x : Event) → is_inert m x ≡ true → is_making x ≡ true
-inert_making m (Hub mode) i = refl
-inert_making m (Accept n tag) i = refl
-inert_making m (Lease r) i = refl
-inert_making m (Close c) i = refl
-inert_making m _ i = absurd (false≢true i)
+inert_making m x1 i = search (rules, false≢true)
 
 node_making : (x : Event) → makes_node x ≡ true → is_making x ≡ true
 node_making x i = grind arith
@@ -131,9 +117,7 @@ module _ (b : Kept) (h : List Event) where
 
   -- no test that only other events pass holds
   s_none : (t : Event → Bool) → ((x : Event) → is_making x ≡ true → t x ≡ false) → list_any t (shown (base_of b h)) ≡ false
-  s_none t fails = never (list_any t (shown (base_of b h))) (λ some.
-      let place = list_any_found t (shown (base_of b h)) some in
-      both_ways _ (fails place.1 (s_making place.0 place.1 place.2)) place.3)
+  s_none t fails = search (rules, never, list_any, list_any_found, both_ways, s_making)
 
   s_count : (t : Event → Bool) → ((x : Event) → is_making x ≡ true → t x ≡ false) → count_by t (shown (base_of b h)) ≡ 0
   s_count t fails = count_none t (shown (base_of b h)) (λ i x at_i. fails x (s_making i x at_i))
@@ -150,67 +134,27 @@ module _ (b : Kept) (h : List Event) where
       slice_get (shown (base_of b h)) r ≡ Some (option_map_or (resource_shown r) (cond (is_untaken h r) (Some (keep_resource b h r)) None)
       (lease_shown (base_of b h) r))
   s_resource r l closed no_hub =
-      shown_get (base_of b h) r (rw (base_length b h) l) ∙
-      ap (λ k. Some (option_map_or (λ x. x.made) k (option_map_or (λ x. Hub x.mode) (hub_kept (base_of b h) r)
-      (option_map_or (resource_shown r) (resource_kept (base_of b h) r) (lease_shown (base_of b h) r)))))
-      (node_of_base b h r ∙ ap (λ c. cond c (Some (keep_node b h r)) None) closed) ∙
-      ap (λ k. Some (option_map_or (λ x. Hub x.mode) k (option_map_or (resource_shown r) (resource_kept (base_of b h) r) (lease_shown (base_of b h) r))))
-      (hub_of_base b h r ∙ ap (λ c. cond c (Some (keep_hub h r)) None) no_hub) ∙
-      ap (λ k. Some (option_map_or (resource_shown r) k (lease_shown (base_of b h) r))) (resource_of_base b h r)
+      search (rules, shown_get, base_length, option_map_or, node_of_base, cond, hub_of_base, resource_of_base)
 
   -- the place of a hub
   s_hub : (g : ℕ) → g < length h → is_open h g ≡ false → at makes_hub h g ≡ true → slice_get (shown (base_of b h)) g ≡ Some (Hub (keep_hub h g).mode)
   s_hub g l closed hub =
-      shown_get (base_of b h) g (rw (base_length b h) l) ∙
-      ap (λ k. Some (option_map_or (λ x. x.made) k (option_map_or (λ x. Hub x.mode) (hub_kept (base_of b h) g)
-      (option_map_or (resource_shown g) (resource_kept (base_of b h) g) (lease_shown (base_of b h) g)))))
-      (node_of_base b h g ∙ ap (λ c. cond c (Some (keep_node b h g)) None) closed) ∙
-      ap (λ k. Some (option_map_or (λ x. Hub x.mode) k (option_map_or (resource_shown g) (resource_kept (base_of b h) g) (lease_shown (base_of b h) g))))
-      (hub_of_base b h g ∙ ap (λ c. cond c (Some (keep_hub h g)) None) hub)
+      search (rules, shown_get, base_length, option_map_or, node_of_base, cond, hub_of_base)
 
   resource_closed : (r : ℕ) → at makes_resource h r ≡ true → (is_open h r ≡ false) × (at makes_hub h r ≡ false)
-  resource_closed r makes = (never (is_open h r) (λ o. clash (slice_get h r) makes (open_node h r o)), no_hub (slice_get h r) makes) where
-    both_made : (x : Event) → makes_resource x ≡ true → makes_node x ≡ true → ⊥
-    both_made (Accept n tag) is node = false≢true node
-    both_made (Open place kind) is node = false≢true is
-    both_made _ is node = false≢true is
-
-    clash : (o : Option Event) → option_map_or makes_resource o false ≡ true → option_map_or makes_node o false ≡ true → ⊥
-    clash None is node = false≢true is
-    clash (Some x) is node = both_made x is node
-
-    no_hub : (o : Option Event) → option_map_or makes_resource o false ≡ true → option_map_or makes_hub o false ≡ false
-    no_hub o is = grind arith
+  resource_closed r makes = search (rules, never, slice_get, open_node, Accept, false≢true, option_map_or)
 
   accepted_some : (r : ℕ) → at makes_resource h r ≡ true →
       accepted_by b h r ≡ Some (Accept (option_map_or accept_node (accepted_by b h r) 0) (option_map_or accept_tag (accepted_by b h r) 0))
-  accepted_some r makes = by_record (resource_kept b r) where
-    in_place : (o : Option Event) → option_map_or makes_resource o false ≡ true →
-        o ≡ Some (Accept (option_map_or accept_node o 0) (option_map_or accept_tag o 0))
-    in_place o is = grind arith
-
-    by_record : (k : Option BaseResource) → option_map_or (λ x. Some (Accept x.node x.tag)) k (slice_get h r) ≡
-        Some (Accept (option_map_or accept_node (option_map_or (λ x. Some (Accept x.node x.tag)) k (slice_get h r)) 0)
-        (option_map_or accept_tag (option_map_or (λ x. Some (Accept x.node x.tag)) k (slice_get h r)) 0))
-    by_record None = in_place (slice_get h r) makes
-    by_record (Some k) = refl
+  accepted_some r makes = search (rules, option_map_or, Accept, slice_get)
 
   -- an owned one
   pub s_owned : Sound b h → (r : ℕ) → is_owned h r ≡ true → slice_get (shown (base_of b h)) r ≡ slice_get h r
   s_owned sound r owned =
-      let held = owned_held h r owned in
-      let makes = held_resource h r held in
-      let no = resource_closed r makes in
-      s_resource r (is_held_within h r held) no.0 no.1 ∙
-      ap (λ c. Some (option_map_or (resource_shown r) (cond (c || is_waiting h r) (Some (keep_resource b h r)) None) (lease_shown (base_of b h) r))) held ∙
-      ap (λ c. Some (Accept (node_shown r (keep_resource b h r).node (cond c Owned (cond (is_held h r) Leased Waiting))) (keep_resource b h r).tag)) owned ∙
-      sym (accepted_some r makes) ∙ sound.accepted r owned
+      search (rules, owned_held, held_resource, resource_closed, s_resource, is_held_within, option_map_or, cond, Accept, accepted_some)
 
   untaken_made : (r : ℕ) → is_untaken h r ≡ true → at makes_resource h r ≡ true
-  untaken_made r untaken = by_state (is_held h r) refl untaken where
-    by_state : (x : Bool) → is_held h r ≡ x → (x || is_waiting h r) ≡ true → at makes_resource h r ≡ true
-    by_state true held some = held_resource h r held
-    by_state false held waits = (waiting_parts h r waits).0
+  untaken_made r untaken = search (rules, held_resource, waiting_parts)
 
   untaken_within : (r : ℕ) → is_untaken h r ≡ true → r < length h
   untaken_within r untaken = at_within makes_resource h r (untaken_made r untaken)
@@ -218,51 +162,15 @@ module _ (b : Kept) (h : List Event) where
   -- one that leases alone hold, or that waits
   pub s_unowned : (r : ℕ) → is_untaken h r ≡ true → is_owned h r ≡ false → slice_get (shown (base_of b h)) r ≡ Some (Accept r (keep_resource b h r).tag)
   s_unowned r untaken free =
-      let no = resource_closed r (untaken_made r untaken) in
-      s_resource r (untaken_within r untaken) no.0 no.1 ∙
-      ap (λ c. Some (option_map_or (resource_shown r) (cond c (Some (keep_resource b h r)) None) (lease_shown (base_of b h) r))) untaken ∙
-      ap (λ m. Some (Accept m (keep_resource b h r).tag)) (ap (λ c. node_shown r (keep_resource b h r).node
-      (cond c Owned (cond (is_held h r) Leased Waiting))) free ∙ itself (is_held h r))
-    where
-      itself : (c : Bool) → node_shown r (keep_resource b h r).node (cond c Leased Waiting) ≡ r
-      itself true = refl
-      itself false = refl
+      search (rules, resource_closed, untaken_made, s_resource, untaken_within, option_map_or, cond, Accept)
 
   -- else none
   pub s_no_resource : (r : ℕ) → is_untaken h r ≡ false → at makes_resource (shown (base_of b h)) r ≡ false
-  s_no_resource r none = by_place (cases_lt r (length h)) where
-    by_event : (o : Option Event) → option_map_or makes_node o false ≡ true → option_map_or makes_resource o false ≡ false
-    by_event o is = grind arith
-
-    no_lease : (o : Option BaseLease) → makes_resource (option_map_or (λ k. Lease k.resource) o (Close r)) ≡ false
-    no_lease None = refl
-    no_lease (Some k) = refl
-
-    is_hub_there : at makes_hub h r ≡ true → is_open h r ≡ false → r < length h → at makes_resource (shown (base_of b h)) r ≡ false
-    is_hub_there hub closed l = ap (λ o. option_map_or makes_resource o false) (s_hub r l closed hub)
-
-    by_tests : r < length h → (is_open h r ≡ true) ⊎ (is_open h r ≡ false) → (at makes_hub h r ≡ true) ⊎ (at makes_hub h r ≡ false) →
-        at makes_resource (shown (base_of b h)) r ≡ false
-    by_tests l (inl o) hub = ap (λ x. option_map_or makes_resource x false) (kept_open b h r o) ∙ by_event (slice_get h r) (open_node h r o)
-    by_tests l (inr closed) (inl hub) = is_hub_there hub closed l
-    by_tests l (inr closed) (inr plain) =
-        ap (λ o. option_map_or makes_resource o false) (s_resource r l closed plain ∙ ap (λ c. Some
-        (option_map_or (resource_shown r) (cond c (Some (keep_resource b h r)) None) (lease_shown (base_of b h) r))) none) ∙ no_lease
-        (lease_kept (base_of b h) r)
-
-    by_place : (r < length h) ⊎ (length h ≤ r) → at makes_resource (shown (base_of b h)) r ≡ false
-    by_place (inl l) = by_tests l (cases_Bool (is_open h r)) (cases_Bool (at makes_hub h r))
-    by_place (inr past) = ap (λ o. option_map_or makes_resource o false) (slice_get_past (shown (base_of b h)) r (rw (length_base b h) past))
+  s_no_resource r none = search (rules, cases_lt, length, option_map_or, s_hub, kept_open, slice_get, open_node, s_resource, cond, cases_Bool, slice_get_past, length_base)
 
   -- the place of a lease that is out: itself
   lease_apart : (l : ℕ) → at makes_lease h l ≡ true → (at makes_node h l ≡ false) × (at makes_hub h l ≡ false) × (at makes_resource h l ≡ false)
-  lease_apart l = by_event (slice_get h l) where
-    by_event : (o : Option Event) → option_map_or makes_lease o false ≡ true → (option_map_or makes_node o false ≡ false) ×
-        (option_map_or makes_hub o false ≡ false) × (option_map_or makes_resource o false ≡ false)
-    by_event None is = absurd (false≢true is)
-    by_event (Some (Lease r)) is = (refl, refl, refl)
-    by_event (Some (Open place kind)) is = absurd (false≢true is)
-    by_event (Some _) is = absurd (false≢true is)
+  lease_apart l = search (rules, slice_get, option_map_or, false≢true)
 
   lease_is : (o : Option Event) (l : ℕ) → option_map_or makes_lease o false ≡ true → o ≡ Some (Lease (lease_resource (option_map_or (λ e. e) o (Close l))))
   lease_is o l is = grind arith
@@ -271,46 +179,14 @@ module _ (b : Kept) (h : List Event) where
   s_other : (l : ℕ) → l < length h → is_open h l ≡ false → at makes_hub h l ≡ false → is_untaken h l ≡ false → slice_get (shown (base_of b h)) l ≡ Some
       (lease_shown (base_of b h) l)
   s_other l less closed no_hub none =
-      s_resource l less closed no_hub ∙ ap (λ c. Some (option_map_or (resource_shown l) (cond c (Some (keep_resource b h l)) None)
-      (lease_shown (base_of b h) l))) none
+      search (rules, s_resource, option_map_or, cond)
 
   pub s_lease : (l : ℕ) → is_out h l ≡ true → slice_get (shown (base_of b h)) l ≡ slice_get h l
   s_lease l out =
-      let made = out_lease h l out in
-      let no = lease_apart l made in
-      s_other l (is_out_within h l out) (never (is_open h l) (λ o. both_ways _ no.0 (open_node h l o))) no.1
-      (never (is_untaken h l) (λ u. both_ways _ no.2 (untaken_made l u))) ∙
-      ap (λ k. Some (option_map_or (λ x. Lease x.resource) k (Close l))) (lease_of_base b h l ∙ ap (λ c. cond c (Some (keep_lease h l)) None) out) ∙
-      sym (lease_is (slice_get h l) l made)
+      search (rules, out_lease, lease_apart, s_other, is_out_within, never, both_ways, open_node, untaken_made, option_map_or, lease_of_base, cond, lease_is, slice_get)
 
   pub s_no_lease : (l : ℕ) → is_out h l ≡ false → at makes_lease (shown (base_of b h)) l ≡ false
-  s_no_lease l back = never (at makes_lease (shown (base_of b h)) l) (λ some. by_event (slice_get (shown (base_of b h)) l) refl some) where
-    not_node : (x : Event) → makes_node x ≡ true → makes_lease x ≡ true → ⊥
-    not_node (Lease r) node is = false≢true node
-    not_node (Open place kind) node is = false≢true is
-    not_node _ node is = false≢true is
-
-    at_lease : (x : Event) → slice_get (shown (base_of b h)) l ≡ Some x → makes_lease x ≡ true → l < length h
-    at_lease x at_l is = rw (← length_base b h) (slice_get_within (shown (base_of b h)) l x at_l)
-
-    by_tests : (x : Event) → slice_get (shown (base_of b h)) l ≡ Some x → makes_lease x ≡ true → (is_open h l ≡ true) ⊎ (is_open h l ≡ false) →
-        (at makes_hub h l ≡ true) ⊎ (at makes_hub h l ≡ false) →
-        (is_untaken h l ≡ true) ⊎ (is_untaken h l ≡ false) → ⊥
-    by_tests x at_l is (inl o) hub u = not_node x (sym (ap (λ k. option_map_or makes_node k false) (sym (kept_open b h l o) ∙ at_l)) ∙ open_node h l o) is
-    by_tests x at_l is (inr closed) (inl hub) u =
-        both_ways (makes_lease (Hub (keep_hub h l).mode)) refl (ap makes_lease (same_Some _ x (sym (s_hub l (at_lease x at_l is) closed hub) ∙ at_l)) ∙ is)
-    by_tests x at_l is (inr closed) (inr plain) (inl u) =
-        both_ways (makes_lease (resource_shown l (keep_resource b h l))) refl (ap makes_lease
-        (same_Some _ x (sym (s_resource l (at_lease x at_l is) closed plain ∙ ap (λ c. Some
-        (option_map_or (resource_shown l) (cond c (Some (keep_resource b h l)) None) (lease_shown (base_of b h) l))) u) ∙ at_l)) ∙ is)
-    by_tests x at_l is (inr closed) (inr plain) (inr none) =
-        both_ways (makes_lease (Close l)) refl (ap makes_lease (same_Some _ x (sym (s_other l (at_lease x at_l is) closed plain none ∙
-        ap (λ k. Some (option_map_or (λ y. Lease y.resource) k (Close l))) (lease_of_base b h l ∙ ap (λ c. cond c (Some (keep_lease h l)) None) back)) ∙
-        at_l)) ∙ is)
-
-    by_event : (o : Option Event) → slice_get (shown (base_of b h)) l ≡ o → option_map_or makes_lease o false ≡ true → ⊥
-    by_event None at_l is = false≢true is
-    by_event (Some x) at_l is = by_tests x at_l is (cases_Bool (is_open h l)) (cases_Bool (at makes_hub h l)) (cases_Bool (is_untaken h l))
+  s_no_lease l back = search (rules, never, slice_get, false≢true, length, length_base, slice_get_within, option_map_or, kept_open, open_node, both_ways, same_Some, s_hub, s_resource, cond, s_other, lease_of_base, cases_Bool)
 
   s_unreturned : (l : ℕ) → list_any (is_return_of l) (shown (base_of b h)) ≡ false
   s_unreturned l = made_unreturned (shown (base_of b h)) s_making l
@@ -324,7 +200,7 @@ module _ (b : Kept) (h : List Event) where
         by_test false back = sym (s_no_lease l back)
 
   pub s_leases_of : (r : ℕ) → leases_of h r ≡ leases_of (shown (base_of b h)) r
-  s_leases_of r = leases_of_same h (shown (base_of b h)) (sym (length_base b h)) s_is_out (λ l out. sym (s_lease l out)) r
+  s_leases_of r = search (rules, leases_of_same, length_base, s_is_out, s_lease)
 
   pub s_fired : (u : ℕ) → is_fired (shown (base_of b h)) u ≡ false
   s_fired u = made_unfired (shown (base_of b h)) s_making u
@@ -333,11 +209,7 @@ module _ (b : Kept) (h : List Event) where
   s_projections f = itemless_projections (shown (base_of b h)) s_itemless f
 
   s_completed : (n : ℕ) → list_any (completes_source (shown (base_of b h)) n) (shown (base_of b h)) ≡ false
-  s_completed n = s_none (completes_source (shown (base_of b h)) n) fails where
-    fails : (x : Event) → is_making x ≡ true → completes_source (shown (base_of b h)) n x ≡ false
-    fails (End m t) making = absurd (false≢true making)
-    fails (Open place kind) making = refl
-    fails _ making = refl
+  s_completed n = search (rules, s_none, false≢true)
 
   pub s_no_end : (i n : ℕ) (t : Terminal) → slice_get (shown (base_of b h)) i ≡ Some (End n t) → ⊥
   s_no_end i n t at_i = false≢true (s_making i (End n t) at_i)
@@ -349,25 +221,17 @@ module _ (b : Kept) (h : List Event) where
   s_untaken r = made_untaken (shown (base_of b h)) s_making r
 
   pub s_unused : (r : ℕ) → count_by (is_use_of r) (shown (base_of b h)) ≡ 0
-  s_unused r = s_count (is_use_of r) fails where
-    fails : (x : Event) → is_making x ≡ true → is_use_of r x ≡ false
-    fails (Use q) making = absurd (false≢true making)
-    fails (Open place kind) making = refl
-    fails _ making = refl
+  s_unused r = search (rules, s_count, false≢true)
 
   s_items : count_by is_item (shown (base_of b h)) ≡ 0
-  s_items = s_count is_item fails where
-    fails : (x : Event) → is_making x ≡ true → is_item x ≡ false
-    fails x making = grind arith
+  s_items = search (rules, s_count)
 
   s_takes : count_by is_take (shown (base_of b h)) ≡ 0
-  s_takes = s_count is_take fails where
-    fails : (x : Event) → is_making x ≡ true → is_take x ≡ false
-    fails x making = grind arith
+  s_takes = search (rules, s_count)
 
   s_taken : (r : ℕ) → is_taken (shown (base_of b h)) r ≡ false
   unfolding is_taken
-  s_taken r = ap (λ c. at makes_resource (shown (base_of b h)) r && c) (s_untaken r) ∙ and_false (at makes_resource (shown (base_of b h)) r)
+  s_taken r = search (rules, s_untaken, and_false)
 
   module _ (sound : Sound b h) where
     pub base_is_alike : Alike h (shown (base_of b h))

@@ -3,7 +3,7 @@ use Rattle.rx_event.proofs.Laws.Common.{◌≡◌, ℕ, ◌+◌, ◌<◌, ◌≤
 use Rattle.rx_event.proofs.Laws.Common.{◌∙◌, arith, inl, inr, ◌⊎◌, ◌==◌, slice_get, ◌||◌, list_any, option_map_or, cases_Bool, both_ways, false≢true}
 use Rattle.rx_event.proofs.Laws.Common.{eqb-true, length-take-le, slice_get_within, same_Some, none-some, Place, Root, Source, Inner, Notifier, Kind, Leaf}
 use Rattle.rx_event.proofs.Laws.Common.{Sub, Event, Open, Connect, Accept, Lease, Decline, Kept, node_kept, resource_kept, shown, makes_node, makes_hub}
-use Rattle.rx_event.proofs.Laws.Common.{makes_resource, makes_lease, has_source, is_merging, is_until, is_use_of, is_source_of, parent_named, node_of_accept}
+use Rattle.rx_event.proofs.Laws.Common.{makes_resource, makes_lease, has_source, is_merging, is_until, is_source_of, parent_named, node_of_accept}
 use Rattle.rx_event.proofs.Laws.Common.{pays, at, is_open, is_within, is_owned, is_out, is_waiting, uses, owed, IsSettled, IsInOrderAt, Started, IsLawful}
 use Rattle.rx_event.proofs.Laws.Common.{base_of, Agree, false_from_ne_true as never, IsHubbed, IsInOrder, keep_node, is_untaken}
 use Rattle.std.proofs.Common.{count_by}
@@ -30,6 +30,7 @@ use Rattle.rx_event.proofs.Laws.SameTree.{Alike}
 use Rattle.rx_event.proofs.Laws.BaseAgrees.{resource_of_base, s_making, s_unused, s_owned, s_unowned, s_no_resource, s_resource_at, s_lease, s_no_lease}
 use Rattle.rx_event.proofs.Laws.BaseAgrees.{base_is_alike, owned_node, s_one_inner, s_paid, base_sound, s_debts, base_agrees, base_undue, shown_settled}
 use Rattle.rx_event.proofs.Laws.ShownBase.{base_one_connection, agree_accepted}
+use Rattle.std.proofs.Common.{rules}
 
 -- what an event names stands before it ----------------------------------------------------------------------
 
@@ -70,13 +71,10 @@ module _ (b : Kept) (h : List Event) (law : IsLawful b h) (settled : IsSettled b
   agree = base_agrees b h law settled
 
   inert_names : (n : ℕ) (x : Event) → is_inert n x ≡ true → parent_named x ≡ None
-  inert_names n (Open place kind) i = absurd (false≢true i)
-  inert_names n _ i = refl
+  inert_names n x1 i = search (rules, false≢true)
 
   inert_not_node : (n : ℕ) (x : Event) → is_inert n x ≡ true → makes_node x ≡ true → ⊥
-  inert_not_node n (Open place kind) i made = false≢true i
-  inert_not_node n (Connect g) i made = false≢true i
-  inert_not_node n _ i made = false≢true made
+  inert_not_node n x1 i made = search (rules, false≢true)
 
   -- what an open node's event names as its parent is open
   parent_there : (n p : ℕ) (e : Event) → slice_get s n ≡ Some e → parent_named e ≡ Some p → is_open h p ≡ true
@@ -152,16 +150,10 @@ module _ (b : Kept) (h : List Event) (law : IsLawful b h) (settled : IsSettled b
         absurd (both_ways _ (s_no_resource b h r none) (ap (λ o. option_map_or makes_resource o false) at_r))
 
   accepts : (r n tag : ℕ) → slice_get s r ≡ Some (Accept n tag) → n ≤ r
-  accepts r n tag at_r = by_case (accept_at r n tag at_r) where
-    by_case : AcceptsAt r n → n ≤ r
-    by_case (owned_at l o) = l
-    by_case (at_itself same) = omega arith
+  accepts r n tag at_r = search (rules, accept_at)
 
   holds : (r n tag : ℕ) → slice_get s r ≡ Some (Accept n tag) → n < r → is_open s n ≡ true
-  holds r n tag at_r less = by_case (accept_at r n tag at_r) where
-    by_case : AcceptsAt r n → is_open s n ≡ true
-    by_case (owned_at l o) = o
-    by_case (at_itself same) = absurd (omega arith)
+  holds r n tag at_r less = search (rules, accept_at)
 
   -- a lease names a resource before it
   leases : (l r : ℕ) → slice_get s l ≡ Some (Lease r) → at makes_resource (take l s) r ≡ true
@@ -180,11 +172,11 @@ module _ (b : Kept) (h : List Event) (law : IsLawful b h) (settled : IsSettled b
   unkept n l = node_of_base b h n ∙ ap (λ c. cond c (Some (keep_node b h n)) None) (is_open_past h n (past n l))
 
   unnumbered : (r : ℕ) → length s ≤ r → resource_kept (base_of b h) r ≡ None
-  unnumbered r l = resource_of_base b h r ∙ (λ i. cond (is_held_past h r (past r l) i || is_waiting_past h r (past r l) i) (Some (keep_resource b h r)) None)
+  unnumbered r l = search (rules, resource_of_base, cond, is_held_past, past, is_waiting_past)
 
   unused : (r : ℕ) → length s ≤ r → uses (base_of b h) s r ≡ 0
   unfolding uses
-  unused r l = ap (λ k. option_map_or (λ x. x.uses + count_by (is_use_of r) s) k (count_by (is_use_of r) s)) (unnumbered r l) ∙ s_unused b h r
+  unused r l = search (rules, option_map_or, count_by, unnumbered, s_unused)
 
   paid : (f : ℕ) → count_by (pays f) s ≤ projected_by (base_of b h) s f
   paid f = by_test (is_open h f) refl where
@@ -208,10 +200,7 @@ module _ (b : Kept) (h : List Event) (law : IsLawful b h) (settled : IsSettled b
   alive n e at_n made = sym (alike.same_open n) ∙ (made_there n e at_n made).0
 
   at_there : (q : Event → Bool) → ((e : Event) → q e ≡ true → makes_node e ≡ true) → (n : ℕ) → at q s n ≡ true → at q h n ≡ true
-  at_there q makes n passes = by_event (slice_get s n) refl passes where
-    by_event : (o : Option Event) → slice_get s n ≡ o → option_map_or q o false ≡ true → at q h n ≡ true
-    by_event None at_n passes = absurd (false≢true passes)
-    by_event (Some e) at_n passes = ap (λ x. option_map_or q x false) (made_there n e at_n (makes e passes)).1 ∙ passes
+  at_there q makes n passes = search (rules, slice_get, option_map_or, false≢true, made_there)
 
   makes_source : (f : ℕ) (e : Event) → is_source_of f e ≡ true → makes_node e ≡ true
   makes_source f e source = grind arith

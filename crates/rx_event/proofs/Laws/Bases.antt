@@ -2,17 +2,14 @@
 use Rattle.rx_event.proofs.Laws.Common.{◌≡◌, ℕ, zero, suc, ◌+◌, ◌<◌, ◌≤◌, Bool, true, false, List, [], ◌∷◌, length, drop, map, cond, Option, Some, None, refl}
 use Rattle.rx_event.proofs.Laws.Common.{sym, ap, subst, ◌∙◌, arith, inl, inr, ◌⊎◌, nat_lt, ◌==◌, slice_get, filter, not, ◌&&◌, list_any, range_with_len}
 use Rattle.rx_event.proofs.Laws.Common.{option_and_then, option_map_or, cases_Bool, cases_lt, cases_order, and_parts, both_ways, eqb-true, eq-eqb, false≢true}
-use Rattle.rx_event.proofs.Laws.Common.{slice_get_past, slice_get_within, same_Some, Kind, Mode, Root, Source, Inner, Notifier, Event, Open, Hub, Connect}
+use Rattle.rx_event.proofs.Laws.Common.{slice_get_past, slice_get_within, same_Some, Kind, Mode, Inner, Event, Open, Hub, Connect}
 use Rattle.rx_event.proofs.Laws.Common.{Accept, Lease, End, Close, makes_node, makes_hub, parent_named, is_switch, is_inner_of, at, parent, if_less, shuts}
 use Rattle.rx_event.proofs.Laws.Common.{is_shut, is_open, Kept, node_kept, resource_kept, shown, base_of, is_switched_inner, keep_node}
-use Rattle.std.specs.Option.{option_map}
 use Rattle.std.proofs.lemmas.Option.{slice_get-map}
 use Rattle.std.proofs.lemmas.List.FromFn.{length-map-range_with_len}
 use Rattle.rx_event.proofs.Laws.SoundForm.{TwoOpenInners}
 use Rattle.rx_event.specs.declared.base.BaseResource.{BaseResource}
 use Rattle.rx_event.specs.declared.base.BaseLease.{BaseLease}
-use Rattle.rx_event.specs.declared.base.BaseNode.{BaseNode}
-use Rattle.rx_event.specs.declared.base.BaseHub.{BaseHub}
 use Rattle.rx_event.specs.Kept.{find_by, hub_kept, lease_kept, resource_shown, lease_shown, shown_at}
 use Rattle.rx_event.specs.Bases.{event_or, keep_hub, mode_of}
 use Rattle.rx_event.proofs.Laws.SameTree.{Alike}
@@ -21,14 +18,12 @@ use Rattle.rx_event.proofs.Laws.Parents.{parent-lt}
 use Rattle.rx_event.proofs.Laws.Openness.{is_open_step, is_open_within, parent_open}
 use Rattle.rx_event.proofs.Laws.Searches.{list_any_found}
 use Rattle.rx_event.proofs.Laws.Stands.{open_node, event_at}
+use Rattle.std.proofs.Common.{rules}
 
 -- records by their numbers ------------------------------------------------------------------------
 
 unequal : (a b : ℕ) → (a < b) ⊎ (b < a) → (a == b) ≡ false
-unequal a b apart = by_test (cases_Bool (a == b)) where
-  by_test : ((a == b) ≡ true) ⊎ ((a == b) ≡ false) → (a == b) ≡ false
-  by_test (inr no_same) = no_same
-  by_test (inl same) = let e = eqb-true a b same in elim apart as (λ v. (a == b) ≡ false) [ inl l ↦ absurd (omega arith) | inr l ↦ absurd (omega arith) ]
+unequal a b apart = search (rules, cases_Bool, eqb-true)
 
 module _ {X : Type 0} (number : X → ℕ) (keep : ℕ → X) (numbered : (n : ℕ) → number (keep n) ≡ n) (p : ℕ → Bool) where
   find_apart : (s n k : ℕ) → (k < s) ⊎ (s + n ≤ k) → find_by number (map keep (filter p (range_with_len s n))) k ≡ None
@@ -74,24 +69,17 @@ module _ {X : Type 0} (number : X → ℕ) (keep : ℕ → X) (numbered : (n : �
   -- the record of this number, where the number passes
   pub found : (len : ℕ) → ((n : ℕ) → p n ≡ true → n < len) → (k : ℕ) →
       find_by number (map keep (filter p (range_with_len 0 len))) k ≡ cond (p k) (Some (keep k)) None
-  found len within k = by_order (cases_lt k len) where
-    none : (b : Bool) → p k ≡ b → len ≤ k → cond b (Some (keep k)) None ≡ None
-    none true passes past = absurd (let l = within k passes in omega arith)
-    none false passes past = refl
-
-    by_order : (k < len) ⊎ (len ≤ k) → find_by number (map keep (filter p (range_with_len 0 len))) k ≡ cond (p k) (Some (keep k)) None
-    by_order (inl l) = find_in 0 len k (omega arith) (omega arith)
-    by_order (inr past) = find_apart 0 len k (inr (omega arith)) ∙ sym (none (p k) refl past)
+  found len within k = search (rules, cases_lt, cond, map, filter, range_with_len, find_in, find_apart)
 
 -- what a base keeps -------------------------------------------------------------------------------
 
 pub node_of_base : (b : Kept) (h : List Event) (n : ℕ) → node_kept (base_of b h) n ≡ cond (is_open h n) (Some (keep_node b h n)) None
 unfolding base_of
-node_of_base b h = found (λ (k : BaseNode). k.number) (keep_node b h) (λ n. refl) (is_open h) (length h) (is_open_within h)
+node_of_base b h = search (rules, found, length, is_open_within)
 
 pub hub_of_base : (b : Kept) (h : List Event) (n : ℕ) → hub_kept (base_of b h) n ≡ cond (at makes_hub h n) (Some (keep_hub h n)) None
 unfolding base_of
-hub_of_base b h = found (λ (k : BaseHub). k.number) (keep_hub h) (λ n. refl) (at makes_hub h) (length h) (at_within makes_hub h)
+hub_of_base b h = search (rules, found, length, at_within)
 
 pub range_at : (s n k : ℕ) → k < n → slice_get (range_with_len s n) k ≡ Some (s + k)
 range_at s zero k l = absurd (omega arith)
@@ -105,8 +93,7 @@ length-shown b = length-map-range_with_len (shown_at b) 0 b.at_length
 pub shown_get : (b : Kept) (n : ℕ) → n < b.at_length → slice_get (shown b) n ≡ Some (shown_at b n)
 unfolding shown
 shown_get b n l =
-    slice_get-map (shown_at b) (range_with_len 0 b.at_length) n ∙ ap (option_map (shown_at b)) (range_at 0 b.at_length n l) ∙
-    ap (λ m. Some (shown_at b m)) (let e : 0 + n ≡ n = omega arith in e)
+    search (rules, slice_get-map, range_with_len, range_at)
 
 -- what a place of a base's list is: an open node's event, or nothing that makes or shuts a node
 abbrev pub is_inert : ℕ → Event → Bool
@@ -120,37 +107,7 @@ abbrev pub KeptAt : List Event → ℕ → Event → Type 0
 KeptAt h m x = ((is_open h m ≡ true) × (slice_get h m ≡ Some x)) ⊎ (is_inert m x ≡ true)
 
 kept_place : (b : Kept) (h : List Event) (m : ℕ) → m < length h → KeptAt h m (shown_at (base_of b h) m)
-kept_place b h m l = by_node (is_open h m) refl (node_of_base b h m) where
-  self : (m == m) ≡ true
-  self = eq-eqb m m refl
-
-  by_lease : (o : Option BaseLease) → is_inert m (option_map_or (λ k. Lease k.resource) o (Close m)) ≡ true
-  by_lease None = self
-  by_lease (Some k) = refl
-
-  by_resource : (o : Option BaseResource) → is_inert m (option_map_or (resource_shown m) o (lease_shown (base_of b h) m)) ≡ true
-  by_resource None = by_lease (lease_kept (base_of b h) m)
-  by_resource (Some k) = refl
-
-  by_hub : (o : Option BaseHub) → is_inert m (option_map_or (λ k. Hub k.mode) o (option_map_or (resource_shown m) (resource_kept (base_of b h) m)
-      (lease_shown (base_of b h) m))) ≡ true
-  by_hub None = by_resource (resource_kept (base_of b h) m)
-  by_hub (Some k) = refl
-
-  there : (e : Event) × (slice_get h m ≡ Some e)
-  there = event_at h m l
-
-  by_node : (o : Bool) → is_open h m ≡ o → node_kept (base_of b h) m ≡ cond o (Some (keep_node b h m)) None → KeptAt h m (shown_at (base_of b h) m)
-  by_node true o kept =
-      inl (
-        o,
-        there.1 ∙ ap Some (sym (ap (λ k. option_map_or (λ r. r.made) k (option_map_or (λ r. Hub r.mode) (hub_kept (base_of b h) m)
-            (option_map_or (resource_shown m) (resource_kept (base_of b h) m) (lease_shown (base_of b h) m)))) kept ∙ ap
-            (λ x. option_map_or (λ e. e) x (Close m)) there.1)),
-      )
-  by_node false o kept =
-      inr (ap (λ k. is_inert m (option_map_or (λ r. r.made) k (option_map_or (λ r. Hub r.mode) (hub_kept (base_of b h) m)
-      (option_map_or (resource_shown m) (resource_kept (base_of b h) m) (lease_shown (base_of b h) m))))) kept ∙ by_hub (hub_kept (base_of b h) m))
+kept_place b h m l = search (rules, node_of_base, eq-eqb, is_inert, option_map_or, slice_get, event_at, cond, KeptAt)
 
 pub base_length : (b : Kept) (h : List Event) → (base_of b h).at_length ≡ length h
 unfolding base_of
@@ -196,18 +153,11 @@ closed_here b h n closed = by_event (slice_get (shown (base_of b h)) n) refl whe
 pub slice_get-drop : {X : Type 0} (k : ℕ) (xs : List X) (i : ℕ) → slice_get (drop k xs) i ≡ slice_get xs (k + i)
 slice_get-drop zero xs i = ap (slice_get xs) (let e : i ≡ zero + i = omega arith in e)
 slice_get-drop (suc k) [] i = sym (slice_get_past [] (suc k + i) (omega arith))
-slice_get-drop (suc k) (x ∷ xs) i = slice_get-drop k xs i ∙ ap (slice_get (x ∷ xs)) (let e : suc (k + i) ≡ suc k + i = omega arith in e)
+slice_get-drop (suc k) (x ∷ xs) i = search (rules, slice_get, slice_get-drop k xs i)
 
 inner_parent : (h : List Event) (f n : ℕ) → nat_lt f n ≡ true → at (is_inner_of f) h n ≡ true → parent h n ≡ Some f
 unfolding parent
-inner_parent h f n less inner = ap (option_and_then (if_less n)) (names (slice_get h n) inner) ∙ ap (λ b. cond b (Some f) None) less where
-  names : (x : Option Event) → option_map_or (is_inner_of f) x false ≡ true → option_and_then parent_named x ≡ Some f
-  names None inner = absurd (false≢true inner)
-  names (Some (Open (Inner g) kind)) inner = ap Some (eqb-true g f inner)
-  names (Some (Open Root kind)) inner = absurd (false≢true inner)
-  names (Some (Open (Source g) kind)) inner = absurd (false≢true inner)
-  names (Some (Open (Notifier g) kind)) inner = absurd (false≢true inner)
-  names (Some _) inner = absurd (false≢true inner)
+inner_parent h f n less inner = search (rules, option_and_then, slice_get, cond, option_map_or, false≢true, eqb-true)
 
 -- no later place of the base's list shuts an open node
 not_shut_later : (b : Kept) {h : List Event} → ((f x y : ℕ) → TwoOpenInners h f x y → x ≡ y) → (n m : ℕ) {x : Event} → is_open h n ≡ true → n < m →
@@ -281,7 +231,7 @@ open_within_base (suc k) b h law n l = by_test (is_open h n) refl (λ m less. op
       let open_above : option_map_or (is_open s) (parent s n) true ≡ true =
       ap (λ x. option_map_or (is_open s) x true) (same_parent o) ∙ above further o (parent h n) refl in
       is_open_step s n ∙ (λ i. (stands i && not (not_shut_here b h law n o i)) && open_above i)
-  by_test false closed further = is_open_step s n ∙ (λ i. (closed_here b h n closed i && not (is_shut s n)) && option_map_or (is_open s) (parent s n) true)
+  by_test false closed further = is_open_step s n ∙ (search (rules, closed_here, not, option_map_or))
 
 -- the base of a lawful history has the same hubs and open nodes
 pub base_alike : (b : Kept) (h : List Event) → ((f x y : ℕ) → TwoOpenInners h f x y → x ≡ y) → Alike h (shown (base_of b h))

@@ -5,12 +5,12 @@ use Rattle.rx_event.proofs.Laws.Common.{inl, inr, ◌⊎◌, arith, length-appen
 use Rattle.rx_event.proofs.Laws.Common.{eq-eqb, same_Some, none-some, Terminal, Completed, Error, Kept, Place, Kind, Sub, Event, Open, Connect, Decline, End}
 use Rattle.rx_event.proofs.Laws.Common.{Close, is_auto_hub, is_manual_hub, is_subscriber_of, at, places, is_open, open_subscribers, open_connections}
 use Rattle.rx_event.proofs.Laws.Common.{is_firing_of, stops_of, marks_of, due_at, mirrored, fired, failed, completed, cut, left, connecting, due, SourceEnded}
-use Rattle.rx_event.proofs.Laws.Common.{IsDue, IsForced, IsConnectDue, IsConnected, IsSettled, IsAllowed, forced, allowed, stays, more, MayFollow, IsLawful}
+use Rattle.rx_event.proofs.Laws.Common.{IsDue, IsForced, IsConnectDue, IsConnected, IsSettled, IsAllowed, forced, stays, more, MayFollow, IsLawful}
 use Rattle.rx_event.proofs.Laws.Common.{IsForcedOn, option_map, hub_subscribed, terminal_due, connected}
 use Rattle.rx_event.specs.Claims.Stays.{ends_or_declines, FiresNone, ClosesNone, ConnectsAtMost, is_done, is_waiting_for}
 use Rattle.rx_event.proofs.Laws.Lists.{first_passes, filter_nonempty}
 use Rattle.rx_event.proofs.Laws.Places.{slice_get-append, slice_get_last, at-append, at_within}
-use Rattle.rx_event.proofs.Laws.Openness.{shuts_none, is_open_within, is_open_kept, is_open_cut, is_cut, self_cut, stays_closed_after}
+use Rattle.rx_event.proofs.Laws.Openness.{shuts_none, is_open_within, is_open_kept, is_open_cut, self_cut, stays_closed_after}
 use Rattle.rx_event.proofs.Laws.Lawful.{IsLawful-push}
 use Rattle.rx_event.proofs.Laws.Steps.{may_close, forced_kind}
 use Rattle.rx_event.proofs.Laws.Totals.{is_open_new}
@@ -18,6 +18,7 @@ use Rattle.rx_event.proofs.Laws.Hubs.{connection_hub}
 use Rattle.rx_event.proofs.Laws.Waits.{closes_none, is_both, settled_connected, kept_unsubscribed, kept_subscribed, connected_first}
 use Rattle.rx_event.proofs.Laws.MarksDue.{terminal_due_due}
 use Rattle.rx_event.proofs.Laws.OneEnd.{ends_as, completes, ends_so, completes_one, fires_it, IsReason, due_before}
+use Rattle.std.proofs.Common.{rules}
 
 -- ends --------------------------------------------------------------------------------------------
 
@@ -66,7 +67,7 @@ pub quiet_on : {base : Kept} {h : List Event} {e : Event} → IsLawful base h �
     FiresNone h e → (n : ℕ) {made : Event} → is_open (h ++ e ∷ []) n ≡ true →
     slice_get (h ++ e ∷ []) n ≡ Some made → due_at made (marks_of base (h ++ e ∷ []) n) n ≡ None
 quiet_on {base} {h} {e} law next settled calm unfired n {made} o at_n =
-    quiet_ends_none base (h ++ e ∷ []) (ends_none_on base h e law next calm unfired (settled_ends_none base h settled)) n made o at_n
+    search (rules, quiet_ends_none, ends_none_on, settled_ends_none)
 
 -- connections that nobody uses ----------------------------------------------------------------------
 
@@ -104,10 +105,7 @@ none_subscribed h g none = by_list (open_subscribers h g) refl where
 
 -- what is open in a longer history was open
 open_older : (h t : List Event) (n : ℕ) → n < length h → is_open (h ++ t) n ≡ true → is_open h n ≡ true
-open_older h t n l o = by_test (is_open h n) refl where
-  by_test : (b : Bool) → is_open h n ≡ b → b ≡ true
-  by_test true was = refl
-  by_test false was = absurd (both_ways (is_open (h ++ t) n) (stays_closed_after h t n l was) o)
+open_older h t n l o = search (rules, both_ways, stays_closed_after)
 
 -- the subscribers of g that were open in h are open in k
 abbrev pub KeepsSubscribers : List Event → List Event → ℕ → Type 0
@@ -161,8 +159,7 @@ allowed_manual base (connected manual unconnected few) = manual
 
 -- what is connected after a settled history is a hub that a caller connects
 connect_manual : (base : Kept) → {h : List Event} {g : ℕ} → IsSettled base h → MayFollow base h (Connect g) → at is_manual_hub h g ≡ true
-connect_manual base {g = g} settled (forced f) = absurd (settled.none (Connect g) f)
-connect_manual base settled (allowed s a) = allowed_manual base a
+connect_manual base settled x3 = search (rules, allowed_manual)
 
 -- what shuts nothing closes nothing
 pub closes_none_kept : (h : List Event) (e : Event) → shuts_none e ≡ true → ClosesNone h e
@@ -170,12 +167,7 @@ closes_none_kept h e spares n was = is_open_kept h e n (is_open_within h n was) 
 
 -- and what closes nothing is no closing
 closes_none_by : (base : Kept) → (h : List Event) (e : Event) → MayFollow base h e → ends_or_declines e ≡ false → ClosesNone h e → closes_none e ≡ true
-closes_none_by base h (End n t) next calm still = absurd (false≢true (sym calm))
-closes_none_by base h (Close n) next calm still =
-    let o = may_close base next in
-    let whole : is_open (h ++ Close n ∷ []) n ≡ (is_open h n && not (is_cut h (Close n) n)) = is_open_cut h (Close n) n (is_open_within h n o) in
-    absurd (both_ways (is_open (h ++ Close n ∷ []) n) (whole ∙ rw (self_cut h (Close n) n (eq-eqb n n refl), o) refl) (still n o))
-closes_none_by base h _ next calm still = refl
+closes_none_by base h x2 next calm still = search (rules, false≢true, may_close, not, is_open_cut, is_open_within, both_ways, self_cut, eq-eqb)
 
 -- After a calm event that closes nothing and subscribes to no hub nothing is forced, where nothing was before
 pub settled_on : {base : Kept} {h : List Event} {e : Event} → IsLawful base h → MayFollow base h e → IsSettled base h → ends_or_declines e ≡ false →
@@ -193,7 +185,7 @@ settled_on {base} {h} {e} law next settled calm unfired still unsubscribed =
 -- to a settled history nothing is added
 pub unforced : (base : Kept) → {h k : List Event} → IsForcedOn base h k → IsSettled base h → k ≡ h
 unforced base stays settled = refl
-unforced base (more {e = e} on f) settled = absurd (settled.none e (subst (λ (q : List Event). IsForced base q e) (unforced base on settled) f))
+unforced base (more {e = e} on f) settled = search (rules, unforced base on settled)
 
 -- subscribers ---------------------------------------------------------------------------------------
 
@@ -237,8 +229,7 @@ connects_at_most {base} {h} g s law ends_none used only subscribes o = by_test (
 
 -- what is opened is opened after a settled history
 pub opened_settled : (base : Kept) → {h : List Event} {place : Place} {kind : Kind} → MayFollow base h (Open place kind) → IsSettled base h
-opened_settled base (forced f) = absurd (false≢true (forced_kind base f))
-opened_settled base (allowed settled a) = settled
+opened_settled base x1 = search (rules, false≢true, forced_kind)
 
 -- After the opening of a subscriber that closes nothing either nothing is forced, or just that its hub is connected, and then nothing
 pub subscribed_on : {base : Kept} {h : List Event} {place : Place} {g : ℕ} → IsLawful base h → MayFollow base h (Open place (Sub g)) →

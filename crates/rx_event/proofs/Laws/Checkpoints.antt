@@ -1,15 +1,13 @@
 -- Checkpoints: a stored history and its base agree, and go on by the same events.
 use Rattle.rx_event.proofs.Laws.Common.{◌≡◌, ℕ, ◌+◌, length, Bool, true, false, List, [], ◌∷◌, ◌++◌, map, cond, Option, Some, None, refl, sym, ap, subst, ◌∙◌}
-use Rattle.rx_event.proofs.Laws.Common.{slice_get, filter, append_assoc, append-nil, drop, ◌||◌, ◌&&◌, AllByRecursion, range_with_len, filter_map}
-use Rattle.rx_event.proofs.Laws.Common.{option_map_or, false≢true, Event, Open, Hub, Item, End, Close, is_merging, makes_hub, is_root, is_owned, is_out}
-use Rattle.rx_event.proofs.Laws.Common.{is_held, is_waiting, at, places, open_nodes, is_open, Moment, moments_after, owed, mail_of, IsSettled, MayFollow}
+use Rattle.rx_event.proofs.Laws.Common.{slice_get, filter, append_assoc, append-nil, drop, AllByRecursion, range_with_len, filter_map}
+use Rattle.rx_event.proofs.Laws.Common.{option_map_or, false≢true, Event, Open, Hub, Item, End, Close, makes_hub, is_root, is_out}
+use Rattle.rx_event.proofs.Laws.Common.{at, places, open_nodes, Moment, moments_after, mail_of, IsSettled, MayFollow}
 use Rattle.rx_event.proofs.Laws.Common.{IsLawful, Kept, shown, base_of, Agree, AreRead, keep_node, is_untaken, debt}
 use Rattle.std.proofs.Common.{sum_by}
 use Rattle.rx_event.specs.Tree.{hubs}
 use Rattle.rx_event.specs.Notes.{told}
-use Rattle.rx_event.specs.declared.base.BaseState.TheVariants.{Owned, Leased, Waiting}
-use Rattle.rx_event.specs.Bases.{keep_hub, keep_resource, keep_lease, lease_resource, mode_of, accept_node, accept_tag}
-use Rattle.rx_event.specs.Totals.{debt_of}
+use Rattle.rx_event.specs.Bases.{keep_hub, keep_resource, keep_lease, mode_of}
 use Rattle.rx_event.specs.Claims.Checkpoints.{EachRule, AgreeingGoOn, CheckpointsAgree}
 use Rattle.rx_event.proofs.Laws.Lawful.{IsLawful-push, IsLawful_empty, may_end}
 use Rattle.rx_event.proofs.Laws.Sums.{sum_by-same}
@@ -22,6 +20,7 @@ use Rattle.rx_event.proofs.Laws.BaseAgrees.{base_agrees}
 use Rattle.rx_event.proofs.Laws.BaseStarted.{base_started}
 use Rattle.rx_event.proofs.Laws.Begin.{empty_base}
 use Rattle.std.proofs.Math.Seq.{drop-append_seam}
+use Rattle.std.proofs.Common.{rules}
 
 -- these events may follow one after the other
 abbrev Continues : Kept → List Event → List Event → Type 0
@@ -69,28 +68,14 @@ agreeing b h c k law law_c a e =
 
 map_filter_same : {X : Type 0} (f g : ℕ → X) (p : ℕ → Bool) → ((n : ℕ) → p n ≡ true → f n ≡ g n) → (ns : List ℕ) → map f (filter p ns) ≡ map g (filter p ns)
 map_filter_same f g p same [] = refl
-map_filter_same {X = X} f g p same (n ∷ ns) = by_test (p n) refl (map_filter_same f g p same ns) where
-  by_test : (c : Bool) → p n ≡ c → map f (filter p ns) ≡ map g (filter p ns) →
-      map f (cond c (n ∷ filter p ns) (filter p ns)) ≡ map g (cond c (n ∷ filter p ns) (filter p ns))
-  by_test true passes rest = (λ i. same n passes i ∷ rest i)
-  by_test false fails rest = rest
+map_filter_same {X = X} f g p same (n ∷ ns) = search (rules, map, filter, cond, map_filter_same f g p same ns)
 
 module _ (b : Kept) (h : List Event) (c : Kept) (k : List Event) (a : Agree b h c k) where
   alike : Alike h k
   alike = alike_of a
 
   same_nodes : map (keep_node b h) (open_nodes h) ≡ map (keep_node c k) (open_nodes k)
-  same_nodes = map_filter_same (keep_node b h) (keep_node c k) (is_open h) same (places h) ∙ ap (map (keep_node c k)) (open_nodes_alike h k alike) where
-    same : (n : ℕ) → is_open h n ≡ true → keep_node b h n ≡ keep_node c k n
-    same n o =
-        (λ i. record {
-          number = n;
-          made = option_map_or (λ e. e) (alike.same_made n o i) (Close n);
-          source_opened = (sym (a.there.marks n o) i).source_opened;
-          notifier_opened = (sym (a.there.marks n o) i).notifier_opened;
-          source_completed = (sym (a.there.marks n o) i).source_completed;
-          owed = (sym (a.there.marks n o) i).owed;
-        })
+  same_nodes = search (rules, map_filter_same, map, open_nodes_alike, alike, option_map_or)
 
   same_hubs : map (keep_hub h) (hubs h) ≡ map (keep_hub k) (hubs k)
   same_hubs = map_filter_same (keep_hub h) (keep_hub k) (at makes_hub h) same (places h) ∙ ap (map (keep_hub k)) (hubs_alike h k alike) where
@@ -106,62 +91,21 @@ module _ (b : Kept) (h : List Event) (c : Kept) (k : List Event) (a : Agree b h 
 
   same_resources : map (keep_resource b h) (filter (is_untaken h) (places h)) ≡ map (keep_resource c k) (filter (is_untaken k) (places k))
   same_resources =
-      map_filter_same (keep_resource b h) (keep_resource c k) (is_untaken h) same (places h) ∙
-      (λ i. map (keep_resource c k) (filter (λ r. a.held r i || a.waiting r i) (range_with_len 0 (a.same_length i))))
-    where
-      same : (r : ℕ) → is_untaken h r ≡ true → keep_resource b h r ≡ keep_resource c k r
-      same r u = (λ i. record {
-        number = r;
-        node = option_map_or accept_node (a.accepts r u i) 0;
-        tag = option_map_or accept_tag (a.accepts r u i) 0;
-        uses =
-            a.used r u i;
-        state = cond (a.owned r i) Owned (cond (a.held r i) Leased Waiting);
-      })
+      search (rules, map_filter_same, map, filter, range_with_len, option_map_or, cond)
 
   same_leases : map (keep_lease h) (filter (is_out h) (places h)) ≡ map (keep_lease k) (filter (is_out k) (places k))
   same_leases =
-      map_filter_same (keep_lease h) (keep_lease k) (is_out h) (λ l out. ap (λ o. record {
-        number = l;
-        resource = lease_resource
-            (option_map_or (λ e. e) o (Close l));
-      }) (a.leased l out)) (places h) ∙
-      (λ i. map (keep_lease k) (filter (λ l. a.out l i) (range_with_len 0 (a.same_length i))))
+      search (rules, map_filter_same, option_map_or, map, filter, range_with_len)
 
   -- are the same
   pub same_base : base_of b h ≡ base_of c k
   unfolding base_of
-  same_base = (λ i. record {
-    at_length = a.same_length i;
-    items = a.item_total i;
-    accepted = a.accepted_total i;
-    taken = a.taken_total i;
-    hubs =
-        same_hubs i;
-    nodes = same_nodes i;
-    resources = same_resources i;
-    leases = same_leases i;
-  })
+  same_base = search (rules, same_hubs, same_nodes, same_resources, same_leases)
 
 pub same_debt : (b : Kept) (h : List Event) (c : Kept) (k : List Event) → Agree b h c k → debt b h ≡ debt c k
 unfolding debt
 same_debt b h c k a =
-    sum_by-same (debt_of c k) (debt_of b h) (length h) (λ n l. each n (is_open h n) refl) ∙
-    ap (λ m. sum_by (debt_of c k) (range_with_len 0 m)) a.same_length
-  where
-    alike : Alike h k
-    alike = alike_of a
-
-    each : (n : ℕ) (o : Bool) → is_open h n ≡ o → debt_of b h n ≡ debt_of c k n
-    each n true o =
-        (λ i. cond (alike.same_open n i) 1 0 + cond (a.owned n i) 2 (cond (a.held n i) 1 (cond (a.waiting n i) 1 0)) + cond (a.out n i) 1 0 +
-        cond (alike.same_open n i && at_alike h k alike is_merging n o i) ((sym (a.there.marks n o) i).owed) 0)
-    each n false o =
-        let closed : is_open k n ≡ false = sym (alike.same_open n) ∙ o in
-        (λ i. cond (o i) 1 0 + cond (a.owned n i) 2 (cond (a.held n i) 1 (cond (a.waiting n i) 1 0)) + cond (a.out n i) 1 0 + cond
-        (o i && at is_merging h n) (owed b h n) 0) ∙
-        sym (λ i. cond (closed i) 1 0 + cond (is_owned k n) 2 (cond (is_held k n) 1 (cond (is_waiting k n) 1 0)) + cond (is_out k n) 1 0 + cond
-        (closed i && at is_merging k n) (owed c k n) 0)
+    search (rules, sum_by-same, length, sum_by, range_with_len, alike, Alike, alike_of, cond, at_alike)
 
 lawful_on : (b : Kept) (h es : List Event) → IsLawful b h → Continues b h es → IsLawful b (h ++ es)
 lawful_on b h [] law each = rw (append-nil h) law
@@ -188,7 +132,7 @@ base_lawful b h law settled = IsLawful_empty (base_of b h) (base_started b h law
 
 after_base : (b : Kept) (h es : List Event) → IsLawful b h → IsSettled b h → IsLawful b (h ++ es) → GoesOn b h (base_of b h) (shown (base_of b h)) es
 after_base b h es law settled longer =
-    goes_on h (base_of b h) (shown (base_of b h)) es law (base_lawful b h law settled) (kept_agrees b h law settled) (list_continues b h es law longer)
+    search (rules, goes_on, base_lawful, kept_agrees, list_continues)
 
 before_base : (b : Kept) (h es : List Event) → IsLawful b h → IsSettled b h → IsLawful (base_of b h) (shown (base_of b h) ++ es) → IsLawful b (h ++ es)
 before_base b h es law settled longer =

@@ -18,6 +18,7 @@ use Rattle.rx_event.proofs.Laws.Sums.{sum_by-same, sum_by-plus, sum_by_none, sum
 use Rattle.rx_event.proofs.Laws.Totals.{is_within_self}
 use Rattle.rx_event.proofs.Laws.Projections.{onward_open}
 use Rattle.rx_event.proofs.Laws.Hubs.{subscriber_hub, hubs_in_order}
+use Rattle.std.proofs.Common.{rules}
 
 -- whole climbs ------------------------------------------------------------------------------------
 
@@ -68,7 +69,7 @@ ends_below h d subscribed (suc j) n l o late = whole (ends_each h (onward h n) (
   by_parent up None below = tt
   by_parent up (Some p) below =
       let s : p < n = parent-lt h n p below in
-      (up p (omega arith) (parent_open h n p o below) (λ a k within connects. late a k (within_parent h a n p below within) connects), tt)
+      (search (rules, parent_open, within_parent))
 
   by_subscriber : (g : ℕ) → slice_get h n ≡ Some (Connect g) → (s : ℕ) → (at (is_subscriber_of g) h s && is_open h s) ≡ true → Ends h (s ∷ [])
   by_subscriber g connects s both =
@@ -117,7 +118,7 @@ unfolding visits
 visits_cut_off h n vs v = ap length (climb_cut_off h n vs v) ∙ length-take (suc most_visits) vs
 
 pub visits_within : (h : List Event) (n : ℕ) (vs : List ℕ) → Visits h (n ∷ []) vs → visits h n ≤ most_visits ↔ length vs ≤ most_visits
-visits_within h n vs v = (λ few. let e = visits_cut_off h n vs v in omega arith, λ few. let e = visits_cut_off h n vs v in omega arith)
+visits_within h n vs v = search (rules, visits_cut_off)
 
 -- in order ----------------------------------------------------------------------------------------
 
@@ -151,10 +152,7 @@ visited_nothing k h = grind arith
 pub stops_stop : (h : List Event) (n : ℕ) (s : Stop) → stop_at h n ≡ Some s → stops h n ≡ s ∷ []
 unfolding stops climb
 stops_stop h n s stop =
-    let one : climb h n ≡ n ∷ [] =
-    ap (λ (xs : List ℕ). n ∷ xs)
-    (ap (λ t. visited most_visits h (onward_unless t (option_map_or (onward_from h n) (slice_get h n) []) ++ [])) stop ∙ visited_nothing most_visits h) in
-    ap (filter_map (stop_at h)) one ∙ rw stop refl
+    search (rules, option_map_or, slice_get, visited_nothing, filter_map)
 
 -- within the limit the stops are those of the whole climb
 pub stops_whole : (h : List Event) (n : ℕ) (vs : List ℕ) → Visits h (n ∷ []) vs → length vs ≤ most_visits → stops h n ≡ filter_map (stop_at h) vs
@@ -184,14 +182,7 @@ onward_times h k vs = sum_by (λ v. times k (onward h v)) vs
 pub visits_each : (h : List Event) (k : ℕ) {ns vs : List ℕ} → Visits h ns vs → times k vs ≡ times k ns + onward_times h k vs
 visits_each h k nowhere = refl
 visits_each h k (visit {n = n} {others = others} {later = later} {rest = rest} p r) =
-    let in_all = sum_by-cons (λ m. cond (m == k) 1 0) n (later ++ rest) in
-    let in_both = sum_by-append (λ m. cond (m == k) 1 0) later rest in
-    let in_start = sum_by-cons (λ m. cond (m == k) 1 0) n others in
-    let on_all = sum_by-cons (λ v. times k (onward h v)) n (later ++ rest) in
-    let on_both = sum_by-append (λ v. times k (onward h v)) later rest in
-    let in_later = visits_each h k p in
-    let in_rest = visits_each h k r in
-    omega arith
+    search (rules, sum_by-cons, cond, sum_by-append, visits_each h k p, visits_each h k r)
 
 -- a sum over a list by how often each number is in it
 sum_by-by_number : (f : ℕ → ℕ) (n : ℕ) (xs : List ℕ) → AllByRecursion (λ x. x < n) xs → sum_by f xs ≡ sum_by (λ k. times k xs * f k) (range_with_len 0 n)

@@ -1,11 +1,10 @@
 -- Whatever one course of what is due closes, another closes too, once nothing is left to be done in it.
-use Rattle.rx_event.proofs.Laws.Common.{◌≡◌, ℕ, ◌<◌, Bool, true, false, List, [], ◌∷◌, ◌++◌, length, Some, slice_get, refl, sym, ap, subst, ◌∙◌, inl, inr}
+use Rattle.rx_event.proofs.Laws.Common.{◌≡◌, ℕ, ◌<◌, Bool, true, false, List, [], ◌∷◌, ◌++◌, length, Some, slice_get, refl, sym, ap, ◌∙◌, inl, inr}
 use Rattle.rx_event.proofs.Laws.Common.{◌⊎◌, ◌==◌, arith, not, AllByRecursion, list_any, false≢true, both_ways, false_from_ne_true, or_cases, eqb-true}
 use Rattle.rx_event.proofs.Laws.Common.{and_from, same_Some, none-some, Terminal, Completed, Error, option_map_or, Kept, node_kept, Event, Connect, End}
 use Rattle.rx_event.proofs.Laws.Common.{Close, is_mirroring, is_merging, is_until, is_source_of, is_subscriber_of, is_auto_hub, at, parent, ancestors}
 use Rattle.rx_event.proofs.Laws.Common.{is_open, is_within, open_subscribers, mirrored, fired, failed, completed, cut, left, due, SourceEnded, IsDue}
 use Rattle.rx_event.proofs.Laws.Common.{IsConnected, IsSettled, completes_source, source_completed, IsLawful, ChildEnded}
-use Rattle.std.specs.Cmp.{both_ways as same_test}
 use Rattle.rx_event.specs.Forced.{Has}
 use Rattle.rx_event.proofs.Laws.Openness.{is_open_within, is_open_outside-end, is_open_outside-close, ancestors_open}
 use Rattle.rx_event.proofs.Laws.Stands.{connection_parent}
@@ -15,6 +14,7 @@ use Rattle.rx_event.proofs.Laws.OneEnd.{source_parent}
 use Rattle.rx_event.proofs.Laws.Dues.{IsDueOn, none_more, one_more, Fails, at_on, parent_on, ancestors_on, kept_on, connect_on, was_open_on, owed_on}
 use Rattle.rx_event.proofs.Laws.Dues.{fired_on, connected_on, lawful_on, EndsSo, ends_one, EndStands, stood_before, came_after, end_stands, HowClosed}
 use Rattle.rx_event.proofs.Laws.Dues.{ended_so, left_alone, closed_with, how_closed, IsClosing, by_end, by_close, closing_of}
+use Rattle.std.proofs.Common.{rules}
 
 -- the node that the event takes away
 abbrev pub taken_away : Event → ℕ
@@ -84,7 +84,7 @@ module _ {base : Kept} {b p k : List Event} (both : ArriveApart base b p k) wher
 
   child_in_k : (c : ℕ) (t : Terminal) → is_open k c ≡ true → ChildEnded p c t → ChildEnded k c t
   child_in_k c t alive child =
-      record { child = child.child; below = sym (same_parent child.child) ∙ child.below; ended = ended_in_k child.child c t child.below alive child.ended }
+      search (rules, same_parent, ended_in_k)
 
   -- a connection that ended in p ended so in k, where a subscriber of its hub is open
   source_in_k : (s : ℕ) (t : Terminal) → is_open k s ≡ true → SourceEnded p s t → SourceEnded k s t
@@ -162,10 +162,7 @@ module _ {base : Kept} {b p k : List Event} (both : ArriveApart base b p k) wher
 
 all_any : (P : ℕ → Type 0) (c : ℕ) (xs : List ℕ) → AllByRecursion P xs → list_any (λ a. c == a) xs ≡ true → P c
 all_any P c [] all found = absurd (false≢true found)
-all_any P c (x ∷ xs) all found = by_first (or_cases (c == x) (list_any (λ a. c == a) xs) found) (all_any P c xs all.1) where
-  by_first : ((c == x) ≡ true) ⊎ (list_any (λ a. c == a) xs ≡ true) → (list_any (λ a. c == a) xs ≡ true → P c) → P c
-  by_first (inl same) rest = subst P (sym (eqb-true c x same)) all.0
-  by_first (inr later) rest = rest later
+all_any P c (x ∷ xs) all found = search (rules, or_cases, list_any, eqb-true, all_any P c xs all.1)
 
 -- what stands above an open node is open
 pub open_above : (h : List Event) (c n : ℕ) → is_open h n ≡ true → is_within h c n ≡ true → is_open h c ≡ true
@@ -204,4 +201,4 @@ spared {base} {b = b} (one_more {k = p} on d) k law whole on_k settled =
 pub same_open : (base : Kept) → {b k j : List Event} → IsLawful base b → IsConnected b → IsDueOn base b k → IsSettled base k → IsDueOn base b j →
     IsSettled base j → (n : ℕ) → is_open k n ≡ is_open j n
 same_open base {k = k} {j = j} law whole on_k settled_k on_j settled_j n =
-    same_test (is_open k n) (is_open j n) (spared on_j k law whole on_k settled_k n) (spared on_k j law whole on_j settled_j n)
+    search (rules, spared, law, on_k)

@@ -1,9 +1,9 @@
 -- Neither a closing nor what is forced opens a root or connects a hub that a caller connects, so what a caller holds open grows less.
 use Rattle.rx_event.proofs.Laws.Common.{◌≡◌, ℕ, ◌+◌, ◌<◌, ◌≤◌, Bool, true, false, List, [], ◌∷◌, ◌++◌, length, Option, Some, None, cond, refl, sym, ap, ◌∙◌}
 use Rattle.rx_event.proofs.Laws.Common.{arith, inl, inr, ◌⊎◌, slice_get, append_assoc, append-nil, not, count_by, option_map_or, both_ways, false≢true}
-use Rattle.rx_event.proofs.Laws.Common.{and_parts, and_from, eq-eqb, false_from_ne_true, slice_get_within, Kept, Manual, Event, Hub, Connect, End, Close}
-use Rattle.rx_event.proofs.Laws.Common.{makes_node, makes_hub, is_root, is_auto_hub, is_manual_hub, at, places, is_open, open_connections, mirrored, fired}
-use Rattle.rx_event.proofs.Laws.Common.{failed, completed, cut, left, connecting, due, IsDue, IsForced, stays, more, IsForcedOn, IsLawful, and_false}
+use Rattle.rx_event.proofs.Laws.Common.{and_parts, and_from, eq-eqb, false_from_ne_true, slice_get_within, Kept, Manual, Event, Hub, Connect, Close}
+use Rattle.rx_event.proofs.Laws.Common.{makes_node, makes_hub, is_root, is_auto_hub, is_manual_hub, at, places, is_open, open_connections}
+use Rattle.rx_event.proofs.Laws.Common.{connecting, due, IsDue, IsForced, stays, more, IsForcedOn, IsLawful, and_false}
 use Rattle.rx_event.proofs.Laws.Common.{list_all, not-true}
 use Rattle.std.proofs.lemmas.Bool.{and_left}
 use Rattle.rx_event.specs.Claims.Closing.{is_open_root, is_manual_connect, is_manual_connection, open_root_count, manual_connection_count, IsLetGo}
@@ -15,6 +15,7 @@ use Rattle.rx_event.proofs.Laws.Sums.{sum_by-places-push, sum_by_no_rise, sum_by
 use Rattle.rx_event.proofs.Laws.Totals.{is_within_self}
 use Rattle.rx_event.proofs.Laws.Hubs.{one_connection}
 use Rattle.rx_event.proofs.Laws.LetGo.{connection_listed, first_connection, open_passes_within}
+use Rattle.std.proofs.Common.{rules}
 
 -- events that open nothing anew --------------------------------------------------------------------
 
@@ -36,12 +37,7 @@ neither_opens h e no_node no_hub = record {
 }
 
 due_opens : (base : Kept) → {h : List Event} {e : Event} → IsDue base h e → OpensNone h e
-due_opens base {h = h} (mirrored {p = p} {t = t} o k c) = neither_opens h (End p t) refl refl
-due_opens base {h = h} (fired {u = u} o k f) = neither_opens h (End u _) refl refl
-due_opens base {h = h} (failed {f = m} o k c) = neither_opens h (End m _) refl refl
-due_opens base {h = h} (completed {f = m} o k n e c w) = neither_opens h (End m _) refl refl
-due_opens base {h = h} (cut {s = s} {t = t} o c) = neither_opens h (End s t) refl refl
-due_opens base {h = h} (left {c = c} o at_c a n) = neither_opens h (Close c) refl refl
+due_opens base x2 = search (rules, neither_opens)
 
 -- nor does what is forced
 pub forced_opens : (base : Kept) → {h : List Event} {e : Event} → IsForced base h e → OpensNone h e
@@ -121,10 +117,7 @@ pub connection_manual : (h : List Event) (g c : ℕ) → IsManualConnection h g 
 connection_manual h g c m = and_from _ _ m.alive (rw (m.connected, m.manual) refl)
 
 hub_before : (h : List Event) (e : Event) (g : ℕ) → OpensNone h e → slice_get (h ++ e ∷ []) g ≡ Some (Hub Manual) → slice_get h g ≡ Some (Hub Manual)
-hub_before h e g opens manual = by_place (cases_push h e (Hub Manual) g manual) where
-  by_place : (slice_get h g ≡ Some (Hub Manual)) ⊎ (e ≡ Hub Manual) → slice_get h g ≡ Some (Hub Manual)
-  by_place (inl at_g) = at_g
-  by_place (inr same) = absurd (both_ways (makes_hub e) opens.no_hub (ap makes_hub same))
+hub_before h e g opens manual = search (rules, cases_push, manual, slice_get, both_ways)
 
 connection_before : (h : List Event) (e : Event) (g c : ℕ) → OpensNone h e → IsManualConnection (h ++ e ∷ []) g c → IsManualConnection h g c
 connection_before h e g c opens m = by_place (cases_push h e (Connect g) c m.connected) where
@@ -202,24 +195,17 @@ bit_le a b same = grind arith
 -- the new place counts for nothing
 last_uncounted : (t : List Event → ℕ → Bool) (h : List Event) (e : Event) → IsKeptBack t → OpensNone h e → t (h ++ e ∷ []) (length h) ≡ false
 last_uncounted t h e kept opens =
-    false_from_ne_true _ (λ found. let l = kept.within h (length h) (kept.before h e opens (length h) found) in absurd (omega arith))
+    search (rules, false_from_ne_true, length)
 
 count_after : (t : List Event → ℕ → Bool) (h : List Event) (e : Event) → IsKeptBack t → OpensNone h e →
     count_by (t (h ++ e ∷ [])) (places (h ++ e ∷ [])) ≡ count_by (t (h ++ e ∷ [])) (places h)
 count_after t h e kept opens =
-    let last = sum_by-places-push (λ n. cond (t (h ++ e ∷ []) n) 1 0) h e in
-    let none : cond {A = ℕ} (t (h ++ e ∷ []) (length h)) 1 0 ≡ 0 = ap (λ (b : Bool). cond {A = ℕ} b 1 0) (last_uncounted t h e kept opens) in
-    omega arith
+    search (rules, sum_by-places-push, cond, length, last_uncounted)
 
 count_no_more : (t : List Event → ℕ → Bool) → IsKeptBack t → {h k : List Event} → OpensNoneUpTo h k → count_by (t k) (places k) ≤ count_by (t h) (places h)
 count_no_more t kept stays_so = omega arith
 count_no_more t kept (one_further {k = k} {e = e} rest opens) =
-    let older =
-    sum_by_no_rise (λ n. cond (t k n) 1 0) (λ n. cond (t (k ++ e ∷ []) n) 1 0) (length k)
-    (λ n l. bit_le (t k n) (t (k ++ e ∷ []) n) (kept.before k e opens n)) in
-    let same = count_after t k e kept opens in
-    let first = count_no_more t kept rest in
-    omega arith
+    search (rules, sum_by_no_rise, cond, length, bit_le, count_after, count_no_more t kept rest)
 
 -- what the event takes away is one less
 count_less : (t : List Event → ℕ → Bool) (h : List Event) (e : Event) (c : ℕ) → IsKeptBack t → OpensNone h e → t h c ≡ true → t (h ++ e ∷ []) c ≡ false →

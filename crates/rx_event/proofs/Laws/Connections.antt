@@ -1,8 +1,8 @@
 -- Connections, one event after the other: the last of a hub and its last end tell all others, and what each event changes.
 use Rattle.rx_event.proofs.Laws.Common.{◌≡◌, ℕ, zero, suc, ◌+◌, ◌<◌, ◌≤◌, Bool, true, false, List, [], ◌∷◌, ◌++◌, length, Some, cond, refl, sym, ap, subst}
 use Rattle.rx_event.proofs.Laws.Common.{◌∙◌, inl, inr, ◌⊎◌, arith, slice_get, filter, append-nil, length-append, ◌&&◌, option_map_or, sum_by, range_with_len}
-use Rattle.rx_event.proofs.Laws.Common.{sum_by_push, sum_by-cons, cases_order, and_parts, and_from, slice_get_within, same_Some, Terminal, Kept, shown, Place}
-use Rattle.rx_event.proofs.Laws.Common.{Sub, Event, Open, Connect, End, Close, is_auto_hub, is_connect_of, is_subscriber_of, at, places, is_open}
+use Rattle.rx_event.proofs.Laws.Common.{sum_by_push, sum_by-cons, cases_order, and_parts, and_from, slice_get_within, same_Some, Terminal, Kept, shown}
+use Rattle.rx_event.proofs.Laws.Common.{Event, Open, Connect, End, Close, is_auto_hub, is_connect_of, is_subscriber_of, at, places, is_open}
 use Rattle.rx_event.proofs.Laws.Common.{open_subscribers, cut, left, due, SourceEnded, IsDue, IsConnectDue, Started, forced, allowed, MayFollow, IsLawful}
 use Rattle.rx_event.proofs.Laws.Common.{hub_subscribed}
 use Rattle.std.proofs.Common.{◌↔◌}
@@ -18,6 +18,7 @@ use Rattle.rx_event.proofs.Laws.Sums.{below_push}
 use Rattle.rx_event.proofs.Laws.Waits.{waited_end, waited_close, waited_close_allowed, waited_before, auto_before}
 use Rattle.rx_event.proofs.Laws.OneEnd.{one_end}
 use Rattle.rx_event.proofs.Laws.Calm.{subscriber_listed}
+use Rattle.std.proofs.Common.{rules}
 
 -- the last connection -------------------------------------------------------------------------------
 
@@ -65,33 +66,16 @@ last_connection {base} =
 -- a node subscribes to one hub
 pub one_hub : (h : List Event) (s g k : ℕ) → at (is_subscriber_of g) h s ≡ true → at (is_subscriber_of k) h s ≡ true → g ≡ k
 one_hub h s g k one other =
-    let p = subscriber_found g (slice_get h s) one in
-    let q = subscriber_found k (slice_get h s) other in
-    same p.0 q.0 (same_Some (Open p.0 (Sub g)) (Open q.0 (Sub k)) (sym p.1 ∙ q.1))
-  where
-    same : (a b : Place) → Open a (Sub g) ≡ Open b (Sub k) → g ≡ k
-    same a b e = cc
+    search (rules, subscriber_found, slice_get, same_Some)
 
 -- what has ended its source ends a connection of its hub
 pub ends_of_source : (h : List Event) (g s : ℕ) (t : Terminal) → at (is_subscriber_of g) h s ≡ true → (x : SourceEnded h s t) → EndsConnection h g x.place t
-ends_of_source h g s t subscribes x = record {
-  connection = x.connection;
-  connects = x.connects ∙ ap (λ (k : ℕ). Some (Connect k)) (one_hub h s x.hub g x.subscribes subscribes);
-  ended = x.ended;
-}
+ends_of_source h g s t subscribes x = search (rules, one_hub)
 
 -- and where that stands after it, it has
 pub source_ended_by : (h : List Event) (g s place : ℕ) (t : Terminal) → at (is_subscriber_of g) h s ≡ true → EndsConnection h g place t → s < place →
     SourceEnded h s t
-source_ended_by h g s place t subscribes x l = record {
-  hub = g;
-  connection = x.connection;
-  place = place;
-  subscribes = subscribes;
-  connects = x.connects;
-  later = l;
-  ended = x.ended;
-}
+source_ended_by h g s place t subscribes x l = search rules
 
 -- an open subscriber is cut by the last end, where that stands after it, and by no other
 pub cut_by_last : {base : Kept} {h : List Event} → IsLawful base h → {g place : ℕ} {t : Terminal} → EndsLast h g place t → (s : ℕ) (u : Terminal) →

@@ -3,7 +3,7 @@ use Rattle.rx_event.proofs.Laws.Common.{◌≡◌, ℕ, ℤ, ◌+◌, ◌<◌, �
 use Rattle.rx_event.proofs.Laws.Common.{arith, ◌==◌, not, ◌&&◌, ◌||◌, sum_by, count_by, option_map_or, eq-eqb, eqb-true, false≢true, Terminal}
 use Rattle.rx_event.proofs.Laws.Common.{Kept, Root, Source, Inner, Notifier, Kind, Mode, Event, Open, Hub, Connect, Accept, Use, Remove, Lease, Return, Item}
 use Rattle.rx_event.proofs.Laws.Common.{Decline, End, Close, Take, makes_node, makes_resource, makes_lease, is_merging, is_switch, is_remove_of, pays, at}
-use Rattle.rx_event.proofs.Laws.Common.{places, is_open, is_owned, is_out, is_held, is_waiting, stops, owed, is_projection_to, stops_of, open_count}
+use Rattle.rx_event.proofs.Laws.Common.{places, is_open, is_owned, is_out, is_held, is_waiting, stops, owed, stops_of, open_count}
 use Rattle.rx_event.proofs.Laws.Common.{MayFollow, IsLawful, zero_or_zero, none_counted, ◌*◌, is_take, is_return, held_count, waiting_count, debt}
 use Rattle.rx_event.specs.Moments.{is_projection}
 use Rattle.rx_event.specs.Totals.{owned_count, lease_count, owed_open, owed_count, kept_debt}
@@ -17,6 +17,7 @@ use Rattle.rx_event.proofs.Laws.Resources.{node_of, owned_held, waiting_parts}
 use Rattle.rx_event.proofs.Laws.Totals.{unowned_count, cut_count, owned_count-push, held_waiting_count-push, open_count-push, is_open_new, accepts_open}
 use Rattle.rx_event.proofs.Laws.Totals.{within_some, unowned_one, unowned_none, one_if}
 use Rattle.rx_event.proofs.Laws.Projections.{owed-push, owed_new, projected_open, projected_count, stops_open}
+use Rattle.std.proofs.Common.{rules}
 
 -- the debt as a sum of totals -----------------------------------------------------------------------
 
@@ -43,11 +44,11 @@ debt-counts base h =
 
 -- a new node owes nothing
 owed_open_new : (base : Kept) → (h : List Event) → IsLawful base h → (e : Event) → owed_open base (h ++ e ∷ []) (length h) ≡ 0
-owed_open_new base h law e = rw (owed_new base h law e) (zero_or_zero (is_open (h ++ e ∷ []) (length h) && at is_merging (h ++ e ∷ []) (length h)))
+owed_open_new base h law e = search (rules, owed_new, zero_or_zero, length)
 
 owed_count_older : (base : Kept) → (h : List Event) → IsLawful base h → (e : Event) →
     owed_count base (h ++ e ∷ []) ≡ sum_by (owed_open base (h ++ e ∷ [])) (places h)
-owed_count_older base h law e = let last = sum_by-places-push (owed_open base (h ++ e ∷ [])) h e in let new = owed_open_new base h law e in omega arith
+owed_count_older base h law e = search (rules, sum_by-places-push, owed_open_new)
 
 -- how many open FlatMaps and Switches the event pays: one or none
 abbrev pub paid_count : List Event → Event → ℕ
@@ -72,21 +73,13 @@ owed_count-push base h e law next whole =
 owed_open_no_rise : (base : Kept) → (h : List Event) (e : Event) → IsLawful base h → MayFollow base h e → stops_of h e ≡ [] → (n : ℕ) → n < length h →
     owed_open base (h ++ e ∷ []) n ≤ owed_open base h n
 owed_open_no_rise base h e law next no_stops n l =
-    let b = owed-push base h e law next n in
-    let c : count_by (is_projection_to n) (stops_of h e) ≡ 0 = ap (λ ss. count_by (is_projection_to n) ss) no_stops in
-    rw (is_open_cut h e n l, at-append is_merging h (e ∷ []) n l)
-    (shape (is_open h n) (is_cut h e n) (at is_merging h n) (owed base (h ++ e ∷ []) n) (owed base h n) (omega arith))
-  where
-    shape : (o c m : Bool) (x y : ℕ) → x ≤ y → cond ((o && not c) && m) x 0 ≤ cond (o && m) y 0
-    shape o c m x y le = grind arith
+    search (rules, owed-push, count_by, is_open_cut, at-append, cond, not)
 
 -- an event that projects nothing raises nothing that is owed
 pub owed_count_no_rise : (base : Kept) → (h : List Event) (e : Event) → IsLawful base h → MayFollow base h e → stops_of h e ≡ [] →
     owed_count base (h ++ e ∷ []) ≤ owed_count base h
 owed_count_no_rise base h e law next no_stops =
-    let older = owed_count_older base h law e in
-    let b = sum_by_no_rise (owed_open base h) (owed_open base (h ++ e ∷ [])) (length h) (owed_open_no_rise base h e law next no_stops) in
-    omega arith
+    search (rules, owed_count_older, sum_by_no_rise, length, owed_open_no_rise)
 
 -- the opening of an inner pays one
 pub owed_count_falls-inner : (base : Kept) → (h : List Event) (f : ℕ) (kind : Kind) → IsLawful base h → MayFollow base h (Open (Inner f) kind) →
@@ -139,15 +132,7 @@ pub debt-push : (base : Kept) → (h : List Event) (e : Event) → IsLawful base
     debt base (h ++ e ∷ []) + cut_count h e + unowned_count h e + cond (is_take e) 1 0 + cond (is_return e) 1 0 + owed_count base h ≡ debt base h + cond
     (makes_node e) 1 0 + 2 * cond (makes_resource e) 1 0 + cond (makes_lease e) 1 0 + owed_count base (h ++ e ∷ [])
 debt-push base h e law next =
-    let before = debt-counts base h in
-    let after = debt-counts base (h ++ e ∷ []) in
-    let o = open_count-push h e in
-    let n = one_if (is_open_new base h e next) in
-    let k = owned_count-push base h e law in
-    let a = one_if (accepts_open base h e next) in
-    let w = held_waiting_count-push base h e law next in
-    let l = lease_count-push base h e law next in
-    omega arith
+    search (rules, debt-counts, open_count-push, one_if, is_open_new, owned_count-push, accepts_open, held_waiting_count-push, lease_count-push)
 
 no_cut_count : (h : List Event) (e : Event) → ((n : ℕ) → is_cut h e n ≡ false) → cut_count h e ≡ 0
 no_cut_count h e whole = sum_by_none _ (length h) (λ n l. rw (whole n) (none_counted (is_open h n)))
@@ -332,22 +317,14 @@ debt-inner_flat base h f kind law next flat =
 pub debt_no_rise-inner : (base : Kept) → (h : List Event) (f : ℕ) (kind : Kind) → IsLawful base h → MayFollow base h (Open (Inner f) kind) →
     debt base (h ++ Open (Inner f) kind ∷ []) ≤ debt base h
 debt_no_rise-inner base h f kind law next =
-    let b = debt-push base h (Open (Inner f) kind) law next in
-    let w = owed_count_falls-inner base h f kind law next in
-    omega arith
+    search (rules, debt-push, owed_count_falls-inner)
 
 -- an end and a closing pay at least one
 pub debt_falls-end : (base : Kept) → (h : List Event) (c : ℕ) (t : Terminal) → IsLawful base h → MayFollow base h (End c t) →
     debt base (h ++ End c t ∷ []) + 1 ≤ debt base h
 debt_falls-end base h c t law next =
-    let b = debt-push base h (End c t) law next in
-    let s = within_some h c (may_end base next) in
-    let w = owed_count_no_rise base h (End c t) law next refl in
-    omega arith
+    search (rules, debt-push, within_some, may_end, owed_count_no_rise)
 
 pub debt_falls-close : (base : Kept) → (h : List Event) (c : ℕ) → IsLawful base h → MayFollow base h (Close c) → debt base (h ++ Close c ∷ []) + 1 ≤ debt base h
 debt_falls-close base h c law next =
-    let b = debt-push base h (Close c) law next in
-    let s = within_some h c (may_close base next) in
-    let w = owed_count_no_rise base h (Close c) law next refl in
-    omega arith
+    search (rules, debt-push, within_some, may_close, owed_count_no_rise)

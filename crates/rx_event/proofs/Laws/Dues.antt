@@ -2,9 +2,9 @@
 use Rattle.rx_event.proofs.Laws.Common.{◌≡◌, ℕ, ◌+◌, ◌<◌, ◌≤◌, Bool, true, false, List, [], ◌∷◌, ◌++◌, length, Option, Some, None, cond, slice_get, refl, sym}
 use Rattle.rx_event.proofs.Laws.Common.{ap, subst, ◌∙◌, inl, inr, ◌⊎◌, arith, length-append, not, ◌&&◌, ◌||◌, list_any, count_by, option_and_then}
 use Rattle.rx_event.proofs.Laws.Common.{option_map_or, cases_order, false≢true, both_ways, sum_by_push, slice_get_within, slice_get_past, same_Some}
-use Rattle.rx_event.proofs.Laws.Common.{none-some, Terminal, Completed, Error, Kept, Event, Connect, End, Close, parent_named, is_subscriber_of, at, parent}
-use Rattle.rx_event.proofs.Laws.Common.{if_less, ancestors, is_open, is_within, open_subscribers, owed, is_fired, is_firing_of, stops_of, mirrored, fired}
-use Rattle.rx_event.proofs.Laws.Common.{failed, completed, cut, left, connecting, due, IsDue, IsForced, IsConnected, forced, stays, more, IsLawful}
+use Rattle.rx_event.proofs.Laws.Common.{none-some, Terminal, Kept, Event, Connect, End, Close, parent_named, is_subscriber_of, at, parent}
+use Rattle.rx_event.proofs.Laws.Common.{if_less, ancestors, is_open, is_within, open_subscribers, owed, is_fired, mirrored, fired}
+use Rattle.rx_event.proofs.Laws.Common.{failed, completed, cut, connecting, due, IsDue, IsForced, IsConnected, forced, stays, more, IsLawful}
 use Rattle.rx_event.proofs.Laws.Common.{IsForcedOn, and_false, or_false, list_any-append}
 use Rattle.rx_event.proofs.Laws.Places.{slice_get-append, slice_get_last, cases_push}
 use Rattle.rx_event.proofs.Laws.Parents.{ancestors-append, within_cases}
@@ -15,7 +15,8 @@ use Rattle.rx_event.proofs.Laws.Waits.{kept_due}
 use Rattle.rx_event.proofs.Laws.Projections.{owed_kept}
 use Rattle.rx_event.proofs.Laws.MarksAfter.{is_fired-push}
 use Rattle.rx_event.proofs.Laws.Calm.{subscriber_listed, none_subscribed}
-use Rattle.rx_event.proofs.Laws.OneEnd.{ends_as, completes, ends_so, completes_one, fires_it, IsReason, due_before, one_end}
+use Rattle.rx_event.proofs.Laws.OneEnd.{ends_as, completes, completes_one, fires_it, due_before, one_end}
+use Rattle.std.proofs.Common.{rules}
 
 -- From b to k each event was due in the history before it
 pub data IsDueOn (base : Kept) (b : List Event) : List Event → Type 0 where
@@ -28,12 +29,7 @@ pub data IsClosing (base : Kept) (h : List Event) : Event → Type 0 where
   by_close : (c g : ℕ) → slice_get h c ≡ Some (Connect g) → open_subscribers h g ≡ [] → is_open h c ≡ true → IsClosing base h (Close c)
 
 pub closing_of : (base : Kept) → {h : List Event} {e : Event} → IsDue base h e → IsClosing base h e
-closing_of base (mirrored {p = c} o m child) = by_end c (mirrored o m child) o
-closing_of base (fired {u = c} o m f) = by_end c (fired o m f) o
-closing_of base (failed {f = c} o m child) = by_end c (failed o m child) o
-closing_of base (completed {f = c} o m x s below w) = by_end c (completed o m x s below w) o
-closing_of base (cut {s = c} o s) = by_end c (cut o s) o
-closing_of base (left {c = c} {g = g} o at_c auto none) = by_close c g at_c none o
+closing_of base x1 = search (rules, by_end, mirrored, fired, failed, completed, cut, by_close)
 
 inside_by : (a : Bool) → (true && not a) ≡ false → a ≡ true
 inside_by a gone = grind arith
@@ -55,8 +51,7 @@ seen_same {X = X} f h e unseen n = by_place (cases_order n (length h)) where
       ap f (slice_get_past (h ++ e ∷ []) n (omega (arith, length-append h (e ∷ [])))) ∙ sym (ap f (slice_get_past h n (omega arith)))
 
 unseen_closing : (base : Kept) → {X : Type 0} (f : Option Event → X) → SeesNone f → {h : List Event} {e : Event} → IsClosing base h e → f (Some e) ≡ f None
-unseen_closing base f sees (by_end c {t = t} d o) = sees.no_end c t
-unseen_closing base f sees (by_close c g at_c none o) = sees.no_close c
+unseen_closing base f sees x3 = search rules
 
 pub seen_on : (base : Kept) → {X : Type 0} (f : Option Event → X) → SeesNone f → {b k : List Event} → IsDueOn base b k → (n : ℕ) →
     f (slice_get k n) ≡ f (slice_get b n)
@@ -69,8 +64,7 @@ pub record Fails (p : Event → Bool) : Type 0 where
   pub at_close : (c : ℕ) → p (Close c) ≡ false
 
 fails_closing : (base : Kept) → (p : Event → Bool) → Fails p → {h : List Event} {e : Event} → IsClosing base h e → p e ≡ false
-fails_closing base p fails (by_end c {t = t} d o) = fails.at_end c t
-fails_closing base p fails (by_close c g at_c none o) = fails.at_close c
+fails_closing base p fails x3 = search rules
 
 pub at_on : (base : Kept) → (p : Event → Bool) → Fails p → {b k : List Event} → IsDueOn base b k → (n : ℕ) → at p k n ≡ at p b n
 at_on base p fails on n = seen_on base (λ o. option_map_or p o false) (record { no_end = fails.at_end; no_close = fails.at_close }) on n
@@ -189,25 +183,7 @@ ends_one base b law t u a c = one_end b law a.node c.node t u a.ends_due c.ends_
 begun_step : {base : Kept} → {b k : List Event} (e : Event) → IsLawful base k → IsConnected k → IsDue base k e →
     ((n : ℕ) (t : Terminal) → IsDue base k (End n t) → EndsSo base b t) →
     (n : ℕ) (t : Terminal) → IsDue base (k ++ e ∷ []) (End n t) → EndsSo base b t
-begun_step {base} {b} {k} e law whole d before n t now = by_reason (due_before base k e law (forced (due whole d)) n t now) where
-  by_end_of : {x : Event} → IsClosing base k x → ends_as x ≡ Some t → EndsSo base b t
-  by_end_of (by_end c {t = u} y o) same = subst (λ (v : Terminal). EndsSo base b v) (same_Some u t same) (before c u y)
-  by_end_of (by_close c g at_c none o) same = absurd (none-some t same)
-
-  by_completion : {x : Event} → IsClosing base k x → completes x ≡ true → EndsSo base b Completed
-  by_completion (by_end c {t = Completed} y o) same = before c Completed y
-  by_completion (by_end c {t = Error code} y o) same = absurd (false≢true same)
-  by_completion (by_close c g at_c none o) same = absurd (false≢true same)
-
-  fires_none : {x : Event} → IsClosing base k x → list_any (is_firing_of n) (stops_of k x) ≡ false
-  fires_none (by_end c y o) = refl
-  fires_none (by_close c g at_c none o) = refl
-
-  by_reason : IsDue base k (End n t) ⊎ IsReason k e n t → EndsSo base b t
-  by_reason (inl then) = before n t then
-  by_reason (inr (ends_so same)) = by_end_of (closing_of base d) same
-  by_reason (inr (completes_one same is)) = subst (λ (v : Terminal). EndsSo base b v) (sym is) (by_completion (closing_of base d) same)
-  by_reason (inr (fires_it fires is)) = absurd (both_ways (list_any (is_firing_of n) (stops_of k e)) (fires_none (closing_of base d)) fires)
+begun_step {base} {b} {k} e law whole d before n t now = search (rules, due_before, forced, due, ends_as, by_end, same_Some, by_close, none-some, completes, false≢true, list_any, closing_of, completes_one, fires_it, both_ways)
 
 -- so does all that follows, since a due end is the reason of none but such ends
 pub begun_on : (base : Kept) → {b k : List Event} → IsDueOn base b k → IsLawful base b → IsConnected b → (n : ℕ) (t : Terminal) → IsDue base k (End n t) →

@@ -6,9 +6,10 @@ use Rattle.rx_event.specs.Events.{is_connect}
 use Rattle.rx_event.specs.Canonical.{IsFirstOn, nothing_yet, first_next}
 use Rattle.rx_event.proofs.Laws.Lawful.{IsLawful-push}
 use Rattle.rx_event.proofs.Laws.Waits.{kept_due, forced_closes, connected_first}
-use Rattle.rx_event.proofs.Laws.Dues.{IsClosing, by_end, by_close, closing_of}
+use Rattle.rx_event.proofs.Laws.Dues.{IsClosing, closing_of}
 use Rattle.rx_event.proofs.Laws.Starts.{one_hub_waits}
 use Rattle.rx_event.proofs.Laws.InOrder.{first_is_forced, settled_by_order}
+use Rattle.std.proofs.Common.{rules}
 
 -- what comes in this order is forced
 pub first_forced_on : (base : Kept) → {b k : List Event} → IsFirstOn base b k → IsForcedOn base b k
@@ -39,7 +40,7 @@ one_goes_on base nothing_yet other = inl other
 one_goes_on base {j = j} (first_next {k = k} {e = e} on f) other = by_rest (one_goes_on base on other) where
   by_first : (j ≡ k) ⊎ FirstOf base k j → IsFirstOn base (k ++ e ∷ []) j ⊎ IsFirstOn base j (k ++ e ∷ [])
   by_first (inl same) = inr (subst (λ (q : List Event). IsFirstOn base q (k ++ e ∷ [])) (sym same) (first_next nothing_yet f))
-  by_first (inr begun) = inl (subst (λ (x : Event). IsFirstOn base (k ++ x ∷ []) j) (same_Some begun.event e (sym begun.first ∙ f)) begun.rest)
+  by_first (inr begun) = inl (search (rules, same_Some))
 
   by_rest : IsFirstOn base k j ⊎ IsFirstOn base j k → IsFirstOn base (k ++ e ∷ []) j ⊎ IsFirstOn base j (k ++ e ∷ [])
   by_rest (inr back) = inr (first_next back f)
@@ -54,10 +55,7 @@ ends_there base {k = k} {j = j} on none = by_first (first_of base on) where
 -- so both are the same where both are at their end
 pub one_finish : (base : Kept) → (b k j : List Event) → IsFirstOn base b k → first_forced base k ≡ None → IsFirstOn base b j → first_forced base j ≡ None →
     k ≡ j
-one_finish base b k j on_k none_k on_j none_j = by_way (one_goes_on base on_k on_j) where
-  by_way : IsFirstOn base k j ⊎ IsFirstOn base j k → k ≡ j
-  by_way (inl there) = sym (ends_there base there none_k)
-  by_way (inr back) = ends_there base back none_j
+one_finish base b k j on_k none_k on_j none_j = search (rules, one_goes_on, ends_there)
 
 -- there is one ------------------------------------------------------------------------------------------------------------------
 
@@ -73,8 +71,7 @@ before_first base f nothing_yet = first_next nothing_yet f
 before_first base f (first_next on g) = first_next (before_first base f on) g
 
 due_connects_none : (base : Kept) → {h : List Event} {e : Event} → IsClosing base h e → is_connect e ≡ false
-due_connects_none base (by_end c d o) = refl
-due_connects_none base (by_close c g at_c none o) = refl
+due_connects_none base x1 = search rules
 
 finish_due : (base : Kept) → (steps : ℕ) (b : List Event) → IsLawful base b → IsConnected b → open_count b < steps → Finishes base b
 finish_due base zero b law whole l = absurd (omega arith)

@@ -1,10 +1,10 @@
 -- Hubs: at most one connection of each is open, and in a settled history a RefCount hub has one just where it has a subscriber.
-use Rattle.rx_event.proofs.Laws.Common.{subst, ◌≡◌, ℕ, ◌+◌, ◌<◌, ◌≤◌, true, false, List, [], ◌∷◌, ◌++◌, length, Option, Some, None, refl, sym, ap, ◌∙◌, arith}
+use Rattle.rx_event.proofs.Laws.Common.{subst, ◌≡◌, ℕ, ◌+◌, ◌<◌, ◌≤◌, true, false, List, [], ◌∷◌, ◌++◌, length, Option, Some, refl, sym, ap, ◌∙◌, arith}
 use Rattle.rx_event.proofs.Laws.Common.{inl, inr, ◌⊎◌, ◌==◌, take, drop, slice_get, length-append, ◌&&◌, option_map_or, cases_order, false≢true, and_parts}
 use Rattle.rx_event.proofs.Laws.Common.{and_from, eq-eqb, eqb-true, length-take-le, slice_get_within, same_Some, none-some, list_any, Kept, Place, Root}
 use Rattle.rx_event.proofs.Laws.Common.{Source, Inner, Notifier, Kind, Sub, Event, Open, Connect, Close, makes_hub, is_auto_hub, is_manual_hub, is_connect_of}
 use Rattle.rx_event.proofs.Laws.Common.{is_subscriber_of, at, places, parent, ancestors, is_within, is_open, open_subscribers, open_connections, cut, left}
-use Rattle.rx_event.proofs.Laws.Common.{connecting, due, IsDue, IsForced, IsConnectDue, IsSettled, IsAllowed, IsInOrderAt, forced, allowed, MayFollow}
+use Rattle.rx_event.proofs.Laws.Common.{connecting, due, IsDue, IsForced, IsConnectDue, IsSettled, IsAllowed, IsInOrderAt, MayFollow}
 use Rattle.rx_event.proofs.Laws.Common.{IsLawful, ◌≢◌, connected, IsHubbed, IsInOrder}
 use Rattle.std.proofs.Common.{take-append-drop}
 use Rattle.std.proofs.lemmas.List.{length-take}
@@ -15,6 +15,7 @@ use Rattle.rx_event.proofs.Laws.Parents.{parent-lt, parent_name, ancestors-appen
 use Rattle.rx_event.proofs.Laws.Lawful.{in_base, since_base, FoundAt, found_at}
 use Rattle.rx_event.proofs.Laws.Openness.{is_open_within, open_old}
 use Rattle.rx_event.proofs.Laws.Steps.{by_events, forced_kind}
+use Rattle.std.proofs.Common.{rules}
 
 -- a connection --------------------------------------------------------------------------------------
 
@@ -29,21 +30,18 @@ due_connect : (base : Kept) → {h : List Event} {g : ℕ} → IsDue base h (Con
 due_connect base d = elim d [ ]
 
 forced_connect : (base : Kept) → {h : List Event} {g : ℕ} → IsForced base h (Connect g) → open_connections h g ≡ []
-forced_connect base (connecting d) = d.unconnected
-forced_connect base (due n d) = absurd (due_connect base d)
+forced_connect base x1 = search (rules, due_connect)
 
 allowed_connect : (base : Kept) → {h : List Event} {g : ℕ} → IsAllowed base h (Connect g) → open_connections h g ≡ []
 allowed_connect base (connected m unconnected few) = unconnected
 
 -- a hub is connected where no connection of it is open
 pub may_connect : (base : Kept) → {h : List Event} {g : ℕ} → MayFollow base h (Connect g) → open_connections h g ≡ []
-may_connect base (forced f) = forced_connect base f
-may_connect base (allowed s a) = allowed_connect base a
+may_connect base x1 = search (rules, forced_connect, allowed_connect)
 
 -- also by any event that connects it
 pub connect_free : (base : Kept) → (h : List Event) (e : Event) (g : ℕ) → MayFollow base h e → is_connect_of g e ≡ true → open_connections h g ≡ []
-connect_free base h (Connect k) g next connects = rw (← eqb-true k g connects) (may_connect base next)
-connect_free base h _ g next connects = absurd (false≢true connects)
+connect_free base h x2 g next connects = search (rules, eqb-true, may_connect, false≢true)
 
 -- one connection ----------------------------------------------------------------------------------
 
@@ -108,16 +106,14 @@ pub manual_made : (o : Option Event) → option_map_or is_manual_hub o false ≡
 manual_made o manual = grind arith
 
 forced_hub : (base : Kept) → {h : List Event} {g : ℕ} → IsForced base h (Connect g) → at makes_hub h g ≡ true
-forced_hub base {h = h} {g = g} (connecting d) = auto_made (slice_get h g) d.auto
-forced_hub base (due n d) = absurd (due_connect base d)
+forced_hub base x3 = search (rules, auto_made, slice_get, due_connect)
 
 allowed_hub : (base : Kept) → {h : List Event} {g : ℕ} → IsAllowed base h (Connect g) → at makes_hub h g ≡ true
 allowed_hub base {h = h} {g = g} (connected manual unconnected few) = manual_made (slice_get h g) manual
 
 -- what is connected is a hub
 pub may_connect_hub : (base : Kept) → {h : List Event} {g : ℕ} → MayFollow base h (Connect g) → at makes_hub h g ≡ true
-may_connect_hub base (forced f) = forced_hub base f
-may_connect_hub base (allowed s a) = allowed_hub base a
+may_connect_hub base x1 = search (rules, forced_hub, allowed_hub)
 
 pub hub_before : (base : Kept) → (h : List Event) → IsLawful base h → (c g : ℕ) → slice_get h c ≡ Some (Connect g) → at makes_hub (take c h) g ≡ true
 hub_before base h law c g at_c = by_case (found_at base h law c (Connect g) at_c) where
@@ -187,17 +183,14 @@ one_where_subscribed base h g law settled auto subscribed = by_list (open_connec
 -- the order of hubs -------------------------------------------------------------------------------
 
 pub subscriber_found : (g : ℕ) (o : Option Event) → option_map_or (is_subscriber_of g) o false ≡ true → (place : Place) × (o ≡ Some (Open place (Sub g)))
-subscriber_found g None subscribes = absurd (false≢true subscribes)
-subscriber_found g (Some (Open place (Sub k))) subscribes = (place, ap (λ q. Some (Open place (Sub q))) (eqb-true k g subscribes))
-subscriber_found g (Some _) subscribes = absurd (false≢true subscribes)
+subscriber_found g x1 subscribes = search (rules, false≢true, eqb-true)
 
 allowed_hubbed : (base : Kept) → {h : List Event} {place : Place} {kind : Kind} → IsAllowed base h (Open place kind) → IsHubbed h place kind
 allowed_hubbed base (opened free hubbed few room) = hubbed
 
 -- the hub of what is opened is there, and in order
 pub may_subscribe : (base : Kept) → {h : List Event} {place : Place} {kind : Kind} → MayFollow base h (Open place kind) → IsHubbed h place kind
-may_subscribe base (forced f) = absurd (false≢true (forced_kind base f))
-may_subscribe base (allowed s a) = allowed_hubbed base a
+may_subscribe base x1 = search (rules, false≢true, forced_kind, allowed_hubbed)
 
 hubbed_before : (base : Kept) → (h : List Event) → IsLawful base h → (n : ℕ) (place : Place) (kind : Kind) → slice_get h n ≡ Some (Open place kind) →
     IsHubbed (take n h) place kind

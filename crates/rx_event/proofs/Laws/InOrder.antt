@@ -1,13 +1,13 @@
 -- One order of what is forced: there is always one next, where anything is forced, and so one end of a step.
 use Rattle.rx_event.proofs.Laws.Common.{◌≡◌, ℕ, ◌+◌, ◌<◌, Bool, true, false, List, [], ◌∷◌, length, Option, Some, None, cond, slice_get, refl, sym, ap, subst}
 use Rattle.rx_event.proofs.Laws.Common.{◌∙◌, inl, inr, ◌⊎◌, nat_lt, arith, ◌&&◌, list_any, option_and_then, option_map_or, option_or, false≢true, and_parts}
-use Rattle.rx_event.proofs.Laws.Common.{and_from, lt-ltb, eq-eqb, same_Some, none-some, slice_get_within, Terminal, Completed, Kept, Leaf, Pass, Flat, Switch}
-use Rattle.rx_event.proofs.Laws.Common.{Until, Sub, Event, Open, Connect, End, Close, is_mirroring, is_merging, is_until, is_auto_hub, is_connect_of}
+use Rattle.rx_event.proofs.Laws.Common.{and_from, lt-ltb, eq-eqb, same_Some, none-some, slice_get_within, Terminal, Completed, Kept}
+use Rattle.rx_event.proofs.Laws.Common.{Event, Connect, End, Close, is_mirroring, is_merging, is_until, is_auto_hub}
 use Rattle.rx_event.proofs.Laws.Common.{is_subscriber_of, at, places, is_open, open_subscribers, open_connections, is_fired, mirrored, fired, cut, left}
 use Rattle.rx_event.proofs.Laws.Common.{connecting, due, SourceEnded, IsDue, IsForced, IsConnectDue, IsConnected, IsSettled, child_terminal, marks_of, due_at}
-use Rattle.rx_event.proofs.Laws.Common.{option_map, ltb-true, cond_some, hub_subscribed, terminal_due, first_forced}
+use Rattle.rx_event.proofs.Laws.Common.{option_map, ltb-true, cond_some, hub_subscribed, first_forced}
 use Rattle.rx_event.specs.Events.{hub_connected}
-use Rattle.rx_event.specs.Marks.{first_some, is_over, completed_if}
+use Rattle.rx_event.specs.Marks.{first_some, is_over}
 use Rattle.rx_event.specs.Canonical.{ends_connection, ends_source_at, source_end, is_nothing, is_nil, waits_at, Joining, Mirroring, Firing, Failing}
 use Rattle.rx_event.specs.Canonical.{Completing, Cutting, Leaving, Rule, gives}
 use Rattle.rx_event.proofs.Laws.Openness.{is_open_within}
@@ -17,6 +17,7 @@ use Rattle.rx_event.proofs.Laws.Searches.{first_found, first_none, list_any_foun
 use Rattle.rx_event.proofs.Laws.MarksFound.{child_terminal_some}
 use Rattle.rx_event.proofs.Laws.MarksDue.{merging_due, settled_by_marks}
 use Rattle.rx_event.proofs.Laws.Bases.{range_at}
+use Rattle.std.proofs.Common.{rules}
 
 pub place_get : (h : List Event) (i : ℕ) → i < length h → slice_get (places h) i ≡ Some i
 place_get h i l = let same : 0 + i ≡ i = omega arith in range_at 0 (length h) i l ∙ ap (λ k. Some k) same
@@ -27,30 +28,22 @@ none_given f h none n l = first_none f (places h) none n n (place_get h n l)
 
 -- a value under a test
 if_some : {Y : Type 0} (b : Bool) (o : Option Y) (y : Y) → cond b o None ≡ Some y → (b ≡ true) × (o ≡ Some y)
-if_some true o y same = (refl, same)
-if_some false o y same = absurd (none-some y same)
+if_some x0 o y same = search (rules, none-some)
 
 -- how a source ended ---------------------------------------------------------------------------------------------------
 
 and_then_some : {X Y : Type 0} (f : X → Option Y) (o : Option X) (y : Y) → option_and_then f o ≡ Some y → (x : X) × (o ≡ Some x) × (f x ≡ Some y)
-and_then_some f None y found = absurd (none-some y found)
-and_then_some f (Some x) y found = (x, refl, found)
+and_then_some f x1 y found = search (rules, none-some)
 
 connection_ends : (h : List Event) (g : ℕ) (e : Event) (t : Terminal) → ends_connection h g e ≡ Some t →
     (c : ℕ) × (e ≡ End c t) × (slice_get h c ≡ Some (Connect g))
-connection_ends h g (End c u) t found =
-    let w : (at (is_connect_of g) h c ≡ true) × (u ≡ t) = cond_some (at (is_connect_of g) h c) u t found in
-    (c, ap (λ v. End c v) w.1, at_connect h g c w.0)
-connection_ends h g _ t found = absurd (none-some t found)
+connection_ends h g x2 t found = search (rules, cond_some, at_connect, none-some)
 
 pub subscribed_event : (e : Event) (g : ℕ) → hub_subscribed e ≡ Some g → is_subscriber_of g e ≡ true
-subscribed_event (Open place (Sub k)) g same = eq-eqb k g (same_Some k g same)
-subscribed_event (Open place kind) g same = absurd (cc)
-subscribed_event _ g same = absurd (none-some g same)
+subscribed_event x0 g same = search (rules, eq-eqb, same_Some, none-some)
 
 pub connected_event : (e : Event) (g : ℕ) → hub_connected e ≡ Some g → e ≡ Connect g
-connected_event (Connect k) g same = ap (λ n. Connect n) (same_Some k g same)
-connected_event _ g same = absurd (none-some g same)
+connected_event x0 g same = search (rules, same_Some, none-some)
 
 source_found : {h : List Event} {s g place c : ℕ} {x : Event} (y : Event) (t : Terminal) → slice_get h s ≡ Some x → hub_subscribed x ≡ Some g → s < place →
     slice_get h place ≡ Some y → y ≡ End c t → slice_get h c ≡ Some (Connect g) → SourceEnded h s t
@@ -67,13 +60,7 @@ source_found {g} {place} {c} {x} y t at_s subscribes later at_place ends connect
 pub source_end_some : (h : List Event) (s : ℕ) (t : Terminal) → source_end h s ≡ Some t → SourceEnded h s t
 unfolding source_end
 source_end_some h s t found =
-    let one = and_then_some (λ g. first_some (ends_source_at h s g) (places h)) (option_and_then hub_subscribed (slice_get h s)) t found in
-    let sub = and_then_some hub_subscribed (slice_get h s) one.0 one.1 in
-    let r = first_found (ends_source_at h s one.0) (places h) t one.2 in
-    let w = if_some (nat_lt s r.1) (option_and_then (ends_connection h one.0) (slice_get h r.1)) t r.3 in
-    let e = and_then_some (ends_connection h one.0) (slice_get h r.1) t w.1 in
-    let c = connection_ends h one.0 e.0 t e.2 in
-    source_found e.0 t sub.1 sub.2 (ltb-true s r.1 w.0) e.1 c.1 c.2
+    search (rules, and_then_some, option_and_then, slice_get, first_found, if_some, nat_lt, connection_ends, source_found, ltb-true)
 
 pub source_end_none : (h : List Event) (s : ℕ) (t : Terminal) → source_end h s ≡ None → ¬ SourceEnded h s t
 unfolding source_end
@@ -145,43 +132,27 @@ none_connecting base h none g d =
 
 ends_at : (h : List Event) (n : ℕ) (b : Bool) (o : Option Terminal) (e : Event) → cond b (option_map (λ t. End n t) o) None ≡ Some e →
     (t : Terminal) × (b ≡ true) × (o ≡ Some t) × (End n t ≡ e)
-ends_at h n true (Some t) e found = (t, refl, refl, same_Some (End n t) e found)
-ends_at h n true None e found = absurd (none-some e found)
-ends_at h n false o e found = absurd (none-some e found)
+ends_at h n x2 x3 e found = search (rules, same_Some, none-some)
 
 mirroring_due : (base : Kept) → (h : List Event) (n : ℕ) (e : Event) → gives base h Mirroring n ≡ Some e → IsDue base h e
 mirroring_due base h n e found =
-    let w = ends_at h n (is_open h n && at is_mirroring h n) (child_terminal h n) e found in
-    let parts = and_parts (is_open h n) (at is_mirroring h n) w.1 in
-    subst (λ (x : Event). IsDue base h x) w.3 (mirrored parts.0 parts.1 (child_terminal_some h n w.0 w.2).0)
+    search (rules, ends_at, and_parts, mirrored, child_terminal_some)
 
 firing_due : (base : Kept) → (h : List Event) (n : ℕ) (e : Event) → gives base h Firing n ≡ Some e → IsDue base h e
 firing_due base h n e found =
-    let w = if_some (is_open h n && at is_until h n && is_fired h n) (Some (End n Completed)) e found in
-    let parts = and_parts (is_open h n && at is_until h n) (is_fired h n) w.0 in
-    let both = and_parts (is_open h n) (at is_until h n) parts.0 in
-    subst (λ (x : Event). IsDue base h x) (same_Some (End n Completed) e w.1) (fired both.0 both.1 parts.1)
+    search (rules, if_some, and_parts, same_Some, fired)
 
 failing_due : (base : Kept) → (h : List Event) (n : ℕ) (e : Event) → gives base h Failing n ≡ Some e → IsDue base h e
 failing_due base h n e found =
-    let w = ends_at h n (is_open h n && at is_merging h n) (child_terminal h n) e found in
-    let parts = and_parts (is_open h n) (at is_merging h n) w.1 in
-    subst (λ (x : Event). IsDue base h x) w.3
-    (merging_due base h n w.0 parts.0 parts.1 (ap (λ (o : Option Terminal). option_or o (completed_if (is_over (marks_of base h n)))) w.2))
+    search (rules, ends_at, and_parts, merging_due, option_or)
 
 completing_due : (base : Kept) → (h : List Event) (n : ℕ) (e : Event) → gives base h Completing n ≡ Some e → IsDue base h e
 completing_due base h n e found =
-    let w = if_some (is_open h n && at is_merging h n && is_nothing (child_terminal h n) && is_over (marks_of base h n)) (Some (End n Completed)) e found in
-    let parts = and_parts (is_open h n && at is_merging h n && is_nothing (child_terminal h n)) (is_over (marks_of base h n)) w.0 in
-    let three = and_parts (is_open h n && at is_merging h n) (is_nothing (child_terminal h n)) parts.0 in
-    let both = and_parts (is_open h n) (at is_merging h n) three.0 in
-    subst (λ (x : Event). IsDue base h x) (same_Some (End n Completed) e w.1)
-    (merging_due base h n Completed both.0 both.1 ((λ i. option_or (nothing_none (child_terminal h n) three.1 i) (completed_if (parts.1 i)))))
+    search (rules, if_some, and_parts, same_Some, merging_due, option_or, nothing_none)
 
 cutting_due : (base : Kept) → (h : List Event) (n : ℕ) (e : Event) → gives base h Cutting n ≡ Some e → IsDue base h e
 cutting_due base h n e found =
-    let w = ends_at h n (is_open h n) (source_end h n) e found in
-    subst (λ (x : Event). IsDue base h x) w.3 (cut w.1 (source_end_some h n w.0 w.2))
+    search (rules, ends_at, cut, source_end_some)
 
 connection_made : (o : Option Event) (g : ℕ) → option_and_then hub_connected o ≡ Some g → o ≡ Some (Connect g)
 connection_made o g found = grind arith
@@ -211,12 +182,10 @@ found_due base h rule sound e found = let r = first_found (gives base h rule) (p
 
 -- the first of two answers
 or_some : {Y : Type 0} (a b : Option Y) (y : Y) → option_or a b ≡ Some y → (a ≡ Some y) ⊎ ((a ≡ None) × (b ≡ Some y))
-or_some (Some x) b y found = inl found
-or_some None b y found = inr (refl, found)
+or_some x0 b y found = search rules
 
 pub or_nothing_left : {Y : Type 0} (a b : Option Y) → option_or a b ≡ None → (a ≡ None) × (b ≡ None)
-or_nothing_left None b none = (refl, none)
-or_nothing_left (Some x) b none = absurd (none-some x (sym none))
+or_nothing_left x0 b none = search (rules, none-some)
 
 abbrev search_by : (base : Kept) → (h : List Event) → Rule → Option Event
 search_by base h rule = first_some (gives base h rule) (places h)
@@ -295,16 +264,7 @@ module _ (base : Kept) (h : List Event) (each : (rule : Rule) → first_some (gi
         absurd (none-some (End n Completed) (sym (at_node Completing n o) ∙ ap (λ b. cond {A = Option Event} b (Some (End n Completed)) None) all))
 
   quiet : (n : ℕ) (made : Event) → is_open h n ≡ true → slice_get h n ≡ Some made → due_at made (marks_of base h n) n ≡ None
-  quiet n made o at_n = ap (option_map (λ t. End n t)) (by_made made at_n) where
-    by_made : (e : Event) → slice_get h n ≡ Some e → terminal_due e (marks_of base h n) ≡ None
-    by_made (Open place Pass) at_n = no_mirrored n o (rw at_n refl)
-    by_made (Connect g) at_n = no_mirrored n o (rw at_n refl)
-    by_made (Open place Until) at_n = λ i. option_or (no_mirrored n o (rw at_n refl) i) (completed_if (no_fired n o (rw at_n refl) i))
-    by_made (Open place Flat) at_n = λ i. option_or (no_failed n o (rw at_n refl) i) (completed_if (no_over n o (rw at_n refl) i))
-    by_made (Open place Switch) at_n = λ i. option_or (no_failed n o (rw at_n refl) i) (completed_if (no_over n o (rw at_n refl) i))
-    by_made (Open place Leaf) at_n = refl
-    by_made (Open place (Sub g)) at_n = refl
-    by_made _ at_n = refl
+  quiet n made o at_n = search (rules, option_map, slice_get, no_mirrored, option_or, no_fired, no_failed, no_over)
 
   settled_none : IsSettled base h
   settled_none = settled_by_marks base h (none_connecting base h (each Joining)) no_source no_close quiet
@@ -312,31 +272,4 @@ module _ (base : Kept) (h : List Event) (each : (rule : Rule) → first_some (gi
 -- so nothing comes first only in a settled history
 pub settled_by_order : (base : Kept) → (h : List Event) → first_forced base h ≡ None → IsSettled base h
 unfolding first_forced
-settled_by_order base h none = settled_none base h each where
-  one : (first_some (gives base h Joining) (places h) ≡ None) ×
-      (first_some (search_by base h) (Mirroring ∷ Firing ∷ Failing ∷ Completing ∷ Cutting ∷ Leaving ∷ []) ≡ None)
-  one = or_nothing_left (search_by base h Joining) (first_some (search_by base h) (Mirroring ∷ Firing ∷ Failing ∷ Completing ∷ Cutting ∷ Leaving ∷ [])) none
-
-  two : (search_by base h Mirroring ≡ None) × (first_some (search_by base h) (Firing ∷ Failing ∷ Completing ∷ Cutting ∷ Leaving ∷ []) ≡ None)
-  two = or_nothing_left (search_by base h Mirroring) (first_some (search_by base h) (Firing ∷ Failing ∷ Completing ∷ Cutting ∷ Leaving ∷ [])) one.1
-
-  three : (search_by base h Firing ≡ None) × (first_some (search_by base h) (Failing ∷ Completing ∷ Cutting ∷ Leaving ∷ []) ≡ None)
-  three = or_nothing_left (search_by base h Firing) (first_some (search_by base h) (Failing ∷ Completing ∷ Cutting ∷ Leaving ∷ [])) two.1
-
-  four : (search_by base h Failing ≡ None) × (first_some (search_by base h) (Completing ∷ Cutting ∷ Leaving ∷ []) ≡ None)
-  four = or_nothing_left (search_by base h Failing) (first_some (search_by base h) (Completing ∷ Cutting ∷ Leaving ∷ [])) three.1
-
-  five : (search_by base h Completing ≡ None) × (first_some (search_by base h) (Cutting ∷ Leaving ∷ []) ≡ None)
-  five = or_nothing_left (search_by base h Completing) (first_some (search_by base h) (Cutting ∷ Leaving ∷ [])) four.1
-
-  six : (search_by base h Cutting ≡ None) × (first_some (search_by base h) (Leaving ∷ []) ≡ None)
-  six = or_nothing_left (search_by base h Cutting) (first_some (search_by base h) (Leaving ∷ [])) five.1
-
-  each : (rule : Rule) → first_some (gives base h rule) (places h) ≡ None
-  each Joining = one.0
-  each Mirroring = two.0
-  each Firing = three.0
-  each Failing = four.0
-  each Completing = five.0
-  each Cutting = six.0
-  each Leaving = (or_nothing_left (search_by base h Leaving) None six.1).0
+settled_by_order base h none = search (rules, settled_none, search_by, or_nothing_left)

@@ -2,16 +2,16 @@
 use Rattle.rx_event.proofs.Laws.Common.{◌≡◌, ℕ, zero, suc, ◌<◌, ◌≤◌, inl, inr, ◌⊎◌, length, true, List, [], ◌∷◌, ◌++◌, take, Some, refl, sym, ap, subst, ◌∙◌}
 use Rattle.rx_event.proofs.Laws.Common.{arith, slice_get, append_assoc, append-nil, length-append, AllByRecursion, slice_get_within, same_Some, none-some}
 use Rattle.rx_event.proofs.Laws.Common.{Terminal, Kept, shown, Event, End, is_open, Moment, moments, moments_after, due, IsDue, IsForced, IsAllowed, Started}
-use Rattle.rx_event.proofs.Laws.Common.{forced, allowed, MayFollow, IsLawful, false≢true, common_steps}
+use Rattle.rx_event.proofs.Laws.Common.{MayFollow, IsLawful, false≢true, common_steps}
 use Rattle.rx_event.proofs.Laws.Openness.{is_open_within}
+use Rattle.std.proofs.Common.{rules}
 
 -- moments -----------------------------------------------------------------------------------------
 
 pub moments_after-push : (b h : List Event) (e : Event) → moments_after b (h ++ e ∷ []) ≡ moments_after b h ++ (record { before = b ++ h; event = e }) ∷ []
 moments_after-push b [] e = ap (λ c. (record { before = c; event = e }) ∷ []) (sym (append-nil b))
 moments_after-push b (x ∷ h) e =
-    ap (λ (ms : List Moment). (record { before = b; event = x }) ∷ ms)
-    (moments_after-push (b ++ x ∷ []) h e ∙ ap (λ c. moments_after (b ++ x ∷ []) h ++ (record { before = c; event = e }) ∷ []) (append_assoc b (x ∷ []) h))
+    search (rules, append_assoc, moments_after-push (b ++ x ∷ []) h e)
 
 -- the last moment
 pub moments-push : (h : List Event) (e : Event) → moments (h ++ e ∷ []) ≡ moments h ++ (record { before = h; event = e }) ∷ []
@@ -25,15 +25,7 @@ AllByRecursion-push P (y ∷ xs) x a p = (a.0, AllByRecursion-push P xs x a.1 p)
 -- a lawful history goes on by an event that may follow
 pub IsLawful-push : (base : Kept) → (h : List Event) (e : Event) → IsLawful base h → MayFollow base h e → IsLawful base (h ++ e ∷ [])
 IsLawful-push base h e law next =
-    record {
-      started = law.started;
-      since = law.since ++ e ∷ [];
-      reads = ap (λ k. k ++ e ∷ []) law.reads ∙ append_assoc (shown base) law.since (e ∷ []);
-      each =
-          rw (moments_after-push (shown base) law.since e)
-          (AllByRecursion-push (λ (m : Moment). MayFollow base m.before m.event) (moments_after (shown base) law.since)
-          (record { before = shown base ++ law.since; event = e }) law.each (subst (λ k. MayFollow base k e) law.reads next));
-    }
+    search (rules, append_assoc, moments_after-push, AllByRecursion-push)
 
 pub IsLawful_empty : (base : Kept) → Started base → IsLawful base (shown base)
 IsLawful_empty base started = record { started = started; since = []; reads = sym (append-nil (shown base)); each = tt }
@@ -92,8 +84,7 @@ allowed_open base given = grind arith
 
 -- what is ended is open before
 pub may_end : (base : Kept) → {h : List Event} {c : ℕ} {t : Terminal} → MayFollow base h (End c t) → is_open h c ≡ true
-may_end base (forced f) = forced_open base f
-may_end base (allowed s a) = allowed_open base a
+may_end base x1 = search (rules, forced_open, allowed_open)
 
 -- an end stands after its node
 pub ended_after : (base : Kept) → (h : List Event) → IsLawful base h → (i c : ℕ) (t : Terminal) → slice_get h i ≡ Some (End c t) → c < i

@@ -1,9 +1,9 @@
 -- Which leases are out after one more event, and how many of each resource.
-use Rattle.rx_event.proofs.Laws.Common.{◌≡◌, ℕ, ◌+◌, ◌<◌, ◌≤◌, Bool, true, false, List, [], ◌∷◌, ◌++◌, length, take, Option, Some, None, cond, refl, sym, ap}
+use Rattle.rx_event.proofs.Laws.Common.{◌≡◌, ℕ, ◌+◌, ◌<◌, ◌≤◌, Bool, true, false, List, [], ◌∷◌, ◌++◌, length, take, Some, cond, refl, sym, ap}
 use Rattle.rx_event.proofs.Laws.Common.{subst, ◌∙◌, arith, inl, inr, ◌⊎◌, ◌==◌, nat_lt, slice_get, length-append, not, ◌&&◌, list_any, sum_by, count_by}
 use Rattle.rx_event.proofs.Laws.Common.{range_with_len, option_and_then, option_map_or, cases_Bool, both_ways, false≢true, and_parts, ne_eqb, eqb-true}
 use Rattle.rx_event.proofs.Laws.Common.{eq-eqb, lt-ltb, false_from_ne_true, length-take-le, slice_get_past, slice_get_within, Kept, shown, Event, Open}
-use Rattle.rx_event.proofs.Laws.Common.{Accept, Lease, Return, makes_resource, makes_lease, node_of_accept, is_return_of, at, is_open, places, is_owned}
+use Rattle.rx_event.proofs.Laws.Common.{Accept, Lease, Return, makes_resource, makes_lease, is_return_of, at, places, is_owned}
 use Rattle.rx_event.proofs.Laws.Common.{is_out, leases_of, MayFollow, IsLawful, and_false, and_true, and_not_or, none_counted, ltb-true, is_lease_of}
 use Rattle.rx_event.proofs.Laws.Common.{is_return, is_leased}
 use Rattle.std.proofs.lemmas.Bool.{or_from}
@@ -16,6 +16,7 @@ use Rattle.rx_event.proofs.Laws.Lawful.{in_base, since_base, FoundAt, found_at}
 use Rattle.rx_event.proofs.Laws.Steps.{by_events, may_lease, may_return}
 use Rattle.rx_event.proofs.Laws.Stands.{at_older}
 use Rattle.rx_event.proofs.Laws.MakingRemovesNothing.{made_unreturned}
+use Rattle.std.proofs.Common.{rules}
 
 one_if : {a b : Bool} → a ≡ b → cond {A = ℕ} a 1 0 ≡ cond {A = ℕ} b 1 0
 one_if same = ap (λ (b : Bool). cond {A = ℕ} b 1 0) same
@@ -24,11 +25,7 @@ one_if same = ap (λ (b : Bool). cond {A = ℕ} b 1 0) same
 
 pub owned_resource : (h : List Event) (r : ℕ) → is_owned h r ≡ true → at makes_resource h r ≡ true
 unfolding is_owned
-owned_resource h r owned = by_event (slice_get h r) (and_parts _ _ owned).0 where
-  by_event : (o : Option Event) → option_map_or (is_open h) (option_and_then node_of_accept o) false ≡ true → option_map_or makes_resource o false ≡ true
-  by_event None o = o
-  by_event (Some (Accept n tag)) o = refl
-  by_event (Some _) o = o
+owned_resource h r owned = search (rules, slice_get, and_parts, option_map_or, option_and_then, Accept)
 
 pub is_owned_within : (h : List Event) (r : ℕ) → is_owned h r ≡ true → r < length h
 is_owned_within h r owned = at_within makes_resource h r (owned_resource h r owned)
@@ -39,8 +36,7 @@ is_owned_within h r owned = at_within makes_resource h r (owned_resource h r own
 pub is_out-push : (h : List Event) (e : Event) (l : ℕ) → l < length h → is_out (h ++ e ∷ []) l ≡ (is_out h l && not (is_return_of l e))
 unfolding is_out
 is_out-push h e l less =
-    (λ i. at-append makes_lease h (e ∷ []) l less i && not (list_any_push (is_return_of l) h e i)) ∙ and_not_or (at makes_lease h l)
-    (list_any (is_return_of l) h) (is_return_of l e)
+    search (rules, at-append, not, list_any_push, and_not_or, list_any)
 
 -- what is out is a lease
 pub out_lease : (h : List Event) (l : ℕ) → is_out h l ≡ true → at makes_lease h l ≡ true
@@ -55,8 +51,7 @@ unfolding is_out
 is_out_past h l past = rw (slice_get_past h l past) refl
 
 returns_older : (base : Kept) → (h : List Event) (e : Event) → MayFollow base h e → (l : ℕ) → length h ≤ l → is_return_of l e ≡ false
-returns_older base h (Return m) next l past = let b = is_out_within h m (may_return base next) in ne_eqb m l (omega arith)
-returns_older base h _ next l past = refl
+returns_older base h x2 next l past = search (rules, is_out_within, may_return, ne_eqb)
 
 -- only older leases are returned
 pub no_return : (base : Kept) → (h : List Event) → IsLawful base h → (l : ℕ) → length h ≤ l → list_any (is_return_of l) h ≡ false
@@ -85,7 +80,7 @@ lease_before base h law l r at_l = by_case (found_at base h law l (Lease r) at_l
   by_case (since_base next) = owned_resource (take l h) r (may_lease base next)
 
 pub lease_resource : (base : Kept) → (h : List Event) → IsLawful base h → (l r : ℕ) → slice_get h l ≡ Some (Lease r) → at makes_resource h r ≡ true
-lease_resource base h law l r at_l = at_older makes_resource h l r (slice_get_within h l (Lease r) at_l) (lease_before base h law l r at_l)
+lease_resource base h law l r at_l = search (rules, at_older, slice_get_within, lease_before)
 
 pub lease_older : (base : Kept) → (h : List Event) → IsLawful base h → (l r : ℕ) → slice_get h l ≡ Some (Lease r) → r < l
 lease_older base h law l r at_l =
@@ -98,10 +93,7 @@ lease_is : (r : ℕ) (e : Event) → is_lease_of r e ≡ true → e ≡ Lease r
 lease_is r e same = grind arith
 
 pub lease_at : (h : List Event) (r l : ℕ) → at (is_lease_of r) h l ≡ true → slice_get h l ≡ Some (Lease r)
-lease_at h r l passes = by_event (slice_get h l) passes where
-  by_event : (o : Option Event) → option_map_or (is_lease_of r) o false ≡ true → o ≡ Some (Lease r)
-  by_event None fails = absurd (false≢true fails)
-  by_event (Some e) holds = ap Some (lease_is r e holds)
+lease_at h r l passes = search (rules, slice_get, option_map_or, false≢true, lease_is)
 
 -- nothing beyond the end is leased
 no_lease : (base : Kept) → (h : List Event) → IsLawful base h → (r : ℕ) → length h ≤ r → (l : ℕ) → at (is_lease_of r) h l ≡ false
@@ -121,8 +113,7 @@ abbrev returned_count : List Event → ℕ → Event → ℕ
 returned_count h r e = count_by (λ l. is_out_of h r l && is_return_of l e) (places h)
 
 lease_made : (r : ℕ) (e : Event) → (is_lease_of r e && makes_lease e) ≡ is_lease_of r e
-lease_made r (Lease q) = and_true (q == r)
-lease_made r _ = refl
+lease_made r x1 = search (rules, and_true)
 
 leases_of-push : (base : Kept) → (h : List Event) (e : Event) → IsLawful base h → (r : ℕ) →
     leases_of (h ++ e ∷ []) r + returned_count h r e ≡ leases_of h r + cond (is_lease_of r e) 1 0
@@ -145,10 +136,7 @@ leases_of-push base h e law r =
 
 -- no lease is returned but by a return
 returned_none : (h : List Event) (r : ℕ) (e : Event) → is_return e ≡ false → returned_count h r e ≡ 0
-returned_none h r e none = sum_by_none _ (length h) (λ l less. ap (λ b. cond {A = ℕ} (is_out_of h r l && b) 1 0) (by_event e l none) ∙ none_counted
-    (is_out_of h r l)) where
-      by_event : (e : Event) (l : ℕ) → is_return e ≡ false → is_return_of l e ≡ false
-      by_event e l none = grind arith
+returned_none h r e none = search (rules, sum_by_none, length, cond, none_counted)
 
 pub leases_of_kept : (base : Kept) → (h : List Event) (e : Event) → IsLawful base h → is_return e ≡ false → (r : ℕ) →
     leases_of (h ++ e ∷ []) r ≡ leases_of h r + cond (is_lease_of r e) 1 0
@@ -201,7 +189,7 @@ pub leased_where : (h : List Event) (r : ℕ) → at makes_resource h r ≡ true
 leased_where h r made some = λ i. made i && lt-ltb 0 (leases_of h r) some i
 
 pub is_leased_past : (h : List Event) (r : ℕ) → length h ≤ r → is_leased h r ≡ false
-is_leased_past h r past = ap (λ o. option_map_or makes_resource o false && nat_lt 0 (leases_of h r)) (slice_get_past h r past)
+is_leased_past h r past = search (rules, option_map_or, nat_lt, slice_get_past)
 
 -- an event that neither leases nor returns leaves leased what is leased, and nothing more
 pub is_leased_kept : (base : Kept) → (h : List Event) (e : Event) → IsLawful base h → (r : ℕ) → r < length h → is_return e ≡ false → is_lease_of r e ≡ false →
@@ -283,8 +271,7 @@ none_out h none l = by_test (cases_Bool (is_out h l)) where
 
 pub none_leased : (h : List Event) → lease_count h ≡ 0 → (r : ℕ) → leases_of h r ≡ 0
 unfolding leases_of
-none_leased h none r = sum_by_none (λ l. cond (is_out_of h r l) 1 0) (length h) (λ l less. ap (λ b. cond {A = ℕ} (at (is_lease_of r) h l && b) 1 0)
-    (none_out h none l) ∙ none_counted (at (is_lease_of r) h l))
+none_leased h none r = search (rules, sum_by_none, cond, length, none_out, none_counted)
 
 -- in a lawful history what has a lease out is a resource
 none_of_others : (base : Kept) → (h : List Event) → IsLawful base h → (r : ℕ) → at makes_resource h r ≡ false → leases_of h r ≡ 0
@@ -317,11 +304,4 @@ pub leases_of_same : (h k : List Event) → length h ≡ length k → ((l : ℕ)
     leases_of h r ≡ leases_of k r
 unfolding leases_of
 leases_of_same h k long same made r =
-    sum_by-same (λ l. cond (is_out_of k r l) 1 0) (λ l. cond (is_out_of h r l) 1 0) (length h)
-    (λ l less. ap (λ b. cond {A = ℕ} b 1 0) (each l (is_out h l) refl)) ∙
-    ap (λ n. sum_by (λ l. cond {A = ℕ} (is_out_of k r l) 1 0) (range_with_len 0 n)) long
-  where
-    each : (l : ℕ) (b : Bool) → is_out h l ≡ b → is_out_of h r l ≡ is_out_of k r l
-    each l true out = (λ i. option_map_or (is_lease_of r) (made l out i) false && same l i)
-    each l false back = ap (λ b. at (is_lease_of r) h l && b) back ∙ and_false (at (is_lease_of r) h l) ∙
-        sym (ap (λ b. at (is_lease_of r) k l && b) (sym (same l) ∙ back) ∙ and_false (at (is_lease_of r) k l))
+    search (rules, sum_by-same, cond, length, sum_by, range_with_len, option_map_or, and_false)

@@ -16,6 +16,7 @@ use Rattle.rx_event.proofs.Laws.Steps.{parent-named}
 use Rattle.rx_event.proofs.Laws.Stands.{open_node}
 use Rattle.rx_event.proofs.Laws.Sums.{sum_by_none, term_in_sum}
 use Rattle.rx_event.proofs.Laws.Totals.{is_within_self}
+use Rattle.std.proofs.Common.{rules}
 
 -- the topmost node ---------------------------------------------------------------------------------
 
@@ -61,9 +62,7 @@ connection_listed h g c connects alive none =
 pub first_connection : (h : List Event) (g c : ℕ) (cs : List ℕ) → open_connections h g ≡ c ∷ cs →
     (slice_get h c ≡ Some (Connect g)) × (is_open h c ≡ true)
 first_connection h g c cs found =
-    let first : (at (is_connect_of g) h c && is_open h c) ≡ true = first_passes (λ n. at (is_connect_of g) h n && is_open h n) (places h) c cs found in
-    let parts : (at (is_connect_of g) h c ≡ true) × (is_open h c ≡ true) = and_parts _ _ first in
-    (at_connect h g c parts.0, parts.1)
+    search (rules, first_passes, and_parts, at_connect)
 
 -- the hub of a connection is a hub
 pub connected_hub : (base : Kept) → (h : List Event) → IsLawful base h → (g c : ℕ) → slice_get h c ≡ Some (Connect g) → at makes_hub h g ≡ true

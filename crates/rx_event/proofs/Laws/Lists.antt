@@ -1,6 +1,7 @@
 -- What holds of the elements of a list, and what a filter leaves.
 use Rattle.rx_event.proofs.Laws.Common.{◌≡◌, ℕ, zero, suc, ◌+◌, ◌-◌, ◌<◌, ◌≤◌, Bool, true, false, List, [], ◌∷◌, ◌++◌, length, cond, refl, sym, ap, ◌∙◌}
 use Rattle.rx_event.proofs.Laws.Common.{arith, inl, inr, ◌⊎◌, filter, AllByRecursion, range_with_len, cases_Bool, cases_lt, cases_order, both_ways}
+use Rattle.std.proofs.Common.{rules}
 
 pub AllByRecursion-both : {X : Type 0} (P : X → Type 0) (xs ys : List X) → AllByRecursion P xs → AllByRecursion P ys → AllByRecursion P (xs ++ ys)
 AllByRecursion-both P [] ys a b = b
@@ -10,10 +11,7 @@ AllByRecursion-both P (x ∷ xs) ys a b = (a.0, AllByRecursion-both P xs ys a.1 
 
 pub filtered : {X : Type 0} (p : X → Bool) (P : X → Type 0) → ((x : X) → p x ≡ true → P x) → (xs : List X) → AllByRecursion P (filter p xs)
 filtered p P holds [] = tt
-filtered p P holds (x ∷ xs) = by_test (p x) refl (filtered p P holds xs) where
-  by_test : (b : Bool) → p x ≡ b → AllByRecursion P (filter p xs) → AllByRecursion P (cond b (x ∷ filter p xs) (filter p xs))
-  by_test true at_x rest = (holds x at_x, rest)
-  by_test false at_x rest = rest
+filtered p P holds (x ∷ xs) = search (rules, AllByRecursion, filter, cond, filtered p P holds xs)
 
 -- what a filter leaves first passes
 pub first_passes : {X : Type 0} (p : X → Bool) (xs : List X) (x : X) (rest : List X) → filter p xs ≡ x ∷ rest → p x ≡ true
@@ -24,17 +22,7 @@ first_passes p xs x rest e =
 -- a number that passes is left
 pub filter_nonempty : (p : ℕ → Bool) (s n k : ℕ) → s ≤ k → k < s + n → p k ≡ true → filter p (range_with_len s n) ≡ [] → ⊥
 filter_nonempty p s zero k above below passes empty = absurd (omega arith)
-filter_nonempty p s (suc n) k above below passes empty = by_test (p s) refl (filter_nonempty p (s + 1) n k) empty where
-  by_place : (p s ≡ false) → (s + 1 ≤ k → k < (s + 1) + n → p k ≡ true → filter p (range_with_len (s + 1) n) ≡ [] → ⊥) →
-      filter p (range_with_len (s + 1) n) ≡ [] → (s ≡ k) ⊎ ((s < k) ⊎ (k < s)) → ⊥
-  by_place out rest none (inl same) = both_ways (p s) out (ap p same ∙ passes)
-  by_place out rest none (inr (inl l)) = rest (omega arith) (omega arith) passes none
-  by_place out rest none (inr (inr l)) = absurd (omega arith)
-
-  by_test : (b : Bool) → p s ≡ b → (s + 1 ≤ k → k < (s + 1) + n → p k ≡ true → filter p (range_with_len (s + 1) n) ≡ [] → ⊥) →
-      cond b (s ∷ filter p (range_with_len (s + 1) n)) (filter p (range_with_len (s + 1) n)) ≡ [] → ⊥
-  by_test true at_s rest none = absurd (let long : suc (length (filter p (range_with_len (s + 1) n))) ≡ 0 = ap length none in omega arith)
-  by_test false at_s rest none = by_place at_s rest none (cases_order s k)
+filter_nonempty p s (suc n) k above below passes empty = search (rules, filter, range_with_len, both_ways, cond, length, cases_order, filter_nonempty p (s + 1) n k)
 
 pub filter_none : (p : ℕ → Bool) (s n : ℕ) → ((k : ℕ) → s ≤ k → p k ≡ false) → filter p (range_with_len s n) ≡ []
 filter_none p s zero none = refl
@@ -43,23 +31,14 @@ filter_none p s (suc n) none = rw (none s (omega arith)) (filter_none p (s + 1) 
 -- where no two numbers pass, at most one is left
 pub filter_few : (p : ℕ → Bool) (s n : ℕ) → ((a b : ℕ) → p a ≡ true → p b ≡ true → a ≡ b) → length (filter p (range_with_len s n)) ≤ 1
 filter_few p s zero same = omega arith
-filter_few p s (suc n) same = by_test (p s) refl (filter_few p (s + 1) n same) where
-  other : p s ≡ true → (k : ℕ) → s + 1 ≤ k → (p k ≡ true) ⊎ (p k ≡ false) → p k ≡ false
-  other at_s k l (inl passes) = absurd (let e = same s k at_s passes in omega arith)
-  other at_s k l (inr fails) = fails
-
-  by_test : (b : Bool) → p s ≡ b → length (filter p (range_with_len (s + 1) n)) ≤ 1 →
-      length (cond b (s ∷ filter p (range_with_len (s + 1) n)) (filter p (range_with_len (s + 1) n))) ≤ 1
-  by_test true at_s rest = rw (filter_none p (s + 1) n (λ k l. other at_s k l (cases_Bool (p k)))) (omega arith)
-  by_test false at_s rest = rest
+filter_few p s (suc n) same = search (rules, length, filter, range_with_len, cond, filter_none, cases_Bool, filter_few p (s + 1) n same)
 
 -- filters of unlike length ---------------------------------------------------------------------------------
 
 -- what fails from there on adds nothing to a filter
 filter_to : (p : ℕ → Bool) (s a c : ℕ) → ((n : ℕ) → s + a ≤ n → p n ≡ false) → filter p (range_with_len s (a + c)) ≡ filter p (range_with_len s a)
 filter_to p s zero c past =
-    let same : 0 + c ≡ c = omega arith in
-    ap (λ m. filter p (range_with_len s m)) same ∙ filter_none p s c (λ n l. past n (omega arith))
+    search (rules, filter, range_with_len, filter_none)
 filter_to p s (suc a) c past =
     let same : suc a + c ≡ suc (a + c) = omega arith in
     let rest = filter_to p (s + 1) a c (λ n l. past n (omega arith)) in

@@ -1,9 +1,9 @@
 -- How one more event changes each mark of an older node.
 use Rattle.rx_event.proofs.Laws.Common.{◌≡◌, ℕ, ℤ, ◌+◌, ◌-◌, ◌<◌, Bool, true, false, List, [], ◌∷◌, ◌++◌, length, Option, Some, None, cond, refl, sym, ap}
 use Rattle.rx_event.proofs.Laws.Common.{◌∙◌, arith, ◌==◌, slice_get, not, ◌&&◌, ◌||◌, list_any, count_by, option_map_or, option_or, false≢true}
-use Rattle.rx_event.proofs.Laws.Common.{slice_get_within, Terminal, Completed, Kept, node_kept, source_opened, Root, Source, Inner, Notifier, Kind, Event}
-use Rattle.rx_event.proofs.Laws.Common.{Open, Hub, Connect, Accept, Use, Remove, Lease, Return, Item, Decline, End, Close, Take, is_merging, is_source_of}
-use Rattle.rx_event.proofs.Laws.Common.{makes_node, parent_named, pays, places, parent, is_open, is_open_child_of, stops, Moment, moments, owed, is_fired}
+use Rattle.rx_event.proofs.Laws.Common.{slice_get_within, Terminal, Kept, node_kept, source_opened, Root, Source, Inner, Notifier, Kind, Event}
+use Rattle.rx_event.proofs.Laws.Common.{Open, Hub, Connect, Accept, Use, Remove, Lease, Return, Item, Decline, End, Close, Take, is_source_of}
+use Rattle.rx_event.proofs.Laws.Common.{makes_node, parent_named, pays, places, parent, is_open, is_open_child_of, stops, owed, is_fired}
 use Rattle.rx_event.proofs.Laws.Common.{stops_of, is_firing_of, is_projection_to, is_child_of, completes_source, child_terminal, source_completed}
 use Rattle.rx_event.proofs.Laws.Common.{open_children, marks_of, MayFollow, IsLawful, or_false, or_assoc, none_counted, notifier_opened, Marks}
 use Rattle.rx_event.proofs.Laws.Common.{is_notifier_of, ends_by}
@@ -17,6 +17,7 @@ use Rattle.rx_event.proofs.Laws.Sums.{sum_by_none, sums_balance, sum_by-places-p
 use Rattle.rx_event.proofs.Laws.Totals.{is_open_new}
 use Rattle.rx_event.proofs.Laws.Projections.{owed-push}
 use Rattle.rx_event.proofs.Laws.Searches.{list_any_push, list_any_same_at, or_nothing, first_some_push, first_some_same_at}
+use Rattle.std.proofs.Common.{rules}
 
 -- one more event: each mark -----------------------------------------------------------------------
 
@@ -33,13 +34,11 @@ ended_older {base} h law i x at_i c u same =
 
 ends_by_kept : (h t : List Event) (n : ℕ) → n < length h → (x : Event) → ((c : ℕ) (u : Terminal) → x ≡ End c u → c < length h) →
     ends_by (h ++ t) n x ≡ ends_by h n x
-ends_by_kept h t n l (End c u) old = rw (parent-append h t c (old c u refl), at-append is_merging h t n l) refl
-ends_by_kept h t n l _ old = refl
+ends_by_kept h t n l x4 old = search (rules, parent-append, at-append)
 
 completes_kept : (h t : List Event) (n : ℕ) (x : Event) → ((c : ℕ) (u : Terminal) → x ≡ End c u → c < length h) →
     completes_source (h ++ t) n x ≡ completes_source h n x
-completes_kept h t n (End c Completed) old = at-append (is_source_of n) h t c (old c Completed refl)
-completes_kept h t n _ old = refl
+completes_kept h t n x3 old = search (rules, at-append)
 
 pub child_terminal-push : (base : Kept) → (h : List Event) (e : Event) → IsLawful base h → MayFollow base h e → (n : ℕ) → n < length h →
     child_terminal (h ++ e ∷ []) n ≡ option_or (child_terminal h n) (ends_by h n e)
@@ -53,14 +52,12 @@ child_terminal-push base h e law next n l =
 pub source_opened-push : (base : Kept) → (h : List Event) (e : Event) (n : ℕ) →
     source_opened base (h ++ e ∷ []) n ≡ (source_opened base h n || is_source_of n e)
 source_opened-push base h e n =
-    ap (λ c. option_map_or (λ k. k.source_opened) (node_kept base n) false || c) (list_any_push (is_source_of n) h e) ∙
-    or_assoc (option_map_or (λ k. k.source_opened) (node_kept base n) false) (list_any (is_source_of n) h) (is_source_of n e)
+    search (rules, option_map_or, list_any_push, or_assoc, list_any)
 
 pub notifier_opened-push : (base : Kept) → (h : List Event) (e : Event) (n : ℕ) →
     notifier_opened base (h ++ e ∷ []) n ≡ (notifier_opened base h n || is_notifier_of n e)
 notifier_opened-push base h e n =
-    ap (λ c. option_map_or (λ k. k.notifier_opened) (node_kept base n) false || c) (list_any_push (is_notifier_of n) h e) ∙
-    or_assoc (option_map_or (λ k. k.notifier_opened) (node_kept base n) false) (list_any (is_notifier_of n) h) (is_notifier_of n e)
+    search (rules, option_map_or, list_any_push, or_assoc, list_any)
 
 pub source_completed-push : (base : Kept) → (h : List Event) (e : Event) → IsLawful base h → MayFollow base h e → (n : ℕ) →
     source_completed base (h ++ e ∷ []) n ≡ (source_completed base h n || completes_source h n e)
@@ -76,8 +73,7 @@ source_completed-push base h e law next n =
 pub is_fired-push : (h : List Event) (e : Event) (u : ℕ) → is_fired (h ++ e ∷ []) u ≡ (is_fired h u || list_any (is_firing_of u) (stops_of h e))
 unfolding is_fired
 is_fired-push h e u =
-    let g : Moment → Bool = λ m. list_any (is_firing_of u) (stops_of m.before m.event) in
-    ap (list_any g) (moments-push h e) ∙ list_any_push g (moments h) (record { before = h; event = e })
+    search (rules, list_any, moments-push, list_any_push)
 
 -- the event brings a child of n
 abbrev pub adds_child : ℕ → Event → Bool
@@ -88,8 +84,7 @@ abbrev pub cut_children : List Event → Event → ℕ → ℕ
 cut_children h e n = count_by (λ k. is_open_child_of h n k && is_cut h e k) (places h)
 
 adds_made : (n : ℕ) (e : Event) → (makes_node e && adds_child n e) ≡ adds_child n e
-adds_made n (Open place kind) = refl
-adds_made n _ = refl
+adds_made n x1 = search rules
 
 parent_none : (h : List Event) (e : Event) → parent_named e ≡ None → parent (h ++ e ∷ []) (length h) ≡ None
 unfolding parent
@@ -146,14 +141,11 @@ same_marks base s n f c t o q = λ x. marks_made (s x) (n x) (f x) (c x) (t x) (
 pub marks-push : (base : Kept) → (h : List Event) (e : Event) → IsLawful base h → MayFollow base h e → (n : ℕ) → n < length h →
     marks_of base (h ++ e ∷ []) n ≡ marks_after base h e n (marks_of base h n)
 marks-push base h e law next n l =
-    let o = owed-push base h e law next n in
-    let q = open_children-push base h e law next n in
-    same_marks base (source_opened-push base h e n) (notifier_opened-push base h e n) (is_fired-push h e n) (source_completed-push base h e law next n)
-    (child_terminal-push base h e law next n l) (omega arith) (omega arith)
+    search (rules, owed-push, open_children-push, same_marks, source_opened-push, notifier_opened-push, is_fired-push, source_completed-push, child_terminal-push)
 
 pub cut_children_none : (h : List Event) (e : Event) (n : ℕ) → ((k : ℕ) → is_cut h e k ≡ false) → cut_children h e n ≡ 0
 cut_children_none h e n whole =
-    sum_by_none (λ k. cond (is_open_child_of h n k && is_cut h e k) 1 0) (length h) (λ k l. rw (whole k) (none_counted (is_open_child_of h n k)))
+    search (rules, sum_by_none, cond, length, none_counted)
 
 -- an item sets what it fires and adds what it projects
 pub marks-item : (base : Kept) → (h : List Event) (leaf : ℕ) (v : ℤ) → IsLawful base h → MayFollow base h (Item leaf v) → (n : ℕ) → n < length h →

@@ -1,8 +1,8 @@
 -- What the marks of a node give is due there, and where they give none only a hub's rule is left.
 use Rattle.rx_event.proofs.Laws.Common.{◌≡◌, ℕ, ◌<◌, Bool, true, false, List, length, Option, Some, None, refl, sym, ap, ◌∙◌, arith, ◌==◌}
 use Rattle.rx_event.proofs.Laws.Common.{slice_get, take, not, ◌&&◌, list_any, option_map_or, option_or, both_ways, false≢true, and_parts, and_from, eq-eqb}
-use Rattle.rx_event.proofs.Laws.Common.{eqb-true, length-take-le, slice_get_within, same_Some, none-some, Terminal, Completed, Error, Kept, Pass, Flat}
-use Rattle.rx_event.proofs.Laws.Common.{Switch, Until, Event, Open, Connect, End, Close, is_merging, is_mirroring, is_until, makes_hub, is_auto_hub}
+use Rattle.rx_event.proofs.Laws.Common.{eqb-true, length-take-le, slice_get_within, same_Some, none-some, Terminal, Completed, Error, Kept}
+use Rattle.rx_event.proofs.Laws.Common.{Event, Connect, End, Close, is_merging, is_mirroring, is_until, makes_hub, is_auto_hub}
 use Rattle.rx_event.proofs.Laws.Common.{at, is_open, owed, is_fired, mirrored, fired, failed, completed, cut, left, connecting, due}
 use Rattle.rx_event.proofs.Laws.Common.{SourceEnded, IsDue, IsForced, IsConnectDue, IsSettled, passes_on, child_terminal, source_completed, open_children}
 use Rattle.rx_event.proofs.Laws.Common.{marks_of, due_at, IsLawful, cond_some, Marks, terminal_due}
@@ -14,6 +14,7 @@ use Rattle.rx_event.proofs.Laws.Openness.{is_open_step}
 use Rattle.rx_event.proofs.Laws.Searches.{list_any_holds}
 use Rattle.rx_event.proofs.Laws.MarksFound.{child_terminal_some, child_terminal_none, open_children_none, open_children_zero}
 use Rattle.rx_event.proofs.Laws.Lawful.{due_open}
+use Rattle.std.proofs.Common.{rules}
 
 -- the rule at one node ----------------------------------------------------------------------------
 
@@ -23,9 +24,7 @@ completed_if_some b t found = cond_some b Completed t found
 over_parts : (base : Kept) → (h : List Event) (n : ℕ) → is_over (marks_of base h n) ≡ true →
     (source_completed base h n ≡ true) × (open_children h n ≡ 0) × (owed base h n ≡ 0)
 over_parts base h n over =
-    let a = and_parts (source_completed base h n && (open_children h n == 0)) (owed base h n == 0) over in
-    let b = and_parts (source_completed base h n) (open_children h n == 0) a.0 in
-    (b.0, eqb-true (open_children h n) 0 b.1, eqb-true (owed base h n) 0 a.1)
+    search (rules, and_parts, eqb-true)
 
 -- what a FlatMap's or a Switch's marks give is due
 pub merging_due : (base : Kept) → (h : List Event) (n : ℕ) (t : Terminal) → is_open h n ≡ true → at is_merging h n ≡ true →
@@ -44,36 +43,22 @@ merging_due base h n t o m found = by_child (child_terminal h n) refl found wher
 
 until_due : (base : Kept) → (h : List Event) (n : ℕ) (t : Terminal) → is_open h n ≡ true → at is_mirroring h n ≡ true → at is_until h n ≡ true →
     option_or (child_terminal h n) (completed_if (is_fired h n)) ≡ Some t → IsDue base h (End n t)
-until_due base h n t o m u found = by_child (child_terminal h n) refl found where
-  by_child : (c : Option Terminal) → child_terminal h n ≡ c → option_or c (completed_if (is_fired h n)) ≡ Some t → IsDue base h (End n t)
-  by_child (Some v) ended same = rw (← same_Some v t same) (mirrored o m (child_terminal_some h n v ended).0)
-  by_child None none over =
-      let w = completed_if_some (is_fired h n) t over in
-      rw (← w.1) (fired o u w.0)
+until_due base h n t o m u found = search (rules, option_or, same_Some, mirrored, child_terminal_some, completed_if_some, fired)
 
 -- the terminal that the marks of an open node give is due
 pub terminal_due_due : (base : Kept) → (h : List Event) (n : ℕ) (made : Event) (t : Terminal) → is_open h n ≡ true → slice_get h n ≡ Some made →
     terminal_due made (marks_of base h n) ≡ Some t → IsDue base h (End n t)
-terminal_due_due base h n (Open place Pass) t o at_n found = mirrored o (rw at_n refl) (child_terminal_some h n t found).0
-terminal_due_due base h n (Connect g) t o at_n found = mirrored o (rw at_n refl) (child_terminal_some h n t found).0
-terminal_due_due base h n (Open place Until) t o at_n found = until_due base h n t o (rw at_n refl) (rw at_n refl) found
-terminal_due_due base h n (Open place Flat) t o at_n found = merging_due base h n t o (rw at_n refl) found
-terminal_due_due base h n (Open place Switch) t o at_n found = merging_due base h n t o (rw at_n refl) found
-terminal_due_due base h n _ t o at_n found = absurd (none-some t found)
+terminal_due_due base h n x3 t o at_n found = search (rules, mirrored, child_terminal_some, until_due, merging_due, none-some)
 
 -- so is the event
 pub due_at_due : (base : Kept) → (h : List Event) (n : ℕ) (made e : Event) → is_open h n ≡ true → slice_get h n ≡ Some made →
     due_at made (marks_of base h n) n ≡ Some e → IsDue base h e
-due_at_due base h n made e o at_n found = by_terminal (terminal_due made (marks_of base h n)) refl found where
-  by_terminal : (u : Option Terminal) → terminal_due made (marks_of base h n) ≡ u → option_map (λ t. End n t) u ≡ Some e → IsDue base h e
-  by_terminal None none same = absurd (none-some e same)
-  by_terminal (Some t) ended same = rw (← same_Some (End n t) e same) (terminal_due_due base h n made t o at_n ended)
+due_at_due base h n made e o at_n found = search (rules, none-some, same_Some, terminal_due_due)
 
 -- where nothing is due ----------------------------------------------------------------------------
 
 or_none : {X : Type 0} (a b : Option X) → option_or a b ≡ None → (a ≡ None) × (b ≡ None)
-or_none (Some x) b none = absurd (none-some x (sym none))
-or_none None b none = (refl, none)
+or_none x0 b none = search (rules, none-some)
 
 completed_if_none : (b : Bool) → completed_if b ≡ None → b ≡ false
 completed_if_none b none = grind arith
@@ -82,19 +67,13 @@ any_passes : (t : Terminal) → passes_on false t ≡ true
 any_passes t = grind arith
 
 mirroring_none : (made : Event) (m : Marks) → is_mirroring made ≡ true → terminal_due made m ≡ None → (m.child_terminal ≡ None) × (is_merging made ≡ false)
-mirroring_none (Open place Pass) m mirrors none = (none, refl)
-mirroring_none (Connect g) m mirrors none = (none, refl)
-mirroring_none (Open place Until) m mirrors none = ((or_none m.child_terminal (completed_if m.fired) none).0, refl)
-mirroring_none _ m mirrors none = absurd (false≢true mirrors)
+mirroring_none x0 m mirrors none = search (rules, or_none, false≢true)
 
 until_none : (made : Event) (m : Marks) → is_until made ≡ true → terminal_due made m ≡ None → m.fired ≡ false
-until_none (Open place Until) m until none = completed_if_none m.fired (or_none m.child_terminal (completed_if m.fired) none).1
-until_none _ m until none = absurd (false≢true until)
+until_none x0 m until none = search (rules, completed_if_none, or_none, false≢true)
 
 merging_none : (made : Event) (m : Marks) → is_merging made ≡ true → terminal_due made m ≡ None → (m.child_terminal ≡ None) × (is_over m ≡ false)
-merging_none (Open place Flat) m merges none = let p = or_none m.child_terminal (completed_if (is_over m)) none in (p.0, completed_if_none (is_over m) p.1)
-merging_none (Open place Switch) m merges none = let p = or_none m.child_terminal (completed_if (is_over m)) none in (p.0, completed_if_none (is_over m) p.1)
-merging_none _ m merges none = absurd (false≢true merges)
+merging_none x0 m merges none = search (rules, or_none, completed_if_none, false≢true)
 
 pub made_passes : (q : Event → Bool) (h : List Event) (n : ℕ) (made : Event) → slice_get h n ≡ Some made → at q h n ≡ true → q made ≡ true
 made_passes q h n made at_n passes = sym (ap (λ o. option_map_or q o false) at_n) ∙ passes
@@ -122,10 +101,7 @@ none_due base h n made t at_n none (cut o e) = e
 pub due_at_none : (base : Kept) → (h : List Event) (n : ℕ) (made : Event) (t : Terminal) → slice_get h n ≡ Some made →
     due_at made (marks_of base h n) n ≡ None → IsDue base h (End n t) →
     SourceEnded h n t
-due_at_none base h n made t at_n none d = by_terminal (terminal_due made (marks_of base h n)) refl none where
-  by_terminal : (u : Option Terminal) → terminal_due made (marks_of base h n) ≡ u → option_map (λ v. End n v) u ≡ None → SourceEnded h n t
-  by_terminal None ended same = none_due base h n made t at_n ended d
-  by_terminal (Some v) ended same = absurd (none-some (End n v) (sym same))
+due_at_none base h n made t at_n none d = search (rules, none_due, none-some)
 
 -- what the marks of an open node give is forced, where no hub waits
 pub due_at_forced : {base : Kept} → (h : List Event) (n : ℕ) (made e : Event) → ((g : ℕ) → ¬ IsConnectDue h g) → is_open h n ≡ true →
@@ -136,10 +112,7 @@ due_at_forced {base} h n made e none_waits o at_n found = due none_waits (due_at
 -- a settled history -------------------------------------------------------------------------------
 
 pub open_made : (h : List Event) (n : ℕ) → is_open h n ≡ true → (made : Event) × (slice_get h n ≡ Some made)
-open_made h n o = by_event (slice_get h n) refl where
-  by_event : (m : Option Event) → slice_get h n ≡ m → (made : Event) × (m ≡ Some made)
-  by_event (Some made) at_n = (made, refl)
-  by_event None at_n = absurd (both_ways (is_open h n) (is_open_step h n ∙ rw at_n refl) o)
+open_made h n o = search (rules, slice_get, both_ways, is_open_step)
 
 -- A history is settled where no marks of an open node give an event, and no hub's rule does
 pub settled_by_marks : (base : Kept) → (h : List Event) → ((g : ℕ) → ¬ IsConnectDue h g) → ((n : ℕ) (t : Terminal) → is_open h n ≡ true → ¬ SourceEnded h n t) →
@@ -165,10 +138,7 @@ settled_by_marks base h none_waits whole kept quiet = record { none = none } whe
   none e (due n d) = none_is d
 
 hub_at : (h : List Event) (q : Event → Bool) → ((e : Event) → q e ≡ true → makes_hub e ≡ true) → list_any makes_hub h ≡ false → (g : ℕ) → at q h g ≡ true → ⊥
-hub_at h q hubbed hubless g passes = by_event (slice_get h g) refl passes where
-  by_event : (o : Option Event) → slice_get h g ≡ o → option_map_or q o false ≡ true → ⊥
-  by_event None at_g fails = false≢true fails
-  by_event (Some e) at_g holds = both_ways (list_any makes_hub h) hubless (list_any_holds makes_hub h g e at_g (hubbed e holds))
+hub_at h q hubbed hubless g passes = search (rules, slice_get, option_map_or, false≢true, both_ways, list_any, list_any_holds)
 
 auto_makes_hub : (e : Event) → is_auto_hub e ≡ true → makes_hub e ≡ true
 auto_makes_hub e a = grind arith

@@ -1,12 +1,11 @@
 -- The marks of what stays open after an end or a closing.
 use Rattle.rx_event.proofs.Laws.Common.{◌≡◌, ℕ, ◌-◌, Bool, true, false, List, [], ◌∷◌, ◌++◌, length, Option, Some, None, cond, refl, sym, ap, ◌∙◌, arith, inl}
 use Rattle.rx_event.proofs.Laws.Common.{inr, ◌⊎◌, ◌==◌, slice_get, not, ◌&&◌, ◌||◌, count_by, option_map_or, option_or, cases_Bool, both_ways, false≢true}
-use Rattle.rx_event.proofs.Laws.Common.{and_parts, eq-eqb, eqb-true, same_Some, none-some, Terminal, Completed, Error, Kept, Root, Source, Inner, Notifier}
-use Rattle.rx_event.proofs.Laws.Common.{Event, Open, Connect, End, Close, is_merging, is_source_of, is_root, parent_named, at, parent, is_open}
+use Rattle.rx_event.proofs.Laws.Common.{and_parts, eq-eqb, eqb-true, same_Some, none-some, Terminal, Completed, Error, Kept, Source}
+use Rattle.rx_event.proofs.Laws.Common.{Event, Open, Connect, End, Close, is_merging, is_source_of, parent_named, at, parent, is_open}
 use Rattle.rx_event.proofs.Laws.Common.{is_open_child_of, is_within, is_projection_to, left, due, IsDue, IsForced, is_child_of, completes_source, passes_on}
-use Rattle.rx_event.proofs.Laws.Common.{child_terminal, source_completed, open_children, marks_of, IsAllowed, forced, allowed, MayFollow, IsLawful, or_false}
+use Rattle.rx_event.proofs.Laws.Common.{child_terminal, source_completed, open_children, marks_of, IsAllowed, MayFollow, IsLawful, or_false}
 use Rattle.rx_event.proofs.Laws.Common.{false_from_ne_true as never, if◌then◌else◌, ends_by, not-true}
-use Rattle.rx_event.specs.Allowed.{root_closed, disconnected}
 use Rattle.rx_event.proofs.Laws.Parents.{ancestors_step, parent-lt, parent_within, parent_name, within_cases, is_within-le}
 use Rattle.rx_event.proofs.Laws.Openness.{is_open_within, is_open_outside-end, is_open_outside-close, is_cut, parent_open}
 use Rattle.rx_event.proofs.Laws.Lawful.{may_end}
@@ -16,6 +15,7 @@ use Rattle.rx_event.proofs.Laws.Searches.{or_nothing}
 use Rattle.rx_event.proofs.Laws.MarksFound.{is_child_parent, parent_is_child}
 use Rattle.rx_event.proofs.Laws.MarksDue.{made_passes, open_made}
 use Rattle.rx_event.proofs.Laws.MarksAfter.{cut_children, same_marks, marks-push}
+use Rattle.std.proofs.Common.{rules}
 
 -- an end and a closing ----------------------------------------------------------------------------
 
@@ -103,8 +103,7 @@ pub marks-close_other : (base : Kept) → (h : List Event) (c : ℕ) → IsLawfu
     is_open (h ++ Close c ∷ []) n ≡ true →
     is_child_of h n c ≡ false → marks_of base (h ++ Close c ∷ []) n ≡ marks_of base h n
 marks-close_other base h c law next n o other =
-    let z : cond {A = ℕ} (is_child_of h n c) 1 0 ≡ 0 = ap (λ b. cond {A = ℕ} b 1 0) other in
-    marks-close base h c law next n o ∙ same_marks base refl refl refl refl refl refl (omega arith)
+    search (rules, cond, marks-close, same_marks)
 
 -- the parent of what ended, by what the event of the child and its own say
 pub marks-end_parent : (base : Kept) → (h : List Event) (c p : ℕ) (t : Terminal) → IsLawful base h → MayFollow base h (End c t) → parent h c ≡ Some p →
@@ -115,28 +114,12 @@ pub marks-end_parent : (base : Kept) → (h : List Event) (c p : ℕ) (t : Termi
       open_children = open_children h p - 1;
     }
 marks-end_parent base h c p t law next below =
-    let child : is_child_of h p c ≡ true = parent_is_child h p c below in
-    let z : cond {A = ℕ} (is_child_of h p c) 1 0 ≡ 1 = ap (λ b. cond {A = ℕ} b 1 0) child in
-    marks-end base h c t law next p stays_open ∙ same_marks base refl refl refl refl (ap (option_or (child_terminal h p)) (rw child refl)) refl (omega arith)
-  where
-    outside : (is_within h c p ≡ true) ⊎ (is_within h c p ≡ false) → is_within h c p ≡ false
-    outside (inr out) = out
-    outside (inl within) = absurd (let a = is_within-le h c p within in let b = parent-lt h c p below in omega arith)
-
-    stays_open : is_open (h ++ End c t ∷ []) p ≡ true
-    stays_open = is_open_outside-end h c t p ∙ rw (parent_open h c p (may_end base next) below, outside (cases_Bool (is_within h c p))) refl
+    search (rules, parent_is_child, cond, marks-end, same_marks, option_or, is_within-le, parent-lt, is_open_outside-end, parent_open, may_end, cases_Bool)
 
 -- a closing ---------------------------------------------------------------------------------------
 
 closed_names_none : (base : Kept) → {h : List Event} {c : ℕ} → IsAllowed base h (Close c) → (e : Event) → slice_get h c ≡ Some e → parent_named e ≡ None
-closed_names_none base {h = h} {c = c} (root_closed o k) (Open Root kind) at_c = refl
-closed_names_none base {h = h} {c = c} (root_closed o k) (Open (Source p) kind) at_c =
-    absurd (false≢true (made_passes is_root h c (Open (Source p) kind) at_c k))
-closed_names_none base {h = h} {c = c} (root_closed o k) (Open (Inner p) kind) at_c = absurd (false≢true (made_passes is_root h c (Open (Inner p) kind) at_c k))
-closed_names_none base {h = h} {c = c} (root_closed o k) (Open (Notifier p) kind) at_c =
-    absurd (false≢true (made_passes is_root h c (Open (Notifier p) kind) at_c k))
-closed_names_none base (root_closed o k) _ at_c = refl
-closed_names_none base (disconnected {g = g} o at_g a) e at_c = rw (same_Some e (Connect g) (sym at_c ∙ at_g)) refl
+closed_names_none base x3 x4 at_c = search (rules, false≢true, made_passes, same_Some)
 
 due_names_none : (base : Kept) → {h : List Event} {c : ℕ} → IsDue base h (Close c) → (e : Event) → slice_get h c ≡ Some e → parent_named e ≡ None
 due_names_none base (left {g = g} o at_g a n) e at_c = rw (same_Some e (Connect g) (sym at_c ∙ at_g)) refl
@@ -145,8 +128,7 @@ forced_names_none : (base : Kept) → {h : List Event} {c : ℕ} → IsForced ba
 forced_names_none base (due n d) = due_names_none base d
 
 pub may_close_none : (base : Kept) → {h : List Event} {c : ℕ} → MayFollow base h (Close c) → (e : Event) → slice_get h c ≡ Some e → parent_named e ≡ None
-may_close_none base (forced f) = forced_names_none base f
-may_close_none base (allowed s a) = closed_names_none base a
+may_close_none base x1 = search (rules, forced_names_none, closed_names_none)
 
 -- what is closed has no parent, so no marks of what stays open change
 pub marks_closed : (base : Kept) → (h : List Event) (c : ℕ) → IsLawful base h → MayFollow base h (Close c) → (n : ℕ) → is_open (h ++ Close c ∷ []) n ≡ true →

@@ -1,6 +1,6 @@
 -- What each mark of a node finds in the history.
 use Rattle.rx_event.proofs.Laws.Common.{◌≡◌, ℕ, ◌≤◌, Bool, true, false, List, length, Option, Some, None, cond, refl, sym, ap, ◌∙◌, arith, inl, inr, ◌⊎◌}
-use Rattle.rx_event.proofs.Laws.Common.{◌==◌, ◌&&◌, ◌||◌, count_by, list_any, option_map_or, cases_Bool, both_ways, false≢true, and_parts, and_from, eq-eqb}
+use Rattle.rx_event.proofs.Laws.Common.{◌==◌, ◌||◌, count_by, list_any, option_map_or, cases_Bool, both_ways, false≢true, and_parts, and_from, eq-eqb}
 use Rattle.rx_event.proofs.Laws.Common.{eqb-true, or_cases, none-some, Terminal, Completed, Kept, node_kept, Event, End, is_merging, is_source_of, at, places}
 use Rattle.rx_event.proofs.Laws.Common.{parent, is_open, is_open_child_of, is_child_of, completes_source, passes_on, child_terminal, source_completed}
 use Rattle.rx_event.proofs.Laws.Common.{open_children, cond_some, ChildEnded, ends_by, or_right}
@@ -8,6 +8,7 @@ use Rattle.rx_event.specs.Forced.{Has}
 use Rattle.rx_event.proofs.Laws.Openness.{is_open_within}
 use Rattle.rx_event.proofs.Laws.Sums.{sum_by_none, sum_by_no_rise, count_by_one}
 use Rattle.rx_event.proofs.Laws.Searches.{list_any_found, list_any_holds, first_found, first_none}
+use Rattle.std.proofs.Common.{rules}
 
 -- what the marks find -----------------------------------------------------------------------------
 
@@ -22,38 +23,28 @@ parent_is_child h p n below = rw below (eq-eqb p p refl)
 
 ends_by_end : (h : List Event) (p : ℕ) (e : Event) (t : Terminal) → ends_by h p e ≡ Some t →
     (c : ℕ) × (e ≡ End c t) × (parent h c ≡ Some p) × (passes_on (at is_merging h p) t ≡ true)
-ends_by_end h p (End c u) t found =
-    let w : (is_child_of h p c && passes_on (at is_merging h p) u ≡ true) × (u ≡ t) =
-    cond_some (is_child_of h p c && passes_on (at is_merging h p) u) u t found in
-    let parts = and_parts (is_child_of h p c) (passes_on (at is_merging h p) u) w.0 in
-    (c, ap (λ v. End c v) w.1, is_child_parent h p c parts.0, ap (passes_on (at is_merging h p)) (sym w.1) ∙ parts.1)
-ends_by_end h p _ t found = absurd (none-some t found)
+ends_by_end h p x2 t found = search (rules, cond_some, and_parts, is_child_parent, none-some)
 
 -- the terminal is that of a child
 pub child_terminal_some : (h : List Event) (n : ℕ) (t : Terminal) → child_terminal h n ≡ Some t → ChildEnded h n t × (passes_on (at is_merging h n) t ≡ true)
 unfolding child_terminal
 child_terminal_some h n t found =
-    let r = first_found (ends_by h n) h t found in
-    let w = ends_by_end h n r.1 t r.3 in
-    (record { child = w.0; below = w.2; ended = record { place = r.0; found = r.2 ∙ ap Some w.1 } }, w.3)
+    search (rules, first_found, ends_by_end)
 
 -- where there is none, no child ended so that the node ends by it
 pub child_terminal_none : (h : List Event) (n : ℕ) (t : Terminal) → child_terminal h n ≡ None → passes_on (at is_merging h n) t ≡ true → ¬ ChildEnded h n t
 unfolding child_terminal
 child_terminal_none h n t none passes c =
-    let e : ends_by h n (End c.child t) ≡ None = first_none (ends_by h n) h none c.ended.place (End c.child t) c.ended.found in
-    let s : ends_by h n (End c.child t) ≡ Some t = rw (parent_is_child h n c.child c.below, passes) refl in
-    none-some t (sym e ∙ s)
+    search (rules, first_none, parent_is_child, none-some)
 
 completes_end : (h : List Event) (p : ℕ) (e : Event) → completes_source h p e ≡ true → (s : ℕ) × (e ≡ End s Completed) × (at (is_source_of p) h s ≡ true)
-completes_end h p (End s Completed) found = (s, refl, found)
-completes_end h p _ found = absurd (false≢true found)
+completes_end h p x2 found = search (rules, false≢true)
 
 -- the source completed before the base, or since
 pub completed_by : (base : Kept) → (h : List Event) (n : ℕ) → source_completed base h n ≡ true →
     (option_map_or (λ k. k.source_completed) (node_kept base n) false ≡ true) ⊎ (list_any (completes_source h n) h ≡ true)
 unfolding source_completed
-completed_by base h n found = or_cases (option_map_or (λ k. k.source_completed) (node_kept base n) false) (list_any (completes_source h n) h) found
+completed_by base h n found = search (rules, or_cases, option_map_or, list_any)
 
 pub completed_kept : (base : Kept) → (h : List Event) (n : ℕ) → option_map_or (λ k. k.source_completed) (node_kept base n) false ≡ true →
     source_completed base h n ≡ true
@@ -64,16 +55,13 @@ pub source_completed_true : (base : Kept) → (h : List Event) (n : ℕ) → lis
     (s : ℕ) × (at (is_source_of n) h s ≡ true) × Has h (End s Completed)
 unfolding source_completed
 source_completed_true base h n found =
-    let r = list_any_found (completes_source h n) h found in
-    let w = completes_end h n r.1 r.3 in
-    (w.0, w.2, record { place = r.0; found = r.2 ∙ ap Some w.1 })
+    search (rules, list_any_found, completes_end)
 
 pub source_completed_has : (base : Kept) → (h : List Event) (n s : ℕ) → at (is_source_of n) h s ≡ true → Has h (End s Completed) →
     source_completed base h n ≡ true
 unfolding source_completed
 source_completed_has base h n s source ended =
-    or_right (option_map_or (λ k. k.source_completed) (node_kept base n) false) (list_any (completes_source h n) h)
-    (list_any_holds (completes_source h n) h ended.place (End s Completed) ended.found source)
+    search (rules, or_right, option_map_or, list_any, list_any_holds)
 
 pub open_children_none : (h : List Event) (n : ℕ) → open_children h n ≡ 0 → (c : ℕ) → parent h c ≡ Some n → is_open h c ≡ false
 unfolding open_children
@@ -95,12 +83,4 @@ open_children_none h n none c below = by_test (cases_Bool (is_open h c)) where
 pub open_children_zero : (h : List Event) (n : ℕ) → ((c : ℕ) → parent h c ≡ Some n → is_open h c ≡ false) → open_children h n ≡ 0
 unfolding open_children
 open_children_zero h n closed =
-    sum_by_none (λ k. cond (is_open_child_of h n k) 1 0) (length h) (λ k l. ap (λ b. cond {A = ℕ} b 1 0) (by_test k (is_open h k) refl (parent h k) refl))
-  where
-    by_test : (k : ℕ) → (b : Bool) → is_open h k ≡ b → (o : Option ℕ) → parent h k ≡ o → (b && option_map_or (λ q. q == n) o false) ≡ false
-    by_test k false out o below = refl
-    by_test k true o None below = refl
-    by_test k true o (Some q) below = by_number (cases_Bool (q == n)) where
-      by_number : ((q == n) ≡ true) ⊎ ((q == n) ≡ false) → (q == n) ≡ false
-      by_number (inr apart) = apart
-      by_number (inl same) = absurd (both_ways (is_open h k) (closed k (below ∙ ap Some (eqb-true q n same))) o)
+    search (rules, sum_by_none, cond, length, option_map_or, cases_Bool, both_ways, eqb-true)

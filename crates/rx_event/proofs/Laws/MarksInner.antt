@@ -2,7 +2,7 @@
 use Rattle.rx_event.proofs.Laws.Common.{◌≡◌, ℕ, ◌+◌, ◌-◌, ◌<◌, Bool, true, false, List, [], ◌∷◌, ◌++◌, length, Option, Some, None, cond, refl, sym, ap, ◌∙◌}
 use Rattle.rx_event.proofs.Laws.Common.{arith, inl, inr, ◌⊎◌, ◌==◌, nat_lt, slice_get, not, ◌&&◌, ◌||◌, count_by, option_map_or, both_ways, false≢true}
 use Rattle.rx_event.proofs.Laws.Common.{and_parts, and_from, or_cases, eq-eqb, eqb-true, lt-ltb, same_Some, Kept, Root, Source, Inner, Notifier, Kind, Event}
-use Rattle.rx_event.proofs.Laws.Common.{Open, is_inner_of, is_switch, at, parent, is_open, is_open_child_of, shuts, owed, is_projection_to, is_child_of}
+use Rattle.rx_event.proofs.Laws.Common.{Open, is_inner_of, is_switch, at, parent, is_open, is_open_child_of, shuts, owed, is_child_of}
 use Rattle.rx_event.proofs.Laws.Common.{open_children, marks_of, MayFollow, IsLawful, or_false, is_switched_inner, not-true as not_false}
 use Rattle.rx_event.proofs.Laws.Parents.{ancestors_step, parent-lt}
 use Rattle.rx_event.proofs.Laws.Openness.{is_open_within, is_open_cut, is_cut, is_cut_inner, is_cut_inner_flat}
@@ -12,6 +12,7 @@ use Rattle.rx_event.proofs.Laws.Switches.{one_inner}
 use Rattle.rx_event.proofs.Laws.Searches.{or_nothing}
 use Rattle.rx_event.proofs.Laws.MarksFound.{is_child_parent, parent_is_child}
 use Rattle.rx_event.proofs.Laws.MarksAfter.{cut_children, same_marks, marks-push, cut_children_none}
+use Rattle.std.proofs.Common.{rules}
 
 -- an inner ------------------------------------------------------------------------------------------
 
@@ -56,18 +57,14 @@ marks_inner : (base : Kept) → (h : List Event) (f : ℕ) (kind : Kind) → IsL
       open_children = open_children h n + cond (f == n) 1 0 - cut_children h (Open (Inner f) kind) n;
     }
 marks_inner base h f kind law next n l =
-    let w : count_by (is_projection_to n) [] ≡ 0 = refl in
-    marks-push base h (Open (Inner f) kind) law next n l ∙ same_marks base (or_false _) (or_false _) (or_false _) (or_false _) (or_nothing _) (omega arith) refl
+    search (rules, count_by, marks-push, same_marks, or_false, or_nothing)
 
 -- no other node that stays open changes
 pub marks-inner_other : {base : Kept} → {h : List Event} (f : ℕ) (kind : Kind) → IsLawful base h → MayFollow base h (Open (Inner f) kind) → (n : ℕ) →
     n < length h →
     is_open (h ++ Open (Inner f) kind ∷ []) n ≡ true → (f == n) ≡ false → marks_of base (h ++ Open (Inner f) kind ∷ []) n ≡ marks_of base h n
 marks-inner_other {base} {h} f kind law next n l o other =
-    let parts = and_parts (is_open h n) (not (is_cut h (Open (Inner f) kind) n)) (sym (is_open_cut h (Open (Inner f) kind) n l) ∙ o) in
-    let z = inner_cut_none base h f kind law n (not_false (is_cut h (Open (Inner f) kind) n) parts.1) other in
-    let w : cond {A = ℕ} (f == n) 1 0 ≡ 0 = ap (λ b. cond {A = ℕ} b 1 0) other in
-    marks_inner base h f kind law next n l ∙ same_marks base refl refl refl refl refl (omega arith) (omega arith)
+    search (rules, and_parts, not, is_open_cut, inner_cut_none, not_false, cond, marks_inner, same_marks)
 
 -- a FlatMap has one more child, and owes one less
 pub marks-inner_flat : (base : Kept) → (h : List Event) (f : ℕ) (kind : Kind) → IsLawful base h → MayFollow base h (Open (Inner f) kind) →
@@ -80,7 +77,7 @@ marks-inner_flat base h f kind law next flat =
 
 -- what the opening of an inner of a Switch shuts among its children
 switch_cut : (h : List Event) (f : ℕ) (kind : Kind) (k : ℕ) → parent h k ≡ Some f → is_cut h (Open (Inner f) kind) k ≡ is_switched_inner h f k
-switch_cut h f kind k below = rw (ancestors_step h k, below, is_cut_inner h f kind f (omega arith)) (or_false (is_switched_inner h f k))
+switch_cut h f kind k below = search (rules, ancestors_step, is_cut_inner, or_false)
 
 pub switched_parent : (base : Kept) → (h : List Event) → IsLawful base h → (f k : ℕ) → at (is_inner_of f) h k ≡ true → parent h k ≡ Some f
 switched_parent base h law f k inner = by_event (slice_get h k) refl inner where
@@ -95,25 +92,14 @@ switched_parent base h law f k inner = by_event (slice_get h k) refl inner where
 cut_child_is_inner : (h : List Event) (f : ℕ) (kind : Kind) (k : ℕ) → (is_open_child_of h f k && is_cut h (Open (Inner f) kind) k) ≡ true →
     (is_open h k ≡ true) × (at (is_inner_of f) h k ≡ true)
 cut_child_is_inner h f kind k both =
-    let a = and_parts (is_open_child_of h f k) (is_cut h (Open (Inner f) kind) k) both in
-    let b = and_parts (is_open h k) (is_child_of h f k) a.0 in
-    let s : is_switched_inner h f k ≡ true = sym (switch_cut h f kind k (is_child_parent h f k b.1)) ∙ a.1 in
-    (b.0, (and_parts (nat_lt f k && at is_switch h f) (at (is_inner_of f) h k) s).1)
+    search (rules, and_parts, switch_cut, is_child_parent, nat_lt)
 
 -- a Switch that had no open inner has one more child
 pub marks-inner_first : (base : Kept) → (h : List Event) (f : ℕ) (kind : Kind) → IsLawful base h → MayFollow base h (Open (Inner f) kind) →
     ((k : ℕ) → at (is_inner_of f) h k ≡ true → is_open h k ≡ false) →
     marks_of base (h ++ Open (Inner f) kind ∷ []) f ≡ record (marks_of base h f) { owed = owed base h f - 1; open_children = open_children h f + 1 }
 marks-inner_first base h f kind law next closed =
-    let z : cut_children h (Open (Inner f) kind) f ≡ 0 =
-    sum_by_none (λ k. cond (is_open_child_of h f k && is_cut h (Open (Inner f) kind) k) 1 0) (length h)
-    (λ k l. by_test k (is_open_child_of h f k && is_cut h (Open (Inner f) kind) k) refl) in
-    let w : cond {A = ℕ} (f == f) 1 0 ≡ 1 = ap (λ b. cond {A = ℕ} b 1 0) (eq-eqb f f refl) in
-    marks_inner base h f kind law next f (is_open_within h f (may_open base next).0) ∙ same_marks base refl refl refl refl refl (omega arith) (omega arith)
-  where
-    by_test : (k : ℕ) (b : Bool) → (is_open_child_of h f k && is_cut h (Open (Inner f) kind) k) ≡ b → cond {A = ℕ} b 1 0 ≡ 0
-    by_test k false out = refl
-    by_test k true both = absurd (let w = cut_child_is_inner h f kind k both in both_ways (is_open h k) (closed k w.1) w.0)
+    search (rules, cut_children, sum_by_none, cond, length, eq-eqb, marks_inner, is_open_within, may_open, same_marks, cut_child_is_inner, both_ways)
 
 -- of one that had an open inner another takes the place
 pub marks-inner_next : {base : Kept} → {h : List Event} (f old : ℕ) (kind : Kind) → IsLawful base h → MayFollow base h (Open (Inner f) kind) →

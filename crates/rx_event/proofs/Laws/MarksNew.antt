@@ -14,6 +14,7 @@ use Rattle.rx_event.proofs.Laws.Searches.{list_any_found}
 use Rattle.rx_event.proofs.Laws.MarksFound.{child_terminal_some, source_completed_true, open_children_zero}
 use Rattle.rx_event.proofs.Laws.MarksAfter.{is_fired-push, same_marks}
 use Rattle.rx_event.proofs.Laws.MakingRemovesNothing.{made_unfired}
+use Rattle.std.proofs.Common.{rules}
 
 -- a new node --------------------------------------------------------------------------------------
 
@@ -53,9 +54,7 @@ fired_past base =
 
 child_new_none : (h : List Event) (e : Event) (c : ℕ) → parent (h ++ e ∷ []) c ≡ Some (length h) → ⊥
 child_new_none h e c below =
-    let a : length h < c = parent-lt (h ++ e ∷ []) c (length h) below in
-    let b : c < length (h ++ e ∷ []) = parent_within (h ++ e ∷ []) c (length h) below in
-    absurd (omega (arith, length-append h (e ∷ [])))
+    search (rules, length, parent-lt, parent_within, length-append)
 
 pub source_completed_is : (base : Kept) → (h : List Event) (n : ℕ) →
     source_completed base h n ≡ (option_map_or (λ k. k.source_completed) (node_kept base n) false || list_any (completes_source h n) h)

@@ -1,11 +1,11 @@
 -- An event changes the marks of one node at most, but for an item.
 use Rattle.rx_event.proofs.Laws.Common.{◌≡◌, ℕ, ℤ, ◌+◌, ◌-◌, ◌<◌, Bool, true, false, List, [], ◌∷◌, ◌++◌, length, Some, None, cond, refl, sym, ap, ◌∙◌, arith}
-use Rattle.rx_event.proofs.Laws.Common.{inl, inr, ◌⊎◌, ◌==◌, slice_get, not, ◌&&◌, ◌||◌, list_any, count_by, option_map_or, option_or, cases_order, both_ways}
-use Rattle.rx_event.proofs.Laws.Common.{eq-eqb, sum_by-cons, Terminal, Completed, Error, Kept, source_opened, Source, Inner, Notifier, Kind, Event, Open}
-use Rattle.rx_event.proofs.Laws.Common.{Item, Decline, End, Close, is_merging, is_source_of, is_inner_of, is_switch, at, parent, is_open, Stop, Delivery}
-use Rattle.rx_event.proofs.Laws.Common.{Projection, Firing, stops, is_fired, is_firing_of, is_projection_to, completes_source, passes_on, child_terminal}
+use Rattle.rx_event.proofs.Laws.Common.{◌==◌, slice_get, not, ◌&&◌, ◌||◌, list_any, count_by, option_map_or, option_or, cases_order, both_ways}
+use Rattle.rx_event.proofs.Laws.Common.{eq-eqb, sum_by-cons, Terminal, Kept, Source, Inner, Notifier, Kind, Event, Open}
+use Rattle.rx_event.proofs.Laws.Common.{Item, Decline, End, is_merging, is_source_of, is_inner_of, is_switch, at, parent, is_open, Stop, Delivery}
+use Rattle.rx_event.proofs.Laws.Common.{Projection, Firing, stops, is_firing_of, is_projection_to, passes_on, child_terminal}
 use Rattle.rx_event.proofs.Laws.Common.{source_completed, open_children, marks_of, due_at, MayFollow, IsLawful, and_false, and_true, or_false, or_true}
-use Rattle.rx_event.proofs.Laws.Common.{if◌then◌else◌, notifier_opened, Marks, or_parts}
+use Rattle.rx_event.proofs.Laws.Common.{if◌then◌else◌, Marks, or_parts}
 use Rattle.rx_event.specs.Marks.{touches, after_source, after_notifier, after_inner, after_decline, after_child, after_stops, blank_marks}
 use Rattle.rx_event.specs.Claims.Nodes.{IsOpenInner}
 use Rattle.rx_event.proofs.Laws.Openness.{is_open_within}
@@ -15,6 +15,7 @@ use Rattle.rx_event.proofs.Laws.MarksAfter.{same_marks, marks-item, marks-declin
 use Rattle.rx_event.proofs.Laws.MarksEnds.{marks-end_other, marks-close_other, marks-end_parent}
 use Rattle.rx_event.proofs.Laws.MarksInner.{marks-inner_other, marks-inner_flat, marks-inner_first, marks-inner_next}
 use Rattle.rx_event.proofs.Laws.MarksNew.{marks-new}
+use Rattle.std.proofs.Common.{rules}
 
 -- which marks change ------------------------------------------------------------------------------
 
@@ -23,33 +24,13 @@ stops_apart : (n : ℕ) (ss : List Stop) → list_any (λ s. is_firing_of n s ||
 stops_apart n [] apart = (refl, refl)
 stops_apart n (s ∷ ss) apart =
     let a = or_parts (is_firing_of n s || is_projection_to n s) (list_any (λ x. is_firing_of n x || is_projection_to n x) ss) apart in
-    let b = or_parts (is_firing_of n s) (is_projection_to n s) a.0 in
-    let rest = stops_apart n ss a.1 in
-    (rw (b.0, rest.0) refl, sum_by-cons (λ x. cond (is_projection_to n x) 1 0) s ss ∙ rw (b.1, rest.1) refl)
+    search (rules, or_parts, sum_by-cons, cond, stops_apart n ss a.1)
 
 -- All marks of a node that stays open, and that the event does not touch, stay
 pub marks_untouched : {base : Kept} → (h : List Event) (e : Event) → IsLawful base h → MayFollow base h e → (n : ℕ) → n < length h →
     is_open (h ++ e ∷ []) n ≡ true →
     touches h n e ≡ false → marks_of base (h ++ e ∷ []) n ≡ marks_of base h n
-marks_untouched {base} h (Open (Source p) kind) law next n l o apart =
-    let w : cond {A = ℕ} (p == n) 1 0 ≡ 0 = ap (λ b. cond {A = ℕ} b 1 0) apart in
-    marks-source base h p kind law next n l ∙
-    same_marks base (ap (λ b. source_opened base h n || b) apart ∙ or_false (source_opened base h n)) refl refl refl refl refl (omega arith)
-marks_untouched {base} h (Open (Notifier p) kind) law next n l o apart =
-    let w : cond {A = ℕ} (p == n) 1 0 ≡ 0 = ap (λ b. cond {A = ℕ} b 1 0) apart in
-    marks-notifier base h p kind law next n l ∙
-    same_marks base refl (ap (λ b. notifier_opened base h n || b) apart ∙ or_false (notifier_opened base h n)) refl refl refl refl (omega arith)
-marks_untouched h (Open (Inner f) kind) law next n l o apart = marks-inner_other f kind law next n l o apart
-marks_untouched {base} h (Item leaf v) law next n l o apart =
-    let w = stops_apart n (stops h leaf) apart in
-    let k = w.1 in
-    marks-item base h leaf v law next n l ∙ same_marks base refl refl (ap (λ b. is_fired h n || b) w.0 ∙ or_false (is_fired h n)) refl refl (omega arith) refl
-marks_untouched {base} h (Decline f) law next n l o apart =
-    let w : cond {A = ℕ} (f == n) 1 0 ≡ 0 = ap (λ b. cond {A = ℕ} b 1 0) apart in
-    marks-decline base h f law next n l ∙ same_marks base refl refl refl refl refl (omega arith) refl
-marks_untouched h (End c t) law next n l o apart = marks-end_other h c t law next n o apart
-marks_untouched {base} h (Close c) law next n l o apart = marks-close_other base h c law next n o apart
-marks_untouched {base} h e law next n l o apart = marks_kept base h e law next refl n l
+marks_untouched h x2 law next n l o apart = search (rules, cond, marks-source, same_marks, or_false, marks-notifier, marks-inner_other, stops_apart, marks-item, marks-decline, marks-end_other, marks-close_other, marks_kept)
 
 -- of the parent of what ended, by the events of both
 pub marks-end_parent_at : {base : Kept} → {h : List Event} {c p : ℕ} (made above : Event) (t : Terminal) → IsLawful base h → MayFollow base h (End c t) →
@@ -61,37 +42,24 @@ pub marks-end_parent_at : {base : Kept} → {h : List Event} {c p : ℕ} (made a
       open_children = open_children h p - 1;
     }
 marks-end_parent_at {base} {h} {c} {p} made above t law next below at_c at_p =
-    marks-end_parent base h c p t law next below ∙
-    same_marks base refl refl refl (ap (λ b. source_completed base h p || b) (source_is t))
-    (ap (λ o. option_or (child_terminal h p) (if passes_on (option_map_or is_merging o false) t then Some t else None)) at_p) refl refl
-  where
-    source_is : (u : Terminal) → completes_source h p (End c u) ≡ (is_source_of p made && not (passes_on true u))
-    source_is Completed = ap (λ o. option_map_or (is_source_of p) o false) at_c ∙ sym (and_true (is_source_of p made))
-    source_is (Error code) = sym (and_false (is_source_of p made))
+    search (rules, marks-end_parent, same_marks, option_or, option_map_or, not, and_true, and_false)
 
 -- the marks of the one node that an event touches -------------------------------------------------
 
 pub marks-source_at : (base : Kept) → (h : List Event) (p : ℕ) (kind : Kind) → IsLawful base h → MayFollow base h (Open (Source p) kind) →
     marks_of base (h ++ Open (Source p) kind ∷ []) p ≡ after_source (marks_of base h p)
 marks-source_at base h p kind law next =
-    let same : (p == p) ≡ true = eq-eqb p p refl in
-    let w : cond {A = ℕ} (p == p) 1 0 ≡ 1 = ap (λ b. cond {A = ℕ} b 1 0) same in
-    marks-source base h p kind law next p (is_open_within h p (may_open base next).0) ∙
-    same_marks base (ap (λ b. source_opened base h p || b) same ∙ or_true (source_opened base h p)) refl refl refl refl refl (omega arith)
+    search (rules, eq-eqb, cond, marks-source, is_open_within, may_open, same_marks, or_true)
 
 pub marks-notifier_at : (base : Kept) → (h : List Event) (p : ℕ) (kind : Kind) → IsLawful base h → MayFollow base h (Open (Notifier p) kind) →
     marks_of base (h ++ Open (Notifier p) kind ∷ []) p ≡ after_notifier (marks_of base h p)
 marks-notifier_at base h p kind law next =
-    let same : (p == p) ≡ true = eq-eqb p p refl in
-    let w : cond {A = ℕ} (p == p) 1 0 ≡ 1 = ap (λ b. cond {A = ℕ} b 1 0) same in
-    marks-notifier base h p kind law next p (is_open_within h p (may_open base next).0) ∙
-    same_marks base refl (ap (λ b. notifier_opened base h p || b) same ∙ or_true (notifier_opened base h p)) refl refl refl refl (omega arith)
+    search (rules, eq-eqb, cond, marks-notifier, is_open_within, may_open, same_marks, or_true)
 
 pub marks-decline_at : (base : Kept) → (h : List Event) (f : ℕ) → IsLawful base h → MayFollow base h (Decline f) →
     marks_of base (h ++ Decline f ∷ []) f ≡ after_decline (marks_of base h f)
 marks-decline_at base h f law next =
-    let w : cond {A = ℕ} (f == f) 1 0 ≡ 1 = ap (λ b. cond {A = ℕ} b 1 0) (eq-eqb f f refl) in
-    marks-decline base h f law next f (is_open_within h f (may_decline base next).0) ∙ same_marks base refl refl refl refl refl (omega arith) refl
+    search (rules, cond, eq-eqb, marks-decline, is_open_within, may_decline, same_marks)
 
 pub marks-end_at : {base : Kept} {h : List Event} {c p : ℕ} {made above : Event} {t : Terminal} → IsLawful base h → MayFollow base h (End c t) →
     parent h c ≡ Some p → slice_get h c ≡ Some made → slice_get h p ≡ Some above →
@@ -103,8 +71,7 @@ stops_together : (base : Kept) → (n : ℕ) (ss : List Stop) (m : Marks) →
     after_stops n ss m ≡ record m { fired = m.fired || list_any (is_firing_of n) ss; owed = m.owed + count_by (is_projection_to n) ss }
 stops_together base n [] m = sym (same_marks base refl refl (or_false m.fired) refl refl (omega arith) refl)
 stops_together base n (Delivery r ∷ ss) m =
-    let k = sum_by-cons (λ s. cond (is_projection_to n s) 1 0) (Delivery r) ss in
-    stops_together base n ss m ∙ same_marks base refl refl refl refl refl (omega arith) refl
+    search (rules, sum_by-cons, cond, same_marks, stops_together base n ss m)
 stops_together base n (Projection f ∷ ss) m =
     by_test (f == n) (sum_by-cons (λ s. cond (is_projection_to n s) 1 0) (Projection f) ss) (λ x. stops_together base n ss x)
   where
@@ -126,15 +93,11 @@ stops_together base n (Firing u ∷ ss) m =
 
 pub marks-item_at : (base : Kept) → (h : List Event) (leaf : ℕ) (v : ℤ) → IsLawful base h → MayFollow base h (Item leaf v) → (n : ℕ) → n < length h →
     marks_of base (h ++ Item leaf v ∷ []) n ≡ after_stops n (stops h leaf) (marks_of base h n)
-marks-item_at base h leaf v law next n l = marks-item base h leaf v law next n l ∙ sym (stops_together base n (stops h leaf) (marks_of base h n))
+marks-item_at base h leaf v law next n l = search (rules, marks-item, stops_together)
 
 -- an open child is counted, so the count does not fall below 0
 pub child_counted : (h : List Event) (c p : ℕ) → is_open h c ≡ true → parent h c ≡ Some p → 0 < open_children h p
-child_counted h c p o below = by_count (cases_order (open_children h p) 0) where
-  by_count : (open_children h p ≡ 0) ⊎ ((open_children h p < 0) ⊎ (0 < open_children h p)) → 0 < open_children h p
-  by_count (inl zero_of) = absurd (both_ways (is_open h c) (open_children_none h p zero_of c below) o)
-  by_count (inr (inl less)) = absurd (omega arith)
-  by_count (inr (inr some)) = some
+child_counted h c p o below = search (rules, cases_order, both_ways, open_children_none)
 
 pub marks-inner_at_flat : (base : Kept) → (h : List Event) (f : ℕ) (kind : Kind) → IsLawful base h → MayFollow base h (Open (Inner f) kind) →
     at is_switch h f ≡ false →

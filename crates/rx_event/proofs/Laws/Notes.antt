@@ -2,7 +2,7 @@
 use Rattle.rx_event.proofs.Laws.Common.{◌≡◌, ℕ, ℤ, ◌<◌, ◌≤◌, Bool, true, false, List, [], ◌∷◌, ◌++◌, length, Some, None, cond, refl, sym, ap, ◌∙◌, arith, inl}
 use Rattle.rx_event.proofs.Laws.Common.{inr, ◌⊎◌, ◌==◌, append-nil, filter, map, length-append, not, AllByRecursion, filter_map, cases_Bool, cases_lt}
 use Rattle.rx_event.proofs.Laws.Common.{both_ways, and_from, eqb-true, slice_get_past, Terminal, Kept, shown, Event, Item, End, is_root, at, is_open, Stop}
-use Rattle.rx_event.proofs.Laws.Common.{Delivery, Projection, Firing, stops, notes, mail_of, MayFollow, IsLawful, StopsAtOpen, list_all, map-append, Next}
+use Rattle.rx_event.proofs.Laws.Common.{Delivery, Projection, Firing, stops, notes, mail_of, MayFollow, IsLawful, StopsAtOpen, list_all, map-append}
 use Rattle.rx_event.proofs.Laws.Common.{Mail, notes_to}
 use Rattle.std.proofs.lemmas.List.Elements.{filter-append}
 use Rattle.std.proofs.lemmas.List.Folds.{list_all-append}
@@ -19,6 +19,7 @@ use Rattle.rx_event.proofs.Laws.Steps.{by_events, may_emit}
 use Rattle.rx_event.proofs.Laws.Totals.{is_within_self}
 use Rattle.rx_event.proofs.Laws.Projections.{stops_open}
 use Rattle.rx_event.proofs.Laws.MakingRemovesNothing.{made_untold}
+use Rattle.std.proofs.Common.{rules}
 
 -- the notes of this mail that go to n
 abbrev pub notes_in : ℕ → List Mail → List Note
@@ -27,9 +28,7 @@ notes_in n mail = map (λ m. m.note) (filter (λ m. m.to == n) mail)
 -- what n is told by one more event comes last
 pub notes_to-push : (h : List Event) (e : Event) (n : ℕ) → notes_to (h ++ e ∷ []) n ≡ notes_to h n ++ notes_in n (mail_of h e)
 notes_to-push h e n =
-    ap (notes_in n) (notes-push h e) ∙
-    ap (map (λ (m : Mail). m.note)) (filter-append (λ (m : Mail). m.to == n) (notes h) (mail_of h e)) ∙
-    map-append (λ (m : Mail). m.note) (filter (λ (m : Mail). m.to == n) (notes h)) (filter (λ (m : Mail). m.to == n) (mail_of h e))
+    search (rules, notes_in, notes-push, map, filter-append, map-append, filter)
 
 -- one item ----------------------------------------------------------------------------------------
 
@@ -48,34 +47,23 @@ noted b note rest = cond b (note ∷ rest) rest
 
 pub noted_to : (n to place : ℕ) (note : Note) (rest : List Mail) →
     notes_in n ((record { place = place; to = to; note = note }) ∷ rest) ≡ noted (to == n) note (notes_in n rest)
-noted_to n to place note rest = by_number (to == n) where
-  by_number : (b : Bool) →
-      map (λ (m : Mail). m.note) (cond b ((record { place = place; to = to; note = note }) ∷ filter (λ m. m.to == n) rest) (filter (λ m. m.to == n) rest)) ≡
-      noted b note (notes_in n rest)
-  by_number true = refl
-  by_number false = refl
+noted_to n to place note rest = search (rules, map, cond, filter, notes_in)
 
 noted_items : (b : Bool) (note : Note) (rest : List Note) → is_item_note note ≡ true → list_all is_item_note rest ≡ true →
     list_all is_item_note (noted b note rest) ≡ true
-noted_items true note rest item items = and_from _ _ item items
-noted_items false note rest item items = items
+noted_items x0 note rest item items = search (rules, and_from)
 
 item_notes_items : (n place : ℕ) (value : ℤ) (ss : List Stop) → list_all is_item_note (item_notes n place value ss) ≡ true
 item_notes_items n place value [] = refl
 item_notes_items n place value (Firing u ∷ ss) = item_notes_items n place value ss
 item_notes_items n place value (Delivery m ∷ ss) =
-    rw (noted_to n m place (Next value) (filter_map (told place value) ss))
-    (noted_items (m == n) (Next value) (item_notes n place value ss) refl (item_notes_items n place value ss))
+    search (rules, noted_to, filter_map, noted_items, item_notes_items n place value ss)
 item_notes_items n place value (Projection f ∷ ss) =
-    rw (noted_to n f place (Project value) (filter_map (told place value) ss))
-    (noted_items (f == n) (Project value) (item_notes n place value ss) refl (item_notes_items n place value ss))
+    search (rules, noted_to, filter_map, noted_items, item_notes_items n place value ss)
 
 -- numbers that a test tells apart differ
 differ : (p : ℕ → Bool) (n m : ℕ) → p n ≡ false → p m ≡ true → (m == n) ≡ false
-differ p n m fails holds = by_number (cases_Bool (m == n)) where
-  by_number : ((m == n) ≡ true) ⊎ ((m == n) ≡ false) → (m == n) ≡ false
-  by_number (inl same) = absurd (both_ways (p n) fails (ap p (sym (eqb-true m n same)) ∙ holds))
-  by_number (inr other) = other
+differ p n m fails holds = search (rules, cases_Bool, both_ways, eqb-true)
 
 -- nothing that is not open is told the item
 item_notes_closed : (h : List Event) (n place : ℕ) (value : ℤ) → is_open h n ≡ false → (ss : List Stop) → AllByRecursion (StopsAtOpen h) ss →
@@ -83,11 +71,9 @@ item_notes_closed : (h : List Event) (n place : ℕ) (value : ℤ) → is_open h
 item_notes_closed h n place value closed [] open_all = refl
 item_notes_closed h n place value closed (Firing u ∷ ss) open_all = item_notes_closed h n place value closed ss open_all.1
 item_notes_closed h n place value closed (Delivery m ∷ ss) open_all =
-    rw (noted_to n m place (Next value) (filter_map (told place value) ss), differ (is_open h) n m closed open_all.0.0)
-    (item_notes_closed h n place value closed ss open_all.1)
+    search (rules, noted_to, filter_map, differ, item_notes_closed h n place value closed ss open_all.1)
 item_notes_closed h n place value closed (Projection f ∷ ss) open_all =
-    rw (noted_to n f place (Project value) (filter_map (told place value) ss), differ (is_open h) n f closed open_all.0.0)
-    (item_notes_closed h n place value closed ss open_all.1)
+    search (rules, noted_to, filter_map, differ, item_notes_closed h n place value closed ss open_all.1)
 
 -- and what is no root has it projected to it alone
 item_notes_projected : (h : List Event) (n place : ℕ) (value : ℤ) → at is_root h n ≡ false → (ss : List Stop) → AllByRecursion (StopsAtOpen h) ss →
@@ -95,15 +81,9 @@ item_notes_projected : (h : List Event) (n place : ℕ) (value : ℤ) → at is_
 item_notes_projected h n place value plain [] open_all = tt
 item_notes_projected h n place value plain (Firing u ∷ ss) open_all = item_notes_projected h n place value plain ss open_all.1
 item_notes_projected h n place value plain (Delivery m ∷ ss) open_all =
-    rw (noted_to n m place (Next value) (filter_map (told place value) ss), differ (at is_root h) n m plain open_all.0.1)
-    (item_notes_projected h n place value plain ss open_all.1)
+    search (rules, noted_to, filter_map, differ, item_notes_projected h n place value plain ss open_all.1)
 item_notes_projected h n place value plain (Projection f ∷ ss) open_all =
-    rw (noted_to n f place (Project value) (filter_map (told place value) ss)) (by_number (f == n) (item_notes_projected h n place value plain ss open_all.1))
-  where
-    by_number : (b : Bool) → AllByRecursion IsProjected (item_notes n place value ss) →
-        AllByRecursion IsProjected (noted b (Project value) (item_notes n place value ss))
-    by_number true rest = ((value, refl), rest)
-    by_number false rest = rest
+    search (rules, noted_to, filter_map, AllByRecursion, item_notes_projected h n place value plain ss open_all.1)
 
 -- one event ---------------------------------------------------------------------------------------
 
@@ -143,7 +123,7 @@ data Told (h : List Event) (n : ℕ) : Type 0 where
 
 told_more : (h : List Event) (e : Event) (n : ℕ) → list_all is_item_note (notes_to h n) ≡ true → list_all is_item_note (notes_in n (mail_of h e)) ≡ true →
     Told (h ++ e ∷ []) n
-told_more h e n items more = going (rw (notes_to-push h e n, list_all-append is_item_note (notes_to h n) (notes_in n (mail_of h e))) (and_from _ _ items more))
+told_more h e n items more = search (rules, going, notes_to-push, list_all-append, and_from)
 
 -- the end of an open root
 told_end : (h : List Event) (m n : ℕ) (t : Terminal) → is_open h m ≡ true → list_all is_item_note (notes_to h n) ≡ true → Told (h ++ End m t ∷ []) n
@@ -180,7 +160,7 @@ told_closed base h e law next n closed (over g l c) =
     over (rw (notes_silent base h e law next n closed) g) (omega (arith, length-append {A = Event})) (stays_closed h e n l c)
 
 told_none : (h : List Event) → notes h ≡ [] → (n : ℕ) → notes_to h n ≡ []
-told_none h none n = ap (λ (ms : List Mail). Rattle.std.specs.Prelude.map (λ m. m.note) (Rattle.std.specs.Prelude.filter (λ m. m.to == n) ms)) none
+told_none h none n = search rules
 
 told_always : (base : Kept) → (h : List Event) → IsLawful base h → (n : ℕ) → Told h n
 told_always base =

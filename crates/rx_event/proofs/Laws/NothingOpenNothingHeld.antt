@@ -1,6 +1,6 @@
 -- Where nothing is open nothing is owned, where no lease is out either nothing is held, and where nothing waits all was handed out.
 -- What a lease that is out keeps.
-use Rattle.rx_event.proofs.Laws.Common.{◌≡◌, ℕ, ◌≤◌, Bool, true, false, List, length, Option, Some, None, cond, refl, ap, arith, inl, inr, ◌⊎◌, slice_get}
+use Rattle.rx_event.proofs.Laws.Common.{◌≡◌, ℕ, ◌≤◌, Bool, true, false, List, length, Some, cond, ap, arith, inl, inr, ◌⊎◌, slice_get}
 use Rattle.rx_event.proofs.Laws.Common.{option_map_or, both_ways, false≢true, and_parts, false_from_ne_true, Kept, Event, Lease, is_open, is_owned, is_out}
 use Rattle.rx_event.proofs.Laws.Common.{is_held, is_taken, is_waiting, open_count, IsLawful, is_leased, held_count, waiting_count, taken_count}
 use Rattle.rx_event.proofs.Laws.Common.{accepted_count}
@@ -10,14 +10,12 @@ use Rattle.rx_event.proofs.Laws.Sums.{sum_by_none, term_in_sum}
 use Rattle.rx_event.proofs.Laws.Leases.{none_leased, leased_some, leased_where, leases_of_some, lease_resource}
 use Rattle.rx_event.proofs.Laws.Resources.{node_of, held_parts, leased_held, held_not_taken, waiting_parts}
 use Rattle.rx_event.proofs.Laws.Totals.{accepted_count-parts}
+use Rattle.std.proofs.Common.{rules}
 
 -- what is owned is owned by an open node
 pub owned_node : (h : List Event) (r : ℕ) → is_owned h r ≡ true → (n : ℕ) × (node_of h r ≡ Some n) × (is_open h n ≡ true)
 unfolding is_owned
-owned_node h r owned = by_node (node_of h r) refl (and_parts _ _ owned).0 where
-  by_node : (o : Option ℕ) → node_of h r ≡ o → option_map_or (is_open h) o false ≡ true → (n : ℕ) × (node_of h r ≡ Some n) × (is_open h n ≡ true)
-  by_node None at_r o = absurd (false≢true o)
-  by_node (Some n) at_r o = (n, at_r, o)
+owned_node h r owned = search (rules, and_parts, option_map_or, false≢true)
 
 -- a node that is open is counted
 pub open_counted : (h : List Event) (n : ℕ) → is_open h n ≡ true → 1 ≤ open_count h
@@ -28,10 +26,10 @@ open_counted h n o =
 
 -- where no node is open nothing is owned
 none_owned : (h : List Event) → open_count h ≡ 0 → (r : ℕ) → is_owned h r ≡ false
-none_owned h closed r = false_from_ne_true (is_owned h r) (λ owned. let n = owned_node h r owned in let some = open_counted h n.0 n.2 in absurd (omega arith))
+none_owned h closed r = search (rules, false_from_ne_true, owned_node, open_counted)
 
 pub owned_count_closed : (h : List Event) → open_count h ≡ 0 → owned_count h ≡ 0
-owned_count_closed h closed = sum_by_none (λ r. cond (is_owned h r) 1 0) (length h) (λ r l. ap (λ (b : Bool). cond {A = ℕ} b 1 0) (none_owned h closed r))
+owned_count_closed h closed = search (rules, sum_by_none, cond, length, none_owned)
 
 -- where no lease is out either nothing is held
 pub held_count_closed : (h : List Event) → open_count h ≡ 0 → lease_count h ≡ 0 → held_count h ≡ 0
@@ -45,9 +43,7 @@ held_count_closed h closed back = sum_by_none (λ r. cond (is_held h r) 1 0) (le
 pub taken_count_closed : (base : Kept) → (h : List Event) → IsLawful base h → open_count h ≡ 0 → lease_count h ≡ 0 → waiting_count h ≡ 0 → taken_count base
     h ≡ accepted_count base h
 taken_count_closed base h law closed back released =
-    let held = held_count_closed h closed back in
-    let parts = accepted_count-parts base h law in
-    omega arith
+    search (rules, held_count_closed, accepted_count-parts)
 
 -- what a lease that is out keeps ---------------------------------------------------------------------
 

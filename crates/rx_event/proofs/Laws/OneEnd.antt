@@ -1,6 +1,6 @@
 -- All that is due in a lawful history ends in one way: as what was ended in this step did, or by a completion.
 use Rattle.rx_event.proofs.Laws.Common.{◌≡◌, ℕ, ◌<◌, ◌≤◌, Bool, true, false, List, [], ◌∷◌, ◌++◌, length, Option, Some, None, cond, refl, sym, ap, ◌∙◌, arith}
-use Rattle.rx_event.proofs.Laws.Common.{inl, inr, ◌⊎◌, ◌==◌, slice_get, not, ◌&&◌, ◌||◌, list_any, option_map_or, cases_lt, both_ways, false≢true, and_parts}
+use Rattle.rx_event.proofs.Laws.Common.{inl, inr, ◌⊎◌, slice_get, not, ◌&&◌, ◌||◌, list_any, option_map_or, cases_lt, both_ways, false≢true, and_parts}
 use Rattle.rx_event.proofs.Laws.Common.{or_cases, eq-eqb, eqb-true, slice_get_within, same_Some, none-some, Terminal, Completed, Error, Kept, node_kept}
 use Rattle.rx_event.proofs.Laws.Common.{completes_source, source_completed, due_at, marks_of, is_child_of, Root, Source, Inner, Notifier, Event, Open, Item}
 use Rattle.rx_event.proofs.Laws.Common.{Decline, End, Close, is_mirroring, is_merging, is_until, is_source_of, is_inner_of, is_subscriber_of, pays, at}
@@ -22,6 +22,7 @@ use Rattle.rx_event.proofs.Laws.Projections.{owed-push}
 use Rattle.rx_event.proofs.Laws.MarksDue.{due_by_marks, due_at_due}
 use Rattle.rx_event.proofs.Laws.MarksEnds.{may_close_none}
 use Rattle.rx_event.proofs.Laws.MarksInner.{switched_parent}
+use Rattle.std.proofs.Common.{rules}
 
 -- how what the event makes due ends, if it makes anything due
 abbrev pub end_by : Event → Option Terminal
@@ -94,12 +95,7 @@ opens_none base h e law next n closed adds =
     both_ways (is_open (h ++ e ∷ []) (length h)) (closed (length h) (is_child_parent (h ++ e ∷ []) n (length h) new.1)) new.0
 
 pays_none : (h : List Event) (e : Event) (n : ℕ) → completes e ≡ false → (adds_child n e ≡ true → ⊥) → pays n e ≡ false
-pays_none h (Decline f) n silent opens = absurd (false≢true (sym silent))
-pays_none h (Open (Inner f) kind) n silent opens = by_test (f == n) refl where
-  by_test : (b : Bool) → (f == n) ≡ b → b ≡ false
-  by_test false other = refl
-  by_test true same = absurd (opens same)
-pays_none h _ n silent opens = refl
+pays_none h x1 n silent opens = search (rules, false≢true)
 
 -- what takes a child of n away, but not n
 child_shut : {base : Kept} → {h : List Event} {e : Event} → IsLawful base h → MayFollow base h e → (n k : ℕ) → parent h k ≡ Some n → shuts h k e ≡ true →
@@ -132,8 +128,7 @@ source_parent base h law n s source = by_event (slice_get h s) refl source where
   by_event (Some _) at_s source = absurd (false≢true source)
 
 not_completing : (h : List Event) (n : ℕ) (e : Event) → completes e ≡ false → completes_source h n e ≡ false
-not_completing h n (End c Completed) silent = absurd (false≢true (sym silent))
-not_completing h n _ silent = refl
+not_completing h n x2 silent = search (rules, false≢true)
 
 -- a completion that is due without such an event was due before
 completed_before : (base : Kept) → (h : List Event) (e : Event) → IsLawful base h → MayFollow base h e → (n : ℕ) → completes e ≡ false →
@@ -242,25 +237,11 @@ due_before base h e law next n u (cut o s) = by_case (source_ended_before base h
 
 -- each reason ends as the event says
 reason_end : (h : List Event) (e : Event) (n : ℕ) (u : Terminal) → IsReason h e n u → end_by e ≡ Some u
-reason_end h e n u (ends_so now) = by_event e now where
-  by_event : (x : Event) → ends_as x ≡ Some u → end_by x ≡ Some u
-  by_event (End c t) same = same
-  by_event _ same = absurd (none-some u same)
-reason_end h e n u (completes_one now whole) = by_event e now ∙ ap (λ t. Some t) (sym whole) where
-  by_event : (x : Event) → completes x ≡ true → end_by x ≡ Some Completed
-  by_event (End c Completed) yes_so = refl
-  by_event (End c (Error code)) yes_so = absurd (false≢true yes_so)
-  by_event (Decline f) yes_so = refl
-  by_event _ yes_so = absurd (false≢true yes_so)
-reason_end h e n u (fires_it now whole) = by_event e now ∙ ap (λ t. Some t) (sym whole) where
-  by_event : (x : Event) → list_any (is_firing_of n) (stops_of h x) ≡ true → end_by x ≡ Some Completed
-  by_event (Item leaf v) fires = refl
-  by_event _ fires = absurd (false≢true fires)
+reason_end h e n u x4 = search (rules, ends_as, none-some, completes, false≢true, list_any)
 
 due_or_now : (base : Kept) → (h : List Event) (e : Event) (n : ℕ) (u : Terminal) → IsDue base h (End n u) ⊎ IsReason h e n u →
     IsDue base h (End n u) ⊎ (end_by e ≡ Some u)
-due_or_now base h e n u (inl before) = inl before
-due_or_now base h e n u (inr now) = inr (reason_end h e n u now)
+due_or_now base h e n u x5 = search (rules, reason_end)
 
 none_due : (base : Kept) → (h : List Event) (e : Event) → IsSettled base h → IsDue base h e → ⊥
 none_due base h e settled d = settled.none e (due (settled_connected base h settled) d)
@@ -282,10 +263,7 @@ end_alike {base} {h} e (forced f) before n t u d now = by_forced e f now where
 same_end : {base : Kept} → {h : List Event} {e : Event} → MayFollow base h e →
     ((n m : ℕ) (t u : Terminal) → IsDue base h (End n t) → IsDue base h (End m u) → t ≡ u) →
     (n m : ℕ) (t u : Terminal) → IsDue base h (End n t) ⊎ (end_by e ≡ Some t) → IsDue base h (End m u) ⊎ (end_by e ≡ Some u) → t ≡ u
-same_end next before n m t u (inl a) (inl b) = before n m t u a b
-same_end next before n m t u (inr a) (inr b) = same_Some t u (sym a ∙ b)
-same_end {e} next before n m t u (inl a) (inr b) = sym (end_alike e next before n t u a b)
-same_end {e} next before n m t u (inr a) (inl b) = end_alike e next before m u t b a
+same_end next before n m t u x6 x7 = search (rules, same_Some, end_alike)
 
 -- two ends that are due in a lawful history are alike
 pub one_end : {base : Kept} → (h : List Event) → IsLawful base h → (n m : ℕ) (t u : Terminal) → IsDue base h (End n t) → IsDue base h (End m u) → t ≡ u

@@ -6,17 +6,14 @@ use Rattle.rx_event.proofs.Laws.Places.{slice_get_last, at-append}
 use Rattle.rx_event.proofs.Laws.Openness.{is_cut, is_open_cut}
 use Rattle.rx_event.proofs.Laws.Sums.{places-push}
 use Rattle.rx_event.proofs.Laws.Totals.{is_open_new}
+use Rattle.std.proofs.Common.{rules}
 
 -- filters -----------------------------------------------------------------------------------------
 
 -- one filter after another
 filter_twice : {X : Type 0} (p q : X → Bool) (xs : List X) → filter p (filter q xs) ≡ filter (λ x. q x && p x) xs
 filter_twice p q [] = refl
-filter_twice {X = X} p q (x ∷ xs) = by_test (q x) (filter_twice p q xs) where
-  by_test : (b : Bool) → filter p (filter q xs) ≡ filter (λ y. q y && p y) xs →
-      filter p (cond b (x ∷ filter q xs) (filter q xs)) ≡ cond (b && p x) (x ∷ filter (λ y. q y && p y) xs) (filter (λ y. q y && p y) xs)
-  by_test true rest = ap (λ (ys : List X). cond (p x) (x ∷ ys) ys) rest
-  by_test false rest = rest
+filter_twice {X = X} p q (x ∷ xs) = search (rules, filter, cond, filter_twice p q xs)
 
 -- two tests that agree at each number
 pub filter_below : (p q : ℕ → Bool) (s n : ℕ) → ((k : ℕ) → k < s + n → p k ≡ q k) → filter p (range_with_len s n) ≡ filter q (range_with_len s n)

@@ -1,5 +1,5 @@
 -- Which nodes are open after one more event.
-use Rattle.rx_event.proofs.Laws.Common.{◌≡◌, ℕ, zero, suc, ◌<◌, ◌≤◌, Bool, true, false, List, [], ◌∷◌, ◌++◌, length, drop, Option, Some, None, refl, sym, ap}
+use Rattle.rx_event.proofs.Laws.Common.{◌≡◌, ℕ, zero, suc, ◌<◌, ◌≤◌, Bool, true, false, List, [], ◌∷◌, ◌++◌, length, drop, Some, refl, sym, ap}
 use Rattle.rx_event.proofs.Laws.Common.{◌∙◌, arith, inl, inr, ◌⊎◌, nat_lt, length-append, append-nil, append_assoc, not, ◌&&◌, ◌||◌, list_any, AllByRecursion}
 use Rattle.rx_event.proofs.Laws.Common.{option_and_then, option_map_or, cases_Bool, cases_lt, cases_order, lt-ltb, and_parts, both_ways, slice_get_past}
 use Rattle.rx_event.proofs.Laws.Common.{Terminal, Kind, Inner, Event, Open, End, Close, makes_node, parent_named, is_switch, is_inner_of, at, parent, if_less}
@@ -10,6 +10,7 @@ use Rattle.std.proofs.lemmas.List.{drop-append-le}
 use Rattle.rx_event.specs.Tree.{is_standing}
 use Rattle.rx_event.proofs.Laws.Places.{slice_get_last, at-append}
 use Rattle.rx_event.proofs.Laws.Parents.{parent-lt, ancestors_step, ancestors-append, ancestors-le, option_map_or-same}
+use Rattle.std.proofs.Common.{rules}
 
 -- openness ----------------------------------------------------------------------------------------
 
@@ -20,22 +21,13 @@ list_any-same p q same (x ∷ xs) = rw (same x, list_any-same p q same xs) refl
 
 -- whether an event shuts an older node depends on the older events alone
 shuts-append : (h t : List Event) (n : ℕ) → n < length h → (e : Event) → shuts (h ++ t) n e ≡ shuts h n e
-shuts-append h t n l (Open (Inner f) kind) = inner_case (cases_Bool (nat_lt f n)) where
-  inner_case : (nat_lt f n ≡ true) ⊎ (nat_lt f n ≡ false) → is_switched_inner (h ++ t) f n ≡ is_switched_inner h f n
-  inner_case (inl b) = let s : f < n = ltb-true f n b in rw (at-append is_switch h t f (omega arith), at-append (is_inner_of f) h t n l) refl
-  inner_case (inr b) = rw b refl
-shuts-append h t n l _ = refl
+shuts-append h t n l x4 = search (rules, cases_Bool, nat_lt, ltb-true, at-append)
 
 -- an older node is shut if it was, or if the new event shuts it
 pub is_shut-push : (h : List Event) (e : Event) (n : ℕ) → n < length h → is_shut (h ++ e ∷ []) n ≡ (is_shut h n || shuts h n e)
 unfolding is_shut
 is_shut-push h e n l =
-    rw (
-      drop-append-le (suc n) h (e ∷ []) (omega arith),
-      list_any-same (shuts (h ++ e ∷ []) n) (shuts h n) (shuts-append h (e ∷ []) n l) (drop (suc n) h ++ e ∷ []),
-      list_any-append (shuts h n) (drop (suc n) h) (e ∷ []),
-    )
-    (ap (λ b. list_any (shuts h n) (drop (suc n) h) || b) (or_false (shuts h n e)))
+    search (rules, drop-append-le, list_any-same, shuts-append, drop, list_any-append, list_any, or_false)
 
 -- the new node is not shut
 pub is_shut_last : (h : List Event) (e : Event) → is_shut (h ++ e ∷ []) (length h) ≡ false
@@ -52,12 +44,10 @@ list_all-same P p q same (x ∷ xs) a = rw (same x a.0, list_all-same P p q same
 
 list_all-and : {X : Type 0} (p q : X → Bool) (xs : List X) → list_all (λ x. p x && q x) xs ≡ (list_all p xs && list_all q xs)
 list_all-and p q [] = refl
-list_all-and p q (x ∷ xs) = rw (list_all-and p q xs) (swapped (p x) (q x) (list_all p xs) (list_all q xs)) where
-  swapped : (a b c d : Bool) → ((a && b) && (c && d)) ≡ ((a && c) && (b && d))
-  swapped a b c d = grind arith
+list_all-and p q (x ∷ xs) = rw (list_all-and p q xs) (search (rules, list_all))
 
 standing-push : (h : List Event) (e : Event) (n : ℕ) → n < length h → is_standing (h ++ e ∷ []) n ≡ (is_standing h n && not (shuts h n e))
-standing-push h e n l = rw (at-append makes_node h (e ∷ []) n l, is_shut-push h e n l) (and_not_or (at makes_node h n) (is_shut h n) (shuts h n e))
+standing-push h e n l = search (rules, at-append, is_shut-push, and_not_or)
 
 -- An older node is open if it was, and the new event shuts neither it nor a node above it.
 pub is_open-push : (h : List Event) (e : Event) (n : ℕ) → n < length h →
@@ -74,10 +64,7 @@ is_open-push h e n l =
 -- a node is open where it stands and its parent is open
 pub is_open_step : (h : List Event) (n : ℕ) → is_open h n ≡ (is_standing h n && option_map_or (is_open h) (parent h n) true)
 unfolding is_open
-is_open_step h n = rw (ancestors_step h n) (ap (λ b. is_standing h n && b) (inside (parent h n))) where
-  inside : (o : Option ℕ) → list_all (is_standing h) (option_map_or (ancestors h) o []) ≡ option_map_or (λ m. list_all (is_standing h) (ancestors h m)) o true
-  inside None = refl
-  inside (Some p) = refl
+is_open_step h n = search (rules, ancestors_step, list_all, option_map_or)
 
 -- the event shuts no node
 abbrev pub shuts_none : Event → Bool
@@ -87,10 +74,7 @@ shuts_none (Open (Inner f) kind) = false
 shuts_none _ = true
 
 not_shut : (h : List Event) (n : ℕ) (e : Event) → shuts_none e ≡ true → shuts h n e ≡ false
-not_shut h n (End m u) s = cc
-not_shut h n (Close m) s = cc
-not_shut h n (Open (Inner f) kind) s = cc
-not_shut h n _ s = refl
+not_shut h n x2 s = search rules
 
 list_all_yes : {X : Type 0} (p : X → Bool) → ((x : X) → p x ≡ true) → (xs : List X) → list_all p xs ≡ true
 list_all_yes p holds [] = refl
@@ -99,7 +83,7 @@ list_all_yes p holds (x ∷ xs) = rw (holds x) (list_all_yes p holds xs)
 -- an item, an acceptance and the like leave each node as it was
 pub is_open_kept : (h : List Event) (e : Event) (n : ℕ) → n < length h → shuts_none e ≡ true → is_open (h ++ e ∷ []) n ≡ is_open h n
 is_open_kept h e n l s =
-    rw (is_open-push h e n l, list_all_yes (λ a. not (shuts h a e)) (λ a. ap not (not_shut h a e s)) (ancestors h n)) (and_true (is_open h n))
+    search (rules, is_open-push, list_all_yes, not, not_shut, and_true)
 
 -- the event takes away n, or a node above it
 abbrev pub is_cut : List Event → Event → ℕ → Bool
@@ -111,9 +95,7 @@ self_cut h e n s = rw (ancestors_step h n, s) refl
 
 list_all-not : {X : Type 0} (p : X → Bool) (xs : List X) → list_all (λ x. not (p x)) xs ≡ not (list_any p xs)
 list_all-not p [] = refl
-list_all-not p (x ∷ xs) = rw (list_all-not p xs) (shape (p x) (list_any p xs)) where
-  shape : (a b : Bool) → (not a && not b) ≡ not (a || b)
-  shape a b = grind arith
+list_all-not p (x ∷ xs) = rw (list_all-not p xs) (search (rules, list_any, not))
 
 -- an older node is open if it was, and the new event does not cut it. (Cut by the end or the closing of c is what is within c.)
 pub is_open_cut : (h : List Event) (e : Event) (n : ℕ) → n < length h → is_open (h ++ e ∷ []) n ≡ (is_open h n && not (is_cut h e n))
@@ -138,21 +120,11 @@ pub is_open_last : (h : List Event) (e : Event) → shuts_none e ≡ true →
     is_open (h ++ e ∷ []) (length h) ≡ (makes_node e && option_map_or (is_open h) (option_and_then (if_less (length h)) (parent_named e)) true)
 unfolding parent
 is_open_last h e s =
-    rw (is_open_step (h ++ e ∷ []) (length h), is_shut_last h e, slice_get_last h e)
-    (and_same (makes_node e) _ _
-    (option_map_or-same (is_open (h ++ e ∷ [])) (is_open h) (option_and_then (if_less (length h)) (parent_named e)) true
-    (λ p o. is_open_kept h e p (less (parent_named e) p o) s)))
-  where
-    less : (o : Option ℕ) (p : ℕ) → option_and_then (if_less (length h)) o ≡ Some p → p < length h
-    less o p e =
-        option_and_then_some (if_less (length h)) o p e (λ x a b. let w = cond_some (nat_lt x (length h)) x p b in rw (← w.1) (ltb-true x (length h) w.0))
+    search (rules, is_open_step, length, is_shut_last, slice_get_last, and_same, option_map_or-same, option_and_then, is_open_kept, option_and_then_some, cond_some, nat_lt, ltb-true)
 
 -- an open node is in the history
 pub is_open_within : (h : List Event) (n : ℕ) → is_open h n ≡ true → n < length h
-is_open_within h n o = within (cases_lt n (length h)) where
-  within : (n < length h) ⊎ (length h ≤ n) → n < length h
-  within (inl l) = l
-  within (inr g) = absurd (both_ways _ (is_open_past h n g) o)
+is_open_within h n o = search (rules, cases_lt, length, both_ways, is_open_past)
 
 -- what is open after an event that makes no node was open before
 pub open_before : (h : List Event) (e : Event) (p : ℕ) → makes_node e ≡ false → is_open (h ++ e ∷ []) p ≡ true → is_open h p ≡ true
@@ -179,11 +151,7 @@ list_any_never P p never (x ∷ xs) a = rw (never x a.0) (list_any_never P p nev
 -- the opening of an inner cuts nothing at or above its parent
 pub is_cut_inner : (h : List Event) (f : ℕ) (kind : Kind) (n : ℕ) → n ≤ f → is_cut h (Open (Inner f) kind) n ≡ false
 is_cut_inner h f kind n l =
-    list_any_never (λ a. a ≤ n) (λ a. is_switched_inner h f a) (λ a b. let above : nat_lt f a ≡ false = ltb_not f a (omega arith) in rw above refl)
-    (ancestors h n) (ancestors-le h n)
-  where
-    ltb_not : (m n : ℕ) → n ≤ m → nat_lt m n ≡ false
-    ltb_not m n le = le-ltb m n le
+    search (rules, list_any_never, nat_lt, ancestors-le, le-ltb)
 
 -- nor does that of a FlatMap cut anything
 pub is_cut_inner_flat : (h : List Event) (f : ℕ) (kind : Kind) → at is_switch h f ≡ false → (n : ℕ) → is_cut h (Open (Inner f) kind) n ≡ false
@@ -200,11 +168,7 @@ pub is_open_made : (h : List Event) (e : Event) (p : ℕ) → makes_node e ≡ t
     is_open (h ++ e ∷ []) (length h) ≡ true
 unfolding parent
 is_open_made h e p node named o kept =
-    is_open_step (h ++ e ∷ []) (length h) ∙
-    rw (is_shut_last h e, slice_get_last h e, node, named, lt-ltb p (length h) l) (is_open_cut h e p l ∙ rw (o, kept) refl)
-  where
-    l : p < length h
-    l = is_open_within h p o
+    search (rules, is_open_step, length, is_shut_last, slice_get_last, lt-ltb, is_open_cut, is_open_within)
 
 -- an event that makes no node opens none
 pub is_open_last_none : (h : List Event) (e : Event) → makes_node e ≡ false → is_open (h ++ e ∷ []) (length h) ≡ false
@@ -212,17 +176,14 @@ is_open_last_none h e no_node = is_open_step (h ++ e ∷ []) (length h) ∙ rw (
 
 -- the parent of an open node is open
 pub parent_open : (h : List Event) (n p : ℕ) → is_open h n ≡ true → parent h n ≡ Some p → is_open h p ≡ true
-parent_open h n p o below = (and_parts _ _ (sym (is_open_step h n ∙ ap (λ q. is_standing h n && option_map_or (is_open h) q true) below) ∙ o)).1
+parent_open h n p o below = search (rules, and_parts, is_open_step, option_map_or)
 
 -- closed nodes ------------------------------------------------------------------------------------
 
 -- a node whose parent is not open is not open
 pub closed_below : (h : List Event) (n p : ℕ) → parent h n ≡ Some p → is_open h p ≡ false → is_open h n ≡ false
 closed_below h n p below closed =
-    is_open_step h n ∙
-    ap (λ q. is_standing h n && option_map_or (is_open h) q true) below ∙
-    ap (λ b. is_standing h n && b) closed ∙
-    and_false (is_standing h n)
+    search (rules, is_open_step, option_map_or, and_false)
 
 -- what is not open stays so, whatever comes
 pub stays_closed : (h : List Event) (e : Event) (n : ℕ) → n < length h → is_open h n ≡ false → is_open (h ++ e ∷ []) n ≡ false
@@ -257,11 +218,7 @@ is_open_outside-close h c = closed_outside h (Close c) c refl (λ n. refl)
 
 open_above : (k : ℕ) (h : List Event) (n : ℕ) → n < k → is_open h n ≡ true → AllByRecursion (λ a. is_open h a ≡ true) (ancestors h n)
 open_above zero h n l o = absurd (omega arith)
-open_above (suc k) h n l o = rw (ancestors_step h n) (o, above (open_above k h) (parent h n) refl) where
-  above : ((p : ℕ) → p < k → is_open h p ≡ true → AllByRecursion (λ a. is_open h a ≡ true) (ancestors h p)) → (q : Option ℕ) → parent h n ≡ q →
-      AllByRecursion (λ a. is_open h a ≡ true) (option_map_or (ancestors h) q [])
-  above rest None below = tt
-  above rest (Some p) below = let s : p < n = parent-lt h n p below in rest p (omega arith) (parent_open h n p o below)
+open_above (suc k) h n l o = search (rules, ancestors_step, AllByRecursion, option_map_or, parent-lt, parent_open, open_above k h)
 
 pub ancestors_open : (h : List Event) (n : ℕ) → is_open h n ≡ true → AllByRecursion (λ a. is_open h a ≡ true) (ancestors h n)
 ancestors_open h n o = open_above (suc n) h n (omega arith) o
@@ -274,4 +231,4 @@ is_cut_never h e never n = none (ancestors h n) where
   none (a ∷ xs) = rw (never a) (none xs)
 
 pub is_open_uncut : (h : List Event) (e : Event) → ((m : ℕ) → shuts h m e ≡ false) → (n : ℕ) → n < length h → is_open (h ++ e ∷ []) n ≡ is_open h n
-is_open_uncut h e never n l = is_open_cut h e n l ∙ ap (λ b. is_open h n && not b) (is_cut_never h e never n) ∙ and_true (is_open h n)
+is_open_uncut h e never n l = search (rules, is_open_cut, not, is_cut_never, and_true)

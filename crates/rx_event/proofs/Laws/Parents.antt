@@ -1,18 +1,18 @@
 -- Parents and ancestors in a longer history.
-use Rattle.rx_event.proofs.Laws.Common.{◌≡◌, ℕ, zero, suc, ◌<◌, ◌≤◌, true, List, [], ◌∷◌, ◌++◌, length, Option, Some, None, refl, sym, ap, ◌∙◌, arith}
-use Rattle.rx_event.proofs.Laws.Common.{inl, inr, ◌⊎◌, nat_lt, ◌==◌, slice_get, AllByRecursion, list_any, option_and_then, option_map_or, eqb-true, or_cases}
+use Rattle.rx_event.proofs.Laws.Common.{◌≡◌, ℕ, zero, suc, ◌<◌, ◌≤◌, true, List, [], ◌∷◌, ◌++◌, length, Option, Some, None, refl, ap, arith}
+use Rattle.rx_event.proofs.Laws.Common.{◌⊎◌, nat_lt, ◌==◌, slice_get, AllByRecursion, list_any, option_and_then, option_map_or, eqb-true, or_cases}
 use Rattle.rx_event.proofs.Laws.Common.{false≢true, slice_get_within, Event, parent_named, parent, if_less, ancestors, is_within, ltb-true}
 use Rattle.rx_event.proofs.Laws.Common.{or_right, cond_some}
 use Rattle.std.proofs.lemmas.Option.{option_and_then_some}
 use Rattle.rx_event.specs.Tree.{ancestors_within}
 use Rattle.rx_event.proofs.Laws.Places.{slice_get-append}
+use Rattle.std.proofs.Common.{rules}
 
 -- parents have smaller numbers
 pub parent-lt : (h : List Event) (n p : ℕ) → parent h n ≡ Some p → p < n
 unfolding parent
 parent-lt h n p e =
-    option_and_then_some (if_less n) (option_and_then parent_named (slice_get h n)) p e
-    (λ x a b. let w = cond_some (nat_lt x n) x p b in rw (← w.1) (ltb-true x n w.0))
+    search (rules, option_and_then_some, option_and_then, slice_get, cond_some, nat_lt, ltb-true)
 
 pub parent-append : (h t : List Event) (n : ℕ) → n < length h → parent (h ++ t) n ≡ parent h n
 unfolding parent
@@ -23,8 +23,7 @@ pub option_map_or-same : {X Y : Type 0} (f g : X → Y) (o : Option X) (d : Y) �
 option_map_or-same f g o d same = grind arith
 
 no_parent_of_zero : (h : List Event) (o : Option ℕ) → parent h 0 ≡ o → o ≡ None
-no_parent_of_zero h None e = refl
-no_parent_of_zero h (Some p) e = absurd (let l : p < 0 = parent-lt h 0 p e in omega arith)
+no_parent_of_zero h x1 e = search (rules, parent-lt)
 
 -- more steps lead no further
 ancestors_enough : (k j : ℕ) (h : List Event) (n : ℕ) → n ≤ k → n ≤ j → ancestors_within k h n ≡ ancestors_within j h n
@@ -46,10 +45,7 @@ ancestors_enough (suc k) (suc j) h n a b =
 pub ancestors_step : (h : List Event) (n : ℕ) → ancestors h n ≡ n ∷ option_map_or (ancestors h) (parent h n) []
 unfolding ancestors
 ancestors_step h n =
-    ancestors_enough n (suc n) h n (omega arith) (omega arith) ∙
-    ap (λ (xs : List ℕ). n ∷ xs)
-    (option_map_or-same (ancestors_within n h) (λ p. ancestors_within p h p) (parent h n) []
-    (λ p e. let l : p < n = parent-lt h n p e in ancestors_enough n p h p (omega arith) (omega arith)))
+    search (rules, ancestors_enough, option_map_or-same, parent-lt)
 
 ancestors_within-append : (k : ℕ) (h t : List Event) (n : ℕ) → n < length h → ancestors_within k (h ++ t) n ≡ ancestors_within k h n
 ancestors_within-append zero h t n l = refl
@@ -80,43 +76,27 @@ ancestors-le h n = ancestors_within-le n h n n (omega arith)
 pub parent_within : (h : List Event) (c p : ℕ) → parent h c ≡ Some p → c < length h
 unfolding parent
 parent_within h c p below =
-    option_and_then_some (if_less c) (option_and_then parent_named (slice_get h c)) p below
-    (λ x a b. option_and_then_some parent_named (slice_get h c) x a (λ e at_c named. slice_get_within h c e at_c))
+    search (rules, option_and_then_some, option_and_then, slice_get, slice_get_within)
 
 -- a node with a parent names it
 pub parent_name : (h : List Event) (n p : ℕ) (e : Event) → parent h n ≡ Some p → slice_get h n ≡ Some e → parent_named e ≡ Some p
 unfolding parent
 parent_name h n p e below at_n =
-    option_and_then_some (if_less n) (option_and_then parent_named (slice_get h n)) p below
-    (λ x a b. sym (ap (option_and_then parent_named) at_n) ∙ a ∙ ap Some (cond_some (nat_lt x n) x p b).1)
+    search (rules, option_and_then_some, option_and_then, slice_get, cond_some, nat_lt)
 
 -- what n is within ---------------------------------------------------------------------------------
 
 -- n is within c where it is c, or its parent is within c
 pub within_cases : (h : List Event) (c n : ℕ) → is_within h c n ≡ true → (c ≡ n) ⊎ ((p : ℕ) × (parent h n ≡ Some p) × (is_within h c p ≡ true))
 within_cases h c n within =
-    by_number (or_cases (c == n) (list_any (λ a. c == a) (option_map_or (ancestors h) (parent h n) []))
-    (ap (list_any (λ a. c == a)) (sym (ancestors_step h n)) ∙ within))
-  where
-    by_parent : (o : Option ℕ) → parent h n ≡ o → list_any (λ a. c == a) (option_map_or (ancestors h) o []) ≡ true →
-        (c ≡ n) ⊎ ((p : ℕ) × (parent h n ≡ Some p) × (is_within h c p ≡ true))
-    by_parent None below above = absurd (false≢true above)
-    by_parent (Some p) below above = inr (p, below, above)
-
-    by_number : ((c == n) ≡ true) ⊎ (list_any (λ a. c == a) (option_map_or (ancestors h) (parent h n) []) ≡ true) →
-        (c ≡ n) ⊎ ((p : ℕ) × (parent h n ≡ Some p) × (is_within h c p ≡ true))
-    by_number (inl same) = inl (eqb-true c n same)
-    by_number (inr above) = by_parent (parent h n) refl above
+    search (rules, or_cases, list_any, option_map_or, ancestors_step, false≢true, eqb-true)
 
 pub within_parent : (h : List Event) (c n p : ℕ) → parent h n ≡ Some p → is_within h c p ≡ true → is_within h c n ≡ true
-within_parent h c n p below above = ap (list_any (λ a. c == a)) (ancestors_step h n) ∙ rw below (or_right (c == n) (is_within h c p) above)
+within_parent h c n p below above = search (rules, list_any, ancestors_step, or_right)
 
 within-le : (xs : List ℕ) (c n : ℕ) → AllByRecursion (λ a. a ≤ n) xs → list_any (λ a. c == a) xs ≡ true → c ≤ n
 within-le [] c n all found = absurd (false≢true found)
-within-le (x ∷ xs) c n all found = by_number (within-le xs c n all.1) (or_cases (c == x) (list_any (λ a. c == a) xs) found) where
-  by_number : (list_any (λ a. c == a) xs ≡ true → c ≤ n) → ((c == x) ≡ true) ⊎ (list_any (λ a. c == a) xs ≡ true) → c ≤ n
-  by_number rest (inl same) = let e : c ≡ x = eqb-true c x same in let l : x ≤ n = all.0 in omega arith
-  by_number rest (inr later) = rest later
+within-le (x ∷ xs) c n all found = search (rules, or_cases, list_any, eqb-true, within-le xs c n all.1)
 
 -- then c has no larger number
 pub is_within-le : (h : List Event) (c n : ℕ) → is_within h c n ≡ true → c ≤ n

@@ -1,8 +1,9 @@
 -- What stands at a place of a longer history.
-use Rattle.rx_event.proofs.Laws.Common.{◌≡◌, ℕ, zero, suc, ◌<◌, Bool, true, false, List, [], ◌∷◌, ◌++◌, length, take, drop, Option, Some, None, refl, sym, ap}
+use Rattle.rx_event.proofs.Laws.Common.{◌≡◌, ℕ, zero, suc, ◌<◌, Bool, true, false, List, [], ◌∷◌, ◌++◌, length, take, drop, Some, refl, sym, ap}
 use Rattle.rx_event.proofs.Laws.Common.{◌∙◌, arith, inl, inr, ◌⊎◌, slice_get, length-append, option_map_or, cases_order, false≢true, slice_get_within}
 use Rattle.rx_event.proofs.Laws.Common.{same_Some, Event, at, common_steps}
 use Rattle.std.proofs.Common.{take-append-drop}
+use Rattle.std.proofs.Common.{rules}
 
 -- an element stays where it was
 pub slice_get-append : {X : Type 0} (xs ys : List X) (n : ℕ) → n < length xs → slice_get (xs ++ ys) n ≡ slice_get xs n
@@ -25,10 +26,7 @@ at-take q h c n l m = sym (at-append q (take c h) (drop c h) n (grind (arith, co
 
 -- what passes a test is in the history
 pub at_within : (q : Event → Bool) (h : List Event) (n : ℕ) → at q h n ≡ true → n < length h
-at_within q h n passes = by_event (slice_get h n) refl passes where
-  by_event : (o : Option Event) → slice_get h n ≡ o → option_map_or q o false ≡ true → n < length h
-  by_event None at_n fails = absurd (false≢true fails)
-  by_event (Some e) at_n passes = slice_get_within h n e at_n
+at_within q h n passes = search (rules, slice_get, option_map_or, length, false≢true, slice_get_within)
 
 -- where a place is in the longer history
 pub cases_push : (h : List Event) (e x : Event) (i : ℕ) → slice_get (h ++ e ∷ []) i ≡ Some x → (slice_get h i ≡ Some x) ⊎ (e ≡ x)

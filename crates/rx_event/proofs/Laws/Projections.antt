@@ -1,9 +1,9 @@
 -- Projected items: where they go, and what each FlatMap and Switch owes after one more event.
 use Rattle.rx_event.proofs.Laws.Common.{take, ◌≡◌, ℕ, zero, suc, ◌+◌, ◌-◌, ◌<◌, ◌≤◌, Bool, true, false, List, [], ◌∷◌, ◌++◌, length, Option, Some, None, cond}
-use Rattle.rx_event.proofs.Laws.Common.{refl, sym, ap, ◌∙◌, arith, inl, inr, ◌⊎◌, ◌==◌, slice_get, length-append, ◌&&◌, AllByRecursion, sum_by, count_by}
+use Rattle.rx_event.proofs.Laws.Common.{refl, sym, ap, ◌∙◌, arith, ◌==◌, slice_get, length-append, ◌&&◌, AllByRecursion, sum_by, count_by}
 use Rattle.rx_event.proofs.Laws.Common.{filter_map, option_and_then, option_map_or, cases_Bool, both_ways, false≢true, and_parts, eqb-true, sum_by_push}
-use Rattle.rx_event.proofs.Laws.Common.{sum_by-cons, slice_get_past, slice_get_within, Kept, node_kept, shown, Root, Source, Inner, Notifier, Kind, Event}
-use Rattle.rx_event.proofs.Laws.Common.{Open, Connect, Item, Decline, is_merging, is_until, pays, at, places, parent, is_open, Stop, Delivery, Projection}
+use Rattle.rx_event.proofs.Laws.Common.{sum_by-cons, slice_get_past, slice_get_within, Kept, shown, Root, Source, Notifier, Kind, Event}
+use Rattle.rx_event.proofs.Laws.Common.{Open, Connect, is_merging, is_until, pays, at, places, parent, is_open, Stop, Delivery, Projection}
 use Rattle.rx_event.proofs.Laws.Common.{Firing, climb, stops, most_visits, moments, projections, owed, is_projection_to, stops_of, MayFollow, IsLawful}
 use Rattle.rx_event.proofs.Laws.Common.{StopsAtOpen, zero_or_zero, option_to_list}
 use Rattle.rx_event.specs.declared.base.BaseNode.{BaseNode}
@@ -16,38 +16,23 @@ use Rattle.rx_event.proofs.Laws.Lists.{AllByRecursion-both, filtered}
 use Rattle.rx_event.proofs.Laws.Counts.{projections-push}
 use Rattle.rx_event.proofs.Laws.Steps.{by_pushes, by_events, may_open, may_decline, named_below, parent-named}
 use Rattle.rx_event.proofs.Laws.Sums.{sum_by-same, sum_by-plus, sum_by_none, count_by_one}
+use Rattle.std.proofs.Common.{rules}
 
 -- who is projected to ------------------------------------------------------------------------------
 
 -- the stop at a node is no projection to what is no FlatMap or Switch
 stop_not_to : (h : List Event) (f : ℕ) → at is_merging h f ≡ false → (n : ℕ) → option_map_or (is_projection_to f) (stop_at h n) false ≡ false
-stop_not_to h f plain n = by_event (slice_get h n) where
-  if_merging : (g : ℕ) (b : Bool) → at is_merging h g ≡ b → option_map_or (is_projection_to f) (cond b (Some (Projection g)) None) false ≡ false
-  if_merging g false m = refl
-  if_merging g true m = by_number (cases_Bool (g == f)) where
-    by_number : ((g == f) ≡ true) ⊎ ((g == f) ≡ false) → (g == f) ≡ false
-    by_number (inr apart) = apart
-    by_number (inl same) = absurd (both_ways _ plain (ap (at is_merging h) (sym (eqb-true g f same)) ∙ m))
-
-  by_event : (o : Option Event) → option_map_or (is_projection_to f) (option_and_then (stop_made h n) o) false ≡ false
-  by_event None = refl
-  by_event (Some (Open (Source g) kind)) = if_merging g (at is_merging h g) refl
-  by_event (Some _) = refl
+stop_not_to h f plain n = search (rules, slice_get, option_map_or, cond, cases_Bool, both_ways, eqb-true, option_and_then)
 
 count_by-filter_map_none : {X Y : Type 0} (p : Y → Bool) (s : X → Option Y) → ((x : X) → option_map_or p (s x) false ≡ false) → (xs : List X) →
     count_by p (filter_map s xs) ≡ 0
 count_by-filter_map_none p s never [] = refl
-count_by-filter_map_none {Y = Y} p s never (x ∷ xs) = by_stop (s x) (never x) (count_by-filter_map_none p s never xs) where
-  by_stop : (o : Option Y) → option_map_or p o false ≡ false → count_by p (filter_map s xs) ≡ 0 →
-      count_by p (Rattle.std.specs.List.cons_option o (filter_map s xs)) ≡ 0
-  by_stop None none rest = rest
-  by_stop (Some y) none rest = sum_by-cons (λ z. cond (p z) 1 0) y (filter_map s xs) ∙ rw (none, rest) refl
+count_by-filter_map_none {Y = Y} p s never (x ∷ xs) = search (rules, option_map_or, count_by, filter_map, sum_by-cons, cond, count_by-filter_map_none p s never xs)
 
 -- an event projects nothing to what is no FlatMap or Switch
 pub projects_none : (h : List Event) (e : Event) (f : ℕ) → at is_merging h f ≡ false → count_by (is_projection_to f) (stops_of h e) ≡ 0
 unfolding stops
-projects_none h (Item l v) f plain = count_by-filter_map_none (is_projection_to f) (stop_at h) (stop_not_to h f plain) (climb h l)
-projects_none h _ f plain = refl
+projects_none h x1 f plain = search (rules, count_by-filter_map_none, stop_not_to)
 
 -- nothing was projected beyond the end
 pub projections_past : (h : List Event) (f : ℕ) → length h ≤ f → projections h f ≡ 0
@@ -72,18 +57,11 @@ owed_new base h law e =
     omega arith
 
 pays_owed : (base : Kept) → (h : List Event) (e : Event) → MayFollow base h e → (f : ℕ) → pays f e ≡ true → 0 < owed base h f
-pays_owed base h (Open (Inner g) kind) next f same = rw (← eqb-true g f same) (may_open base next).2
-pays_owed base h (Decline g) next f same = rw (← eqb-true g f same) (may_decline base next).2
-pays_owed base h _ next f same = absurd (false≢true same)
+pays_owed base h x2 next f same = search (rules, eqb-true, may_open, may_decline, false≢true)
 
 projected-push : (base : Kept) → (h : List Event) (e : Event) (f : ℕ) →
     projected_by base (h ++ e ∷ []) f ≡ projected_by base h f + count_by (is_projection_to f) (stops_of h e)
-projected-push base h e f = by_record (node_kept base f) where
-  by_record : (o : Option BaseNode) →
-      option_map_or (λ k. k.owed + count_by (pays f) (shown base) + projections (h ++ e ∷ []) f) o (projections (h ++ e ∷ []) f) ≡
-      option_map_or (λ k. k.owed + count_by (pays f) (shown base) + projections h f) o (projections h f) + count_by (is_projection_to f) (stops_of h e)
-  by_record None = projections-push h e f
-  by_record (Some k) = let p = projections-push h e f in omega arith
+projected-push base h e f = search (rules, option_map_or, count_by, projections-push)
 
 -- no more was paid than was projected
 pub paid-le : (base : Kept) → (h : List Event) → IsLawful base h → (f : ℕ) → count_by (pays f) h ≤ projected_by base h f
@@ -105,26 +83,13 @@ pub owed-push : (base : Kept) → (h : List Event) (e : Event) → IsLawful base
     owed base (h ++ e ∷ []) f + cond (pays f e) 1 0 ≡ owed base h f + count_by (is_projection_to f) (stops_of h e)
 unfolding owed
 owed-push base h e law next f =
-    by_payment (pays f e) (paid-le base h law f) (projected-push base h e f) (sum_by_push (λ (x : Event). cond (pays f x) 1 0) h e)
-    (pays_owed base h e next f)
-  where
-    by_payment : (b : Bool) → count_by (pays f) h ≤ projected_by base h f →
-        projected_by base (h ++ e ∷ []) f ≡ projected_by base h f + count_by (is_projection_to f) (stops_of h e) →
-        count_by (pays f) (h ++ e ∷ []) ≡ count_by (pays f) h + cond b 1 0 → (b ≡ true → 0 < projected_by base h f - count_by (pays f) h) →
-        projected_by base (h ++ e ∷ []) f - count_by (pays f) (h ++ e ∷ []) + cond b 1 0 ≡
-        (projected_by base h f - count_by (pays f) h) + count_by (is_projection_to f) (stops_of h e)
-    by_payment true before more one some = let k = some refl in omega arith
-    by_payment false before more one some = omega arith
+    search (rules, paid-le, projected-push, sum_by_push, cond, pays_owed, count_by)
 
 -- an event that neither projects nor pays
 pub owed_kept : (base : Kept) → (h : List Event) (e : Event) (f : ℕ) → stops_of h e ≡ [] → pays f e ≡ false → owed base (h ++ e ∷ []) f ≡ owed base h f
 unfolding owed
 owed_kept base h e f no_stops pays_none =
-    let same : projected_by base (h ++ e ∷ []) f ≡ projected_by base h f + 0 =
-    projected-push base h e f ∙ ap (λ (ss : List Stop). projected_by base h f + count_by (is_projection_to f) ss) no_stops in
-    let paid : count_by (pays f) (h ++ e ∷ []) ≡ count_by (pays f) h + 0 =
-    sum_by_push (λ (x : Event). cond (pays f x) 1 0) h e ∙ ap (λ (b : Bool). count_by (pays f) h + cond b 1 0) pays_none in
-    omega arith
+    search (rules, projected-push, count_by, sum_by_push, cond)
 
 notified : (base : Kept) → (h : List Event) → IsLawful base h → (n u : ℕ) (kind : Kind) → slice_get h n ≡ Some (Open (Notifier u) kind) →
     at is_until (take n h) u ≡ true
@@ -157,7 +122,7 @@ visited_open zero h todo open_all = tt
 visited_open (suc k) h [] open_all = tt
 visited_open (suc k) h (n ∷ todo) open_all = (
   open_all.0,
-  visited_open k h (onward h n ++ todo) (AllByRecursion-both (λ m. is_open h m ≡ true) (onward h n) todo (onward_open h n open_all.0) open_all.1),
+  visited_open k h (onward h n ++ todo) (search (rules, AllByRecursion-both, onward_open)),
 )
 
 -- what an open leaf's item reaches is open
@@ -210,7 +175,7 @@ projected_open h ss n = cond (is_open h n && at is_merging h n) (count_by (is_pr
 -- so all projections are to open FlatMaps and Switches
 pub projected_count : (h : List Event) (ss : List Stop) → AllByRecursion (StopsAtOpen h) ss →
     sum_by (projected_open h ss) (places h) ≡ count_by is_projection ss
-projected_count h [] well = sum_by_none (projected_open h []) (length h) (λ n l. zero_or_zero (is_open h n && at is_merging h n))
+projected_count h [] well = search (rules, sum_by_none, length, zero_or_zero)
 projected_count h (s ∷ ss) well =
     let each : sum_by (projected_open h (s ∷ ss)) (places h) ≡
     sum_by (λ n. cond (is_open h n && at is_merging h n) (cond (is_projection_to n s) 1 0) 0 + projected_open h ss n) (places h) =

@@ -1,9 +1,9 @@
 -- Two histories that are the same but for their numbers stay so when each goes on by one event, whatever it is.
 use Rattle.rx_event.proofs.Laws.Common.{◌≡◌, ℕ, ◌+◌, ◌<◌, true, List, [], ◌∷◌, ◌++◌, length, Some, None, cond, slice_get, map, refl, sym, ap, subst, ◌∙◌, inl}
 use Rattle.rx_event.proofs.Laws.Common.{inr, ◌⊎◌, ◌==◌, arith, ◌&&◌, ◌||◌, list_any, AllByRecursion, count_by, option_or, false≢true, both_ways, eq-eqb}
-use Rattle.rx_event.proofs.Laws.Common.{eqb-true, sum_by-cons, slice_get_within, Terminal, Completed, Kept, Source, Inner, Notifier, Event, Open, Connect}
-use Rattle.rx_event.proofs.Laws.Common.{Item, Decline, End, makes_node, is_merging, is_source_of, is_subscriber_of, pays, at, is_open, Stop, Delivery}
-use Rattle.rx_event.proofs.Laws.Common.{Projection, Firing, stops, source_opened, is_projection_to, is_firing_of, stops_of, is_fired, owed, SourceEnded}
+use Rattle.rx_event.proofs.Laws.Common.{eqb-true, sum_by-cons, slice_get_within, Terminal, Completed, Kept, Inner, Event, Open, Connect}
+use Rattle.rx_event.proofs.Laws.Common.{Decline, End, makes_node, is_merging, is_source_of, is_subscriber_of, pays, at, is_open, Stop, Delivery}
+use Rattle.rx_event.proofs.Laws.Common.{Projection, Firing, source_opened, is_projection_to, is_firing_of, stops_of, is_fired, owed, SourceEnded}
 use Rattle.rx_event.proofs.Laws.Common.{marks_of, completes_source, source_completed, passes_on, child_terminal, MayFollow, IsLawful, StopsAtOpen, event_by}
 use Rattle.rx_event.proofs.Laws.Common.{is_named, AreRead, is_notifier_of, notifier_opened, ends_by, IsRead}
 use Rattle.std.specs.Cmp.{both_ways as same_test}
@@ -20,24 +20,22 @@ use Rattle.rx_event.proofs.Laws.TreeRead.{stops_by, children_by}
 use Rattle.rx_event.proofs.Laws.TreeAfterEvent.{GoesOn, WhereOpen, is_new, is_old, where_open, tree_on, below_on}
 use Rattle.rx_event.proofs.Laws.ReadMade.{event_by_below, names_below}
 use Rattle.rx_event.proofs.Laws.ReadDue.{trees_of, read_back}
+use Rattle.std.proofs.Common.{rules}
 
 -- what an event does at an open node it does there ----------------------------------------------------------------
 
 source_by : (r : ℕ → ℕ) (f k : ℕ) → r f ≡ k → (e : Event) → is_source_of f e ≡ true → is_source_of k (event_by r e) ≡ true
-source_by r f k leads (Open (Source g) kind) holds = eq-eqb (r g) k (ap r (eqb-true g f holds) ∙ leads)
-source_by r f k leads _ holds = absurd (false≢true holds)
+source_by r f k leads x4 holds = search (rules, eq-eqb, eqb-true, false≢true)
 
 module _ (b d : Kept) (r s : ℕ → ℕ) (h c : List Event) (a : AreRead b d r s h c) (m : ℕ) (o : is_open h m ≡ true) where
   is_number : (n : ℕ) → is_open h n ≡ true → (r n == r m) ≡ (n == m)
   is_number n also = number_by r s h c (trees_of a) n m also o
 
   source_same : (e : Event) → MayFollow b h e → is_source_of (r m) (event_by r e) ≡ is_source_of m e
-  source_same (Open (Source p) kind) next = is_number p (may_name b next refl)
-  source_same _ next = refl
+  source_same x0 next = search (rules, is_number, may_name)
 
   notifier_same : (e : Event) → MayFollow b h e → is_notifier_of (r m) (event_by r e) ≡ is_notifier_of m e
-  notifier_same (Open (Notifier p) kind) next = is_number p (may_name b next refl)
-  notifier_same _ next = refl
+  notifier_same x0 next = search (rules, is_number, may_name)
 
   pays_same : (e : Event) → MayFollow b h e → pays (r m) (event_by r e) ≡ pays m e
   pays_same (Open (Inner p) kind) next = is_number p (may_name b next refl)
@@ -77,19 +75,11 @@ module _ (b d : Kept) (r s : ℕ → ℕ) (h c : List Event) (a : AreRead b d r 
       one (Firing u) stands = refl
 
   fires_same : (e : Event) → MayFollow b h e → list_any (is_firing_of (r m)) (stops_of c (event_by r e)) ≡ list_any (is_firing_of m) (stops_of h e)
-  fires_same (Item l v) next =
-      ap (list_any (is_firing_of (r m))) (stops_by r s h c (trees_of a) l (may_emit b next)) ∙
-      firing_same (stops h l) (stops_open b h l a.law (may_emit b next))
-  fires_same (Open place kind) next = refl
-  fires_same _ next = refl
+  fires_same x0 next = search (rules, list_any, stops_by, trees_of, may_emit, firing_same, stops_open)
 
   projects_same : (e : Event) → MayFollow b h e →
       count_by (is_projection_to (r m)) (stops_of c (event_by r e)) ≡ count_by (is_projection_to m) (stops_of h e)
-  projects_same (Item l v) next =
-      ap (count_by (is_projection_to (r m))) (stops_by r s h c (trees_of a) l (may_emit b next)) ∙
-      projection_same (stops h l) (stops_open b h l a.law (may_emit b next))
-  projects_same (Open place kind) next = refl
-  projects_same _ next = refl
+  projects_same x0 next = search (rules, count_by, stops_by, trees_of, may_emit, projection_same, stops_open)
 
 -- an end that stands in the older history ended the source there
 source_older : {base : Kept} → (h : List Event) (e : Event) → IsLawful base h → (m : ℕ) (u : Terminal) → m < length h → (x : SourceEnded (h ++ e ∷ []) m u) →

@@ -23,6 +23,7 @@ use Rattle.rx_event.proofs.Laws.ReadDue.{trees_of, unconnected_by, connect_due_b
 use Rattle.rx_event.proofs.Laws.ReadAfter.{ended_on, trees_on}
 use Rattle.rx_event.proofs.Laws.ReadShown.{made_at, resource_made, root_by}
 use Rattle.rx_event.proofs.Laws.Closings.{manual_hub}
+use Rattle.std.proofs.Common.{rules}
 
 -- tests that see no number -----------------------------------------------------------------------------------------------------------
 
@@ -64,10 +65,7 @@ module _ (b d : Kept) (r s : ℕ → ℕ) (h c : List Event) (m : MayAlike b d r
   some_owed f o some = rw (m.owes f o) some
 
   pub free_by : (place : Place) → IsFree b h place → IsFree d c (place_by r place)
-  free_by Root free = tt
-  free_by (Source p) free = (alive p free.0, passes has_source (sourced_by r) p free.0 free.1, m.sourced p free.0 ∙ free.2)
-  free_by (Inner p) free = (alive p free.0, passes is_merging (merging_by r) p free.0 free.1, some_owed p free.0 free.2)
-  free_by (Notifier p) free = (alive p free.0, passes is_until (until_by r) p free.0 free.1, m.notified p free.0 ∙ free.2)
+  free_by x0 free = search (rules, alive, passes, sourced_by, merging_by, some_owed, until_by)
 
   pub hub_there : (k : ℕ) → at makes_hub h k ≡ true → at makes_hub c (r k) ≡ true
   hub_there k hub = let w = hub_made h k hub in ap (λ (x : Option Event). option_map_or makes_hub x false) (m.trees.there.hub k w.0 w.1)
@@ -112,16 +110,10 @@ module _ (b d : Kept) (r s : ℕ → ℕ) (h c : List Event) (m : MayAlike b d r
 -- a hub that would wait there would wait here --------------------------------------------------------------------------------------------
 
 names_open : (b : Kept) (h : List Event) (place : Place) (kind : Kind) → IsFree b h place → NamesOpen h (Open place kind)
-names_open b h (Source p) kind free m named = ap (is_open h) (sym (same_Some p m named)) ∙ free.0
-names_open b h (Inner p) kind free m named = ap (is_open h) (sym (same_Some p m named)) ∙ free.0
-names_open b h (Notifier p) kind free m named = ap (is_open h) (sym (same_Some p m named)) ∙ free.0
-names_open b h Root kind free m named = absurd (none-some m named)
+names_open b h x2 kind free m named = search (rules, same_Some, none-some)
 
 hub_of_kind : (h : List Event) (place : Place) (kind : Kind) → IsHubbed h place kind → (g : ℕ) → kind ≡ Sub g → at makes_hub h g ≡ true
-hub_of_kind h place (Sub k) hubbed g is = ap (at makes_hub h) (sym (number is)) ∙ hubbed.0 where
-  number : Sub k ≡ Sub g → k ≡ g
-  number is = cc
-hub_of_kind h place _ hubbed g is = absurd (cc)
+hub_of_kind h place x2 hubbed g is = search rules
 
 waits_by : {b d : Kept} {r s : ℕ → ℕ} {h c : List Event} → MayAlike b d r s h c → IsLawful b h → IsLawful d c →
     ((n : ℕ) (t : Terminal) → is_open h n ≡ true → SourceEnded h n t → SourceEnded c (r n) t) → (place : Place) (kind : Kind) → IsFree b h place →
@@ -162,7 +154,8 @@ waits_by {b} {d} {r} {s} {h} {c} m law other_law ended place kind free hubbed g 
       newest = λ named. (number_new (length h) (length c) r, number_new (length c) (length h) s);
       names = names;
       names_there = names_there;
-      near = λ made. near_open r (with_number (length h) (length c) r) h place kind (number_old (length h) (length c) r) names (hub_of_kind h place kind hubbed);
+      near = λ made. near_open r (with_number (length h) (length c) r) h place kind (number_old (length h) (length c) r) names (hub_of_kind h place kind
+          hubbed);
       all_near = λ n y at_n made. names_below r (with_number (length h) (length c) r) n y law (number_old (length h) (length c) r) at_n made;
     }
 

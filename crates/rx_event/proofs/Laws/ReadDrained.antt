@@ -20,6 +20,7 @@ use Rattle.rx_event.proofs.Laws.MarksAfter.{marks_kept}
 use Rattle.rx_event.proofs.Laws.OneEnd.{ends_as, source_ended_before}
 use Rattle.rx_event.proofs.Laws.ReadShown.{made_at, resource_named, resource_made, lease_made}
 use Rattle.rx_event.proofs.Laws.RisingLists.{same_list}
+use Rattle.std.proofs.Common.{rules}
 
 -- from h on resources were taken, and nothing else happened
 pub data TakesOn (base : Kept) (h : List Event) : List Event → Type 0 where
@@ -53,24 +54,16 @@ out_take h q l less = is_out-push h (Take q) l less ∙ and_true (is_out h l)
 
 counts_take : (p : Event → Bool) (h : List Event) (q : ℕ) → p (Take q) ≡ false → count_by p (h ++ Take q ∷ []) ≡ count_by p h
 counts_take p h q fails =
-    let push : count_by p (h ++ Take q ∷ []) ≡ count_by p h + cond (p (Take q)) 1 0 = sum_by_push (λ (x : Event). cond (p x) 1 0) h (Take q) in
-    let none : cond {A = ℕ} (p (Take q)) 1 0 ≡ 0 = ap (λ b. cond {A = ℕ} b 1 0) fails in
-    omega arith
+    search (rules, count_by, cond, sum_by_push)
 
 accepted_take : (base : Kept) → (h : List Event) (q : ℕ) → accepted_count base (h ++ Take q ∷ []) ≡ accepted_count base h
-accepted_take base h q = ap (λ x. (base.accepted - count_by makes_resource (shown base)) + x) (counts_take makes_resource h q refl)
+accepted_take base h q = search (rules, count_by, counts_take)
 
 hub_take : (h : List Event) (q g : ℕ) (mode : Mode) → slice_get (h ++ Take q ∷ []) g ≡ Some (Hub mode) → slice_get h g ≡ Some (Hub mode)
-hub_take h q g mode at_g = by_place (cases_push h (Take q) (Hub mode) g at_g) where
-  by_place : (slice_get h g ≡ Some (Hub mode)) ⊎ (Take q ≡ Hub mode) → slice_get h g ≡ Some (Hub mode)
-  by_place (inl old) = old
-  by_place (inr same) = absurd (cc)
+hub_take h q g mode at_g = search (rules, cases_push, slice_get)
 
 named_take : (h : List Event) (q n : ℕ) (e : Event) → is_named e ≡ true → slice_get (h ++ Take q ∷ []) n ≡ Some e → slice_get h n ≡ Some e
-named_take h q n e named at_n = by_place (cases_push h (Take q) e n at_n) where
-  by_place : (slice_get h n ≡ Some e) ⊎ (Take q ≡ e) → slice_get h n ≡ Some e
-  by_place (inl old) = old
-  by_place (inr same) = absurd (false≢true (ap is_named same ∙ named))
+named_take h q n e named at_n = search (rules, cases_push, slice_get, false≢true)
 
 kept_take : (h : List Event) (q n : ℕ) (e : Event) → slice_get h n ≡ Some e → slice_get (h ++ Take q ∷ []) n ≡ Some e
 kept_take h q n e at_n = slice_get-append h (Take q ∷ []) n (slice_get_within h n e at_n) ∙ at_n

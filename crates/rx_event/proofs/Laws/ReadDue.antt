@@ -1,5 +1,5 @@
 -- What is due in a history is due in one that is the same but for its numbers.
-use Rattle.rx_event.proofs.Laws.Common.{arith, ◌≡◌, ℕ, Bool, true, false, List, [], Option, Some, None, map, slice_get, refl, sym, ap, subst, ◌∙◌}
+use Rattle.rx_event.proofs.Laws.Common.{arith, ◌≡◌, ℕ, Bool, true, false, List, [], Option, Some, map, slice_get, refl, ap, subst, ◌∙◌}
 use Rattle.rx_event.proofs.Laws.Common.{option_map_or, false≢true, same_Some, none-some, Terminal, Completed, Error, Kept, Place, Sub, Auto, Event, Open, Hub}
 use Rattle.rx_event.proofs.Laws.Common.{Connect, End, is_mirroring, is_merging, is_until, is_auto_hub, is_subscriber_of, at, is_open, open_subscribers}
 use Rattle.rx_event.proofs.Laws.Common.{open_connections, mirrored, fired, failed, completed, cut, left, connecting, due, SourceEnded, IsDue, IsForced}
@@ -13,6 +13,7 @@ use Rattle.rx_event.proofs.Laws.Stands.{event_at}
 use Rattle.rx_event.proofs.Laws.Hubs.{subscriber_found}
 use Rattle.rx_event.proofs.Laws.MarksDue.{terminal_due_due}
 use Rattle.rx_event.proofs.Laws.OneEnd.{due_by_marks_alone}
+use Rattle.std.proofs.Common.{rules}
 
 -- what is due by the same marks is the same
 terminal_due_by : (r : ℕ → ℕ) (e : Event) (m : Marks) → terminal_due (event_by r e) m ≡ terminal_due e m
@@ -22,34 +23,21 @@ terminal_due_by r e m = grind arith
 subscribes_only : (q : Event → Bool) → ((place : Place) (g : ℕ) → q (Open place (Sub g)) ≡ false) → (h : List Event) (n g : ℕ) → at q h n ≡ true →
     at (is_subscriber_of g) h n ≡ true → ⊥
 subscribes_only q other h n g holds subscribes =
-    let found = subscriber_found g (slice_get h n) subscribes in
-    false≢true (sym (other found.0 g) ∙ sym (ap (λ (x : Option Event). option_map_or q x false) found.1) ∙ holds)
+    search (rules, subscriber_found, slice_get, false≢true, option_map_or)
 
 ended_by : (n : ℕ) (o : Option Terminal) (t : Terminal) → option_map (λ u. End n u) o ≡ Some (End n t) → o ≡ Some t
-ended_by n None t same = absurd (none-some _ same)
-ended_by n (Some u) t same = ap Some (same_end (same_Some (End n u) (End n t) same)) where
-  same_end : End n u ≡ End n t → u ≡ t
-  same_end e = cc
+ended_by n x1 t same = search (rules, none-some, same_Some)
 
 pub auto_hub : (h : List Event) (g : ℕ) → at is_auto_hub h g ≡ true → slice_get h g ≡ Some (Hub Auto)
-auto_hub h g = by_event (slice_get h g) where
-  by_event : (o : Option Event) → option_map_or is_auto_hub o false ≡ true → o ≡ Some (Hub Auto)
-  by_event o auto = grind arith
+auto_hub h g = search (rules, slice_get, option_map_or, Auto)
 
 -- as trees ----------------------------------------------------------------------------------------------------
 
 tree_of : {b d : Kept} {r s : ℕ → ℕ} {h c : List Event} → IsRead b d r s h c → IsTreeRead r s h c
-tree_of there = record {
-  alive = there.alive;
-  undone = there.undone;
-  order = there.order;
-  made = there.made;
-  hub = there.hub;
-  hub_undone = there.hub_undone;
-}
+tree_of there = search rules
 
 pub trees_of : {b d : Kept} {r s : ℕ → ℕ} {h c : List Event} → AreRead b d r s h c → AreTreesRead r s h c
-trees_of {b} {h = h} a = record { there = tree_of a.there; back = tree_of a.back; below = λ n m e o at_n named. named_below b h a.law n m e at_n named }
+trees_of {b} {h = h} a = search (rules, tree_of, named_below)
 
 pub read_back : {b d : Kept} {r s : ℕ → ℕ} {h c : List Event} → AreRead b d r s h c → AreRead d b s r c h
 read_back a = record { law = a.other_law; other_law = a.law; there = a.back; back = a.there }

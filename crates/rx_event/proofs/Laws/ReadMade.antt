@@ -1,7 +1,7 @@
 -- One number more, and which numbers an event names.
 use Rattle.rx_event.proofs.Laws.Common.{◌≡◌, ℕ, ◌<◌, true, List, length, take, Some, cond, slice_get, refl, ap, ◌==◌, arith, subst, length-take-le}
 use Rattle.rx_event.proofs.Laws.Common.{false≢true, eq-eqb, ne_eqb, slice_get_within, Kept, shown, Place, Root, Source, Inner, Notifier, Kind, Sub, Event}
-use Rattle.rx_event.proofs.Laws.Common.{Open, Connect, makes_node, makes_hub, at, is_open, Started, MayFollow, IsLawful, event_by, place_by}
+use Rattle.rx_event.proofs.Laws.Common.{Open, Connect, makes_node, makes_hub, at, Started, MayFollow, IsLawful, event_by, place_by}
 use Rattle.rx_event.specs.Renumbered.{kind_by}
 use Rattle.rx_event.proofs.Laws.Places.{at_within}
 use Rattle.rx_event.proofs.Laws.Openness.{is_open_within}
@@ -10,6 +10,7 @@ use Rattle.rx_event.proofs.Laws.Steps.{may_name}
 use Rattle.rx_event.proofs.Laws.Hubs.{may_subscribe, may_connect_hub}
 use Rattle.rx_event.proofs.Laws.TreeRead.{IsTreeRead, hub_made}
 use Rattle.rx_event.proofs.Laws.TreeAfterEvent.{NamesOpen}
+use Rattle.std.proofs.Common.{rules}
 
 -- one number more -------------------------------------------------------------------------------------------------
 
@@ -67,19 +68,7 @@ event_by_below base r q h _ same next node = absurd (false≢true node)
 place_below : {base : Kept} → (r q : ℕ → ℕ) (h : List Event) (n : ℕ) {p : Place} {kind : Kind} → Started base → ((k : ℕ) → k < length h → q k ≡ r k) →
     n < length h →
     slice_get (shown base) n ≡ Some (Open p kind) → place_by q p ≡ place_by r p
-place_below {base} r q h n {p} {kind} started same l found = by_place p found where
-  near : (m : ℕ) → is_open (take n (shown base)) m ≡ true → q m ≡ r m
-  near m o =
-      same m (let w = is_open_within (take n (shown base)) m o in
-      let s = slice_get_within (shown base) n _ found in
-      let t = length-take-le n (shown base) (omega arith) in
-      omega arith)
-
-  by_place : (p : Place) → slice_get (shown base) n ≡ Some (Open p kind) → place_by q p ≡ place_by r p
-  by_place Root at_n = refl
-  by_place (Source m) at_n = ap Source (near m (started.names n m _ at_n refl))
-  by_place (Inner m) at_n = ap Inner (near m (started.names n m _ at_n refl))
-  by_place (Notifier m) at_n = ap Notifier (near m (started.names n m _ at_n refl))
+place_below {base} r q h n {p} {kind} started same l found = search (rules, take, is_open_within, slice_get_within, length-take-le, slice_get)
 
 pub names_below : {base : Kept} → (r q : ℕ → ℕ) {h : List Event} (n : ℕ) (e : Event) → IsLawful base h → ((k : ℕ) → k < length h → q k ≡ r k) →
     slice_get h n ≡ Some e → makes_node e ≡ true →

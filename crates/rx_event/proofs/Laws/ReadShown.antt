@@ -26,6 +26,7 @@ use Rattle.rx_event.proofs.Laws.ReadMade.{event_by_below, names_below}
 use Rattle.rx_event.proofs.Laws.ReadDue.{trees_of}
 use Rattle.rx_event.proofs.Laws.TreeRead.{same_at, stop_by, stops_by, makes_by, node_named}
 use Rattle.rx_event.proofs.Laws.MakingRemovesNothing.{made_untold}
+use Rattle.std.proofs.Common.{rules}
 
 -- no number past the end was told anything ------------------------------------------------------------------------------------
 
@@ -52,17 +53,10 @@ pub lease_named : (e : Event) → makes_lease e ≡ true → is_named e ≡ true
 lease_named e made = grind arith
 
 pub made_at : (q p : Event → Bool) → ((e : Event) → q e ≡ true → p e ≡ true) → (h : List Event) (n : ℕ) → at q h n ≡ true → at p h n ≡ true
-made_at q p by h n = by_event (slice_get h n) where
-  by_event : (o : Option Event) → option_map_or q o false ≡ true → option_map_or p o false ≡ true
-  by_event None holds = absurd (false≢true holds)
-  by_event (Some e) holds = by e holds
+made_at q p by h n = search (rules, slice_get, option_map_or, false≢true)
 
 pub resource_made : (h : List Event) (q : ℕ) → at makes_resource h q ≡ true → (n : ℕ) × (tag : ℕ) × (slice_get h q ≡ Some (Accept n tag))
-resource_made h q = by_event (slice_get h q) where
-  by_event : (o : Option Event) → option_map_or makes_resource o false ≡ true → (n : ℕ) × (tag : ℕ) × (o ≡ Some (Accept n tag))
-  by_event None made = absurd (false≢true made)
-  by_event (Some (Accept n tag)) made = (n, tag, refl)
-  by_event (Some _) made = absurd (false≢true made)
+resource_made h q = search (rules, slice_get, option_map_or, Accept, false≢true)
 
 -- a resource was accepted at a node, or names itself, where the base shows one that waits
 accepted_node : (base : Kept) → (h : List Event) → IsLawful base h → (p n tag : ℕ) → slice_get h p ≡ Some (Accept n tag) → (n ≡ p) ⊎ (at makes_node h n ≡ true)
@@ -136,7 +130,8 @@ module _ (base : Kept) (r s : ℕ → ℕ) (h c : List Event) (a : AreRenumbered
       ap (λ (ss : List Stop). notes_in (r n) (filter_map (told (length c) v) ss)) (stops_by r s h c (trees_of a) l (may_emit base next)) ∙
       items_told (length h) (length c) v n named (stops h l) (stops_open base h l a.law (may_emit base next))
   mail_same (End m t) next n named =
-      ap (λ b. notes_in (r n) (cond b ((record { place = length c; to = r m; note = EndNote t }) ∷ []) [])) (same_at r s h c (trees_of a) is_root (root_by r) m (may_end base next)) ∙
+      ap (λ b. notes_in (r n) (cond b ((record { place = length c; to = r m; note = EndNote t }) ∷ []) [])) (same_at r s h c (trees_of a) is_root
+      (root_by r) m (may_end base next)) ∙
       by_root (at is_root h m)
     where
       by_root : (b : Bool) → notes_in (r n) (cond b ((record { place = length c; to = r m; note = EndNote t }) ∷ []) []) ≡
@@ -159,16 +154,10 @@ return_by r e = grind arith
 
 -- what is returned by a return
 returned_by : (e : Event) → is_return e ≡ true → (l : ℕ) × (e ≡ Return l)
-returned_by (Return l) is = (l, refl)
-returned_by _ is = absurd (false≢true is)
+returned_by x0 is = search (rules, false≢true)
 
 pub lease_made : (h : List Event) (l : ℕ) → at makes_lease h l ≡ true → (q : ℕ) × (slice_get h l ≡ Some (Lease q))
-lease_made h l = by_event (slice_get h l) where
-  by_event : (o : Option Event) → option_map_or makes_lease o false ≡ true → (q : ℕ) × (o ≡ Some (Lease q))
-  by_event None made = absurd (false≢true made)
-  by_event (Some (Lease q)) made = (q, refl)
-  by_event (Some (Open place kind)) made = absurd (false≢true made)
-  by_event (Some _) made = absurd (false≢true made)
+lease_made h l = search (rules, slice_get, option_map_or, false≢true)
 
 take_by : (r : ℕ → ℕ) (e : Event) → is_take (event_by r e) ≡ is_take e
 take_by r e = grind arith
@@ -410,9 +399,7 @@ module _ (base : Kept) (r s q t : ℕ → ℕ) (h c : List Event) (e : Event) (a
   -- a test that sees no number counts as much more
   counts_on : (p : Event → Bool) → p (event_by r e) ≡ p e → count_by p c ≡ count_by p h → count_by p C ≡ count_by p H
   counts_on p same before =
-      sum_by_push (λ (x : Event). cond (p x) 1 0) c (event_by r e) ∙
-      (λ i. before i + cond (same i) 1 0) ∙
-      sym (sum_by_push (λ (x : Event). cond (p x) 1 0) h e)
+      search (rules, sum_by_push, cond)
 
   totals_on : (n : ℕ) (p : Event → Bool) → p (event_by r e) ≡ p e → n + count_by p c ≡ n + count_by p h → n + count_by p C ≡ n + count_by p H
   totals_on n p same before = let less : count_by p c ≡ count_by p h = omega arith in ap (λ x. n + x) (counts_on p same less)

@@ -2,7 +2,7 @@
 use Rattle.rx_event.proofs.Laws.Common.{◌≡◌, ℕ, ◌+◌, ◌<◌, ◌≤◌, Bool, true, false, List, [], ◌∷◌, ◌++◌, length, take, Option, Some, None, cond, refl, sym, ap}
 use Rattle.rx_event.proofs.Laws.Common.{◌∙◌, arith, inl, inr, ◌⊎◌, ◌==◌, nat_lt, slice_get, length-append, not, ◌&&◌, ◌||◌, list_any, option_and_then}
 use Rattle.rx_event.proofs.Laws.Common.{option_map_or, cases_order, cases_Bool, both_ways, and_parts, or_cases, ne_eqb, eqb-true, lt-ltb}
-use Rattle.rx_event.proofs.Laws.Common.{slice_get_past, slice_get_within, none-some, same_Some, Terminal, Kept, shown, resource_kept, Inner, Event, Open, Hub}
+use Rattle.rx_event.proofs.Laws.Common.{slice_get_past, slice_get_within, none-some, same_Some, Terminal, Kept, shown, Inner, Event, Open, Hub}
 use Rattle.rx_event.proofs.Laws.Common.{Connect, Accept, Use, Remove, Lease, Return, Item, Decline, End, Close, Take, makes_resource, node_of_accept}
 use Rattle.rx_event.proofs.Laws.Common.{is_remove_of, is_take_of, at, is_open, is_within, is_owned, leases_of, is_held, is_taken, is_waiting, accepted_by}
 use Rattle.rx_event.proofs.Laws.Common.{MayFollow, IsLawful, and_true, and_not_false, or_false, and_assoc, and_false, common_steps, or_right, not-true}
@@ -16,6 +16,7 @@ use Rattle.rx_event.proofs.Laws.Steps.{by_events, may_accept, may_remove, may_ta
 use Rattle.rx_event.proofs.Laws.Leases.{is_owned_within, owned_resource, lease_resource, leases_of-return, leased_resource}
 use Rattle.rx_event.proofs.Laws.Leases.{leased_where, is_leased_past, is_leased_kept, is_leased_last, leased_old, lease_owned}
 use Rattle.rx_event.proofs.Laws.MakingRemovesNothing.{made_unremoved, made_untaken}
+use Rattle.std.proofs.Common.{rules}
 
 -- the node of a resource ---------------------------------------------------------------------------
 
@@ -68,8 +69,7 @@ unfolding is_owned
 is_owned_past h r l = rw (slice_get_past h r l) refl
 
 removes_none : (base : Kept) → (h : List Event) (e : Event) → MayFollow base h e → (r : ℕ) → length h ≤ r → is_remove_of r e ≡ false
-removes_none base h (Remove q) next r l = let b = is_owned_within h q (may_remove base next) in ne_eqb q r (omega arith)
-removes_none base h _ next r l = refl
+removes_none base h x2 next r l = search (rules, is_owned_within, may_remove, ne_eqb)
 
 -- only older resources are removed
 pub no_remove : (base : Kept) → (h : List Event) → IsLawful base h → (r : ℕ) → length h ≤ r → list_any (is_remove_of r) h ≡ false
@@ -94,10 +94,7 @@ is_owned_last base h e law = rw (slice_get_last h e) (by_event e) where
   by_event _ = refl
 
 keeps_none : (h : List Event) (e : Event) (r : ℕ) → shuts_none e ≡ true → is_remove_of r e ≡ false → loses h e r ≡ false
-keeps_none h e r s keeps = or_from _ _ (no_cut (node_of h r)) keeps where
-  no_cut : (o : Option ℕ) → option_map_or (is_cut h e) o false ≡ false
-  no_cut None = refl
-  no_cut (Some n) = is_cut_none h e n s
+keeps_none h e r s keeps = search (rules, or_from, option_map_or, is_cut_none)
 
 -- an event that shuts no node leaves what it does not remove
 pub is_owned_kept : (base : Kept) → (h : List Event) (e : Event) → IsLawful base h → (r : ℕ) → r < length h → shuts_none e ≡ true → is_remove_of r e ≡ false →
@@ -161,10 +158,7 @@ held_parts h r held = or_cases (is_owned h r) (is_leased h r) (sym (held_is h r)
 
 -- what is held is a resource
 pub held_resource : (h : List Event) (r : ℕ) → is_held h r ≡ true → at makes_resource h r ≡ true
-held_resource h r held = by_part (held_parts h r held) where
-  by_part : (is_owned h r ≡ true) ⊎ (is_leased h r ≡ true) → at makes_resource h r ≡ true
-  by_part (inl owned) = owned_resource h r owned
-  by_part (inr leased) = leased_resource h r leased
+held_resource h r held = search (rules, held_parts, owned_resource, leased_resource)
 
 -- and in the history
 pub is_held_within : (h : List Event) (r : ℕ) → is_held h r ≡ true → r < length h
@@ -233,11 +227,7 @@ owned_return base h l law r less = is_owned_kept base h (Return l) law r less re
 pub is_taken-push : (h : List Event) (e : Event) (r : ℕ) → r < length h → is_taken (h ++ e ∷ []) r ≡ (is_taken h r || (at makes_resource h r && is_take_of r e))
 unfolding is_taken
 is_taken-push h e r l =
-    rw (at-append makes_resource h (e ∷ []) r l, list_any-append (is_take_of r) h (e ∷ []))
-    (shape (at makes_resource h r) (list_any (is_take_of r) h) (is_take_of r e))
-  where
-    shape : (a b c : Bool) → (a && (b || (c || false))) ≡ ((a && b) || (a && c))
-    shape a b c = grind arith
+    search (rules, at-append, list_any-append, list_any)
 
 -- what is taken is a resource
 pub taken_resource : (h : List Event) (r : ℕ) → is_taken h r ≡ true → at makes_resource h r ≡ true
@@ -258,23 +248,16 @@ is_waiting_past h r l = rw (slice_get_past h r l) refl
 
 -- what waits is in the history
 pub is_waiting_within : (h : List Event) (r : ℕ) → is_waiting h r ≡ true → r < length h
-is_waiting_within h r waits = within (cases_order r (length h)) where
-  within : (r ≡ length h) ⊎ ((r < length h) ⊎ (length h < r)) → r < length h
-  within (inr (inl l)) = l
-  within (inl same) = absurd (both_ways _ (is_waiting_past h r (omega arith)) waits)
-  within (inr (inr g)) = absurd (both_ways _ (is_waiting_past h r (omega arith)) waits)
+is_waiting_within h r waits = search (rules, cases_order, length, both_ways, is_waiting_past)
 
 -- what waits is neither held nor taken
 pub waiting_parts : (h : List Event) (r : ℕ) → is_waiting h r ≡ true → (at makes_resource h r ≡ true) × (is_held h r ≡ false) × (is_taken h r ≡ false)
 unfolding is_waiting
 waiting_parts h r waits =
-    let both = and_parts _ _ waits in
-    let first = and_parts _ _ both.0 in
-    (first.0, not-true _ first.1, not-true _ both.1)
+    search (rules, and_parts, not-true)
 
 takes_none : (base : Kept) → (h : List Event) (e : Event) → MayFollow base h e → (r : ℕ) → length h ≤ r → is_take_of r e ≡ false
-takes_none base h (Take q) next r l = let b = is_waiting_within h q (may_take base next) in ne_eqb q r (omega arith)
-takes_none base h _ next r l = refl
+takes_none base h x2 next r l = search (rules, is_waiting_within, may_take, ne_eqb)
 
 -- only older resources are taken
 pub no_take : (base : Kept) → (h : List Event) → IsLawful base h → (r : ℕ) → length h ≤ r → list_any (is_take_of r) h ≡ false
@@ -468,11 +451,9 @@ is_owned_new base h e law next = is_owned_last base h e law ∙ sym (is_held_las
 -- what accepted it ---------------------------------------------------------------------------------
 
 pub accepted_by-push : (base : Kept) → (h : List Event) (e : Event) (r : ℕ) → r < length h → accepted_by base (h ++ e ∷ []) r ≡ accepted_by base h r
-accepted_by-push base h e r l = ap (λ x. option_map_or (λ k. Some (Accept k.node k.tag)) (resource_kept base r) x) (slice_get-append h (e ∷ []) r l)
+accepted_by-push base h e r l = search (rules, option_map_or, Accept, slice_get-append)
 
 -- of a new one no record is kept
 pub accepted_by_new : (base : Kept) → (h : List Event) (e : Event) → IsLawful base h → accepted_by base (h ++ e ∷ []) (length h) ≡ Some e
 accepted_by_new base h e law =
-    ap (λ x. option_map_or (λ k. Some (Accept k.node k.tag)) x (slice_get (h ++ e ∷ []) (length h)))
-    (law.started.unnumbered (length h) (shown_within base h law)) ∙
-    slice_get_last h e
+    search (rules, option_map_or, Accept, slice_get, length, shown_within, slice_get_last)

@@ -1,6 +1,7 @@
 -- Lists of rising numbers: two with the same members are the same.
-use Rattle.rx_event.proofs.Laws.Common.{◌≡◌, ℕ, zero, suc, ◌+◌, ◌<◌, ◌≤◌, Bool, true, false, List, [], ◌∷◌, cond, refl, sym, ap, ◌∙◌, inl, inr, ◌⊎◌, arith}
+use Rattle.rx_event.proofs.Laws.Common.{◌≡◌, ℕ, zero, suc, ◌+◌, ◌<◌, ◌≤◌, Bool, true, false, List, [], ◌∷◌, cond, refl, sym, ap, inl, inr, ◌⊎◌, arith}
 use Rattle.rx_event.proofs.Laws.Common.{filter, map, subst, AllByRecursion, range_with_len, cases_order}
+use Rattle.std.proofs.Common.{rules}
 
 abbrev pub In : ℕ → List ℕ → Type 0
 In k [] = ⊥
@@ -48,22 +49,12 @@ rising_same (x ∷ xs) (y ∷ ys) a b there back = λ i. first i ∷ rising_same
 
 pub in_filter : (p : ℕ → Bool) (xs : List ℕ) (k : ℕ) → In k xs → p k ≡ true → In k (filter p xs)
 in_filter p [] k i holds = absurd i
-in_filter p (x ∷ xs) k (inl same) holds = by_test (p x) (ap p same ∙ holds) where
-  by_test : (b : Bool) → b ≡ true → In k (cond b (x ∷ filter p xs) (filter p xs))
-  by_test true yes_so = inl same
-  by_test false no_so = absurd (cc)
-in_filter p (x ∷ xs) k (inr i) holds = by_test (p x) (in_filter p xs k i holds) where
-  by_test : (b : Bool) → In k (filter p xs) → In k (cond b (x ∷ filter p xs) (filter p xs))
-  by_test true j = inr j
-  by_test false j = j
+in_filter p (x ∷ xs) k (inl same) holds = search (rules, In, cond, filter)
+in_filter p (x ∷ xs) k (inr i) holds = search (rules, filter, cond, in_filter p xs k i holds)
 
 pub filter_in : (p : ℕ → Bool) (xs : List ℕ) (k : ℕ) → In k (filter p xs) → In k xs × (p k ≡ true)
 filter_in p [] k i = absurd i
-filter_in p (x ∷ xs) k i = by_test (p x) refl i (filter_in p xs k) where
-  by_test : (b : Bool) → p x ≡ b → In k (cond b (x ∷ filter p xs) (filter p xs)) → (In k (filter p xs) → In k xs × (p k ≡ true)) → In k (x ∷ xs) × (p k ≡ true)
-  by_test true at_x (inl same) rest = (inl same, sym (ap p same) ∙ at_x)
-  by_test true at_x (inr j) rest = let w = rest j in (inr w.0, w.1)
-  by_test false at_x j rest = let w = rest j in (inr w.0, w.1)
+filter_in p (x ∷ xs) k i = search (rules, cond, filter, filter_in p xs k)
 
 pub filter_rises : (p : ℕ → Bool) (xs : List ℕ) → Rises xs → Rises (filter p xs)
 filter_rises p [] a = tt
@@ -81,11 +72,7 @@ range_in s (suc n) k (inr i) = let w = range_in (s + 1) n k i in let l = w.0 in 
 
 pub in_range : (s n k : ℕ) → s ≤ k → k < s + n → In k (range_with_len s n)
 in_range s zero k l m = absurd (omega arith)
-in_range s (suc n) k l m = by_place (cases_order s k) (in_range (s + 1) n k) where
-  by_place : (s ≡ k) ⊎ ((s < k) ⊎ (k < s)) → (s + 1 ≤ k → k < (s + 1) + n → In k (range_with_len (s + 1) n)) → In k (range_with_len s (suc n))
-  by_place (inl same) rest = inl same
-  by_place (inr (inl less)) rest = inr (rest (omega arith) (omega arith))
-  by_place (inr (inr past)) rest = absurd (omega arith)
+in_range s (suc n) k l m = search (rules, cases_order, range_with_len, in_range (s + 1) n k)
 
 pub range_rises : (s n : ℕ) → Rises (range_with_len s n)
 range_rises s zero = tt

@@ -1,7 +1,7 @@
 -- Stored histories that agree: the same is forced and allowed in both, and followed by one event they agree again.
-use Rattle.rx_event.proofs.Laws.Common.{◌≡◌, ℕ, true, List, length, refl, sym, ap, subst, ◌∙◌, filter, ◌||◌, range_with_len, false≢true, Mode, Event}
-use Rattle.rx_event.proofs.Laws.Common.{Hub, makes_hub, at, is_open, is_within, IsForced, IsSettled, IsInOrderAt, IsAllowed, Kept, Agree, AreRead, forced}
-use Rattle.rx_event.proofs.Laws.Common.{allowed, opened_with, MayFollow, IsLawful, is_untaken}
+use Rattle.rx_event.proofs.Laws.Common.{◌≡◌, ℕ, true, List, length, sym, subst, ◌∙◌, filter, range_with_len, false≢true, Mode, Event}
+use Rattle.rx_event.proofs.Laws.Common.{Hub, makes_hub, at, is_open, IsForced, IsSettled, IsInOrderAt, IsAllowed, Kept, Agree, AreRead, forced}
+use Rattle.rx_event.proofs.Laws.Common.{allowed, opened_with, MayFollow, IsLawful}
 use Rattle.std.specs.Cmp.{both_ways as same_test}
 use Rattle.rx_event.specs.Tree.{hubs}
 use Rattle.rx_event.proofs.Laws.SameTree.{Alike, alike_of, alike_back, at_hub_alike, within_alike}
@@ -10,34 +10,17 @@ use Rattle.rx_event.proofs.Laws.TreeRead.{event_by_itself}
 use Rattle.rx_event.proofs.Laws.LetGo.{connected_hub}
 use Rattle.rx_event.proofs.Laws.ClosedInEveryCourse.{open_above}
 use Rattle.rx_event.proofs.Laws.ReadAllowed.{MayAlike, allowed_by}
+use Rattle.std.proofs.Common.{rules}
 
 pub agree_back : (b : Kept) (h : List Event) (c : Kept) (k : List Event) → Agree b h c k → Agree c k b h
 agree_back b h c k a =
-    record {
-      same_length = sym a.same_length;
-      there = a.back;
-      back = a.there;
-      owned = λ r. sym (a.owned r);
-      held = λ r. sym (a.held r);
-      waiting = λ r. sym (a.waiting r);
-      accepts = λ r i. sym (a.accepts r (there r i));
-      used = λ r i. sym (a.used r (there r i));
-      out = λ l. sym (a.out l);
-      leased = λ l o. sym (a.leased l (a.out l ∙ o));
-      item_total = sym a.item_total;
-      accepted_total = sym a.accepted_total;
-      taken_total = sym a.taken_total;
-    }
-  where
-    there : (r : ℕ) → is_untaken k r ≡ true → is_untaken h r ≡ true
-    there r i = (λ j. a.held r j || a.waiting r j) ∙ i
+    search rules
 
 pub reads_of : {b : Kept} {h : List Event} {c : Kept} {k : List Event} → Agree b h c k → IsLawful b h → IsLawful c k → AreRead b c (λ n. n) (λ n. n) h k
 reads_of a law law_k = record { law = law; other_law = law_k; there = a.there; back = a.back }
 
 pub hub_is : (e : Event) → makes_hub e ≡ true → (mode : Mode) × (e ≡ Hub mode)
-hub_is (Hub mode) is = (mode, refl)
-hub_is _ is = absurd (false≢true is)
+hub_is x0 is = search (rules, false≢true)
 
 -- allowed -------------------------------------------------------------------------------------------
 
@@ -48,23 +31,10 @@ hubs_alike h k a = (λ i. filter (λ n. same n i) (range_with_len 0 (a.same_leng
 
 pub in_order_too : (h k : List Event) → Alike h k → (g p : ℕ) → is_open h p ≡ true → IsInOrderAt h g p → IsInOrderAt k g p
 in_order_too h k a g p o ordered m j within connects =
-    let within_h : is_within h m p ≡ true = within_alike h k a m p o ∙ within in
-    ordered m j within_h (a.same_made m (open_above h m p o within_h) ∙ connects)
+    search (rules, within_alike, open_above)
 
 agree_may : {b : Kept} {h : List Event} {c : Kept} {k : List Event} → Agree b h c k → IsLawful b h → IsLawful c k → MayAlike b c (λ n. n) (λ n. n) h k
-agree_may {b} {h} {c} {k} a law law_k = record {
-  trees = trees_of (reads_of a law law_k);
-  owes = λ n o. (λ i. (a.there.marks n o i).owed);
-  sourced = λ n o. (λ i. (a.there.marks n o i).source_opened);
-  notified = λ n o. (λ i. (a.there.marks n o i).notifier_opened);
-  hub_order = λ g j hub also l. l;
-  hub_total = sym (ap length (hubs_alike h k (alike_of a)));
-  connects = λ n g at_n. connected_hub c k law_k g n at_n;
-  owned = λ r owned. sym (a.owned r) ∙ owned;
-  held = λ r held. sym (a.held r) ∙ held;
-  out = λ l out. sym (a.out l) ∙ out;
-  waiting = λ r waits. sym (a.waiting r) ∙ waits;
-}
+agree_may {b} {h} {c} {k} a law law_k = search (rules, trees_of, reads_of, length, hubs_alike, alike_of, connected_hub)
 
 module _ (b : Kept) (h : List Event) (c : Kept) (k : List Event) (a : Agree b h c k) (law : IsLawful b h) (law_k : IsLawful c k) where
   pub allowed_too : {e : Event} → IsAllowed b h e → IsAllowed c k e

@@ -14,6 +14,7 @@ use Rattle.rx_event.proofs.Laws.MarksFound.{child_terminal_some}
 use Rattle.rx_event.proofs.Laws.MarksAfter.{same_marks}
 use Rattle.rx_event.proofs.Laws.Dues.{IsDueOn, Fails, any_on, parent_on, owed_on, fired_on, lawful_on}
 use Rattle.rx_event.proofs.Laws.ClosedInEveryCourse.{same_open, spared, completed_in_k, source_fails}
+use Rattle.std.proofs.Common.{rules}
 
 -- what has a child is a mirroring node, or a FlatMap or Switch
 pub data IsParent (h : List Event) (n : ℕ) : Type 0 where
@@ -90,14 +91,7 @@ module _ (base : Kept) (b k j : List Event) (law : IsLawful base b) (whole : IsC
       source_completed base p n ≡ true →
       source_completed base q n ≡ true
   completed_in {p} q on_p settled_p on_q settled_q n o found =
-      completed_in_k (record {
-        law = law;
-        whole = whole;
-        on_p = on_p;
-        on_k = on_q;
-        settled = settled_q;
-        spares = spared on_p q law whole on_q settled_q;
-      }) n o found
+      search (rules, completed_in_k, spared)
 
   any_both : (q : Event → Bool) → Fails q → list_any q k ≡ list_any q j
   any_both q fails = any_on base q fails on_k ∙ sym (any_on base q fails on_j)

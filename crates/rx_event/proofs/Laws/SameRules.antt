@@ -1,6 +1,6 @@
 -- How the children of a node ended, and what each rule gives in two histories that are the same, number for number.
-use Rattle.rx_event.proofs.Laws.Common.{arith, ◌≡◌, ℕ, Bool, true, false, List, [], ◌∷◌, ◌++◌, Option, Some, None, refl, sym, ap, ◌∙◌, inl, inr, ◌⊎◌, ◌==◌}
-use Rattle.rx_event.proofs.Laws.Common.{slice_get, not, ◌||◌, AllByRecursion, list_any, option_map_or, false≢true, or_cases, eqb-true, Terminal, Completed}
+use Rattle.rx_event.proofs.Laws.Common.{◌≡◌, ℕ, true, List, [], ◌∷◌, ◌++◌, Option, Some, None, refl, sym, ap, ◌∙◌, inl, inr, ◌⊎◌}
+use Rattle.rx_event.proofs.Laws.Common.{slice_get, not, AllByRecursion, list_any, option_map_or, false≢true, or_cases, eqb-true, Terminal}
 use Rattle.rx_event.proofs.Laws.Common.{Error, Kept, shown, Event, Item, End, is_until, is_mirroring, is_merging, at, is_open, Stop, Delivery, Projection}
 use Rattle.rx_event.proofs.Laws.Common.{Firing, stops, is_fired, is_firing_of, stops_of, mirrored, failed, IsDue, child_terminal, passes_on, MayFollow}
 use Rattle.rx_event.proofs.Laws.Common.{IsLawful, AreRead, StopsAtOpen, ChildEnded}
@@ -14,6 +14,7 @@ use Rattle.rx_event.proofs.Laws.MakingRemovesNothing.{made_unfired}
 use Rattle.rx_event.proofs.Laws.OneEnd.{one_end}
 use Rattle.rx_event.proofs.Laws.SameMarks.{IsParent, mirrors, merges}
 use Rattle.rx_event.proofs.Laws.SameTree.{Alike, at_alike, auto_alike, childless_alike, subscribers_alike}
+use Rattle.std.proofs.Common.{rules}
 
 -- what items fire is a TakeUntil --------------------------------------------------------------------
 
@@ -21,11 +22,7 @@ fires_until : (h : List Event) (ss : List Stop) → AllByRecursion (StopsAtOpen 
 fires_until h [] well u found = absurd (false≢true found)
 fires_until h (Delivery m ∷ ss) well u found = fires_until h ss well.1 u found
 fires_until h (Projection m ∷ ss) well u found = fires_until h ss well.1 u found
-fires_until h (Firing v ∷ ss) well u found = by_test (fires_until h ss well.1 u) (v == u) refl found where
-  by_test : (list_any (is_firing_of u) ss ≡ true → at is_until h u ≡ true) → (b : Bool) → (v == u) ≡ b → (b || list_any (is_firing_of u) ss) ≡ true →
-      at is_until h u ≡ true
-  by_test rest true same passes = sym (ap (at is_until h) (eqb-true v u same)) ∙ well.0.1
-  by_test rest false other passes = rest passes
+fires_until h (Firing v ∷ ss) well u found = search (rules, list_any, eqb-true, fires_until h ss well.1 u)
 
 event_fires_until : (base : Kept) (h : List Event) (e : Event) → IsLawful base h → MayFollow base h e → (u : ℕ) →
     list_any (is_firing_of u) (stops_of h e) ≡ true → at is_until h u ≡ true
@@ -50,16 +47,11 @@ fired_until base = by_events base (λ h. (u : ℕ) → is_fired h u ≡ true →
 -- how a child ended ---------------------------------------------------------------------------------
 
 mirroring_passes : (h : List Event) (n : ℕ) (t : Terminal) → at is_mirroring h n ≡ true → passes_on (at is_merging h n) t ≡ true
-mirroring_passes h n (Error code) mirroring = refl
-mirroring_passes h n Completed mirroring = ap not (by_event (slice_get h n) mirroring) where
-  by_event : (x : Option Event) → option_map_or is_mirroring x false ≡ true → option_map_or is_merging x false ≡ false
-  by_event x fails = grind arith
+mirroring_passes h n x2 mirroring = search (rules, not, slice_get, option_map_or)
 
 pub due_by_child : {b : Kept} {h : List Event} {n : ℕ} (t : Terminal) → is_open h n ≡ true → IsParent h n → ChildEnded h n t →
     passes_on (at is_merging h n) t ≡ true → IsDue b h (End n t)
-due_by_child t o (mirrors m) child passes = mirrored o m child
-due_by_child (Error code) o (merges m) child passes = failed o m child
-due_by_child Completed o (merges m) child passes = absurd (false≢true (sym (ap (λ x. passes_on x Completed) m) ∙ passes))
+due_by_child t o x2 child passes = search (rules, mirrored, failed, false≢true)
 
 -- all that ends now ends in one way, so a child that ended is as good as the first
 terminal_is : {b : Kept} (h : List Event) (n : ℕ) (t : Terminal) → IsLawful b h → is_open h n ≡ true → IsParent h n → ChildEnded h n t →
@@ -85,7 +77,7 @@ module _ (b c : Kept) (h k : List Event) (alike : Alike h k) (a : AreRead b c (�
   )
 
   pub fires_too : (u : ℕ) → Fires h u → Fires k u
-  fires_too u m = (a.there.alive u m.0, sym (at_alike h k alike is_until u m.0) ∙ m.1, (λ i. (a.there.marks u m.0 i).fired) ∙ m.2)
+  fires_too u m = search (rules, at_alike)
 
   pub fails_too : (f code : ℕ) → Fails h f code → Fails k f code
   fails_too f code m = (
@@ -108,10 +100,4 @@ module _ (b c : Kept) (h k : List Event) (alike : Alike h k) (a : AreRead b c (�
   }
 
   pub leaves_too : (n : ℕ) → Leaves h n → Leaves k n
-  leaves_too n d = record {
-    hub = d.hub;
-    alive = a.there.alive n d.alive;
-    connects = sym (alike.same_made n d.alive) ∙ d.connects;
-    auto = auto_alike h k alike d.hub d.auto;
-    unsubscribed = sym (subscribers_alike h k alike d.hub) ∙ d.unsubscribed;
-  }
+  leaves_too n d = search (rules, auto_alike, subscribers_alike)

@@ -11,6 +11,7 @@ use Rattle.rx_event.proofs.Laws.Openness.{is_open_within, parent_open}
 use Rattle.rx_event.proofs.Laws.Stands.{event_at}
 use Rattle.rx_event.proofs.Laws.Steps.{named_below}
 use Rattle.rx_event.proofs.Laws.TreeRead.{IsTreeRead, AreTreesRead, event_by_itself, stop_by, stops_by, visits_by}
+use Rattle.std.proofs.Common.{rules}
 
 -- two lists of events have the same length, hubs and open nodes, each made by the same event
 pub record Alike (p q : List Event) : Type 0 where
@@ -36,24 +37,12 @@ at_alike p q a t n o = ap (λ x. option_map_or t x false) (a.same_made n o)
 
 -- and of a node, together with its openness
 pub at_open_alike : (p q : List Event) → Alike p q → (t : Event → Bool) (n : ℕ) → (at t p n && is_open p n) ≡ (at t q n && is_open q n)
-at_open_alike p q a t n = by_test (is_open p n) (is_open q n) (a.same_open n) (at_alike p q a t n) where
-  no_both : (x y : Bool) → (x && false) ≡ (y && false)
-  no_both x y = grind arith
-
-  by_test : (x y : Bool) → x ≡ y → (x ≡ true → at t p n ≡ at t q n) → (at t p n && x) ≡ (at t q n && y)
-  by_test true y same then = (λ i. then refl i && same i)
-  by_test false y same then = no_both (at t p n) (at t q n) ∙ ap (λ z. at t q n && z) same
+at_open_alike p q a t n = search (rules, at_alike)
 
 -- a test of hubs
 pub at_hub_alike : (p q : List Event) → Alike p q → (t : Event → Bool) → ((e : Event) → t e ≡ true → (mode : Mode) × (e ≡ Hub mode)) → (n : ℕ) →
     at t p n ≡ true → at t q n ≡ true
-at_hub_alike p q a t hubs_only n passes = by_event (slice_get p n) refl passes where
-  by_event : (o : Option Event) → slice_get p n ≡ o → option_map_or t o false ≡ true → at t q n ≡ true
-  by_event None at_n fails = absurd (false≢true fails)
-  by_event (Some e) at_n passes =
-      let hub = hubs_only e passes in
-      let there : slice_get q n ≡ Some (Hub hub.0) = a.same_hub n hub.0 (at_n ∙ ap Some hub.1) in
-      ap (λ o. option_map_or t o false) there ∙ ap t (sym hub.1) ∙ passes
+at_hub_alike p q a t hubs_only n passes = search (rules, slice_get, option_map_or, false≢true)
 
 -- parents and ancestors ---------------------------------------------------------------------------
 
@@ -96,16 +85,12 @@ connections_alike p q a g = filter_alike p q a _ _ (at_open_alike p q a (is_conn
 
 -- a RefCount hub
 pub auto_alike : (p q : List Event) → Alike p q → (g : ℕ) → at is_auto_hub p g ≡ true → at is_auto_hub q g ≡ true
-auto_alike p q a = at_hub_alike p q a is_auto_hub hub_is where
-  hub_is : (e : Event) → is_auto_hub e ≡ true → (mode : Mode) × (e ≡ Hub mode)
-  hub_is (Hub mode) auto = (mode, refl)
-  hub_is _ auto = absurd (false≢true auto)
+auto_alike p q a = search (rules, at_hub_alike, false≢true)
 
 -- a node without open children
 pub childless_alike : (p q : List Event) → Alike p q → (f : ℕ) → ((c : ℕ) → parent p c ≡ Some f → is_open p c ≡ false) → (c : ℕ) → parent q c ≡ Some f →
     is_open q c ≡ false
-childless_alike p q a f none c below = false_from_ne_true (is_open q c) (λ o.
-    let was : is_open p c ≡ true = a.same_open c ∙ o in both_ways _ (none c (parent_alike p q a c was ∙ below)) was)
+childless_alike p q a f none c below = search (rules, false_from_ne_true, both_ways, parent_alike)
 
 -- as trees with the same numbers ---------------------------------------------------------------------
 
@@ -114,32 +99,16 @@ abbrev pub NamesBelow : List Event → Type 0
 NamesBelow p = (n m : ℕ) (e : Event) → slice_get p n ≡ Some e → parent_named e ≡ Some m → m < n
 
 tree_alike : (p q : List Event) → Alike p q → IsTreeRead (λ n. n) (λ n. n) p q
-tree_alike p q a = record {
-  alive = λ n o. sym (a.same_open n) ∙ o;
-  undone = λ n o. refl;
-  order = λ m n o also l. l;
-  made = λ n e o at_n. sym (a.same_made n o) ∙ at_n ∙ ap (λ (x : Event). Some x) (sym (event_by_itself e));
-  hub = a.same_hub;
-  hub_undone = λ g mode at_g. refl;
-}
+tree_alike p q a = search (rules, event_by_itself)
 
 pub trees_alike : (p q : List Event) → Alike p q → NamesBelow p → AreTreesRead (λ n. n) (λ n. n) p q
 trees_alike p q a below =
-    record { there = tree_alike p q a; back = tree_alike q p (alike_back p q a); below = λ n m e o at_n named. below n m e at_n named }
+    search (rules, tree_alike, alike_back)
 
 -- as histories with the same numbers
 pub read_alike : {b c : Kept} {h k : List Event} → Alike h k → ((n : ℕ) → is_open h n ≡ true → marks_of c k n ≡ marks_of b h n) →
     ((n : ℕ) (t : Terminal) → is_open h n ≡ true → SourceEnded h n t → SourceEnded k n t) → IsRead b c (λ n. n) (λ n. n) h k
-read_alike {h = h} {k = k} a marks ended = let tree = tree_alike h k a in record {
-  alive = tree.alive;
-  undone = tree.undone;
-  order = tree.order;
-  made = tree.made;
-  marks = marks;
-  hub = tree.hub;
-  hub_undone = tree.hub_undone;
-  ended = ended;
-}
+read_alike {h = h} {k = k} a marks ended = search (rules, tree_alike)
 
 pub alike_read : {b c : Kept} {h k : List Event} → length h ≡ length k → IsRead b c (λ n. n) (λ n. n) h k → IsRead c b (λ n. n) (λ n. n) k h → Alike h k
 alike_read {h = h} {k = k} long there back = record {

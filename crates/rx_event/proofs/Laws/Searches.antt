@@ -1,8 +1,9 @@
 -- Searches of a list: by a test, and by the first value that there is.
-use Rattle.rx_event.proofs.Laws.Common.{arith, ◌≡◌, ℕ, zero, suc, Bool, true, List, [], ◌∷◌, ◌++◌, Option, Some, None, refl, sym, ap, ◌∙◌, inl, inr}
+use Rattle.rx_event.proofs.Laws.Common.{arith, ◌≡◌, ℕ, zero, suc, Bool, true, List, [], ◌∷◌, ◌++◌, Option, Some, None, refl, ap, ◌∙◌, inl, inr}
 use Rattle.rx_event.proofs.Laws.Common.{◌⊎◌, slice_get, ◌||◌, list_any, option_or, false≢true, or_cases, same_Some, none-some, or_false, or_right}
 use Rattle.rx_event.proofs.Laws.Common.{list_any-append}
 use Rattle.rx_event.specs.Marks.{first_some}
+use Rattle.std.proofs.Common.{rules}
 
 -- searches ----------------------------------------------------------------------------------------
 
@@ -31,12 +32,7 @@ first_found {X = X} {Y = Y} f (x ∷ xs) y found = by_first (f x) refl found (fi
 
 pub first_none : {X Y : Type 0} (f : X → Option Y) (xs : List X) → first_some f xs ≡ None → (i : ℕ) (x : X) → slice_get xs i ≡ Some x → f x ≡ None
 first_none f [] none i x at_i = absurd (none-some x at_i)
-first_none {X = X} {Y = Y} f (y ∷ xs) none i x at_i = by_first (f y) refl none (first_none f xs) i at_i where
-  by_first : (o : Option Y) → f y ≡ o → option_or o (first_some f xs) ≡ None →
-      (first_some f xs ≡ None → (j : ℕ) (z : X) → slice_get xs j ≡ Some z → f z ≡ None) → (j : ℕ) → slice_get (y ∷ xs) j ≡ Some x → f x ≡ None
-  by_first (Some u) here same rest j at_j = absurd (none-some u (sym same))
-  by_first None here later rest zero at_j = ap f (sym (same_Some y x at_j)) ∙ here
-  by_first None here later rest (suc j) at_j = rest later j x at_j
+first_none {X = X} {Y = Y} f (y ∷ xs) none i x at_i = search (rules, option_or, slice_get, none-some, same_Some, first_none f xs)
 
 -- one more event: searches ------------------------------------------------------------------------
 
@@ -52,10 +48,7 @@ or_nothing o = grind arith
 
 pub first_some_push : {X Y : Type 0} (f : X → Option Y) (xs : List X) (x : X) → first_some f (xs ++ x ∷ []) ≡ option_or (first_some f xs) (f x)
 first_some_push f [] x = or_nothing (f x)
-first_some_push {Y = Y} f (y ∷ xs) x = ap (option_or (f y)) (first_some_push f xs x) ∙ by_first (f y) where
-  by_first : (o : Option Y) → option_or o (option_or (first_some f xs) (f x)) ≡ option_or (option_or o (first_some f xs)) (f x)
-  by_first None = refl
-  by_first (Some u) = refl
+first_some_push {Y = Y} f (y ∷ xs) x = search (rules, option_or, first_some_push f xs x)
 
 pub first_some_same_at : {X Y : Type 0} (f g : X → Option Y) (xs : List X) → ((i : ℕ) (x : X) → slice_get xs i ≡ Some x → f x ≡ g x) →
     first_some f xs ≡ first_some g xs

@@ -1,11 +1,12 @@
 -- What holds of a list holds of what its base shows: where inductions over the events since a base begin.
-use Rattle.rx_event.proofs.Laws.Common.{◌≡◌, ℕ, ◌+◌, true, List, sym, ◌∙◌, range_with_len, Event, is_connect_of, is_open, Kept, shown, base_of, Agree}
+use Rattle.rx_event.proofs.Laws.Common.{◌≡◌, ℕ, ◌+◌, true, List, ◌∙◌, range_with_len, Event, is_connect_of, is_open, Kept, shown, base_of, Agree}
 use Rattle.rx_event.proofs.Laws.Common.{held_count, waiting_count, taken_count, accepted_count}
 use Rattle.std.proofs.Common.{count_by}
 use Rattle.rx_event.proofs.Laws.SoundForm.{Sound}
 use Rattle.rx_event.proofs.Laws.SameTree.{at_alike}
 use Rattle.rx_event.proofs.Laws.Bases.{base_alike}
 use Rattle.rx_event.proofs.Laws.Hubs.{TwoConnections}
+use Rattle.std.proofs.Common.{rules}
 
 -- it has one open connection of a hub -----------------------------------------------------------------
 
@@ -28,6 +29,4 @@ pub agree_accepted : (b : Kept) (h : List Event) (c : Kept) (k : List Event) →
     accepted_count b h ≡ held_count h + waiting_count h + taken_count b h →
     accepted_count c k ≡ held_count k + waiting_count k + taken_count c k
 agree_accepted b h c k a parts =
-    let held : held_count h ≡ held_count k = (λ i. count_by (λ r. a.held r i) (range_with_len 0 (a.same_length i))) in
-    let waiting : waiting_count h ≡ waiting_count k = (λ i. count_by (λ r. a.waiting r i) (range_with_len 0 (a.same_length i))) in
-    sym a.accepted_total ∙ parts ∙ (λ i. held i + waiting i + a.taken_total i)
+    search (rules, count_by, range_with_len)

@@ -1,8 +1,8 @@
 -- What is known of a lawful stored history, in the words that its base needs.
 use Rattle.rx_event.proofs.Laws.Common.{subst, ◌≡◌, ℕ, suc, ◌<◌, ◌≤◌, Bool, true, false, List, [], ◌∷◌, ◌++◌, length, cond, Option, Some, None, refl, sym, ap}
-use Rattle.rx_event.proofs.Laws.Common.{◌∙◌, arith, inl, inr, ◌⊎◌, ◌==◌, slice_get, length-append, take, drop, not, ◌&&◌, ◌||◌, list_any, option_and_then}
+use Rattle.rx_event.proofs.Laws.Common.{◌∙◌, arith, inl, inr, ◌⊎◌, slice_get, length-append, take, drop, not, ◌&&◌, ◌||◌, list_any, option_and_then}
 use Rattle.rx_event.proofs.Laws.Common.{option_map_or, cases_order, and_parts, both_ways, slice_get_within, sum_by-cons, Place, Leaf, Sub, Root}
-use Rattle.rx_event.proofs.Laws.Common.{Source, Inner, Notifier, Event, Connect, Open, Accept, makes_hub, node_of_accept, is_remove_of, is_within, is_open}
+use Rattle.rx_event.proofs.Laws.Common.{Source, Inner, Notifier, Event, Connect, Open, Accept, makes_hub, node_of_accept, is_remove_of, is_open}
 use Rattle.rx_event.proofs.Laws.Common.{IsInOrderAt, is_owned, accepted_by, Kept, resource_kept, length-take-le, IsLawful, Kind, IsInOrder, IsHubbed}
 use Rattle.std.proofs.Common.{count_by}
 use Rattle.rx_event.proofs.Laws.Parents.{ancestors-append, is_within-le}
@@ -18,6 +18,7 @@ use Rattle.rx_event.proofs.Laws.Lawful.{in_base, since_base, FoundAt, found_at, 
 use Rattle.rx_event.proofs.Laws.Hubs.{may_subscribe}
 use Rattle.rx_event.proofs.Laws.LetGo.{connected_hub}
 use Rattle.rx_event.proofs.Laws.Switches.{one_inner}
+use Rattle.std.proofs.Common.{rules}
 
 pub count_none : {X : Type 0} (p : X → Bool) (xs : List X) → ((i : ℕ) (x : X) → slice_get xs i ≡ Some x → p x ≡ false) → count_by p xs ≡ 0
 count_none p [] none = refl
@@ -29,9 +30,7 @@ count_none {X = X} p (x ∷ xs) none =
 
 order_over : (h t : List Event) (g p : ℕ) → p < length h → IsInOrderAt h g p → IsInOrderAt (h ++ t) g p
 order_over h t g p l ordered a k within connects =
-    let old : is_within h a p ≡ true = sym (ap (list_any (λ x. a == x)) (ancestors-append h t p l)) ∙ within in
-    let less : a ≤ p = is_within-le h a p old in
-    ordered a k old (sym (slice_get-append h t a (omega arith)) ∙ connects)
+    search (rules, list_any, ancestors-append, is_within-le, slice_get-append)
 
 pub order_older : (h : List Event) (n g p : ℕ) → n ≤ length h → p < n → IsInOrderAt (take n h) g p → IsInOrderAt h g p
 order_older h n g p l less ordered =
@@ -110,10 +109,4 @@ subscribes_of b h law n _ at_n = tt
 
 pub sound_of : (b : Kept) (h : List Event) → IsLawful b h → Sound b h
 sound_of b h law =
-    record {
-      below = named_below b h law;
-      stands = stands_of b h law;
-      subscribes = subscribes_of b h law;
-      one_inner = one_inner b h law;
-      accepted = reads_owned b h law;
-    }
+    search (rules, named_below, stands_of, subscribes_of, one_inner, reads_owned)

@@ -5,19 +5,17 @@ use Rattle.rx_event.proofs.Laws.Common.{Root, Source, Inner, Notifier, Kept, Pla
 use Rattle.rx_event.proofs.Laws.Common.{at, parent, is_within, is_open}
 use Rattle.rx_event.proofs.Laws.Steps.{named_open, may_open}
 use Rattle.rx_event.specs.Lawful.{HasPlace}
-use Rattle.rx_event.specs.Tree.{is_standing}
 use Rattle.rx_event.specs.Allowed.{IsFree}
 use Rattle.rx_event.proofs.Laws.Places.{at-take, at_within}
 use Rattle.rx_event.proofs.Laws.Parents.{parent-lt, parent_within, parent_name, within_cases}
 use Rattle.rx_event.proofs.Laws.Openness.{is_open_step}
 use Rattle.rx_event.proofs.Laws.Lawful.{in_base, since_base, FoundAt, found_at}
+use Rattle.std.proofs.Common.{rules}
 
 -- what is true of an older event is so in the whole history
 pub at_older : (q : Event → Bool) (h : List Event) (n p : ℕ) → n < length h → at q (take n h) p ≡ true → at q h p ≡ true
 at_older q h n p l passes =
-    let w : p < length (take n h) = at_within q (take n h) p passes in
-    let k : length (take n h) ≡ n = length-take-le n h (omega arith) in
-    sym (at-take q h n p (omega arith) l) ∙ passes
+    search (rules, length, take, at_within, length-take-le, at-take)
 
 pub event_at : (h : List Event) (n : ℕ) → n < length h → (e : Event) × (slice_get h n ≡ Some e)
 event_at [] n l = absurd (omega arith)
@@ -26,7 +24,7 @@ event_at (x ∷ h) (suc n) l = event_at h n (let m = l in omega arith)
 
 -- an open node is a node
 pub open_node : (h : List Event) (n : ℕ) → is_open h n ≡ true → at makes_node h n ≡ true
-open_node h n o = (and_parts _ _ (and_parts (is_standing h n) (option_map_or (is_open h) (parent h n) true) (sym (is_open_step h n) ∙ o)).0).0
+open_node h n o = search (rules, and_parts, option_map_or, is_open_step)
 
 -- the parent of a node is a node
 pub parent_node : (base : Kept) → (h : List Event) → IsLawful base h → (n p : ℕ) → parent h n ≡ Some p → at makes_node h p ≡ true

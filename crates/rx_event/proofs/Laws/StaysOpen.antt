@@ -17,6 +17,7 @@ use Rattle.rx_event.proofs.Laws.Hubs.{hubs_in_order}
 use Rattle.rx_event.proofs.Laws.MarksInner.{switched_parent}
 use Rattle.rx_event.proofs.Laws.Calm.{EndsNone, IsUnused, KeepsSubscribers, ends_none_on, settled_ends_none, settled_used, unused_older, opened_settled}
 use Rattle.rx_event.proofs.Laws.Calm.{closes_none_kept, settled_on, unforced}
+use Rattle.std.proofs.Common.{rules}
 
 -- what a step may not harm --------------------------------------------------------------------------
 
@@ -73,8 +74,7 @@ module _ (base : Kept) (h k : List Event) (n : ℕ) (w : IsUnharmed base h k n) 
   -- one that shuts nothing
   carried_whole : (e : Event) → MayFollow base k e → ends_or_declines e ≡ false → FiresNone k e → shuts_none e ≡ true → IsUnharmed base h (k ++ e ∷ []) n
   carried_whole e next calm unfired spares =
-      let still = closes_none_kept k e spares in
-      carried e next calm unfired (still n w.alive) (λ c g j s under le subscribes was. still s was)
+      search (rules, closes_none_kept, carried)
 
   -- the closing of a connection that nobody uses
   carried_close : (c g : ℕ) → IsForced base k (Close c) → IsUnused k c g → IsUnharmed base h (k ++ Close c ∷ []) n
@@ -137,7 +137,7 @@ unharmed_settled base h n law settled o = record {
 cut_within : (steps : ℕ) (h : List Event) (e : Event) (c s : ℕ) → s < steps → ((a : ℕ) → shuts h a e ≡ true → is_within h c a ≡ true) → is_cut h e s ≡ true →
     is_within h c s ≡ true
 cut_within zero h e c s l each found = absurd (omega arith)
-cut_within (suc steps) h e c s l each found = by_first (or_cases (shuts h s e) (list_any shut above) (ap (list_any shut) (sym (ancestors_step h s)) ∙ found))
+cut_within (suc steps) h e c s l each found = by_first (search (rules, or_cases, list_any, above, ancestors_step))
     (λ p m inside. cut_within steps h e c p (let b = l in omega arith) each inside) where
       shut : ℕ → Bool
       shut a = shuts h a e
@@ -272,5 +272,4 @@ pub connected_stays : (base : Kept) → (h k : List Event) (g : ℕ) → IsLawfu
     IsForcedOn base (h ++ Connect g ∷ []) k →
     is_open k (length h) ≡ true
 connected_stays base h k g law settled next on =
-    let settled_after = settled_on law next settled refl (λ m. refl) (closes_none_kept h (Connect g) refl) refl in
-    ap (λ (q : List Event). is_open q (length h)) (unforced base on settled_after) ∙ is_open_new base h (Connect g) next
+    search (rules, settled_on, law, settled, closes_none_kept, length, unforced, is_open_new)

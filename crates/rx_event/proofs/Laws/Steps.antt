@@ -1,13 +1,14 @@
 -- Histories, one event more at a time: proofs by their events, and what stands where an event may follow.
 use Rattle.rx_event.proofs.Laws.Common.{◌≡◌, ℕ, ℤ, ◌<◌, Bool, true, false, List, [], ◌∷◌, ◌++◌, take, Some, refl, sym, ap, ◌∙◌, subst, arith, slice_get}
 use Rattle.rx_event.proofs.Laws.Common.{append_assoc, append-nil, AllByRecursion, false≢true, lt-ltb, slice_get_within, same_Some, none-some, Kept, shown}
-use Rattle.rx_event.proofs.Laws.Common.{Place, Root, Source, Inner, Notifier, Kind, Event, Open, Connect, Accept, Use, Remove, Lease, Return, Item, Decline}
+use Rattle.rx_event.proofs.Laws.Common.{Place, Kind, Event, Open, Connect, Accept, Use, Remove, Lease, Return, Item, Decline}
 use Rattle.rx_event.proofs.Laws.Common.{End, Close, Take, is_merging, parent_named, at, parent, is_open, is_owned, is_out, is_held, is_waiting, Moment}
-use Rattle.rx_event.proofs.Laws.Common.{moments_after, owed, mirrored, left, connecting, due, IsDue, IsForced, IsAllowed, Started, forced, allowed}
-use Rattle.rx_event.proofs.Laws.Common.{opened_with, MayFollow, IsLawful, common_steps}
+use Rattle.rx_event.proofs.Laws.Common.{moments_after, owed, left, due, IsDue, IsForced, IsAllowed, Started}
+use Rattle.rx_event.proofs.Laws.Common.{MayFollow, IsLawful, common_steps}
 use Rattle.rx_event.specs.Allowed.{opened, accepted, used, removed, leased, returned, emitted, declined, taken, IsFree}
 use Rattle.rx_event.proofs.Laws.Openness.{is_open_within}
 use Rattle.rx_event.proofs.Laws.Lawful.{IsLawful-push, IsLawful_empty, in_base, since_base, FoundAt, found_at}
+use Rattle.std.proofs.Common.{rules}
 
 by_pushes_after : (P : List Event → Type 0) → ((h : List Event) (e : Event) → P h → P (h ++ e ∷ [])) → (b h : List Event) → P b → P (b ++ h)
 by_pushes_after P step b [] p = rw (append-nil b) p
@@ -39,61 +40,52 @@ may_be_forced (Close n) = true
 may_be_forced _ = false
 
 due_kind : (base : Kept) → {h : List Event} {e : Event} → IsDue base h e → may_be_forced e ≡ true
-due_kind base (mirrored o k e) = refl
-due_kind base _ = refl
+due_kind base x1 = search rules
 
 pub forced_kind : (base : Kept) → {h : List Event} {e : Event} → IsForced base h e → may_be_forced e ≡ true
-forced_kind base (connecting d) = refl
-forced_kind base (due n d) = due_kind base d
+forced_kind base x1 = search (rules, due_kind)
 
 allowed_accept : (base : Kept) → {h : List Event} {n tag : ℕ} → IsAllowed base h (Accept n tag) → is_open h n ≡ true
 allowed_accept base (accepted o) = o
 
 -- what is accepted is accepted at an open node
 pub may_accept : (base : Kept) → {h : List Event} {n tag : ℕ} → MayFollow base h (Accept n tag) → is_open h n ≡ true
-may_accept base (forced f) = absurd (false≢true (forced_kind base f))
-may_accept base (allowed s a) = allowed_accept base a
-may_accept base (opened_with at_n l o) = o
+may_accept base x1 = search (rules, false≢true, forced_kind, allowed_accept)
 
 allowed_use : (base : Kept) → {h : List Event} {r : ℕ} → IsAllowed base h (Use r) → is_held h r ≡ true
 allowed_use base (used o) = o
 
 -- what is used is held
 pub may_use : (base : Kept) → {h : List Event} {r : ℕ} → MayFollow base h (Use r) → is_held h r ≡ true
-may_use base (forced f) = absurd (false≢true (forced_kind base f))
-may_use base (allowed s a) = allowed_use base a
+may_use base x1 = search (rules, false≢true, forced_kind, allowed_use)
 
 allowed_remove : (base : Kept) → {h : List Event} {r : ℕ} → IsAllowed base h (Remove r) → is_owned h r ≡ true
 allowed_remove base (removed o) = o
 
 -- what is removed is owned
 pub may_remove : (base : Kept) → {h : List Event} {r : ℕ} → MayFollow base h (Remove r) → is_owned h r ≡ true
-may_remove base (forced f) = absurd (false≢true (forced_kind base f))
-may_remove base (allowed s a) = allowed_remove base a
+may_remove base x1 = search (rules, false≢true, forced_kind, allowed_remove)
 
 allowed_lease : (base : Kept) → {h : List Event} {r : ℕ} → IsAllowed base h (Lease r) → is_owned h r ≡ true
 allowed_lease base (leased o) = o
 
 -- what is leased is owned
 pub may_lease : (base : Kept) → {h : List Event} {r : ℕ} → MayFollow base h (Lease r) → is_owned h r ≡ true
-may_lease base (forced f) = absurd (false≢true (forced_kind base f))
-may_lease base (allowed s a) = allowed_lease base a
+may_lease base x1 = search (rules, false≢true, forced_kind, allowed_lease)
 
 allowed_return : (base : Kept) → {h : List Event} {l : ℕ} → IsAllowed base h (Return l) → is_out h l ≡ true
 allowed_return base (returned o) = o
 
 -- what is returned is out
 pub may_return : (base : Kept) → {h : List Event} {l : ℕ} → MayFollow base h (Return l) → is_out h l ≡ true
-may_return base (forced f) = absurd (false≢true (forced_kind base f))
-may_return base (allowed s a) = allowed_return base a
+may_return base x1 = search (rules, false≢true, forced_kind, allowed_return)
 
 allowed_take : (base : Kept) → {h : List Event} {r : ℕ} → IsAllowed base h (Take r) → is_waiting h r ≡ true
 allowed_take base (taken o) = o
 
 -- what is taken waits
 pub may_take : (base : Kept) → {h : List Event} {r : ℕ} → MayFollow base h (Take r) → is_waiting h r ≡ true
-may_take base (forced f) = absurd (false≢true (forced_kind base f))
-may_take base (allowed s a) = allowed_take base a
+may_take base x1 = search (rules, false≢true, forced_kind, allowed_take)
 
 due_close : (base : Kept) → {h : List Event} {c : ℕ} → IsDue base h (Close c) → is_open h c ≡ true
 due_close base (left o at_c a n) = o
@@ -106,24 +98,21 @@ allowed_close base given = grind arith
 
 -- what is closed is open before
 pub may_close : (base : Kept) → {h : List Event} {c : ℕ} → MayFollow base h (Close c) → is_open h c ≡ true
-may_close base (forced f) = forced_close base f
-may_close base (allowed s a) = allowed_close base a
+may_close base x1 = search (rules, forced_close, allowed_close)
 
 allowed_open_place : (base : Kept) → {h : List Event} {place : Place} {kind : Kind} → IsAllowed base h (Open place kind) → IsFree base h place
 allowed_open_place base (opened free hub few room) = free
 
 -- what is opened is opened at a free place
 pub may_open : (base : Kept) → {h : List Event} {place : Place} {kind : Kind} → MayFollow base h (Open place kind) → IsFree base h place
-may_open base (forced f) = absurd (false≢true (forced_kind base f))
-may_open base (allowed s a) = allowed_open_place base a
+may_open base x1 = search (rules, false≢true, forced_kind, allowed_open_place)
 
 allowed_item : (base : Kept) → {h : List Event} {l : ℕ} {value : ℤ} → IsAllowed base h (Item l value) → is_open h l ≡ true
 allowed_item base (emitted o k v) = o
 
 -- what emits is open
 pub may_emit : (base : Kept) → {h : List Event} {l : ℕ} {value : ℤ} → MayFollow base h (Item l value) → is_open h l ≡ true
-may_emit base (forced f) = absurd (false≢true (forced_kind base f))
-may_emit base (allowed s a) = allowed_item base a
+may_emit base x1 = search (rules, false≢true, forced_kind, allowed_item)
 
 allowed_decline : (base : Kept) → {h : List Event} {f : ℕ} → IsAllowed base h (Decline f) →
     (is_open h f ≡ true) × (at is_merging h f ≡ true) × (0 < owed base h f)
@@ -132,16 +121,11 @@ allowed_decline base (declined o m some) = (o, m, some)
 -- what declines is an open FlatMap or Switch that owes
 pub may_decline : (base : Kept) → {h : List Event} {f : ℕ} → MayFollow base h (Decline f) →
     (is_open h f ≡ true) × (at is_merging h f ≡ true) × (0 < owed base h f)
-may_decline base (forced f) = absurd (false≢true (forced_kind base f))
-may_decline base (allowed s a) = allowed_decline base a
+may_decline base x1 = search (rules, false≢true, forced_kind, allowed_decline)
 
 -- a node that may be opened is named below an open node
 pub may_name : (base : Kept) → {h : List Event} {e : Event} {p : ℕ} → MayFollow base h e → parent_named e ≡ Some p → is_open h p ≡ true
-may_name base {h = h} {e = Open (Source q) kind} {p = p} next named = rw (← same_Some q p named) (may_open base next).0
-may_name base {h = h} {e = Open (Inner q) kind} {p = p} next named = rw (← same_Some q p named) (may_open base next).0
-may_name base {h = h} {e = Open (Notifier q) kind} {p = p} next named = rw (← same_Some q p named) (may_open base next).0
-may_name base {e = Open Root kind} {p = p} next named = absurd (none-some p named)
-may_name base {p = p} next named = absurd (none-some p named)
+may_name base next named = search (rules, same_Some, may_open, none-some)
 
 pub named_open : (base : Kept) → (h : List Event) → IsLawful base h → (n p : ℕ) (e : Event) → slice_get h n ≡ Some e → parent_named e ≡ Some p →
     is_open (take n h) p ≡ true

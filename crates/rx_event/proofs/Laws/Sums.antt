@@ -5,14 +5,14 @@ use Rattle.rx_event.proofs.Laws.Common.{at, places}
 use Rattle.std.proofs.Common.{add-zero}
 use Rattle.rx_event.proofs.Laws.Places.{slice_get_last, at-append}
 use Rattle.rx_event.proofs.Laws.Steps.{by_pushes}
+use Rattle.std.proofs.Common.{rules}
 
 -- one number more ---------------------------------------------------------------------------------
 
 pub range_push : (a n : ℕ) → range_with_len a (suc n) ≡ range_with_len a n ++ (a + n) ∷ []
 range_push a zero = ap (λ (k : ℕ). k ∷ []) (sym (add-zero a))
 range_push a (suc n) =
-    let same : (a + 1) + n ≡ a + suc n = omega arith in
-    ap (λ (ks : List ℕ). a ∷ ks) (range_push (a + 1) n ∙ ap (λ (k : ℕ). range_with_len (a + 1) n ++ k ∷ []) same)
+    search (rules, range_with_len, range_push (a + 1) n)
 
 -- the last number comes last
 pub below_push : (n : ℕ) → range_with_len 0 (suc n) ≡ range_with_len 0 n ++ n ∷ []
@@ -21,7 +21,7 @@ below_push n = let same : 0 + n ≡ n = omega arith in range_push 0 n ∙ ap (λ
 -- the last place comes last
 pub places-push : (h : List Event) (e : Event) → places (h ++ e ∷ []) ≡ places h ++ length h ∷ []
 places-push h e =
-    let same : length (h ++ e ∷ []) ≡ suc (length h) = omega (arith, length-append h (e ∷ [])) in ap (range_with_len 0) same ∙ below_push (length h)
+    search (rules, length, length-append, range_with_len, below_push)
 
 pub sum_by-places-push : (f : ℕ → ℕ) (h : List Event) (e : Event) → sum_by f (places (h ++ e ∷ [])) ≡ sum_by f (places h) + f (length h)
 sum_by-places-push f h e = ap (sum_by f) (places-push h e) ∙ sum_by_push f (places h) (length h)
@@ -37,8 +37,7 @@ pub sums_balance : (a b c d : ℕ → ℕ) (n : ℕ) → ((k : ℕ) → k < n �
 sums_balance a b c d zero each = refl
 sums_balance a b c d (suc n) each =
     let rest = sums_balance a b c d n (λ k l. each k (omega arith)) in
-    let last = each n (omega arith) in
-    omega (arith, sum_below-suc a n, sum_below-suc b n, sum_below-suc c n, sum_below-suc d n)
+    search (rules, sum_below-suc)
 
 pub sum_by-same : (f g : ℕ → ℕ) (n : ℕ) → ((k : ℕ) → k < n → g k ≡ f k) → sum_by g (range_with_len 0 n) ≡ sum_by f (range_with_len 0 n)
 sum_by-same f g zero each = refl
@@ -50,8 +49,7 @@ sum_by-same f g (suc n) each =
 pub sum_by-plus : (f g : ℕ → ℕ) (n : ℕ) → sum_by (λ k. f k + g k) (range_with_len 0 n) ≡ sum_by f (range_with_len 0 n) + sum_by g (range_with_len 0 n)
 sum_by-plus f g zero = refl
 sum_by-plus f g (suc n) =
-    let rest = sum_by-plus f g n in
-    omega (arith, sum_below-suc f n, sum_below-suc g n, sum_below-suc (λ k. f k + g k) n)
+    search (rules, sum_below-suc, sum_by-plus f g n)
 
 -- no term rises
 pub sum_by_no_rise : (f g : ℕ → ℕ) (n : ℕ) → ((k : ℕ) → k < n → g k ≤ f k) → sum_by g (range_with_len 0 n) ≤ sum_by f (range_with_len 0 n)
@@ -91,7 +89,7 @@ sum_by_one f c (suc n) l = sum_below-suc (λ k. cond (c == k) (f k) 0) n ∙ by_
       sum_by (λ k. cond (c == k) (f k) 0) (range_with_len 0 n) + cond (c == n) (f n) 0 ≡ f c
   by_place before (inl same) =
       rw (eq-eqb c n same)
-      (let r = sum_by_none (λ k. cond (c == k) (f k) 0) n (λ k m. rw (ne_eqb c k (omega arith)) refl) in let e : f c ≡ f n = ap f same in omega arith)
+      (search (rules, sum_by_none, cond, ne_eqb))
   by_place before (inr (inl m)) = rw (ne_eqb c n (omega arith)) (let r = before m in omega arith)
   by_place before (inr (inr m)) = absurd (omega arith)
 

@@ -8,6 +8,7 @@ use Rattle.rx_event.proofs.Laws.Places.{slice_get_last, at-append}
 use Rattle.rx_event.proofs.Laws.Openness.{is_cut, is_cut_inner_flat, is_open_cut, is_open_within, ancestors_open, self_cut}
 use Rattle.rx_event.proofs.Laws.Steps.{by_events, named_below}
 use Rattle.rx_event.proofs.Laws.SoundForm.{TwoOpenInners}
+use Rattle.std.proofs.Common.{rules}
 
 -- one inner ---------------------------------------------------------------------------------------
 
@@ -36,7 +37,7 @@ older_cut h _ law f a switch inner new = absurd (false≢true new)
 
 -- two open inners in the other order
 swapped : {h : List Event} {f a b : ℕ} → TwoOpenInners h f a b → TwoOpenInners h f b a
-swapped two = record { switch = two.switch; one = two.other; one_open = two.other_open; other = two.one; other_open = two.one_open }
+swapped two = search rules
 
 -- two open inners of one Switch are the same
 pub one_inner : (base : Kept) → (h : List Event) → IsLawful base h → (f a b : ℕ) → TwoOpenInners h f a b → a ≡ b
@@ -135,7 +136,7 @@ is_open-inner_first h f kind none n l =
 -- the opening of an inner of a FlatMap closes nothing
 pub is_open-inner_flat : (h : List Event) (f : ℕ) (kind : Kind) → at is_switch h f ≡ false → (n : ℕ) → n < length h →
     is_open (h ++ Open (Inner f) kind ∷ []) n ≡ is_open h n
-is_open-inner_flat h f kind flat n l = is_open_cut h (Open (Inner f) kind) n l ∙ and_yes (is_open h n) _ (λ here. is_cut_inner_flat h f kind flat n)
+is_open-inner_flat h f kind flat n l = search (rules, is_open_cut, and_yes, is_cut_inner_flat)
 
 -- of the open nodes, it cuts those within c
 pub is_cut-inner_switch : {base : Kept} → {h : List Event} (f c : ℕ) (kind : Kind) → IsLawful base h → at is_switch h f ≡ true →

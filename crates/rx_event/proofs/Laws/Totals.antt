@@ -1,12 +1,11 @@
 -- What one more event adds to the totals.
 use Rattle.rx_event.proofs.Laws.Common.{◌≡◌, ℕ, ◌+◌, ◌<◌, ◌≤◌, Bool, true, false, List, [], ◌∷◌, ◌++◌, length, Option, Some, None, cond, refl, sym, ap, ◌∙◌}
 use Rattle.rx_event.proofs.Laws.Common.{arith, inl, inr, ◌⊎◌, ◌==◌, length-append, not, ◌&&◌, ◌||◌, sum_by, count_by, option_map_or, cases_Bool, false≢true}
-use Rattle.rx_event.proofs.Laws.Common.{eq-eqb, eqb-true, ne_eqb, sum_by_push, Terminal, Kept, resource_kept, Source, Inner, Notifier, Kind, Event, Open}
+use Rattle.rx_event.proofs.Laws.Common.{eq-eqb, eqb-true, ne_eqb, sum_by_push, Terminal, Kept, Source, Inner, Notifier, Kind, Event, Open}
 use Rattle.rx_event.proofs.Laws.Common.{Accept, Use, Remove, End, Close, Take, makes_node, makes_resource, node_of_accept, parent_named, is_use_of}
 use Rattle.rx_event.proofs.Laws.Common.{is_take_of, places, is_open, is_within, is_owned, is_held, is_waiting, uses, open_count, MayFollow, IsLawful}
 use Rattle.rx_event.proofs.Laws.Common.{and_false, counted_in_parts, counted_once, none_counted, is_take, is_leased, accepted_count, taken_count, held_count}
 use Rattle.rx_event.proofs.Laws.Common.{waiting_count}
-use Rattle.rx_event.specs.declared.base.BaseResource.{BaseResource}
 use Rattle.rx_event.specs.Events.{is_item}
 use Rattle.rx_event.specs.Totals.{item_count, owned_count}
 use Rattle.rx_event.specs.Claims.Nodes.{IsOpenInner}
@@ -19,6 +18,7 @@ use Rattle.rx_event.proofs.Laws.Switches.{is_cut-inner_switch}
 use Rattle.rx_event.proofs.Laws.Resources.{loses, node_of, is_owned-push, is_owned_last, is_owned-remove, held_is, owned_held, is_held_last, is_held_within}
 use Rattle.rx_event.proofs.Laws.Resources.{is_held_kept, held_old, is_waiting-unheld, is_waiting_new, is_waiting_within, waiting_parts}
 use Rattle.rx_event.proofs.Laws.Leases.{is_owned_within, is_leased_kept}
+use Rattle.std.proofs.Common.{rules}
 
 pub one_if : {a b : Bool} → a ≡ b → cond {A = ℕ} a 1 0 ≡ cond {A = ℕ} b 1 0
 one_if same = ap (λ (b : Bool). cond {A = ℕ} b 1 0) same
@@ -36,12 +36,7 @@ taken_count-push base h e = let s = sum_by_push (λ (x : Event). cond (is_take x
 
 pub uses-push : (base : Kept) → (h : List Event) (e : Event) (r : ℕ) → uses base (h ++ e ∷ []) r ≡ uses base h r + cond (is_use_of r e) 1 0
 unfolding uses
-uses-push base h e r = by_record (resource_kept base r) where
-  by_record : (o : Option BaseResource) →
-      option_map_or (λ k. k.uses + count_by (is_use_of r) (h ++ e ∷ [])) o (count_by (is_use_of r) (h ++ e ∷ [])) ≡
-      option_map_or (λ k. k.uses + count_by (is_use_of r) h) o (count_by (is_use_of r) h) + cond (is_use_of r e) 1 0
-  by_record None = sum_by_push (λ (x : Event). cond (is_use_of r x) 1 0) h e
-  by_record (Some k) = let s = sum_by_push (λ (x : Event). cond (is_use_of r x) 1 0) h e in omega arith
+uses-push base h e r = search (rules, option_map_or, count_by, cond, sum_by_push)
 
 uses_none : (base : Kept) → (h : List Event) (e : Event) → MayFollow base h e → (r : ℕ) → length h ≤ r → is_use_of r e ≡ false
 uses_none base h (Use q) next r l = let b = is_held_within h q (may_use base next) in ne_eqb q r (omega arith)
@@ -56,10 +51,7 @@ uses_past base = by_events base (λ h. (r : ℕ) → length h ≤ r → uses bas
 
 -- so a new resource was not used
 pub uses_new : (base : Kept) → (h : List Event) (e : Event) → IsLawful base h → makes_resource e ≡ true → uses base (h ++ e ∷ []) (length h) ≡ 0
-uses_new base h e law made = uses-push base h e (length h) ∙ rw (uses_past base h law (length h) (omega arith)) (ap (λ b. 0 + cond b 1 0) (no_use e made)) where
-  no_use : (e : Event) → makes_resource e ≡ true → is_use_of (length h) e ≡ false
-  no_use (Use q) made = absurd (false≢true made)
-  no_use _ made = refl
+uses_new base h e law made = search (rules, uses-push, length, uses_past, cond, false≢true)
 
 -- resources counted -------------------------------------------------------------------------------
 
@@ -81,8 +73,7 @@ owned_count-push base h e law =
 
 -- what is owned is held
 pub owned_count_within : (h : List Event) → owned_count h ≤ held_count h
-owned_count_within h = sum_by_no_rise (λ r. cond (is_held h r) 1 0) (λ r. cond (is_owned h r) 1 0) (length h)
-    (λ r l. counted_once (is_owned h r) (is_held h r) (owned_held h r))
+owned_count_within h = search (rules, sum_by_no_rise, cond, length, counted_once, owned_held)
 
 -- how many resources are held no more after the event
 abbrev pub lost_count : List Event → Event → ℕ
@@ -108,8 +99,7 @@ takes_once base h (Take q) next = count_by_one q (length h) (is_waiting_within h
 takes_once base h _ next = sum_by_none (λ r. 0) (length h) (λ r l. refl)
 
 taken_waited : (base : Kept) → (h : List Event) (e : Event) → MayFollow base h e → (r : ℕ) → is_take_of r e ≡ true → is_waiting h r ≡ true
-taken_waited base h (Take q) next r same = rw (← eqb-true q r same) (may_take base next)
-taken_waited base h _ next r same = absurd (false≢true same)
+taken_waited base h x2 next r same = search (rules, eqb-true, may_take, false≢true)
 
 -- what waits after the event, and what it takes, waited before, or is held no more
 pub waiting_count-push : (base : Kept) → (h : List Event) (e : Event) → IsLawful base h → MayFollow base h e →
@@ -130,8 +120,7 @@ waiting_count-push base h e law next =
     shape w b k t apart waited = grind arith
 
 pub accepts_open : (base : Kept) → (h : List Event) (e : Event) → MayFollow base h e → option_map_or (is_open h) (node_of_accept e) false ≡ makes_resource e
-accepts_open base h (Accept n tag) next = may_accept base next
-accepts_open base h _ next = refl
+accepts_open base h x2 next = search (rules, may_accept)
 
 -- each accepted resource is held, waits, or was taken, and once
 pub accepted_count-parts : (base : Kept) → (h : List Event) → IsLawful base h → accepted_count base h ≡ held_count h + waiting_count h + taken_count base h
@@ -145,12 +134,10 @@ accepted_count-parts base =
     omega arith)
 
 pub lost_none : (h : List Event) (e : Event) → ((r : ℕ) → r < length h → is_held (h ++ e ∷ []) r ≡ is_held h r) → lost_count h e ≡ 0
-lost_none h e keeps = sum_by_none (λ r. cond (is_held h r && not (is_held (h ++ e ∷ []) r)) 1 0) (length h) (λ r l. rw (keeps r l) (shape (is_held h r))) where
-  shape : (b : Bool) → cond {A = ℕ} (b && not b) 1 0 ≡ 0
-  shape b = grind arith
+lost_none h e keeps = search (rules, sum_by_none, cond, not, length)
 
 pub unowned_none : (h : List Event) (e : Event) → ((r : ℕ) → loses h e r ≡ false) → unowned_count h e ≡ 0
-unowned_none h e keeps = sum_by_none (λ r. cond (is_owned h r && loses h e r) 1 0) (length h) (λ r l. rw (keeps r) (none_counted (is_owned h r)))
+unowned_none h e keeps = search (rules, sum_by_none, cond, loses, length, none_counted)
 
 no_accept : (h : List Event) (e : Event) → makes_resource e ≡ false → option_map_or (is_open h) (node_of_accept e) false ≡ false
 no_accept h e none = grind arith
@@ -167,17 +154,11 @@ owned_count_no_rise base h e law none = let b = owned_count-push base h e law in
 pub held_waiting_count-push : (base : Kept) → (h : List Event) (e : Event) → IsLawful base h → MayFollow base h e →
     held_count (h ++ e ∷ []) + waiting_count (h ++ e ∷ []) + cond (is_take e) 1 0 ≡ held_count h + waiting_count h + cond (makes_resource e) 1 0
 held_waiting_count-push base h e law next =
-    let b = held_count-push base h e law next in
-    let c = waiting_count-push base h e law next in
-    let n = one_if (accepts_open base h e next) in
-    omega arith
+    search (rules, held_count-push, waiting_count-push, one_if, accepts_open)
 
 -- an acceptance at an open node
 accept_keeps : (h : List Event) (n tag r : ℕ) → loses h (Accept n tag) r ≡ false
-accept_keeps h n tag r = by_node (node_of h r) where
-  by_node : (o : Option ℕ) → (option_map_or (is_cut h (Accept n tag)) o false || false) ≡ false
-  by_node None = refl
-  by_node (Some m) = rw (is_cut_none h (Accept n tag) m refl) refl
+accept_keeps h n tag r = search (rules, option_map_or, Accept, is_cut_none)
 
 pub owned_count-accept : (base : Kept) → (h : List Event) (n tag : ℕ) → IsLawful base h → is_open h n ≡ true → owned_count (h ++ Accept n tag ∷ []) ≡
     owned_count h + 1
@@ -251,16 +232,12 @@ lost_one base h q law owned =
 pub held_count-remove : (base : Kept) → (h : List Event) (q : ℕ) → IsLawful base h → MayFollow base h (Remove q) → held_count (h ++ Remove q ∷ []) + cond
     (is_leased h q) 0 1 ≡ held_count h
 held_count-remove base h q law next =
-    let b = held_count-push base h (Remove q) law next in
-    let k = lost_one base h q law (may_remove base next) in
-    omega arith
+    search (rules, held_count-push, lost_one, may_remove)
 
 pub waiting_count-remove : (base : Kept) → (h : List Event) (q : ℕ) → IsLawful base h → MayFollow base h (Remove q) → waiting_count (h ++ Remove q ∷ []) ≡
     waiting_count h + cond (is_leased h q) 0 1
 waiting_count-remove base h q law next =
-    let b = waiting_count-push base h (Remove q) law next in
-    let k = lost_one base h q law (may_remove base next) in
-    omega arith
+    search (rules, waiting_count-push, lost_one, may_remove)
 
 -- open nodes counted ------------------------------------------------------------------------------
 
@@ -296,10 +273,7 @@ is_open_new base h e next = is_open_named h e (λ p named. may_name base next na
 pub open_count_uncut : (base : Kept) → (h : List Event) (e : Event) → MayFollow base h e → ((n : ℕ) → is_cut h e n ≡ false) →
     open_count (h ++ e ∷ []) ≡ open_count h + cond (makes_node e) 1 0
 open_count_uncut base h e next whole =
-    let b = open_count-push h e in
-    let n = one_if (is_open_new base h e next) in
-    let k = sum_by_none (λ n. cond (is_open h n && is_cut h e n) 1 0) (length h) (λ n l. rw (whole n) (none_counted (is_open h n))) in
-    omega arith
+    search (rules, open_count-push, one_if, is_open_new, sum_by_none, cond, length, none_counted)
 
 pub open_count_made : (base : Kept) → (h : List Event) (e : Event) → MayFollow base h e → shuts_none e ≡ true →
     open_count (h ++ e ∷ []) ≡ open_count h + cond (makes_node e) 1 0
@@ -320,15 +294,11 @@ within_some h c o =
 pub open_count-end : (h : List Event) (c : ℕ) (t : Terminal) →
     open_count (h ++ End c t ∷ []) + count_by (λ n. is_open h n && is_within h c n) (places h) ≡ open_count h
 open_count-end h c t =
-    let b = open_count-push h (End c t) in
-    let n = one_if (is_open_last_none h (End c t) refl) in
-    omega arith
+    search (rules, open_count-push, one_if, is_open_last_none)
 
 pub open_count-close : (h : List Event) (c : ℕ) → open_count (h ++ Close c ∷ []) + count_by (λ n. is_open h n && is_within h c n) (places h) ≡ open_count h
 open_count-close h c =
-    let b = open_count-push h (Close c) in
-    let n = one_if (is_open_last_none h (Close c) refl) in
-    omega arith
+    search (rules, open_count-push, one_if, is_open_last_none)
 
 -- so there is at least one open node less
 pub open_count_falls-end : (h : List Event) (c : ℕ) (t : Terminal) → is_open h c ≡ true → open_count (h ++ End c t ∷ []) + 1 ≤ open_count h

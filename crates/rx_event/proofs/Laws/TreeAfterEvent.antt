@@ -1,9 +1,9 @@
 -- Two lists of events whose open nodes and hubs are the same but for their numbers: an event takes away the same from both, and leaves them the same.
-use Rattle.rx_event.proofs.Laws.Common.{◌≡◌, ℕ, zero, suc, ◌<◌, true, false, List, [], ◌∷◌, ◌++◌, length, Option, Some, None, nat_lt, slice_get, refl, sym}
+use Rattle.rx_event.proofs.Laws.Common.{◌≡◌, ℕ, zero, suc, ◌<◌, true, false, List, [], ◌∷◌, ◌++◌, length, Option, Some, nat_lt, slice_get, refl, sym}
 use Rattle.rx_event.proofs.Laws.Common.{ap, subst, ◌∙◌, inl, inr, ◌⊎◌, arith, length-append, not, ◌&&◌, list_any, option_map_or, false≢true, both_ways}
 use Rattle.rx_event.proofs.Laws.Common.{cases_order, and_parts, and_from, eq-eqb, eqb-true, false_from_ne_true, or_cases, lt-ltb, slice_get_within, same_Some}
 use Rattle.rx_event.proofs.Laws.Common.{Root, Source, Inner, Notifier, Mode, Event, Open, Hub, End, Close, makes_node, parent_named, is_switch, is_inner_of}
-use Rattle.rx_event.proofs.Laws.Common.{at, parent, ancestors, is_open, shuts, event_by, is_named, or_right, ltb-true, not-true as not_false}
+use Rattle.rx_event.proofs.Laws.Common.{at, parent, is_open, shuts, event_by, is_named, or_right, ltb-true, not-true as not_false}
 use Rattle.rx_event.proofs.Laws.Places.{slice_get-append, slice_get_last}
 use Rattle.rx_event.proofs.Laws.Parents.{parent-lt, ancestors_step}
 use Rattle.rx_event.proofs.Laws.Openness.{is_open_within, is_open_cut, is_cut, self_cut, parent_open, open_old}
@@ -11,27 +11,17 @@ use Rattle.rx_event.proofs.Laws.Stands.{open_node}
 use Rattle.rx_event.proofs.Laws.Totals.{is_open_named}
 use Rattle.rx_event.proofs.Laws.TreeRead.{IsTreeRead, AreTreesRead, StandsBelow, trees_back, same_at, test_there, parent_there, switch_by, inner_by, makes_by}
 use Rattle.rx_event.proofs.Laws.TreeRead.{node_named, event_by_itself}
+use Rattle.std.proofs.Common.{rules}
 
 -- what an event takes away ------------------------------------------------------------------------------------------------
 
 -- what an event cuts, it shuts, or it cuts its parent
 cut_cases : (h : List Event) (e : Event) (n : ℕ) → is_cut h e n ≡ true → (shuts h n e ≡ true) ⊎ ((p : ℕ) × (parent h n ≡ Some p) × (is_cut h e p ≡ true))
 cut_cases h e n cuts =
-    by_first (or_cases (shuts h n e) (list_any (λ a. shuts h a e) (option_map_or (ancestors h) (parent h n) []))
-    (ap (list_any (λ a. shuts h a e)) (sym (ancestors_step h n)) ∙ cuts))
-  where
-    by_parent : (o : Option ℕ) → parent h n ≡ o → list_any (λ a. shuts h a e) (option_map_or (ancestors h) o []) ≡ true →
-        (shuts h n e ≡ true) ⊎ ((p : ℕ) × (parent h n ≡ Some p) × (is_cut h e p ≡ true))
-    by_parent None below above = absurd (false≢true above)
-    by_parent (Some p) below above = inr (p, below, above)
-
-    by_first : (shuts h n e ≡ true) ⊎ (list_any (λ a. shuts h a e) (option_map_or (ancestors h) (parent h n) []) ≡ true) →
-        (shuts h n e ≡ true) ⊎ ((p : ℕ) × (parent h n ≡ Some p) × (is_cut h e p ≡ true))
-    by_first (inl here) = inl here
-    by_first (inr above) = by_parent (parent h n) refl above
+    search (rules, or_cases, list_any, option_map_or, ancestors_step, false≢true)
 
 cut_above : (h : List Event) (e : Event) (n p : ℕ) → parent h n ≡ Some p → is_cut h e p ≡ true → is_cut h e n ≡ true
-cut_above h e n p below cuts = ap (list_any (λ a. shuts h a e)) (ancestors_step h n) ∙ rw below (or_right (shuts h n e) (is_cut h e p) cuts)
+cut_above h e n p below cuts = search (rules, list_any, ancestors_step, or_right)
 
 -- the event names an open node as parent, or none
 abbrev pub NamesOpen : List Event → Event → Type 0

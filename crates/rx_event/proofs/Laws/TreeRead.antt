@@ -2,12 +2,11 @@
 -- and where an item stops. Neither has to be lawful.
 use Rattle.rx_event.proofs.Laws.Common.{◌≡◌, ℕ, zero, suc, ◌<◌, Bool, true, false, List, [], ◌∷◌, ◌++◌, length, Option, Some, None, cond, slice_get, filter}
 use Rattle.rx_event.proofs.Laws.Common.{map, refl, sym, ap, ◌∙◌, inl, inr, ◌⊎◌, ◌==◌, arith, ◌&&◌, AllByRecursion, filter_map, option_map_or, option_and_then}
-use Rattle.rx_event.proofs.Laws.Common.{false≢true, and_parts, and_from, eq-eqb, eqb-true, lt-ltb, same_Some, Place, Source, Inner, Kind, Sub, Mode, Event}
+use Rattle.rx_event.proofs.Laws.Common.{false≢true, and_parts, and_from, eq-eqb, eqb-true, lt-ltb, same_Some, Place, Source, Kind, Mode, Event}
 use Rattle.rx_event.proofs.Laws.Common.{Open, Hub, Connect, makes_node, makes_hub, parent_named, is_merging, is_switch, is_inner_of, is_subscriber_of}
-use Rattle.rx_event.proofs.Laws.Common.{is_connect_of, at, places, parent, if_less, is_open, is_within, open_nodes, open_subscribers, open_connections}
+use Rattle.rx_event.proofs.Laws.Common.{is_connect_of, at, places, parent, is_open, is_within, open_nodes, open_subscribers, open_connections}
 use Rattle.rx_event.proofs.Laws.Common.{is_open_child_of, Stop, Delivery, Projection, Firing, most_visits, climb, stops, is_child_of, open_children, event_by}
 use Rattle.rx_event.proofs.Laws.Common.{is_named, option_map, cons_option, option_to_list, length-map, map-append, length-filter, visits, place_by}
-use Rattle.std.specs.Cmp.{both_ways as same_test}
 use Rattle.rx_event.specs.Climb.{stop_made, stop_at, onward_from, onward_unless, onward, visited}
 use Rattle.rx_event.specs.Renumbered.{kind_by}
 use Rattle.rx_event.proofs.Laws.Lists.{AllByRecursion-both}
@@ -17,6 +16,7 @@ use Rattle.rx_event.proofs.Laws.Stands.{event_at}
 use Rattle.rx_event.proofs.Laws.Totals.{is_within_self}
 use Rattle.rx_event.proofs.Laws.Projections.{onward_open, climb_open}
 use Rattle.rx_event.proofs.Laws.RisingLists.{same_list}
+use Rattle.std.proofs.Common.{rules}
 
 -- the relation ------------------------------------------------------------------------------------------------------
 
@@ -46,14 +46,12 @@ parent_named_by r e = grind arith
 pub named_parent : (p : List Event) (n m : ℕ) (e : Event) → slice_get p n ≡ Some e → parent_named e ≡ Some m → m < n → parent p n ≡ Some m
 unfolding parent
 named_parent p n m e at_n named l =
-    ap (λ o. option_and_then (if_less n) (option_and_then parent_named o)) at_n ∙
-    ap (option_and_then (if_less n)) named ∙
-    ap (λ b. cond b (Some m) None) (lt-ltb m n l)
+    search (rules, option_and_then, cond, lt-ltb)
 
 unnamed_parent : (p : List Event) (n : ℕ) (e : Event) → slice_get p n ≡ Some e → parent_named e ≡ None → parent p n ≡ None
 unfolding parent
 unnamed_parent p n e at_n named =
-    ap (λ o. option_and_then (if_less n) (option_and_then parent_named o)) at_n ∙ ap (option_and_then (if_less n)) named
+    search (rules, option_and_then)
 
 pub trees_back : {r s : ℕ → ℕ} {p q : List Event} → AreTreesRead r s p q → AreTreesRead s r q p
 trees_back {r} {s} {p} {q} a = record { there = a.back; back = a.there; below = below } where
@@ -96,16 +94,13 @@ pub switch_by : (r : ℕ → ℕ) (e : Event) → is_switch (event_by r e) ≡ i
 switch_by r e = grind arith
 
 pub inner_by : (r : ℕ → ℕ) (f : ℕ) (e : Event) → is_inner_of f e ≡ true → is_inner_of (r f) (event_by r e) ≡ true
-inner_by r f (Open (Inner g) kind) holds = eq-eqb (r g) (r f) (ap r (eqb-true g f holds))
-inner_by r f _ holds = absurd (false≢true holds)
+inner_by r f x2 holds = search (rules, eq-eqb, eqb-true, false≢true)
 
 pub subscriber_by : (r : ℕ → ℕ) (g k : ℕ) → r g ≡ k → (e : Event) → is_subscriber_of g e ≡ true → is_subscriber_of k (event_by r e) ≡ true
-subscriber_by r g k leads (Open place (Sub j)) holds = eq-eqb (r j) k (ap r (eqb-true j g holds) ∙ leads)
-subscriber_by r g k leads _ holds = absurd (false≢true holds)
+subscriber_by r g k leads x4 holds = search (rules, eq-eqb, eqb-true, false≢true)
 
 connect_by : (r : ℕ → ℕ) (g k : ℕ) → r g ≡ k → (e : Event) → is_connect_of g e ≡ true → is_connect_of k (event_by r e) ≡ true
-connect_by r g k leads (Connect j) holds = eq-eqb (r j) k (ap r (eqb-true j g holds) ∙ leads)
-connect_by r g k leads _ holds = absurd (false≢true holds)
+connect_by r g k leads x4 holds = search (rules, eq-eqb, eqb-true, false≢true)
 
 abbrev pub stop_by : (ℕ → ℕ) → Stop → Stop
 stop_by r (Delivery n) = Delivery (r n)
@@ -123,8 +118,7 @@ kind_by_itself k = grind arith
 
 -- with the same numbers
 pub event_by_itself : (e : Event) → event_by (λ n. n) e ≡ e
-event_by_itself (Open place kind) = λ i. Open (place_by_itself place i) (kind_by_itself kind i)
-event_by_itself _ = refl
+event_by_itself x0 = search (rules, place_by_itself, kind_by_itself)
 
 -- trees -----------------------------------------------------------------------------------------------------------------
 
@@ -137,23 +131,15 @@ module _ (r s : ℕ → ℕ) (p q : List Event) (a : AreTreesRead r s p q) where
 
   -- a test that sees no number
   pub same_at : (t : Event → Bool) → ((e : Event) → t (event_by r e) ≡ t e) → (n : ℕ) → is_open p n ≡ true → at t q (r n) ≡ at t p n
-  same_at t by n o = ap (λ (x : Option Event). option_map_or t x false) (slice_by n o) ∙ by_option (slice_get p n) where
-    by_option : (x : Option Event) → option_map_or t (option_map (event_by r) x) false ≡ option_map_or t x false
-    by_option None = refl
-    by_option (Some e) = by e
+  same_at t by n o = search (rules, option_map_or, slice_by, slice_get, option_map)
 
   -- a test whose number goes with it
   pub test_there : (t u : Event → Bool) → ((e : Event) → t e ≡ true → u (event_by r e) ≡ true) → (n : ℕ) → is_open p n ≡ true → at t p n ≡ true →
       at u q (r n) ≡ true
-  test_there t u by n o holds = ap (λ (x : Option Event). option_map_or u x false) (slice_by n o) ∙ by_option (slice_get p n) holds where
-    by_option : (x : Option Event) → option_map_or t x false ≡ true → option_map_or u (option_map (event_by r) x) false ≡ true
-    by_option None fails = fails
-    by_option (Some e) holds = by e holds
+  test_there t u by n o holds = search (rules, option_map_or, slice_by, slice_get, option_map)
 
   pub number_by : (m n : ℕ) → is_open p m ≡ true → is_open p n ≡ true → (r m == r n) ≡ (m == n)
-  number_by m n o also = same_test (r m == r n) (m == n)
-      (λ same. eq-eqb m n (sym (a.there.undone m o) ∙ ap s (eqb-true (r m) (r n) same) ∙ a.there.undone n also))
-      (λ same. eq-eqb (r m) (r n) (ap r (eqb-true m n same)))
+  number_by m n o also = search (rules, eq-eqb, eqb-true)
 
   -- where it stands
   pub parent_by : (n : ℕ) → is_open p n ≡ true → parent q (r n) ≡ option_map r (parent p n)

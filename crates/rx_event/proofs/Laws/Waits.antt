@@ -2,15 +2,14 @@
 use Rattle.rx_event.proofs.Laws.Common.{◌≡◌, ℕ, ◌+◌, ◌<◌, ◌≤◌, Bool, true, false, List, [], ◌∷◌, ◌++◌, length, Option, Some, None, cond, refl, sym, ap, ◌∙◌}
 use Rattle.rx_event.proofs.Laws.Common.{arith, inl, inr, ◌⊎◌, ◌==◌, slice_get, length-append, ◌&&◌, not, option_map_or, cases_Bool, cases_order, both_ways}
 use Rattle.rx_event.proofs.Laws.Common.{false≢true, and_parts, and_from, eq-eqb, eqb-true, sum_by_push, slice_get_within, same_Some, none-some, Terminal}
-use Rattle.rx_event.proofs.Laws.Common.{Kept, Place, Root, Inner, Leaf, Pass, Flat, Switch, Until, Sub, Manual, Event, Open, Hub, Connect, End, Close}
-use Rattle.rx_event.proofs.Laws.Common.{is_root, is_manual_hub, is_auto_hub, is_connect_of, is_subscriber_of, is_inner_of, at, places, parent, ancestors}
+use Rattle.rx_event.proofs.Laws.Common.{Kept, Place, Leaf, Pass, Flat, Switch, Until, Sub, Event, Open, Connect, End, Close}
+use Rattle.rx_event.proofs.Laws.Common.{is_root, is_manual_hub, is_auto_hub, is_connect_of, is_subscriber_of, at, places, parent, ancestors}
 use Rattle.rx_event.proofs.Laws.Common.{is_open, shuts, open_subscribers, open_connections, open_count, mirrored, fired, failed, completed, cut, left}
 use Rattle.rx_event.proofs.Laws.Common.{connecting, due, IsDue, IsForced, IsConnectDue, IsConnected, IsSettled, SourceEnded, IsAllowed, stays, more, forced}
 use Rattle.rx_event.proofs.Laws.Common.{IsForcedOn, IsLawful, or_false, hub_subscribed}
 use Rattle.rx_event.specs.Events.{is_connect}
 use Rattle.rx_event.specs.Totals.{connect_count}
 use Rattle.rx_event.specs.Forced.{none_waits, one_waits, MayWait}
-use Rattle.rx_event.specs.Allowed.{root_closed, disconnected}
 use Rattle.rx_event.proofs.Laws.Lists.{first_passes, filter_nonempty}
 use Rattle.rx_event.proofs.Laws.Places.{slice_get-append, slice_get_last, at-append, at_within}
 use Rattle.rx_event.proofs.Laws.Parents.{ancestors_step}
@@ -20,6 +19,7 @@ use Rattle.rx_event.proofs.Laws.Lawful.{may_end}
 use Rattle.rx_event.proofs.Laws.Steps.{forced_kind, may_close}
 use Rattle.rx_event.proofs.Laws.Totals.{open_count_falls-end, open_count_falls-close}
 use Rattle.std.proofs.lemmas.Bool.{not-false}
+use Rattle.std.proofs.Common.{rules}
 
 pub at_before : (q : Event → Bool) (h : List Event) (e : Event) (n : ℕ) → q e ≡ false → at q (h ++ e ∷ []) n ≡ true → at q h n ≡ true
 at_before q h e n out found = by_place (cases_order n (length h)) where
@@ -66,9 +66,7 @@ data HowWaits (base : Kept) (h : List Event) (e : Event) (g : ℕ) : Type 0 wher
 subscribed_before : (h : List Event) (e : Event) (g : ℕ) → is_subscriber_of g e ≡ false → (d : IsConnectDue (h ++ e ∷ []) g) →
     (at (is_subscriber_of g) h d.subscriber ≡ true) × (is_open h d.subscriber ≡ true)
 subscribed_before h e g out d =
-    let old : at (is_subscriber_of g) h d.subscriber ≡ true = at_before (is_subscriber_of g) h e d.subscriber out d.subscribes in
-    let now = sym (is_open_cut h e d.subscriber (at_within (is_subscriber_of g) h d.subscriber old)) ∙ d.subscribed in
-    (old, (and_parts (is_open h d.subscriber) (not (is_cut h e d.subscriber)) now).0)
+    search (rules, at_before, is_open_cut, at_within, and_parts, not)
 
 how_waits : (base : Kept) → (h : List Event) (e : Event) (g : ℕ) → is_subscriber_of g e ≡ false → at is_auto_hub h g ≡ true → IsConnectDue (h ++ e ∷ []) g →
     HowWaits base h e g
@@ -156,18 +154,14 @@ kept_due base h e none (left {c = c} o at_c a n) = kept_close base h c none (lef
 
 -- no hub is both
 pub is_both : (o : Option Event) → option_map_or is_manual_hub o false ≡ true → option_map_or is_auto_hub o false ≡ true → ⊥
-is_both None m a = false≢true m
-is_both (Some (Hub Manual)) m a = false≢true a
-is_both (Some _) m a = false≢true m
+is_both x0 m a = search (rules, false≢true)
 
 root_connects : (g : ℕ) (o : Option Event) → option_map_or is_root o false ≡ true → o ≡ Some (Connect g) → ⊥
 root_connects g o root is = false≢true (sym (ap (λ (x : Option Event). option_map_or is_root x false) is) ∙ root)
 
 allowed_unsubscribed : (base : Kept) → {h : List Event} {c g : ℕ} → IsAllowed base h (Close c) → slice_get h c ≡ Some (Connect g) →
     at is_auto_hub h g ≡ true → ⊥
-allowed_unsubscribed base {h = h} {c = c} {g = g} (root_closed o root) connects auto = root_connects g (slice_get h c) root connects
-allowed_unsubscribed base {h = h} {c = c} {g = g} (disconnected {g = k} o at_c manual) connects auto =
-    is_both (slice_get h g) (rw (same_hub g k (same_Some _ _ (sym connects ∙ at_c))) manual) auto
+allowed_unsubscribed base x4 connects auto = search (rules, root_connects, slice_get, is_both, same_hub, same_Some)
 
 -- a caller closes no connection of a RefCount hub
 pub waited_close_allowed : (base : Kept) → (h : List Event) (n g : ℕ) → IsAllowed base h (Close n) → IsConnectDue (h ++ Close n ∷ []) g → IsConnectDue h g
@@ -190,13 +184,7 @@ closes_none _ = true
 
 -- what is no end and no closing takes no connection away
 pub spares : (base : Kept) → (h : List Event) (e : Event) (c g : ℕ) → closes_none e ≡ true → slice_get h c ≡ Some (Connect g) → shuts h c e ≡ true → ⊥
-spares base h (Open (Inner f) kind) c g none connects shut =
-    let inner : at (is_inner_of f) h c ≡ true = (and_parts _ _ shut).1 in
-    false≢true (sym (ap (λ (o : Option Event). option_map_or (is_inner_of f) o false) connects) ∙ inner)
-spares base h (Open Root kind) c g none connects shut = false≢true shut
-spares base h (End n t) c g none connects shut = false≢true none
-spares base h (Close n) c g none connects shut = false≢true none
-spares base h _ c g none connects shut = false≢true shut
+spares base h x2 c g none connects shut = search (rules, and_parts, false≢true, option_map_or)
 
 -- so a hub that waits after it is that of the new subscriber, or waited before
 pub waited_before : (base : Kept) → (h : List Event) (e : Event) (g : ℕ) → closes_none e ≡ true → is_subscriber_of g e ≡ false → at is_auto_hub h g ≡ true →
@@ -313,7 +301,4 @@ forced_connected base h e most may (connecting {g = g} d) = by_waiting may where
 
 -- and where it connects none, it closes a node at least
 pub forced_closes : (base : Kept) → (h : List Event) (e : Event) → IsForced base h e → is_connect e ≡ false → open_count (h ++ e ∷ []) + 1 ≤ open_count h
-forced_closes base h (End n t) f other = open_count_falls-end h n t (may_end base (forced f))
-forced_closes base h (Close n) f other = open_count_falls-close h n (may_close base (forced f))
-forced_closes base h (Connect g) f other = absurd (false≢true (sym other))
-forced_closes base h _ f other = absurd (false≢true (forced_kind base f))
+forced_closes base h x2 f other = search (rules, open_count_falls-end, may_end, forced, open_count_falls-close, may_close, false≢true, forced_kind)

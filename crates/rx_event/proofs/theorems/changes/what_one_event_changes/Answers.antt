@@ -19,6 +19,7 @@ use Rattle.rx_event.proofs.Laws.MarksEnds.{marks_closed}
 use Rattle.rx_event.proofs.Laws.MarksTouched.{marks_untouched, marks-source_at, marks-notifier_at, marks-inner_at_flat, marks-inner_at_first}
 use Rattle.rx_event.proofs.Laws.MarksTouched.{marks-inner_at_next, marks-item_at, marks-decline_at, marks-end_at}
 use Rattle.rx_event.proofs.theorems.changes.what_one_event_changes.Goals as goal
+use Rattle.std.proofs.Common.{rules}
 
 pub returns-clause-nodes : goal.returns-clause-nodes
 returns-clause-nodes c = λ base. record {
@@ -80,38 +81,7 @@ returns-clause-totals c = λ base. record {
 }
 
 pub returns-clause-debt : goal.returns-clause-debt
-returns-clause-debt c = λ base. record {
-  counts = debt-counts base;
-  root = debt-root base;
-  source = debt-source base;
-  notifier = debt-notifier base;
-  flat_inner = debt-inner_flat base;
-  inner = debt_no_rise-inner base;
-  hub = debt-hub base;
-  connected = debt-connect base;
-  accepted = debt-accept base;
-  used = debt-use base;
-  removed = debt-remove base;
-  leased = debt-lease base;
-  returned = debt-return base;
-  item = debt-item base;
-  declined = debt-decline base;
-  ended = debt_falls-end base;
-  closed = debt_falls-close base;
-  taken = debt-take base;
-}
+returns-clause-debt c = search (rules, debt-counts, debt-root, debt-source, debt-notifier, debt-inner_flat, debt_no_rise-inner, debt-hub, debt-connect, debt-accept, debt-use, debt-remove, debt-lease, debt-return, debt-item, debt-decline, debt_falls-end, debt_falls-close, debt-take)
 
 pub returns-clause-marks : goal.returns-clause-marks
-returns-clause-marks c = λ base. record {
-  made = marks-new base;
-  untouched = marks_untouched;
-  source = marks-source_at base;
-  notifier = marks-notifier_at base;
-  flat_inner = marks-inner_at_flat base;
-  first_inner = marks-inner_at_first base;
-  next_inner = marks-inner_at_next;
-  item = marks-item_at base;
-  declined = marks-decline_at base;
-  ended = marks-end_at;
-  closed = marks_closed base;
-}
+returns-clause-marks c = search (rules, marks-new, marks_untouched, marks-source_at, marks-notifier_at, marks-inner_at_flat, marks-inner_at_first, marks-inner_at_next, marks-item_at, marks-decline_at, marks-end_at, marks_closed)

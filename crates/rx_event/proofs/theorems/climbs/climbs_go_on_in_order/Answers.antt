@@ -3,6 +3,7 @@ use Rattle.rx_event.proofs.Laws.Projections.{stops_open}
 use Rattle.rx_event.proofs.Laws.Climbs.{visits_end, visits_only, visits_open, climb_cut_off, visits_within, climb_whole, climb_in_order, stops_stop}
 use Rattle.rx_event.proofs.Laws.Climbs.{stops_whole, stops_in_order, visits_each, visits_by_node, visits_all}
 use Rattle.rx_event.proofs.theorems.climbs.climbs_go_on_in_order.Goals as goal
+use Rattle.std.proofs.Common.{rules}
 
 pub returns-clause-end : goal.returns-clause-end
 returns-clause-end c = λ base. record {
@@ -14,15 +15,7 @@ returns-clause-end c = λ base. record {
 }
 
 pub returns-clause-whole : goal.returns-clause-whole
-returns-clause-whole c = λ base. record {
-  cut_off = climb_cut_off;
-  within = visits_within;
-  whole = climb_whole;
-  all_stops = stops_whole;
-  in_order = climb_in_order base;
-  stop = stops_stop;
-  stops_in_order = stops_in_order base;
-}
+returns-clause-whole c = search (rules, climb_cut_off, visits_within, climb_whole, stops_whole, climb_in_order, stops_stop, stops_in_order)
 
 pub returns-clause-counted : goal.returns-clause-counted
 returns-clause-counted c = record { each = λ h ns vs p k. visits_each h k p; by_node = visits_by_node; all = visits_all }
