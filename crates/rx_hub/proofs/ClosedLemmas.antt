@@ -1,22 +1,21 @@
 -- What a closing takes away from hubs, one closed node after the other.
 use Rattle.rx_hub.proofs.Common.{◌≡◌, ◌≢◌, ℕ, zero, suc, ◌<◌, ◌==◌, ◌||◌, cond, map, Bool, true, false, List, [], ◌∷◌, ◌++◌, length, get_or, slice_get, take}
-use Rattle.rx_hub.proofs.Common.{Option, Some, None, is_some, IsSome, IfSome, refl, sym, ap, subst, ◌∙◌, arith, true≢false, option_map_or, option_or, not}
-use Rattle.rx_hub.proofs.Common.{take-suc, nat_tests, same_Some, none-some, Event, Open, Connect, Sub, hub_connected, hub_subscribed, is_connect_of, Key, Hub}
+use Rattle.rx_hub.proofs.Common.{Option, Some, None, IsSome, IfSome, refl, sym, ap, ◌∙◌, arith, true≢false, option_map_or, not}
+use Rattle.rx_hub.proofs.Common.{take-suc, nat_tests, same_Some, none-some, Event, hub_connected, hub_subscribed, is_connect_of, Key, Hub}
 use Rattle.rx_hub.proofs.Common.{is_subscriber_of, Closed, is_key, is_on, key_is, LastEnd, is_closed, remaining, without_gone, after_closing, IsKnown, Hubs}
 use Rattle.rx_hub.proofs.Common.{AreClosing, find_hub, at_hub, disconnected, unsubscribed, without_key}
 use Rattle.std.specs.List.{filter, AllPairs}
 use Rattle.rx_hub.proofs.Laws.Walks.{found_hub}
 use Rattle.rx_hub.proofs.StoreShowsHubs.{get_some}
+use Rattle.std.proofs.Common.{rules}
 
 -- tests -------------------------------------------------------------------------------------------
 
 or_false : (b : Bool) → (b || false) ≡ b
-or_false true = refl
-or_false false = refl
+or_false x0 = search rules
 
 or_next : (a b c : Bool) → (a || (b || c)) ≡ ((a || b) || c)
-or_next true b c = refl
-or_next false b c = refl
+or_next x0 b c = search rules
 
 eq_is : (a b : ℕ) → (a == b) ≡ true → a ≡ b
 eq_is a b e = grind (arith, nat_tests, e)
@@ -28,10 +27,7 @@ eq_not : (a b : ℕ) → a ≢ b → (a == b) ≡ false
 eq_not a b e = grind (arith, nat_tests, e)
 
 eq_turned : (a b : ℕ) → (a == b) ≡ (b == a)
-eq_turned a b = of (a == b) refl where
-  of : (x : Bool) → (a == b) ≡ x → x ≡ (b == a)
-  of true e = sym (eq_true b a (sym (eq_is a b e)))
-  of false e = sym (eq_not b a (λ same. true≢false (sym (eq_true a b (sym same)) ∙ e)))
+eq_turned a b = search (rules, eq_true, eq_is, eq_not, true≢false)
 
 -- a test that a key fails, other keys may pass
 not_gone : (gone : Key → Bool) (key k : Key) → gone key ≡ false → is_key key k ≡ true → gone k ≡ false
@@ -57,55 +53,27 @@ map_at f (h ∷ hubs) zero hub got = (h, (refl, same_Some (f h) hub got))
 map_at f (h ∷ hubs) (suc i) hub got = map_at f hubs i hub got
 
 number_kept : (gone : Key → Bool) (ended : Option LastEnd) (hub : Hub) → (without_gone gone ended hub).number ≡ hub.number
-number_kept gone ended hub = of (option_map_or gone hub.connection false) where
-  of : (b : Bool) → (cond b (disconnected ended (remaining gone hub)) (remaining gone hub)).number ≡ hub.number
-  of true = refl
-  of false = refl
+number_kept gone ended hub = search rules
 
 some_kept : (gone : Key → Bool) (ended : Option LastEnd) (hubs : List Hub) (g : ℕ) → IsSome (find_hub hubs g) →
     IsSome (find_hub (map (without_gone gone ended) hubs) g)
 some_kept gone ended [] g some = some
 some_kept gone ended (h ∷ hubs) g some =
-    subst (λ n. is_some (cond (n == g) (Some (without_gone gone ended h)) (find_hub (map (without_gone gone ended) hubs) g)) ≡ true)
-    (sym (number_kept gone ended h))
-    (of (h.number == g) (some_kept gone ended hubs g) some) where
-      of : (b : Bool) → (IsSome (find_hub hubs g) → IsSome (find_hub (map (without_gone gone ended) hubs) g)) →
-          is_some (cond b (Some h) (find_hub hubs g)) ≡ true →
-          is_some (cond b (Some (without_gone gone ended h)) (find_hub (map (without_gone gone ended) hubs) g)) ≡ true
-      of true rest s = refl
-      of false rest s = rest s
+    search (rules, number_kept, some_kept gone ended hubs g)
 
 -- lists of keys -----------------------------------------------------------------------------------
 
 without_none : (key : Key) (ks : List Key) → is_on key ks ≡ false → without_key key ks ≡ ks
 without_none key [] e = refl
-without_none key (k ∷ ks) e = of (is_key key k) (without_none key ks) e where
-  of : (b : Bool) → (is_on key ks ≡ false → without_key key ks ≡ ks) → (b || is_on key ks) ≡ false →
-      cond (not b) (k ∷ without_key key ks) (without_key key ks) ≡ k ∷ ks
-  of true rest f = absurd (true≢false f)
-  of false rest f = ap (λ (zs : List Key). k ∷ zs) (rest f)
+without_none key (k ∷ ks) e = search (rules, true≢false, without_none key ks)
 
 filter_twice : (p q : Key → Bool) (ks : List Key) → filter (λ k. not (q k)) (filter (λ k. not (p k)) ks) ≡ filter (λ k. not (p k || q k)) ks
 filter_twice p q [] = refl
-filter_twice p q (k ∷ ks) = of (p k) (q k) refl (filter_twice p q ks) where
-  of : (a b : Bool) → q k ≡ b → filter (λ k. not (q k)) (filter (λ k. not (p k)) ks) ≡ filter (λ k. not (p k || q k)) ks →
-      filter (λ k. not (q k)) (cond (not a) (k ∷ filter (λ k. not (p k)) ks) (filter (λ k. not (p k)) ks)) ≡
-      cond (not (a || b)) (k ∷ filter (λ k. not (p k || q k)) ks) (filter (λ k. not (p k || q k)) ks)
-  of true b e rest = rest
-  of false true e rest =
-      ap (λ t. cond (not t) (k ∷ filter (λ k. not (q k)) (filter (λ k. not (p k)) ks)) (filter (λ k. not (q k)) (filter (λ k. not (p k)) ks))) e ∙ rest
-  of false false e rest =
-      ap (λ t. cond (not t) (k ∷ filter (λ k. not (q k)) (filter (λ k. not (p k)) ks)) (filter (λ k. not (q k)) (filter (λ k. not (p k)) ks))) e ∙
-      ap (λ (zs : List Key). k ∷ zs) rest
+filter_twice p q (k ∷ ks) = search (rules, filter_twice p q ks)
 
 on_kept : (gone : Key → Bool) (key : Key) → gone key ≡ false → (ks : List Key) → is_on key (filter (λ k. not (gone k)) ks) ≡ is_on key ks
 on_kept gone key stays [] = refl
-on_kept gone key stays (k ∷ ks) = of (gone k) refl (is_key key k) refl (on_kept gone key stays ks) where
-  of : (a : Bool) → gone k ≡ a → (b : Bool) → is_key key k ≡ b → is_on key (filter (λ k. not (gone k)) ks) ≡ is_on key ks →
-      is_on key (cond (not a) (k ∷ filter (λ k. not (gone k)) ks) (filter (λ k. not (gone k)) ks)) ≡ (b || is_on key ks)
-  of true e true f rest = absurd (true≢false (sym e ∙ not_gone gone key k stays f))
-  of true e false f rest = rest
-  of false e b f rest = ap (λ t. t || is_on key (filter (λ k. not (gone k)) ks)) f ∙ ap (λ t. b || t) rest
+on_kept gone key stays (k ∷ ks) = search (rules, true≢false, not_gone, on_kept gone key stays ks)
 
 -- one closed node ---------------------------------------------------------------------------------
 
@@ -114,10 +82,7 @@ module _ (key : Key) (ended : Option LastEnd) where
   left_one : (g : ℕ) (hub : Hub) → is_on key hub.subscribers ≡ (g == hub.number) → option_map_or (is_key key) hub.connection false ≡ false →
       cond (hub.number == g) (unsubscribed key hub) hub ≡ without_gone (is_key key) ended hub
   left_one g hub on off =
-      of (hub.number == g) (on ∙ eq_turned g hub.number) ∙ sym (ap (λ b. cond b (disconnected ended (unsubscribed key hub)) (unsubscribed key hub)) off) where
-        of : (b : Bool) → is_on key hub.subscribers ≡ b → cond b (unsubscribed key hub) hub ≡ unsubscribed key hub
-        of true e = refl
-        of false e = λ i. record hub { subscribers = sym (without_none key hub.subscribers e) i }
+      search (rules, eq_turned, without_none)
 
   -- what its connection leaves, where it is no subscriber
   cut_one : (g : ℕ) (hub : Hub) → is_on key hub.subscribers ≡ false → option_map_or (is_key key) hub.connection false ≡ (g == hub.number) →
@@ -135,17 +100,13 @@ module _ (key : Key) (ended : Option LastEnd) where
 
 -- what a node's event says of the hubs
 made_subscriber : (e : Event) (g n : ℕ) → hub_subscribed e ≡ Some g → (is_subscriber_of n e ≡ (g == n)) × (is_connect_of n e ≡ false)
-made_subscriber (Open place (Sub k)) g n e = (ap (λ m. m == n) (same_Some k g e), refl)
-made_subscriber _ g n e = absurd (none-some g e)
+made_subscriber x0 g n e = search (rules, same_Some, none-some)
 
 made_connection : (e : Event) (g n : ℕ) → hub_connected e ≡ Some g → (is_subscriber_of n e ≡ false) × (is_connect_of n e ≡ (g == n))
-made_connection (Connect k) g n e = (refl, ap (λ m. m == n) (same_Some k g e))
-made_connection _ g n e = absurd (none-some g e)
+made_connection x0 g n e = search (rules, same_Some, none-some)
 
 made_neither : (e : Event) (n : ℕ) → hub_subscribed e ≡ None → hub_connected e ≡ None → (is_subscriber_of n e ≡ false) × (is_connect_of n e ≡ false)
-made_neither (Open place (Sub k)) n e f = absurd (none-some k (sym e))
-made_neither (Connect k) n e f = absurd (none-some k (sym f))
-made_neither _ n e f = (refl, refl)
+made_neither x0 n e f = search (rules, none-some)
 
 one_is : (c : Closed) (ended : Option LastEnd) (hub : Hub) → without_gone (is_key c.key) ended hub ≡ after_closing (c ∷ []) ended hub
 one_is c ended hub = λ i. without_gone (λ k. sym (or_false (is_key c.key k)) i) ended hub
@@ -162,21 +123,12 @@ module _ (hubs : List Hub) (c : Closed) (ended : Option LastEnd) (known : IsKnow
       cut_one c.key ended g hub (known.subscribes i hub got ∙ e.0) (known.connects i hub got ∙ e.1) ∙ one_is c ended hub)
 
   pub none_left : hub_subscribed c.node.made ≡ None → hub_connected c.node.made ≡ None → hubs ≡ map (after_closing (c ∷ []) ended) hubs
-  none_left made other = map_none (after_closing (c ∷ []) ended) hubs (λ i hub got.
-      let e = made_neither c.node.made hub.number made other in
-      kept_one c.key ended hub (known.subscribes i hub got ∙ e.0) (known.connects i hub got ∙ e.1) ∙ one_is c ended hub)
+  none_left made other = map_none (after_closing (c ∷ []) ended) hubs (λ i hub got. let e = made_neither _ hub.number made other in kept_one _ ended
+      hub (known.subscribes i hub got ∙ e.0) (known.connects i hub got ∙ e.1) ∙ one_is c ended hub)
 
   -- the subscriber stands on the list of its hub
   pub subscriber_on : (g : ℕ) → hub_subscribed c.node.made ≡ Some g → IfSome (find_hub hubs g) (λ hub. is_on c.key hub.subscribers ≡ true)
-  subscriber_on g made = of (find_hub hubs g) refl where
-    own : (n : ℕ) → (n == n) ≡ true
-    own n = grind (arith, nat_tests)
-
-    of : (o : Option Hub) → find_hub hubs g ≡ o → IfSome o (λ hub. is_on c.key hub.subscribers ≡ true)
-    of None found = tt
-    of (Some hub) found =
-        let at = found_hub hubs g hub found in
-        known.subscribes at.0 hub at.1.0 ∙ (made_subscriber c.node.made g hub.number made).0 ∙ ap (λ n. g == n) at.1.1 ∙ own g
+  subscriber_on g made = search (rules, nat_tests, found_hub, made_subscriber)
 
 -- several -----------------------------------------------------------------------------------------
 
@@ -185,26 +137,14 @@ module _ (p q : Key → Bool) (ended : Option LastEnd) (hub : Hub) where
       without_gone q ended (cond a (disconnected ended (remaining p (record hub { connection = Some c }))) (remaining p (record hub { connection = Some c }))) ≡
       cond (a || q c) (disconnected ended (remaining (λ k. p k || q k) (record hub { connection = Some c })))
       (remaining (λ k. p k || q k) (record hub { connection = Some c }))
-  twice_some c true = λ i. record hub { connection = None; last_end = option_or ended hub.last_end; subscribers = filter_twice p q hub.subscribers i }
-  twice_some c false = λ i. cond (q c) (disconnected ended (record hub { connection = Some c; subscribers = filter_twice p q hub.subscribers i }))
-      (record hub { connection = Some c; subscribers = filter_twice p q hub.subscribers i })
+  twice_some c x1 = search (rules, filter_twice)
 
   gone_twice : without_gone q ended (without_gone p ended hub) ≡ without_gone (λ k. p k || q k) ended hub
-  gone_twice = of hub.connection refl where
-    of : (o : Option Key) → hub.connection ≡ o → without_gone q ended (without_gone p ended hub) ≡ without_gone (λ k. p k || q k) ended hub
-    of None has =
-        let same : hub ≡ record hub { connection = None } = λ i. record hub { connection = has i } in
-        ap (λ (h : Hub). without_gone q ended (without_gone p ended h)) same ∙
-        (λ i. record hub { connection = None; subscribers = filter_twice p q hub.subscribers i }) ∙
-        ap (λ (h : Hub). without_gone (λ k. p k || q k) ended h) (sym same)
-    of (Some c) has =
-        let same : hub ≡ record hub { connection = Some c } = λ i. record hub { connection = has i } in
-        ap (λ (h : Hub). without_gone q ended (without_gone p ended h)) same ∙ twice_some c (p c) ∙
-        ap (λ (h : Hub). without_gone (λ k. p k || q k) ended h) (sym same)
+  gone_twice = search (rules, filter_twice, twice_some)
 
 closed_more : (xs : List Closed) (c : Closed) (k : Key) → (is_closed xs k || is_closed (c ∷ []) k) ≡ is_closed (xs ++ c ∷ []) k
 closed_more [] c k = refl
-closed_more (x ∷ xs) c k = sym (or_next (is_key x.key k) (is_closed xs k) (is_closed (c ∷ []) k)) ∙ ap (λ b. is_key x.key k || b) (closed_more xs c k)
+closed_more (x ∷ xs) c k = search (rules, or_next, closed_more xs c k)
 
 -- after one more
 pub closed_next : (closed : List Closed) (i j : ℕ) (d : Closed) (ended : Option LastEnd) (hubs : List Hub) → i < length closed → suc i ≡ j →
@@ -282,7 +222,7 @@ pub known_at : (now : List Hub) {hubs : List Hub} (closed : List Closed) (i : �
     now ≡ map (after_closing (take i closed) ended) hubs →
     AreClosing hubs closed → i < length closed → IsKnown now (get_or closed i d)
 known_at now {hubs} closed i d ended is closing below =
-    subst (λ (hs : List Hub). IsKnown hs (get_or closed i d)) (sym is) (known_next hubs closed i d ended closing below)
+    search (rules, known_next)
 
 -- a closing of nothing
 filter_all : (ks : List Key) → filter (λ key. not (is_closed [] key)) ks ≡ ks
@@ -292,7 +232,7 @@ filter_all (k ∷ ks) = ap (λ (zs : List Key). k ∷ zs) (filter_all ks)
 none_closed : (ended : Option LastEnd) (hub : Hub) → hub ≡ after_closing [] ended hub
 none_closed ended hub =
     (λ i. record hub { subscribers = sym (filter_all hub.subscribers) i }) ∙
-    sym (ap (λ b. cond b (disconnected ended (remaining (is_closed []) hub)) (remaining (is_closed []) hub)) (nothing_gone hub.connection)) where
+    sym (search rules) where
       nothing_gone : (o : Option Key) → option_map_or (is_closed []) o false ≡ false
       nothing_gone None = refl
       nothing_gone (Some k) = refl
@@ -305,5 +245,4 @@ pub closed_step : (start : Hubs) {before after : Hubs} (closed : List Closed) {i
     after ≡ record before { hubs = map (after_closing (get_or closed i d ∷ []) ended) before.hubs } → i < length closed → suc i ≡ j →
     after ≡ record start { hubs = map (after_closing (take j closed) ended) start.hubs }
 closed_step start closed {i} {j} d ended first second below next =
-    second ∙ ap (λ (s : Hubs). record s { hubs = map (after_closing (get_or closed i d ∷ []) ended) s.hubs }) first ∙
-    ap (λ (hs : List Hub). record start { hubs = hs }) (closed_next closed i j d ended start.hubs below next)
+    search (rules, closed_next)

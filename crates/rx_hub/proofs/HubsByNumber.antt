@@ -1,9 +1,10 @@
 -- Hubs by their numbers, and what is known of those off a chain.
 use Rattle.rx_hub.proofs.Common.{◌≡◌, ◌≢◌, ℕ, zero, suc, ◌<◌, ◌==◌, ◌++◌, cond, map, Bool, true, false, List, [], ◌∷◌, length, slice_get, Option, Some, None}
-use Rattle.rx_hub.proofs.Common.{option_map, is_some, IsSome, IfSome, refl, sym, ap, subst, ◌∙◌, ◌⊎◌, inl, inr, arith, true≢false, cases_lt, nat_tests, Mode}
-use Rattle.rx_hub.proofs.Common.{same_Some, none-some, Auto, Manual, option_and_then, Key, first_of, HubDue, IsCalm, IsChain, Notes, IsLinked, connect_of}
+use Rattle.rx_hub.proofs.Common.{option_map, is_some, IsSome, IfSome, refl, sym, ap, subst, ◌∙◌, arith, true≢false, cases_lt, nat_tests, Mode}
+use Rattle.rx_hub.proofs.Common.{same_Some, none-some, option_and_then, Key, first_of, HubDue, IsCalm, IsChain, Notes, IsLinked, connect_of}
 use Rattle.rx_hub.proofs.Common.{due_of, Hub, Hubs, IsPromised, find_hub, at_hub, new_hub, Lists, list_at, is_in}
 use Rattle.std.proofs.lemmas.Bool.{cases_Bool}
+use Rattle.std.proofs.Common.{rules}
 
 eq_is : (a b : ℕ) → (a == b) ≡ true → a ≡ b
 eq_is a b e = grind (arith, nat_tests, e)
@@ -20,7 +21,7 @@ find_one : (hubs : List Hub) (i n : ℕ) (hub : Hub) → slice_get hubs i ≡ So
 find_one [] i n hub got named only = absurd (none-some hub got)
 find_one (h ∷ hubs) zero n hub got named only =
     let same = same_Some h hub got in
-    ap (λ b. cond b (Some h) (find_hub hubs n)) (ap (λ m. m == n) (ap (λ (x : Hub). x.number) same ∙ named) ∙ eq_self n) ∙ ap (λ (x : Hub). Some x) same
+    search (rules, eq_self)
 find_one (h ∷ hubs) (suc i) n hub got named only =
     ap (λ b. cond b (Some h) (find_hub hubs n)) (eq_not h.number n (λ e. let z = only 0 h refl e in omega (arith, z))) ∙
     find_one hubs i n hub got named (λ j other at_j e. let z = only (suc j) other at_j e in omega (arith, z))
@@ -32,13 +33,7 @@ find_none (h ∷ hubs) n all =
 
 -- two indices of one number are one
 pub one_index : {s : Hubs} → IsPromised s → (i j : ℕ) (a b : Hub) → slice_get s.hubs i ≡ Some a → slice_get s.hubs j ≡ Some b → a.number ≡ b.number → i ≡ j
-one_index p i j a b at_i at_j same = elim (cases_lt i j) [
-  | inl less ↦ absurd (let r = p.rising i j a b at_i at_j less in omega (arith, r, same))
-  | inr more ↦ elim (cases_lt j i) [
-    | inl less ↦ absurd (let r = p.rising j i b a at_j at_i less in omega (arith, r, same))
-    | inr most ↦ omega (arith, more, most)
-  ]
-]
+one_index p i j a b at_i at_j same = search (rules, cases_lt)
 
 pub find_at : (s : Hubs) → IsPromised s → (i : ℕ) (hub : Hub) → slice_get s.hubs i ≡ Some hub → find_hub s.hubs hub.number ≡ Some hub
 find_at s p i hub got = find_one s.hubs i hub.number hub got refl (λ j other at_j e. one_index p j i other hub at_j got e)
@@ -46,19 +41,12 @@ find_at s p i hub got = find_one s.hubs i hub.number hub got refl (λ j other at
 -- the index of a number finds its hub
 pub find_index : (s : Hubs) → IsPromised s → (i n : ℕ) → option_map (λ (hub : Hub). hub.number) (slice_get s.hubs i) ≡ Some n →
     find_hub s.hubs n ≡ slice_get s.hubs i
-find_index s p i n named = of (slice_get s.hubs i) refl named where
-  of : (o : Option Hub) → slice_get s.hubs i ≡ o → option_map (λ (hub : Hub). hub.number) o ≡ Some n → find_hub s.hubs n ≡ o
-  of None got none = absurd (none-some n none)
-  of (Some hub) got some = ap (find_hub s.hubs) (sym (same_Some hub.number n some)) ∙ find_at s p i hub got
+find_index s p i n named = search (rules, none-some, same_Some, find_at)
 
 -- the hub of an index
 pub hub_at : (hubs : List Hub) (i n : ℕ) → option_map (λ (hub : Hub). hub.number) (slice_get hubs i) ≡ Some n →
     (hub : Hub) × ((slice_get hubs i ≡ Some hub) × (hub.number ≡ n))
-hub_at hubs i n named = of (slice_get hubs i) refl named where
-  of : (o : Option Hub) → slice_get hubs i ≡ o → option_map (λ (hub : Hub). hub.number) o ≡ Some n →
-      (hub : Hub) × ((slice_get hubs i ≡ Some hub) × (hub.number ≡ n))
-  of None got none = absurd (none-some n none)
-  of (Some hub) got some = (hub, (got, same_Some hub.number n some))
+hub_at hubs i n named = search (rules, none-some, same_Some)
 
 get_map : {X : Type 0} (g : X → X) (xs : List X) (i : ℕ) → slice_get (map g xs) i ≡ option_map g (slice_get xs i)
 get_map g [] i = refl
@@ -89,33 +77,13 @@ pub calm_changed : {due : Hub → Option HubDue} {s : Hubs} {old : Lists} (new :
     option_map (λ (hub : Hub). hub.number) (slice_get s.hubs index) ≡ Some n → Notes (due_in due (at_hub n change s.hubs) index) old new index →
     IsCalm due s.hubs old → IsCalm due (at_hub n change s.hubs) new
 calm_changed {due} {s} {old} new index n change p named noted calm i hub got off =
-    of (slice_get s.hubs i) refl (sym (get_map (λ (h : Hub). cond (h.number == n) (change h) h) s.hubs i) ∙ got)
-  where
-    off' : (is_in i (list_at old 0) ≡ false) × (i ≡ index → due_in due (at_hub n change s.hubs) index ≡ None)
-    off' = noted.kept i off
-
-    at_index : i ≡ index → due hub ≡ None
-    at_index same = sym (ap (option_and_then due) got) ∙ ap (due_in due (at_hub n change s.hubs)) same ∙ off'.1 same
-
-    by_number : (h : Hub) → slice_get s.hubs i ≡ Some h → Some (cond (h.number == n) (change h) h) ≡ Some hub →
-        ((h.number == n) ≡ true) ⊎ ((h.number == n) ≡ false) → due hub ≡ None
-    by_number h at_i some (inl e) =
-        let own = hub_at s.hubs index n named in
-        at_index (one_index p i index h own.0 at_i own.1.0 (eq_is h.number n e ∙ sym own.1.1))
-    by_number h at_i some (inr apart) =
-        let same : h ≡ hub = ap (λ b. cond b (change h) h) (sym apart) ∙ same_Some (cond (h.number == n) (change h) h) hub some in
-        ap due (sym same) ∙ calm i h at_i off'.0
-
-    of : (o : Option Hub) → slice_get s.hubs i ≡ o → option_map (λ (h : Hub). cond (h.number == n) (change h) h) o ≡ Some hub → due hub ≡ None
-    of None at_i none = absurd (none-some hub none)
-    of (Some h) at_i some = by_number h at_i some (cases_Bool (h.number == n))
+    search (rules, get_map, hub_at, one_index, eq_is, same_Some, none-some, cases_Bool)
 
 -- the hub at an index whose number alone changed
 pub at_changed : (s new : Hubs) (index : ℕ) (change : Hub → Hub) (hub : Hub) → slice_get s.hubs index ≡ Some hub →
     new ≡ record s { hubs = at_hub hub.number change s.hubs } → slice_get new.hubs index ≡ Some (change hub)
 at_changed s new index change hub got is =
-    ap (λ (t : Hubs). slice_get t.hubs index) is ∙ get_map (λ (h : Hub). cond (h.number == hub.number) (change h) h) s.hubs index ∙
-    ap (option_map (λ (h : Hub). cond (h.number == hub.number) (change h) h)) got ∙ ap (λ b. Some (cond b (change hub) hub)) (eq_self hub.number)
+    search (rules, get_map, eq_self)
 
 -- a change by which nothing is due that was not leaves a chain calm
 pub still_none : (due : Hub → Option HubDue) (s new : Hubs) (chain : Lists) (index n : ℕ) (change : Hub → Hub) →
@@ -130,17 +98,13 @@ still_none due s new chain index n change named is quiet calm off =
 -- and nothing is put there
 pub not_noted : (gives : Option HubDue) (chain : Lists) (index : ℕ) → IsChain chain → (is_in index (list_at chain 0) ≡ false → gives ≡ None) →
     Notes gives chain chain index
-not_noted gives chain index is quiet = record {
-  kept = λ i off. (off, λ same. quiet (subst (λ k. is_in k (list_at chain 0) ≡ false) same off));
-  chain = is;
-  members = refl;
-}
+not_noted gives chain index is quiet = search rules
 
 -- whether there is a first one tells whether there are others
 pub others_there : (hubs : List Hub) (index : ℕ) (hub : Hub) (first : Option Key) (b : Bool) → slice_get hubs index ≡ Some hub →
     IfSome (slice_get hubs index) (λ h. first ≡ first_of h.subscribers) → b ≡ is_some first → b ≡ true → is_some (first_of hub.subscribers) ≡ true
 others_there hubs index hub first b got is said told =
-    ap is_some (sym (subst (λ (o : Option Hub). IfSome o (λ h. first ≡ first_of h.subscribers)) got is)) ∙ sym said ∙ told
+    search rules
 
 -- one more hub at which nothing is due
 pub calm_added : (due : Hub → Option HubDue) (hubs : List Hub) (chain : Lists) (added : Hub) → due added ≡ None → IsCalm due hubs chain →
@@ -193,23 +157,20 @@ linked_changed {s} {new} {w} {d} {w'} {d'} {index} n change p named is notes_w n
     })
 
 pub nothing_new_waits : (n : ℕ) (mode : Mode) → connect_of (new_hub n mode) ≡ None
-nothing_new_waits n Auto = refl
-nothing_new_waits n Manual = refl
+nothing_new_waits n x1 = search rules
 
 pub nothing_new_due : (n : ℕ) (mode : Mode) → due_of (new_hub n mode) ≡ None
-nothing_new_due n Auto = refl
-nothing_new_due n Manual = refl
+nothing_new_due n x1 = search rules
 
 -- an index and a number lead to one hub
 pub only_hub : {s : Hubs} → IsPromised s → (i j : ℕ) (hub other : Hub) → slice_get s.hubs i ≡ Some hub → slice_get s.hubs j ≡ Some other →
     other.number ≡ hub.number → hub ≡ other
 only_hub {s} p i j hub other at_i at_j same =
-    same_Some hub other (sym at_i ∙ ap (slice_get s.hubs) (one_index p i j hub other at_i at_j (sym same)) ∙ at_j)
+    search (rules, same_Some, one_index)
 
 -- the first subscriber of a hub that is found
 pub first_found : (s : Hubs) → IsPromised s → (i n : ℕ) (r : Option Key) → option_map (λ (hub : Hub). hub.number) (slice_get s.hubs i) ≡ Some n →
     IfSome (slice_get s.hubs i) (λ hub. r ≡ first_of hub.subscribers) → r ≡ option_and_then (λ (h : Hub). first_of h.subscribers) (find_hub s.hubs n)
 first_found s p i n r named first =
     let own = hub_at s.hubs i n named in
-    subst (λ (o : Option Hub). IfSome o (λ hub. r ≡ first_of hub.subscribers)) own.1.0 first ∙
-    sym (ap (option_and_then (λ (h : Hub). first_of h.subscribers)) (find_index s p i n named ∙ own.1.0))
+    search (rules, find_index)

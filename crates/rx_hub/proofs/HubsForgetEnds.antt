@@ -1,10 +1,10 @@
 -- Hubs that forget how their connections ended, and what is kept of hubs.
-use Rattle.rx_hub.proofs.Common.{◌≡◌, ℕ, zero, suc, ◌<◌, ◌+◌, ◌-◌, ◌++◌, ◌&&◌, ◌||◌, map, take, drop, Bool, true, false, List, [], ◌∷◌, length, set, get_or}
-use Rattle.rx_hub.proofs.Common.{slice_get, Option, Some, None, option_map, is_none, refl, sym, ap, ◌∙◌, arith, nat_lt, if◌then◌else◌, range_with_len, not}
-use Rattle.rx_hub.proofs.Common.{list_any, filter_map, cons_option, option_or, length-map, same_Some, none-some, Key, HubDue, LastEnd, IsLinked, IsCalm, Hub}
+use Rattle.rx_hub.proofs.Common.{◌≡◌, ℕ, zero, suc, ◌<◌, ◌+◌, ◌-◌, ◌++◌, map, take, drop, Bool, true, false, List, [], ◌∷◌, length, set, get_or}
+use Rattle.rx_hub.proofs.Common.{slice_get, Option, Some, None, option_map, refl, sym, ap, ◌∙◌, arith, if◌then◌else◌, range_with_len, not}
+use Rattle.rx_hub.proofs.Common.{filter_map, cons_option, option_or, length-map, same_Some, none-some, Key, HubDue, LastEnd, IsLinked, IsCalm, Hub}
 use Rattle.rx_hub.proofs.Common.{IsQuiet, is_auto, is_cut, connect_of, due_of, cut_of, left_of, Hubs, hub_as_kept, without_end, Lists}
-use Rattle.rx_hub.specs.declared.hub.HubDue.TheVariants.{Connect as Connecting, End as Ending}
 use Rattle.rx_hub.proofs.Laws.HubsWithoutEnds.{forgot_get}
+use Rattle.std.proofs.Common.{rules}
 
 -- what is kept of all -------------------------------------------------------------------------------
 
@@ -22,47 +22,28 @@ kept_of_all hubs = kept_from hubs hubs 0 (λ i. ap (slice_get hubs) (let e : 0 +
 -- nothing is due once ends are forgotten ----------------------------------------------------------------
 
 or_none : {X : Type 0} (a b : Option X) → option_or a b ≡ None → (a ≡ None) × (b ≡ None)
-or_none (Some x) b none = absurd (none-some x (sym none))
-or_none None b none = (refl, none)
+or_none x0 b none = search (rules, none-some)
 
 if_none : {X : Type 0} (test : Bool) (x : X) → (if test then Some x else None) ≡ None → test ≡ false
-if_none true x none = absurd (none-some x (sym none))
-if_none false x none = refl
+if_none x0 x none = search (rules, none-some)
 
 -- the oldest subscriber is not cut
 first_stays : (last : Option LastEnd) (k : Key) (ks : List Key) → cut_of last (k ∷ ks) ≡ None → not (is_cut last k) ≡ true
-first_stays None k ks none = refl
-first_stays (Some e) k ks none = ap not (if_none (nat_lt k.number e.place) (Ending k e.terminal) none)
+first_stays x0 k ks none = search (rules, if_none)
 
 module _ (hub : Hub) (waits_not : connect_of hub ≡ None) (acts_not : due_of hub ≡ None) where
   parts : (cut_of hub.last_end hub.subscribers ≡ None) × (left_of (is_auto hub.mode) hub.connection hub.subscribers ≡ None)
-  parts = or_none (cut_of hub.last_end hub.subscribers) (left_of (is_auto hub.mode) hub.connection hub.subscribers) acts_not
+  parts = search (rules, or_none)
 
   pub forgot_acts : due_of (without_end hub) ≡ None
   forgot_acts = parts.1
 
   pub forgot_waits : connect_of (without_end hub) ≡ None
-  forgot_waits = by_list hub.subscribers waits_not parts.0 where
-    joined : Bool
-    joined = is_auto hub.mode && is_none hub.connection
-
-    no_and : (b : Bool) → (b && false) ≡ false
-    no_and true = refl
-    no_and false = refl
-
-    by_list : (ks : List Key) → (if joined && list_any (λ key. not (is_cut hub.last_end key)) ks then Some (Connecting hub.number) else None) ≡ None →
-        cut_of hub.last_end ks ≡ None → (if joined && list_any (λ key. not (is_cut None key)) ks then Some (Connecting hub.number) else None) ≡ None
-    by_list [] waits cut = ap (λ b. if b then Some (Connecting hub.number) else None) (no_and joined)
-    by_list (k ∷ ks) waits cut =
-        ap (λ b. if joined && (b || list_any (λ key. not (is_cut hub.last_end key)) ks) then Some (Connecting hub.number) else None)
-        (sym (first_stays hub.last_end k ks cut)) ∙
-        waits
+  forgot_waits = search (rules, first_stays)
 
 pub calm_forgot : (due : Hub → Option HubDue) (hubs : List Hub) (chain : Lists) →
     ((i : ℕ) (hub : Hub) → slice_get hubs i ≡ Some hub → due (without_end hub) ≡ None) → IsCalm due (map without_end hubs) chain
-calm_forgot due hubs chain none = λ i hub at_i off.
-    let before = forgot_get hubs i hub at_i in
-    ap due before.2 ∙ none i before.0 before.1
+calm_forgot due hubs chain none = search (rules, forgot_get)
 
 pub linked_forgot : (s : Hubs) (waiting due : Lists) → IsQuiet s.hubs → IsLinked s waiting due →
     IsLinked (record s { hubs = map without_end s.hubs }) waiting due
@@ -83,11 +64,7 @@ linked_forgot s waiting due quiet linked =
 -- and all that callers see of them
 pub shown_forgot : (s new : Hubs) (members : ℕ) → new ≡ record s { hubs = map without_end s.hubs } →
     record new { room = members - length new.hubs } ≡ record s { hubs = map without_end s.hubs; room = members - length s.hubs }
-shown_forgot s new members same = ap (λ (t : Hubs). record t { room = members - length t.hubs }) same ∙ (λ i. record {
-  hubs = map without_end s.hubs;
-  room = members - length-map s.hubs without_end i;
-  slots = s.slots;
-})
+shown_forgot s new members same = search (rules, length-map)
 
 -- the records as they are written -----------------------------------------------------------------------
 

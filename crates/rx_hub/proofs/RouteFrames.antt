@@ -1,48 +1,26 @@
 -- The frames of a way: how many there may be, and how it goes on over them.
-use Rattle.rx_hub.proofs.Common.{◌≡◌, ℕ, suc, ◌+◌, ◌<◌, ◌≤◌, ◌==◌, ◌&&◌, ◌||◌, ◌++◌, cond, Bool, true, false, List, [], ◌∷◌, length, Option, Some, None, refl}
-use Rattle.rx_hub.proofs.Common.{option_map, sym, ap, subst, ◌∙◌, arith, nat_lt, cons_option, option_map_or, false≢true, nat_tests, same_Some, none-some, Key}
+use Rattle.rx_hub.proofs.Common.{◌≡◌, ℕ, suc, ◌+◌, ◌<◌, ◌≤◌, ◌==◌, ◌||◌, ◌++◌, cond, Bool, true, false, List, [], ◌∷◌, length, Option, Some, None, refl}
+use Rattle.rx_hub.proofs.Common.{option_map, sym, ap, ◌∙◌, arith, nat_lt, cons_option, option_map_or, false≢true, nat_tests, same_Some, none-some, Key}
 use Rattle.rx_hub.proofs.Common.{is_key, is_on, first_of, key_is, Frame, Hub, Hubs, IsPromised, find_hub, key_after, AreAbove, Rises, keys_from, frame_keys}
 use Rattle.rx_hub.proofs.Common.{after_frames, IsFrame, IsBehind, AreFrames, GoesOn}
 use Rattle.rx_hub.proofs.Laws.Walks.{found_hub}
+use Rattle.std.proofs.Common.{rules}
 
 -- keys from one on ----------------------------------------------------------------------------------
 
 is_key-itself : (k : Key) → is_key k k ≡ true
-is_key-itself k = both (k.slot == k.slot) (k.number == k.number) (grind (arith, nat_tests)) (grind (arith, nat_tests)) where
-  both : (a b : Bool) → a ≡ true → b ≡ true → (a && b) ≡ true
-  both true b p q = q
-  both false b p q = p
+is_key-itself k = search (rules, nat_tests)
 
 older : (a b : Key) → b.number < a.number → is_key a b ≡ false
-older a b l = right (a.slot == b.slot) (a.number == b.number) (grind (arith, nat_tests, l)) where
-  right : (p q : Bool) → q ≡ false → (p && q) ≡ false
-  right true q e = e
-  right false q e = refl
+older a b l = search (rules, nat_tests)
 
 above_on : (n : ℕ) (keys : List Key) (key : Key) → AreAbove n keys → is_on key keys ≡ true → n < key.number
 above_on n [] key above on = absurd (false≢true on)
-above_on n (k ∷ ks) key above on = by_test (is_key key k) refl on (above_on n ks key above.1) where
-  by_test : (b : Bool) → is_key key k ≡ b → (b || is_on key ks) ≡ true → (is_on key ks ≡ true → n < key.number) → n < key.number
-  by_test true e here later = subst (λ (x : Key). n < x.number) (sym (key_is key k e)) above.0
-  by_test false e there later = later there
+above_on n (k ∷ ks) key above on = search (rules, key_is, above_on n ks key above.1)
 
 pub next_on : (key next : Key) (keys : List Key) → key_after key keys ≡ Some next → is_on next keys ≡ true
 next_on key next [] e = absurd (none-some next e)
-next_on key next (k ∷ ks) e = by_test (is_key key k) e (next_on key next ks) where
-  or_true : (a : Bool) → (a || true) ≡ true
-  or_true true = refl
-  or_true false = refl
-
-  of_first : (xs : List Key) → first_of xs ≡ Some next → is_on next xs ≡ true
-  of_first [] none = absurd (none-some next none)
-  of_first (x ∷ xs) some =
-      let here : is_key next x ≡ true = ap (is_key next) (same_Some x next some) ∙ is_key-itself next in
-      ap (λ b. b || is_on next xs) here
-
-  by_test : (b : Bool) → cond b (first_of ks) (key_after key ks) ≡ Some next → (key_after key ks ≡ Some next → is_on next ks ≡ true) →
-      (is_key next k || is_on next ks) ≡ true
-  by_test true some later = ap (λ b. is_key next k || b) (of_first ks some) ∙ or_true (is_key next k)
-  by_test false some later = ap (λ b. is_key next k || b) (later some) ∙ or_true (is_key next k)
+next_on key next (k ∷ ks) e = search (rules, none-some, same_Some, is_key-itself, next_on key next ks)
 
 -- a key, and then the next one with what follows it
 from_next : (key : Key) (keys : List Key) → Rises keys → is_on key keys ≡ true →
@@ -55,7 +33,7 @@ from_next key (x ∷ xs) rises on = by_test (is_key key x) refl on (from_next ke
   at_first : (ys : List Key) → AreAbove x.number ys → ys ≡ option_map_or (λ (k : Key). cond (is_key k x) (x ∷ ys) (keys_from k ys)) (first_of ys) []
   at_first [] above = refl
   at_first (y ∷ ys) above =
-      sym (ap (λ b. cond b (x ∷ y ∷ ys) (keys_from y (y ∷ ys))) (older y x above.0) ∙ ap (λ b. cond b (y ∷ ys) (keys_from y ys)) (is_key-itself y))
+      sym (search (rules, older, is_key-itself))
 
   by_after : (o : Option Key) → key_after key xs ≡ o →
       option_map_or (λ (k : Key). keys_from k xs) o [] ≡ option_map_or (λ (k : Key). cond (is_key k x) (x ∷ xs) (keys_from k xs)) o []
@@ -71,8 +49,7 @@ from_next key (x ∷ xs) rises on = by_test (is_key key x) refl on (from_next ke
 
 -- the first of a list, with what follows it, is the list
 pub from_first : (keys : List Key) → option_map_or (λ (k : Key). keys_from k keys) (first_of keys) [] ≡ keys
-from_first [] = refl
-from_first (k ∷ ks) = ap (λ b. cond b (k ∷ ks) (keys_from k ks)) (is_key-itself k)
+from_first x0 = search (rules, is_key-itself)
 
 -- how many frames there may be ------------------------------------------------------------------------
 
@@ -85,14 +62,11 @@ one_before a b c l = grind (arith, nat_tests, l)
 
 count_more : (hubs : List Hub) (a b : ℕ) → a ≤ b → count_before hubs a ≤ count_before hubs b
 count_more [] a b l = omega arith
-count_more (hub ∷ hubs) a b l = let here = one_before hub.number a b l in let rest = count_more hubs a b l in omega (arith, here, rest)
+count_more (hub ∷ hubs) a b l = search (rules, one_before, count_more hubs a b l)
 
 count_all : (hubs : List Hub) (n : ℕ) → count_before hubs n ≤ length hubs
 count_all [] n = omega arith
-count_all (hub ∷ hubs) n = let rest = count_all hubs n in by_test (nat_lt hub.number n) rest where
-  by_test : (b : Bool) → count_before hubs n ≤ length hubs → cond b 1 0 + count_before hubs n ≤ suc (length hubs)
-  by_test true rest = omega (arith, rest)
-  by_test false rest = omega (arith, rest)
+count_all (hub ∷ hubs) n = let rest = count_all hubs n in search (rules, count_before)
 
 count_there : (hubs : List Hub) (g n : ℕ) (hub : Hub) → find_hub hubs g ≡ Some hub → g < n → count_before hubs g + 1 ≤ count_before hubs n
 count_there [] g n hub found l = absurd (none-some hub found)
@@ -122,16 +96,12 @@ frames_fit hubs (f ∷ frames) n are behind =
 pub frame_fits : (hubs : List Hub) (frames : List Frame) (frame : Frame) → AreFrames hubs frames →
     IsFrame hubs frame → IsBehind frame.hub frames → length frames < length hubs
 frame_fits hubs frames frame are is behind =
-    let rest = frames_fit hubs frames frame.hub are behind in
-    let here = count_there hubs frame.hub (suc frame.hub) is.hub is.there (omega arith) in
-    let all = count_all hubs (suc frame.hub) in
-    omega (arith, rest, here, all)
+    search (rules, frames_fit, count_there, count_all)
 
 -- how it goes on ----------------------------------------------------------------------------------------
 
 pub behind_later : (frames : List Frame) (a b : ℕ) → a ≤ b → IsBehind a frames → IsBehind b frames
-behind_later [] a b l behind = tt
-behind_later (f ∷ frames) a b l behind = omega (arith, l, behind)
+behind_later x0 a b l behind = search rules
 
 -- the frame of the next younger subscriber, if there is one
 abbrev pub next_frame : Frame → Option Key → List Frame → List Frame

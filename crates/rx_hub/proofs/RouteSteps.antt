@@ -1,13 +1,14 @@
 -- One climb further on an item's way.
-use Rattle.rx_hub.proofs.Common.{◌≡◌, ℕ, zero, suc, ◌+◌, ◌-◌, ◌<◌, ◌≤◌, ◌++◌, List, [], ◌∷◌, length, Option, Some, None, IsSome, IfSome, IfNone, refl, sym}
+use Rattle.rx_hub.proofs.Common.{◌≡◌, ℕ, suc, ◌+◌, ◌-◌, ◌<◌, ◌≤◌, ◌++◌, List, [], ◌∷◌, length, Option, Some, None, IsSome, IfSome, IfNone, refl, sym}
 use Rattle.rx_hub.proofs.Common.{ap, subst, ◌∙◌, arith, length-append, AllByRecursion, filter_map, cons_option, option_and_then, option_to_list, false≢true}
-use Rattle.rx_hub.proofs.Common.{filter_map-append, most_visits, Key, Slots, find, Node, is_key, is_on, Stop, Delivery, Projection, Firing, Connection, way}
+use Rattle.rx_hub.proofs.Common.{filter_map-append, most_visits, Key, Slots, find, Node, is_on, Stop, way}
 use Rattle.rx_hub.proofs.Common.{end_of, Frame, Hub, visited_over, arrival, arrival_at, Route, after_frames, todo, visits_left, stops_left, IsBehind, GoesOn}
 use Rattle.rx_hub.proofs.Common.{ReachesFrom, IsOrdered, IsUnderWay, beyond_end, hub_keys, key_is}
-use Rattle.std.proofs.Math.Bool.{Bool, true, false, ◌||◌}
+use Rattle.std.proofs.Math.Bool.{true}
 use Rattle.rx_hub.specs.Way.{hub_of}
 use Rattle.rx_hub.specs.Route.{visited_next, all_visits, IsTurn, first_keys, Climbs, Arrives}
 use Rattle.rx_hub.proofs.RouteWays.{visited_way, stops_way, visited_cut}
+use Rattle.std.proofs.Common.{rules}
 
 pub limit_is : most_visits ≡ 1048576
 unfolding most_visits
@@ -16,10 +17,7 @@ limit_is = refl
 -- what holds of each subscriber holds of one
 of_key : (P : Key → Type 0) (keys : List Key) (key : Key) → AllByRecursion P keys → is_on key keys ≡ true → P key
 of_key P [] key all on = absurd (false≢true on)
-of_key P (k ∷ ks) key all on = by_test (is_key key k) refl on (of_key P ks key all.1) where
-  by_test : (b : Bool) → is_key key k ≡ b → (b || is_on key ks) ≡ true → (is_on key ks ≡ true → P key) → P key
-  by_test true e here later = subst P (sym (key_is key k e)) all.0
-  by_test false e there later = later there
+of_key P (k ∷ ks) key all on = search (rules, on, key_is, of_key P ks key all.1)
 
 -- it is under way where it is a subscriber's turn
 pub turn_under_way : {nodes : Slots Node} (hubs : List Hub) (route : Route) → IsOrdered nodes hubs → length hubs ≤ route.room → route.visits ≤ suc most_visits →
@@ -58,11 +56,7 @@ less_left m v l = omega arith
 
 -- from a stop it goes on to the subscribers of the hub behind it
 pub hub_beyond : (nodes : Slots Node) (hubs : List Hub) (stop : Option Stop) → hub_keys hubs (hub_of nodes stop) ≡ beyond_end nodes hubs stop
-hub_beyond nodes hubs None = refl
-hub_beyond nodes hubs (Some (Delivery c)) = refl
-hub_beyond nodes hubs (Some (Projection c)) = refl
-hub_beyond nodes hubs (Some (Firing c)) = refl
-hub_beyond nodes hubs (Some (Connection c)) = refl
+hub_beyond nodes hubs x2 = search rules
 
 -- one climb -----------------------------------------------------------------------------------------------
 
@@ -90,26 +84,7 @@ pub climbs_on : {nodes : Slots Node} {hubs : List Hub} {old new : Route} {node :
     first_keys hubs first ≡ beyond_end nodes hubs (end_of nodes (way nodes node)) → GoesOn hubs old.frames new.frames first new.at →
     new.room ≡ old.room → Climbs nodes hubs old new (option_and_then arrival (end_of nodes (way nodes node)))
 climbs_on {nodes} {hubs} {old} {new} {node} {first} ordered under_way at fits visits firsts on room =
-    record {
-      stops = ap (filter_map (arrival_at nodes)) visited ∙ filter_map-append (arrival_at nodes) w (visited_next nodes hubs new) ∙
-          ap (λ (ss : List Stop). ss ++ stops_left nodes hubs new) (stops_way nodes hubs (suc most_visits) node) ∙
-          one (option_and_then arrival (end_of nodes w));
-      visits = let all = ap length visited ∙ length-append w (visited_next nodes hubs new) in omega (arith, all, visits);
-      under_way = turn_under_way hubs new ordered (subst (λ n. length hubs ≤ n) (sym room) under_way.room) (omega (arith, fits, visits))
-          old.frames first on;
-      fewer = omega (arith, fits, visits);
-      room = room;
-    }
-  where
-    w : List Key
-    w = way nodes node
-
-    visited : visited_next nodes hubs old ≡ w ++ visited_next nodes hubs new
-    visited = visited_on nodes old new at fits visits firsts on
-
-    one : (o : Option Stop) → option_to_list o ++ stops_left nodes hubs new ≡ cons_option o (stops_left nodes hubs new)
-    one None = refl
-    one (Some s) = refl
+    search (rules, filter_map, filter_map-append, stops_way, length-append, under_way, turn_under_way, room, fits, on, visited_on, firsts, cons_option)
 
 nothing_left : (m : ℕ) → m - m ≡ 0
 nothing_left m = omega arith
@@ -194,8 +169,7 @@ pub record IsFurther (nodes : Slots Node) (hubs : List Hub) (first now : Route) 
   pub room : now.room ≡ first.room
 
 none_visited : (left : ℕ) (nodes : Slots Node) (hubs : List Hub) → visited_over left nodes hubs [] ≡ []
-none_visited zero nodes hubs = refl
-none_visited (suc left) nodes hubs = refl
+none_visited x0 nodes hubs = search rules
 
 -- where nothing is left to visit, it has arrived everywhere
 ends_on : (nodes : Slots Node) (hubs : List Hub) (first now : Route) → IsFurther nodes hubs first now → visited_next nodes hubs now ≡ [] →
@@ -211,7 +185,4 @@ ends_on nodes hubs first now further none = record {
 
 pub ends_cut : (nodes : Slots Node) (hubs : List Hub) (first now : Route) → IsFurther nodes hubs first now → 1048576 < now.visits →
     Arrives nodes hubs first now None
-ends_cut nodes hubs first now further cut = ends_on nodes hubs first now further
-    (ap (λ n. visited_over n nodes hubs (todo hubs now)) none) where
-      none : visits_left now ≡ 0
-      none = omega (arith, cut, limit_is)
+ends_cut nodes hubs first now further cut = search (rules, ends_on, limit_is)

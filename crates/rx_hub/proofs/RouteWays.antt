@@ -2,10 +2,10 @@
 use Rattle.rx_hub.proofs.Common.{◌≡◌, ℕ, zero, suc, ◌-◌, ◌<◌, ◌≤◌, ◌++◌, List, [], ◌∷◌, length, Option, Some, None, is_some, refl, sym, ap, ◌∙◌, arith, Key}
 use Rattle.rx_hub.proofs.Common.{if◌then◌else◌, filter_map, cons_option, option_and_then, option_map_or, option_or, option_to_list, Slots, Node, Stop, end_of}
 use Rattle.rx_hub.proofs.Common.{above_of, stop_of, way_within, Hub, beyond, onward_by, onward_over, visited_over, arrival, arrival_at, beyond_end}
+use Rattle.std.proofs.Common.{rules}
 
 or_none : (s : Option Stop) → option_or s None ≡ s
-or_none None = refl
-or_none (Some x) = refl
+or_none x0 = search rules
 
 one_less : (a : ℕ) → suc a - 1 ≡ a
 one_less a = omega arith
@@ -35,8 +35,7 @@ module _ (nodes : Slots Node) (hubs : List Hub) where
   onward_in (Some stop) above = beyond nodes hubs stop
 
   onward_is : (key : Key) (s : Option Stop) → onward_by nodes hubs key s ≡ onward_in s (above_of nodes key)
-  onward_is key None = refl
-  onward_is key (Some stop) = refl
+  onward_is key x1 = search rules
 
   -- the visits of a way, and then what is beyond its end
   pub visited_way : (k left : ℕ) (key : Key) (rest : List Key) → left ≤ k → length (way_within k nodes key) ≤ left →

@@ -1,5 +1,5 @@
 -- What the records and the lists of subscribers show as hubs.
-use Rattle.rx_hub.proofs.Common.{◌≡◌, ◌≢◌, ℕ, zero, suc, ◌<◌, ◌≤◌, ◌+◌, ◌==◌, ◌||◌, ◌&&◌, ◌++◌, cond, map, Bool, true, false, List, [], ◌∷◌, length, get_or}
+use Rattle.rx_hub.proofs.Common.{◌≡◌, ◌≢◌, ℕ, zero, suc, ◌<◌, ◌≤◌, ◌+◌, ◌==◌, ◌||◌, ◌++◌, cond, map, Bool, true, false, List, [], ◌∷◌, length, get_or}
 use Rattle.rx_hub.proofs.Common.{set, slice_get, Option, Some, None, ◌-◌, min, option_map, is_some, IsSome, IfSome, refl, sym, ap, subst, ◌∙◌, inl, inr, not}
 use Rattle.rx_hub.proofs.Common.{arith, true≢false, zero-add, range_with_len, list_any, cases_eq, cases_lt, false≢true, nat_tests, get_or_past, length-set}
 use Rattle.rx_hub.proofs.Common.{get_or-set_same, get_or-set_other, length-append, length-map, same_Some, none-some, Key, is_key, is_on, first_of, same_key}
@@ -9,13 +9,14 @@ use Rattle.rx_hub.proofs.Common.{record_at, key_in, hub_in, hubs_in, IsKept}
 use Rattle.std.proofs.lemmas.List.FromFn.{map-range_with_len_more}
 use Rattle.rx_slots.specs.Lists.{IsPlain, last_from as last_after, after}
 use Rattle.rx_hub.specs.Store.{keys_at, store_in}
+use Rattle.std.proofs.Common.{rules}
 
 -- tables ------------------------------------------------------------------------------------------
 
 table_get : {X : Type 0} (f : ℕ → X) (k n i : ℕ) → i < n → slice_get (map f (range_with_len k n)) i ≡ Some (f (k + i))
 table_get f k zero i l = absurd (omega (arith, l))
 table_get f k (suc n) zero l = let e : k ≡ k + 0 = omega arith in ap (λ j. Some (f j)) e
-table_get f k (suc n) (suc i) l = table_get f (k + 1) n i (omega (arith, l)) ∙ (let e : k + 1 + i ≡ k + suc i = omega arith in ap (λ j. Some (f j)) e)
+table_get f k (suc n) (suc i) l = search (rules, table_get f (k + 1) n i (omega (arith, l)))
 
 table_past : {X : Type 0} (f : ℕ → X) (k n i : ℕ) → n ≤ i → slice_get (map f (range_with_len k n)) i ≡ None
 table_past f k zero i l = refl
@@ -80,20 +81,11 @@ eq_not a b e = grind (arith, nat_tests, e)
 
 -- a key is that of a slot where both are equal
 pub key_of : (numbers : List ℕ) (key : Key) (slot : ℕ) → is_key key (key_in numbers slot) ≡ true → key ≡ key_in numbers slot
-key_of numbers key slot e = of (key.slot == slot) (key.number == get_or numbers slot 0) refl refl e where
-  of : (a b : Bool) → (key.slot == slot) ≡ a → (key.number == get_or numbers slot 0) ≡ b → (a && b) ≡ true → key ≡ key_in numbers slot
-  of true true s n e = same_key key (key_in numbers slot) (eq_is key.slot slot s) (eq_is key.number (get_or numbers slot 0) n)
-  of true false s n e = absurd (false≢true e)
-  of false b s n e = absurd (false≢true e)
+key_of numbers key slot e = search (rules, same_key, eq_is, false≢true)
 
 -- where the number of a key is that at its slot, it is a slot's key just where the slots are equal
 pub is_key_in : (numbers : List ℕ) (key : Key) (slot : ℕ) → key ≡ key_in numbers key.slot → is_key key (key_in numbers slot) ≡ (key.slot == slot)
-is_key_in numbers key slot own = of (key.slot == slot) refl where
-  of : (a : Bool) → (key.slot == slot) ≡ a → (a && (key.number == get_or numbers slot 0)) ≡ a
-  of true s =
-      ap (λ j. key.number == get_or numbers j 0) (sym (eq_is key.slot slot s)) ∙ ap (λ n. n == get_or numbers key.slot 0) (ap (λ (k : Key). k.number) own) ∙
-      eq_self (get_or numbers key.slot 0)
-  of false s = refl
+is_key_in numbers key slot own = search (rules, eq_is, eq_self)
 
 has_slot : (numbers : List ℕ) (slot : ℕ) (xs : List ℕ) → list_any (λ (k : Key). slot == k.slot) (map (key_in numbers) xs) ≡ is_in slot xs
 has_slot numbers slot [] = refl
@@ -109,15 +101,14 @@ key_on numbers key (x ∷ xs) e = of (λ e. key_on numbers key xs e) (is_key key
   of later true t e =
       let same = key_of numbers key x t in
       let slot : key.slot ≡ x = ap (λ (k : Key). k.slot) same in
-      (ap (λ b. b || is_in key.slot xs) (ap (λ s. s == x) slot ∙ eq_self x), same ∙ ap (key_in numbers) (sym slot))
+      (search (rules, eq_self))
   of later false t e = let h = later e in (either (key.slot == x) h.0, h.1) where
     either : (b : Bool) → is_in key.slot xs ≡ true → (b || is_in key.slot xs) ≡ true
     either true i = refl
     either false i = i
 
 first_key : (numbers : List ℕ) (xs : List ℕ) → first_of (map (key_in numbers) xs) ≡ option_map (key_in numbers) (head_of xs)
-first_key numbers [] = refl
-first_key numbers (x ∷ xs) = refl
+first_key numbers x1 = search rules
 
 last_key : (numbers : List ℕ) (before : Option ℕ) (xs : List ℕ) →
     last_from (option_map (key_in numbers) before) (map (key_in numbers) xs) ≡ option_map (key_in numbers) (last_after before xs)
@@ -128,47 +119,23 @@ after_key : (numbers : List ℕ) (key : Key) (xs : List ℕ) → key ≡ key_in 
     key_after key (map (key_in numbers) xs) ≡ option_map (key_in numbers) (after key.slot xs)
 after_key numbers key [] own = refl
 after_key numbers key (x ∷ xs) own =
-    ap (λ b. cond b (first_of (map (key_in numbers) xs)) (key_after key (map (key_in numbers) xs))) (is_key_in numbers key x own) ∙
-    of (key.slot == x) (after_key numbers key xs own) where
-      of : (b : Bool) → key_after key (map (key_in numbers) xs) ≡ option_map (key_in numbers) (after key.slot xs) →
-          cond b (first_of (map (key_in numbers) xs)) (key_after key (map (key_in numbers) xs)) ≡
-          option_map (key_in numbers) (cond b (head_of xs) (after key.slot xs))
-      of true rest = first_key numbers xs
-      of false rest = rest
+    search (rules, is_key_in, first_key, after_key numbers key xs own)
 
 out_keys : (numbers : List ℕ) (key : Key) (xs : List ℕ) → key ≡ key_in numbers key.slot →
     map (key_in numbers) (take_out key.slot xs) ≡ without_key key (map (key_in numbers) xs)
 out_keys numbers key [] own = refl
 out_keys numbers key (x ∷ xs) own =
-    of (key.slot == x) (out_keys numbers key xs own) ∙
-    ap (λ b. cond (not b) (key_in numbers x ∷ without_key key (map (key_in numbers) xs)) (without_key key (map (key_in numbers) xs)))
-    (sym (is_key_in numbers key x own))
-  where
-    of : (b : Bool) → map (key_in numbers) (take_out key.slot xs) ≡ without_key key (map (key_in numbers) xs) →
-        map (key_in numbers) (cond (not b) (x ∷ take_out key.slot xs) (take_out key.slot xs)) ≡
-        cond (not b) (key_in numbers x ∷ without_key key (map (key_in numbers) xs)) (without_key key (map (key_in numbers) xs))
-    of true rest = rest
-    of false rest = ap (λ (ks : List Key). key_in numbers x ∷ ks) rest
+    search (rules, is_key_in, out_keys numbers key xs own)
 
 -- taking out what is not there
 out_none : (slot : ℕ) (xs : List ℕ) → is_in slot xs ≡ false → take_out slot xs ≡ xs
 out_none slot [] e = refl
-out_none slot (x ∷ xs) e = of (slot == x) (out_none slot xs) e where
-  of : (b : Bool) → (is_in slot xs ≡ false → take_out slot xs ≡ xs) → (b || is_in slot xs) ≡ false →
-      cond (not b) (x ∷ take_out slot xs) (take_out slot xs) ≡ x ∷ xs
-  of true later e = absurd (true≢false e)
-  of false later e = ap (λ (ys : List ℕ). x ∷ ys) (later e)
+out_none slot (x ∷ xs) e = search (rules, true≢false, out_none slot xs)
 
 -- the number at one slot is written
 keys_set : (numbers : List ℕ) (slot number : ℕ) (xs : List ℕ) → is_in slot xs ≡ false → map (key_in (set numbers slot number)) xs ≡ map (key_in numbers) xs
 keys_set numbers slot number [] e = refl
-keys_set numbers slot number (x ∷ xs) e = of (slot == x) refl (keys_set numbers slot number xs) e where
-  of : (b : Bool) → (slot == x) ≡ b → (is_in slot xs ≡ false → map (key_in (set numbers slot number)) xs ≡ map (key_in numbers) xs) →
-      (b || is_in slot xs) ≡ false →
-      map (key_in (set numbers slot number)) (x ∷ xs) ≡ map (key_in numbers) (x ∷ xs)
-  of true s later e = absurd (true≢false e)
-  of false s later e =
-      (λ i. record { slot = x; number = get_or-set_other numbers slot x number 0 (λ q. true≢false (sym (eq_self x) ∙ ap (λ j. j == x) q ∙ s)) i } ∷ later e i)
+keys_set numbers slot number (x ∷ xs) e = search (rules, true≢false, get_or-set_other, eq_self, keys_set numbers slot number xs)
 
 append_keys : (numbers : List ℕ) (xs : List ℕ) (x : ℕ) → map (key_in numbers) (xs ++ x ∷ []) ≡ map (key_in numbers) xs ++ key_in numbers x ∷ []
 append_keys numbers [] x = refl
@@ -186,29 +153,20 @@ rises_last (k ∷ ks) key r b = (above_last k.number ks key r.0 b.0, rises_last 
 
 above_without : (n : ℕ) (key : Key) (ks : List Key) → AreAbove n ks → AreAbove n (without_key key ks)
 above_without n key [] a = tt
-above_without n key (k ∷ ks) a = of (is_key key k) (above_without n key ks a.1) where
-  of : (b : Bool) → AreAbove n (without_key key ks) → AreAbove n (cond (not b) (k ∷ without_key key ks) (without_key key ks))
-  of true rest = rest
-  of false rest = (a.0, rest)
+above_without n key (k ∷ ks) a = search (rules, above_without n key ks a.1)
 
 rises_without : (key : Key) (ks : List Key) → Rises ks → Rises (without_key key ks)
 rises_without key [] r = tt
-rises_without key (k ∷ ks) r = of (is_key key k) (rises_without key ks r.1) where
-  of : (b : Bool) → Rises (without_key key ks) → Rises (cond (not b) (k ∷ without_key key ks) (without_key key ks))
-  of true rest = rest
-  of false rest = (above_without k.number key ks r.0, rest)
+rises_without key (k ∷ ks) r = search (rules, above_without, rises_without key ks r.1)
 
 -- the hubs ----------------------------------------------------------------------------------------
 
 module _ (records : List Published) (lists : Lists) (numbers : List ℕ) where
   pub hub_get : (i : ℕ) → i < length records → slice_get (hubs_in records lists numbers) i ≡ Some (hub_in records lists numbers i)
-  hub_get i l = table_get (hub_in records lists numbers) 0 (length records) i l ∙ ap (λ j. Some (hub_in records lists numbers j)) (zero-add i)
+  hub_get i l = search (rules, table_get, zero-add)
 
   pub hub_within : (i : ℕ) → IsSome (slice_get (hubs_in records lists numbers) i) → i < length records
-  hub_within i some = elim (cases_lt i (length records)) [
-    | inl below ↦ below
-    | inr past ↦ absurd (true≢false (sym some ∙ ap is_some (table_past (hub_in records lists numbers) 0 (length records) i past)))
-  ]
+  hub_within i some = search (rules, cases_lt, true≢false, table_past)
 
   pub hub_is : (i : ℕ) (hub : Hub) → slice_get (hubs_in records lists numbers) i ≡ Some hub → (i < length records) × (hub_in records lists numbers i ≡ hub)
   hub_is i hub got =
@@ -558,8 +516,4 @@ kept_forgot records lists numbers kept =
 pub store_forgot : (records after : List Published) (lists : Lists) (numbers : List ℕ) (capacity more : ℕ) → after ≡ map ended_never records → more ≡ capacity →
     store_in after lists numbers (min (more - length after) lists.room) ≡
     record (store_in records lists numbers (min (capacity - length records) lists.room)) { hubs = map without_end (hubs_in records lists numbers) }
-store_forgot records after lists numbers capacity more same caps = λ i. record {
-  hubs = (ap (λ (ps : List Published). hubs_in ps lists numbers) same ∙ hubs_forgot records lists numbers) i;
-  room = min (caps i - (ap (λ (ps : List Published). length ps) same ∙ length-map records ended_never) i) lists.room;
-  slots = lists.members;
-}
+store_forgot records after lists numbers capacity more same caps = search (rules, hubs_forgot, length-map)

@@ -1,7 +1,8 @@
 -- How far an item's way was walked.
 use Rattle.rx_hub.proofs.Common.{◌≡◌, ℕ, zero, suc, ◌+◌, ◌≤◌, Bool, true, false, Option, Some, None, is_some, IfSome, IsSome, List, [], ◌∷◌, length, refl, ap}
-use Rattle.rx_hub.proofs.Common.{sym, ◌∙◌, arith, true≢false, not, option_and_then, option_map_or, option_or, most_visits, Key, Slots, find, Node, Stop, way}
+use Rattle.rx_hub.proofs.Common.{◌∙◌, arith, true≢false, not, option_and_then, option_map_or, option_or, most_visits, Key, Slots, find, Node, Stop, way}
 use Rattle.rx_hub.proofs.Common.{above_of, stop_of, onward_of, way_within, end_of}
+use Rattle.std.proofs.Common.{rules}
 
 -- so many nodes were visited from the first on, and of the way what begins at this node is left
 pub record IsOnWay (nodes : Slots Node) (first at : Key) (visits : ℕ) : Type 0 where
@@ -37,15 +38,13 @@ one_further {nodes} first at next visits w few free above = by_left w.left w.sum
   }
 
 or_none : (s : Option Stop) → option_or s None ≡ s
-or_none None = refl
-or_none (Some x) = refl
+or_none x0 = search rules
 
 -- where the way ends
 last_one : (nodes : Slots Node) (first at : Key) (visits : ℕ) (w : IsOnWay nodes first at visits) → way_within (suc w.left) nodes at ≡ at ∷ [] →
     (visits ≡ length (way nodes first)) × (stop_of nodes at ≡ end_of nodes (way nodes first))
 last_one nodes first at visits w last =
-    let n = w.visited ∙ ap (λ (ks : List Key). visits + length ks) last in
-    (omega arith, sym (w.ends ∙ ap (end_of nodes) last ∙ or_none (stop_of nodes at)))
+    search (rules, or_none)
 
 ends_here : (nodes : Slots Node) (at : Key) (left : ℕ) → onward_of nodes at ≡ None → way_within (suc left) nodes at ≡ at ∷ []
 ends_here nodes at left none = ap (λ (o : Option Key). at ∷ option_map_or (way_within left nodes) o []) none
@@ -79,12 +78,10 @@ unfolding most_visits
 limit_is = refl
 
 pub free_of : (s : Option Stop) (b : Bool) → is_some s ≡ not b → b ≡ true → s ≡ None
-free_of None b test none = refl
-free_of (Some x) b test none = absurd (true≢false (test ∙ ap not none))
+free_of x0 b test none = search (rules, true≢false)
 
 pub stop_there : (s : Option Stop) (b : Bool) → is_some s ≡ not b → b ≡ false → (x : Stop) × (s ≡ Some x)
-stop_there (Some x) b test some = (x, refl)
-stop_there None b test some = absurd (true≢false (sym (test ∙ ap not some)))
+stop_there x0 b test some = search (rules, true≢false)
 
 -- a climb by the records ----------------------------------------------------------------------------
 
@@ -110,7 +107,7 @@ pub climbing_on : {nodes : Slots Node} {first : Key} {read : Node} {stop : Optio
     IfSome after.above (λ up. IsSome (find nodes up)) → onward ≡ stop_of nodes next → IsClimbing nodes first after onward (visits + 1)
 climbing_on {nodes} {first} {read} {stop} {visits} w none few next after onward is found above stops = record {
   at = next;
-  on = one_further first w.at next visits w.on few (sym w.stops ∙ none) (above_found nodes w.at read (Some next) w.found is);
+  on = search (rules, one_further, above_found);
   stops = stops;
   found = found;
   above = above;
@@ -120,14 +117,12 @@ climbing_on {nodes} {first} {read} {stop} {visits} w none few next after onward 
 pub climbing_top : {nodes : Slots Node} {first : Key} {read : Node} {stop : Option Stop} {visits : ℕ} → IsClimbing nodes first read stop visits →
     stop ≡ None → read.above ≡ None → (visits ≡ length (way nodes first)) × (stop ≡ end_of nodes (way nodes first))
 climbing_top {nodes} {first} {read} {stop} {visits} w none top =
-    let ends = at_top nodes first w.at visits w.on (sym w.stops ∙ none) (above_found nodes w.at read None w.found top) in
-    (ends.0, w.stops ∙ ends.1)
+    search (rules, at_top, above_found)
 
 pub climbing_stop : {nodes : Slots Node} {first : Key} {read : Node} {stop : Option Stop} {visits : ℕ} → IsClimbing nodes first read stop visits →
     (x : Stop) → stop ≡ Some x → (visits ≡ length (way nodes first)) × (stop ≡ end_of nodes (way nodes first))
 climbing_stop {nodes} {first} {read} {stop} {visits} w x some =
-    let ends = at_stop nodes first w.at visits x w.on (sym w.stops ∙ some) in
-    (ends.0, w.stops ∙ ends.1)
+    search (rules, at_stop)
 
 pub climbing_limit : {nodes : Slots Node} {first : Key} {read : Node} {stop : Option Stop} {visits : ℕ} → IsClimbing nodes first read stop visits →
     most_visits + 1 ≤ visits → (visits ≡ length (way nodes first)) × (stop ≡ end_of nodes (way nodes first))

@@ -9,8 +9,7 @@ ghost use Rattle.rx_hub.specs.Rules.{connect_by, due_by, given_by};
 use crate::hub::{HubDue, LastEnd, Published};
 use crate::store::Store;
 use rx_event::Mode;
-use rx_slots::Rings;
-use rx_slots::Key;
+use rx_slots::{Key, Rings};
 
 /// Which of a hub's rules are asked for.
 #[derive(Clone, Copy)]

@@ -12,8 +12,7 @@ use crate::forcing::{Rule, due_at, next_at};
 use crate::hub::{HubDue, LastEnd, Published};
 use crate::store::Store;
 use rx_event::Mode;
-use rx_slots::Rings;
-use rx_slots::Key;
+use rx_slots::{Key, Rings};
 use std::alloc::{AllocError, Global};
 use std::marker::Model;
 

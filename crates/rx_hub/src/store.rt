@@ -7,8 +7,7 @@ ghost use Rattle.rx_hub.specs.Store.{key_in};
 
 use crate::hub::{LastEnd, Published};
 use rx_event::Mode;
-use rx_slots::Rings;
-use rx_slots::Key;
+use rx_slots::{Key, Rings};
 use std::alloc::{AllocError, Global};
 use std::marker::Model;
 

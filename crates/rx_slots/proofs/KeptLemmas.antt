@@ -4,6 +4,7 @@ use Rattle.rx_slots.proofs.Common.{option_map, slice_get, IsSome, count_by, cond
 use Rattle.rx_slots.proofs.Common.{get_or_from_slice_get, get_or_past, get_or-set_same, get_or-set_other, length-set, length_push, get_or_push, set_at, Entry}
 use Rattle.rx_slots.proofs.Common.{get_or_append_left, append-nil, sum_by-append, sum_by-set, IsWithin, placed, last_or, shown, IsKept}
 use Rattle.rx_slots.proofs.Laws.EntryByNumber.{found_there}
+use Rattle.std.proofs.Common.{rules}
 
 pub last_or-push : (further : ℕ) (slots : List ℕ) (slot : ℕ) → last_or further (slots ++ slot ∷ []) ≡ slot
 last_or-push further [] slot = refl
@@ -31,22 +32,15 @@ module _ {T : Type 0} where
   -- a slot with a value is one that was used
   pub below_length : (cells : List (Option (Entry T))) (slot : ℕ) → IsSome (get_or cells slot None) → slot < length cells
   below_length cells slot there =
-      elim (cases_lt slot (length cells)) [
-        | inl within ↦ within
-        | inr past ↦ absurd (true≢false (sym there ∙ ap is_some (get_or_past cells slot None past)))
-      ]
+      search (rules, cases_lt, length, true≢false, is_some, get_or_past)
 
   pub placed_next : (cells : List (Option (Entry T))) (e : Entry T) → cells ++ Some e ∷ [] ≡ placed cells (length cells) e
   placed_next cells e =
-      let more : length cells + 1 - length cells ≡ 1 = omega arith in
-      let nothing : Option (Entry T) = None in
-      sym (ap (λ n. set (cells ++ replicate n nothing) (length cells) (Some e)) more ∙ set_at cells nothing [] (Some e) (length cells) refl)
+      search (rules, length, set, replicate, set_at)
 
   pub placed_within : (cells : List (Option (Entry T))) (slot : ℕ) (e : Entry T) → slot < length cells → set cells slot (Some e) ≡ placed cells slot e
   placed_within cells slot e within =
-      let more : slot + 1 - length cells ≡ 0 = omega (arith, within) in
-      let nothing : Option (Entry T) = None in
-      sym (ap (λ n. set (cells ++ replicate n nothing) slot (Some e)) more ∙ ap (λ (xs : List (Option (Entry T))). set xs slot (Some e)) (append-nil cells))
+      search (rules, length, set, replicate, append-nil)
 
   -- how many have a value where one cell changes
   counted_set : (cells : List (Option (Entry T))) (slot : ℕ) (at : Option (Entry T)) → slot < length cells →
@@ -226,8 +220,13 @@ module _ {T : Type 0} where
               )
             ];
             once = λ i j less few same. elim (cases_lt j (length free)) [
-              | inl old ↦ kept.once i j less old (sym (get_or_append_left free (slot ∷ []) 0 i (omega (arith, less, old))) ∙ same ∙ get_or_append_left free (slot ∷ []) 0 j old)
-              | inr past ↦ let last : length free ≡ j = omega (arith, past, few, length_push free slot) in let before : i < length free = omega (arith, less, last) in
+              | inl old ↦ kept.once i j less old (sym (get_or_append_left free (slot ∷ []) 0 i (omega (arith, less, old))) ∙ same ∙ get_or_append_left
+                  free (slot ∷ []) 0 j old)
+              | inr past ↦ let last : length free ≡ j = omega (arith, past, few, length_push free slot) in let before : i < length free = omega (
+                arith,
+                less,
+                last,
+              ) in
                   not_free i before (sym (get_or_append_left free (slot ∷ []) 0 i before) ∙ same ∙ get_or_push free slot 0 j last)
             ];
           }

@@ -8,6 +8,7 @@ use Rattle.rx_slots.proofs.PlacesApart.{tells}
 use Rattle.rx_slots.proofs.Laws.Places.{place_apart, cases_place}
 use Rattle.rx_slots.proofs.Laws.Rings.{some_same, some_none, put_ring, rings_joined, rings_left}
 use Rattle.rx_slots.proofs.RingsShowLists.{seen, of_lt, free_home, out_ring, end_ring, ring_members, rings_seen, past_empty}
+use Rattle.std.proofs.Common.{rules}
 
 module _ (ends members ends' members' : List Link) (same_ends : length ends' ≡ length ends) (same_members : length members' ≡ length members)
     (tied : IsTiedIn ends members) where
@@ -129,8 +130,7 @@ module _ (ends members : List Link) (room : ℕ) (tied : IsTiedIn ends members) 
   ends_more = ends ++ alone (End (length ends)) ∷ []
 
   pub end_there : (p : Place) → within (length ends) (length members) p ≡ true → within (length ends_more) (length members) p ≡ true
-  end_there (End i) there = grind (arith, nat_tests, there, length-append ends (alone (End (length ends)) ∷ []))
-  end_there (Member m) there = there
+  end_there x0 there = search (rules, nat_tests, length-append, length)
 
   abbrev pub tied_end : IsTiedIn ends_more members
   tied_end = retied ends members ends_more members (end_grown ends members) end_there tied

@@ -30,13 +30,7 @@ in_ring m (x ∷ ps) all = λ i. sym (place_eq m x (all x (among_here tells x ps
 pub out_ring : (m : ℕ) (ps : List Place) → AreMembers ps → map number_of (without places (Member m) ps) ≡ take_out m (map number_of ps)
 out_ring m [] all = refl
 out_ring m (x ∷ ps) all =
-    of (is_place (Member m) x) (out_ring m ps (tail_members x ps all)) ∙
-    ap (λ b. cond (not b) (number_of x ∷ take_out m (map number_of ps)) (take_out m (map number_of ps))) (place_eq m x (all x (among_here tells x ps))) where
-      of : (b : Bool) → map number_of (without places (Member m) ps) ≡ take_out m (map number_of ps) →
-          map number_of (cond (not b) (x ∷ without places (Member m) ps) (without places (Member m) ps)) ≡
-          cond (not b) (number_of x ∷ take_out m (map number_of ps)) (take_out m (map number_of ps))
-      of true rest = rest
-      of false rest = ap (λ (ys : List ℕ). number_of x ∷ ys) rest
+    search (rules, tail_members, cond, not, map, place_eq, among_here, tells, without, out_ring m ps (tail_members x ps all))
 
 pub end_ring : (ps : List Place) (q : Place) → map number_of (ps ++ q ∷ []) ≡ map number_of ps ++ number_of q ∷ []
 end_ring [] q = refl
@@ -55,12 +49,10 @@ as_member (End i) = None
 as_member (Member m) = Some m
 
 end_none : (e : Place) → is_end e ≡ true → as_member e ≡ None
-end_none (End i) ends = refl
-end_none (Member m) ends = absurd (false≢true ends)
+end_none x0 ends = search (rules, false≢true)
 
 inner_some : (e : Place) → is_end e ≡ false → e ≡ Member (number_of e)
-inner_some (End i) inner = absurd (true≢false inner)
-inner_some (Member m) inner = refl
+inner_some x0 inner = search (rules, true≢false)
 
 head_leads : (n p : Steps Place) (a : Place) (ps : List Place) (b : Place) → Leads n p a ps b → AreMembers ps → is_end b ≡ true →
     as_member (n a) ≡ head_of (map number_of ps)
@@ -137,11 +129,7 @@ module _ (ends members : List Link) (room : ℕ) (tied : IsTiedIn ends members) 
 
   -- each list is that of a ring
   pub seen : (e : ℕ) → list_at (lists_in ends members room) e ≡ map number_of (tied.rings (End e))
-  seen e = elim (cases_lt e (length ends)) [
-    | inl inside ↦ get_or-map-range_with_len (ring_in ends members) 0 (length ends) e e [] inside (zero-add e) ∙ ap (map number_of) (walk_ring e)
-    | inr past ↦ get_or_past (lists_in ends members room).lists e [] (omega (arith, length-map-range_with_len (ring_in ends members) 0 (length ends), past)) ∙
-        sym (ap (map number_of) (past_empty e past))
-  ]
+  seen e = search (rules, cases_lt, length, ends, get_or-map-range_with_len, members, zero-add, map, walk_ring, get_or_past, length-map-range_with_len, past_empty)
 
   pub seen_in : (e m : ℕ) → is_in m (list_at (lists_in ends members room) e) ≡ is_among places (Member m) (tied.rings (End e))
   seen_in e m = ap (is_in m) (seen e) ∙ in_ring m (tied.rings (End e)) (ring_members (End e))
@@ -154,12 +142,10 @@ module _ (ends members : List Link) (room : ℕ) (tied : IsTiedIn ends members) 
   }
 
   pub first_seen : (e : ℕ) → as_member (next_in ends members (End e)) ≡ head_of (list_at (lists_in ends members room) e)
-  first_seen e = head_leads (next_in ends members) (previous_in ends members) (End e) (tied.rings (End e)) (End e) (tied.ringed.leads (End e) refl)
-      (ring_members (End e)) refl ∙ ap head_of (sym (seen e))
+  first_seen e = search (rules, head_leads, ends, members, ring_members, seen)
 
   pub last_seen : (e : ℕ) → as_member (previous_in ends members (End e)) ≡ last_of (list_at (lists_in ends members room) e)
-  last_seen e = last_leads (next_in ends members) (previous_in ends members) (End e) (tied.rings (End e)) (End e) (tied.ringed.leads (End e) refl)
-      (ring_members (End e)) ∙ ap last_of (sym (seen e))
+  last_seen e = search (rules, last_leads, ends, members, ring_members, seen)
 
   pub next_seen : (e m : ℕ) → is_in m (list_at (lists_in ends members room) e) ≡ true →
       as_member (next_in ends members (Member m)) ≡ after m (list_at (lists_in ends members room) e)

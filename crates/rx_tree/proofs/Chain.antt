@@ -1,44 +1,20 @@
 -- The chain that callers see, and the ring that it is kept in.
-use Rattle.rx_tree.proofs.Common.{◌≡◌, ℕ, ◌<◌, ◌==◌, ◌&&◌, ◌||◌, cond, map, Bool, true, false, List, [], ◌∷◌, length, Option, Some, None, is_some, IsSome, ap}
-use Rattle.rx_tree.proofs.Common.{refl, sym, subst, ◌∙◌, inl, inr, arith, true≢false, option_map_or, option_and_then, is_root, cases_lt, false≢true, Entry}
-use Rattle.rx_tree.proofs.Common.{false_from_ne_true, nat_tests, get_or_past, length-map, Key, Slots, entry_at, find, Place, Roots, Due, Waiting, Children}
-use Rattle.rx_tree.proofs.Common.{Held, Sibling, Noted, Stored, Node, Stowed, Store, is_among, AreDifferent, walk, is_place, slot_of, places, tells, or_true}
+use Rattle.rx_tree.proofs.Common.{◌≡◌, ℕ, ◌<◌, ◌||◌, map, Bool, true, false, List, [], ◌∷◌, length, Option, Some, None, is_some, IsSome, ap}
+use Rattle.rx_tree.proofs.Common.{refl, sym, subst, ◌∙◌, inl, inr, arith, true≢false, option_map_or, cases_lt, false≢true, Entry}
+use Rattle.rx_tree.proofs.Common.{false_from_ne_true, nat_tests, get_or_past, length-map, Key, Slots, entry_at, find, Place, Due}
+use Rattle.rx_tree.proofs.Common.{Noted, Node, Stowed, Store, is_among, AreDifferent, walk, slot_of, places, tells, or_true}
 use Rattle.rx_tree.proofs.Common.{few_places, among_here, among_there, among_cons, walk_leads, some_same, on_entry, key_on, nodes_of, resources_of, next_of}
-use Rattle.rx_tree.proofs.Common.{previous_of, stands, shown, home_of, sibling_ring, resource_ring, IsTiedAt, IsTied, IsPromised, AreDistinct, is_key, is_on}
-use Rattle.rx_tree.proofs.Common.{same_key, entry_found, found_entry, is_owned, is_lent}
+use Rattle.rx_tree.proofs.Common.{previous_of, stands, shown, home_of, resource_ring, IsTiedAt, IsTied, IsPromised, AreDistinct, is_key, is_on}
+use Rattle.rx_tree.proofs.Common.{same_key, entry_found, found_entry, is_lent}
 use Rattle.std.specs.Option.{option_map}
 use Rattle.rx_tree.proofs.TieRecords.{home_stands}
+use Rattle.std.proofs.Common.{rules}
 
 module _ {T : Type 0} where
   -- a place that may be due is that of a node
   pub due_is : (nodes : Slots Node) (resources : Slots (Stowed T)) (noted : ℕ → Bool) (q : Place) → home_of nodes resources noted q ≡ Some Due →
       q ≡ Noted (slot_of q)
-  due_is nodes resources noted (Noted j) at = refl
-  due_is nodes resources noted (Sibling j) at = absurd (of (entry_at nodes j) at) where
-    root : (b : Bool) → cond b (Some Roots) None ≡ Some Due → ⊥
-    root true e = true≢false (ap (λ q. is_place Roots q) (sym (some_same Due Roots (sym e)) ∙ refl) ∙ refl)
-    root false e = true≢false (ap is_some (sym e))
-
-    by : (o : Option Key) (b : Bool) → option_map_or (λ key. Some (Children key.slot)) o (cond b (Some Roots) None) ≡ Some Due → ⊥
-    by None b e = root b e
-    by (Some k) b e = true≢false (sym (tells.self (Children k.slot)) ∙ ap (is_place (Children k.slot)) (some_same (Children k.slot) Due e))
-
-    of : (o : Option (Entry Node)) → option_and_then (λ e. sibling_ring e.value) o ≡ Some Due → ⊥
-    of None e = true≢false (ap is_some (sym e))
-    of (Some x) e = by x.value.above (is_root x.value.made) e
-  due_is nodes resources noted (Stored r) at = absurd (of (entry_at resources r) at) where
-    by : (b : Bool) (s : ℕ) → cond b (Held s) Waiting ≡ Due → ⊥
-    by true s e = true≢false (sym (tells.self (Held s)) ∙ ap (is_place (Held s)) e)
-    by false s e = true≢false (sym (tells.self Waiting) ∙ ap (is_place Waiting) e)
-
-    of : (o : Option (Entry (Stowed T))) → option_and_then (λ e. resource_ring nodes e.value) o ≡ Some Due → ⊥
-    of None e = true≢false (ap is_some (sym e))
-    of (Some x) e = lent (is_lent x.value) e where
-      lent : (l : Bool) → cond l None (Some (cond (is_owned nodes x.value) (Held x.value.node.slot) Waiting)) ≡ Some Due → ⊥
-      lent true e = true≢false (ap is_some (sym e))
-      lent false e = by (is_owned nodes x.value) x.value.node.slot (some_same (cond (is_owned nodes x.value) (Held x.value.node.slot) Waiting) Due e)
-  due_is nodes resources noted Roots at = absurd (true≢false (ap is_some (sym at)))
-  due_is nodes resources noted _ at = absurd (true≢false (ap is_some (sym at)))
+  due_is nodes resources noted x3 at = search (rules, true≢false, some_same, resource_ring, is_lent)
 
   -- the ring of those that may be due is what a walk meets
   pub walk_due : (s : Store T) (nodes : Slots Node) (resources : Slots (Stowed T)) → nodes_of s ≡ nodes →
@@ -66,17 +42,13 @@ module _ {T : Type 0} where
   pub retie : (s : Store T) (nodes : Slots Node) (resources : Slots (Stowed T)) → nodes_of s ≡ nodes → resources_of s ≡ resources →
       IsTiedAt (next_of s) (previous_of s) nodes resources → IsTied s
   retie s nodes resources a b tied =
-      subst (λ m. IsTiedAt (next_of s) (previous_of s) m (resources_of s)) (sym a) (subst (λ r. IsTiedAt (next_of s) (previous_of s) nodes r) (sym b) tied)
+      search (rules, resources_of)
 
 key_parts : (k l : Key) → is_key k l ≡ true → (k.slot ≡ l.slot) × (k.number ≡ l.number)
-key_parts k l e = of (k.slot == l.slot) (k.number == l.number) refl refl e where
-  of : (a b : Bool) → (k.slot == l.slot) ≡ a → (k.number == l.number) ≡ b → (a && b) ≡ true → (k.slot ≡ l.slot) × (k.number ≡ l.number)
-  of true true s n e = (grind (arith, nat_tests, s), grind (arith, nat_tests, n))
-  of true false s n e = absurd (false≢true e)
-  of false b s n e = absurd (false≢true e)
+key_parts k l e = search (rules, nat_tests, false≢true)
 
 pub key_self : (k : Key) → is_key k k ≡ true
-key_self k = let a : (k.slot == k.slot) ≡ true = grind (arith, nat_tests) in let b : (k.number == k.number) ≡ true = grind (arith, nat_tests) in rw (a, b) refl
+key_self k = search (rules, nat_tests)
 
 -- a key that stands among those of places is that of one of them
 pub record IsKeyOf (nodes : Slots Node) (ps : List Place) (k : Key) : Type 0 where
@@ -116,9 +88,7 @@ distinct_keys nodes (x ∷ ps) d all = (
 
 pub key_on_found : (nodes : Slots Node) (k : Key) (node : Node) (x : Place) → slot_of x ≡ k.slot → find nodes k ≡ Some node → key_on nodes x ≡ k
 key_on_found nodes k node x slot found =
-    same_key (key_on nodes x) k slot
-    (ap (λ j. option_map_or (λ n. n) (option_map (λ e. e.number) (entry_at nodes j)) 0) slot ∙
-    ap (λ o. option_map_or (λ n. n) (option_map (λ e. e.number) o) 0) (entry_found nodes k node found))
+    search (rules, same_key, slot, entry_found)
 
 module _ {T : Type 0} where
   -- what holds of every tree

@@ -1,5 +1,5 @@
 -- What is left of a tree while a subtree is cut away from it, and after.
-use Rattle.rx_tree.proofs.Common.{◌≡◌, ◌≢◌, ℕ, suc, ◌+◌, ◌<◌, ◌≤◌, ◌==◌, ◌||◌, cond, Bool, true, false, List, [], ◌∷◌, ◌++◌, length, Option, Some, None, take}
+use Rattle.rx_tree.proofs.Common.{◌≡◌, ◌≢◌, ℕ, suc, ◌+◌, ◌<◌, ◌≤◌, ◌==◌, cond, Bool, true, false, List, [], ◌∷◌, ◌++◌, length, Option, Some, None, take}
 use Rattle.rx_tree.proofs.Common.{is_some, IsSome, IfSome, drop, refl, sym, ap, subst, ◌∙◌, inl, inr, arith, true≢false, filter, not, nat_tests, append_assoc}
 use Rattle.rx_tree.proofs.Common.{Key, find, Node, Store, is_key, is_on, is_below, Closed, IsSubtree, outside, owed_in, Descends, still_open, CutsLeaf, shown}
 use Rattle.rx_tree.proofs.Common.{IsCutting, nodes_of, IsTied, cases_key, none_not_some, or_true}
@@ -7,13 +7,13 @@ use Rattle.std.proofs.Math.Seq.{take-append_seam, drop-append_seam}
 use Rattle.rx_tree.proofs.Chain.{promised, key_self}
 use Rattle.rx_tree.proofs.CutLemmas.{descends_on, descends_in, descends_above, part_start, part_step, kept_by_cuts, subtree_moved}
 use Rattle.rx_tree.proofs.Laws.Owed.{owed_fewer}
+use Rattle.std.proofs.Common.{rules}
 
 filter_on : (p q : Key → Bool) (xs : List Key) → ((x : Key) → is_on x xs ≡ true → p x ≡ q x) → filter p xs ≡ filter q xs
 filter_on p q [] same = refl
 filter_on p q (x ∷ xs) same =
     let again : filter p xs ≡ filter q xs = filter_on p q xs (λ y on. same y (or_true (is_key y x) (is_on y xs) on)) in
-    let test : p x ≡ q x = same x (ap (λ b. b || is_on x xs) (key_self x)) in
-    λ i. cond (test i) (x ∷ again i) (again i)
+    search (rules, key_self)
 
 filter_all : (xs : List Key) → filter (λ _. true) xs ≡ xs
 filter_all [] = refl
@@ -21,14 +21,7 @@ filter_all (x ∷ xs) = ap (λ (ys : List Key). x ∷ ys) (filter_all xs)
 
 filter_twice : (p q : Key → Bool) (xs : List Key) → ((x : Key) → q x ≡ true → p x ≡ true) → filter q (filter p xs) ≡ filter q xs
 filter_twice p q [] more = refl
-filter_twice p q (x ∷ xs) more = of (filter_twice p q xs more) (p x) refl where
-  of : filter q (filter p xs) ≡ filter q xs → (a : Bool) → p x ≡ a → filter q (cond a (x ∷ filter p xs) (filter p xs)) ≡ cond (q x) (x ∷ filter q xs)
-      (filter q xs)
-  of again true e = ap (λ ys. cond (q x) (x ∷ ys) ys) again
-  of again false e = again ∙ skip (q x) refl where
-    skip : (b : Bool) → q x ≡ b → filter q xs ≡ cond b (x ∷ filter q xs) (filter q xs)
-    skip true f = absurd (true≢false (sym (more x f) ∙ e))
-    skip false f = refl
+filter_twice p q (x ∷ xs) more = search (rules, true≢false, filter_twice p q xs more)
 
 length_push : (xs : List Closed) (x : Closed) → length (xs ++ x ∷ []) ≡ suc (length xs)
 length_push [] x = refl

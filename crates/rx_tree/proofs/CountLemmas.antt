@@ -3,6 +3,7 @@ use Rattle.rx_tree.proofs.Common.{◌≡◌, ◌≢◌, ℕ, suc, ◌+◌, ◌<�
 use Rattle.rx_tree.proofs.Common.{is_some, count_by, refl, sym, subst, ◌∙◌, inl, inr, arith, ◌⊎◌, sum_by, not, cases_eq, nat_tests, get_or-set_same, Entry}
 use Rattle.rx_tree.proofs.Common.{get_or-set_other, sum_by-cons, sum_by-set, Key, Slots, entry_at, find, with_number, Changes, Node, Stowed, is_owned}
 use Rattle.rx_tree.proofs.Common.{unowned_in, owned_at, AreCounted, found_entry, slot_within}
+use Rattle.std.proofs.Common.{rules}
 
 -- one for what passes a test, none for what does not
 abbrev pub bit : Bool → ℕ
@@ -32,10 +33,7 @@ module _ {X : Type 0} where
   sum_both f g h (x ∷ xs) both =
       let first : f x ≡ g x + h x = both 0 in
       let rest = sum_both f g h xs (λ j. both (suc j)) in
-      let a = sum_by-cons f x xs in
-      let b = sum_by-cons g x xs in
-      let c = sum_by-cons h x xs in
-      omega (arith, first, rest, a, b, c)
+      search (rules, sum_by-cons)
 
   -- one entry changed
   pub sum_changed : (f : Option X → ℕ) (xs ys : List (Option X)) (slot : ℕ) → f None ≡ 0 → slot < length xs →
@@ -50,30 +48,19 @@ module _ {X : Type 0} where
 
 -- how a node that is taken out changes what is owned and what is not
 waits_shape : (g s c here : Bool) → bit (g && not ((s && not here) && c)) ≡ bit (g && not (s && c)) + bit (g && ((s && c) && here))
-waits_shape false s c here = refl
-waits_shape true true true true = refl
-waits_shape true true true false = refl
-waits_shape true true false true = refl
-waits_shape true true false false = refl
-waits_shape true false c here = refl
+waits_shape x0 s c here = search rules
 
 none_shape : (g s c : Bool) → bit (g && (((s && false) && c) && true)) ≡ 0
-none_shape false s c = refl
-none_shape true true c = refl
-none_shape true false c = refl
+none_shape x0 s c = search rules
 
 false_last : (g b : Bool) → bit (g && (b && false)) ≡ 0
-false_last true true = refl
-false_last true false = refl
-false_last false b = refl
+false_last x0 x1 = search rules
 
 and_true : (a : Bool) → a ≡ (a && true)
-and_true true = refl
-and_true false = refl
+and_true x0 = search rules
 
 and_false : (a : Bool) → (a && false) ≡ false
-and_false true = refl
-and_false false = refl
+and_false x0 = search rules
 
 pub same_apart : (a b : ℕ) → a ≢ b → (a == b) ≡ false
 same_apart a b apart = grind (arith, nat_tests, apart)
@@ -87,9 +74,7 @@ module _ {T : Type 0} where
       p None ≡ false → slot < length old.entries → entry_at old slot ≡ before → Changes old new slot after →
       count_by p new.entries + bit (p before) ≡ count_by p old.entries + bit (p after)
   count_changed p old new {slot} before none within at change =
-      ap (λ o. count_by p new.entries + bit (p o)) (sym at) ∙
-      sum_changed (λ x. bit (p x)) old.entries new.entries slot (ap bit none) within change.others ∙
-      ap (λ o. count_by p old.entries + bit (p o)) change.changed
+      search (rules, sum_changed)
 
   -- counts of those that pass a test
   module _ (test : Stowed T → Bool) where

@@ -1,5 +1,5 @@
 -- How the counts of a store follow what changes of its records.
-use Rattle.rx_tree.proofs.Common.{◌≡◌, ◌≢◌, ℕ, ◌+◌, ◌-◌, ◌<◌, ◌≤◌, ◌==◌, cond, Bool, true, false, [], length, get_or, map, Option, Some, None, option_map, ap}
+use Rattle.rx_tree.proofs.Common.{◌≡◌, ◌≢◌, ℕ, ◌+◌, ◌-◌, ◌<◌, ◌≤◌, ◌==◌, cond, Bool, true, false, [], length, Option, Some, None, option_map, ap}
 use Rattle.rx_tree.proofs.Common.{is_some, count_by, refl, sym, subst, ◌∙◌, inl, inr, ◌⊎◌, arith, true≢false, option_map_or, not, cases_eq, length-map, Entry}
 use Rattle.rx_tree.proofs.Common.{count_by-le-length, Key, Slots, entry_of, value_at, find, Changes, Node, Stowed, Record, Counts, Store, owed_in, is_owned}
 use Rattle.rx_tree.proofs.Common.{is_lent, is_held, removed, one_lease_more, one_lease_less, waits_in, waiting_count, on_entry, project, nodes_of, no_counts}
@@ -10,14 +10,14 @@ use Rattle.rx_tree.specs.declared.store.Stored.{Stored as Kept}
 use Rattle.rx_tree.proofs.CountLemmas.{bit, same_here, same_apart, count_changed, counted_changed, counted_placed, counted_out, are_counted_still}
 use Rattle.rx_tree.proofs.Laws.Owed.{owed_came, owed_taken, owed_empty}
 use Rattle.rx_tree.proofs.StoreLemmas.{find-project}
+use Rattle.std.proofs.Common.{rules}
 
 -- what of the counts is of those with a lease out, or of the others
 abbrev part : Bool → Counts → ℕ
 part l counts = count_if l counts
 
 zero_of : (l : Bool) → part l no_counts ≡ 0
-zero_of true = refl
-zero_of false = refl
+zero_of x0 = search rules
 
 -- how a resource counts beside these nodes: with a lease out or none, with an owner or none
 pub record CountsAs {T : Type 0} (nodes : Slots Node) (stowed : Stowed T) (lent owned : Bool) : Type 0 where
@@ -51,33 +51,24 @@ module _ {T : Type 0} where
   -- with counts that are the same
   re_counted : (l : Bool) {nodes : Slots Node} {resources : Slots (Stowed T)} (u v : Counts) (f g : ℕ → Counts) → u ≡ v → ((j : ℕ) → f j ≡ g j) →
       AreCountedAs l nodes resources u f → AreCountedAs l nodes resources v g
-  re_counted l u v f g same each c = record {
-    by_none = ap (part l) (sym same) ∙ c.by_none;
-    by_each = λ j. ap (part l) (sym (each j)) ∙ c.by_each j;
-  }
+  re_counted l u v f g same each c = search rules
 
 module _ {T : Type 0} (a b : Store T) where
   -- no count changes where the same resources are held
   pub counted_kept : IsCounted a → b.waiting_count ≡ a.waiting_count → ((j : ℕ) → held_count_at b j ≡ held_count_at a j) →
       (resources_of b).entries ≡ (resources_of a).entries → ((key : Key) (stowed : Stowed T) → find (resources_of a) key ≡ Some stowed → is_some (find
       (nodes_of b) stowed.node) ≡ is_some (find (nodes_of a) stowed.node)) → b.owed ≡ owed_in (nodes_of b) → IsCounted b
-  counted_kept c waiting held entries same owed = counted_of b (λ l.
-      re_counted l a.waiting_count b.waiting_count (held_count_at a) (held_count_at b) (sym waiting) (λ j. sym (held j))
-      (are_counted_still (test_of l) (nodes_of a) (nodes_of b) (resources_of a) (resources_of b) entries same (part l a.waiting_count)
-      (λ j. part l (held_count_at a j)) (sort_of a c l))) owed
+  counted_kept c waiting held entries same owed = search (rules, re_counted, held_count_at, waiting, held, are_counted_still, nodes_of, resources_of)
 
   pub counted_relinked : Relinks a b → IsCounted a → IsCounted b
-  counted_relinked r c = counted_kept c r.waiting_count r.held_count (ap (λ (s : Slots (Stowed T)). s.entries) r.resources)
-      (λ key stowed found. ap (λ (n : Slots Node). is_some (find n stowed.node)) r.nodes) (r.owed ∙ c.owed ∙ ap owed_in (sym r.nodes))
+  counted_relinked r c = search (rules, counted_kept)
 
   -- a node comes that is newer than each that a resource came to be held at
   pub found_before : (key : Key) (number : ℕ) (node : Node) → Inserts (nodes_of a) (nodes_of b) key number node → ((k : Key) (stowed : Stowed T) → find
       (resources_of a) k ≡ Some stowed → stowed.node.number < number) → (k : Key) (stowed : Stowed T) → find (resources_of a) k ≡ Some stowed →
       is_some (find (nodes_of b) stowed.node) ≡ is_some (find (nodes_of a) stowed.node)
   found_before key number node came homes k stowed found =
-      let less = homes k stowed found in
-      ap is_some (came.kept stowed.node (λ same. let n : stowed.node.number ≡ number = ap (λ (k : Key). k.number) same ∙ came.numbered in
-      omega (arith, less, n)))
+      search rules
 
   -- one that owes nothing changes nothing of what is owed
   pub owed_opened : (key : Key) (number : ℕ) (node : Node) → Inserts (nodes_of a) (nodes_of b) key number node → node.marks.owed ≡ 0 →
@@ -90,14 +81,7 @@ module _ {T : Type 0} (a b : Store T) where
   -- a node is written in the place of another
   pub found_marked : (key : Key) (change : Node → Node) → Rewrites (nodes_of a) (nodes_of b) key change → (k : Key) →
       is_some (find (nodes_of b) k) ≡ is_some (find (nodes_of a) k)
-  found_marked key change written k = elim (cases_key k key) [
-    | inl same ↦ subst (λ z. is_some (find (nodes_of b) z) ≡ is_some (find (nodes_of a) z)) (sym same)
-        (ap is_some written.changed ∙ of (find (nodes_of a) key))
-    | inr other ↦ ap is_some (written.others k other)
-  ] where
-    of : (o : Option Node) → is_some (option_map change o) ≡ is_some o
-    of None = refl
-    of (Some node) = refl
+  found_marked key change written k = search (rules, cases_key, nodes_of)
 
   -- a resource comes that its node owns and that has no lease out
   module _ (c : IsCounted a) (key : Key) (number : ℕ) (stowed : Stowed T) (came : Inserts (resources_of a) (resources_of b) key number stowed)
@@ -446,60 +430,31 @@ module _ {T : Type 0} (s : Store T) (c : IsCounted s) where
     }
 
   pub counted_room_resources : (m : Slots (Kept T)) → m ≡ record s.resources { room = m.room } → IsCounted (record s { resources = m })
-  counted_room_resources m same = subst (λ (n : Slots (Kept T)). IsCounted (record s { resources = n })) (sym same) wider where
-    wider : IsCounted (record s { resources = record s.resources { room = m.room } })
-    wider = record {
-      free = record { by_none = c.free.by_none; by_each = c.free.by_each };
-      lent = record { by_none = c.lent.by_none; by_each = c.lent.by_each };
-      owed = c.owed;
-    }
+  counted_room_resources m same = search rules
 
 -- nothing is counted where nothing is
 pub counted_empty : {T : Type 0} (s : Store T) → s.nodes.entries ≡ [] → s.resources.entries ≡ [] → s.waiting_count ≡ no_counts → s.owed ≡ 0 →
     IsCounted s
-counted_empty s nodes resources none owed = counted_of s (λ l. record {
-  by_none = ap (part l) none ∙ zero_of l ∙ ap (count_by (unowned_in (test_of l) (nodes_of s))) (sym kept);
-  by_each = λ j. ap (λ es. part l (option_map_or (λ l. l.held_count) (option_map (λ e. e.value) (get_or es j None)) no_counts)) nodes ∙ zero_of l ∙
-      ap (count_by (owned_at (test_of l) (nodes_of s) j)) (sym kept);
-}) (owed ∙ sym (owed_empty (nodes_of s) (ap (map (option_map (on_entry (λ l. l.node)))) nodes)))
-  where
-    kept : (resources_of s).entries ≡ []
-    kept = ap (map (option_map (on_entry (λ r. r.stowed)))) resources
+counted_empty s nodes resources none owed = search (rules, zero_of, unowned_in, nodes_of, owned_at, owed_empty, resources_of)
 
 -- those without a lease out that no node owns are those that wait, and the others are held by leases alone
 pub waiting_is : {T : Type 0} (s : Store T) → IsCounted s → s.waiting_count.free ≡ waiting_count (shown s)
-waiting_is {T = T} s c = c.free.by_none ∙ ap (λ p. count_by p (resources_of s).entries) (λ i o. same o i) where
-  shape : (o l : Bool) → (not l && not o) ≡ not (o || l)
-  shape true true = refl
-  shape true false = refl
-  shape false true = refl
-  shape false false = refl
-
-  same : (o : Option (Entry (Stowed T))) → unowned_in is_free (nodes_of s) o ≡ waits_in (nodes_of s) o
-  same None = refl
-  same (Some e) = shape (is_owned (nodes_of s) e.value) (is_lent e.value)
+waiting_is {T = T} s c = search (rules, resources_of, unowned_in, nodes_of, waits_in, is_lent)
 
 -- what stays at each node, at one of them too
 still : {T : Type 0} (a b : Store T) (home : ℕ) → ((j : ℕ) → held_count_at b j ≡ held_count_at a j) → (j : ℕ) → held_count_at b j ≡ cond (home == j)
     (held_count_at a home) (held_count_at a j)
-still a b home count j = of (cases_eq home j) where
-  of : (home ≡ j) ⊎ (home ≢ j) → held_count_at b j ≡ cond (home == j) (held_count_at a home) (held_count_at a j)
-  of (inl here) = count j ∙ sym (ap (λ t. cond t (held_count_at a home) (held_count_at a j)) (same_here home j here) ∙ ap (held_count_at a) here)
-  of (inr apart) = count j ∙ sym (ap (λ t. cond t (held_count_at a home) (held_count_at a j)) (same_apart home j apart))
+still a b home count j = search (rules, cases_eq, held_count_at, same_here, same_apart)
 
 -- an owned resource is removed
 module _ {T : Type 0} (a b : Store T) (c : IsCounted a) (key : Key) (stowed : Stowed T) (found : find (resources_of a) key ≡ Some stowed)
     (change : Changes (resources_of a) (resources_of b) key.slot (Some (entry_of key.number (removed stowed))))
     (owned : is_owned (nodes_of a) stowed ≡ true) where
   off : is_owned (nodes_of a) (removed stowed) ≡ false
-  off = of (is_some (find (nodes_of a) stowed.node)) where
-    of : (b : Bool) → (b && false) ≡ false
-    of true = refl
-    of false = refl
+  off = search (rules, nodes_of)
 
   no_more : (p : Bool) → (p && false) ≡ false
-  no_more true = refl
-  no_more false = refl
+  no_more x0 = search rules
 
   pub removed_some : 1 ≤ count_if (is_lent stowed) (held_count_at a stowed.node.slot)
   removed_some = some_counted a b c key stowed (removed stowed) found refl change (record { lending = refl; owning = owned })

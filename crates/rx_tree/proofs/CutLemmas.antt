@@ -5,6 +5,7 @@ use Rattle.rx_tree.proofs.Common.{Closed, IsInside, IsSubtree, Descends, from_to
 use Rattle.std.proofs.lemmas.List.Elements.{Contains-append_left, Contains-push, Contains-push_cases, Contains-get_or}
 use Rattle.std.proofs.lemmas.List.Quantifiers.{all_pairs_push}
 use Rattle.rx_tree.proofs.Laws.Below.{below_itself, below_child, not_below}
+use Rattle.std.proofs.Common.{rules}
 
 pub nearer : (limit a b : ℕ) → a < b → a < limit → limit - b < limit - a
 nearer limit a b less bound = omega (arith, less, bound)
@@ -37,12 +38,7 @@ descends_above whole top c node (one_down p k n up at above) found other =
 
 -- nothing was moved out yet
 pub part_start : (whole : Slots Node) (top : Key) → IsPart whole top whole []
-part_start whole top = record {
-  left = λ k some. refl;
-  out = λ m has. absurd (let l = has.1 in omega (arith, l));
-  gone = λ k node found none. absurd (none_not_some (find whole k) none (ap is_some found));
-  once = λ i j d before within. absurd (omega (arith, before, within));
-}
+part_start whole top = search (rules, none_not_some)
 
 module _ (whole : Slots Node) (sound : IsSound whole) (top : Key) (there : IsSome (find whole top)) where
   -- one record more is moved out

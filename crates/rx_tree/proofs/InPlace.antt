@@ -2,6 +2,7 @@
 use Rattle.rx_tree.proofs.Common.{◌≡◌, ℕ, Option, Some, None, option_map, is_some, IsSome, IfSome, refl, sym, ap, ◌∙◌, true≢false, Entry, Key, Slots, key_at}
 use Rattle.rx_tree.proofs.Common.{entry_of, entry_at, value_at, number_at, find, some_same, Record, Node, on_entry, project, IsSound, found_entry}
 use Rattle.rx_tree.proofs.StoreLemmas.{entry_at-project}
+use Rattle.std.proofs.Common.{rules}
 
 module _ {X Y : Type 0} (f : X → Y) (s : Slots X) (i : ℕ) where
   pub value_at-project : value_at (project f s) i ≡ option_map f (value_at s i)
@@ -25,13 +26,7 @@ module _ {X Y : Type 0} (f : X → Y) (s : Slots X) (i : ℕ) where
 -- a number and its slot are a key
 pub key_of_number : {X : Type 0} (s : Slots X) (slot number : ℕ) → number_at s slot ≡ Some number →
     key_at s slot ≡ Some (record { slot = slot; number = number })
-key_of_number {X} s slot number at = of (entry_at s slot) at where
-  key : ℕ → Key
-  key n = record { slot = slot; number = n }
-
-  of : (o : Option (Entry X)) → option_map (λ e. e.number) o ≡ Some number → option_map (λ e. key e.number) o ≡ Some (key number)
-  of None e = absurd (true≢false (ap is_some (sym e)))
-  of (Some x) e = ap (option_map key) e
+key_of_number {X} s slot number at = search (rules, true≢false)
 
 -- the node above one that a key finds is open
 pub above_found : (nodes : Slots Node) → IsSound nodes → (key : Key) (o : Option Record) → option_map (λ l. l.node) o ≡ find nodes key →

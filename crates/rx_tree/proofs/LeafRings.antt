@@ -1,10 +1,11 @@
 -- What rings say of the node at their end, and what the removal of a childless node leaves of them.
-use Rattle.rx_tree.proofs.Common.{◌≡◌, ◌≢◌, ℕ, ◌<◌, ◌&&◌, cond, Bool, true, false, List, [], ◌∷◌, Option, Some, None, option_map, is_some, IsSome, IfSome, ap}
+use Rattle.rx_tree.proofs.Common.{◌≡◌, ◌≢◌, ℕ, ◌<◌, cond, Bool, true, false, List, [], ◌∷◌, Option, Some, None, option_map, is_some, IsSome, IfSome, ap}
 use Rattle.rx_tree.proofs.Common.{refl, sym, subst, ◌∙◌, inl, inr, true≢false, option_map_or, option_and_then, false≢true, is_root, Entry, Key, Slots, key_at}
-use Rattle.rx_tree.proofs.Common.{entry_at, find, Place, Roots, Due, Children, Held, Sibling, Noted, Stored, Node, Stowed, is_among, Steps, IsLink, Leads}
+use Rattle.rx_tree.proofs.Common.{entry_at, find, Place, Roots, Children, Held, Sibling, Stored, Node, Stowed, is_among, Steps, IsLink, Leads}
 use Rattle.rx_tree.proofs.Common.{AreRings, is_place, is_end, slot_of, places, tells, cases_place, place_apart, among_here, next_in, previous_in, first_among}
 use Rattle.rx_tree.proofs.Common.{last_among, some_same, sibling_ring, home_of, IsTiedAt, some_of, entry_found, found_entry, one_key}
 use Rattle.rx_tree.proofs.TieRecords.{aged}
+use Rattle.std.proofs.Common.{rules}
 
 -- as it was, but for one place that has no home
 abbrev pub lone : (Place → Option Place) → Place → Place → Option Place
@@ -18,10 +19,7 @@ lone_other home item q apart = ap (λ b. cond b None (home q)) (place_apart tell
 
 -- what has a home but for one place has it
 pub lone_some : (home : Place → Option Place) (item q e : Place) → lone home item q ≡ Some e → home q ≡ Some e
-lone_some home item q e at = of (is_place item q) at where
-  of : (b : Bool) → cond b None (home q) ≡ Some e → home q ≡ Some e
-  of true at = absurd (true≢false (ap is_some (sym at)))
-  of false at = at
+lone_some home item q e at = search (rules, true≢false)
 
 module _ (n p : Steps Place) (home : Place → Option Place) (rings : Place → List Place) (R : AreRings places n p home rings) where
   -- links lead to what stands somewhere
@@ -84,25 +82,7 @@ pub record IsChildAt (nodes : Slots Node) (key : Key) (slot : ℕ) : Type 0 wher
 module _ {T : Type 0} (nodes : Slots Node) (resources : Slots (Stowed T)) where
   -- a place whose home is a ring of resources is that of a resource
   pub held_is : (noted : ℕ → Bool) (slot : ℕ) (q : Place) → home_of nodes resources noted q ≡ Some (Held slot) → q ≡ Stored (slot_of q)
-  held_is noted slot (Stored r) at = refl
-  held_is noted slot (Noted j) at = absurd (of (noted j && is_some (entry_at nodes j)) at) where
-    of : (b : Bool) → cond b (Some Due) None ≡ Some (Held slot) → ⊥
-    of true e = true≢false (sym (tells.self Due) ∙ ap (is_place Due) (some_same Due (Held slot) e))
-    of false e = true≢false (ap is_some (sym e))
-  held_is noted slot (Sibling j) at = absurd (of (entry_at nodes j) at) where
-    root : (b : Bool) → cond b (Some Roots) None ≡ Some (Held slot) → ⊥
-    root true e = true≢false (sym (tells.self Roots) ∙ ap (is_place Roots) (some_same Roots (Held slot) e))
-    root false e = true≢false (ap is_some (sym e))
-
-    by : (o : Option Key) (b : Bool) → option_map_or (λ key. Some (Children key.slot)) o (cond b (Some Roots) None) ≡ Some (Held slot) → ⊥
-    by None b e = root b e
-    by (Some k) b e = true≢false (sym (tells.self (Children k.slot)) ∙ ap (is_place (Children k.slot)) (some_same (Children k.slot) (Held slot) e))
-
-    of : (o : Option (Entry Node)) → option_and_then (λ e. sibling_ring e.value) o ≡ Some (Held slot) → ⊥
-    of None e = true≢false (ap is_some (sym e))
-    of (Some x) e = by x.value.above (is_root x.value.made) e
-  held_is noted slot Roots at = absurd (true≢false (ap is_some (sym at)))
-  held_is noted slot _ at = absurd (true≢false (ap is_some (sym at)))
+  held_is noted slot x2 at = search (rules, true≢false, some_same)
 
   module _ (n p : Steps Place) (tied : IsTiedAt n p nodes resources) where
     -- what stands on a node's ring of children is a child

@@ -1,10 +1,11 @@
 -- A write of one link in a store: what it says of every place's link, and of the one side that it writes.
-use Rattle.rx_tree.proofs.Common.{◌≡◌, ℕ, Some, refl, sym, ap, option_map_or, value_at, with_value_at, Link, Place, Children, Held, Sibling, Noted, Stored}
-use Rattle.rx_tree.proofs.Common.{Record, Store, set_step, places, alone, link_at, set_link_at, next_of, previous_of, Relinks}
+use Rattle.rx_tree.proofs.Common.{◌≡◌, ℕ, Some, refl, sym, ap, value_at, with_value_at, Link, Place, Children, Held, Sibling, Noted, Stored}
+use Rattle.rx_tree.proofs.Common.{Record, Store, set_step, places, link_at, set_link_at, next_of, previous_of, Relinks}
 use Rattle.rx_tree.specs.declared.store.Stored.{Stored as Kept}
 use Rattle.rx_tree.proofs.StoreLemmas.{linked-Children, linked-Held, linked-Sibling, linked-Noted, linked-Stored, relinks-Children, relinks-Held}
 use Rattle.rx_tree.proofs.StoreLemmas.{relinks-Sibling, relinks-Noted, relinks-Stored}
 use Rattle.rx_tree.proofs.TieLemmas.{wrote_next, wrote_previous, left_next, left_previous}
+use Rattle.std.proofs.Common.{rules}
 
 module _ {T : Type 0} where
   -- the link of one place is written, and nothing else
@@ -35,44 +36,24 @@ module _ {T : Type 0} (s : Store T) (slot : ℕ) (link : Link) where
   pub writes-Children : (l : Record) → value_at s.nodes slot ≡ Some l →
       WritesLink s (record s { nodes = with_value_at s.nodes slot (record l { children = link }) }) (Children slot) l.children link
   writes-Children l at =
-      record {
-        linked = linked-Children s slot link l at;
-        was = ap (λ o. option_map_or (λ l. l.children) o (alone (Children slot))) at;
-        rest = relinks-Children s slot link l at;
-      }
+      search (rules, linked-Children, relinks-Children)
 
   pub writes-Held : (l : Record) → value_at s.nodes slot ≡ Some l →
       WritesLink s (record s { nodes = with_value_at s.nodes slot (record l { held = link }) }) (Held slot) l.held link
   writes-Held l at =
-      record {
-        linked = linked-Held s slot link l at;
-        was = ap (λ o. option_map_or (λ l. l.held) o (alone (Held slot))) at;
-        rest = relinks-Held s slot link l at;
-      }
+      search (rules, linked-Held, relinks-Held)
 
   pub writes-Sibling : (l : Record) → value_at s.nodes slot ≡ Some l →
       WritesLink s (record s { nodes = with_value_at s.nodes slot (record l { sibling = link }) }) (Sibling slot) l.sibling link
   writes-Sibling l at =
-      record {
-        linked = linked-Sibling s slot link l at;
-        was = ap (λ o. option_map_or (λ l. l.sibling) o (alone (Sibling slot))) at;
-        rest = relinks-Sibling s slot link l at;
-      }
+      search (rules, linked-Sibling, relinks-Sibling)
 
   pub writes-Noted : (l : Record) → value_at s.nodes slot ≡ Some l →
       WritesLink s (record s { nodes = with_value_at s.nodes slot (record l { noted = link }) }) (Noted slot) l.noted link
   writes-Noted l at =
-      record {
-        linked = linked-Noted s slot link l at;
-        was = ap (λ o. option_map_or (λ l. l.noted) o (alone (Noted slot))) at;
-        rest = relinks-Noted s slot link l at;
-      }
+      search (rules, linked-Noted, relinks-Noted)
 
   pub writes-Stored : (r : Kept T) → value_at s.resources slot ≡ Some r →
       WritesLink s (record s { resources = with_value_at s.resources slot (record r { link = link }) }) (Stored slot) r.link link
   writes-Stored r at =
-      record {
-        linked = linked-Stored s slot link r at;
-        was = ap (λ o. option_map_or (λ r. r.link) o (alone (Stored slot))) at;
-        rest = relinks-Stored s slot link r at;
-      }
+      search (rules, linked-Stored, relinks-Stored)

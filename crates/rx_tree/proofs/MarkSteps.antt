@@ -10,6 +10,7 @@ use Rattle.rx_tree.proofs.TieSteps.{tied_links, tied_noted, tied_unnoted}
 use Rattle.rx_tree.proofs.TieRecords.{tied_marked, by_entry, home_stands}
 use Rattle.rx_tree.proofs.Chain.{chain_is, retie, due_is, on_places, places_on, key_on_found}
 use Rattle.rx_tree.proofs.There.{slot_stands}
+use Rattle.std.proofs.Common.{rules}
 
 map_append : {X Y : Type 0} (f : X → Y) (xs ys : List X) → map f (xs ++ ys) ≡ map f xs ++ map f ys
 map_append f [] ys = refl
@@ -33,12 +34,7 @@ module _ {T : Type 0} where
 
   pub on_chain : (n p : Steps Place) (nodes : Slots Node) (resources : Slots (Stowed T)) (tied : IsTiedAt n p nodes resources) (slot : ℕ) →
       is_place (n (Noted slot)) (Noted slot) ≡ false → is_among places (Noted slot) (tied.rings Due) ≡ true
-  on_chain n p nodes resources tied slot other = tied.ringed.listed Due (Noted slot) (of (tied.noted slot && is_some (entry_at nodes slot)) refl) where
-    of : (b : Bool) → (tied.noted slot && is_some (entry_at nodes slot)) ≡ b → cond b (Some Due) None ≡ Some Due
-    of true e = refl
-    of false e =
-        let home : home_of nodes resources tied.noted (Noted slot) ≡ None = ap (λ b. cond b (Some Due) None) e in
-        absurd (place_differs tells (n (Noted slot)) (Noted slot) other (tied.ringed.loose (Noted slot) refl home).to)
+  on_chain n p nodes resources tied slot other = search (rules, home_of, place_differs, tells)
 
   -- marks are set
   module _ (s m : Store T) (key : Key) (node : Node) (marks : Marks) (kept : IsKept s) (found : find (nodes_of s) key ≡ Some node)

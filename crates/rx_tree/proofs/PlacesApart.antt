@@ -1,9 +1,10 @@
 -- The places of a tree's rings are told apart.
-use Rattle.std.proofs.Common.{◌≡◌, ℕ, ◌==◌, cond, refl}
+use Rattle.std.proofs.Common.{◌≡◌, ℕ, ◌==◌, cond}
 use Rattle.rx_tree.specs.declared.links.Place.{Place}
 use Rattle.rx_tree.specs.declared.links.Place.TheVariants.{Roots, Due, Waiting, Children, Held, Sibling, Noted, Stored}
 use Rattle.rx_tree.specs.Places.{tag_of, slot_of, is_end, places}
 use Rattle.rx_slots.proofs.Laws.Places.{Tells, told_by}
+use Rattle.std.proofs.Common.{rules}
 
 place_from : ℕ → ℕ → Place
 place_from t s = cond (t == 0) Roots
@@ -12,8 +13,7 @@ place_from t s = cond (t == 0) Roots
 
 same_from : (p : Place) → place_from (tag_of p) (slot_of p) ≡ p
 unfolding place_from
-same_from Roots = refl
-same_from _ = refl
+same_from x0 = search rules
 
 pub tells : Tells places
 tells = told_by tag_of slot_of is_end place_from same_from

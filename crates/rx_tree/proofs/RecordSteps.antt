@@ -1,6 +1,6 @@
 -- What calls that add records leave of a tree.
-use Rattle.rx_tree.proofs.Common.{◌≡◌, ℕ, ◌<◌, cond, map, Bool, true, false, List, [], ◌∷◌, ◌++◌, get_or, Option, Some, None, option_map, is_some, IsSome, ap}
-use Rattle.rx_tree.proofs.Common.{IfSome, refl, sym, subst, ◌∙◌, inl, inr, true≢false, option_map_or, option_and_then, false≢true, cases_eq, is_root, Key}
+use Rattle.rx_tree.proofs.Common.{◌≡◌, ℕ, ◌<◌, cond, map, true, false, List, [], ◌∷◌, ◌++◌, get_or, Some, None, option_map, is_some, ap}
+use Rattle.rx_tree.proofs.Common.{refl, sym, subst, ◌∙◌, true≢false, option_map_or, option_and_then, false≢true, cases_eq, Key}
 use Rattle.rx_tree.proofs.Common.{is_among, Joins, is_place, is_end, slot_of, places, tells, among_here, among_there, some_same, some_none, Slots, entry_at}
 use Rattle.rx_tree.proofs.Common.{with_number, find, Place, Roots, Due, Waiting, Children, Held, Sibling, Noted, Stored, Node, Stowed, Record, Store, is_lent}
 use Rattle.rx_tree.proofs.Common.{is_owned, on_entry, key_on, alone, is_there, nodes_of, resources_of, next_of, previous_of, link_at, stands, Inserts, shown}
@@ -12,21 +12,14 @@ use Rattle.rx_tree.proofs.There.{slot_stands, previous_stands}
 use Rattle.rx_tree.proofs.Sound.{IsSound-same}
 use Rattle.rx_tree.proofs.TieRecords.{home_stands, opened_key, tied_opened_alone, tied_opened, tied_held}
 use Rattle.rx_tree.proofs.TieSteps.{tied_links}
+use Rattle.std.proofs.Common.{rules}
 
 map_among : {Y : Type 0} (f g : Place → Y) (ps : List Place) → ((x : Place) → is_among places x ps ≡ true → f x ≡ g x) → map f ps ≡ map g ps
 map_among f g [] same = refl
 map_among f g (x ∷ ps) same = (λ i. same x (among_here tells x ps) i ∷ map_among f g ps (λ y j. same y (among_there tells y x ps j)) i)
 
 pub ends_by_ring : (node : Node) (e : Place) → sibling_ring node ≡ Some e → (is_end e ≡ true) × (is_place e Due ≡ false)
-ends_by_ring node e at = by node.above (is_root node.made) at where
-  root : (b : Bool) → cond b (Some Roots) None ≡ Some e → (is_end e ≡ true) × (is_place e Due ≡ false)
-  root true s = subst (λ z. (is_end z ≡ true) × (is_place z Due ≡ false)) (some_same Roots e s) (refl, refl)
-  root false s = absurd (true≢false (ap is_some (sym s)))
-
-  by : (o : Option Key) (b : Bool) → option_map_or (λ key. Some (Children key.slot)) o (cond b (Some Roots) None) ≡ Some e → (is_end e ≡ true) ×
-      (is_place e Due ≡ false)
-  by None b s = root b s
-  by (Some k) b s = subst (λ z. (is_end z ≡ true) × (is_place z Due ≡ false)) (some_same (Children k.slot) e s) (refl, refl)
+ends_by_ring node e at = search (rules, some_same, true≢false)
 
 module _ {T : Type 0} where
   chain_kept : (s t : Store T) (tied : IsTied s) {nodes : Slots Node} (resources : Slots (Stowed T)) (seen : nodes_of t ≡ nodes)
@@ -123,36 +116,11 @@ module _ {T : Type 0} where
   -- what stood somewhere still stands there
   pub stands_opened : {nodes : Slots Node} (nodes' : Slots Node) (resources : Slots (Stowed T)) (key : Key) (number : ℕ) (node : Node) →
       Inserts nodes nodes' key number node → (q : Place) → stands nodes resources q ≡ true → stands nodes' resources q ≡ true
-  stands_opened {nodes} nodes' resources key number node came q = by q where
-    more : (j : ℕ) → is_some (entry_at nodes j) ≡ true → is_some (entry_at nodes' j) ≡ true
-    more j at = elim (cases_eq key.slot j) [
-      | inl here ↦ absurd (true≢false (sym at ∙ ap is_some (ap (entry_at nodes) (sym here) ∙ came.was_free)))
-      | inr apart ↦ ap is_some (came.changes.others j (λ e. apart (sym e))) ∙ at
-    ]
-
-    by : (q : Place) → stands nodes resources q ≡ true → stands nodes' resources q ≡ true
-    by (Children j) at = more j at
-    by (Held j) at = more j at
-    by (Sibling j) at = more j at
-    by (Noted j) at = more j at
-    by (Stored r) at = at
-    by _ at = refl
+  stands_opened {nodes} nodes' resources key number node came q = search (rules, cases_eq, true≢false)
 
   pub stands_held : (nodes : Slots Node) {resources : Slots (Stowed T)} (resources' : Slots (Stowed T)) (key : Key) (number : ℕ) (stowed : Stowed T) →
       Inserts resources resources' key number stowed → (q : Place) → stands nodes resources q ≡ true → stands nodes resources' q ≡ true
-  stands_held nodes {resources} resources' key number stowed came q = by q where
-    by : (q : Place) → stands nodes resources q ≡ true → stands nodes resources' q ≡ true
-    by Roots at = refl
-    by Due at = refl
-    by Waiting at = refl
-    by (Children j) at = at
-    by (Held j) at = at
-    by (Sibling j) at = at
-    by (Noted j) at = at
-    by (Stored r) at = elim (cases_eq key.slot r) [
-      | inl here ↦ absurd (true≢false (sym at ∙ ap is_some (ap (entry_at resources) (sym here) ∙ came.was_free)))
-      | inr apart ↦ ap is_some (came.changes.others r (λ e. apart (sym e))) ∙ at
-    ]
+  stands_held nodes {resources} resources' key number stowed came q = search (rules, cases_eq, true≢false)
 
   pub opened_last : (s m : Store T) {key : Key} {number : ℕ} {node : Node} → IsTied s → Inserts (nodes_of s) (nodes_of m) key number node → KeepsLinks s m →
       resources_of m ≡ resources_of s → (q : Place) → stands (nodes_of s) (resources_of s) q ≡ true → is_there m (previous_of m q) ≡ true
@@ -173,15 +141,7 @@ module _ {T : Type 0} where
   -- the ring of a new node begins where something stands
   pub ring_stands : (nodes : Slots Node) (resources : Slots (Stowed T)) (number : ℕ) (node : Node) (e : Place) → IsPlaced nodes number node.made node.above →
       sibling_ring node ≡ Some e → stands nodes resources e ≡ true
-  ring_stands nodes resources number node e placed at = by node.above (is_root node.made) placed.there at where
-    root : (b : Bool) → cond b (Some Roots) None ≡ Some e → stands nodes resources e ≡ true
-    root true s = subst (λ z. stands nodes resources z ≡ true) (some_same Roots e s) refl
-    root false s = absurd (true≢false (ap is_some (sym s)))
-
-    by : (o : Option Key) (b : Bool) → IfSome o (λ key. IsSome (find nodes key)) →
-        option_map_or (λ key. Some (Children key.slot)) o (cond b (Some Roots) None) ≡ Some e → stands nodes resources e ≡ true
-    by None b there s = root b s
-    by (Some k) b there s = subst (λ z. stands nodes resources z ≡ true) (some_same (Children k.slot) e s) (slot_stands nodes k there)
+  ring_stands nodes resources number node e placed at = search (rules, some_same, true≢false, slot_stands)
 
   -- a store with nothing in it
   module _ (s : Store T) (nodes : s.nodes.entries ≡ []) (resources : s.resources.entries ≡ []) (roots : s.roots ≡ alone Roots) (due : s.due ≡ alone Due)

@@ -8,10 +8,11 @@ use Rattle.rx_tree.proofs.Chain.{chain_is, retie}
 use Rattle.rx_tree.proofs.There.{previous_stands, next_stands}
 use Rattle.rx_tree.proofs.TieResources.{ring_ends, tied_off, tied_on}
 use Rattle.rx_tree.proofs.TieSteps.{tied_links}
+use Rattle.std.proofs.Common.{rules}
 
 -- a store has the records and the counts that it has
 pub relinks_same : {T : Type 0} (s : Store T) → Relinks s s
-relinks_same s = record { nodes = refl; resources = refl; waiting_count = refl; owed = refl; held_count = λ j. refl }
+relinks_same s = search rules
 
 module _ {T : Type 0} (s : Store T) (key : Key) (tied : IsTied s) (stowed : Stowed T) (found : find (resources_of s) key ≡ Some stowed) where
   pub stored_stands : stands (nodes_of s) (resources_of s) (Stored key.slot) ≡ true
@@ -34,10 +35,7 @@ module _ {T : Type 0} (s : Store T) (key : Key) (tied : IsTied s) (stowed : Stow
 
   -- it is not on the chain of what may be due
   not_due : is_among places (Stored key.slot) (tied.rings Due) ≡ false
-  not_due = false_from_ne_true (is_among places (Stored key.slot) (tied.rings Due))
-      (λ i. true≢false (sym (tells.self Due) ∙ (ring_ends (nodes_of s) (resources_of s) (resources_of s) stowed Due
-      (sym (ap (option_and_then (λ e. resource_ring (nodes_of s) e.value)) (entry_found (resources_of s) key stowed found)) ∙
-      tied.ringed.members Due (Stored key.slot) i)).2))
+  not_due = search (rules, false_from_ne_true, true≢false, ring_ends, nodes_of, resources_of, resource_ring, entry_found)
 
   module _ (after : Stowed T) (l m : Store T) (leaves : Leaves places (next_of s) (previous_of s) (next_of l) (previous_of l) (Stored key.slot))
       (relinks : Relinks s l) (change : Changes (resources_of l) (resources_of m) key.slot (Some (entry_of key.number after))) (links : KeepsLinks l m)

@@ -1,14 +1,14 @@
 -- The oldest of a ring of siblings, and the next younger of each.
 use Rattle.rx_tree.proofs.Common.{◌≡◌, ◌≢◌, ℕ, ◌+◌, ◌<◌, ◌≤◌, cond, Bool, true, false, List, [], ◌∷◌, Option, Some, None, option_map, is_some, IsSome, IfSome}
-use Rattle.rx_tree.proofs.Common.{IfNone, IsTrue, refl, sym, ap, subst, ◌∙◌, inl, inr, ◌⊎◌, arith, true≢false, option_map_or, option_and_then, false≢true}
-use Rattle.rx_tree.proofs.Common.{Event, Open, is_root, parent_named, Key, Slots, key_at, find, Place, Roots, Children, Sibling, Node, Stowed, is_among}
+use Rattle.rx_tree.proofs.Common.{IfNone, refl, sym, ap, subst, ◌∙◌, inl, inr, ◌⊎◌, arith, true≢false, option_map_or, option_and_then, false≢true}
+use Rattle.rx_tree.proofs.Common.{Event, is_root, parent_named, Key, Slots, key_at, find, Place, Roots, Children, Sibling, Node, Stowed, is_among}
 use Rattle.rx_tree.proofs.Common.{Steps, Leads, is_place, is_end, slot_of, places, tells, among_here, among_there, among_cons, some_same, key_on, Rises}
 use Rattle.rx_tree.proofs.Common.{sibling_ring, is_by_age, home_of, IsTiedAt, IsChild, IsRoot, IsFirst, HasNone, parent_number, some_of, entry_found, one_key}
 use Rattle.rx_tree.proofs.Common.{found_entry}
-use Rattle.rx_event.specs.declared.event.Place.TheVariants.{Source, Inner, Notifier}
 use Rattle.rx_tree.proofs.Laws.Parents.{named_parent, child_found, parent_key}
 use Rattle.rx_tree.proofs.Chain.{key_on_found}
 use Rattle.rx_tree.proofs.TieRecords.{aged}
+use Rattle.std.proofs.Common.{rules}
 
 -- none of these places is older
 pub record IsOldest (nodes : Slots Node) (ps : List Place) (x : Place) : Type 0 where
@@ -94,10 +94,7 @@ some_key : (a b : Key) → Some a ≡ Some b → a ≡ b
 some_key a b e = cc
 
 root_named : (made : Event) → is_root made ≡ true → parent_named made ≡ None
-root_named (Open (Source m) kind) root = absurd (false≢true root)
-root_named (Open (Inner m) kind) root = absurd (false≢true root)
-root_named (Open (Notifier m) kind) root = absurd (false≢true root)
-root_named _ root = refl
+root_named x0 root = search (rules, false≢true)
 
 -- the nodes of a ring are those that are so
 pub record IsRingOf (nodes : Slots Node) (IsSo : Key → Type 0) (ps : List Place) : Type 0 where
@@ -133,7 +130,7 @@ module _ {T : Type 0} (nodes : Slots Node) (resources : Slots (Stowed T)) (n p :
   pub on_sibling : (e : Place) (k : Key) (node : Node) → find nodes k ≡ Some node → sibling_ring node ≡ Some e →
       is_among places (Sibling k.slot) (tied.rings e) ≡ true
   on_sibling e k node found ring =
-      tied.ringed.listed e (Sibling k.slot) (ap (option_and_then (λ x. sibling_ring x.value)) (entry_found nodes k node found) ∙ ring)
+      search (rules, entry_found, node, found, ring)
 
   -- the ring that a child stands on
   child_ring : (parent child : Key) (node : Node) → IsChild nodes parent child → find nodes child ≡ Some node → sibling_ring node ≡ Some (Children parent.slot)
@@ -278,11 +275,7 @@ module _ {T : Type 0} (nodes : Slots Node) (resources : Slots (Stowed T)) (n p :
 
   -- a root names no node above it, and stands on the ring of the roots
   root_found : (key : Key) → IsRoot nodes key → (node : Node) × (find nodes key ≡ Some node) × (is_root node.made ≡ true)
-  root_found key is = of (find nodes key) refl is where
-    of : (o : Option Node) → find nodes key ≡ o → IfSome (option_map (λ node. is_root node.made) o) IsTrue × IsSome o → (node : Node) ×
-        (find nodes key ≡ Some node) × (is_root node.made ≡ true)
-    of None read h = absurd (false≢true h.1)
-    of (Some x) read h = (x, read, h.0)
+  root_found key is = search (rules, is, false≢true)
 
   root_ring : (key : Key) (node : Node) → find nodes key ≡ Some node → is_root node.made ≡ true → sibling_ring node ≡ Some Roots
   root_ring key node found root = of node.above (sym (tied.sound.placed key node found).named ∙ root_named node.made root) where
@@ -293,11 +286,7 @@ module _ {T : Type 0} (nodes : Slots Node) (resources : Slots (Stowed T)) (n p :
 
   ring_root : (key : Key) (node : Node) → find nodes key ≡ Some node → sibling_ring node ≡ Some Roots → IsRoot nodes key
   ring_root key node found ring =
-      subst (λ o. IfSome (option_map (λ node. is_root node.made) o) IsTrue × IsSome o) (sym found) (of node.above (is_root node.made) ring, refl) where
-        of : (o : Option Key) (b : Bool) → option_map_or (λ k. Some (Children k.slot)) o (cond b (Some Roots) None) ≡ Some Roots → b ≡ true
-        of None true e = refl
-        of None false e = absurd (true≢false (ap is_some (sym e)))
-        of (Some k) b e = absurd (false≢true (ap (is_place Roots) (some_same (Children k.slot) Roots e)))
+      search (rules, found, ring, true≢false, false≢true, some_same)
 
   pub roots_ring : IsRingOf nodes (IsRoot nodes) (tied.rings Roots)
   roots_ring = record {

@@ -1,22 +1,17 @@
 -- The slots of what stands in a store fit a link and a record.
-use Rattle.rx_tree.proofs.Common.{◌≡◌, ℕ, ◌+◌, ◌<◌, ◌≤◌, cond, true, length, get_or, count_by, Option, Some, None, is_some, IsSome, IfSome, refl, sym, ap}
-use Rattle.rx_tree.proofs.Common.{◌∙◌, inl, inr, arith, true≢false, cases_lt, get_or_past, Entry, Key, Slots, entry_at, with_number, find, IsWithin, Place}
+use Rattle.rx_tree.proofs.Common.{◌≡◌, ℕ, ◌+◌, ◌<◌, ◌≤◌, true, count_by, Option, Some, None, is_some, IsSome, IfSome, refl, sym, ap}
+use Rattle.rx_tree.proofs.Common.{◌∙◌, arith, true≢false, cases_lt, get_or_past, Entry, Key, Slots, entry_at, with_number, find, IsWithin, Place}
 use Rattle.rx_tree.proofs.Common.{Roots, Due, Waiting, Children, Held, Sibling, Noted, Stored, Store, slot_of, nodes_of, resources_of, is_there}
 use Rattle.std.proofs.lemmas.List.Sums.{get_or-le-sum_by}
 use Rattle.rx_slots.proofs.Laws.EntryByNumber.{with_number-same}
 use Rattle.rx_tree.proofs.StoreLemmas.{within-project}
+use Rattle.std.proofs.Common.{rules}
 
 module _ {X : Type 0} (s : Slots X) where
   -- where something stands at a slot, there are some
   pub some_count : (slot : ℕ) → is_some (entry_at s slot) ≡ true → s.count ≡ count_by is_some s.entries → 0 < s.count
   some_count slot there counted =
-      elim (cases_lt slot (length s.entries)) [
-        | inl below ↦ let one : cond {A = ℕ} (is_some (get_or s.entries slot None)) 1 0 ≡ 1 = ap (λ b. cond {A = ℕ} b 1 0) there in
-            let least : cond {A = ℕ} (is_some (get_or s.entries slot None)) 1 0 ≤ count_by is_some s.entries =
-            get_or-le-sum_by (λ x. cond {A = ℕ} (is_some x) 1 0) s.entries slot None below in
-            omega (arith, one, least, counted)
-        | inr past ↦ absurd (true≢false (sym there ∙ ap is_some (get_or_past s.entries slot None past)))
-      ]
+      search (rules, cases_lt, get_or-le-sum_by, true≢false, get_or_past)
 
 module _ {X : Type 0} (s : Slots X) (within : IsWithin s) (most : s.count + s.room ≤ 536870912) where
   slot_fits : (slot : ℕ) → is_some (entry_at s slot) ≡ true → slot < 4294967296
@@ -29,8 +24,7 @@ module _ {X : Type 0} (s : Slots X) (within : IsWithin s) (most : s.count + s.ro
         omega (arith, below, most)
 
   pub above_fits : (above : Option Key) → IfSome above (λ key. IsSome (find s key)) → IfSome above (λ key. key.slot < 4294967296)
-  above_fits None there = tt
-  above_fits (Some key) there = let below = within key there in omega (arith, below, most)
+  above_fits x0 there = search rules
 
 module _ {T : Type 0} (s : Store T) (nodes_in : IsWithin s.nodes) (nodes_most : s.nodes.count + s.nodes.room ≤ 536870912)
     (resources_in : IsWithin s.resources) (resources_most : s.resources.count + s.resources.room ≤ 536870912) where

@@ -1,21 +1,16 @@
 -- What keeps a tree sound.
-use Rattle.rx_tree.proofs.Common.{◌≡◌, ◌≢◌, ℕ, Option, Some, None, is_some, IsSome, IfSome, refl, sym, ap, subst, ◌∙◌, inl, inr, ◌⊎◌, Event, Key, cases_key}
+use Rattle.rx_tree.proofs.Common.{◌≡◌, ◌≢◌, ℕ, Option, Some, None, is_some, IsSome, IfSome, sym, ap, subst, ◌∙◌, inl, inr, ◌⊎◌, Event, Key, cases_key}
 use Rattle.rx_tree.proofs.Common.{none_not_some, Slots, find, KeepsOthers, Node, IsPlaced, IsSound}
+use Rattle.std.proofs.Common.{rules}
 
 pub IfSome-same : {X : Type 0} (P Q : X → Type 0) (o : Option X) → ((x : X) → o ≡ Some x → P x → Q x) → IfSome o P → IfSome o Q
-IfSome-same P Q None more h = tt
-IfSome-same P Q (Some x) more h = more x refl h
+IfSome-same x0 x1 x2 more h = search rules
 
 -- a place stays one where what was found still is
 pub IsPlaced-kept : (s t : Slots Node) (number : ℕ) (made : Event) (above : Option Key) → ((key : Key) → IsSome (find s key) → IsSome (find t key)) →
     IsPlaced s number made above → IsPlaced t number made above
 IsPlaced-kept s t number made above kept placed =
-    record {
-      makes = placed.makes;
-      named = placed.named;
-      lower = placed.lower;
-      there = IfSome-same (λ key. IsSome (find s key)) (λ key. IsSome (find t key)) above (λ key at found. kept key found) placed.there;
-    }
+    search (rules, IfSome-same)
 
 -- the room is no part of it
 pub IsSound-same : (s t : Slots Node) → ((key : Key) → find t key ≡ find s key) → IsSound s → IsSound t
@@ -31,10 +26,7 @@ module _ (s t : Slots Node) (key : Key) (before after : Node) (was : find s key 
     (made : after.made ≡ before.made) (above : after.above ≡ before.above) where
   pub same_found : (k : Key) → is_some (find t k) ≡ is_some (find s k)
   same_found k =
-      elim (cases_key k key) [
-        | inl same ↦ ap is_some (ap (find t) same ∙ now) ∙ ap is_some (sym was ∙ ap (find s) (sym same))
-        | inr other ↦ ap is_some (kept k other)
-      ]
+      search (rules, cases_key)
 
   pub IsSound-at : IsSound s → IsSound t
   IsSound-at sound =
@@ -58,10 +50,7 @@ module _ (s t : Slots Node) (key : Key) (node : Node) (free : find s key ≡ Non
   -- what was found still is
   pub opened_keeps : (k : Key) → IsSome (find s k) → find t k ≡ find s k
   opened_keeps k found =
-      elim (cases_key k key) [
-        | inl same ↦ absurd (none_not_some (find s k) (ap (find s) same ∙ free) found)
-        | inr other ↦ kept k other
-      ]
+      search (rules, cases_key, none_not_some)
 
   -- a new record, under a number that no other has, keeps the tree sound
   pub IsSound-opened : ((k : Key) → k.number ≡ key.number → find s k ≡ None) → IsPlaced s key.number node.made node.above → IsSound s → IsSound t

@@ -1,12 +1,13 @@
 -- Slots that are seen through a function, and what a write of one link changes.
-use Rattle.rx_tree.proofs.Common.{◌≡◌, ℕ, ◌+◌, ◌==◌, ◌<◌, cond, length, get_or, set, Bool, true, false, Option, Some, None, option_map, is_some, IsSome, refl}
-use Rattle.rx_tree.proofs.Common.{sym, ap, subst, ◌∙◌, inl, inr, arith, true≢false, option_map_or, map-set_same, cases_eq, cases_lt, nat_tests, get_or_past}
-use Rattle.rx_tree.proofs.Common.{get_or-set_same, get_or-set_other, Entry, Key, Slots, entry_of, entry_at, value_at, number_at, with_number, find, IsWithin}
+use Rattle.rx_tree.proofs.Common.{◌≡◌, ℕ, ◌+◌, ◌==◌, cond, Bool, true, false, Option, Some, None, option_map, is_some, IsSome, refl}
+use Rattle.rx_tree.proofs.Common.{sym, ap, ◌∙◌, true≢false, option_map_or, map-set_same, cases_eq, cases_lt, nat_tests, get_or_past}
+use Rattle.rx_tree.proofs.Common.{get_or-set_same, get_or-set_other, Entry, Key, Slots, entry_of, entry_at, value_at, with_number, find, IsWithin}
 use Rattle.rx_tree.proofs.Common.{with_value, with_value_at, Changes, KeepsOthers, Link, Place, Children, Held, Sibling, Noted, Stored, Record, Store, alone}
-use Rattle.rx_tree.proofs.Common.{on_entry, project, link_at, set_link_at, Relinks, KeepsLinks, Inserts, Takes_out, no_counts, Rewrites, find-written}
+use Rattle.rx_tree.proofs.Common.{on_entry, project, link_at, set_link_at, Relinks, KeepsLinks, Inserts, Takes_out, Rewrites, find-written}
 use Rattle.rx_tree.proofs.Common.{KeepsOthers-written, entry_found, slot_within}
 use Rattle.std.proofs.Math.ListN.{get_or-map}
 use Rattle.rx_tree.specs.declared.store.Stored.{Stored as Kept}
+use Rattle.std.proofs.Common.{rules}
 
 module _ {X Y : Type 0} (f : X → Y) where
   pub entry_at-project : (s : Slots X) (i : ℕ) → entry_at (project f s) i ≡ option_map (on_entry f) (entry_at s i)
@@ -38,59 +39,24 @@ module _ {X Y : Type 0} (f : X → Y) where
   pub project-written : (s : Slots X) (slot : ℕ) (before after : X) → value_at s slot ≡ Some before → f after ≡ f before →
       project f (with_value_at s slot after) ≡ project f s
   project-written s slot before after at same =
-      let entries = map-set_same (option_map (on_entry f)) s.entries slot (option_map (λ number. entry_of number after) (number_at s slot)) None
-      (of (entry_at s slot) at) in
-      (λ i. record (project f s) { entries = entries i }) where
-        of : (o : Option (Entry X)) → option_map (λ e. e.value) o ≡ Some before →
-            option_map (on_entry f) (option_map (λ number. entry_of number after) (option_map (λ e. e.number) o)) ≡ option_map (on_entry f) o
-        of None e = refl
-        of (Some x) e = let v : x.value ≡ before =
-            cc in let w : f after ≡ f x.value = same ∙ ap f (sym v) in (λ i. Some (record { number = x.number; value = w i }))
+      search (rules, map-set_same, entry_of)
 
 module _ {X : Type 0} where
   -- what stands at a slot after a write
   pub value_at-written : (s : Slots X) (slot : ℕ) (before after : X) (j : ℕ) → value_at s slot ≡ Some before →
       value_at (with_value_at s slot after) j ≡ cond (slot == j) (Some after) (value_at s j)
   value_at-written s slot before after j at =
-      let put = option_map (λ number. entry_of number after) (number_at s slot) in
-      elim (cases_eq slot j) [
-        | inl same ↦
-            let here : (slot == j) ≡ true = grind (arith, nat_tests, same) in
-            let read : get_or (set s.entries slot put) j None ≡ put =
-            ap (λ k. get_or (set s.entries slot put) k None) (sym same) ∙ get_or-set_same s.entries slot put None (within (entry_at s slot) refl at) in
-            ap (option_map (λ e. e.value)) read ∙ of (entry_at s slot) at ∙ ap (λ b. cond b (Some after) (value_at s j)) (sym here)
-        | inr other ↦
-            let there : (slot == j) ≡ false = grind (arith, nat_tests, other) in
-            ap (option_map (λ e. e.value)) (get_or-set_other s.entries slot j put None (λ e. other (sym e))) ∙
-            ap (λ b. cond b (Some after) (value_at s j)) (sym there)
-      ] where
-        of : (o : Option (Entry X)) → option_map (λ e. e.value) o ≡ Some before →
-            option_map (λ e. e.value) (option_map (λ number. entry_of number after) (option_map (λ e. e.number) o)) ≡ Some after
-        of None e = absurd (true≢false (ap is_some (sym e)))
-        of (Some x) e = refl
-
-        within : (o : Option (Entry X)) → entry_at s slot ≡ o → option_map (λ e. e.value) o ≡ Some before → slot < length s.entries
-        within None read e = absurd (true≢false (ap is_some (sym e)))
-        within (Some x) read e = elim (cases_lt slot (length s.entries)) [
-          | inl below ↦ below
-          | inr past ↦ absurd (true≢false (ap is_some (sym read ∙ get_or_past s.entries slot None past)))
-        ]
+      search (rules, entry_of, cases_eq, nat_tests, get_or-set_same, get_or-set_other, true≢false, cases_lt, get_or_past)
 
   -- a part of what stands at a slot
   pub part-written : {Z : Type 0} (g : X → Z) (d : Z) (s : Slots X) (slot : ℕ) (before after : X) (j : ℕ) → value_at s slot ≡ Some before →
       option_map_or g (value_at (with_value_at s slot after) j) d ≡ cond (slot == j) (g after) (option_map_or g (value_at s j) d)
-  part-written g d s slot before after j at = ap (λ o. option_map_or g o d) (value_at-written s slot before after j at) ∙ of (slot == j) where
-    of : (b : Bool) → option_map_or g (cond b (Some after) (value_at s j)) d ≡ cond b (g after) (option_map_or g (value_at s j) d)
-    of true = refl
-    of false = refl
+  part-written g d s slot before after j at = search (rules, value_at-written)
 
   pub part-kept : {Z : Type 0} (g : X → Z) (d : Z) (s : Slots X) (slot : ℕ) {before : X} (after : X) (j : ℕ) → value_at s slot ≡ Some before →
       g after ≡ g before →
       option_map_or g (value_at (with_value_at s slot after) j) d ≡ option_map_or g (value_at s j) d
-  part-kept g d s slot {before} after j at same = part-written g d s slot before after j at ∙ of (slot == j) refl where
-    of : (b : Bool) → (slot == j) ≡ b → cond b (g after) (option_map_or g (value_at s j) d) ≡ option_map_or g (value_at s j) d
-    of true e = let s_is : slot ≡ j = grind (arith, nat_tests, e) in same ∙ ap (λ o. option_map_or g o d) (sym at ∙ ap (value_at s) s_is)
-    of false e = refl
+  part-kept g d s slot {before} after j at same = search (rules, part-written, nat_tests)
 
 module _ {T : Type 0} (s : Store T) (slot : ℕ) (link : Link) where
   pub linked-Children : (l : Record) → value_at s.nodes slot ≡ Some l → (q : Place) →
@@ -106,13 +72,7 @@ module _ {T : Type 0} (s : Store T) (slot : ℕ) (link : Link) where
 
   pub relinks-Children : (l : Record) → value_at s.nodes slot ≡ Some l → Relinks s
       (record s { nodes = with_value_at s.nodes slot (record l { children = link }) })
-  relinks-Children l at = record {
-    nodes = project-written (λ x. x.node) s.nodes slot l (record l { children = link }) at refl;
-    resources = refl;
-    waiting_count = refl;
-    owed = refl;
-    held_count = λ j. part-kept (λ x. x.held_count) no_counts s.nodes slot (record l { children = link }) j at refl;
-  }
+  relinks-Children l at = search (rules, project-written, part-kept)
 
   pub linked-Held : (l : Record) → value_at s.nodes slot ≡ Some l → (q : Place) →
       link_at (record s { nodes = with_value_at s.nodes slot (record l { held = link }) }) q ≡ set_link_at (Held slot) link s q
@@ -125,13 +85,7 @@ module _ {T : Type 0} (s : Store T) (slot : ℕ) (link : Link) where
   linked-Held l at _ = refl
 
   pub relinks-Held : (l : Record) → value_at s.nodes slot ≡ Some l → Relinks s (record s { nodes = with_value_at s.nodes slot (record l { held = link }) })
-  relinks-Held l at = record {
-    nodes = project-written (λ x. x.node) s.nodes slot l (record l { held = link }) at refl;
-    resources = refl;
-    waiting_count = refl;
-    owed = refl;
-    held_count = λ j. part-kept (λ x. x.held_count) no_counts s.nodes slot (record l { held = link }) j at refl;
-  }
+  relinks-Held l at = search (rules, project-written, part-kept)
 
   pub linked-Sibling : (l : Record) → value_at s.nodes slot ≡ Some l → (q : Place) →
       link_at (record s { nodes = with_value_at s.nodes slot (record l { sibling = link }) }) q ≡ set_link_at (Sibling slot) link s q
@@ -146,13 +100,7 @@ module _ {T : Type 0} (s : Store T) (slot : ℕ) (link : Link) where
 
   pub relinks-Sibling : (l : Record) → value_at s.nodes slot ≡ Some l → Relinks s
       (record s { nodes = with_value_at s.nodes slot (record l { sibling = link }) })
-  relinks-Sibling l at = record {
-    nodes = project-written (λ x. x.node) s.nodes slot l (record l { sibling = link }) at refl;
-    resources = refl;
-    waiting_count = refl;
-    owed = refl;
-    held_count = λ j. part-kept (λ x. x.held_count) no_counts s.nodes slot (record l { sibling = link }) j at refl;
-  }
+  relinks-Sibling l at = search (rules, project-written, part-kept)
 
   pub linked-Noted : (l : Record) → value_at s.nodes slot ≡ Some l → (q : Place) →
       link_at (record s { nodes = with_value_at s.nodes slot (record l { noted = link }) }) q ≡ set_link_at (Noted slot) link s q
@@ -165,29 +113,15 @@ module _ {T : Type 0} (s : Store T) (slot : ℕ) (link : Link) where
   linked-Noted l at _ = refl
 
   pub relinks-Noted : (l : Record) → value_at s.nodes slot ≡ Some l → Relinks s (record s { nodes = with_value_at s.nodes slot (record l { noted = link }) })
-  relinks-Noted l at = record {
-    nodes = project-written (λ x. x.node) s.nodes slot l (record l { noted = link }) at refl;
-    resources = refl;
-    waiting_count = refl;
-    owed = refl;
-    held_count = λ j. part-kept (λ x. x.held_count) no_counts s.nodes slot (record l { noted = link }) j at refl;
-  }
+  relinks-Noted l at = search (rules, project-written, part-kept)
 
   pub linked-Stored : (r : Kept T) → value_at s.resources slot ≡ Some r → (q : Place) →
       link_at (record s { resources = with_value_at s.resources slot (record r { link = link }) }) q ≡ set_link_at (Stored slot) link s q
-  linked-Stored r at (Stored j) =
-      part-written (λ x. x.link) (record { next = Stored j; previous = Stored j }) s.resources slot r (record r { link = link }) j at
-  linked-Stored r at _ = refl
+  linked-Stored r at x2 = search (rules, part-written)
 
   pub relinks-Stored : (r : Kept T) → value_at s.resources slot ≡ Some r → Relinks s
       (record s { resources = with_value_at s.resources slot (record r { link = link }) })
-  relinks-Stored r at = record {
-    nodes = refl;
-    resources = project-written (λ x. x.stowed) s.resources slot r (record r { link = link }) at refl;
-    waiting_count = refl;
-    owed = refl;
-    held_count = λ j. refl;
-  }
+  relinks-Stored r at = search (rules, project-written)
 
 module _ {X Y : Type 0} (f : X → Y) where
   pub keeps-project : (old new : Slots X) (key : Key) → KeepsOthers old new key → KeepsOthers (project f old) (project f new) key
@@ -254,60 +188,26 @@ module _ {X Z : Type 0} (g : X → Z) (d : ℕ → Z) (old new : Slots X) (slot 
   pub part-added : (number : ℕ) (value : X) → entry_at old slot ≡ None → Changes old new slot (Some (entry_of number value)) → g value ≡ d slot → (j : ℕ) →
       option_map_or g (value_at new j) (d j) ≡ option_map_or g (value_at old j) (d j)
   part-added number value free c same j =
-      elim (cases_eq slot j) [
-        | inl here ↦
-            let now = ap (λ o. option_map_or g (option_map (λ e. e.value) o) (d slot)) c.changed in
-            let was = ap (λ o. option_map_or g (option_map (λ e. e.value) o) (d slot)) free in
-            subst (λ k. option_map_or g (value_at new k) (d k) ≡ option_map_or g (value_at old k) (d k)) here (now ∙ same ∙ sym was)
-        | inr apart ↦ ap (λ o. option_map_or g (option_map (λ e. e.value) o) (d j)) (c.others j (λ e. apart (sym e)))
-      ]
+      search (rules, cases_eq)
 
   -- a part that a value had as if nothing stood there, once it is taken out
   pub part-taken : Changes old new slot None → option_map_or g (value_at old slot) (d slot) ≡ d slot → (j : ℕ) →
       option_map_or g (value_at new j) (d j) ≡ option_map_or g (value_at old j) (d j)
   part-taken c same j =
-      elim (cases_eq slot j) [
-        | inl here ↦
-            let now = ap (λ o. option_map_or g (option_map (λ e. e.value) o) (d slot)) c.changed in
-            subst (λ k. option_map_or g (value_at new k) (d k) ≡ option_map_or g (value_at old k) (d k)) here (now ∙ sym same)
-        | inr apart ↦ ap (λ o. option_map_or g (option_map (λ e. e.value) o) (d j)) (c.others j (λ e. apart (sym e)))
-      ]
+      search (rules, cases_eq)
 
   -- a part of what is taken out is then as if nothing stood there
   pub part-gone : Changes old new slot None → (j : ℕ) →
       option_map_or g (value_at new j) (d j) ≡ cond (slot == j) (d slot) (option_map_or g (value_at old j) (d j))
   part-gone c j =
-      elim (cases_eq slot j) [
-        | inl here ↦
-            let now = ap (λ o. option_map_or g (option_map (λ e. e.value) o) (d slot)) c.changed in
-            let on : (slot == j) ≡ true = grind (arith, nat_tests, here) in
-            subst (λ k. option_map_or g (value_at new k) (d k) ≡ d slot) here now ∙
-            sym (ap (λ b. cond b (d slot) (option_map_or g (value_at old j) (d j))) on)
-        | inr apart ↦
-            let off : (slot == j) ≡ false = grind (arith, nat_tests, apart) in
-            ap (λ o. option_map_or g (option_map (λ e. e.value) o) (d j)) (c.others j (λ e. apart (sym e))) ∙
-            sym (ap (λ b. cond b (d slot) (option_map_or g (value_at old j) (d j))) off)
-      ]
+      search (rules, cases_eq, nat_tests)
 
   -- a part that a write at a key leaves
   pub part-rewritten : (number : ℕ) (before after : X) → find old (record { slot = slot; number = number }) ≡ Some before →
       new ≡ with_value old (record { slot = slot; number = number }) after → g after ≡ g before → (j : ℕ) →
       option_map_or g (value_at new j) (d j) ≡ option_map_or g (value_at old j) (d j)
   part-rewritten number before after found is same j =
-      let key : Key = record { slot = slot; number = number } in
-      let at = entry_found old key before found in
-      let within = slot_within old slot (entry_of number before) at in
-      elim (cases_eq slot j) [
-        | inl here ↦
-            let now = ap (λ (t : Slots X). option_map_or g (value_at t slot) (d slot)) is ∙
-            ap (λ o. option_map_or g (option_map (λ e. e.value) o) (d slot))
-            (get_or-set_same old.entries slot (Some (entry_of number after)) None within) in
-            let was = ap (λ o. option_map_or g (option_map (λ e. e.value) o) (d slot)) at in
-            subst (λ k. option_map_or g (value_at new k) (d k) ≡ option_map_or g (value_at old k) (d k)) here (now ∙ same ∙ sym was)
-        | inr apart ↦
-            ap (λ (t : Slots X). option_map_or g (value_at t j) (d j)) is ∙ ap (λ o. option_map_or g (option_map (λ e. e.value) o) (d j))
-            (get_or-set_other old.entries slot j (Some (entry_of number after)) None (λ e. apart (sym e)))
-      ]
+      search (rules, entry_found, slot_within, entry_of, cases_eq, get_or-set_same, get_or-set_other)
 
 module _ {T : Type 0} (old : Store T) where
   -- links stay where each part of the nodes' records does, but for that of a node among its siblings, which goes with it
@@ -315,24 +215,15 @@ module _ {T : Type 0} (old : Store T) where
       ((j : ℕ) → link_at new (Children j) ≡ link_at old (Children j)) → ((j : ℕ) → link_at new (Held j) ≡ link_at old (Held j)) →
       ((j : ℕ) → link_at new (Sibling j) ≡ set_link_at (Sibling slot) (alone (Sibling slot)) old (Sibling j)) →
       ((j : ℕ) → link_at new (Noted j) ≡ link_at old (Noted j)) → (q : Place) → link_at new q ≡ set_link_at (Sibling slot) (alone (Sibling slot)) old q
-  links_taken nodes slot c h s n (Children j) = c j
-  links_taken nodes slot c h s n (Held j) = h j
-  links_taken nodes slot c h s n (Sibling j) = s j
-  links_taken nodes slot c h s n (Noted j) = n j
-  links_taken nodes slot c h s n _ = refl
+  links_taken nodes slot c h s n x6 = search rules
 
   -- links stay where each part of the nodes' records does
   pub nodes_keep_links : (nodes : Slots Record) → let new = record old { nodes = nodes } in
       ((j : ℕ) → link_at new (Children j) ≡ link_at old (Children j)) → ((j : ℕ) → link_at new (Held j) ≡ link_at old (Held j)) →
       ((j : ℕ) → link_at new (Sibling j) ≡ link_at old (Sibling j)) → ((j : ℕ) → link_at new (Noted j) ≡ link_at old (Noted j)) → KeepsLinks old new
-  nodes_keep_links nodes c h s n (Children j) = c j
-  nodes_keep_links nodes c h s n (Held j) = h j
-  nodes_keep_links nodes c h s n (Sibling j) = s j
-  nodes_keep_links nodes c h s n (Noted j) = n j
-  nodes_keep_links nodes c h s n _ = refl
+  nodes_keep_links nodes c h s n x5 = search rules
 
   -- and where that of the resources' records does
   pub resources_keep_links : (resources : Slots (Kept T)) → let new = record old { resources = resources } in
       ((j : ℕ) → link_at new (Stored j) ≡ link_at old (Stored j)) → KeepsLinks old new
-  resources_keep_links resources t (Stored j) = t j
-  resources_keep_links resources t _ = refl
+  resources_keep_links resources t x2 = search rules

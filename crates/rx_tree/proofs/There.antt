@@ -5,13 +5,11 @@ use Rattle.rx_tree.proofs.Common.{Waiting, Children, Held, Sibling, Noted, Store
 use Rattle.rx_tree.proofs.Common.{cases_place, next_in, previous_in, first_among, last_among, some_same, stands, sibling_ring, resource_ring, home_of}
 use Rattle.rx_tree.proofs.Common.{IsTiedAt, IsSound, found_entry}
 use Rattle.rx_tree.proofs.TieRecords.{home_stands}
+use Rattle.std.proofs.Common.{rules}
 
 -- the slot of a key that finds a node is not free
 pub slot_stands : (nodes : Slots Node) (key : Key) → IsSome (find nodes key) → is_some (entry_at nodes key.slot) ≡ true
-slot_stands nodes key found = of (entry_at nodes key.slot) found where
-  of : (o : Option (Entry Node)) → IsSome (with_number key.number o) → is_some o ≡ true
-  of None there = there
-  of (Some e) there = refl
+slot_stands nodes key found = search (rules, with_number)
 
 module _ {T : Type 0} (nodes : Slots Node) (resources : Slots (Stowed T)) where
   -- and so does the end of a ring on which something stands
@@ -52,16 +50,7 @@ module _ {T : Type 0} (nodes : Slots Node) (resources : Slots (Stowed T)) where
 
   -- and the end of the ring where a resource belongs
   pub ring_stands : (stowed : Stowed T) (e : Place) → resource_ring nodes stowed ≡ Some e → stands nodes resources e ≡ true
-  ring_stands stowed e at = lent (is_lent stowed) at where
-    by : (a b : Bool) → is_some (find nodes stowed.node) ≡ a → cond (a && b) (Held stowed.node.slot) Waiting ≡ e → stands nodes resources e ≡ true
-    by true true there s = subst (λ z. stands nodes resources z ≡ true) s (slot_stands nodes stowed.node there)
-    by true false there s = subst (λ z. stands nodes resources z ≡ true) s refl
-    by false b there s = subst (λ z. stands nodes resources z ≡ true) s refl
-
-    lent : (l : Bool) → cond l None (Some (cond (is_owned nodes stowed) (Held stowed.node.slot) Waiting)) ≡ Some e → stands nodes resources e ≡ true
-    lent true s = absurd (true≢false (ap is_some (sym s)))
-    lent false s = by (is_some (find nodes stowed.node)) (not stowed.removed) refl (some_same (cond (is_owned nodes stowed) (Held stowed.node.slot) Waiting)
-        e s)
+  ring_stands stowed e at = search (rules, is_lent, slot_stands, true≢false, some_same)
 
   module _ (n p : Steps Place) (tied : IsTiedAt n p nodes resources) where
     on_ring : (e q : Place) → is_among places q (tied.rings e) ≡ true → stands nodes resources q ≡ true

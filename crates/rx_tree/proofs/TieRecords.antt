@@ -7,6 +7,7 @@ use Rattle.rx_tree.proofs.Common.{put_ring, some_same, rings_joined, key_on, sta
 use Rattle.rx_tree.proofs.Common.{IsTiedAt, IsPlaced, IsPast, AreApart, with_marks, same_key, cases_key, entry_found, found_entry}
 use Rattle.rx_tree.proofs.Sound.{same_found, IsSound-at, IsSound-opened}
 use Rattle.rx_tree.proofs.TieSteps.{rings_same, rises_last, rises_same, unnoted}
+use Rattle.std.proofs.Common.{rules}
 
 -- a place whose home is by age is that of a node
 pub record IsNodeAt (nodes : Slots Node) (q : Place) : Type 0 where
@@ -26,28 +27,12 @@ module _ {T : Type 0} where
   -- so these places have the homes that they had
   pub home_by : {C : Place → Type 0} {nodes nodes' : Slots Node} {resources resources' : Slots (Stowed T)} {noted noted' : ℕ → Bool} →
       HomesStay C nodes nodes' resources resources' noted noted' → (q : Place) → C q → home_of nodes' resources' noted' q ≡ home_of nodes resources noted q
-  home_by stay (Sibling j) c = stay.sibling j c
-  home_by stay (Noted j) c = ap (λ b. cond b (Some Due) None) (stay.note j c)
-  home_by stay (Stored r) c = stay.stored r c
-  home_by stay _ c = refl
+  home_by stay x1 c = search rules
 
   -- what has a home stands somewhere
   pub home_stands : (nodes : Slots Node) (resources : Slots (Stowed T)) (noted : ℕ → Bool) (q e : Place) → home_of nodes resources noted q ≡ Some e →
       stands nodes resources q ≡ true
-  home_stands nodes resources noted (Sibling j) e at = of (entry_at nodes j) at where
-    of : (o : Option (Entry Node)) → option_and_then (λ e. sibling_ring e.value) o ≡ Some e → is_some o ≡ true
-    of None at = absurd (true≢false (ap is_some (sym at)))
-    of (Some x) at = refl
-  home_stands nodes resources noted (Noted j) e at = of (noted j) (is_some (entry_at nodes j)) at where
-    of : (a b : Bool) → cond (a && b) (Some Due) None ≡ Some e → b ≡ true
-    of true true at = refl
-    of true false at = absurd (true≢false (ap is_some (sym at)))
-    of false b at = absurd (true≢false (ap is_some (sym at)))
-  home_stands nodes resources noted (Stored r) e at = of (entry_at resources r) at where
-    of : (o : Option (Entry (Stowed T))) → option_and_then (λ e. resource_ring nodes e.value) o ≡ Some e → is_some o ≡ true
-    of None at = absurd (true≢false (ap is_some (sym at)))
-    of (Some x) at = refl
-  home_stands nodes resources noted _ e at = absurd (true≢false (ap is_some (sym at)))
+  home_stands nodes resources noted x3 e at = search (rules, true≢false, resource_ring)
 
   pub aged : (nodes : Slots Node) (resources : Slots (Stowed T)) (noted : ℕ → Bool) (q e : Place) → home_of nodes resources noted q ≡ Some e →
       is_by_age e ≡ true → IsNodeAt nodes q

@@ -1,11 +1,12 @@
 -- How a tree stays tied when a resource is removed from its node or taken out.
 use Rattle.rx_tree.proofs.Common.{◌≡◌, ◌≢◌, ℕ, cond, Bool, true, false, [], ◌∷◌, ◌++◌, Option, Some, None, is_some, IsSome, refl, sym, ap, ◌∙◌, inl, inr, Key}
-use Rattle.rx_tree.proofs.Common.{true≢false, subst, ◌==◌, cases_eq, false≢true, Entry, option_and_then, Slots, entry_of, entry_at, find, with_number, Place}
-use Rattle.rx_tree.proofs.Common.{Changes, entry_found, Due, Waiting, Held, Stored, Node, Stowed, is_owned, is_lent, without, Steps, AreRings, Joins, Leaves}
+use Rattle.rx_tree.proofs.Common.{true≢false, ◌==◌, cases_eq, false≢true, Entry, option_and_then, Slots, entry_of, entry_at, find, with_number, Place}
+use Rattle.rx_tree.proofs.Common.{Changes, entry_found, Due, Stored, Node, Stowed, is_lent, without, Steps, AreRings, Joins, Leaves}
 use Rattle.rx_tree.proofs.Common.{is_place, is_end, places, tells, place_apart, put_ring, by_ring, some_same, rings_joined, rings_left, Takes_out, Rises}
 use Rattle.rx_tree.proofs.Common.{resource_ring, is_by_age, home_of, IsTiedAt, AreApart, cases_key}
-use Rattle.rx_tree.proofs.TieRecords.{HomesStay, home_by}
+use Rattle.rx_tree.proofs.TieRecords.{home_by}
 use Rattle.rx_tree.proofs.TieSteps.{rises_without}
+use Rattle.std.proofs.Common.{rules}
 
 module _ {T : Type 0} (nodes : Slots Node) (resources resources' : Slots (Stowed T)) where
   -- as it was, but for one place that has no home
@@ -20,23 +21,11 @@ module _ {T : Type 0} (nodes : Slots Node) (resources resources' : Slots (Stowed
 
   pub stored_others : (noted : ℕ → Bool) (slot : ℕ) (entry : Option (Entry (Stowed T))) → Changes resources resources' slot entry → (q : Place) →
       Stored slot ≢ q → home_of nodes resources' noted q ≡ home_of nodes resources noted q
-  stored_others noted slot entry change q apart = home_by stay q apart where
-    stay : HomesStay (λ q. Stored slot ≢ q) nodes nodes resources resources' noted noted
-    stay = record {
-      sibling = λ j c. refl;
-      note = λ j c. refl;
-      stored = λ r c. ap (option_and_then (λ e. resource_ring nodes e.value)) (change.others r (λ s. c (ap (λ k. Stored k) (sym s))));
-    }
+  stored_others noted slot entry change q apart = search (rules, home_by, resource_ring)
 
   -- a resource belongs at the end of a ring, which is none of those by age
   pub ring_ends : (stowed : Stowed T) (e : Place) → resource_ring nodes stowed ≡ Some e → (is_end e ≡ true) × (is_by_age e ≡ false) × (is_place e Due ≡ false)
-  ring_ends stowed e at = of (is_lent stowed) (is_owned nodes stowed) at where
-    of : (l b : Bool) → cond l None (Some (cond b (Held stowed.node.slot) Waiting)) ≡ Some e → (is_end e ≡ true) × (is_by_age e ≡ false) ×
-        (is_place e Due ≡ false)
-    of true b at = absurd (true≢false (ap is_some (sym at)))
-    of false true at = subst (λ q. (is_end q ≡ true) × (is_by_age q ≡ false) × (is_place q Due ≡ false)) (some_same (Held stowed.node.slot) e at)
-        (refl, refl, refl)
-    of false false at = subst (λ q. (is_end q ≡ true) × (is_by_age q ≡ false) × (is_place q Due ≡ false)) (some_same Waiting e at) (refl, refl, refl)
+  ring_ends stowed e at = search (rules, is_lent, true≢false, some_same)
 
   -- a resource leaves its ring, another stands in its place, and that joins the ring where it belongs, if it belongs on one
   module _ (n p n1 p1 : Steps Place) (tied : IsTiedAt n p nodes resources) (key : Key) (stowed after : Stowed T) (found : find resources key ≡ Some stowed)

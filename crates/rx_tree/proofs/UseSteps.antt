@@ -10,6 +10,7 @@ use Rattle.rx_tree.proofs.CountSteps.{counted_written}
 use Rattle.rx_tree.proofs.StoreLemmas.{find-project, changes-written, rewrites-project, part-rewritten, resources_keep_links}
 use Rattle.rx_tree.proofs.TieRecords.{HomesStay, home_by}
 use Rattle.rx_tree.proofs.TieSteps.{rings_same, tied_links}
+use Rattle.std.proofs.Common.{rules}
 
 module _ {T : Type 0} (s : Store T) (tied : IsTied s) (res : ResKey) (kept : Kept T) (after : T) (found : find s.resources (store_key res) ≡ Some kept) where
   -- with what the use left in the place of the resource
@@ -28,8 +29,7 @@ module _ {T : Type 0} (s : Store T) (tied : IsTied s) (res : ResKey) (kept : Kep
       (record kept { stowed = with_resource after kept.stowed }) kept.stowed (with_resource after) found refl seen
 
   pub used_rewrites : Rewrites (resources_of s) (resources_of with_used) (store_key res) (with_resource after)
-  used_rewrites = rewrites-project (λ r. r.stowed) s.resources (store_key res) kept (record kept { stowed = with_resource after kept.stowed })
-      (with_resource after) found refl
+  used_rewrites = search (rules, rewrites-project, with_resource)
 
   -- a resource stands on the ring that it stood on
   pub used_ring : (r : ℕ) → option_and_then (λ e. resource_ring (nodes_of s) e.value) (entry_at (resources_of with_used) r) ≡ option_and_then
@@ -76,12 +76,4 @@ module _ {T : Type 0} (s : Store T) (tied : IsTied s) (res : ResKey) (kept : Kep
   pub used : (g : Ghosts T) → g.uses_of after ≡ g.uses_of kept.stowed.resource + 1 → g.tag_of after ≡ g.tag_of kept.stowed.resource →
       g.life_of after ≡ g.life_of kept.stowed.resource → IfSome (stowed_of (shown s) res) (Uses g (shown s) (shown with_used) res)
   used g uses tag life =
-      subst (λ o. IfSome o (Uses g (shown s) (shown with_used) res)) (sym seen) (record {
-        after = after;
-        uses = uses;
-        tag = tag;
-        life = life;
-        written = used_rewrites;
-        nodes = refl;
-        chain = used_chain;
-      })
+      search (rules, seen, used_rewrites, used_chain)

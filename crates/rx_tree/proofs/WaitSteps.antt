@@ -1,39 +1,22 @@
 -- What the ring of those that wait tells, and what a taking leaves of a tree.
-use Rattle.rx_tree.proofs.Common.{◌≡◌, ◌≢◌, ℕ, cond, map, Bool, true, false, List, [], ◌∷◌, Option, Some, None, option_map, is_some, IsTrue, ◌&&◌, refl, sym}
-use Rattle.rx_tree.proofs.Common.{ap, subst, ◌∙◌, true≢false, option_map_or, option_and_then, false≢true, false_from_ne_true, is_root, Entry, Key, Slots, Due}
-use Rattle.rx_tree.proofs.Common.{entry_at, key_at, find, Place, Roots, Waiting, Children, Held, Sibling, Noted, Stored, Node, Stowed, Store, is_owned, Takes}
+use Rattle.rx_tree.proofs.Common.{◌≡◌, ◌≢◌, ℕ, cond, map, Bool, true, false, List, [], ◌∷◌, Option, Some, None, option_map, is_some, IsTrue, refl, sym}
+use Rattle.rx_tree.proofs.Common.{ap, subst, ◌∙◌, true≢false, option_map_or, option_and_then, false≢true, false_from_ne_true, Entry, Key, Slots, Due}
+use Rattle.rx_tree.proofs.Common.{entry_at, key_at, find, Place, Waiting, Held, Stored, Node, Stowed, Store, is_owned, Takes}
 use Rattle.rx_tree.proofs.Common.{is_lent, is_held, is_among, set_step, Leads, Leaves, is_place, is_end, slot_of, places, tells, among_here, without_none}
 use Rattle.rx_tree.proofs.Common.{set_same, first_among, some_same, alone, link_at, key_on, nodes_of, resources_of, next_of, previous_of, KeepsLinks, Relinks}
-use Rattle.rx_tree.proofs.Common.{Takes_out, shown, home_of, sibling_ring, resource_ring, IsTiedAt, IsTied, entry_found, found_entry}
+use Rattle.rx_tree.proofs.Common.{Takes_out, shown, home_of, resource_ring, IsTiedAt, IsTied, entry_found, found_entry}
 use Rattle.std.proofs.Math.Bool.{◌||◌}
 use Rattle.rx_tree.proofs.Chain.{chain_is, retie}
 use Rattle.rx_tree.proofs.TieRecords.{home_stands}
 use Rattle.rx_tree.proofs.TieResources.{tied_taken}
 use Rattle.rx_tree.proofs.TieSteps.{tied_links}
+use Rattle.std.proofs.Common.{rules}
 
 module _ {T : Type 0} where
   -- a place that waits is that of a resource
   pub waits_is : (nodes : Slots Node) (resources : Slots (Stowed T)) (noted : ℕ → Bool) (q : Place) →
       home_of nodes resources noted q ≡ Some Waiting → q ≡ Stored (slot_of q)
-  waits_is nodes resources noted (Stored r) at = refl
-  waits_is nodes resources noted (Noted j) at = absurd (of (noted j && is_some (entry_at nodes j)) at) where
-    of : (b : Bool) → cond b (Some Due) None ≡ Some Waiting → ⊥
-    of true e = true≢false (sym (tells.self Due) ∙ ap (is_place Due) (some_same Due Waiting e))
-    of false e = true≢false (ap is_some (sym e))
-  waits_is nodes resources noted (Sibling j) at = absurd (of (entry_at nodes j) at) where
-    root : (b : Bool) → cond b (Some Roots) None ≡ Some Waiting → ⊥
-    root true e = true≢false (sym (tells.self Roots) ∙ ap (is_place Roots) (some_same Roots Waiting e))
-    root false e = true≢false (ap is_some (sym e))
-
-    by : (o : Option Key) (b : Bool) → option_map_or (λ key. Some (Children key.slot)) o (cond b (Some Roots) None) ≡ Some Waiting → ⊥
-    by None b e = root b e
-    by (Some k) b e = true≢false (sym (tells.self (Children k.slot)) ∙ ap (is_place (Children k.slot)) (some_same (Children k.slot) Waiting e))
-
-    of : (o : Option (Entry Node)) → option_and_then (λ e. sibling_ring e.value) o ≡ Some Waiting → ⊥
-    of None e = true≢false (ap is_some (sym e))
-    of (Some x) e = by x.value.above (is_root x.value.made) e
-  waits_is nodes resources noted Roots at = absurd (true≢false (ap is_some (sym at)))
-  waits_is nodes resources noted _ at = absurd (true≢false (ap is_some (sym at)))
+  waits_is nodes resources noted x3 at = search (rules, true≢false, some_same)
 
 -- the key of a place that waits, and what it finds
 pub record IsWaiting {T : Type 0} (s : Store T) (slot : ℕ) (key : Key) : Type 0 where
@@ -45,13 +28,7 @@ pub record IsWaiting {T : Type 0} (s : Store T) (slot : ℕ) (key : Key) : Type 
 module _ {T : Type 0} (s : Store T) (tied : IsTied s) where
   wait_home : (key : Key) (stowed : Stowed T) → find (resources_of s) key ≡ Some stowed → is_held (nodes_of s) stowed ≡ false → home_of (nodes_of s)
       (resources_of s) tied.noted (Stored key.slot) ≡ Some Waiting
-  wait_home key stowed found off = ap (option_and_then (λ e. resource_ring (nodes_of s) e.value)) (entry_found (resources_of s) key stowed found) ∙
-      of (is_owned (nodes_of s) stowed) (is_lent stowed) off
-    where
-      of : (o l : Bool) → (o || l) ≡ false → cond l None (Some (cond o (Held stowed.node.slot) Waiting)) ≡ Some Waiting
-      of false false off = refl
-      of false true off = absurd (true≢false off)
-      of true l off = absurd (true≢false off)
+  wait_home key stowed found off = search (rules, resource_ring, nodes_of, entry_found, resources_of, stowed, found, is_lent, true≢false)
 
   waiting_all : (q : Place) → is_among places q (tied.rings Waiting) ≡ true → q ≡ Stored (slot_of q)
   waiting_all q i = waits_is (nodes_of s) (resources_of s) tied.noted q (tied.ringed.members Waiting q i)

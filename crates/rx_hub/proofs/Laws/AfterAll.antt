@@ -1,23 +1,21 @@
 -- The hubs after one more event are those of the longer history.
-use Rattle.rx_hub.proofs.Common.{◌≡◌, ℕ, zero, suc, ◌<◌, ◌==◌, ◌&&◌, ◌++◌, cond, map, Bool, true, false, List, [], ◌∷◌, length, slice_get, Option, Some, None}
+use Rattle.rx_hub.proofs.Common.{◌≡◌, ℕ, zero, suc, ◌<◌, ◌==◌, ◌++◌, cond, map, Bool, true, false, List, [], ◌∷◌, length, slice_get, Some}
 use Rattle.rx_hub.proofs.Common.{refl, sym, ap, subst, ◌∙◌, inl, inr, ◌⊎◌, arith, option_map, length-append, cases_order, false≢true, and_parts, both_ways}
 use Rattle.rx_hub.proofs.Common.{eq-eqb, eqb-true, same_Some, none-some, slice_get-map, slice_get_within, Kept, Leaf, Pass, Flat, Switch, Until, Sub, Mode}
-use Rattle.rx_hub.proofs.Common.{Event, Open, Connect, End, Close, makes_hub, is_connect, is_subscriber_of, is_connect_of, at, places, is_open, MayFollow}
+use Rattle.rx_hub.proofs.Common.{Event, Open, Connect, End, Close, makes_hub, is_connect, is_subscriber_of, is_connect_of, at, MayFollow}
 use Rattle.rx_hub.proofs.Common.{IsLawful, at_connect, may_subscribe, connection_hub, subscriber_hub, first_passes, open_of, slice_get_last, at-append, Hub}
 use Rattle.rx_hub.proofs.Common.{at_within, cases_push, end_by, is_gone_after, with_made, next_key, hubs_after, without_gone, at_hub, new_hub, subscribed}
 use Rattle.rx_hub.proofs.Common.{connected, IsHubOf, HasHub, AreHubsOf}
 use Rattle.rx_event.specs.declared.event.Event.TheVariants.{Hub as Publish, Accept, Use, Remove, Lease, Return, Item, Decline, Take}
 use Rattle.rx_hub.proofs.Laws.AfterLeft.{hub_left, without_closed, at_push}
 use Rattle.rx_hub.proofs.Laws.AfterOne.{hub_kept, hub_with_subscriber, hub_with_connection}
+use Rattle.std.proofs.Common.{rules}
 
 -- lists of hubs -----------------------------------------------------------------------------------
 
 -- what stands in a mapped list is the image of what stood there
 pub mapped_from : {X Y : Type 0} (f : X → Y) (xs : List X) (i : ℕ) (y : Y) → slice_get (map f xs) i ≡ Some y → (x : X) × (slice_get xs i ≡ Some x) × (f x ≡ y)
-mapped_from {X = X} {Y = Y} f xs i y at_i = by_old (slice_get xs i) refl where
-  by_old : (o : Option X) → slice_get xs i ≡ o → (x : X) × (slice_get xs i ≡ Some x) × (f x ≡ y)
-  by_old None old = absurd (none-some y (sym (slice_get-map f xs i ∙ ap (option_map f) old) ∙ at_i))
-  by_old (Some x) old = (x, old, same_Some (f x) y (sym (slice_get-map f xs i ∙ ap (option_map f) old) ∙ at_i))
+mapped_from {X = X} {Y = Y} f xs i y at_i = search (rules, none-some, slice_get-map, same_Some)
 
 pub pushed_from : {X : Type 0} (xs : List X) (x y : X) (i : ℕ) → slice_get (xs ++ x ∷ []) i ≡ Some y → (slice_get xs i ≡ Some y) ⊎ (x ≡ y)
 pushed_from [] x y zero at_i = inr (same_Some x y at_i)
@@ -35,15 +33,12 @@ has_mapped f same hubs g has =
     record { index = has.index; hub = f has.hub; there = slice_get-map f hubs has.index ∙ ap (option_map f) has.there; numbered = same has.hub ∙ has.numbered }
 
 has_pushed : (hubs : List Hub) (hub : Hub) (g : ℕ) → HasHub hubs g → HasHub (hubs ++ hub ∷ []) g
-has_pushed hubs hub g has = record { index = has.index; hub = has.hub; there = old_in_push hubs hub has.hub has.index has.there; numbered = has.numbered }
+has_pushed hubs hub g has = search (rules, old_in_push)
 
 -- a change of one hub that keeps its number
 changed_number : (g : ℕ) (change : Hub → Hub) → ((hub : Hub) → (change hub).number ≡ hub.number) → (hub : Hub) →
     (cond (hub.number == g) (change hub) hub).number ≡ hub.number
-changed_number g change same hub = by_test (hub.number == g) where
-  by_test : (b : Bool) → (cond b (change hub) hub).number ≡ hub.number
-  by_test true = same hub
-  by_test false = refl
+changed_number g change same hub = search (rules, same)
 
 -- the hubs that there were are still there --------------------------------------------------------
 
@@ -55,20 +50,7 @@ record AreThere (h : List Event) (e : Event) (hubs : List Hub) : Type 0 where
 -- an event that makes no hub
 are_there : (h : List Event) (e : Event) (hubs : List Hub) → AreHubsOf h hubs → makes_hub e ≡ false →
     ((g : ℕ) → is_subscriber_of g e ≡ true → HasHub hubs g) → AreThere h e hubs
-are_there h e hubs are no_hub joins = record { made = every; joined = subscribes } where
-  by_hub : (g : ℕ) → (at makes_hub h g ≡ true) ⊎ (makes_hub e ≡ true) → HasHub hubs g
-  by_hub g (inl old) = are.every g old
-  by_hub g (inr new) = absurd (both_ways _ no_hub new)
-
-  every : (g : ℕ) → at makes_hub (h ++ e ∷ []) g ≡ true → HasHub hubs g
-  every g made = by_hub g (at_push makes_hub h e g made)
-
-  by_subscriber : (g s : ℕ) → (at (is_subscriber_of g) h s ≡ true) ⊎ (is_subscriber_of g e ≡ true) → HasHub hubs g
-  by_subscriber g s (inl old) = are.subscribed g s old
-  by_subscriber g s (inr new) = joins g new
-
-  subscribes : (g s : ℕ) → at (is_subscriber_of g) (h ++ e ∷ []) s ≡ true → HasHub hubs g
-  subscribes g s passes = by_subscriber g s (at_push (is_subscriber_of g) h e s passes)
+are_there h e hubs are no_hub joins = search (rules, both_ways, at_push)
 
 -- what the event leaves of all hubs
 abbrev all_left : List Event → Event → List Hub → List Hub
@@ -142,7 +124,7 @@ no_open sort h none = by_list (open_of sort h) refl where
   by_list : (ns : List ℕ) → open_of sort h ≡ ns → ns ≡ []
   by_list [] e = refl
   by_list (n ∷ ns) e =
-      absurd (none n (and_parts (at sort h n) (is_open h n) (first_passes (λ m. at sort h m && is_open h m) (places h) n ns e)).0)
+      absurd (search (rules, and_parts, first_passes))
 
 -- nobody has subscribed to a new hub, nor connected it
 hub_made : (base : Kept) → (h : List Event) (mode : Mode) → IsLawful base h → IsHubOf (h ++ Publish mode ∷ []) (new_hub (length h) mode)
@@ -259,4 +241,4 @@ pub hubs_follow : (base : Kept) → (h : List Event) (e : Event) (slot : ℕ) (h
     AreHubsOf (h ++ e ∷ []) (hubs_after h e slot hubs)
 hubs_follow base h e slot hubs law next are =
     let same = map_agrees (without_gone (is_gone_after h e) (end_by (length h) e)) (hub_left h e) hubs (λ i hub at_i. without_closed h e hub) in
-    subst (λ (hs : List Hub). AreHubsOf (h ++ e ∷ []) (with_made (next_key h slot) e hs)) (sym same) (left_follow base h e slot hubs law next are)
+    search (rules, same, left_follow)

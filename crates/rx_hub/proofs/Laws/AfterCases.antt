@@ -1,14 +1,15 @@
 -- The hubs after one more event, by the kinds of event.
-use Rattle.rx_hub.proofs.Common.{◌≡◌, ℕ, ◌&&◌, ◌++◌, cond, map, Bool, true, false, List, [], ◌∷◌, length, slice_get, filter, Option, Some, None, refl, sym}
+use Rattle.rx_hub.proofs.Common.{◌≡◌, ℕ, ◌&&◌, ◌++◌, cond, map, Bool, true, false, List, [], ◌∷◌, length, slice_get, filter, Option, Some, None, refl}
 use Rattle.rx_hub.proofs.Common.{ap, subst, ◌∙◌, AllByRecursion, option_map_or, option_to_list, not, false≢true, and_parts, Kept, Terminal, Place, Inner, Sub}
-use Rattle.rx_hub.proofs.Common.{Kind, Leaf, Pass, Flat, Switch, Until, Mode, Event, Open, Connect, End, Close, is_subscriber_of, at, places, is_open, Key}
+use Rattle.rx_hub.proofs.Common.{Kind, Mode, Event, Open, Connect, End, Close, is_subscriber_of, at, places, is_open, Key}
 use Rattle.rx_hub.proofs.Common.{is_within, MayFollow, IsLawful, IsOpenInner, AllByRecursion-both, filtered, shuts_none, is_open_kept, is_open_within, end_by}
 use Rattle.rx_hub.proofs.Common.{is_open_outside-end, is_open_outside-close, is_open-inner_switch, LastEnd, AgreeAt, is_gone_after, ClosesNone, is_inside}
 use Rattle.rx_hub.proofs.Common.{with_made, joins_hubs, next_key, hubs_after, remaining, without_gone, Hub, at_hub, new_hub, subscribed, connected, numbers}
 use Rattle.rx_hub.proofs.Common.{disconnected, IsHubOf, AreHubsOf}
-use Rattle.rx_event.specs.declared.event.Event.TheVariants.{Hub as Publish, Accept, Use, Remove, Lease, Return, Item, Decline, Take}
+use Rattle.rx_event.specs.declared.event.Event.TheVariants.{Hub as Publish}
 use Rattle.rx_hub.proofs.Laws.AfterLeft.{filter_agrees, own_connection}
 use Rattle.rx_hub.proofs.Laws.AfterAll.{map_agrees, hubs_follow}
+use Rattle.std.proofs.Common.{rules}
 
 -- what goes, by its test --------------------------------------------------------------------------
 
@@ -22,22 +23,17 @@ all_weaker P Q weaker (x ∷ xs) all = (weaker x all.0, all_weaker P Q weaker xs
 
 connection_agrees : (p q : Key → Bool) (o : Option Key) (keys : List Key) → AllByRecursion (λ key. p key ≡ q key) (option_to_list o ++ keys) →
     option_map_or p o false ≡ option_map_or q o false
-connection_agrees p q None keys same = refl
-connection_agrees p q (Some key) keys same = same.0
+connection_agrees p q x2 keys same = search rules
 
 one_agrees : (p q : Key → Bool) (ended : Option LastEnd) (hub : Hub) → AgreeAt p q hub → without_gone p ended hub ≡ without_gone q ended hub
 one_agrees p q ended hub same =
     let connection = connection_agrees p q hub.connection hub.subscribers same in
-    let keys = all_later (λ key. p key ≡ q key) (option_to_list hub.connection) hub.subscribers same in
-    let others = all_weaker (λ key. p key ≡ q key) (λ key. not (p key) ≡ not (q key)) (λ key e. ap not e) hub.subscribers keys in
-    let rest : remaining p hub ≡ remaining q hub =
-    (λ i. record hub { subscribers = filter_agrees (λ key. not (p key)) (λ key. not (q key)) hub.subscribers others i }) in
-    (λ i. cond (connection i) (disconnected ended (rest i)) (rest i))
+    search (rules, all_later, all_weaker, filter_agrees)
 
 -- of a test, only what it says of the hubs' keys counts
 pub tests_agree : (p q : Key → Bool) (ended : Option LastEnd) (hubs : List Hub) →
     ((i : ℕ) (hub : Hub) → slice_get hubs i ≡ Some hub → AgreeAt p q hub) → map (without_gone p ended) hubs ≡ map (without_gone q ended) hubs
-tests_agree p q ended hubs same = map_agrees (without_gone p ended) (without_gone q ended) hubs (λ i hub at_i. one_agrees p q ended hub (same i hub at_i))
+tests_agree p q ended hubs same = search (rules, map_agrees, one_agrees)
 
 -- where nothing goes, nothing changes
 one_whole : (ended : Option LastEnd) (hub : Hub) → without_gone (λ key. false) ended hub ≡ hub
@@ -72,16 +68,14 @@ IsOpenAt h g n = (at (is_subscriber_of g) h n && is_open h n) ≡ true
 pub subscribers_open : (h : List Event) (hub : Hub) → IsHubOf h hub → AllByRecursion (λ (key : Key). IsOpenAt h hub.number key.number) hub.subscribers
 subscribers_open h hub is =
     let passing = filtered (λ n. at (is_subscriber_of hub.number) h n && is_open h n) (IsOpenAt h hub.number) (λ n e. e) (places h) in
-    all_numbers (IsOpenAt h hub.number) hub.subscribers
-    (subst (λ (ns : List ℕ). AllByRecursion (IsOpenAt h hub.number) ns) (sym is.subscribers) passing)
+    search (rules, all_numbers, IsOpenAt, AllByRecursion)
 
 -- so all keys of a hub are those of open nodes
 keys_open : (h : List Event) (hub : Hub) → IsHubOf h hub →
     AllByRecursion (λ (key : Key). is_open h key.number ≡ true) (option_to_list hub.connection ++ hub.subscribers)
 keys_open h hub is = AllByRecursion-both (λ (key : Key). is_open h key.number ≡ true) (option_to_list hub.connection) hub.subscribers
     (by_connection hub.connection refl)
-    (all_weaker (λ (key : Key). IsOpenAt h hub.number key.number) (λ key. is_open h key.number ≡ true) open_one hub.subscribers
-    (subscribers_open h hub is))
+    (search (rules, all_weaker, IsOpenAt, subscribers_open))
   where
     open_one : (key : Key) → IsOpenAt h hub.number key.number → is_open h key.number ≡ true
     open_one key both = (and_parts (at (is_subscriber_of hub.number) h key.number) (is_open h key.number) both).1
@@ -116,24 +110,7 @@ pub hubs_with_made : (h : List Event) (e : Event) (slot : ℕ) (hubs : List Hub)
 hubs_with_made h e slot hubs are none = ap (with_made (next_key h slot) e) (all_stay h e hubs are none)
 
 joins_none : (key : Key) (e : Event) (hubs : List Hub) → joins_hubs e ≡ false → with_made key e hubs ≡ hubs
-joins_none key (Publish mode) hubs none = absurd (false≢true (sym none))
-joins_none key (Connect g) hubs none = absurd (false≢true (sym none))
-joins_none key (Open place (Sub g)) hubs none = absurd (false≢true (sym none))
-joins_none key (Open place Leaf) hubs none = refl
-joins_none key (Open place Pass) hubs none = refl
-joins_none key (Open place Flat) hubs none = refl
-joins_none key (Open place Switch) hubs none = refl
-joins_none key (Open place Until) hubs none = refl
-joins_none key (Accept n tag) hubs none = refl
-joins_none key (Use r) hubs none = refl
-joins_none key (Remove r) hubs none = refl
-joins_none key (Item l v) hubs none = refl
-joins_none key (Decline f) hubs none = refl
-joins_none key (End n t) hubs none = refl
-joins_none key (Close n) hubs none = refl
-joins_none key (Lease r) hubs none = refl
-joins_none key (Return r) hubs none = refl
-joins_none key (Take r) hubs none = refl
+joins_none key x1 hubs none = search (rules, false≢true)
 
 pub hubs_same : (h : List Event) (e : Event) (slot : ℕ) (hubs : List Hub) → AreHubsOf h hubs → joins_hubs e ≡ false → ClosesNone h e →
     hubs_after h e slot hubs ≡ hubs
@@ -161,20 +138,17 @@ hubs_connected h g slot hubs are = hubs_with_made h (Connect g) slot hubs are (c
 -- events that close nodes -------------------------------------------------------------------------
 
 gone_inside : {now : Bool} (inside : Bool) → now ≡ not inside → not now ≡ inside
-gone_inside true e = ap not e
-gone_inside false e = ap not e
+gone_inside x0 e = search rules
 
 pub hubs_ended : (h : List Event) (n : ℕ) (t : Terminal) (slot : ℕ) (hubs : List Hub) → AreHubsOf h hubs →
     hubs_after h (End n t) slot hubs ≡ map (without_gone (is_inside h n) (end_by (length h) (End n t))) hubs
 hubs_ended h n t slot hubs are =
-    open_agree h hubs (is_gone_after h (End n t)) (is_inside h n) (end_by (length h) (End n t)) are
-    (λ key o. gone_inside (is_within h n key.number) (is_open_outside-end h n t key.number ∙ ap (λ b. b && not (is_within h n key.number)) o))
+    search (rules, open_agree, gone_inside, is_open_outside-end)
 
 pub hubs_closed : (h : List Event) (n slot : ℕ) (hubs : List Hub) → AreHubsOf h hubs →
     hubs_after h (Close n) slot hubs ≡ map (without_gone (is_inside h n) None) hubs
 hubs_closed h n slot hubs are =
-    open_agree h hubs (is_gone_after h (Close n)) (is_inside h n) None are
-    (λ key o. gone_inside (is_within h n key.number) (is_open_outside-close h n key.number ∙ ap (λ b. b && not (is_within h n key.number)) o))
+    search (rules, open_agree, gone_inside, is_open_outside-close)
 
 -- another inner of a Switch comes in place of the open one
 pub hubs_exchanged : {base : Kept} {h : List Event} {f c : ℕ} (kind : Kind) (slot : ℕ) {hubs : List Hub} → IsLawful base h → AreHubsOf h hubs →

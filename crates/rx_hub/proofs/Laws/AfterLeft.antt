@@ -2,11 +2,12 @@
 use Rattle.rx_hub.proofs.Common.{◌≡◌, ℕ, ◌≤◌, ◌&&◌, ◌++◌, cond, Bool, true, false, List, [], ◌∷◌, length, slice_get, filter, Option, Some, None, refl, sym}
 use Rattle.rx_hub.proofs.Common.{ap, ◌∙◌, inl, inr, ◌⊎◌, arith, length-append, if◌then◌else◌, AllByRecursion, option_map_or, option_or, option_to_list, not}
 use Rattle.rx_hub.proofs.Common.{false≢true, and_parts, and_from, both_ways, none-some, slice_get_within, Kept, Terminal, Event, Connect, End, is_connect_of}
-use Rattle.rx_hub.proofs.Common.{at, places, parent, is_open, is_within, IsLawful, first_passes, filter_nonempty, is_open_outside-end, is_open_within, Key}
-use Rattle.rx_hub.proofs.Common.{slice_get-append, cases_push, LastEnd, end_by, is_gone_after, remaining, without_gone, Hub, disconnected, numbers, IsHubOf}
+use Rattle.rx_hub.proofs.Common.{at, is_open, IsLawful, first_passes, filter_nonempty, is_open_outside-end, is_open_within, Key}
+use Rattle.rx_hub.proofs.Common.{slice_get-append, cases_push, LastEnd, end_by, is_gone_after, without_gone, Hub, numbers, IsHubOf}
 use Rattle.rx_event.proofs.Laws.Hubs.{TwoConnections, one_connection}
 use Rattle.rx_event.proofs.Laws.Parents.{within_cases}
 use Rattle.rx_event.proofs.Laws.Stands.{connection_parent}
+use Rattle.std.proofs.Common.{rules}
 
 -- older places ------------------------------------------------------------------------------------
 
@@ -19,8 +20,7 @@ pub within_push : (h : List Event) (e x : Event) (i : ℕ) → slice_get (h ++ e
 within_push h e x i at_i = let l = slice_get_within (h ++ e ∷ []) i x at_i in omega (arith, l, length-append h (e ∷ []))
 
 event_of_at : (p : Event → Bool) (o : Option Event) → option_map_or p o false ≡ true → (x : Event) × (o ≡ Some x) × (p x ≡ true)
-event_of_at p None passes = absurd (false≢true passes)
-event_of_at p (Some x) passes = (x, refl, passes)
+event_of_at p x1 passes = search (rules, false≢true)
 
 -- what passes a test in the longer history passed it before, or is the event
 pub at_push : (p : Event → Bool) (h : List Event) (e : Event) (n : ℕ) → at p (h ++ e ∷ []) n ≡ true → (at p h n ≡ true) ⊎ (p e ≡ true)
@@ -70,61 +70,25 @@ agree_everywhere p q same (key ∷ keys) = (same key, agree_everywhere p q same 
 -- without what is gone, a hub has what stays
 only_left : (gone stays : Key → Bool) → ((key : Key) → not (gone key) ≡ stays key) → (ended : Option LastEnd) (hub : Hub) →
     without_gone gone ended hub ≡ with_only stays ended hub
-only_left gone stays same ended hub = by_connection hub.connection refl where
-  kept : filter (λ (key : Key). not (gone key)) hub.subscribers ≡ filter stays hub.subscribers
-  kept = filter_agrees (λ key. not (gone key)) stays hub.subscribers (agree_everywhere (λ key. not (gone key)) stays same hub.subscribers)
-
-  by_test : (key : Key) → hub.connection ≡ Some key → (b s : Bool) → not b ≡ s →
-      cond b (disconnected ended (remaining gone hub)) (remaining gone hub) ≡ record hub {
-        connection = if s then Some key else None;
-        last_end = if s then hub.last_end else option_or ended hub.last_end;
-        subscribers = filter stays hub.subscribers;
-      }
-  by_test key own true false e = (λ i. record hub { connection = None; last_end = option_or ended hub.last_end; subscribers = kept i })
-  by_test key own false true e = (λ i. record hub { connection = own i; subscribers = kept i })
-  by_test key own true true e = absurd (false≢true e)
-  by_test key own false false e = absurd (false≢true (sym e))
-
-  by_connection : (o : Option Key) → hub.connection ≡ o →
-      cond (option_map_or gone o false) (disconnected ended (remaining gone hub)) (remaining gone hub) ≡ record hub {
-        connection = connection_left stays o;
-        last_end = last_end_left stays o ended hub.last_end;
-        subscribers = filter stays hub.subscribers;
-      }
-  by_connection None own = (λ i. record hub { connection = own i; subscribers = kept i })
-  by_connection (Some key) own = by_test key own (gone key) (stays key) (same key)
+only_left gone stays same ended hub = search (rules, filter_agrees, agree_everywhere, false≢true)
 
 -- and so after one more event
 pub without_closed : (h : List Event) (e : Event) (hub : Hub) → without_gone (is_gone_after h e) (end_by (length h) e) hub ≡ hub_left h e hub
-without_closed h e hub = only_left (is_gone_after h e) (is_open_after h e) (λ key. twice (is_open_after h e key)) (end_by (length h) e) hub where
-  twice : (b : Bool) → not (not b) ≡ b
-  twice true = refl
-  twice false = refl
+without_closed h e hub = search (rules, only_left)
 
 pub numbers_filter : (p : ℕ → Bool) (keys : List Key) → numbers (filter (λ (key : Key). p key.number) keys) ≡ filter p (numbers keys)
 numbers_filter p [] = refl
-numbers_filter p (key ∷ keys) = by_test (p key.number) (numbers_filter p keys) where
-  by_test : (b : Bool) → numbers (filter (λ (k : Key). p k.number) keys) ≡ filter p (numbers keys) →
-      numbers (cond b (key ∷ filter (λ (k : Key). p k.number) keys) (filter (λ (k : Key). p k.number) keys)) ≡
-      cond b (key.number ∷ filter p (numbers keys)) (filter p (numbers keys))
-  by_test true rest = ap (λ (ns : List ℕ). key.number ∷ ns) rest
-  by_test false rest = rest
+numbers_filter p (key ∷ keys) = search (rules, numbers_filter p keys)
 
 pub numbers_left : (p : ℕ → Bool) (o : Option Key) →
     numbers (option_to_list (connection_left (λ (key : Key). p key.number) o)) ≡ filter p (numbers (option_to_list o))
-numbers_left p None = refl
-numbers_left p (Some key) = by_test (p key.number) where
-  by_test : (b : Bool) → numbers (option_to_list (if b then Some key else None)) ≡ cond b (key.number ∷ []) []
-  by_test true = refl
-  by_test false = refl
+numbers_left p x1 = search rules
 
 -- the connection that the record names is an open one of the hub
 pub own_connection : (h : List Event) (hub : Hub) → IsHubOf h hub → (key : Key) → hub.connection ≡ Some key →
     (at (is_connect_of hub.number) h key.number ≡ true) × (is_open h key.number ≡ true)
 own_connection h hub is key own =
-    and_parts (at (is_connect_of hub.number) h key.number) (is_open h key.number)
-    (first_passes (λ n. at (is_connect_of hub.number) h n && is_open h n) (places h) key.number []
-    (sym is.connection ∙ ap (λ (o : Option Key). numbers (option_to_list o)) own))
+    search (rules, and_parts, first_passes)
 
 -- and each open one is that
 pub named_connection : (base : Kept) → (h : List Event) (hub : Hub) → IsLawful base h → IsHubOf h hub → (c : ℕ) → at (is_connect_of hub.number) h c ≡ true →
@@ -144,11 +108,4 @@ named_connection base h hub law is c connects o = by_record hub.connection refl 
 -- a connection that goes by an end is what ended
 pub connection_ended : (h : List Event) (n c g : ℕ) (t : Terminal) → slice_get h c ≡ Some (Connect g) → is_open h c ≡ true →
     is_open (h ++ End n t ∷ []) c ≡ false → n ≡ c
-connection_ended h n c g t at_c o gone = by_test (is_within h n c) refl where
-  by_place : (n ≡ c) ⊎ ((p : ℕ) × (parent h c ≡ Some p) × (is_within h n p ≡ true)) → n ≡ c
-  by_place (inl same) = same
-  by_place (inr (p, below, above)) = absurd (none-some p (sym (connection_parent h c g at_c) ∙ below))
-
-  by_test : (b : Bool) → is_within h n c ≡ b → n ≡ c
-  by_test true inside = by_place (within_cases h n c inside)
-  by_test false outside = absurd (both_ways _ gone (is_open_outside-end h n t c ∙ (λ i. o i && not (outside i))))
+connection_ended h n c g t at_c o gone = search (rules, none-some, connection_parent, within_cases, both_ways, is_open_outside-end)

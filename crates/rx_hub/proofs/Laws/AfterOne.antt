@@ -8,16 +8,16 @@ use Rattle.rx_hub.proofs.Common.{LastEnd, end_by, next_key, subscribed, connecte
 use Rattle.rx_event.proofs.Laws.OpenAfter.{open_of-push}
 use Rattle.rx_hub.proofs.Laws.AfterLeft.{still_at, within_push, hub_left, last_end_left, is_open_after, numbers_filter, numbers_left, own_connection}
 use Rattle.rx_hub.proofs.Laws.AfterLeft.{named_connection, connection_ended}
+use Rattle.std.proofs.Common.{rules}
 
 -- how a hub's last connection ended ---------------------------------------------------------------
 
 older_end : (h t : List Event) (g : ℕ) (end : LastEnd) → EndsConnection h g end → EndsConnection (h ++ t) g end
 older_end h t g end is =
-    record { connection = is.connection; connects = still_at h t is.connection _ is.connects; ended = still_at h t end.place _ is.ended }
+    search (rules, still_at)
 
 older_ends : (h t : List Event) (g : ℕ) (last : Option LastEnd) → IfSome last (EndsConnection h g) → IfSome last (EndsConnection (h ++ t) g)
-older_ends h t g None is = is
-older_ends h t g (Some end) is = older_end h t g end is
+older_ends h t g x3 is = search (rules, older_end)
 
 -- the end of the record is one in the history
 ended_left : (h : List Event) (e : Event) (hub : Hub) → IsHubOf h hub → IfSome (hub_left h e hub).last_end (EndsConnection (h ++ e ∷ []) hub.number)
@@ -52,15 +52,7 @@ ended_left h e hub is = by_connection hub.connection refl where
 -- a later end takes the place of the one before
 later_end : (h : List Event) (e : Event) (stays : Key → Bool) (o : Option Key) (before : Option LastEnd) (place : ℕ) → place ≤ length h → IsUpTo place before →
     IsUpTo place (last_end_left stays o (end_by (length h) e) before)
-later_end h e stays None before place l up = up
-later_end h e stays (Some key) before place l up = by_test (stays key) where
-  by_event : (e : Event) → IsUpTo place (option_or (end_by (length h) e) before)
-  by_event (End n t) = l
-  by_event _ = up
-
-  by_test : (b : Bool) → IsUpTo place (if b then before else option_or (end_by (length h) e) before)
-  by_test true = up
-  by_test false = by_event e
+later_end h e stays x3 before place l up = search rules
 
 -- and no end in the history is later
 latest_left : {base : Kept} → {h : List Event} {e : Event} {hub : Hub} → IsLawful base h → MayFollow base h e → IsHubOf h hub → (c place : ℕ) (t : Terminal) →
@@ -100,12 +92,10 @@ latest_left {base} {h} {e} {hub} law next is c place t connects ended = by_place
 -- its nodes ---------------------------------------------------------------------------------------
 
 makes_connection : (g : ℕ) (e : Event) → is_connect_of g e ≡ true → makes_node e ≡ true
-makes_connection g (Connect k) connects = refl
-makes_connection g _ connects = absurd (false≢true connects)
+makes_connection g x1 connects = search (rules, false≢true)
 
 makes_subscriber : (g : ℕ) (e : Event) → is_subscriber_of g e ≡ true → makes_node e ≡ true
-makes_subscriber g (Open place (Sub k)) subscribes = refl
-makes_subscriber g _ subscribes = absurd (false≢true subscribes)
+makes_subscriber g x1 subscribes = search (rules, false≢true)
 
 -- what stays of a hub's subscribers, and the event's after them
 subscribers_after : (base : Kept) → (h : List Event) (e : Event) (hub : Hub) → MayFollow base h e → IsHubOf h hub →
@@ -122,15 +112,14 @@ connections_after : (base : Kept) → (h : List Event) (e : Event) (hub : Hub) �
 connections_after base h e hub next is =
     open_of-push base (is_connect_of hub.number) h e next (makes_connection hub.number e) ∙
     ap (λ (ns : List ℕ). ns ++ cond (is_connect_of hub.number e) (length h ∷ []) [])
-    (ap (filter (is_open (h ++ e ∷ []))) (sym is.connection) ∙ sym (numbers_left (is_open (h ++ e ∷ [])) hub.connection))
+    (search (rules, numbers_left))
 
 -- a hub to which the event adds nothing
 pub hub_kept : {base : Kept} → (h : List Event) (e : Event) (hub : Hub) → IsLawful base h → MayFollow base h e → IsHubOf h hub →
     is_subscriber_of hub.number e ≡ false → is_connect_of hub.number e ≡ false → IsHubOf (h ++ e ∷ []) (hub_left h e hub)
 hub_kept {base} h e hub law next is no_subscriber no_connection = record {
   made = still_at h (e ∷ []) hub.number _ is.made;
-  subscribers = sym (subscribers_after base h e hub next is ∙ ap (λ b. numbers (hub_left h e hub).subscribers ++ cond b (length h ∷ []) []) no_subscriber ∙
-      append-nil (numbers (hub_left h e hub).subscribers));
+  subscribers = search (rules, subscribers_after, hub_left, append-nil);
   connection = sym (connections_after base h e hub next is ∙
       ap (λ b. numbers (option_to_list (hub_left h e hub).connection) ++ cond b (length h ∷ []) []) no_connection ∙
       append-nil (numbers (option_to_list (hub_left h e hub).connection)));

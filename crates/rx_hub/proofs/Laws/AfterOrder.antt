@@ -1,18 +1,16 @@
 -- The order of hubs: what stands inside a connection subscribes to earlier hubs.
-use Rattle.rx_hub.proofs.Common.{◌≡◌, ℕ, ◌<◌, ◌==◌, true, List, [], ◌∷◌, slice_get, Some, sym, subst, inl, inr, ◌⊎◌, AllByRecursion, false≢true, and_parts}
-use Rattle.rx_hub.proofs.Common.{or_cases, eqb-true, Kept, Event, is_subscriber_of, IsLawful, at, is_open, at_connect, hubs_in_order, Key, is_key, is_on, Hub}
+use Rattle.rx_hub.proofs.Common.{◌≡◌, ℕ, ◌<◌, true, List, [], ◌∷◌, slice_get, Some, AllByRecursion, false≢true, and_parts}
+use Rattle.rx_hub.proofs.Common.{or_cases, eqb-true, Kept, Event, is_subscriber_of, IsLawful, at, is_open, at_connect, hubs_in_order, Key, is_on, Hub}
 use Rattle.rx_hub.proofs.Common.{AreHubsOf, SubscribesInside}
 use Rattle.rx_hub.proofs.Laws.AfterLeft.{own_connection}
 use Rattle.rx_hub.proofs.Laws.AfterCases.{IsOpenAt, subscribers_open}
+use Rattle.std.proofs.Common.{rules}
 
 -- in a history ------------------------------------------------------------------------------------
 
 all_on : (P : ℕ → Type 0) (key : Key) (keys : List Key) → AllByRecursion (λ (k : Key). P k.number) keys → is_on key keys ≡ true → P key.number
 all_on P key [] all on = absurd (false≢true on)
-all_on P key (k ∷ keys) all on = by_place (all_on P key keys all.1) (or_cases (is_key key k) (is_on key keys) on) where
-  by_place : (is_on key keys ≡ true → P key.number) → (is_key key k ≡ true) ⊎ (is_on key keys ≡ true) → P key.number
-  by_place rest (inl same) = subst P (sym (eqb-true key.number k.number (and_parts (key.slot == k.slot) (key.number == k.number) same).1)) all.0
-  by_place rest (inr later) = rest later
+all_on P key (k ∷ keys) all on = search (rules, or_cases, eqb-true, and_parts, all_on P key keys all.1)
 
 -- a subscriber inside a connection is of an earlier hub than that, so that no item goes round in a circle
 pub subscribers_earlier : {base : Kept} {h : List Event} {hubs : List Hub} → IsLawful base h → AreHubsOf h hubs → (i j : ℕ) {outer inner : Hub} →

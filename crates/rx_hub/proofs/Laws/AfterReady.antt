@@ -1,11 +1,12 @@
 -- Before an event that may follow, the hubs are ready for the call that writes it.
 use Rattle.rx_hub.proofs.Common.{◌≡◌, ℕ, zero, suc, ◌<◌, ◌==◌, Bool, true, false, cond, List, [], ◌∷◌, map, length, slice_get, filter, Option, Some, None, ap}
-use Rattle.rx_hub.proofs.Common.{refl, ◌∙◌, arith, AllByRecursion, option_map_or, option_to_list, not, and_parts, eq-eqb, same_Some, none-some, Kept, Place}
-use Rattle.rx_hub.proofs.Common.{slice_get_within, Sub, Event, Open, Connect, is_subscriber_of, at, is_open, open_connections, MayFollow, may_connect, Key}
+use Rattle.rx_hub.proofs.Common.{refl, ◌∙◌, AllByRecursion, option_map_or, not, and_parts, eq-eqb, same_Some, none-some, Kept, Place}
+use Rattle.rx_hub.proofs.Common.{slice_get_within, Sub, Event, Open, Connect, MayFollow, may_connect, Key}
 use Rattle.rx_hub.proofs.Common.{may_connect_hub, may_subscribe, is_open_within, LastEnd, remaining, without_gone, Hub, find_hub, disconnected, AreBelow}
-use Rattle.rx_hub.proofs.Common.{numbers, IsHubOf, HasHub, AreHubsOf}
+use Rattle.rx_hub.proofs.Common.{IsHubOf, HasHub, AreHubsOf}
 use Rattle.rx_hub.proofs.Laws.AfterCases.{IsOpenAt, subscribers_open}
 use Rattle.rx_hub.proofs.Laws.Walks.{found_hub}
+use Rattle.std.proofs.Common.{rules}
 
 -- all hubs are older than the next event
 pub hubs_older : (h : List Event) (hubs : List Hub) → AreHubsOf h hubs → (i : ℕ) (hub : Hub) → slice_get hubs i ≡ Some hub → hub.number < length h
@@ -15,7 +16,7 @@ hubs_older h hubs are i hub at_i = slice_get_within h hub.number _ (are.each i h
 below_next : (h : List Event) (g : ℕ) (keys : List Key) → AllByRecursion (λ (key : Key). IsOpenAt h g key.number) keys → AreBelow (length h) keys
 below_next h g [] all = tt
 below_next h g (key ∷ keys) all =
-    (is_open_within h key.number (and_parts (at (is_subscriber_of g) h key.number) (is_open h key.number) all.0).1, below_next h g keys all.1)
+    search (rules, is_open_within, and_parts, below_next h g keys all.1)
 
 hub_found : (hubs : List Hub) (g i : ℕ) (hub : Hub) → slice_get hubs i ≡ Some hub → hub.number ≡ g → (x : Hub) × (find_hub hubs g ≡ Some x)
 hub_found [] g i hub got named = absurd (none-some hub got)
@@ -44,36 +45,21 @@ ready_to_subscribe base h place g hubs next are =
 pub ready_to_connect : (base : Kept) → (h : List Event) (g : ℕ) (hubs : List Hub) → MayFollow base h (Connect g) → AreHubsOf h hubs →
     (hub : Hub) × (find_hub hubs g ≡ Some hub) × (hub.connection ≡ None)
 ready_to_connect base h g hubs next are =
-    let own = there_found h hubs g are (are.every g (may_connect_hub base next)) in
-    (own.0, own.1, unconnected own.0.connection (own.2.connection ∙ ap (open_connections h) own.3 ∙ may_connect base next)) where
-      unconnected : (o : Option Key) → numbers (option_to_list o) ≡ [] → o ≡ None
-      unconnected None e = refl
-      unconnected (Some key) e = absurd (let long : 1 ≡ 0 = ap length e in omega (arith, long))
+    search (rules, there_found, may_connect_hub, may_connect)
 
 -- after others have gone --------------------------------------------------------------------------
 
 without_number : (gone : Key → Bool) (ended : Option LastEnd) (hub : Hub) → (without_gone gone ended hub).number ≡ hub.number
-without_number gone ended hub = by_test (option_map_or gone hub.connection false) where
-  by_test : (b : Bool) → (cond b (disconnected ended (remaining gone hub)) (remaining gone hub)).number ≡ hub.number
-  by_test true = refl
-  by_test false = refl
+without_number gone ended hub = search rules
 
 find_mapped : (f : Hub → Hub) → ((hub : Hub) → (f hub).number ≡ hub.number) → (hubs : List Hub) (g : ℕ) (hub : Hub) → find_hub hubs g ≡ Some hub →
     find_hub (map f hubs) g ≡ Some (f hub)
 find_mapped f same [] g hub found = absurd (none-some hub found)
-find_mapped f same (x ∷ hubs) g hub found = by_test (x.number == g) refl found (find_mapped f same hubs g hub) where
-  by_test : (b : Bool) → (x.number == g) ≡ b → cond b (Some x) (find_hub hubs g) ≡ Some hub →
-      (find_hub hubs g ≡ Some hub → find_hub (map f hubs) g ≡ Some (f hub)) → cond ((f x).number == g) (Some (f x)) (find_hub (map f hubs) g) ≡ Some (f hub)
-  by_test true e here rest =
-      ap (λ b. cond b (Some (f x)) (find_hub (map f hubs) g)) (ap (λ n. n == g) (same x) ∙ e) ∙ ap (λ (y : Hub). Some (f y)) (same_Some x hub here)
-  by_test false e later rest = ap (λ b. cond b (Some (f x)) (find_hub (map f hubs) g)) (ap (λ n. n == g) (same x) ∙ e) ∙ rest later
+find_mapped f same (x ∷ hubs) g hub found = search (rules, same_Some, find_mapped f same hubs g hub)
 
 below_filtered : (n : ℕ) (p : Key → Bool) (keys : List Key) → AreBelow n keys → AreBelow n (filter p keys)
 below_filtered n p [] all = tt
-below_filtered n p (key ∷ keys) all = by_test (p key) (below_filtered n p keys all.1) where
-  by_test : (b : Bool) → AreBelow n (filter p keys) → AreBelow n (cond b (key ∷ filter p keys) (filter p keys))
-  by_test true rest = (all.0, rest)
-  by_test false rest = rest
+below_filtered n p (key ∷ keys) all = search (rules, below_filtered n p keys all.1)
 
 -- where an exchange closes nodes first, the hub is still there
 pub ready_to_exchange : {base : Kept} → (h : List Event) (place : Place) (g : ℕ) (hubs : List Hub) (gone : Key → Bool) (ended : Option LastEnd) →

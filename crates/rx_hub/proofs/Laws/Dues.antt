@@ -2,7 +2,7 @@
 use Rattle.rx_hub.proofs.Common.{◌≡◌, ℕ, zero, suc, ◌<◌, ◌≤◌, ◌+◌, ◌==◌, ◌&&◌, ◌||◌, cond, Bool, true, false, List, [], ◌∷◌, length, slice_get, filter, Some}
 use Rattle.rx_hub.proofs.Common.{Option, None, is_none, IfSome, refl, sym, ap, subst, ◌∙◌, inl, inr, ◌⊎◌, arith, true≢false, nat_lt, if◌then◌else◌, list_any}
 use Rattle.rx_hub.proofs.Common.{range_with_len, AllByRecursion, option_map_or, option_or, option_to_list, not, cases_order, false≢true, or_right, nat_tests}
-use Rattle.rx_hub.proofs.Common.{same_Some, none-some, Kept, Terminal, Sub, Mode, Auto, Manual, Event, Open, Connect, Close, makes_hub, is_auto_hub, at, due}
+use Rattle.rx_hub.proofs.Common.{same_Some, none-some, Kept, Terminal, Mode, Auto, Event, Connect, Close, makes_hub, is_auto_hub, at, due}
 use Rattle.rx_hub.proofs.Common.{is_subscriber_of, is_connect_of, places, is_open, open_subscribers, open_connections, IsForced, connecting, IsSettled, IsDue}
 use Rattle.rx_hub.proofs.Common.{IsConnected, IsConnectDue, cut, left, SourceEnded, at_connect, filtered, first_passes, filter_nonempty, is_open_within, Key}
 use Rattle.rx_hub.proofs.Common.{is_on, Slots, Node, AreRecordsOf, HubDue, LastEnd, IsDueIn, connects, acts, IsQuiet, NoneWaits, is_auto, is_cut, connect_of}
@@ -14,28 +14,24 @@ use Rattle.rx_hub.proofs.Laws.DuesInTree.{quiet_settled}
 use Rattle.rx_hub.specs.declared.hub.HubDue.TheVariants.{Connect as ConnectDue, End as EndDue, Close as CloseDue}
 use Rattle.rx_hub.specs.Due.{event_of, IsOf, ConcernsHub, waits}
 use Rattle.rx_hub.proofs.HubsByNumber.{find_at}
+use Rattle.std.proofs.Common.{rules}
 
 -- tests -------------------------------------------------------------------------------------------
 
 both_parts : (a b : Bool) → (a && b) ≡ true → (a ≡ true) × (b ≡ true)
-both_parts true true e = (refl, refl)
-both_parts true false e = absurd (false≢true e)
-both_parts false b e = absurd (false≢true e)
+both_parts x0 x1 e = search (rules, false≢true)
 
 both_hold : (a b : Bool) → a ≡ true → b ≡ true → (a && b) ≡ true
 both_hold a b e f = ap (λ x. x && b) e ∙ f
 
 if_some : {X : Type 0} (b : Bool) (x y : X) → (if b then Some x else None) ≡ Some y → (b ≡ true) × (x ≡ y)
-if_some true x y e = (refl, same_Some x y e)
-if_some false x y e = absurd (none-some y e)
+if_some x0 x y e = search (rules, same_Some, none-some)
 
 if_none : {X : Type 0} (b : Bool) (x : X) → (if b then Some x else None) ≡ None → b ≡ false
-if_none true x e = absurd (none-some x (sym e))
-if_none false x e = refl
+if_none x0 x e = search (rules, none-some)
 
 or_none : {X : Type 0} (o : Option X) → option_or o None ≡ o
-or_none None = refl
-or_none (Some x) = refl
+or_none x0 = search rules
 
 lt_of : (a b : ℕ) → nat_lt a b ≡ true → a < b
 lt_of a b e = grind (arith, nat_tests, e)
@@ -45,9 +41,7 @@ of_lt a b e = grind (arith, nat_tests, e)
 
 -- two hubs that one node subscribes to are one
 same_hub : (g k : ℕ) (o : Option Event) → option_map_or (is_subscriber_of g) o false ≡ true → option_map_or (is_subscriber_of k) o false ≡ true → g ≡ k
-same_hub g k None a b = absurd (false≢true a)
-same_hub g k (Some (Open place (Sub j))) a b = grind (arith, nat_tests, a, b)
-same_hub g k (Some _) a b = absurd (false≢true a)
+same_hub g k x2 a b = search (rules, false≢true, nat_tests)
 
 all_at : {X : Type 0} (P : X → Type 0) (xs : List X) (i : ℕ) (x : X) → AllByRecursion P xs → slice_get xs i ≡ Some x → P x
 all_at P [] i x all got = absurd (none-some x got)
@@ -59,21 +53,7 @@ passes_at p xs i n got = all_at (λ x. p x ≡ true) (filter p xs) i n (filtered
 
 any_filtered : (p q : ℕ → Bool) (s n : ℕ) {k : ℕ} → s ≤ k → k < s + n → p k ≡ true → q k ≡ true → list_any q (filter p (range_with_len s n)) ≡ true
 any_filtered p q s zero above below pk qk = absurd (omega arith)
-any_filtered p q s (suc n) {k} above below pk qk = by_place (any_filtered p q (s + 1) n) (cases_order s k) where
-  here : s ≡ k → (b : Bool) → p s ≡ b → list_any q (cond b (s ∷ filter p (range_with_len (s + 1) n)) (filter p (range_with_len (s + 1) n))) ≡ true
-  here same true e = ap (λ t. t || list_any q (filter p (range_with_len (s + 1) n))) (ap q same ∙ qk)
-  here same false e = absurd (true≢false (sym pk ∙ ap p (sym same) ∙ e))
-
-  later : list_any q (filter p (range_with_len (s + 1) n)) ≡ true → (b : Bool) →
-      list_any q (cond b (s ∷ filter p (range_with_len (s + 1) n)) (filter p (range_with_len (s + 1) n))) ≡ true
-  later rest true = or_right (q s) (list_any q (filter p (range_with_len (s + 1) n))) rest
-  later rest false = rest
-
-  by_place : (s + 1 ≤ k → k < s + 1 + n → p k ≡ true → q k ≡ true → list_any q (filter p (range_with_len (s + 1) n)) ≡ true) →
-      (s ≡ k) ⊎ ((s < k) ⊎ (k < s)) → list_any q (filter p (range_with_len s (suc n))) ≡ true
-  by_place rest (inl same) = here same (p s) refl
-  by_place rest (inr (inl l)) = later (rest (omega arith) (omega arith) pk qk) (p s)
-  by_place rest (inr (inr l)) = absurd (omega arith)
+any_filtered p q s (suc n) {k} above below pk qk = search (rules, cases_order, list_any, cond, filter, range_with_len, true≢false, or_right, any_filtered p q (s + 1) n)
 
 -- the first that is left is the least that passes
 first_least : (p : ℕ → Bool) (s n : ℕ) {k x : ℕ} (rest : List ℕ) → s ≤ k → k < s + n → p k ≡ true → filter p (range_with_len s n) ≡ x ∷ rest → x ≤ k
@@ -109,29 +89,19 @@ stays_numbers last [] = refl
 stays_numbers last (k ∷ ks) = ap (λ b. stays_at last k.number || b) (stays_numbers last ks)
 
 mode_auto : (mode : Mode) → is_auto_hub (Publish mode) ≡ is_auto mode
-mode_auto Auto = refl
-mode_auto Manual = refl
+mode_auto x0 = search rules
 
 auto_same : (h : List Event) (hub : Hub) → IsHubOf h hub → at is_auto_hub h hub.number ≡ is_auto hub.mode
 auto_same h hub is = ap (λ (o : Option Event). option_map_or is_auto_hub o false) is.made ∙ mode_auto hub.mode
 
 auto_makes : (o : Option Event) → option_map_or is_auto_hub o false ≡ true → option_map_or makes_hub o false ≡ true
-auto_makes None e = e
-auto_makes (Some (Publish mode)) e = refl
-auto_makes (Some _) e = absurd (false≢true e)
+auto_makes x0 e = search (rules, false≢true)
 
 -- a younger subscriber is not ended by any connection
 stays_uncut : (h : List Event) (hub : Hub) → IsHubOf h hub → (s : ℕ) → at (is_subscriber_of hub.number) h s ≡ true → stays_at hub.last_end s ≡ true →
     (t : Terminal) → ¬ SourceEnded h s t
 stays_uncut h hub is s subscribes stays t ended =
-    let same : ended.hub ≡ hub.number = same_hub ended.hub hub.number (slice_get h s) ended.subscribes subscribes in
-    by_last hub.last_end stays (is.latest ended.connection ended.place t (ended.connects ∙ ap (λ g. Some (Connect g)) same) ended.ended) where
-      by_last : (last : Option LastEnd) → stays_at last s ≡ true → IsUpTo ended.place last → ⊥
-      by_last None st up = up
-      by_last (Some e) st up =
-          let later = ended.later in
-          let older : nat_lt s e.place ≡ true = of_lt s e.place (omega (arith, later, up)) in
-          false≢true (ap not (sym older) ∙ st)
+    search (rules, same_hub, stays_at, of_lt, false≢true)
 
 -- an older one is
 old_cut : (h : List Event) (hub : Hub) → IsHubOf h hub → (s : ℕ) (e : LastEnd) → at (is_subscriber_of hub.number) h s ≡ true → hub.last_end ≡ Some e →
@@ -139,19 +109,10 @@ old_cut : (h : List Event) (hub : Hub) → IsHubOf h hub → (s : ℕ) (e : Last
     SourceEnded h s e.terminal
 old_cut h hub is s e subscribes last older =
     let end = subst (λ (o : Option LastEnd). IfSome o (EndsConnection h hub.number)) last is.ended in
-    record {
-      hub = hub.number;
-      connection = end.connection;
-      place = e.place;
-      subscribes = subscribes;
-      connects = end.connects;
-      later = older;
-      ended = end.ended;
-    }
+    search (rules, connects)
 
 no_connection : (o : Option Key) → numbers (option_to_list o) ≡ [] → is_none o ≡ true
-no_connection None e = refl
-no_connection (Some c) e = absurd (let long : 1 ≡ 0 = ap length e in omega (arith, long))
+no_connection x0 e = search rules
 
 -- no hub waits ------------------------------------------------------------------------------------
 
@@ -241,59 +202,28 @@ hubs_forced base h hubs d are (acts i hub none there gives) = due (none_waits h 
 -- what is due is of a hub --------------------------------------------------------------------------
 
 on_first : (k : Key) (ks : List Key) → is_on k (k ∷ ks) ≡ true
-on_first k ks = ap (λ b. b || is_on k ks) (both_hold (k.slot == k.slot) (k.number == k.number) (own k.slot) (own k.number)) where
-  own : (n : ℕ) → (n == n) ≡ true
-  own n = grind (arith, nat_tests)
+on_first k ks = search (rules, both_hold, nat_tests)
 
 connect_own : (hub : Hub) (d : HubDue) → connect_of hub ≡ Some d → IsOf hub d
 connect_own hub d gives =
-    let told = if_some (waits hub) (ConnectDue hub.number) d gives in
-    let parts = both_parts (is_auto hub.mode && is_none hub.connection) (list_any (λ key. not (is_cut hub.last_end key)) hub.subscribers) told.0 in
-    let rest = both_parts (is_auto hub.mode) (is_none hub.connection) parts.0 in
-    subst (λ x. IsOf hub x) told.1 (refl, auto_is hub.mode rest.0, none_is hub.connection rest.1)
-  where
-    auto_is : (mode : Mode) → is_auto mode ≡ true → mode ≡ Auto
-    auto_is Auto e = refl
-    auto_is Manual e = absurd (false≢true e)
-
-    none_is : (o : Option Key) → is_none o ≡ true → o ≡ None
-    none_is None e = refl
-    none_is (Some c) e = absurd (false≢true e)
+    search (rules, if_some, both_parts, Auto, false≢true)
 
 due_own : (hub : Hub) (d : HubDue) → due_of hub ≡ Some d → IsOf hub d
-due_own hub d gives = by_lists hub.subscribers refl hub.last_end gives where
-  by_left : (auto : Bool) (c : Option Key) → hub.connection ≡ c → left_of auto c [] ≡ Some d → IsOf hub d
-  by_left true (Some c) has is_due = subst (λ x. IsOf hub x) (same_Some (CloseDue c) d is_due) has
-  by_left true None has is_due = absurd (none-some d is_due)
-  by_left false c has is_due = absurd (none-some d is_due)
-
-  by_lists : (ks : List Key) → hub.subscribers ≡ ks → (last : Option LastEnd) →
-      option_or (cut_of last ks) (left_of (is_auto hub.mode) hub.connection ks) ≡ Some d → IsOf hub d
-  by_lists [] some None is_due = by_left (is_auto hub.mode) hub.connection refl is_due
-  by_lists [] some (Some x) is_due = by_left (is_auto hub.mode) hub.connection refl is_due
-  by_lists (k ∷ ks) some None is_due = absurd (none-some d is_due)
-  by_lists (k ∷ ks) some (Some x) is_due =
-      let told =
-      if_some (nat_lt k.number x.place) (EndDue k x.terminal) d
-      (sym (or_none (if nat_lt k.number x.place then Some (EndDue k x.terminal) else None)) ∙ is_due) in
-      subst (λ y. IsOf hub y) told.1 (subst (λ (zs : List Key). is_on k zs ≡ true) (sym some) (on_first k ks))
+due_own hub d gives = search (rules, same_Some, none-some, if_some, or_none, on_first)
 
 concerns_one : (s : Hubs) → IsPromised s → (d : HubDue) → IsDueIn s.hubs d → ConcernsHub s.hubs d
 concerns_one s promised d (connects i hub there gives) = record { hub = hub; there = find_at s promised i hub there; own = connect_own hub d gives }
 concerns_one s promised d (acts i hub none there gives) = record { hub = hub; there = find_at s promised i hub there; own = due_own hub d gives }
 
 pub concerns_hub : (s : Hubs) → IsPromised s → (r : Option HubDue) → IfSome r (IsDueIn s.hubs) → IfSome r (ConcernsHub s.hubs)
-concerns_hub s promised None is_due = tt
-concerns_hub s promised (Some d) is_due = concerns_one s promised d is_due
+concerns_hub s promised x2 is_due = search (rules, concerns_one)
 
 -- where nothing is due ----------------------------------------------------------------------------
 
 -- the oldest subscriber is not older than the last end
 quiet_first : (hub : Hub) (k : Key) (ks : List Key) (x : LastEnd) → hub.subscribers ≡ k ∷ ks → hub.last_end ≡ Some x → due_of hub ≡ None →
     nat_lt k.number x.place ≡ false
-quiet_first hub k ks x some last none = if_none (nat_lt k.number x.place) (EndDue k x.terminal)
-    (sym (or_none (if nat_lt k.number x.place then Some (EndDue k x.terminal) else None)) ∙
-    (λ i. option_or (cut_of (sym last i) (sym some i)) (left_of (is_auto hub.mode) hub.connection (sym some i))) ∙ none)
+quiet_first hub k ks x some last none = search (rules, if_none, or_none)
 
 pub none_cut : (h : List Event) (hubs : List Hub) → AreHubsOf h hubs → IsQuiet hubs → (n : ℕ) (t : Terminal) → is_open h n ≡ true → ¬ SourceEnded h n t
 none_cut h hubs are quiet n t o ended =
@@ -351,4 +281,4 @@ none_left base h hubs are quiet c (left {g = g} o at_c auto none) =
 pub quiet_settles : (base : Kept) → (h : List Event) (nodes : Slots Node) (hubs : List Hub) → AreRecordsOf base h nodes → AreHubsOf h hubs →
     IsQuietTree nodes → IsQuiet hubs → IsSettled base h
 quiet_settles base h nodes hubs records are quiet_tree quiet =
-    quiet_settled base h nodes records quiet_tree (none_waits h hubs are quiet.connected) (none_cut h hubs are quiet) (none_left base h hubs are quiet)
+    search (rules, quiet_settled, none_waits, none_cut, none_left)

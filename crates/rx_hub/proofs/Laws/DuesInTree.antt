@@ -1,29 +1,23 @@
 -- What is due at a tree's records is forced in every history whose records they are.
-use Rattle.rx_hub.proofs.Common.{◌≡◌, ℕ, true, false, List, Option, Some, None, slice_get, option_map, refl, sym, ap, ◌∙◌, list_any, option_and_then, Kept}
+use Rattle.rx_hub.proofs.Common.{◌≡◌, ℕ, true, false, List, Some, None, slice_get, sym, ap, ◌∙◌, list_any, option_and_then, Kept}
 use Rattle.rx_hub.proofs.Common.{same_Some, none-some, Terminal, Event, End, Close, makes_hub, is_open, due_at, marks_of, IsForced, IsSettled, IsConnected}
-use Rattle.rx_hub.proofs.Common.{IsDue, SourceEnded, IsLawful, Slots, find, Node, Due, AreRecordsOf}
+use Rattle.rx_hub.proofs.Common.{IsDue, SourceEnded, IsLawful, Slots, Node, Due, AreRecordsOf}
 use Rattle.rx_event.proofs.Laws.MarksDue.{due_at_forced, settled_by_marks, settled_hubless, settled_quiet}
 use Rattle.rx_hub.specs.Operators.{IsDueAt, IsDueIn, IsQuiet}
 use Rattle.rx_hub.specs.TreeRecords.{IsRecordOf, HasRecord}
+use Rattle.std.proofs.Common.{rules}
 
 -- where a node has to end so, that end is due
 pub due_at_in : (nodes : Slots Node) (due : Due) → IsDueAt nodes due → IsDueIn nodes (End due.node.number due.terminal)
 due_at_in nodes due at = record {
   key = due.node;
-  gives = ap (option_and_then (λ (node : Node). due_at node.made node.marks due.node.number)) at.found ∙
-      ap (option_map (λ t. End due.node.number t)) at.gives;
+  gives = search rules;
 }
 
 -- what is due at a record is forced, where no hub waits
 pub due_forced : (base : Kept) → (h : List Event) (nodes : Slots Node) (e : Event) → AreRecordsOf base h nodes → IsConnected h → IsDueIn nodes e →
     IsForced base h e
-due_forced base h nodes e records connected due_in = by_node (find nodes due_in.key) refl due_in.gives where
-  by_node : (o : Option Node) → find nodes due_in.key ≡ o → option_and_then (λ node. due_at node.made node.marks due_in.key.number) o ≡ Some e →
-      IsForced base h e
-  by_node None found gives = absurd (none-some e gives)
-  by_node (Some node) found gives =
-      let r = records.each due_in.key node found in
-      due_at_forced h due_in.key.number node.made e connected r.alive r.made (ap (λ m. due_at node.made m due_in.key.number) (sym r.marks) ∙ gives)
+due_forced base h nodes e records connected due_in = search (rules, none-some, due_at_forced)
 
 -- where nothing is due at any record, no marks of an open node give an event
 quiet_marks : {base : Kept} → (h : List Event) (nodes : Slots Node) → AreRecordsOf base h nodes → IsQuiet nodes → (n : ℕ) (made : Event) → is_open h n ≡ true →
@@ -49,9 +43,4 @@ quiet_settled_hubless base h nodes law records quiet hubless = settled_hubless b
 
 -- in a settled history nothing is due at any record
 pub settled_quiet_records : (base : Kept) → (h : List Event) (nodes : Slots Node) → AreRecordsOf base h nodes → IsSettled base h → IsQuiet nodes
-settled_quiet_records base h nodes records settled key = by_node (find nodes key) refl where
-  by_node : (o : Option Node) → find nodes key ≡ o → option_and_then (λ node. due_at node.made node.marks key.number) o ≡ None
-  by_node None found = refl
-  by_node (Some node) found =
-      let r = records.each key node found in
-      ap (λ m. due_at node.made m key.number) r.marks ∙ settled_quiet base h settled key.number node.made r.alive r.made
+settled_quiet_records base h nodes records settled key = search (rules, settled_quiet)

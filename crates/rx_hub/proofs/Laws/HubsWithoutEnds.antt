@@ -1,9 +1,10 @@
 -- Hubs that forgot how their connections ended are those of a history in which nothing ended, and which agrees.
 use Rattle.rx_hub.proofs.Common.{◌≡◌, ℕ, zero, suc, map, true, false, List, [], ◌∷◌, slice_get, Option, Some, None, refl, sym, ap, subst, ◌∙◌, option_map_or}
-use Rattle.rx_hub.proofs.Common.{false≢true, same_Some, none-some, Terminal, Event, Open, End, makes_node, makes_hub, is_subscriber_of, at, is_open, Hub}
+use Rattle.rx_hub.proofs.Common.{false≢true, same_Some, none-some, Terminal, Event, End, makes_node, makes_hub, is_subscriber_of, at, is_open, Hub}
 use Rattle.rx_hub.proofs.Common.{without_end, IsHubOf, HasHub, AreHubsOf}
 use Rattle.rx_event.proofs.Laws.SameTree.{Alike, alike_back, at_alike, at_hub_alike, subscribers_alike, connections_alike}
 use Rattle.rx_event.proofs.Laws.SameForcedAndAllowed.{hub_is}
+use Rattle.std.proofs.Common.{rules}
 
 -- the hubs one by one
 pub forgot_get : (hubs : List Hub) (i : ℕ) (hub : Hub) → slice_get (map without_end hubs) i ≡ Some hub →
@@ -21,8 +22,7 @@ forgot_there (h ∷ hubs) (suc i) hub at_i = forgot_there hubs i hub at_i
 
 -- a subscriber is a node
 subscriber_makes : (g : ℕ) (e : Event) → is_subscriber_of g e ≡ true → makes_node e ≡ true
-subscriber_makes g (Open place kind) is = refl
-subscriber_makes g _ is = absurd (false≢true is)
+subscriber_makes g x1 is = search (rules, false≢true)
 
 -- in k each node is open, and nothing ended
 pub forgotten_hubs : (h k : List Event) (hubs : List Hub) → Alike h k →

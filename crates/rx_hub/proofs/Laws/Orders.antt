@@ -7,6 +7,7 @@ use Rattle.rx_hub.proofs.Common.{made_of, above_of, stop_of, way_within, end_of,
 use Rattle.rx_event.proofs.Laws.Parents.{within_parent}
 use Rattle.rx_hub.proofs.Laws.Ways.{stop_of-found, connection_made, above_found}
 use Rattle.rx_hub.proofs.Laws.Walks.{found_hub}
+use Rattle.std.proofs.Common.{rules}
 
 -- the node above one is its parent in the history
 parent_above : {base : Kept} → {h : List Event} (nodes : Slots Node) (hubs : List Hub) → IsWalk base h nodes hubs → (key up : Key) (node : Node) →
@@ -51,10 +52,7 @@ way_within_connection {base} {h} nodes hubs w c (suc left) key there ends =
 made_told : (base : Kept) → (h : List Event) (nodes : Slots Node) (hubs : List Hub) → IsWalk base h nodes hubs → (c : Key) (e : Event) →
     made_of nodes c ≡ Some e →
     slice_get h c.number ≡ Some e
-made_told base h nodes hubs w c e made = by_node (find nodes c) refl made where
-  by_node : (o : Option Node) → find nodes c ≡ o → option_map (λ (node : Node). node.made) o ≡ Some e → slice_get h c.number ≡ Some e
-  by_node None found none = absurd (none-some e none)
-  by_node (Some node) found some = (w.records.each c node found).made ∙ some
+made_told base h nodes hubs w c e made = search (rules, none-some)
 
 -- what is so of numbers and of their keys together
 of_numbers : (P : ℕ → Type 0) (F Q : Key → Type 0) → ((key : Key) → P key.number → F key → Q key) → (keys : List Key) → AllByRecursion P (numbers keys) →

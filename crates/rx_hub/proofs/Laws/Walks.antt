@@ -7,6 +7,7 @@ use Rattle.rx_hub.proofs.Common.{Connection, numbered, made_of, above_of, stop_o
 use Rattle.rx_hub.proofs.Common.{onward_over, visited_over, climb_over, arrival_at, stops_over, IsWalk}
 use Rattle.rx_event.specs.Climb.{Stop as NumberedStop, stop_at, onward, onward_from, onward_unless, visited, climb, stops, visits}
 use Rattle.rx_hub.proofs.Laws.Ways.{IsTold, stop_of-found, stop_seen, onward_seen, onward_at, connection_made, above_found}
+use Rattle.std.proofs.Common.{rules}
 
 abbrev AreFound : Slots Node → List Key → Type 0
 AreFound nodes keys = AllByRecursion (λ key. IsSome (find nodes key)) keys
@@ -29,16 +30,14 @@ found_hub (x ∷ hubs) n hub found = of (x.number == n) refl (found_hub hubs n h
 some_hub : (hubs : List Hub) (n i : ℕ) (hub : Hub) → slice_get hubs i ≡ Some hub → hub.number ≡ n → find_hub hubs n ≡ None → ⊥
 some_hub [] n i hub got named none = none-some hub got
 some_hub (x ∷ hubs) n zero hub got named none =
-    let is : (x.number == n) ≡ true = let e : x.number ≡ n = ap (λ (y : Hub). y.number) (same_Some x hub got) ∙ named in grind (arith, nat_tests, e) in
-    none-some x (sym (ap (λ b. cond b (Some x) (find_hub hubs n)) (sym is) ∙ none))
+    search (rules, same_Some, nat_tests, none-some)
 some_hub (x ∷ hubs) n (suc i) hub got named none = some_hub hubs n i hub got named (of (x.number == n) none) where
   of : (b : Bool) → cond b (Some x) (find_hub hubs n) ≡ None → find_hub hubs n ≡ None
   of true e = absurd (none-some x (sym e))
   of false e = e
 
 and_first : (a b : Bool) → (a && b) ≡ true → a ≡ true
-and_first true b e = refl
-and_first false b e = absurd (false≢true e)
+and_first x0 b e = search (rules, false≢true)
 
 -- the subscribers of a hub are those of the history
 subscribers_told : (base : Kept) → (h : List Event) (nodes : Slots Node) (hubs : List Hub) → IsWalk base h nodes hubs → (g : ℕ) →
@@ -126,7 +125,7 @@ visited_told base h nodes hubs w (suc left) [] found = refl
 visited_told base h nodes hubs w (suc left) (key ∷ keys) found =
     let on = onward_told base h nodes hubs w key found.0 in
     ap (λ (ns : List ℕ). key.number ∷ visited left h ns)
-    (ap (λ (ns : List ℕ). ns ++ numbers keys) on.goes ∙ sym (numbers_both (onward_over nodes hubs key) keys)) ∙
+    (search (rules, numbers_both)) ∙
     ap (λ (ns : List ℕ). key.number ∷ ns) (visited_told base h nodes hubs w left (onward_over nodes hubs key ++ keys)
     (AllByRecursion-both (λ k. IsSome (find nodes k)) (onward_over nodes hubs key) keys on.found found.1))
 

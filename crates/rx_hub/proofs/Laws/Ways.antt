@@ -1,13 +1,14 @@
 -- The way of an item inside one tree is its climb in every history whose records the tree has.
 use Rattle.rx_hub.proofs.Common.{◌≡◌, ℕ, zero, suc, ◌-◌, Bool, true, false, List, [], ◌∷◌, ◌++◌, length, Option, Some, None, IsSome, IfSome, is_some, refl}
 use Rattle.rx_hub.proofs.Common.{option_map, slice_get, sym, ap, ◌∙◌, arith, append-nil, if◌then◌else◌, filter_map, option_and_then, option_map_or, option_or}
-use Rattle.rx_hub.proofs.Common.{option_to_list, false≢true, filter_map-append, same_Some, none-some, Kept, Root, Source, Inner, Notifier, Event, Open, at}
+use Rattle.rx_hub.proofs.Common.{option_to_list, false≢true, filter_map-append, same_Some, none-some, Kept, Event, at}
 use Rattle.rx_hub.proofs.Common.{Connect, is_merging, parent_named, hub_connected, parent, if_less, open_subscribers, most_visits, Key, Slots, find, Node}
-use Rattle.rx_hub.proofs.Common.{IsSound, named_above, some_of, named_parent, Stop, Delivery, Projection, Firing, Connection, made_of, above_of, if_merging}
+use Rattle.rx_hub.proofs.Common.{IsSound, named_above, some_of, named_parent, Stop, Delivery, Projection, Firing, Connection, made_of, above_of}
 use Rattle.rx_hub.proofs.Common.{stop_made, stop_of, onward_of, way_within, way, end_of, AreRecordsOf, numbers, numbered}
-use Rattle.rx_event.specs.Climb.{Stop as NumberedStop, Projection as ProjectionTo, Firing as FiringOf, stop_made as stop_made_in, stop_at, onward, visited}
+use Rattle.rx_event.specs.Climb.{Stop as NumberedStop, stop_made as stop_made_in, stop_at, onward, visited}
 use Rattle.rx_event.specs.Climb.{onward_from, onward_unless, climb, stops}
 use Rattle.rx_hub.specs.TreeClaims.{IsWay}
+use Rattle.std.proofs.Common.{rules}
 
 -- one node ------------------------------------------------------------------------------------------
 
@@ -27,28 +28,13 @@ merging_told base h nodes t up found =
 stop_told : {base : Kept} → (h : List Event) (nodes : Slots Node) → IsTold base h nodes → (key : Key) (above : Option Key) (made : Event) →
     parent_named made ≡ option_map (λ k. k.number) above → IfSome above (λ k. IsSome (find nodes k)) →
     stop_made_in h key.number made ≡ option_and_then numbered (stop_made nodes key above made)
-stop_told h nodes t key above (Open Root kind) named there = refl
-stop_told h nodes t key None (Open (Source f) kind) named there = absurd (none-some f (sym named))
-stop_told {base} h nodes t key (Some up) (Open (Source f) kind) named there =
-    ap (λ q. if at is_merging h q then Some (ProjectionTo q) else None) (same_Some f up.number named) ∙
-    ap (λ b. if b then Some (ProjectionTo up.number) else None) (merging_told base h nodes t up there) ∙
-    shape (option_map_or is_merging (made_of nodes up) false)
-  where
-    shape : (b : Bool) →
-        (if b then Some (ProjectionTo up.number) else None) ≡ option_and_then numbered (option_map (λ k. Projection k) (if b then Some up else None))
-    shape true = refl
-    shape false = refl
-stop_told h nodes t key None (Open (Notifier u) kind) named there = absurd (none-some u (sym named))
-stop_told h nodes t key (Some up) (Open (Notifier u) kind) named there = ap (λ q. Some (FiringOf q)) (same_Some u up.number named)
-stop_told h nodes t key above (Open (Inner f) kind) named there = refl
-stop_told h nodes t key above (Connect g) named there = refl
-stop_told h nodes t key above _ named there = refl
+stop_told h nodes t key above x5 named there = search (rules, none-some, same_Some, merging_told)
 
 -- of a node that is found
 pub stop_of-found : (nodes : Slots Node) (key : Key) (node : Node) → find nodes key ≡ Some node →
     stop_of nodes key ≡ stop_made nodes key node.above node.made
 stop_of-found nodes key node found =
-    ap (λ (o : Option Node). option_and_then (stop_made nodes key (option_and_then (λ n. n.above) o)) (option_map (λ n. n.made) o)) found
+    search rules
 
 pub stop_seen : (base : Kept) → (h : List Event) (nodes : Slots Node) → IsTold base h nodes → (key : Key) (node : Node) → find nodes key ≡ Some node →
     stop_at h key.number ≡ option_and_then numbered (stop_of nodes key)
@@ -86,27 +72,12 @@ no_connection s c other same = false≢true (sym other ∙ ap is_connection same
 -- only a Connect makes a connection
 pub connection_made : (nodes : Slots Node) (key c : Key) (above : Option Key) (made : Event) → stop_made nodes key above made ≡ Some (Connection c) →
     (g : ℕ) × (made ≡ Connect g) × (key ≡ c)
-connection_made nodes key c above (Connect g) stop = (g, refl, same_connection key c (same_Some (Connection key) (Connection c) stop)) where
-  same_connection : (a b : Key) → Connection a ≡ Connection b → a ≡ b
-  same_connection a b same = cc
-connection_made nodes key c above (Open Root kind) stop = absurd (no_connection (Delivery key) c refl (same_Some _ _ stop))
-connection_made nodes key c above (Open (Source f) kind) stop = absurd (by_merging (option_and_then (if_merging nodes) above) stop) where
-  by_merging : (o : Option Key) → option_map (λ k. Projection k) o ≡ Some (Connection c) → ⊥
-  by_merging None none = none-some (Connection c) none
-  by_merging (Some k) same = no_connection (Projection k) c refl (same_Some _ _ same)
-connection_made nodes key c above (Open (Notifier u) kind) stop = absurd (by_above above stop) where
-  by_above : (o : Option Key) → option_map (λ k. Firing k) o ≡ Some (Connection c) → ⊥
-  by_above None none = none-some (Connection c) none
-  by_above (Some k) same = no_connection (Firing k) c refl (same_Some _ _ same)
-connection_made nodes key c above (Open (Inner f) kind) stop = absurd (none-some (Connection c) stop)
-connection_made nodes key c above _ stop = absurd (none-some (Connection c) stop)
+connection_made nodes key c above x4 stop = search (rules, same_Some, no_connection, none-some)
 
 -- a node at which an item does not stop is no connection
 goes_to_parent : (h : List Event) (nodes : Slots Node) (key : Key) (above : Option Key) (made : Event) (n : ℕ) → stop_made nodes key above made ≡ None →
     onward_from h n made ≡ option_to_list (parent h n)
-goes_to_parent h nodes key above (Connect g) n free = absurd (none-some (Connection key) (sym free))
-goes_to_parent h nodes key above (Open place kind) n free = refl
-goes_to_parent h nodes key above _ n free = refl
+goes_to_parent h nodes key above x4 n free = search (rules, none-some)
 
 -- where a climb goes on, by the stop
 pub onward_at : {base : Kept} → (h : List Event) (nodes : Slots Node) → IsTold base h nodes → (key : Key) (node : Node) → find nodes key ≡ Some node →
@@ -130,11 +101,7 @@ above_seen : (nodes : Slots Node) (key : Key) (node : Node) → find nodes key �
 above_seen nodes key node found = ap (option_and_then (λ n. n.above)) found
 
 onward_some : (nodes : Slots Node) (key up : Key) → onward_of nodes key ≡ Some up → (stop_of nodes key ≡ None) × (above_of nodes key ≡ Some up)
-onward_some nodes key up on = by_stop (stop_of nodes key) refl on where
-  by_stop : (s : Option Stop) → stop_of nodes key ≡ s → (if is_some s then None else above_of nodes key) ≡ Some up →
-      (stop_of nodes key ≡ None) × (above_of nodes key ≡ Some up)
-  by_stop None free above = (free, above)
-  by_stop (Some s) stop none = absurd (none-some up none)
+onward_some nodes key up on = search (rules, none-some)
 
 pub above_found : (nodes : Slots Node) (key up : Key) → IsSound nodes → above_of nodes key ≡ Some up → IsSome (find nodes up)
 above_found nodes key up sound above = by_node (find nodes key) refl above where
@@ -174,12 +141,10 @@ onward_ended {h} nodes t key node found (Some (Connection c)) stop ended =
 -- the whole way ---------------------------------------------------------------------------------------
 
 visited_nothing : (left : ℕ) (h : List Event) → visited left h [] ≡ []
-visited_nothing zero h = refl
-visited_nothing (suc left) h = refl
+visited_nothing x0 h = search rules
 
 or_none : (s : Option Stop) → option_or s None ≡ s
-or_none None = refl
-or_none (Some x) = refl
+or_none x0 = search rules
 
 one_less : (a : ℕ) → suc a - 1 ≡ a
 one_less a = omega arith
@@ -260,21 +225,13 @@ unfolding climb
 climb_way base h nodes key w = visited_way base h nodes (told base w) (suc most_visits) key w.found
 
 nothing_beyond : (h : List Event) (nodes : Slots Node) (s : Option Stop) → ((c : Key) → ¬ (s ≡ Some (Connection c))) → beyond h nodes s ≡ []
-nothing_beyond h nodes None none = refl
-nothing_beyond h nodes (Some (Delivery c)) none = refl
-nothing_beyond h nodes (Some (Projection c)) none = refl
-nothing_beyond h nodes (Some (Firing c)) none = refl
-nothing_beyond h nodes (Some (Connection c)) none = absurd (none c refl)
+nothing_beyond h nodes x2 none = search rules
 
 -- where it reaches no connection, it is the climb
 pub climb_whole_way : (base : Kept) → (h : List Event) (nodes : Slots Node) (key : Key) → IsWay base h nodes key →
     ((c : Key) → ¬ (end_of nodes (way nodes key) ≡ Some (Connection c))) → climb h key.number ≡ numbers (way nodes key)
 climb_whole_way base h nodes key w none =
-    climb_way base h nodes key w ∙
-    ap (λ (ns : List ℕ). numbers (way nodes key) ++ visited (suc most_visits - length (way nodes key)) h ns)
-    (nothing_beyond h nodes (end_of nodes (way nodes key)) none) ∙
-    ap (λ (ns : List ℕ). numbers (way nodes key) ++ ns) (visited_nothing (suc most_visits - length (way nodes key)) h) ∙
-    append-nil (numbers (way nodes key))
+    search (rules, climb_way, nothing_beyond, visited_nothing, append-nil)
 
 -- and its stop the only one
 pub stops_whole_way : (base : Kept) → (h : List Event) (nodes : Slots Node) (key : Key) → IsWay base h nodes key →
@@ -286,8 +243,7 @@ stops_whole_way base h nodes key w none = ap (filter_map (stop_at h)) (climb_who
 
 beyond_hub : (h : List Event) (nodes : Slots Node) (s : Option Stop) (c : Key) (g : ℕ) → s ≡ Some (Connection c) → made_of nodes c ≡ Some (Connect g) →
     beyond h nodes s ≡ open_subscribers h g
-beyond_hub h nodes s c g stop made = ap (beyond h nodes) stop ∙
-    ap (λ (o : Option Event). option_map_or (open_subscribers h) (option_and_then hub_connected o) []) made
+beyond_hub h nodes s c g stop made = search rules
 
 -- from a connection the climb goes on to the open subscribers of its hub
 pub climb_connected_way : {base : Kept} → (h : List Event) (nodes : Slots Node) (key c : Key) (g : ℕ) → IsWay base h nodes key →
@@ -295,9 +251,7 @@ pub climb_connected_way : {base : Kept} → (h : List Event) (nodes : Slots Node
     made_of nodes c ≡ Some (Connect g) →
     climb h key.number ≡ numbers (way nodes key) ++ visited (suc most_visits - length (way nodes key)) h (open_subscribers h g)
 climb_connected_way {base} h nodes key c g w stop made =
-    climb_way base h nodes key w ∙
-    ap (λ (ns : List ℕ). numbers (way nodes key) ++ visited (suc most_visits - length (way nodes key)) h ns)
-    (beyond_hub h nodes (end_of nodes (way nodes key)) c g stop made)
+    search (rules, climb_way, beyond_hub)
 
 -- and so do the stops
 pub stops_connected_way : {base : Kept} → (h : List Event) (nodes : Slots Node) (key c : Key) (g : ℕ) → IsWay base h nodes key →

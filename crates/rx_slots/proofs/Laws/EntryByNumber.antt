@@ -31,12 +31,9 @@ module _ {T : Type 0} where
   -- which is the one that it finds
   pub find-value_at : (s : Slots T) (key : Key) → IsSome (find s key) → find s key ≡ value_at s key.slot
   find-value_at s key found =
-      let at = found_entry s key found in
-      ap (with_number key.number) at.1 ∙ with_number-same key.number at.0 at.2 ∙ sym (ap (option_map (λ e. e.value)) at.1)
+      search (rules, found_entry, with_number, with_number-same, option_map)
 
   -- and a write at the slot is one at the key
   pub with_value_at-found : (s : Slots T) (key : Key) (value : T) → IsSome (find s key) → with_value_at s key.slot value ≡ with_value s key value
   with_value_at-found s key value found =
-      let at = found_entry s key found in
-      let number : number_at s key.slot ≡ Some key.number = ap (option_map (λ e. e.number)) at.1 ∙ ap Some at.2 in
-      ap (λ n. record s { entries = set s.entries key.slot (option_map (λ m. entry_of m value) n) }) number
+      search (rules, found_entry, option_map, set, entry_of)

@@ -23,8 +23,7 @@ told_by tag number is_end from same_from = record {
   eq_self a = grind (arith, nat_tests)
 
 pub or_true : (a b : Bool) → b ≡ true → (a || b) ≡ true
-or_true true b e = refl
-or_true false b e = e
+or_true x0 b e = search rules
 
 module _ {Place : Type 0} {places : Places Place} (tells : Tells places) where
   pub place_apart : (p q : Place) → p ≢ q → places.is_place p q ≡ false
@@ -114,34 +113,20 @@ module _ {Place : Type 0} {places : Places Place} (tells : Tells places) where
 
   pub different_without : (p : Place) (ps : List Place) → AreDifferent places ps → AreDifferent places (without places p ps)
   different_without p [] d = tt
-  different_without p (x ∷ ps) d = of (different_without p ps d.1) (places.is_place p x) refl where
-    of : AreDifferent places (without places p ps) → (b : Bool) → places.is_place p x ≡ b →
-        AreDifferent places (cond (not b) (x ∷ without places p ps) (without places p ps))
-    of again true t = again
-    of again false t = (false_from_ne_true (is_among places x (without places p ps)) (λ e. true≢false (sym (among_without p x ps e).0 ∙ d.0)), again)
+  different_without p (x ∷ ps) d = search (rules, AreDifferent, without, cond, not, false_from_ne_true, is_among, true≢false, among_without, different_without p ps d.1)
 
   pub different_append : (ps qs : List Place) → AreDifferent places ps → AreDifferent places qs →
       ((p : Place) → is_among places p ps ≡ true → is_among places p qs ≡ false) →
       AreDifferent places (ps ++ qs)
   different_append [] qs d d2 apart = d2
   different_append (x ∷ ps) qs d d2 apart = (
-    false_from_ne_true (is_among places x (ps ++ qs)) (λ e. elim (among_append x ps qs e) [
-      | inl l ↦ true≢false (sym l ∙ d.0)
-      | inr r ↦ true≢false (sym r ∙ apart x (among_here x ps))
-    ]),
+    false_from_ne_true (is_among places x (ps ++ qs)) (search (rules, among_append, true≢false, among_here)),
     different_append ps qs d.1 d2 (λ p e. apart p (among_there p x ps e)),
   )
 
   length_without : (x : Place) (ps : List Place) → AreDifferent places ps → length ps ≤ suc (length (without places x ps))
   length_without x [] d = omega arith
-  length_without x (p ∷ ps) d = of (places.is_place x p) refl (length_without x ps d.1) where
-    of : (b : Bool) → places.is_place x p ≡ b → length ps ≤ suc (length (without places x ps)) →
-        suc (length ps) ≤ suc (length (cond (not b) (p ∷ without places x ps) (without places x ps)))
-    of true t less =
-        let none : is_among places x ps ≡ false = subst (λ z. is_among places z ps ≡ false) (sym (tells.same x p t)) d.0 in
-        let same : length (without places x ps) ≡ length ps = ap length (without_none x ps none) in
-        omega (arith, same)
-    of false t less = omega (arith, less)
+  length_without x (p ∷ ps) d = search (rules, length, without, cond, not, is_among, without_none, length_without x ps d.1)
 
   -- different places below a bound are no more than the bound
   pub few_places : (make : ℕ → Place) (number : Place → ℕ) (k : ℕ) (ps : List Place) → AreDifferent places ps →

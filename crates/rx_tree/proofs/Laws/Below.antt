@@ -1,34 +1,29 @@
 -- Who stands below whom in a sound tree.
-use Rattle.rx_tree.proofs.Common.{◌≡◌, ◌≢◌, ℕ, zero, suc, ◌<◌, ◌≤◌, nat_lt, ◌==◌, ◌||◌, Bool, true, false, List, [], ◌∷◌, get_or, Option, Some, None, is_some}
-use Rattle.rx_tree.proofs.Common.{option_map, refl, sym, ap, ◌∙◌, inl, inr, arith, true≢false, list_any, option_and_then, option_map_or, option_or, cases_eq}
-use Rattle.rx_tree.proofs.Common.{ltb-true, nat_tests, cond_some, option_and_then_some, parent_named, if_less, Entry, Key, Slots, entry_of, entry_at, find}
+use Rattle.rx_tree.proofs.Common.{◌≡◌, ◌≢◌, ℕ, zero, suc, ◌<◌, ◌≤◌, ◌==◌, ◌||◌, Bool, true, false, List, [], ◌∷◌, get_or, Option, Some, None, is_some}
+use Rattle.rx_tree.proofs.Common.{option_map, refl, sym, ap, ◌∙◌, inl, inr, arith, true≢false, option_and_then, option_map_or, option_or, cases_eq}
+use Rattle.rx_tree.proofs.Common.{ltb-true, nat_tests, cond_some, option_and_then_some, Entry, Key, Slots, entry_of, entry_at, find}
 use Rattle.rx_tree.proofs.Common.{with_number, Node, IsSound, named_above, is_below, entry_found, with_number-same}
 use Rattle.rx_tree.specs.Below.{ancestors_within, record_in, record_of, up, ancestors}
 use Rattle.rx_tree.proofs.Laws.Parents.{named_parent}
 use Rattle.rx_tree.proofs.Laws.FoundAfterWrite.{with_number-other}
+use Rattle.std.proofs.Common.{rules}
 
 -- one test for both
 option_map_or-same : {X Y : Type 0} (f g : X → Y) (o : Option X) (d : Y) → ((x : X) → o ≡ Some x → f x ≡ g x) → option_map_or f o d ≡ option_map_or g o d
-option_map_or-same f g None d same = refl
-option_map_or-same f g (Some x) d same = same x refl
+option_map_or-same f g x2 d same = search rules
 
 -- climbs along a function to smaller numbers
 module _ (parent : ℕ → Option ℕ) (falls : (n p : ℕ) → parent n ≡ Some p → p < n) where
   no_parent_of_zero : (o : Option ℕ) → parent 0 ≡ o → o ≡ None
-  no_parent_of_zero None e = refl
-  no_parent_of_zero (Some p) e = absurd (let l : p < 0 = falls 0 p e in omega arith)
+  no_parent_of_zero x0 e = search rules
 
   -- more steps lead no further
   climb_enough : (k j n : ℕ) → n ≤ k → n ≤ j → ancestors_within k parent n ≡ ancestors_within j parent n
   climb_enough zero zero n a b = refl
   climb_enough zero (suc j) n a b =
-      let z : n ≡ 0 = omega arith in
-      let e : parent n ≡ None = rw z (no_parent_of_zero (parent 0) refl) in
-      rw e refl
+      search (rules, no_parent_of_zero)
   climb_enough (suc k) zero n a b =
-      let z : n ≡ 0 = omega arith in
-      let e : parent n ≡ None = rw z (no_parent_of_zero (parent 0) refl) in
-      rw e refl
+      search (rules, no_parent_of_zero)
   climb_enough (suc k) (suc j) n a b =
       ap (λ (xs : List ℕ). n ∷ xs) (option_map_or-same (ancestors_within k parent) (ancestors_within j parent) (parent n) []
       (λ p e. let l : p < n = falls n p e in climb_enough k j p (omega arith) (omega arith)))
@@ -36,27 +31,19 @@ module _ (parent : ℕ → Option ℕ) (falls : (n p : ℕ) → parent n ≡ Som
   -- a number, and then the climb of its parent
   pub climb_step : (n : ℕ) → ancestors_within n parent n ≡ n ∷ option_map_or (λ p. ancestors_within p parent p) (parent n) []
   climb_step n =
-      climb_enough n (suc n) n (omega arith) (omega arith) ∙ ap (λ (xs : List ℕ). n ∷ xs)
-      (option_map_or-same (ancestors_within n parent) (λ p. ancestors_within p parent p) (parent n) []
-      (λ p e. let l : p < n = falls n p e in climb_enough n p p (omega arith) (omega arith)))
+      search (rules, climb_enough, option_map_or-same)
 
 module _ (tree : Slots Node) where
   -- parents have smaller numbers
   pub up-lt : (n p : ℕ) → up tree n ≡ Some p → p < n
   up-lt n p e =
-      option_and_then_some (named_above n) (record_of tree n) p e
-      (λ node a b. option_and_then_some (if_less n) (parent_named node.made) p b
-      (λ x c d. let w = cond_some (nat_lt x n) x p d in rw (← w.1) (ltb-true x n w.0)))
+      search (rules, option_and_then_some, cond_some, ltb-true)
 
   -- the top itself, or what stands below it by its parent
   pub is_below_step : (top n : ℕ) → is_below tree top n ≡ ((top == n) || option_map_or (is_below tree top) (up tree n) false)
   unfolding ancestors
   is_below_step top n =
-      ap (list_any (λ a. top == a)) (climb_step (up tree) up-lt n) ∙ ap (λ b. (top == n) || b) (mapped (up tree n)) where
-        mapped : (o : Option ℕ) → list_any (λ a. top == a) (option_map_or (λ p. ancestors_within p (up tree) p) o []) ≡ option_map_or (is_below tree top) o
-            false
-        mapped None = refl
-        mapped (Some p) = refl
+      search (rules, climb_step, up-lt)
 
   -- the record of a number is the one that its key finds
   record_here : (n : ℕ) (node : Node) (es : List (Option (Entry Node))) (i : ℕ) → get_or es i None ≡ Some (entry_of n node) →

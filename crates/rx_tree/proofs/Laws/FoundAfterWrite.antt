@@ -1,5 +1,5 @@
 -- What slots find after a write of one record.
-use Rattle.std.proofs.Common.{◌≡◌, ◌≢◌, ℕ, ◌<◌, length, get_or, set, Option, Some, None, is_some, refl, sym, ap, ◌∙◌, inl, inr, rules, true≢false}
+use Rattle.std.proofs.Common.{◌≡◌, ◌≢◌, ℕ, ◌<◌, length, get_or, set, Option, Some, None, refl, sym, ap, ◌∙◌, inl, inr, rules, true≢false}
 use Rattle.std.proofs.lemmas.Bool.{cases_eq, cases_lt}
 use Rattle.std.proofs.lemmas.List.{get_or_past, get_or-set_same, get_or-set_other}
 use Rattle.rx_slots.specs.declared.Entry.{Entry}
@@ -19,12 +19,7 @@ module _ {X : Type 0} where
   with_number-other n e other = search rules
 
   numbered : (n : ℕ) (o : Option (Entry X)) (x : X) → with_number n o ≡ Some x → o ≡ Some (entry_of n x)
-  numbered n None x found = absurd (true≢false (ap is_some (sym found)))
-  numbered n (Some e) x found =
-      elim (cases_eq e.number n) [
-        | inl same ↦ let h = with_number-same n e same in let v : e.value ≡ x = cc in ap (λ (y : Entry X). Some y) (same_entry e (entry_of n x) same v)
-        | inr other ↦ absurd (true≢false (ap is_some (sym found ∙ with_number-other n e other)))
-      ]
+  numbered n x1 x found = search (rules, true≢false, cases_eq, with_number-same, same_entry, with_number-other)
 
   -- what stands at the slot of a key that finds a value
   pub entry_found : (s : Slots X) (key : Key) (x : X) → find s key ≡ Some x → entry_at s key.slot ≡ Some (entry_of key.number x)
@@ -35,17 +30,12 @@ module _ {X : Type 0} where
 
   pub slot_within : (s : Slots X) (slot : ℕ) (e : Entry X) → entry_at s slot ≡ Some e → slot < length s.entries
   slot_within s slot e at =
-      elim (cases_lt slot (length s.entries)) [
-        | inl within ↦ within
-        | inr past ↦ absurd (true≢false (ap is_some (sym at ∙ get_or_past s.entries slot None past)))
-      ]
+      search (rules, cases_lt, true≢false, get_or_past)
 
   -- two keys of one slot that find values are one
   pub one_key : (s : Slots X) (a b : Key) (x y : X) → a.slot ≡ b.slot → find s a ≡ Some x → find s b ≡ Some y → (a ≡ b) × (x ≡ y)
   one_key s a b x y slot found_a found_b =
-      let e : Some (entry_of a.number x) ≡ Some (entry_of b.number y) = sym (entry_found s a x found_a) ∙ ap (entry_at s) slot ∙ entry_found s b y found_b in
-      let same : entry_of a.number x ≡ entry_of b.number y = cc in
-      (same_key a b slot (ap (λ z. z.number) same), ap (λ z. z.value) same)
+      search (rules, entry_found, same_key)
 
   -- where a slot's entry is written, its key finds what was written, and every other what it found
   module _ (s t : Slots X) (key : Key) (before after : X) (found : find s key ≡ Some before)

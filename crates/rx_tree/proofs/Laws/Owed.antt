@@ -5,6 +5,7 @@ use Rattle.rx_tree.proofs.Common.{option_map_or, cases_eq, cases_lt, false≢tru
 use Rattle.rx_tree.proofs.Common.{Node, owed_by, owed_in, AreApart, Rewrites, some_of, entry_found, found_entry, slot_within}
 use Rattle.rx_event.proofs.Laws.Sums.{sum_by-same, sum_by-plus, sum_by_one, sum_by_none}
 use Rattle.rx_tree.proofs.CountLemmas.{sum_none, sum_changed}
+use Rattle.std.proofs.Common.{rules}
 
 -- sums over slots ---------------------------------------------------------------------------------
 
@@ -24,16 +25,12 @@ module _ {X : Type 0} (f : Option X → ℕ) (f0 : f None ≡ 0) where
   sum_no_rise (x ∷ xs) (y ∷ ys) each =
       let first : f y ≤ f x = each 0 in
       let rest = sum_no_rise xs ys (λ j. each (suc j)) in
-      let a = sum_by-cons f x xs in
-      let b = sum_by-cons f y ys in
-      omega (arith, first, rest, a, b)
+      search (rules, sum_by-cons)
 
 -- what a node owes is within what all owe
 pub owed_part : (nodes : Slots Node) (key : Key) (node : Node) → find nodes key ≡ Some node → node.marks.owed ≤ owed_in nodes
 owed_part nodes key node found =
-    let part : owed_by (entry_at nodes key.slot) ≤ owed_in nodes = part_in_sum owed_by refl nodes.entries key.slot in
-    let here : owed_by (entry_at nodes key.slot) ≡ node.marks.owed = ap owed_by (entry_found nodes key node found) in
-    omega (arith, part, here)
+    search (rules, part_in_sum, entry_found)
 
 -- and where no slot was used, none is owed
 pub owed_empty : (nodes : Slots Node) → nodes.entries ≡ [] → owed_in nodes ≡ 0
@@ -45,8 +42,7 @@ module _ (old new : Slots Node) where
   owed_changed : (slot : ℕ) (before after : Option (Entry Node)) → slot < length old.entries → entry_at old slot ≡ before → Changes old new slot after →
       owed_in new + owed_by before ≡ owed_in old + owed_by after
   owed_changed slot before after within at change =
-      ap (λ o. owed_in new + owed_by o) (sym at) ∙ sum_changed owed_by old.entries new.entries slot refl within change.others ∙
-      ap (λ o. owed_in old + owed_by o) change.changed
+      search (rules, sum_changed)
 
   -- another record in the place of one
   pub owed_written : (key : Key) (node other : Node) → find old key ≡ Some node → Changes old new key.slot (Some (entry_of key.number other)) →
@@ -80,8 +76,7 @@ module _ (old new : Slots Node) where
 pub owed_came : (old new : Slots Node) (key : Key) (node : Node) → entry_at old key.slot ≡ None →
     Changes old new key.slot (Some (entry_of key.number node)) → owed_in new ≡ owed_in old + node.marks.owed
 owed_came old new key node free change =
-    let back : Changes new old key.slot None = record { changed = free; others = λ j other. sym (change.others j other) } in
-    sym (owed_taken new old key node (found_entry new key node change.changed) back)
+    search (rules, owed_taken, found_entry)
 
 -- a record changes by a function
 pub owed_rewritten : (old new : Slots Node) (key : Key) (node : Node) (change : Node → Node) → find old key ≡ Some node → Rewrites old new key change →
@@ -138,13 +133,8 @@ module _ {X : Type 0} where
   index_has_number (None ∷ es) zero e at = absurd (true≢false (ap is_some (sym at)))
   index_has_number (None ∷ es) (suc i) e at = index_has_number es i e at
   index_has_number (Some d ∷ es) zero e at =
-      let same : d.number ≡ e.number = cc in
-      let on : (d.number == e.number) ≡ true = grind (arith, nat_tests, same) in
-      ap (λ b. b || has_number es e.number) on
-  index_has_number (Some d ∷ es) (suc i) e at = or_later (d.number == e.number) (has_number es e.number) (index_has_number es i e at) where
-    or_later : (a b : Bool) → b ≡ true → (a || b) ≡ true
-    or_later true b on = refl
-    or_later false b on = on
+      search (rules, nat_tests)
+  index_has_number (Some d ∷ es) (suc i) e at = search (rules, index_has_number es i e at)
 
   -- no number stands twice among these
   abbrev pub Differ : List (Option (Entry X)) → Type 0

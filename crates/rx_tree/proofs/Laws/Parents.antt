@@ -1,6 +1,7 @@
 -- What the keys of a sound tree say of parents and children.
 use Rattle.rx_tree.proofs.Common.{◌≡◌, ℕ, ◌<◌, Option, Some, None, is_some, IsSome, IfSome, option_map, refl, sym, ap, ◌∙◌, arith, true≢false, nat_tests, Key}
 use Rattle.rx_tree.proofs.Common.{option_and_then, if_less, Slots, find, Node, IsSound, IsChild, named_above, parent_number}
+use Rattle.std.proofs.Common.{rules}
 
 -- the number of the parent's key is that which the place names
 pub named_parent : (s : Slots Node) (key : Key) (node : Node) → find s key ≡ Some node → IsSound s → option_map (λ p. p.number) node.above ≡ parent_number s key
@@ -14,10 +15,7 @@ named_parent s key node found sound =
 
 -- a key that stands below one finds a record
 pub child_found : (s : Slots Node) (key : Key) (n : ℕ) → parent_number s key ≡ Some n → IsSome (find s key)
-child_found s key n named = of (find s key) named where
-  of : (o : Option Node) → option_and_then (named_above key.number) o ≡ Some n → IsSome o
-  of None e = absurd (true≢false (ap is_some (sym e)))
-  of (Some node) e = refl
+child_found s key n named = search (rules, true≢false)
 
 -- the key of a parent is the only one of its number
 pub parent_key : (s : Slots Node) (parent child : Key) (o : Option Key) → IsSound s → IsChild s parent child →

@@ -1,14 +1,13 @@
-use Rattle.rx_hub.proofs.Common.{List, Option, Some, None, reverse, sym, ap, subst, ◌∙◌, arith, length-reverse, reverse-append, Key, Frame, GoesOn}
+use Rattle.rx_hub.proofs.Common.{List, Option, Some, None, reverse, sym, ap, subst, ◌∙◌, length-reverse, reverse-append, Key, Frame, GoesOn}
 use Rattle.rx_hub.proofs.RouteFrames.{frame_fits, next_frame, turned}
 use Rattle.rx_hub.proofs.route.turn_to.Goals as goal
 use Rattle.rx_hub.proofs.route.turn_to.Goals.{in-Some, in_default}
+use Rattle.std.proofs.Common.{rules}
 
 pub push_reserved-requires : goal.push_reserved-requires
 push_reserved-requires c =
     let fits = frame_fits c.args.hubs.now.hubs (reverse c.args.frames.now.items) c.args.frame c.requires.frames c.requires.frame c.requires.behind in
-    let count = length-reverse c.args.frames.now.items in
-    let room = c.requires.room in
-    omega (arith, fits, count, room)
+    search (rules, length-reverse)
 
 pub returns-clause-goes_on : goal.returns-clause-goes_on
 returns-clause-goes_on c =

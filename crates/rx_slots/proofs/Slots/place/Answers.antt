@@ -5,13 +5,11 @@ use Rattle.rx_slots.proofs.Laws.OthersKept.{KeepsOthers-insert}
 use Rattle.rx_slots.proofs.Laws.EntryByNumber.{with_number-same}
 use Rattle.rx_slots.proofs.KeptLemmas.{placed_next, placed_within, reused_below, reused_free, reused_next, kept_reused}
 use Rattle.rx_slots.proofs.Slots.place.Goals as goal
+use Rattle.std.proofs.Common.{rules}
 
 pub returns-in_default-clause-placed : goal.returns-in_default-clause-placed
 returns-in_default-clause-placed g c =
-    let cells = c.self.inside.cells in
-    let e : Entry g.row.T.Denot = record { number = c.args.number; value = c.args.value } in
-    let at : length cells.items ≡ c.len-slot.result = sym (c.len-slot.ensures ∙ cells.ok.0) in
-    rw (← c.self.view_is) (c.push_reserved.ensures.items ∙ placed_next cells.items e ∙ ap (λ n. placed cells.items n e) at)
+    search (rules, length, placed_next, placed)
 
 pub returns-in_default-clause-kept : goal.returns-in_default-clause-kept
 returns-in_default-clause-kept g c =
@@ -72,10 +70,8 @@ returns-clause-changes g c = Changes-placed c.args.self.now _ c.in-Some.slot _ (
 
 pub returns-clause-found : goal.returns-clause-found
 returns-clause-found g c =
-    let e : Entry g.row.T.Denot = record { number = c.args.number; value = c.args.value } in
-    ap (with_number c.args.number) (returns-clause-changes g c).changed ∙ with_number-same c.args.number e refl
+    search (rules, with_number, returns-clause-changes, with_number-same)
 
 pub returns-clause-slot_count : goal.returns-clause-slot_count
 returns-clause-slot_count g c =
-    let entries = c.args.self.now.entries in
-    ap length (returns-clause-placed g c) ∙ omega (arith, length-placed entries c.in-Some.slot (record { number = c.args.number; value = c.args.value }))
+    search (rules, length, returns-clause-placed, length-placed)

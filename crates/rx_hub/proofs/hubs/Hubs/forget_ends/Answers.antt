@@ -1,6 +1,7 @@
 use Rattle.rx_hub.proofs.Common.{sym, subst, IsLinked, IsQuiet, Hubs}
 use Rattle.rx_hub.proofs.HubsForgetEnds.{linked_forgot, shown_forgot}
 use Rattle.rx_hub.proofs.hubs.Hubs.forget_ends.Goals as goal
+use Rattle.std.proofs.Common.{rules}
 
 pub invariant_of-self : goal.invariant_of-self
 invariant_of-self c =
@@ -10,5 +11,4 @@ invariant_of-self c =
 
 pub returns : goal.returns
 returns c =
-    let s = c.self.inside in
-    rw (← c.self.view_is) (shown_forgot s.store c.forget_ends.new.self s.waiting.members c.forget_ends.ensures)
+    search (rules, shown_forgot)

@@ -1,6 +1,7 @@
-use Rattle.rx_hub.proofs.Common.{◌≡◌, List, [], ◌∷◌, length, map, refl, sym, ap, subst, ◌∙◌, arith, IsKnown, after_closing, Hub, Hubs}
+use Rattle.rx_hub.proofs.Common.{◌≡◌, List, [], ◌∷◌, length, map, refl, ap, ◌∙◌, arith, after_closing, Hub}
 use Rattle.rx_hub.proofs.ClosedLemmas.{closed_first, closed_step, known_at}
 use Rattle.rx_hub.proofs.hubs.Hubs.leave_closed.Goals as goal
+use Rattle.std.proofs.Common.{rules}
 
 -- where there is no hub none changes
 none_changed : (f : Hub → Hub) (hubs : List Hub) → length hubs ≡ 0 → hubs ≡ map f hubs
@@ -9,22 +10,14 @@ none_changed f (hub ∷ hubs) none = absurd (omega arith)
 
 pub returns-then-len-eq0 : goal.returns-then-len-eq0
 returns-then-len-eq0 c =
-    let count = c.len.ensures in
-    let is_none = c.if-len-eq0.true in
-    ap (λ (hs : List Hub). record c.args.self.now { hubs = hs })
-    (none_changed (after_closing c.args.closed.now c.args.ended) c.args.self.now.hubs (omega arith))
+    search (rules, none_changed)
 
 pub loop-one-init : goal.loop-one-init
-loop-one-init c = ap (λ (hs : List Hub). record c.args.self.now { hubs = hs }) (closed_first c.args.ended c.args.self.now.hubs)
+loop-one-init c = search (rules, closed_first)
 
 pub leave_one-requires : goal.leave_one-requires
 leave_one-requires c =
-    let test = c.loop-one-test.true in
-    record {
-      known = subst (λ x. IsKnown c.loop-one.self.hubs x) (sym c.one-item.is)
-          (known_at c.loop-one.self.hubs c.args.closed.now c.loop-one.one-index c.one-item.result c.args.ended
-          (ap (λ (s : Hubs). s.hubs) c.loop-one.invariant) c.requires.closing (omega (arith, test)));
-    }
+    search (rules, known_at)
 
 pub loop-one-preserved : goal.loop-one-preserved
 loop-one-preserved c =

@@ -1,17 +1,15 @@
-use Rattle.rx_hub.proofs.Common.{refl, ap, ◌∙◌, arith, option_and_then, arrival, Route, beyond_end, hub_keys}
+use Rattle.rx_hub.proofs.Common.{refl, ap, ◌∙◌, option_and_then, arrival, beyond_end, hub_keys}
 use Rattle.rx_hub.proofs.RouteSteps.{limit_is, cut_seen, hub_beyond, climbs_seen}
 use Rattle.rx_hub.proofs.route.Route.climb_on.Goals as goal
+use Rattle.std.proofs.Common.{rules}
 
 pub overflow_sub-self-inside : goal.overflow_sub-self-inside
 overflow_sub-self-inside g c =
-    let within = c.requires.visits in
-    let made = ap (λ (r : Route). r.visits) c.self.view_is in
-    omega (arith, within, made, limit_is)
+    search (rules, limit_is)
 
 pub returns-then-reached-self : goal.returns-then-reached-self
-returns-then-reached-self g c =
-    cut_seen c.args.node c.climb-reached.result.visits c.self.view_is
-    c.requires.under_way c.requires.at c.requires.visits c.climb-reached.ensures.visits c.if-reached-self.true
+returns-then-reached-self g c = cut_seen _ _ c.self.view_is c.requires.under_way c.requires.at c.requires.visits c.climb-reached.ensures.visits
+    c.if-reached-self.true
 
 pub returns : goal.returns
 returns g c =

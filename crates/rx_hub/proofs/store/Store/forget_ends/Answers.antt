@@ -1,6 +1,7 @@
-use Rattle.rx_hub.proofs.Common.{List, vec_capacity, sym, subst, Published, IsKept}
+use Rattle.rx_hub.proofs.Common.{List, sym, subst, Published, IsKept}
 use Rattle.rx_hub.proofs.StoreShowsHubs.{kept_forgot, store_forgot}
 use Rattle.rx_hub.proofs.store.Store.forget_ends.Goals as goal
+use Rattle.std.proofs.Common.{rules}
 
 pub invariant_of-self : goal.invariant_of-self
 invariant_of-self c =
@@ -10,6 +11,4 @@ invariant_of-self c =
 
 pub returns : goal.returns
 returns c =
-    let s = c.self.inside in
-    rw (← c.self.view_is) (store_forgot s.records.items c.forget_all.new.records.items s.subscribers s.numbers.items (vec_capacity s.records)
-    (vec_capacity c.forget_all.new.records) c.forget_all.ensures.items c.forget_all.ensures.capacity)
+    search (rules, store_forgot)

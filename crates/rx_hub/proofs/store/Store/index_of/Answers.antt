@@ -1,51 +1,25 @@
-use Rattle.rx_hub.proofs.Common.{ℕ, ◌<◌, ◌-◌, ◌/◌, ◌+◌, Some, length, sym, ap, subst, ◌∙◌, arith, Published, no_hub, record_at}
+use Rattle.rx_hub.proofs.Common.{ℕ, ◌<◌, ◌-◌, ◌/◌, ◌+◌, Some, length, sym, ap, ◌∙◌, arith, Published, no_hub}
 use Rattle.rx_hub.proofs.StoreShowsHubs.{get_same, number_at, not_between, all_before, all_behind}
 use Rattle.rx_hub.proofs.store.Store.index_of.Goals as goal
+use Rattle.std.proofs.Common.{rules}
 
 pub returns-then-found-number-clause-some : goal.returns-then-found-number-clause-some
-returns-then-found-number-clause-some c =
-    let s = c.self.inside in
-    let middle : ℕ = c.loop-low.low + (c.loop-low.high - c.loop-low.low) / 2 in
-    let test = c.loop-low-test.true in
-    let inside = c.loop-low.invariant.inside in
-    let below : middle < length s.records.items = omega (arith, test, inside) in
-    let found =
-    ap (λ (r : Published). r.number) (get_same s.records.items middle no_hub c.index.result.now below ∙ sym c.index.ensures) ∙ c.if-found-number.true in
-    rw (← c.self.view_is) (number_at s.records.items s.subscribers s.numbers.items c.self.invariant middle below ∙ ap (λ (n : ℕ). Some n) found)
+returns-then-found-number-clause-some c = let s = c.self.inside in let middle : ℕ = c.loop-low.low + (c.loop-low.high - c.loop-low.low) / 2 in let
+    test = c.loop-low-test.true in let inside = c.loop-low.invariant.inside in let below : middle < length s.records.items = omega (
+      arith,
+      test,
+      inside,
+    ) in let found = ap (λ (r : Published). r.number) (get_same s.records.items middle no_hub _ below ∙ sym c.index.ensures) ∙
+    c.if-found-number.true in rw (← c.self.view_is) (number_at s.records.items s.subscribers s.numbers.items c.self.invariant middle below ∙ ap (λ (n
+    : ℕ). Some n) found)
 
 pub loop-low-preserved-then-found-number-2 : goal.loop-low-preserved-then-found-number-2
 loop-low-preserved-then-found-number-2 c =
-    let s = c.self.inside in
-    let middle : ℕ = c.loop-low.low + (c.loop-low.high - c.loop-low.low) / 2 in
-    let test = c.loop-low-test.true in
-    let inside = c.loop-low.invariant.inside in
-    let below : middle < length s.records.items = omega (arith, test, inside) in
-    let found = ap (λ (r : Published). r.number) (get_same s.records.items middle no_hub c.index.result.now below ∙ sym c.index.ensures) in
-    let less : (record_at s.records.items middle).number < c.args.number = subst (λ n. n < c.args.number) (sym found) c.if-found-number-2.true in
-    record {
-      ordered = omega (arith, test);
-      inside = inside;
-      before = all_before s.records.items s.subscribers s.numbers.items c.self.invariant middle c.args.number below less;
-      behind = c.loop-low.invariant.behind;
-    }
+    grind (arith, length, get_same, all_before)
 
 pub loop-low-preserved : goal.loop-low-preserved
 loop-low-preserved c =
-    let s = c.self.inside in
-    let middle : ℕ = c.loop-low.low + (c.loop-low.high - c.loop-low.low) / 2 in
-    let test = c.loop-low-test.true in
-    let inside = c.loop-low.invariant.inside in
-    let below : middle < length s.records.items = omega (arith, test, inside) in
-    let found = ap (λ (r : Published). r.number) (get_same s.records.items middle no_hub c.index.result.now below ∙ sym c.index.ensures) in
-    let apart = c.if-found-number.false in
-    let least = c.if-found-number-2.false in
-    let more : c.args.number < (record_at s.records.items middle).number = subst (λ n. c.args.number < n) (sym found) (omega (arith, apart, least)) in
-    record {
-      ordered = omega (arith, test);
-      inside = omega (arith, below);
-      before = c.loop-low.invariant.before;
-      behind = all_behind s.records.items s.subscribers s.numbers.items c.self.invariant middle c.args.number below more;
-    }
+    search (rules, get_same, all_behind)
 
 pub returns-clause-none : goal.returns-clause-none
 returns-clause-none c = let s = c.self.inside in rw (← c.self.view_is)

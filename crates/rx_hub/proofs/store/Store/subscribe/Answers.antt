@@ -2,20 +2,15 @@ use Rattle.rx_hub.proofs.Common.{◌<◌, ◌-◌, IfSome, IsSome, min, length, 
 use Rattle.rx_hub.proofs.Common.{subscribed, hubs_in, length-set}
 use Rattle.rx_hub.proofs.StoreShowsHubs.{hub_within, hub_is, free_lists, below_here, hubs_joined, kept_joined}
 use Rattle.rx_hub.proofs.store.Store.subscribe.Goals as goal
+use Rattle.std.proofs.Common.{rules}
 
 pub join-requires-clause-list : goal.join-requires-clause-list
 join-requires-clause-list c =
-    let s = c.self.inside in
-    let l =
-    hub_within s.records.items s.subscribers s.numbers.items c.args.index
-    (subst (λ (v : Hubs). IsSome (slice_get v.hubs c.args.index)) (sym c.self.view_is) c.requires.hub) in
-    subst (λ k. c.args.index < k) (sym c.self.invariant.listed) l
+    search (rules, hub_within)
 
 pub join-requires-clause-free : goal.join-requires-clause-free
 join-requires-clause-free c =
-    let s = c.self.inside in
-    free_lists s.records.items s.subscribers s.numbers.items c.self.invariant c.args.key.slot
-    (subst (λ (v : Hubs). IsFree v.hubs c.args.key.slot) (sym c.self.view_is) c.requires.free)
+    search (rules, free_lists)
 
 pub invariant_of-self : goal.invariant_of-self
 invariant_of-self c =

@@ -4,11 +4,8 @@ use Rattle.rx_tree.proofs.CountSteps.{counted_kept, found_before, owed_opened}
 use Rattle.rx_tree.proofs.store.Store.add_node.Goals as goal
 
 pub returns-in-Ok-clause-ok : goal.returns-in-Ok-clause-ok
-returns-in-Ok-clause-ok g c =
-    let e = c.in-Ok.ensures in
-    rw c.alone-linked.ensures.node at
-    (inserts-project (λ l. l.node) c.args.number c.alone-linked.result e.numbered e.was_free e.changes
-    e.found e.kept e.count)
+returns-in-Ok-clause-ok g c = let e = c.in-Ok.ensures in rw c.alone-linked.ensures.node at (inserts-project (λ l. l.node) _ _ e.numbered e.was_free
+    e.changes e.found e.kept e.count)
 
 pub returns-in-Ok-clause-links : goal.returns-in-Ok-clause-links
 returns-in-Ok-clause-links g c = nodes_keep_links c.args.self.now c.insert.new.self
@@ -22,16 +19,8 @@ returns-in-Ok-clause-links g c = nodes_keep_links c.args.self.now c.insert.new.s
     c.in-Ok.ensures.changes (c.alone-linked.ensures.noted ∙ ap (λ s. alone (Noted s)) (c.next_slot.ensures.value ∙ sym c.in-Ok.ensures.slot)))
 
 pub returns-in-Ok-clause-counted : goal.returns-in-Ok-clause-counted
-returns-in-Ok-clause-counted g c =
-    let a = c.args.self.now in
-    let b = record c.args.self.now { nodes = c.insert.new.self } in
-    let e = c.in-Ok.ensures in
-    let came = inserts-project (λ l. l.node) c.args.number c.alone-linked.result e.numbered e.was_free e.changes e.found
-    e.kept e.count in
-    counted_kept a b c.requires.counted refl
-    (part-added (λ l. l.held_count) (λ j. no_counts) _ _ c.in-Ok.key.slot c.args.number c.alone-linked.result e.was_free e.changes
-    c.alone-linked.ensures.held_count)
-    refl
-    (found_before a b c.in-Ok.key c.args.number c.alone-linked.result.node came c.requires.homes)
-    (c.requires.counted.owed ∙ sym (owed_opened a b c.in-Ok.key c.args.number c.alone-linked.result.node came
-    (ap (λ (n : Node). n.marks.owed) c.alone-linked.ensures.node ∙ c.requires.owes_nothing)))
+returns-in-Ok-clause-counted g c = let a = c.args.self.now in let b = record c.args.self.now { nodes = c.insert.new.self } in let e = c.in-Ok.ensures
+    in let came = inserts-project (λ l. l.node) _ _ e.numbered e.was_free e.changes e.found e.kept e.count in counted_kept a b c.requires.counted refl
+    (part-added (λ l. l.held_count) (λ j. no_counts) _ _ _ _ _ e.was_free e.changes c.alone-linked.ensures.held_count) refl (found_before a b _ _ _
+    came c.requires.homes) (c.requires.counted.owed ∙ sym (owed_opened a b _ _ _ came (ap (λ (n : Node). n.marks.owed) c.alone-linked.ensures.node ∙
+    c.requires.owes_nothing)))

@@ -4,17 +4,16 @@ use Rattle.rx_tree.proofs.CountSteps.{count_fits, counted_came}
 use Rattle.rx_tree.proofs.store.Store.add_resource.Goals as goal
 
 pub overflow_add-count : goal.overflow_add-count
-overflow_add-count g c =
-    let e = c.in-Ok.ensures in
-    let a = c.args.self.now in
-    let b = record c.args.self.now { resources = c.insert.new.self } in
-    let came = inserts-project (λ r. r.stowed) c.args.number
-    (record { stowed = c.args.stowed; link = c.alone-link.result }) e.numbered e.was_free e.changes e.found e.kept e.count in
-    let few = count_fits a b c.requires.counted c.in-Ok.key c.args.number c.args.stowed came c.requires.owned c.requires.free in
-    let count = ap (λ n. n.free) c.held_count-count.ensures in
-    let slots = c.slot_count-slots.ensures.value in
-    let fits = c.slot_count-slots.ensures.most in
-    omega (arith, few, count, slots, fits)
+overflow_add-count g c = let e = c.in-Ok.ensures in let a = c.args.self.now in let b = record c.args.self.now { resources = c.insert.new.self } in let
+    came = inserts-project (λ r. r.stowed) _ (record { stowed = c.args.stowed; link = c.alone-link.result }) e.numbered e.was_free e.changes e.found
+    e.kept e.count in let few = count_fits a b c.requires.counted _ _ _ came c.requires.owned c.requires.free in let count = ap (λ n. n.free)
+    c.held_count-count.ensures in let slots = c.slot_count-slots.ensures.value in let fits = c.slot_count-slots.ensures.most in omega (
+      arith,
+      few,
+      count,
+      slots,
+      fits,
+    )
 
 pub returns-in-Ok-clause-ok : goal.returns-in-Ok-clause-ok
 returns-in-Ok-clause-ok g c =

@@ -11,6 +11,5 @@ end_child-requires g c =
     c.requires.child
 
 pub returns : goal.returns
-returns g c =
-    remarked c.args.self.now c.args.key c.requires.«open» c.at_mut.result.now c.at_mut.ensures.value c.requires.counted
-    (λ node. after_child c.args.is_source (is_merging node.made) c.args.terminal node.marks) _ (owed_alike _ _) _ c.end_child.ensures
+returns g c = remarked _ _ c.requires.«open» _ c.at_mut.ensures.value c.requires.counted (λ node. after_child _ (is_merging node.made) _ node.marks) _
+    (owed_alike _ _) _ c.end_child.ensures

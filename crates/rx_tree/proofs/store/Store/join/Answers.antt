@@ -1,6 +1,7 @@
 use Rattle.rx_tree.proofs.Common.{cond, refl, ap, ◌∙◌, Link, is_place, places, joins_of, link_at, next_of, previous_of}
 use Rattle.rx_tree.proofs.TieLemmas.{wrote_next, wrote_previous, relinks_both}
 use Rattle.rx_tree.proofs.store.Store.join.Goals as goal
+use Rattle.std.proofs.Common.{rules}
 
 pub returns-clause-joins : goal.returns-clause-joins
 returns-clause-joins g c =
@@ -19,4 +20,4 @@ returns-clause-joins g c =
     })
 
 pub returns-clause-rest : goal.returns-clause-rest
-returns-clause-rest g c = relinks_both _ _ _ (relinks_both _ _ _ c.set_next.ensures.rest c.set_link.ensures.rest) c.set_previous.ensures.rest
+returns-clause-rest g c = search (rules, relinks_both)

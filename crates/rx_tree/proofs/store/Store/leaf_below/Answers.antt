@@ -1,6 +1,7 @@
-use Rattle.rx_tree.proofs.Common.{◌<◌, ◌^◌, subst, from_top}
+use Rattle.rx_tree.proofs.Common.{from_top}
 use Rattle.rx_tree.proofs.CutLemmas.{nearer, descends_on}
 use Rattle.rx_tree.proofs.store.Store.leaf_below.Goals as goal
+use Rattle.std.proofs.Common.{rules}
 
 pub loop-child-init : goal.loop-child-init
 loop-child-init g c = record { below = from_top; there = c.requires.«open» }
@@ -9,11 +10,10 @@ pub child-requires-clause-open : goal.child-requires-clause-open
 child-requires-clause-open g c = c.loop-child.invariant.there
 
 pub loop-child-smaller : goal.loop-child-smaller
-loop-child-smaller g c = nearer (2 ^ 64) c.loop-child.leaf.number c.in-Some.child.number c.in-Some.ensures.later
-    (subst (λ n. n < 2 ^ 64) c.number_of-bounded.ensures.value c.number_of-bounded.ensures.bounded)
+loop-child-smaller g c = search (rules, nearer)
 
 pub loop-child-preserved : goal.loop-child-preserved
-loop-child-preserved g c = record { below = descends_on _ _ _ _ c.loop-child.invariant.below c.in-Some.ensures.below; there = c.in-Some.ensures.there }
+loop-child-preserved g c = search (rules, descends_on)
 
 pub returns-clause-below : goal.returns-clause-below
 returns-clause-below g c = c.loop-child.invariant.below

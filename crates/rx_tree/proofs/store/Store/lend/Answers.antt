@@ -98,14 +98,13 @@ returns-else-not-lent-clause-counted g c =
     (ap not (same_apart c.in-Some.stored.now.stowed.leases 0 c.if-not-lent.false)) refl refl (λ j. refl) refl
 
 pub returns-else-not-lent-clause-rewrites : goal.returns-else-not-lent-clause-rewrites
-returns-else-not-lent-clause-rewrites g c = rewrites-project (λ r. r.stowed) c.args.self.now.resources c.args.key c.in-Some.stored.now
-    (record c.in-Some.stored.now { stowed = one_lease_more c.in-Some.stored.now.stowed }) one_lease_more
-    (sym c.get_mut.ensures.value ∙ ap option_copied_mut c.in-Some.is) refl
+returns-else-not-lent-clause-rewrites g c = rewrites-project (λ r. r.stowed) _ _ _ (record c.in-Some.stored.now { stowed = one_lease_more _ })
+    one_lease_more (sym c.get_mut.ensures.value ∙ ap option_copied_mut c.in-Some.is) refl
 
 pub returns-else-not-lent-clause-changes : goal.returns-else-not-lent-clause-changes
-returns-else-not-lent-clause-changes g c stowed found = changes-written (λ r. r.stowed) c.args.self.now.resources c.args.key
-    (record c.in-Some.stored.now { stowed = one_lease_more c.in-Some.stored.now.stowed }) stowed one_lease_more
-    (sym c.get_mut.ensures.value ∙ ap option_copied_mut c.in-Some.is) refl found
+returns-else-not-lent-clause-changes g c stowed found = changes-written (λ r. r.stowed) _ _ (record c.in-Some.stored.now {
+  stowed = one_lease_more _;
+}) stowed one_lease_more (sym c.get_mut.ensures.value ∙ ap option_copied_mut c.in-Some.is) refl found
 
 pub returns-else-not-lent-clause-links : goal.returns-else-not-lent-clause-links
 returns-else-not-lent-clause-links g c p = resources_keep_links c.args.self.now

@@ -1,6 +1,7 @@
 use Rattle.rx_tree.proofs.Common.{ap, link_at, next_of, previous_of, places, merges_of}
 use Rattle.rx_tree.proofs.TieLemmas.{wrote_next, wrote_previous, relinks_both}
 use Rattle.rx_tree.proofs.store.Store.merge.Goals as goal
+use Rattle.std.proofs.Common.{rules}
 
 pub returns-clause-merges : goal.returns-clause-merges
 returns-clause-merges g c =
@@ -16,4 +17,4 @@ returns-clause-merges g c =
     })
 
 pub returns-clause-rest : goal.returns-clause-rest
-returns-clause-rest g c = relinks_both _ _ _ (relinks_both _ _ _ c.tie.ensures.rest c.tie-2.ensures.rest) c.set_link.ensures.rest
+returns-clause-rest g c = search (rules, relinks_both)

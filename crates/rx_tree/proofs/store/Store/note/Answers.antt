@@ -3,14 +3,13 @@ use Rattle.rx_tree.proofs.CountSteps.{counted_relinked}
 use Rattle.rx_tree.proofs.MarkSteps.{noted_already, noted_tied, noted_chain}
 use Rattle.rx_tree.proofs.There.{slot_stands, previous_stands}
 use Rattle.rx_tree.proofs.store.Store.note.Goals as goal
+use Rattle.std.proofs.Common.{rules}
 
 not_false : (b : Bool) → false ≡ not b → b ≡ true
-not_false true e = refl
-not_false false e = absurd (true≢false (sym e))
+not_false x0 e = search (rules, true≢false)
 
 not_true : (b : Bool) → true ≡ not b → b ≡ false
-not_true false e = refl
-not_true true e = absurd (true≢false e)
+not_true x0 e = search (rules, true≢false)
 
 pub join-requires-clause-place : goal.join-requires-clause-place
 join-requires-clause-place g c = slot_stands (nodes_of c.args.self.now) c.args.key c.requires.«open»
@@ -22,23 +21,22 @@ join-requires-clause-last g c =
 
 pub returns-then-not-is_noted-clause-kept : goal.returns-then-not-is_noted-clause-kept
 returns-then-not-is_noted-clause-kept g c = record {
-  tied = noted_tied c.args.self.now c.args.key c.requires.kept.tied c.requires.«open» c.join.new.self
-      (not_false _ (sym c.if-not-is_noted.true ∙ c.is_noted.ensures)) c.join.ensures.joins c.join.ensures.rest;
-  counted = counted_relinked c.args.self.now c.join.new.self c.join.ensures.rest c.requires.kept.counted;
+  tied = noted_tied _ _ c.requires.kept.tied c.requires.«open» _ (not_false _ (sym
+      c.if-not-is_noted.true ∙ c.is_noted.ensures)) c.join.ensures.joins c.join.ensures.rest;
+  counted = counted_relinked _ _ c.join.ensures.rest
+      c.requires.kept.counted;
 }
 
 pub returns-then-not-is_noted-clause-chain : goal.returns-then-not-is_noted-clause-chain
 returns-then-not-is_noted-clause-chain g c =
-    noted_chain c.args.self.now c.args.key c.requires.kept.tied c.requires.«open» c.join.new.self
-    (not_false _ (sym c.if-not-is_noted.true ∙ c.is_noted.ensures)) c.join.ensures.joins c.join.ensures.rest
+    search (rules, noted_chain, not_false)
 
 pub returns-else-not-is_noted-clause-chain : goal.returns-else-not-is_noted-clause-chain
 returns-else-not-is_noted-clause-chain g c =
-    noted_already c.args.self.now c.args.key c.requires.kept.tied c.requires.«open»
-    (not_true _ (sym c.if-not-is_noted.false ∙ c.is_noted.ensures))
+    search (rules, noted_already, not_true)
 
 pub returns-else-not-is_noted-clause-rest : goal.returns-else-not-is_noted-clause-rest
-returns-else-not-is_noted-clause-rest g c = record { nodes = refl; resources = refl; waiting_count = refl; owed = refl; held_count = λ j. refl }
+returns-else-not-is_noted-clause-rest g c = search rules
 
 pub is_noted-requires : goal.is_noted-requires
 is_noted-requires g c = record { there = slot_stands (nodes_of c.args.self.now) c.args.key c.requires.«open» }

@@ -11,6 +11,5 @@ open_source-requires g c =
     (λ node. node.marks.open_children + 1 < 2 ^ 64) c.requires.room
 
 pub returns : goal.returns
-returns g c =
-    remarked c.args.self.now c.args.key c.requires.«open» c.at_mut.result.now c.at_mut.ensures.value c.requires.counted
-    (λ node. after_source node.marks) _ (owed_alike _ _) _ c.open_source.ensures
+returns g c = remarked _ _ c.requires.«open» _ c.at_mut.ensures.value c.requires.counted (λ node. after_source node.marks) _ (owed_alike _ _) _
+    c.open_source.ensures

@@ -2,6 +2,7 @@ use Rattle.rx_tree.proofs.InPlace.{there_project}
 use Rattle.rx_tree.proofs.StoreLemmas.{linked-Children, linked-Held, linked-Sibling, linked-Noted, linked-Stored, relinks-Children, relinks-Held}
 use Rattle.rx_tree.proofs.StoreLemmas.{relinks-Sibling, relinks-Noted, relinks-Stored}
 use Rattle.rx_tree.proofs.store.Store.set_link.Goals as goal
+use Rattle.std.proofs.Common.{rules}
 
 pub at_mut-requires : goal.at_mut-requires
 at_mut-requires g c =
@@ -9,11 +10,11 @@ at_mut-requires g c =
 
 pub returns-in-Children-clause-linked : goal.returns-in-Children-clause-linked
 returns-in-Children-clause-linked g c =
-    rw (c.in-Children.is, c.set_children.ensures) (linked-Children c.args.self.now c.in-Children.slot c.args.link c.at_mut.result.now c.at_mut.ensures.value)
+    search (rules, linked-Children)
 
 pub returns-in-Children-clause-rest : goal.returns-in-Children-clause-rest
 returns-in-Children-clause-rest g c =
-    rw c.set_children.ensures (relinks-Children c.args.self.now c.in-Children.slot c.args.link c.at_mut.result.now c.at_mut.ensures.value)
+    search (rules, relinks-Children)
 
 pub at_mut-requires-in-Held : goal.at_mut-requires-in-Held
 at_mut-requires-in-Held g c =
@@ -21,11 +22,11 @@ at_mut-requires-in-Held g c =
 
 pub returns-in-Held-clause-linked : goal.returns-in-Held-clause-linked
 returns-in-Held-clause-linked g c =
-    rw (c.in-Held.is, c.set_held.ensures) (linked-Held c.args.self.now c.in-Held.slot c.args.link c.at_mut-in-Held.result.now c.at_mut-in-Held.ensures.value)
+    search (rules, linked-Held)
 
 pub returns-in-Held-clause-rest : goal.returns-in-Held-clause-rest
 returns-in-Held-clause-rest g c =
-    rw c.set_held.ensures (relinks-Held c.args.self.now c.in-Held.slot c.args.link c.at_mut-in-Held.result.now c.at_mut-in-Held.ensures.value)
+    search (rules, relinks-Held)
 
 pub at_mut-requires-in-Sibling : goal.at_mut-requires-in-Sibling
 at_mut-requires-in-Sibling g c =
@@ -33,12 +34,11 @@ at_mut-requires-in-Sibling g c =
 
 pub returns-in-Sibling-clause-linked : goal.returns-in-Sibling-clause-linked
 returns-in-Sibling-clause-linked g c =
-    rw (c.in-Sibling.is, c.set_sibling.ensures) (linked-Sibling c.args.self.now c.in-Sibling.slot c.args.link
-    c.at_mut-in-Sibling.result.now c.at_mut-in-Sibling.ensures.value)
+    search (rules, linked-Sibling)
 
 pub returns-in-Sibling-clause-rest : goal.returns-in-Sibling-clause-rest
 returns-in-Sibling-clause-rest g c =
-    rw c.set_sibling.ensures (relinks-Sibling c.args.self.now c.in-Sibling.slot c.args.link c.at_mut-in-Sibling.result.now c.at_mut-in-Sibling.ensures.value)
+    search (rules, relinks-Sibling)
 
 pub at_mut-requires-in-Noted : goal.at_mut-requires-in-Noted
 at_mut-requires-in-Noted g c =
@@ -46,12 +46,11 @@ at_mut-requires-in-Noted g c =
 
 pub returns-in-Noted-clause-linked : goal.returns-in-Noted-clause-linked
 returns-in-Noted-clause-linked g c =
-    rw (c.in-Noted.is, c.set_noted.ensures) (linked-Noted c.args.self.now c.in-Noted.slot c.args.link
-    c.at_mut-in-Noted.result.now c.at_mut-in-Noted.ensures.value)
+    search (rules, linked-Noted)
 
 pub returns-in-Noted-clause-rest : goal.returns-in-Noted-clause-rest
 returns-in-Noted-clause-rest g c =
-    rw c.set_noted.ensures (relinks-Noted c.args.self.now c.in-Noted.slot c.args.link c.at_mut-in-Noted.result.now c.at_mut-in-Noted.ensures.value)
+    search (rules, relinks-Noted)
 
 pub at_mut-requires-in-Stored : goal.at_mut-requires-in-Stored
 at_mut-requires-in-Stored g c =
@@ -59,8 +58,8 @@ at_mut-requires-in-Stored g c =
 
 pub returns-in-Stored-clause-linked : goal.returns-in-Stored-clause-linked
 returns-in-Stored-clause-linked g c =
-    rw c.in-Stored.is (linked-Stored c.args.self.now c.in-Stored.slot c.args.link c.at_mut-in-Stored.result.now c.at_mut-in-Stored.ensures.value)
+    search (rules, linked-Stored)
 
 pub returns-in-Stored-clause-rest : goal.returns-in-Stored-clause-rest
 returns-in-Stored-clause-rest g c =
-    relinks-Stored c.args.self.now c.in-Stored.slot c.args.link c.at_mut-in-Stored.result.now c.at_mut-in-Stored.ensures.value
+    search (rules, relinks-Stored)

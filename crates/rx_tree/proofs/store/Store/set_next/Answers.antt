@@ -1,6 +1,7 @@
 use Rattle.rx_tree.proofs.InPlace.{there_project}
 use Rattle.rx_tree.proofs.LinkWrites.{next-written, previous-kept, writes-Children, writes-Held, writes-Sibling, writes-Noted, writes-Stored}
 use Rattle.rx_tree.proofs.store.Store.set_next.Goals as goal
+use Rattle.std.proofs.Common.{rules}
 
 pub at_mut-requires : goal.at_mut-requires
 at_mut-requires g c =
@@ -8,16 +9,15 @@ at_mut-requires g c =
 
 pub returns-in-Children-clause-next : goal.returns-in-Children-clause-next
 returns-in-Children-clause-next g c =
-    rw (c.in-Children.is, c.set_children_next.ensures) (next-written
-    (writes-Children c.args.self.now c.in-Children.slot _ c.at_mut.result.now c.at_mut.ensures.value))
+    search (rules, next-written, writes-Children)
 
 pub returns-in-Children-clause-previous : goal.returns-in-Children-clause-previous
 returns-in-Children-clause-previous g c =
-    rw c.set_children_next.ensures (previous-kept (writes-Children c.args.self.now c.in-Children.slot _ c.at_mut.result.now c.at_mut.ensures.value))
+    search (rules, previous-kept, writes-Children)
 
 pub returns-in-Children-clause-rest : goal.returns-in-Children-clause-rest
 returns-in-Children-clause-rest g c =
-    rw c.set_children_next.ensures (writes-Children c.args.self.now c.in-Children.slot _ c.at_mut.result.now c.at_mut.ensures.value).rest
+    search (rules, writes-Children)
 
 pub at_mut-requires-in-Held : goal.at_mut-requires-in-Held
 at_mut-requires-in-Held g c =
@@ -25,16 +25,15 @@ at_mut-requires-in-Held g c =
 
 pub returns-in-Held-clause-next : goal.returns-in-Held-clause-next
 returns-in-Held-clause-next g c =
-    rw (c.in-Held.is, c.set_held_next.ensures) (next-written
-    (writes-Held c.args.self.now c.in-Held.slot _ c.at_mut-in-Held.result.now c.at_mut-in-Held.ensures.value))
+    search (rules, next-written, writes-Held)
 
 pub returns-in-Held-clause-previous : goal.returns-in-Held-clause-previous
 returns-in-Held-clause-previous g c =
-    rw c.set_held_next.ensures (previous-kept (writes-Held c.args.self.now c.in-Held.slot _ c.at_mut-in-Held.result.now c.at_mut-in-Held.ensures.value))
+    search (rules, previous-kept, writes-Held)
 
 pub returns-in-Held-clause-rest : goal.returns-in-Held-clause-rest
 returns-in-Held-clause-rest g c =
-    rw c.set_held_next.ensures (writes-Held c.args.self.now c.in-Held.slot _ c.at_mut-in-Held.result.now c.at_mut-in-Held.ensures.value).rest
+    search (rules, writes-Held)
 
 pub at_mut-requires-in-Sibling : goal.at_mut-requires-in-Sibling
 at_mut-requires-in-Sibling g c =
@@ -42,17 +41,15 @@ at_mut-requires-in-Sibling g c =
 
 pub returns-in-Sibling-clause-next : goal.returns-in-Sibling-clause-next
 returns-in-Sibling-clause-next g c =
-    rw (c.in-Sibling.is, c.set_sibling_next.ensures) (next-written
-    (writes-Sibling c.args.self.now c.in-Sibling.slot _ c.at_mut-in-Sibling.result.now c.at_mut-in-Sibling.ensures.value))
+    search (rules, next-written, writes-Sibling)
 
 pub returns-in-Sibling-clause-previous : goal.returns-in-Sibling-clause-previous
 returns-in-Sibling-clause-previous g c =
-    rw c.set_sibling_next.ensures (previous-kept
-    (writes-Sibling c.args.self.now c.in-Sibling.slot _ c.at_mut-in-Sibling.result.now c.at_mut-in-Sibling.ensures.value))
+    search (rules, previous-kept, writes-Sibling)
 
 pub returns-in-Sibling-clause-rest : goal.returns-in-Sibling-clause-rest
 returns-in-Sibling-clause-rest g c =
-    rw c.set_sibling_next.ensures (writes-Sibling c.args.self.now c.in-Sibling.slot _ c.at_mut-in-Sibling.result.now c.at_mut-in-Sibling.ensures.value).rest
+    search (rules, writes-Sibling)
 
 pub at_mut-requires-in-Noted : goal.at_mut-requires-in-Noted
 at_mut-requires-in-Noted g c =
@@ -60,16 +57,15 @@ at_mut-requires-in-Noted g c =
 
 pub returns-in-Noted-clause-next : goal.returns-in-Noted-clause-next
 returns-in-Noted-clause-next g c =
-    rw (c.in-Noted.is, c.set_noted_next.ensures) (next-written
-    (writes-Noted c.args.self.now c.in-Noted.slot _ c.at_mut-in-Noted.result.now c.at_mut-in-Noted.ensures.value))
+    search (rules, next-written, writes-Noted)
 
 pub returns-in-Noted-clause-previous : goal.returns-in-Noted-clause-previous
 returns-in-Noted-clause-previous g c =
-    rw c.set_noted_next.ensures (previous-kept (writes-Noted c.args.self.now c.in-Noted.slot _ c.at_mut-in-Noted.result.now c.at_mut-in-Noted.ensures.value))
+    search (rules, previous-kept, writes-Noted)
 
 pub returns-in-Noted-clause-rest : goal.returns-in-Noted-clause-rest
 returns-in-Noted-clause-rest g c =
-    rw c.set_noted_next.ensures (writes-Noted c.args.self.now c.in-Noted.slot _ c.at_mut-in-Noted.result.now c.at_mut-in-Noted.ensures.value).rest
+    search (rules, writes-Noted)
 
 pub at_mut-requires-in-Stored : goal.at_mut-requires-in-Stored
 at_mut-requires-in-Stored g c =
@@ -77,12 +73,12 @@ at_mut-requires-in-Stored g c =
 
 pub returns-in-Stored-clause-next : goal.returns-in-Stored-clause-next
 returns-in-Stored-clause-next g c =
-    rw c.in-Stored.is (next-written (writes-Stored c.args.self.now c.in-Stored.slot _ c.at_mut-in-Stored.result.now c.at_mut-in-Stored.ensures.value))
+    search (rules, next-written, writes-Stored)
 
 pub returns-in-Stored-clause-previous : goal.returns-in-Stored-clause-previous
 returns-in-Stored-clause-previous g c =
-    previous-kept (writes-Stored c.args.self.now c.in-Stored.slot _ c.at_mut-in-Stored.result.now c.at_mut-in-Stored.ensures.value)
+    search (rules, previous-kept, writes-Stored)
 
 pub returns-in-Stored-clause-rest : goal.returns-in-Stored-clause-rest
 returns-in-Stored-clause-rest g c =
-    (writes-Stored c.args.self.now c.in-Stored.slot _ c.at_mut-in-Stored.result.now c.at_mut-in-Stored.ensures.value).rest
+    search (rules, writes-Stored)

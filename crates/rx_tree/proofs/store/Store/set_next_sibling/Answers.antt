@@ -1,6 +1,7 @@
 use Rattle.rx_tree.proofs.InPlace.{there_project}
 use Rattle.rx_tree.proofs.LinkWrites.{next-written, previous-kept, writes-Children, writes-Sibling}
 use Rattle.rx_tree.proofs.store.Store.set_next_sibling.Goals as goal
+use Rattle.std.proofs.Common.{rules}
 
 pub at_mut-requires : goal.at_mut-requires
 at_mut-requires g c =
@@ -8,16 +9,15 @@ at_mut-requires g c =
 
 pub returns-in-Children-clause-next : goal.returns-in-Children-clause-next
 returns-in-Children-clause-next g c =
-    rw (c.in-Children.is, c.set_children_next.ensures) (next-written
-    (writes-Children c.args.self.now c.in-Children.slot _ c.at_mut.result.now c.at_mut.ensures.value))
+    search (rules, next-written, writes-Children)
 
 pub returns-in-Children-clause-previous : goal.returns-in-Children-clause-previous
 returns-in-Children-clause-previous g c =
-    rw c.set_children_next.ensures (previous-kept (writes-Children c.args.self.now c.in-Children.slot _ c.at_mut.result.now c.at_mut.ensures.value))
+    search (rules, previous-kept, writes-Children)
 
 pub returns-in-Children-clause-rest : goal.returns-in-Children-clause-rest
 returns-in-Children-clause-rest g c =
-    rw c.set_children_next.ensures (writes-Children c.args.self.now c.in-Children.slot _ c.at_mut.result.now c.at_mut.ensures.value).rest
+    search (rules, writes-Children)
 
 pub at_mut-requires-in-Sibling : goal.at_mut-requires-in-Sibling
 at_mut-requires-in-Sibling g c =
@@ -25,14 +25,12 @@ at_mut-requires-in-Sibling g c =
 
 pub returns-in-Sibling-clause-next : goal.returns-in-Sibling-clause-next
 returns-in-Sibling-clause-next g c =
-    rw (c.in-Sibling.is, c.set_sibling_next.ensures) (next-written
-    (writes-Sibling c.args.self.now c.in-Sibling.slot _ c.at_mut-in-Sibling.result.now c.at_mut-in-Sibling.ensures.value))
+    search (rules, next-written, writes-Sibling)
 
 pub returns-in-Sibling-clause-previous : goal.returns-in-Sibling-clause-previous
 returns-in-Sibling-clause-previous g c =
-    rw c.set_sibling_next.ensures (previous-kept
-    (writes-Sibling c.args.self.now c.in-Sibling.slot _ c.at_mut-in-Sibling.result.now c.at_mut-in-Sibling.ensures.value))
+    search (rules, previous-kept, writes-Sibling)
 
 pub returns-in-Sibling-clause-rest : goal.returns-in-Sibling-clause-rest
 returns-in-Sibling-clause-rest g c =
-    rw c.set_sibling_next.ensures (writes-Sibling c.args.self.now c.in-Sibling.slot _ c.at_mut-in-Sibling.result.now c.at_mut-in-Sibling.ensures.value).rest
+    search (rules, writes-Sibling)

@@ -1,9 +1,10 @@
-use Rattle.rx_tree.proofs.Common.{◌≡◌, true, is_some, sym, ap, subst, ◌∙◌, find, entry_at, project, nodes_of, some_of}
+use Rattle.rx_tree.proofs.Common.{ap, find, project, nodes_of, some_of}
 use Rattle.rx_tree.proofs.LeafSteps.{noted_before, noted_after, noted_loop, sibling_before, sibling_after, noted_alone, children_alone, held_alone, taken}
 use Rattle.rx_tree.proofs.LeafSteps.{leaf_tied, leaf_chain}
 use Rattle.rx_tree.proofs.CountSteps.{counted_relinked}
 use Rattle.rx_tree.proofs.There.{slot_stands}
 use Rattle.rx_tree.proofs.store.Store.take_leaf.Goals as goal
+use Rattle.std.proofs.Common.{rules}
 
 pub unnote-requires-clause-before : goal.unnote-requires-clause-before
 unnote-requires-clause-before g c =
@@ -54,7 +55,8 @@ pub returns-clause-tied : goal.returns-clause-tied
 returns-clause-tied g c =
     let h = some_of (find (nodes_of c.args.self.now) c.args.key) c.requires.«open» in
     leaf_tied c.args.self.now c.let_wait.new.self c.args.key h.0 h.1 c.let_wait.ensures.waits c.let_wait.ensures.rest c.requires.childless c.unnote.new.self
-    c.unnote.ensures.leaves c.unnote.ensures.rest c.pass_sibling_by.new.self c.pass_sibling_by.ensures.passes c.pass_sibling_by.ensures.rest c.take_node.new.self
+    c.unnote.ensures.leaves c.unnote.ensures.rest c.pass_sibling_by.new.self c.pass_sibling_by.ensures.passes c.pass_sibling_by.ensures.rest
+    c.take_node.new.self
     c.take_node.ensures.taken
     c.take_node.ensures.links
     (ap (project (λ r. r.stowed)) c.take_node.ensures.resources)
@@ -63,27 +65,20 @@ pub returns-clause-chain : goal.returns-clause-chain
 returns-clause-chain g c =
     let h = some_of (find (nodes_of c.args.self.now) c.args.key) c.requires.«open» in
     leaf_chain c.args.self.now c.let_wait.new.self c.args.key h.0 h.1 c.let_wait.ensures.waits c.let_wait.ensures.rest c.requires.childless c.unnote.new.self
-    c.unnote.ensures.leaves c.unnote.ensures.rest c.pass_sibling_by.new.self c.pass_sibling_by.ensures.passes c.pass_sibling_by.ensures.rest c.take_node.new.self
+    c.unnote.ensures.leaves c.unnote.ensures.rest c.pass_sibling_by.new.self c.pass_sibling_by.ensures.passes c.pass_sibling_by.ensures.rest
+    c.take_node.new.self
     c.take_node.ensures.taken
     c.take_node.ensures.links
     (ap (project (λ r. r.stowed)) c.take_node.ensures.resources)
 
 pub returns-clause-taken : goal.returns-clause-taken
 returns-clause-taken g c =
-    let h = some_of (find (nodes_of c.args.self.now) c.args.key) c.requires.«open» in
-    taken c.args.self.now c.let_wait.new.self c.args.key h.0 h.1 c.let_wait.ensures.waits c.let_wait.ensures.rest c.requires.childless c.unnote.new.self
-    c.unnote.ensures.leaves c.unnote.ensures.rest c.pass_sibling_by.new.self c.pass_sibling_by.ensures.passes c.pass_sibling_by.ensures.rest c.take_node.new.self
-    c.take_node.ensures.taken
-    c.take_node.ensures.links
-    (ap (project (λ r. r.stowed)) c.take_node.ensures.resources)
+    search (rules, some_of, nodes_of)
 
 pub take_node-requires-clause-counted : goal.take_node-requires-clause-counted
 take_node-requires-clause-counted g c =
-    let waiting = counted_relinked c.args.self.now c.let_wait.new.self c.let_wait.ensures.rest c.requires.counted in
-    let off = counted_relinked c.let_wait.new.self c.unnote.new.self c.unnote.ensures.rest waiting in
-    counted_relinked c.unnote.new.self c.pass_sibling_by.new.self c.pass_sibling_by.ensures.rest off
+    search (rules, counted_relinked)
 
 pub pass_sibling_by-requires-clause-place : goal.pass_sibling_by-requires-clause-place
 pass_sibling_by-requires-clause-place g c =
-    subst (λ nodes. is_some (entry_at nodes c.args.key.slot) ≡ true) (sym (c.unnote.ensures.rest.nodes ∙ c.let_wait.ensures.rest.nodes))
-    (slot_stands (nodes_of c.args.self.now) c.args.key c.requires.«open»)
+    search (rules, slot_stands, nodes_of)

@@ -1,8 +1,9 @@
-use Rattle.rx_tree.proofs.Common.{◌≡◌, ◌+◌, ◌-◌, Bool, true, false, refl, ap, arith, Children, Held, Sibling, Noted, Counts, alone, count_if}
+use Rattle.rx_tree.proofs.Common.{◌≡◌, ◌+◌, ◌-◌, Bool, true, false, refl, ap, arith, Counts, count_if}
 use Rattle.rx_tree.proofs.StoreLemmas.{takes-project, changes-project, part-taken, part-gone, links_taken}
 use Rattle.rx_tree.proofs.CountSteps.{out_fits, some_owed, counted_gone}
 use Rattle.rx_tree.proofs.MarksWritten.{found_in}
 use Rattle.rx_tree.proofs.store.Store.take_node.Goals as goal
+use Rattle.std.proofs.Common.{rules}
 
 pub found-leaf-requires : goal.found-leaf-requires
 found-leaf-requires g c = record { found = found_in c.args.self.now c.args.key c.requires.«open» }
@@ -11,44 +12,26 @@ pub remove-requires : goal.remove-requires
 remove-requires g c = record { found = found_in c.args.self.now c.args.key c.requires.«open» }
 
 pub returns-clause-taken : goal.returns-clause-taken
-returns-clause-taken g c = let e =
-    c.remove.ensures in takes-project (λ l. l.node) c.args.self.now.nodes c.remove.new.self c.args.key e.changes e.gone e.kept e.count e.room
+returns-clause-taken g c = search (rules, takes-project)
 
 pub returns-clause-links : goal.returns-clause-links
-returns-clause-links g c = links_taken c.args.self.now c.remove.new.self c.args.key.slot
-    (part-taken (λ l. l.children) (λ j. alone (Children j)) _ _ c.args.key.slot c.remove.ensures.changes c.requires.children)
-    (part-taken (λ l. l.held) (λ j. alone (Held j)) _ _ c.args.key.slot c.remove.ensures.changes c.requires.held)
-    (part-gone (λ l. l.sibling) (λ j. alone (Sibling j)) _ _ c.args.key.slot c.remove.ensures.changes)
-    (part-taken (λ l. l.noted) (λ j. alone (Noted j)) _ _ c.args.key.slot c.remove.ensures.changes c.requires.noted)
+returns-clause-links g c = search (rules, links_taken, part-taken, part-gone)
 
 pub overflow_add-self : goal.overflow_add-self
-overflow_add-self g c =
-    let a = c.args.self.now in
-    let b = record c.args.self.now { nodes = c.remove.new.self } in
-    let few = out_fits a b c.requires.counted c.args.key c.found-leaf.result.now c.found-leaf.ensures
-    (changes-project (λ l. l.node) _ _ c.args.key.slot _ c.remove.ensures.changes) false in
-    let slots = c.slot_count-slots.ensures.value in
-    let fits = c.slot_count-slots.ensures.most in
-    let same = ap (λ (k : Counts). k.free) c.held_count-count.ensures in
-    omega (arith, few, slots, fits, same)
+overflow_add-self g c = let a = c.args.self.now in let b = record c.args.self.now { nodes = c.remove.new.self } in let few = out_fits a b
+    c.requires.counted _ _ c.found-leaf.ensures (changes-project (λ l. l.node) _ _ _ _ c.remove.ensures.changes) false in let slots =
+    c.slot_count-slots.ensures.value in let fits = c.slot_count-slots.ensures.most in let same = ap (λ (k : Counts). k.free)
+    c.held_count-count.ensures in omega (arith, few, slots, fits, same)
 
 pub overflow_add-self-2 : goal.overflow_add-self-2
-overflow_add-self-2 g c =
-    let a = c.args.self.now in
-    let b = record c.args.self.now { nodes = c.remove.new.self } in
-    let few = out_fits a b c.requires.counted c.args.key c.found-leaf.result.now c.found-leaf.ensures
-    (changes-project (λ l. l.node) _ _ c.args.key.slot _ c.remove.ensures.changes) true in
-    let slots = c.slot_count-slots.ensures.value in
-    let fits = c.slot_count-slots.ensures.most in
-    let same = ap (λ (k : Counts). k.lent) c.held_count-count.ensures in
-    omega (arith, few, slots, fits, same)
+overflow_add-self-2 g c = let a = c.args.self.now in let b = record c.args.self.now { nodes = c.remove.new.self } in let few = out_fits a b
+    c.requires.counted _ _ c.found-leaf.ensures (changes-project (λ l. l.node) _ _ _ _ c.remove.ensures.changes) true in let slots =
+    c.slot_count-slots.ensures.value in let fits = c.slot_count-slots.ensures.most in let same = ap (λ (k : Counts). k.lent)
+    c.held_count-count.ensures in omega (arith, few, slots, fits, same)
 
 pub overflow_sub-self : goal.overflow_sub-self
-overflow_sub-self g c =
-    rw c.owed-owed.ensures (let a = c.args.self.now in
-    let b = record c.args.self.now { nodes = c.remove.new.self } in
-    some_owed a b c.requires.counted c.args.key c.found-leaf.result.now c.found-leaf.ensures
-    (changes-project (λ l. l.node) _ _ c.args.key.slot _ c.remove.ensures.changes))
+overflow_sub-self g c = rw c.owed-owed.ensures (let a = c.args.self.now in let b = record c.args.self.now { nodes = c.remove.new.self } in some_owed a
+    b c.requires.counted _ _ c.found-leaf.ensures (changes-project (λ l. l.node) _ _ _ _ c.remove.ensures.changes))
 
 pub returns-clause-counted : goal.returns-clause-counted
 returns-clause-counted g c =

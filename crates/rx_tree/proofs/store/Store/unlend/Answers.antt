@@ -96,14 +96,12 @@ returns-else-last-clause-counted g c =
     (ap not (same_apart (c.in-Some.stored.now.stowed.leases - 1) 0 c.if-last.false)) refl refl (λ j. refl) refl
 
 pub returns-else-last-clause-rewrites : goal.returns-else-last-clause-rewrites
-returns-else-last-clause-rewrites g c = rewrites-project (λ r. r.stowed) c.args.self.now.resources c.args.key c.in-Some.stored.now
-    (record c.in-Some.stored.now { stowed = one_lease_less c.in-Some.stored.now.stowed }) one_lease_less
-    (sym c.get_mut.ensures.value ∙ ap option_copied_mut c.in-Some.is) refl
+returns-else-last-clause-rewrites g c = rewrites-project (λ r. r.stowed) _ _ _ (record c.in-Some.stored.now { stowed = one_lease_less _ })
+    one_lease_less (sym c.get_mut.ensures.value ∙ ap option_copied_mut c.in-Some.is) refl
 
 pub returns-else-last-clause-changes : goal.returns-else-last-clause-changes
-returns-else-last-clause-changes g c stowed found = changes-written (λ r. r.stowed) c.args.self.now.resources c.args.key
-    (record c.in-Some.stored.now { stowed = one_lease_less c.in-Some.stored.now.stowed }) stowed one_lease_less
-    (sym c.get_mut.ensures.value ∙ ap option_copied_mut c.in-Some.is) refl found
+returns-else-last-clause-changes g c stowed found = changes-written (λ r. r.stowed) _ _ (record c.in-Some.stored.now { stowed = one_lease_less _ })
+    stowed one_lease_less (sym c.get_mut.ensures.value ∙ ap option_copied_mut c.in-Some.is) refl found
 
 pub returns-else-last-clause-links : goal.returns-else-last-clause-links
 returns-else-last-clause-links g c p = resources_keep_links c.args.self.now

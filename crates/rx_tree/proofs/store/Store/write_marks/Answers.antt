@@ -1,6 +1,7 @@
 use Rattle.std.proofs.Common.{◌+◌, ◌-◌, ap, arith}
 use Rattle.rx_tree.proofs.MarksWritten.{slot_there, owed_within, remarked}
 use Rattle.rx_tree.proofs.store.Store.write_marks.Goals as goal
+use Rattle.std.proofs.Common.{rules}
 
 pub at_mut-record-requires : goal.at_mut-record-requires
 at_mut-record-requires g c = record { there = slot_there c.args.self.now c.args.key c.requires.«open» }
@@ -10,11 +11,8 @@ overflow_add-self g c = let was = c.requires.counted.owed in let few = c.require
 
 pub overflow_sub-self : goal.overflow_sub-self
 overflow_sub-self g c =
-    let part = owed_within c.args.self.now c.args.key c.requires.«open» c.at_mut-record.result.now c.at_mut-record.ensures.value c.requires.counted in
-    let before = c.owed-before.ensures in
-    omega (arith, part, before)
+    search (rules, owed_within)
 
 pub returns : goal.returns
-returns g c =
-    remarked c.args.self.now c.args.key c.requires.«open» c.at_mut-record.result.now c.at_mut-record.ensures.value c.requires.counted (λ node. c.args.marks) _
-    (ap (λ k. c.args.self.now.owed + c.args.marks.owed - k) c.owed-before.ensures) _ c.set_marks.ensures
+returns g c = remarked _ _ c.requires.«open» _ c.at_mut-record.ensures.value c.requires.counted (λ node. _) _ (ap (λ k. c.args.self.now.owed +
+    c.args.marks.owed - k) c.owed-before.ensures) _ c.set_marks.ensures

@@ -3,6 +3,7 @@ use Rattle.rx_tree.proofs.Common.{IsFirst, HasNone}
 use Rattle.rx_tree.proofs.Siblings.{children_ring, first_some, first_there, first_none}
 use Rattle.rx_tree.proofs.There.{slot_stands}
 use Rattle.rx_tree.proofs.tree.Tree.first_child.Goals as goal
+use Rattle.std.proofs.Common.{rules}
 
 pub returns-in-Sibling-clause-some : goal.returns-in-Sibling-clause-some
 returns-in-Sibling-clause-some g c =
@@ -34,4 +35,4 @@ returns-in_default g c =
     })
 
 pub link-requires : goal.link-requires
-link-requires g c = record { there = slot_stands (nodes_of c.self.inside.store) c.args.key (ap is_some (sym c.node.ensures ∙ c.in_ok-_node.was)) }
+link-requires g c = search (rules, slot_stands, nodes_of)

@@ -1,11 +1,11 @@
-use Rattle.rx_tree.proofs.Common.{◌≡◌, true, Option, Some, None, is_some, option_map, refl, sym, ap, ◌∙◌, false≢true, Entry, Key, entry_at, Node, nodes_of}
+use Rattle.rx_tree.proofs.Common.{◌≡◌, true, Option, is_some, option_map, sym, ap, ◌∙◌, false≢true, Entry, Key, entry_at, Node, nodes_of}
 use Rattle.rx_tree.proofs.Common.{first_of}
 use Rattle.rx_tree.proofs.MarkSteps.{chain_none, chain_first, first_stands}
 use Rattle.rx_tree.proofs.tree.Tree.is_calm.Goals as goal
+use Rattle.std.proofs.Common.{rules}
 
 some_key : (key_of : Entry Node → Key) (o : Option (Entry Node)) → is_some o ≡ true → is_some (option_map key_of o) ≡ true
-some_key key_of None some = some
-some_key key_of (Some e) some = refl
+some_key key_of x1 some = search rules
 
 pub returns-in-Noted : goal.returns-in-Noted
 returns-in-Noted g c =
@@ -21,8 +21,4 @@ returns-in-Noted g c =
 
 pub returns-in_default : goal.returns-in_default
 returns-in_default g c =
-    let s = c.self.inside.store in
-    rw (← c.self.view_is) (
-      λ t. chain_none s c.self.invariant.tied (λ slot e. c.in_default.not-Noted slot e),
-      λ none. refl,
-    )
+    search (rules, chain_none)

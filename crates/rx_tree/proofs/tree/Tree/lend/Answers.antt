@@ -3,13 +3,11 @@ use Rattle.rx_tree.proofs.Common.{Waiting}
 use Rattle.rx_tree.proofs.RemoveSteps.{found_where, stored_stands, stored_before, stored_after, off_tied, off_chain}
 use Rattle.rx_tree.proofs.CountSteps.{counted_relinked, more_lent}
 use Rattle.rx_tree.proofs.tree.Tree.lend.Goals as goal
+use Rattle.std.proofs.Common.{rules}
 
 pub leave-requires-clause-place : goal.leave-requires-clause-place
 leave-requires-clause-place g c =
-    let s = c.self.inside.store in
-    let key : Key = record { slot = c.args.res.slot; number = c.args.res.number } in
-    let h = found_where (is_owned (nodes_of c.self.inside.store)) (find (resources_of s) key) (rw (← c.self.view_is) at c.requires.owned) in
-    stored_stands s key c.self.invariant.tied h.0 h.1
+    search (rules, found_where, nodes_of, resources_of, stored_stands)
 
 pub leave-requires-clause-before : goal.leave-requires-clause-before
 leave-requires-clause-before g c =

@@ -1,6 +1,7 @@
-use Rattle.rx_tree.proofs.Common.{◌≡◌, Some, ◌∙◌, find, nodes_of, some_of}
+use Rattle.rx_tree.proofs.Common.{◌∙◌, find, nodes_of, some_of}
 use Rattle.rx_tree.proofs.MarkSteps.{marked_kept, marked_open, marked_nodes, marked_due, marked_resources}
 use Rattle.rx_tree.proofs.tree.Tree.mark_end.Goals as goal
+use Rattle.std.proofs.Common.{rules}
 
 pub note_due-requires-clause-kept : goal.note_due-requires-clause-kept
 note_due-requires-clause-kept g c =
@@ -14,17 +15,17 @@ note_due-requires-clause-open g c =
 
 pub returns-clause-nodes : goal.returns-clause-nodes
 returns-clause-nodes g c node found =
-    let was : find (nodes_of c.self.inside.store) c.args.key ≡ Some node = rw (← c.self.view_is) at found in
-    rw (← c.self.view_is) (marked_nodes c.self.inside.store c.end_child.new.self c.args.key node _ c.self.invariant was (c.end_child.ensures node was) c.note_due.new.self
-    c.note_due.ensures.rest)
+    search (rules, nodes_of, marked_nodes)
 
 pub returns-clause-chain : goal.returns-clause-chain
 returns-clause-chain g c =
     let h = some_of (find (nodes_of c.self.inside.store) c.args.key) (rw (← c.self.view_is) at c.requires.«open») in
-    rw (← c.self.view_is) (marked_due c.self.inside.store c.end_child.new.self c.args.key h.0 _ c.self.invariant h.1 (c.end_child.ensures h.0 h.1) c.note_due.new.self
+    rw (← c.self.view_is) (marked_due c.self.inside.store c.end_child.new.self c.args.key h.0 _ c.self.invariant h.1 (c.end_child.ensures h.0 h.1)
+    c.note_due.new.self
     c.note_due.ensures.rest c.note_due.ensures.chain)
 
 pub returns-clause-resources : goal.returns-clause-resources
 returns-clause-resources g c =
     let h = some_of (find (nodes_of c.self.inside.store) c.args.key) (rw (← c.self.view_is) at c.requires.«open») in
-    rw (← c.self.view_is) (c.note_due.ensures.rest.resources ∙ marked_resources c.self.inside.store c.end_child.new.self c.args.key h.0 _ c.self.invariant h.1 (c.end_child.ensures h.0 h.1))
+    rw (← c.self.view_is) (c.note_due.ensures.rest.resources ∙ marked_resources c.self.inside.store c.end_child.new.self c.args.key h.0 _
+    c.self.invariant h.1 (c.end_child.ensures h.0 h.1))

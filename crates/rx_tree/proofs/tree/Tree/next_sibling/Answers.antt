@@ -1,40 +1,29 @@
-use Rattle.rx_tree.proofs.Common.{refl, ◌+◌, is_some, IfSome, IfNone, sym, ap, subst, ◌∙◌, Key, nodes_of, resources_of, next_of, previous_of, IsChild}
+use Rattle.rx_tree.proofs.Common.{refl, ◌+◌, IfSome, IfNone, sym, ap, subst, ◌∙◌, Key, nodes_of, resources_of, next_of, previous_of, IsChild}
 use Rattle.rx_tree.proofs.Common.{IsFirst, HasNone}
 use Rattle.rx_tree.proofs.Siblings.{sibling_some, sibling_there, sibling_none, named_above_one, named_above_none}
 use Rattle.rx_tree.proofs.There.{slot_stands}
 use Rattle.rx_tree.proofs.tree.Tree.next_sibling.Goals as goal
+use Rattle.std.proofs.Common.{rules}
 
 pub returns-in_err-_parent-clause-none : goal.returns-in_err-_parent-clause-none
-returns-in_err-_parent-clause-none g c =
-    let s = c.self.inside.store in
-    rw (← c.self.view_is) (subst (λ o. IfNone o
-    ((parent : Key) → IsChild (nodes_of s) parent c.args.key → HasNone (IsChild (nodes_of s) parent) (c.args.key.number + 1)))
-    (sym c.from_residual-in_err-_parent.ensures)
-    (λ parent is. absurd (named_above_none (nodes_of s) (resources_of s) (next_of s) (previous_of s) c.self.invariant.tied c.args.key c.in_ok-node.field-0
-    parent (sym c.node.ensures ∙ c.in_ok-node.was) c.in_err-_parent.was is)))
+returns-in_err-_parent-clause-none g c = let s = c.self.inside.store in rw (← c.self.view_is) (subst (λ o. IfNone o ((parent : Key) → IsChild
+    (nodes_of s) parent c.args.key → HasNone (IsChild (nodes_of s) parent) (c.args.key.number + 1))) (sym c.from_residual-in_err-_parent.ensures) (λ
+    parent is. absurd (named_above_none (nodes_of s) (resources_of s) (next_of s) (previous_of s) c.self.invariant.tied _ c.in_ok-node.field-0 parent
+    (sym c.node.ensures ∙ c.in_ok-node.was) c.in_err-_parent.was is)))
 
 pub returns-in-Sibling-clause-some : goal.returns-in-Sibling-clause-some
-returns-in-Sibling-clause-some g c =
-    let s = c.self.inside.store in
-    rw (← c.self.view_is) (subst (λ o. IfSome o
-    (λ next. (parent : Key) → IsChild (nodes_of s) parent c.args.key → IsFirst (IsChild (nodes_of s) parent) (c.args.key.number + 1) next))
-    (sym c.node_at.ensures) (sibling_some (nodes_of s) (resources_of s) (next_of s) (previous_of s) c.self.invariant.tied c.args.key c.in-Sibling.slot
-    (ap (λ l. l.next) (sym c.link.ensures) ∙ c.in-Sibling.is)))
+returns-in-Sibling-clause-some g c = let s = c.self.inside.store in rw (← c.self.view_is) (subst (λ o. IfSome o (λ next. (parent : Key) → IsChild
+    (nodes_of s) parent c.args.key → IsFirst (IsChild (nodes_of s) parent) (c.args.key.number + 1) next)) (sym c.node_at.ensures) (sibling_some
+    (nodes_of s) (resources_of s) (next_of s) (previous_of s) c.self.invariant.tied _ _ (ap (λ l. l.next) (sym c.link.ensures) ∙ c.in-Sibling.is)))
 
 pub returns-in-Sibling-clause-none : goal.returns-in-Sibling-clause-none
-returns-in-Sibling-clause-none g c =
-    let s = c.self.inside.store in
-    rw (← c.self.view_is) (subst (λ o. IfNone o
-    ((parent : Key) → IsChild (nodes_of s) parent c.args.key → HasNone (IsChild (nodes_of s) parent) (c.args.key.number + 1))) (sym c.node_at.ensures)
-    (sibling_there (nodes_of s) (resources_of s) (next_of s) (previous_of s) c.self.invariant.tied c.args.key c.in-Sibling.slot
-    (ap (λ l. l.next) (sym c.link.ensures) ∙ c.in-Sibling.is)))
+returns-in-Sibling-clause-none g c = let s = c.self.inside.store in rw (← c.self.view_is) (subst (λ o. IfNone o ((parent : Key) → IsChild (nodes_of s)
+    parent c.args.key → HasNone (IsChild (nodes_of s) parent) (c.args.key.number + 1))) (sym c.node_at.ensures) (sibling_there (nodes_of s)
+    (resources_of s) (next_of s) (previous_of s) c.self.invariant.tied _ _ (ap (λ l. l.next) (sym c.link.ensures) ∙ c.in-Sibling.is)))
 
 pub returns-in-Sibling-clause-alone : goal.returns-in-Sibling-clause-alone
-returns-in-Sibling-clause-alone g c =
-    let s = c.self.inside.store in
-    rw (← c.self.view_is) (λ none. absurd
-    (named_above_one (nodes_of s) (resources_of s) (next_of s) (previous_of s) c.self.invariant.tied c.args.key c.in_ok-node.field-0
-    c.in_ok-_parent._parent (sym c.node.ensures ∙ c.in_ok-node.was) c.in_ok-_parent.was none))
+returns-in-Sibling-clause-alone g c = let s = c.self.inside.store in rw (← c.self.view_is) (λ none. absurd (named_above_one (nodes_of s) (resources_of
+    s) (next_of s) (previous_of s) c.self.invariant.tied _ c.in_ok-node.field-0 _ (sym c.node.ensures ∙ c.in_ok-node.was) c.in_ok-_parent.was none))
 
 pub returns-in_default : goal.returns-in_default
 returns-in_default g c =
@@ -47,4 +36,4 @@ returns-in_default g c =
     })
 
 pub link-requires : goal.link-requires
-link-requires g c = record { there = slot_stands (nodes_of c.self.inside.store) c.args.key (ap is_some (sym c.node.ensures ∙ c.in_ok-node.was)) }
+link-requires g c = search (rules, slot_stands, nodes_of)

@@ -3,38 +3,31 @@ use Rattle.rx_tree.proofs.RemoveSteps.{stored_before, stored_after}
 use Rattle.rx_tree.proofs.WaitSteps.{all_held, first_there, first_waits, waits_of, left_alone, taken_tied, taken_chain, takes}
 use Rattle.rx_tree.proofs.CountSteps.{counted_relinked}
 use Rattle.rx_tree.proofs.tree.Tree.take_waiting.Goals as goal
+use Rattle.std.proofs.Common.{rules}
 
 pub resource_key-key-requires : goal.resource_key-key-requires
 resource_key-key-requires g c =
-    let s = c.self.inside.store in
-    record {
-      there = first_there s c.self.invariant.tied c.in-Stored.slot c.in-Stored.is;
-    }
+    search (rules, first_there)
 
 pub leave-requires-clause-before : goal.leave-requires-clause-before
-leave-requires-clause-before g c =
-    let s = c.self.inside.store in let at = c.in-Stored.is in
-    let w = first_waits s c.self.invariant.tied c.in-Stored.slot at c.resource_key-key.result c.resource_key-key.ensures in
-    stored_before s c.resource_key-key.result c.self.invariant.tied w.stowed w.found
+leave-requires-clause-before g c = let s = c.self.inside.store in let at = c.in-Stored.is in let w = first_waits s c.self.invariant.tied _ at
+    c.resource_key-key.result c.resource_key-key.ensures in stored_before s _ c.self.invariant.tied w.stowed w.found
 
 pub leave-requires-clause-after : goal.leave-requires-clause-after
-leave-requires-clause-after g c =
-    let s = c.self.inside.store in let at = c.in-Stored.is in
-    let w = first_waits s c.self.invariant.tied c.in-Stored.slot at c.resource_key-key.result c.resource_key-key.ensures in
-    stored_after s c.resource_key-key.result c.self.invariant.tied w.stowed w.found
+leave-requires-clause-after g c = let s = c.self.inside.store in let at = c.in-Stored.is in let w = first_waits s c.self.invariant.tied _ at
+    c.resource_key-key.result c.resource_key-key.ensures in stored_after s _ c.self.invariant.tied w.stowed w.found
 
 pub take_resource-stowed-requires : goal.take_resource-stowed-requires
-take_resource-stowed-requires g c =
-    let s = c.self.inside.store in let at = c.in-Stored.is in
-    let w = first_waits s c.self.invariant.tied c.in-Stored.slot at c.resource_key-key.result c.resource_key-key.ensures in
-    let l = c.leave.new.self in
-    let still = subst (λ r. find r c.resource_key-key.result ≡ Some w.stowed) (sym c.leave.ensures.rest.resources) w.found in
-    record {
-      counted = counted_relinked s c.leave.new.self c.leave.ensures.rest c.self.invariant.counted;
+take_resource-stowed-requires g c = let s = c.self.inside.store in let at = c.in-Stored.is in let w = first_waits s c.self.invariant.tied _ at
+    c.resource_key-key.result c.resource_key-key.ensures in let l = c.leave.new.self in let still = subst (λ r. find r c.resource_key-key.result ≡
+    Some w.stowed) (sym c.leave.ensures.rest.resources) w.found in record {
+      counted = counted_relinked s _ c.leave.ensures.rest
+          c.self.invariant.counted;
       found = ap is_some still;
       waits = subst (λ o. IfSome o (λ stowed. is_held (nodes_of l) stowed ≡ false)) (sym still)
           (subst (λ n. is_held n w.stowed ≡ false) (sym c.leave.ensures.rest.nodes) w.waits);
-      link = left_alone s c.self.invariant.tied c.resource_key-key.result w.stowed w.found w.waits c.leave.new.self c.leave.ensures.leaves c.leave.ensures.rest;
+      link = left_alone s c.self.invariant.tied _ w.stowed w.found
+          w.waits _ c.leave.ensures.leaves c.leave.ensures.rest;
     }
 
 pub invariant_of-self : goal.invariant_of-self
