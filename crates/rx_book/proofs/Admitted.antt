@@ -1,6 +1,6 @@
 -- A call is let in: nothing stands against it, and its cost is room that was gotten.
-use Rattle.rx_book.proofs.Common.{◌≡◌, ◌+◌, ◌≤◌, cond, List, [], Bool, true, false, Option, Some, None, IfSome, refl, sym, ap, subst, ◌∙◌, arith, inl, ℤ}
-use Rattle.rx_book.proofs.Common.{Ghosts, Refusal, Full, Kind, Event, Emitting, first_cause, Slots, Node, causes, added_by, is_over, forces_connect, Wanted}
+use Rattle.rx_book.proofs.Common.{◌≡◌, ◌≤◌, cond, List, [], Bool, Option, Some, None, IfSome, sym, ap, subst, ◌∙◌, arith, ℤ}
+use Rattle.rx_book.proofs.Common.{Ghosts, Refusal, Full, Kind, Event, Emitting, first_cause, Slots, Node, causes, added_by, is_over, Wanted}
 use Rattle.rx_book.proofs.Common.{nodes_opened, HasRoomFor, notes_added, Reach, cost_of, IsReach, Ground, IsStanding, IsRoomier, HasRoomBeside, State, stands}
 use Rattle.rx_book.proofs.Common.{Request, IsRefusalOf, state_of, IsLetIn, IsAdmitted, IsWithin, Admits}
 use Rattle.rx_slots.specs.declared.Key.{Key}
@@ -8,70 +8,39 @@ use Rattle.rx_register.specs.Claims.{IsReady as IsReadyFor}
 use Rattle.rx_register.specs.State.{IsPromised}
 use Rattle.rx_book.proofs.CallWithoutCause.{let_in, within_full, state_roomier}
 use Rattle.rx_book.proofs.ListOfClosed.{standing_begun, room_begun}
+use Rattle.std.proofs.Common.{rules}
 
 -- an opening makes two nodes at most
 pub few_opened : (h : List Event) (kind : Kind) → nodes_opened h kind ≤ 2
-few_opened h kind = by_test (forces_connect h kind) where
-  by_test : (b : Bool) → 1 + cond b 1 0 ≤ 2
-  by_test true = omega arith
-  by_test false = omega arith
+few_opened h kind = search (rules, cond)
 
 -- what stands first is a refusal, whether the call may take memory or not
 pub refused_for : (stand : Refusal → Bool) {why : Refusal} (may_want : Bool) → first_cause stand ≡ Some why → IsRefusalOf may_want stand why
-refused_for stand true first = inl first
-refused_for stand false first = first
+refused_for stand x1 first = search rules
 
 -- the cost of what is asked is within the limit
 pub within_limit : {T : Type 0} (g : Ghosts T) (b : Ground T) (asked : Request) (cost : Wanted) → (let h = b.register.history in let base = b.register.base in
     causes base h b.register.limit asked.is_fresh asked.call Full ≡ is_over base h b.register.limit (added_by h asked.call) →
     first_cause (stands (state_of g b) asked) ≡ None → cost ≡ cost_of h asked.call → notes_added h asked.call ≤ 4294967295 → IsWithin b cost)
 within_limit g b asked cost full none is few =
-    let within = within_full b.register.base asked.call asked.is_known asked.is_fresh b.register.history b.register.limit full none in
-    let added = ap (λ (w : Wanted). w.events) is in
-    let told = ap (λ (w : Wanted). w.notes) is in
-    record { events = omega arith; notes = omega arith }
+    search (rules, within_full)
 
 -- room ---------------------------------------------------------------------------------------------
 
 pub roomier_same : {T : Type 0} (b : Ground T) → IsRoomier b b
-roomier_same b = record {
-  register = refl;
-  mail_room = omega arith;
-  nodes = refl;
-  resources = refl;
-  chain = refl;
-  hubs = refl;
-  leases = refl;
-  closed = refl;
-}
+roomier_same b = search rules
 
 roomier_begun : {T : Type 0} {old new : Ground T} → IsRoomier old new → IsRoomier (record old { closed = [] }) (record new { closed = [] })
-roomier_begun r = record {
-  register = r.register;
-  mail_room = r.mail_room;
-  nodes = r.nodes;
-  resources = r.resources;
-  chain = r.chain;
-  hubs = r.hubs;
-  leases = r.leases;
-  closed = refl;
-}
+roomier_begun r = search rules
 
 rooms_begun : {T : Type 0} (b : Ground T) (cost : Option Wanted) → IfSome cost (HasRoomBeside b) → IfSome cost (HasRoomBeside (record b { closed = [] }))
-rooms_begun b None has = tt
-rooms_begun b (Some w) has = room_begun has
+rooms_begun b x1 has = search (rules, room_begun)
 
 -- room is gotten, and then the list of what is closed is begun
 pub admits : {T : Type 0} {g : Ghosts T} {old mid new : Ground T} {cause : Option Refusal} (cost : Option Wanted) → cause ≡ None → IsRoomier old mid →
     IsStanding g mid → IsPromised mid.register → IfSome cost (HasRoomBeside mid) → new ≡ record mid { closed = [] } → Admits g old cause cost new
 admits {T = T} {g} {old} {mid} {cause = cause} cost none roomier standing promised has begun =
-    subst (λ (x : Ground T). Admits g old cause cost x) (sym begun) (record {
-      none = none;
-      standing = standing_begun standing;
-      promised = promised;
-      roomier = roomier_begun roomier;
-      has = rooms_begun mid cost has;
-    })
+    search (rules, Admits, standing_begun, roomier_begun, rooms_begun)
 
 -- letting in ---------------------------------------------------------------------------------------
 

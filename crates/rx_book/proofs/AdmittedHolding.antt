@@ -2,18 +2,19 @@
 use Rattle.rx_book.proofs.Common.{◌≡◌, ◌+◌, Bool, Option, Some, None, sym, ap, subst, ◌∙◌, arith, Ghosts, Kind, Refusal, Opening, first_cause, added_by, At}
 use Rattle.rx_book.proofs.Common.{nodes_opened, Wanted, Ground, is_there, State, place_of, open_request, key_above, stands_holding, IsAdmittedHolding, Admits}
 use Rattle.rx_book.proofs.Common.{state_of, IsWithin}
-use Rattle.rx_ground.specs.OpeningHolding.{opening_holding_causes, opening_holding_cost, first_holding}
+use Rattle.rx_ground.specs.OpeningHolding.{opening_holding_cost, first_holding}
 use Rattle.rx_book.proofs.Admitted.{few_opened, state_admitted}
 use Rattle.rx_book.proofs.CallWithoutCause.{let_in}
 use Rattle.rx_book.proofs.CausesByKey.{first_by_place}
 use Rattle.rx_book.proofs.HoldingUnstood.{opens_unstood, within_with}
+use Rattle.std.proofs.Common.{rules}
 
 module _ {T : Type 0} (g : Ghosts T) (b : Ground T) (at : At) (kind : Kind) (fresh : Bool) where
   -- what stands first by the tree's key stands first by the caller's
   pub first_stands : (why : Option Refusal) → why ≡ first_holding b (is_there b.tree.nodes (key_above at)) fresh (place_of at) kind →
       first_cause (stands_holding (state_of g b) at kind fresh) ≡ why
   first_stands why first =
-      first_by_place b.tree (opening_holding_causes b.register.base b.register.history b.register.limit fresh (place_of at) kind) why at first
+      search (rules, first_by_place)
 
   -- the cost is within the limit, and its notes are few
   pub holding_within : (cost : Wanted) → first_cause (stands_holding (state_of g b) at kind fresh) ≡ None →

@@ -1,9 +1,9 @@
 -- A call, from where nothing stands against it: its events may be written, what they force is paid for, and it is accepted.
-use Rattle.rx_book.proofs.Common.{◌≡◌, ◌==◌, ℕ, ◌+◌, ◌≤◌, Bool, true, List, [], ◌∷◌, ◌++◌, length, Option, Some, None, is_some, refl, sym, ap, subst, ◌∙◌}
+use Rattle.rx_book.proofs.Common.{◌≡◌, ◌==◌, ℕ, ◌+◌, ◌≤◌, Bool, true, List, [], ◌∷◌, ◌++◌, length, Option, None, is_some, refl, sym, ap, subst, ◌∙◌}
 use Rattle.rx_book.proofs.Common.{arith, length-append, append_assoc, append-nil, not, list_all, option_map_or, and_parts, false≢true, not-false, eqb-true}
 use Rattle.rx_book.proofs.Common.{Kept, Ghosts, Mail, Event, Accept, hub_subscribed, IsConnected, MayWait, none_waits, one_waits, IsSettled, notes, mail_of}
 use Rattle.rx_book.proofs.Common.{debt, Call, outside_of, MayFollow, IsLawful, IsForcedOn, stays, more, forced, allowed, opened_with, Full, NotFresh, Live}
-use Rattle.rx_book.proofs.Common.{Released, first_cause, notes-push, IsLawful-push, settled_connected, waits_after, forced_connected, kept_unsubscribed, Fits}
+use Rattle.rx_book.proofs.Common.{first_cause, notes-push, IsLawful-push, settled_connected, waits_after, forced_connected, kept_unsubscribed, Fits}
 use Rattle.rx_book.proofs.Common.{Writes, causes, added_by, by_key_of, is_over, IsPaid, HasRoomFor, notes_added, no_cause, call_room, call_mail_room, Gathers}
 use Rattle.rx_book.proofs.Common.{paid_room, within_limit, call_follows, call_fits, called_paid, Ground, gone_forced, gathers_on, IsStanding, IsRoomier, find}
 use Rattle.rx_book.proofs.Common.{IsReady, KeepsOlder, KeepsLeases, HasRoomToConnect, IsTied, AreTied, AreLeased, KeepsNodes, KeepsHeld, KeepsKeys, keeps_on}
@@ -19,6 +19,7 @@ use Rattle.rx_book.proofs.ShownKeys.{key_finds, finding_key, res_key_finds, find
 use Rattle.rx_book.proofs.ShownKeys.{has_lease_key_is}
 use Rattle.rx_book.proofs.CausesByKey.{unstood}
 use Rattle.rx_book.proofs.ListOfClosed.{just_gone}
+use Rattle.std.proofs.Common.{rules}
 
 -- histories ---------------------------------------------------------------------------------------
 
@@ -36,8 +37,7 @@ abbrev pub subscribes_none : Event → Bool
 subscribes_none e = not (is_some (hub_subscribed e))
 
 unsubscribed : (o : Option ℕ) → not (is_some o) ≡ true → o ≡ None
-unsubscribed None plain = refl
-unsubscribed (Some g) plain = absurd (false≢true plain)
+unsubscribed x0 plain = search (rules, false≢true)
 
 none_of : {h : List Event} (most : ℕ) → most ≡ 0 → MayWait h most → IsConnected h
 none_of most is (none_waits none) = none
@@ -88,17 +88,7 @@ pub settles_to : {T : Type 0} {g : Ghosts T} {mid new : Ground T} → IsStanding
     KeepsOlder new.register.history (length mid.register.history) mid.tree.nodes new.tree.nodes → new.tree.resources ≡ mid.tree.resources →
     new.register.limit ≡ mid.register.limit → new.register.given ≡ mid.register.given → new.leases ≡ mid.leases →
     Gathers mid.register.history mid.closed new.register.history new.closed → SettlesTo g mid new
-settles_to standing base on nodes resources limit given leases closed = record {
-  standing = standing;
-  base = base;
-  forced = on;
-  nodes = nodes;
-  resources = resources;
-  limit = limit;
-  given = given;
-  leases = leases;
-  closed = closed;
-}
+settles_to standing base on nodes resources limit given leases closed = search (rules, standing, base, forced, limit, given, leases, closed)
 
 module _ {T : Type 0} (g : Ghosts T) (b : Ground T) (asked : Request) where
   abbrev h : List Event
@@ -109,19 +99,13 @@ module _ {T : Type 0} (g : Ghosts T) (b : Ground T) (asked : Request) where
 
   pub let_in : IsStanding g b → IsPromised b.register → first_cause (stands (state_of g b) asked) ≡ None → IsReadyFor h asked.call →
       HasRoomFor b.register asked.call → b.closed ≡ [] → IsLetIn g b asked
-  let_in standing promised none ready has begun = record {
-    standing = standing;
-    none = none;
-    may = record { lawful = promised.lawful; settled = standing.settled; no_cause = (unstood asked.call asked.is_known _ none).1; ready = ready };
-    has = has;
-    begun = begun;
-  }
+  let_in standing promised none ready has begun = search (rules, standing, no_cause, unstood)
 
   -- a call that takes no memory
   pub let_in_free : IsStanding g b → IsPromised b.register → first_cause (stands (state_of g b) asked) ≡ None → IsReadyFor h asked.call →
       added_by h asked.call ≡ 0 → notes_added h asked.call ≡ 0 → b.closed ≡ [] → IsLetIn g b asked
   let_in_free standing promised none ready added noted begun =
-      let_in standing promised none ready (paid_room b.register asked.call standing.paid added noted) begun
+      search (rules, let_in, standing, paid_room)
 
   module _ (l : IsLetIn g b asked) where
     -- its key is known
@@ -232,7 +216,7 @@ pub written_keeping : {T : Type 0} {g : Ghosts T} {old : Ground T} (new : Ground
     KeepsKeys old.tree new.tree (length old.register.history) → KeepsLeases old.leases new.leases (length old.register.history) →
     Gathers old.register.history old.closed new.register.history new.closed → IsWritten g old call new
 written_keeping new call written tied leased kept leases closed =
-    record { written = written; tied = tied; leased = leased; nodes = kept.nodes; held = record { from = kept.held }; leases = leases; closed = closed }
+    search (rules, leases, closed)
 
 -- a closing
 pub written_closed : {T : Type 0} {g : Ghosts T} {old : Ground T} (new : Ground T) (call : Call) →
@@ -241,8 +225,7 @@ pub written_closed : {T : Type 0} {g : Ghosts T} {old : Ground T} (new : Ground 
     KeepsNodes new.register.history old.tree.nodes new.tree.nodes → new.tree.resources ≡ old.tree.resources → new.leases ≡ old.leases →
     Gathers old.register.history old.closed new.register.history new.closed → IsWritten g old call new
 written_closed {old} new call written tied leased nodes resources leases closed =
-    written_keeping new call written tied leased
-    (keeps_closed new.register.history old.tree new.tree (length old.register.history) nodes resources) (leases_stay _ _ _ leases) closed
+    search (rules, written_keeping, keeps_closed, length, leases_stay, leases, closed)
 
 -- what changes no node
 pub written_held : {T : Type 0} {g : Ghosts T} {old : Ground T} (new : Ground T) (call : Call) →
@@ -252,7 +235,7 @@ pub written_held : {T : Type 0} {g : Ghosts T} {old : Ground T} (new : Ground T)
     KeepsLeases old.leases new.leases (length old.register.history) → Gathers old.register.history old.closed new.register.history new.closed →
     IsWritten g old call new
 written_held {old} new call written tied leased nodes held leases closed =
-    written_keeping new call written tied leased (keeps_held old.tree new.tree (length old.register.history) nodes held) leases closed
+    search (rules, written_keeping, keeps_held, length, leases, closed)
 
 -- room --------------------------------------------------------------------------------------------
 
@@ -276,7 +259,7 @@ held_asked g b asked l res is = sym (has_res_key_is b.tree res) ∙ sym is ∙ k
 pub owned_asked : {T : Type 0} (g : Ghosts T) (b : Ground T) (asked : Request) → IsLetIn g b asked → (res : ResKey) →
     asked.is_known ≡ has_res_key (res_keys_of b.tree) res → is_owned b.register.history res.number ≡ true → is_owned_at b.tree (tree_res_key_of res) ≡ true
 owned_asked g b asked l res is owned =
-    owned_there b.register.base g b.register.history b.tree l.standing.tied.of_tree (tree_res_key_of res) (held_asked g b asked l res is) owned
+    search (rules, owned_there, held_asked)
 
 -- a lease by whose key a call is made is out
 pub out_asked : {T : Type 0} (g : Ghosts T) (b : Ground T) (asked : Request) → IsLetIn g b asked → (lease : LeaseKey) →
@@ -292,11 +275,10 @@ open_asked g b asked l key is = sym (has_key_is b.tree key) ∙ sym is ∙ known
 pub fresh_asked : {T : Type 0} (g : Ghosts T) (b : Ground T) (asked : Request) → IsLetIn g b asked →
     causes b.register.base b.register.history b.register.limit asked.is_fresh asked.call NotFresh ≡ not asked.is_fresh → asked.is_fresh ≡ true
 fresh_asked g b asked l is =
-    not-false asked.is_fresh (sym is ∙ no_cause (causes b.register.base b.register.history b.register.limit asked.is_fresh asked.call) l.may.no_cause NotFresh)
+    search (rules, not-false, no_cause)
 
 live_is : (life : Life) → is_live life ≡ true → life ≡ Live
-live_is Live is = refl
-live_is Released is = absurd (false≢true is)
+live_is x0 is = search (rules, false≢true)
 
 module _ {T : Type 0} (g : Ghosts T) (x : T) (fresh : is_fresh_in g x ≡ true) where
   abbrev parts : (is_live (g.life_of x) ≡ true) × ((g.uses_of x == 0) ≡ true)

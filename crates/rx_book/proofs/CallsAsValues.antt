@@ -1,74 +1,56 @@
 -- Calls as values: those that take no memory, and those of fixed cost. They are let in, and open no subscriber of a hub; and what they give
 -- stays given.
-use Rattle.rx_book.proofs.Common.{◌≡◌, ℕ, ◌≤◌, true, false, Option, Some, None, List, [], ◌∷◌, map, refl, sym, ap, ◌∙◌, arith, true≢false}
-use Rattle.rx_book.proofs.Common.{false≢true, list_all, Ghosts, Refusal, Full, Close, outside_of, first_cause, is_open, open_connections, causes, added_by}
+use Rattle.rx_book.proofs.Common.{◌≡◌, ℕ, ◌≤◌, true, false, Option, Some, None, List, [], ◌∷◌, map, refl, sym, ap, ◌∙◌, true≢false}
+use Rattle.rx_book.proofs.Common.{false≢true, list_all, Ghosts, Refusal, Full, Close, outside_of, first_cause, is_open, causes, added_by}
 use Rattle.rx_book.proofs.Common.{is_over, connected_stays, Slots, notes_added, paid_room, Wanted, Ground, Answer, State, has_lease_key, stands, Accepts}
 use Rattle.rx_book.proofs.Common.{connect_request, state_of, tree_key_of, lease_keys_of, cost_of, IsWithin, Admits, IsLetIn, IsAdmitted}
 use Rattle.rx_event.specs.declared.event.Event.TheVariants.{Connect as Connected_to}
 use Rattle.rx_tree.specs.declared.node.ResKey.{ResKey}
 use Rattle.rx_register.specs.Claims.{IsReady as IsReadyFor}
 use Rattle.rx_book.specs.declared.call.Call.{Call}
-use Rattle.rx_book.specs.declared.call.Call.TheVariants.{Open, Next, End, Apply, Lease, Hub, Connect, Disconnect}
-use Rattle.rx_book.specs.declared.answer.Answer.TheVariants.{Opened, Leased, Connected}
+use Rattle.rx_book.specs.declared.call.Call.TheVariants.{Open, Lease, Connect}
+use Rattle.rx_book.specs.declared.answer.Answer.TheVariants.{Leased, Connected}
 use Rattle.rx_book.specs.Asks.{request_of, takes_memory, has_fixed_cost, gives}
 use Rattle.rx_book.proofs.Admitted.{within_limit, admitted_let_in, admitted_as}
 use Rattle.rx_book.proofs.CallWithoutCause.{SettlesTo, subscribes_none, one_ready}
 use Rattle.rx_book.proofs.ListOfClosed.{opened_begun}
 use Rattle.rx_book.proofs.ShownKeys.{has_key_is}
+use Rattle.std.proofs.Common.{rules}
 
 -- costs --------------------------------------------------------------------------------------------
 
 -- what takes no memory wants no room
 free_adds : (s : State) (call : Call) → takes_memory call ≡ false →
     (added_by s.history (request_of s call).call ≡ 0) × (notes_added s.history (request_of s call).call ≡ 0)
-free_adds s (Open at kind) free = absurd (true≢false free)
-free_adds s (Next leaf value) free = absurd (true≢false free)
-free_adds s (Apply res word) free = absurd (true≢false free)
-free_adds s (Lease res) free = absurd (true≢false free)
-free_adds s (Hub mode) free = absurd (true≢false free)
-free_adds s (Connect hub) free = absurd (true≢false free)
-free_adds s _ free = (refl, refl)
+free_adds s x1 free = search (rules, true≢false)
 
 -- one of fixed cost may take memory
 pub fixed_takes : (call : Call) → has_fixed_cost call ≡ true → takes_memory call ≡ true
-fixed_takes (Apply res word) fixed = refl
-fixed_takes (Lease res) fixed = refl
-fixed_takes (Hub mode) fixed = refl
-fixed_takes (Connect hub) fixed = refl
-fixed_takes _ fixed = absurd (false≢true fixed)
+fixed_takes x0 fixed = search (rules, false≢true)
 
 -- where it is refused `Full` is told by what it adds
 counted : (s : State) (call : Call) → has_fixed_cost call ≡ true → (let asked = request_of s call in
     causes s.base s.history s.limit asked.is_fresh asked.call Full ≡ is_over s.base s.history s.limit (added_by s.history asked.call))
-counted s (Apply res word) fixed = refl
-counted s (Lease res) fixed = refl
-counted s (Hub mode) fixed = refl
-counted s (Connect hub) fixed = refl
-counted s _ fixed = absurd (false≢true fixed)
+counted s x1 fixed = search (rules, false≢true)
 
 few_told : (s : State) (call : Call) → has_fixed_cost call ≡ true → notes_added s.history (request_of s call).call ≤ 1
-few_told s (Open at kind) fixed = absurd (false≢true fixed)
-few_told s (Next leaf value) fixed = absurd (false≢true fixed)
-few_told s _ fixed = omega arith
+few_told s x1 fixed = search (rules, false≢true)
 
 -- its cost is within the limit
 pub fixed_within : {T : Type 0} (g : Ghosts T) (b : Ground T) (call : Call) (w : Wanted) → has_fixed_cost call ≡ true →
     w ≡ cost_of b.register.history (request_of (state_of g b) call).call → first_cause (stands (state_of g b) (request_of (state_of g b) call)) ≡ None →
     IsWithin b w
 fixed_within g b call w fixed is none =
-    let few = few_told (state_of g b) call fixed in
-    within_limit g b (request_of (state_of g b) call) w (counted (state_of g b) call fixed) none is (omega arith)
+    search (rules, few_told, within_limit, counted)
 
 -- letting in ---------------------------------------------------------------------------------------
 
 ready : (s : State) (call : Call) → IsReadyFor s.history (request_of s call).call
-ready s (End leaf terminal) = tt
-ready s _ = tt
+ready s x1 = search rules
 
 -- it is the same where the list of what is closed was begun
 pub unlisted : (call : Call) (s : State) → request_of (record s { closed = [] }) call ≡ request_of s call
-unlisted (End leaf terminal) s = refl
-unlisted _ s = refl
+unlisted x0 s = search rules
 
 module _ {T : Type 0} {g : Ghosts T} {old new : Ground T} {cause : Option Refusal} (call : Call)
     (first : first_cause (stands (state_of g old) (request_of (state_of g old) call)) ≡ cause) where
@@ -91,15 +73,11 @@ closes_subscribe_none (n ∷ ns) = closes_subscribe_none ns
 -- it opens no subscriber
 pub free_subscribes_none : (s : State) (call : Call) → takes_memory call ≡ false →
     list_all subscribes_none (outside_of s.history (request_of s call).call) ≡ true
-free_subscribes_none s (Open at kind) free = absurd (true≢false free)
-free_subscribes_none s (Disconnect hub) free = closes_subscribe_none (open_connections s.history hub)
-free_subscribes_none s _ free = refl
+free_subscribes_none s x1 free = search (rules, true≢false, closes_subscribe_none)
 
 pub fixed_subscribes_none : (s : State) (call : Call) → has_fixed_cost call ≡ true →
     list_all subscribes_none (outside_of s.history (request_of s call).call) ≡ true
-fixed_subscribes_none s (Open at kind) fixed = absurd (false≢true fixed)
-fixed_subscribes_none s (Disconnect hub) fixed = absurd (false≢true fixed)
-fixed_subscribes_none s _ fixed = refl
+fixed_subscribes_none s x1 fixed = search (rules, false≢true)
 
 -- answers ------------------------------------------------------------------------------------------
 
@@ -122,5 +100,4 @@ gives_settled {g} {b} {mid} {new} (Connect hub) (Connected k) fixed l done s is 
 gives_settled _ _ fixed l done s is = is
 
 pub gives_begun : (s new : State) (call : Call) (answer : Answer) → gives (record s { closed = [] }) call new answer → gives s call new answer
-gives_begun s new (Open at kind) (Opened o) is = opened_begun is
-gives_begun s new _ _ is = is
+gives_begun s new x2 x3 is = search (rules, opened_begun)

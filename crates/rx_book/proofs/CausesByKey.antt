@@ -1,6 +1,6 @@
 -- Which cause stands first against a call, by the keys that callers have.
-use Rattle.rx_book.proofs.Common.{◌≡◌, ℕ, Bool, true, false, Option, None, is_some, refl, sym, ap, ◌∙◌, inl, inr, ◌⊎◌, true≢false, Refusal, Gone, NoLease, At}
-use Rattle.rx_book.proofs.Common.{NotHeld, Call, Applying, Removing, Leasing, GivingBack, first_cause, Slots, find, is_out_at, Tree, is_held_at, Place, Key}
+use Rattle.rx_book.proofs.Common.{◌≡◌, ℕ, Bool, true, Option, None, is_some, sym, ap, ◌∙◌, ◌⊎◌, true≢false, Refusal, At}
+use Rattle.rx_book.proofs.Common.{Call, first_cause, Slots, find, is_out_at, Tree, is_held_at, Place, Key}
 use Rattle.rx_book.proofs.Common.{causes, by_key, by_key_of, no_cause, Ground, is_there, ResKey, LeaseKey, has_key, has_res_key, has_lease_key, key_above}
 use Rattle.rx_book.proofs.Common.{is_known_place, place_of, keys_of, res_keys_of, lease_keys_of, tree_key_of, tree_res_key_of, ground_lease_key_of}
 use Rattle.rx_slots.specs.declared.Key.{Key as TreeKey}
@@ -8,6 +8,7 @@ use Rattle.rx_tree.specs.declared.node.ResKey.{ResKey as TreeResKey}
 use Rattle.rx_event.specs.Causes.{by_res_key, by_lease_key}
 use Rattle.rx_ground.specs.FirstCause.{has_node, first_by_key as first_at_key}
 use Rattle.rx_book.proofs.ShownKeys.{has_key_is, is_known_place_is, has_res_key_is, has_lease_key_is}
+use Rattle.std.proofs.Common.{rules}
 
 module _ {T : Type 0} (tree : Tree T) (stand : Refusal → Bool) (why : Option Refusal) where
   -- what stands first by the tree's key stands first by the caller's
@@ -51,28 +52,17 @@ module _ {T : Type 0} (b : Ground T) (fresh : Bool) where
 
 -- where nothing stands the key is known, and nothing stands against the call by numbers
 by_known_key : (known : Bool) (stand : Refusal → Bool) → first_cause (by_key known stand) ≡ None → (known ≡ true) × (first_cause stand ≡ None)
-by_known_key true stand none = (refl, none)
-by_known_key false stand none = absurd (true≢false (no_cause (by_key false stand) none Gone))
+by_known_key x0 stand none = search (rules, true≢false, no_cause)
 
 by_known_res_key : (known : Bool) (stand : Refusal → Bool) → first_cause (by_res_key known stand) ≡ None → (known ≡ true) × (first_cause stand ≡ None)
-by_known_res_key true stand none = (refl, none)
-by_known_res_key false stand none = absurd (true≢false (no_cause (by_res_key false stand) none NotHeld))
+by_known_res_key x0 stand none = search (rules, true≢false, no_cause)
 
 by_known_lease_key : (known : Bool) (stand : Refusal → Bool) → first_cause (by_lease_key known stand) ≡ None → (known ≡ true) × (first_cause stand ≡ None)
-by_known_lease_key true stand none = (refl, none)
-by_known_lease_key false stand none = absurd (true≢false (no_cause (by_lease_key false stand) none NoLease))
+by_known_lease_key x0 stand none = search (rules, true≢false, no_cause)
 
 by_which : (call : Call) → (by_key_of call ≡ by_key) ⊎ ((by_key_of call ≡ by_res_key) ⊎ (by_key_of call ≡ by_lease_key))
-by_which (Applying r) = inr (inl refl)
-by_which (Removing r) = inr (inl refl)
-by_which (Leasing r) = inr (inl refl)
-by_which (GivingBack l) = inr (inr refl)
-by_which _ = inl refl
+by_which x0 = search rules
 
 pub unstood : (call : Call) (known : Bool) (stand : Refusal → Bool) → first_cause (by_key_of call known stand) ≡ None →
     (known ≡ true) × (first_cause stand ≡ None)
-unstood call known stand none = by_way (by_which call) where
-  by_way : (by_key_of call ≡ by_key) ⊎ ((by_key_of call ≡ by_res_key) ⊎ (by_key_of call ≡ by_lease_key)) → (known ≡ true) × (first_cause stand ≡ None)
-  by_way (inl is) = by_known_key known stand (ap (λ by. first_cause (by known stand)) (sym is) ∙ none)
-  by_way (inr (inl is)) = by_known_res_key known stand (ap (λ by. first_cause (by known stand)) (sym is) ∙ none)
-  by_way (inr (inr is)) = by_known_lease_key known stand (ap (λ by. first_cause (by known stand)) (sym is) ∙ none)
+unstood call known stand none = search (rules, by_which, by_known_key, by_known_res_key, by_known_lease_key)

@@ -1,10 +1,10 @@
 -- Taking, disposing, disconnecting and closing.
 use Rattle.rx_book.proofs.Common.{◌≡◌, ◌<◌, ◌+◌, ◌-◌, ◌∷◌, [], ℕ, List, Bool, true, false, refl, sym, ap, subst, ◌∙◌, map, cond, length, filter, slice_get}
-use Rattle.rx_book.proofs.Common.{⊎_elim, zero-add, arith, Option, Some, None, count_by, All, Contains, list_all, option_and_then, option_map_or, and_parts}
-use Rattle.rx_book.proofs.Common.{cases_order, false_from_ne_true, false≢true, both_ways, not, ◌&&◌, ◌||◌, ◌++◌, ◌⊎◌, inl, inr, nat_lt, length-append, Kept}
-use Rattle.rx_book.proofs.Common.{append_assoc, append-nil, sum_by-cons, All-cons, get_or-range_with_len, length-range_with_len, Event, Accept, Lease, Close}
-use Rattle.rx_book.proofs.Common.{Take, Refusal, makes_hub, makes_resource, makes_lease, is_take, is_root, is_manual_hub, is_connect_of, node_of_accept, at}
-use Rattle.rx_book.proofs.Common.{places, is_open, open_connections, is_owned, is_out, is_leased, is_held, is_waiting, waiting_resources, accepted_count, Key}
+use Rattle.rx_book.proofs.Common.{⊎_elim, zero-add, arith, Some, None, count_by, All, Contains, list_all, option_and_then, option_map_or, and_parts}
+use Rattle.rx_book.proofs.Common.{cases_order, false_from_ne_true, false≢true, both_ways, not, ◌++◌, ◌⊎◌, inl, inr, nat_lt, length-append, Kept}
+use Rattle.rx_book.proofs.Common.{append_assoc, append-nil, sum_by-cons, All-cons, get_or-range_with_len, length-range_with_len, Event, Close}
+use Rattle.rx_book.proofs.Common.{Refusal, makes_resource, makes_lease, is_take, is_manual_hub, at}
+use Rattle.rx_book.proofs.Common.{places, is_open, open_connections, is_owned, is_out, is_held, waiting_resources, accepted_count, Key}
 use Rattle.rx_book.proofs.Common.{taken_count, held_count, waiting_count, IsForcedOn, stays, more, Call, GivingBack, Disposing, Disconnecting, Taking, State}
 use Rattle.rx_book.proofs.Common.{outside_of, IsStepOf, first_cause, is_open_root, IsLetGo, makes_neither, at_within, slice_get_last, held_is, is_open_past}
 use Rattle.rx_book.proofs.Common.{may_be_forced, forced_kind, accepted_count-parts, nothing_open, has_connection, connects_none, connects_one, LeaseKey}
@@ -15,24 +15,21 @@ use Rattle.std.proofs.lemmas.Bool.{cases_lt, and_left}
 use Rattle.rx_event.proofs.Laws.Leases.{is_out-push, is_out_within, is_out_past, out_lease, none_leased}
 use Rattle.rx_event.proofs.Laws.Closings.{OpensNoneUpTo, makes_neither_opens, roots_before, let_go_after, manual_hub}
 use Rattle.rx_book.proofs.Laws.StepsContinue.{count_by-append, step_longer}
+use Rattle.std.proofs.Common.{rules}
 
 -- counting -----------------------------------------------------------------------------------------
 
 forced_no_take : (e : Event) → may_be_forced e ≡ true → is_take e ≡ false
-forced_no_take (Take r) m = absurd (cc)
-forced_no_take _ m = refl
+forced_no_take x0 m = search rules
 
 forced_no_accept : (e : Event) → may_be_forced e ≡ true → makes_resource e ≡ false
-forced_no_accept (Accept n tag) m = absurd (cc)
-forced_no_accept _ m = refl
+forced_no_accept x0 m = search rules
 
 forced_count : (base : Kept) → (p : Event → Bool) → ((e : Event) → may_be_forced e ≡ true → p e ≡ false) → {h k : List Event} → IsForcedOn base h k →
     count_by p k ≡ count_by p h
 forced_count base p never stays = refl
 forced_count base p never (more {h} {k} {e} before is_forced) =
-    let single : count_by p (e ∷ []) ≡ 0 = ap (λ b. 0 + cond b 1 0) (never e (forced_kind base is_forced)) in
-    let rest = forced_count base p never before in
-    omega (arith, count_by-append p k (e ∷ []))
+    search (rules, count_by, cond, forced_kind, base, count_by-append, forced_count base p never before)
 
 step_count : (base : Kept) → (p : Event → Bool) → ((e : Event) → may_be_forced e ≡ true → p e ≡ false) → (h k : List Event) (call : Call) →
     IsStepOf base h call k → count_by p k ≡ count_by p h + count_by p (outside_of h call)
@@ -86,8 +83,7 @@ out_before_all h (e ∷ es) none l out =
     out_before h e parts.0 l (out_before_all (h ++ e ∷ []) es parts.1 l later)
 
 forced_no_lease : (e : Event) → may_be_forced e ≡ true → lends_none e ≡ true
-forced_no_lease (Lease r) m = absurd (cc)
-forced_no_lease _ m = refl
+forced_no_lease x0 m = search rules
 
 forced_out : (base : Kept) → {h k : List Event} → IsForcedOn base h k → (l : ℕ) → is_out k l ≡ true → is_out h l ≡ true
 forced_out base stays l out = out
@@ -114,7 +110,7 @@ disconnected_out base {h} g step = step_out base (Disconnecting g) step (closing
 -- what a caller lets go --------------------------------------------------------------------------------
 
 step_neither : (base : Kept) → {h k : List Event} (call : Call) → IsStepOf base h call k → list_all makes_neither (outside_of h call) ≡ true → OpensNoneUpTo h k
-step_neither base {h} {k} call step neither = makes_neither_opens base (record { outside = outside_of h call; neither = neither; forced = step.forced })
+step_neither base {h} {k} call step neither = search (rules, makes_neither_opens, base)
 
 takes_let_go : (base : Kept) → {h k : List Event} → Takes base h k → IsLetGo h → IsLetGo k
 takes_let_go base none_taken free = free
@@ -131,29 +127,17 @@ roots_older base {h} g step = roots_before (step_neither base (Disconnecting g) 
 none_owned : (h : List Event) → ((n : ℕ) → is_open h n ≡ false) → (r : ℕ) → is_owned h r ≡ false
 unfolding is_owned
 none_owned h closed r =
-    let nowhere : (o : Option ℕ) → option_map_or (is_open h) o false ≡ false =
-    λ o. elim o as (λ o. option_map_or (is_open h) o false ≡ false) [ None ↦ refl | Some n ↦ closed n ] in
-    and_left _ _ (nowhere (option_and_then node_of_accept (slice_get h r)))
+    search (rules, option_map_or, and_left, option_and_then, slice_get)
 
 counted_none : (p : ℕ → Bool) → ((n : ℕ) → p n ≡ false) → (ns : List ℕ) → count_by p ns ≡ 0
 counted_none p never [] = refl
 counted_none p never (n ∷ ns) =
-    let rest = counted_none p never ns in
-    let one = ap (λ b. cond {A = ℕ} b 1 0) (never n) in
-    omega (arith, sum_by-cons (λ k. cond {A = ℕ} (p k) 1 0) n ns)
+    search (rules, cond, sum_by-cons, counted_none p never ns)
 
 -- where nothing is open and no lease is out nothing is held
 none_held : (h : List Event) → ((n : ℕ) → is_open h n ≡ false) → ((l : ℕ) → is_out h l ≡ false) → (r : ℕ) → is_held h r ≡ false
 none_held h closed returned r =
-    let no_leases = none_leased h (counted_none (is_out h) returned (places h)) r in
-    held_is h r ∙
-    ap (λ b. b || is_leased h r) (none_owned h closed r) ∙
-    ap (λ k. at makes_resource h r && nat_lt 0 k) no_leases ∙
-    and_false (at makes_resource h r)
-  where
-    and_false : (b : Bool) → (b && false) ≡ false
-    and_false true = refl
-    and_false false = refl
+    search (rules, none_leased, counted_none, held_is, none_owned, nat_lt)
 
 -- a list whose numbers pass a test that nothing passes
 none_listed : {A : Type 0} (number : A → ℕ) (test : ℕ → Bool) (xs : List A) → AreJust test (map number xs) → ((n : ℕ) → test n ≡ false) → xs ≡ []
@@ -205,32 +189,19 @@ lets_all before (next_let_go rest kept lets accepted) = next_let_go (lets_all be
 
 none_numbered : {A : Type 0} (number : A → ℕ) (test : ℕ → Bool) (xs : List A) → AreJust test (map number xs) → xs ≡ [] → (n : ℕ) → test n ≡ false
 none_numbered number test xs just empty n =
-    false_from_ne_true (test n) (λ passes. let within = (just.every n passes).1 in
-    let none : length (map number xs) ≡ 0 = ap (λ ys. length (map number ys)) empty in
-    absurd (omega arith))
+    search (rules, false_from_ne_true, length, map)
 
 -- where no key is left nothing is open, and so a caller holds nothing open
 pub shut_let_go : (s : State) → IsPromised s → s.keys ≡ [] → IsLetGo s.history
 shut_let_go s kept none =
-    let closed = none_numbered (λ k. k.number) (is_open s.history) s.keys kept.keys none in
-    record {
-      unsubscribed = λ n. ap (λ (b : Bool). b && at is_root s.history n) (closed n);
-      disconnected =
-          λ g manual. filter_none (λ n. at (is_connect_of g) s.history n && is_open s.history n) (places s.history)
-          (λ n. and_closed (at (is_connect_of g) s.history n) (is_open s.history n) (closed n));
-    }
-  where
-    and_closed : (a b : Bool) → b ≡ false → (a && b) ≡ false
-    and_closed true b none = none
-    and_closed false b none = refl
+    search (rules, none_numbered, filter_none)
 
 pub shut_none_out : (s : State) → IsPromised s → s.lease_keys ≡ [] → (l : ℕ) → is_out s.history l ≡ false
 shut_none_out s kept none = none_numbered (λ k. k.number) (is_out s.history) s.lease_keys kept.lease_keys none
 
 place_listed : (h : List Event) (n : ℕ) → n < length h → Contains (places h) n
 place_listed h n within =
-    let long : length (places h) ≡ length h = length-range_with_len 0 (length h) in
-    (n, omega arith, get_or-range_with_len 0 (length h) n n within ∙ zero-add n)
+    search (rules, length, length-range_with_len, get_or-range_with_len, zero-add)
 
 -- what a search finds ------------------------------------------------------------------------------
 
@@ -266,9 +237,7 @@ lease_missing h missing l =
 pub returnable : (s : State) (k : LeaseKey) (why : Refusal) → has_lease_key s.lease_keys k ≡ true → is_out s.history k.number ≡ true →
     first_cause (stands s (give_back_request s k)) ≡ Some why → ⊥
 returnable s k why known out cause =
-    let nothing : first_cause (stands s (give_back_request s k)) ≡ None = rw (known, out) refl in
-    let clash : Some why ≡ None = sym cause ∙ nothing in
-    absurd (cc)
+    search rules
 
 -- disposing of roots -------------------------------------------------------------------------------
 
@@ -287,23 +256,14 @@ root_missing h missing n =
 pub disposable : (s : State) (k : Key) (why : Refusal) → has_key s.keys k ≡ true → is_open_root s.history k.number ≡ true →
     first_cause (stands s (dispose_request s k)) ≡ Some why → ⊥
 disposable s k why known root cause =
-    let parts = and_parts (is_open s.history k.number) (at is_root s.history k.number) root in
-    let open_now : is_open s.history k.number ≡ true = parts.0 in
-    let at_root : at is_root s.history k.number ≡ true = parts.1 in
-    let nothing : first_cause (stands s (dispose_request s k)) ≡ None = rw (known, open_now, at_root) refl in
-    let clash : Some why ≡ None = sym cause ∙ nothing in
-    absurd (cc)
+    search (rules, and_parts)
 
 -- disconnecting ------------------------------------------------------------------------------------
 
 no_closing_counted : (p : Event → Bool) → ((c : ℕ) → p (Close c) ≡ false) → (cs : List ℕ) → count_by p (map (λ c. Close c) cs) ≡ 0
 no_closing_counted p never [] = refl
 no_closing_counted p never (c ∷ cs) =
-    let single : count_by p (Close c ∷ []) ≡ 0 = ap (λ b. 0 + cond b 1 0) (never c) in
-    let rest = no_closing_counted p never cs in
-    let whole : count_by p (map (λ c. Close c) (c ∷ cs)) ≡ count_by p (Close c ∷ []) + count_by p (map (λ c. Close c) cs) =
-    count_by-append p (Close c ∷ []) (map (λ c. Close c) cs) in
-    omega arith
+    search (rules, count_by, cond, map, count_by-append, no_closing_counted p never cs)
 
 pub disconnected_taken : (base : Kept) → (h k : List Event) (g : ℕ) → IsStepOf base h (Disconnecting g) k → taken_count base k ≡ taken_count base h
 disconnected_taken base h k g step =
@@ -333,35 +293,20 @@ hub_missing h missing g manual =
 -- no cause stands against the disconnection of such a hub
 pub disconnectable : (s : State) (g : ℕ) (why : Refusal) → is_connected_manual s.history g ≡ true → first_cause (stands s (disconnect_request g)) ≡ Some why → ⊥
 disconnectable s g why found cause =
-    let parts = and_parts (at is_manual_hub s.history g) (has_connection s.history g) found in
-    let manual : at is_manual_hub s.history g ≡ true = parts.0 in
-    let linked : has_connection s.history g ≡ true = parts.1 in
-    let made : at makes_hub s.history g ≡ true = rw (manual_hub s.history g manual) refl in
-    let nothing : first_cause (stands s (disconnect_request g)) ≡ None = rw (made, manual, linked) refl in
-    let clash : Some why ≡ None = sym cause ∙ nothing in
-    absurd (cc)
+    search (rules, and_parts, manual_hub)
 
 -- it closes something
 pub closes_some : (h : List Event) (g : ℕ) → is_connected_manual h g ≡ true → 0 < length (outside_of h (Disconnecting g))
 closes_some h g found =
-    let one = connects_one h g (and_parts (at is_manual_hub h g) (has_connection h g) found).1 in
-    rw one.2 (omega arith)
+    search (rules, connects_one, and_parts)
 
 -- each step leaves less room
 pub less_room : (old new : State) (asked : Request) → Accepts old asked new → IsPromised new → 0 < length (outside_of old.history asked.call) →
     new.base.at_length + new.limit - length new.history < old.base.at_length + old.limit - length old.history
 less_room old new asked accepts kept some =
-    let longer = step_longer old.base old.history new.history asked.call accepts.step in
-    let room = kept.room in
-    let limit = accepts.limit in
-    let base = ap (λ (b : Kept). b.at_length) accepts.base in
-    omega arith
+    search (rules, step_longer)
 
 -- nothing waits where the list of what waits is empty
 pub none_waits : (s : State) → IsPromised s → s.waiting ≡ [] → waiting_resources s.history ≡ []
 none_waits s kept empty =
-    filter_none (is_waiting s.history) (places s.history)
-    (λ n. false_from_ne_true _ (λ waits. let listed : Contains (map (λ b. b.number) s.waiting) n = kept.waiting.every n waits in
-    let none : length (map (λ b. b.number) s.waiting) ≡ 0 = ap (λ l. length (map (λ b. b.number) l)) empty in
-    let within = listed.1 in
-    absurd (omega arith)))
+    search (rules, filter_none, false_from_ne_true, map, length)

@@ -3,21 +3,17 @@ use Rattle.rx_book.proofs.Common.{◌≡◌, ℕ, ◌+◌, ◌<◌, ◌≤◌, B
 use Rattle.rx_book.proofs.Common.{subst, ◌∙◌, inl, inr, ◌⊎◌, arith, length-append, append_assoc, append-nil, ◌≢◌, ◌&&◌, not, option_map_or, option_to_list}
 use Rattle.rx_book.proofs.Common.{false≢true, both_ways, cases_order, and_parts, and_from, eq-eqb, false_from_ne_true, not-true, slice_get_within, same_Some}
 use Rattle.rx_book.proofs.Common.{Kept, Place, Kind, Leaf, Pass, Flat, Switch, Until, Sub, Event, Open, Connect, is_auto_hub, is_subscriber_of, at, is_open}
-use Rattle.rx_book.proofs.Common.{open_subscribers, open_connections, mirrored, fired, failed, completed, cut, left, connecting, due, none_waits, IsConnected}
+use Rattle.rx_book.proofs.Common.{open_subscribers, open_connections, connecting, due, none_waits, IsConnected}
 use Rattle.rx_book.proofs.Common.{IsConnectDue, IsDue, IsForced, IsSettled, stays, more, MayFollow, IsForcedOn, IsLawful, filter_nonempty, slice_get-append}
 use Rattle.rx_book.proofs.Common.{slice_get_last, at-append, at_within, is_open_within, stays_closed_after, is_open_new, may_subscribe, one_where_subscribed}
 use Rattle.rx_book.proofs.Common.{connection_listed, first_connection, settled_connected, kept_subscribed, connected_first, forced_connected, opened_settled}
 use Rattle.rx_book.proofs.Common.{opened_stays, has_connection, forces_connect, connects_none, opening_connects, makes_connection, connection_made}
+use Rattle.std.proofs.Common.{rules}
 
 -- what is forced ------------------------------------------------------------------------------------
 
 due_connects_none : (base : Kept) → {h : List Event} {e : Event} → IsDue base h e → makes_connection e ≡ false
-due_connects_none base (mirrored o k c) = refl
-due_connects_none base (fired o k f) = refl
-due_connects_none base (failed o k c) = refl
-due_connects_none base (completed o k n s c w) = refl
-due_connects_none base (cut o e) = refl
-due_connects_none base (left o at_c a n) = refl
+due_connects_none base x1 = search rules
 
 -- no connection comes in or after a history in which no hub waits for one
 pub record HasNoMore (h k : List Event) : Type 0 where
@@ -25,7 +21,7 @@ pub record HasNoMore (h k : List Event) : Type 0 where
   pub none_come : (n : ℕ) → length h ≤ n → at makes_connection k n ≡ false
 
 past_none : (h : List Event) (n : ℕ) → length h ≤ n → at makes_connection h n ≡ false
-past_none h n past = false_from_ne_true _ (λ found. let l = at_within makes_connection h n found in absurd (omega arith))
+past_none h n past = search (rules, false_from_ne_true, at_within)
 
 forced_none : (base : Kept) → {h : List Event} {e : Event} → IsConnected h → IsForced base h e → makes_connection e ≡ false
 forced_none base none (connecting {g = g} d) = absurd (none g d)
@@ -50,12 +46,7 @@ no_more base none (more on f) = one_more base (no_more base none on) f
 connects_first : (base : Kept) → {h k : List Event} {g : ℕ} → ((e : Event) → IsForced base h e → e ≡ Connect g) → IsForcedOn base h k →
     (k ≡ h) ⊎ IsForcedOn base (h ++ Connect g ∷ []) k
 connects_first base alone stays = inl refl
-connects_first base {h = h} {g = g} alone (more {k = k} {e = e} on f) = by_first (connects_first base alone on) where
-  by_first : (k ≡ h) ⊎ IsForcedOn base (h ++ Connect g ∷ []) k → ((k ++ e ∷ []) ≡ h) ⊎ IsForcedOn base (h ++ Connect g ∷ []) (k ++ e ∷ [])
-  by_first (inr later) = inr (more later f)
-  by_first (inl same) =
-      let is : e ≡ Connect g = alone e (subst (λ (q : List Event). IsForced base q e) same f) in
-      inr (subst (λ (q : List Event). IsForcedOn base (h ++ Connect g ∷ []) q) (λ i. sym same i ++ sym is i ∷ []) stays)
+connects_first base {h = h} {g = g} alone (more {k = k} {e = e} on f) = search (rules, more, stays, connects_first base alone on)
 
 added_on : (base : Kept) → {h k : List Event} → IsForcedOn base h k → (added : List Event) × (k ≡ h ++ added)
 added_on base {h = h} stays = ([], sym (append-nil h))
@@ -107,7 +98,7 @@ module _ (base : Kept) (h : List Event) (place : Place) (g : ℕ) (law : IsLawfu
     subscriber = length h;
     subscribes = subscribes;
     subscribed = is_open_new base h (Open place (Sub g)) next;
-    waits = λ t ended. let l = slice_get_within m ended.place _ ended.ended in let past = ended.later in let n = long in absurd (omega arith);
+    waits = search (rules, slice_get_within, long);
     unconnected = unconnected;
   }
 
@@ -179,8 +170,7 @@ module _ (base : Kept) (h : List Event) (place : Place) (g : ℕ) (law : IsLawfu
 -- what is answered of it ----------------------------------------------------------------------------
 
 listed_one : (o : Option ℕ) (n : ℕ) → option_to_list o ≡ n ∷ [] → o ≡ Some n
-listed_one None n listed = absurd (cc)
-listed_one (Some k) n listed = let same : k ≡ n = cc in ap (λ q. Some q) same
+listed_one x0 n listed = search rules
 
 module _ (base : Kept) (h : List Event) (place : Place) (law : IsLawful base h) (k : List Event) (law_on : IsLawful base k) (settled : IsSettled base k) where
   -- the connection that comes directly after the opening is the open one of its hub, where one was forced, and else there is none

@@ -1,17 +1,18 @@
 -- Where nothing stands against an opening that holds a resource, nothing stands against the opening, nor then against the holding.
-use Rattle.rx_book.proofs.Common.{◌≡◌, ℕ, ◌+◌, ◌≤◌, Bool, true, false, List, [], ◌∷◌, length, Some, None, cond, refl, ap, ◌∙◌, arith, not, not-false, le-ltb}
+use Rattle.rx_book.proofs.Common.{◌≡◌, ℕ, ◌+◌, ◌≤◌, Bool, true, false, List, [], ◌∷◌, length, None, cond, refl, ap, ◌∙◌, arith, not, not-false, le-ltb}
 use Rattle.rx_book.proofs.Common.{Place, Kind, Event, Refusal, Full, Gone, WrongKind, PlaceTaken, NothingOwed, NoHub, HubOrder, NotFresh, TooMany, Kept, debt}
 use Rattle.rx_book.proofs.Common.{is_open, Opening, first_of_these, first_cause, refusal_order, by_key, opening_causes, holding_causes, is_over, added_by, At}
 use Rattle.rx_book.proofs.Common.{no_cause, within_limit, State, stands, place_of, is_known_place, open_request, stands_holding}
 use Rattle.rx_ground.specs.OpeningHolding.{opening_holding_causes, added_holding}
 use Rattle.rx_book.proofs.CausesByKey.{unstood}
+use Rattle.std.proofs.Common.{rules}
 
 -- first causes ------------------------------------------------------------------------------------
 
 none_of_these : (stand : Refusal → Bool) (whys : List Refusal) → ((why : Refusal) → stand why ≡ false) → first_of_these stand whys ≡ None
 none_of_these stand [] none = refl
 none_of_these stand (why ∷ whys) none =
-    ap (λ (b : Bool). cond b (Some why) (first_of_these stand whys)) (none why) ∙ none_of_these stand whys none
+    search (rules, cond, none_of_these stand whys none)
 
 -- where none stands there is no first
 pub no_first_cause : (stand : Refusal → Bool) → ((why : Refusal) → stand why ≡ false) → first_cause stand ≡ None
@@ -72,10 +73,7 @@ module _ (s : State) (at : At) (kind : Kind) (fresh : Bool) (none : first_cause 
 module _ (base : Kept) (h : List Event) (limit : ℕ) (n tag : ℕ) (alive : is_open h n ≡ true)
     (within : length h + debt base h + 3 ≤ base.at_length + limit) where
   holding_each : (why : Refusal) → holding_causes base h limit true n tag why ≡ false
-  holding_each Gone = ap not alive
-  holding_each NotFresh = refl
-  holding_each Full = is_not_over base h limit 3 within
-  holding_each _ = refl
+  holding_each x0 = search (rules, not, is_not_over)
 
   -- nothing stands against holding at an open node, where there may be so many events
   pub holding_unstood : first_cause (holding_causes base h limit true n tag) ≡ None

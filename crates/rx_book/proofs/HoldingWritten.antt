@@ -1,6 +1,6 @@
 -- A fresh resource is held at an open node, for which there is room: it is accepted, and forces nothing.
-use Rattle.rx_book.proofs.Common.{◌≡◌, ◌+◌, ◌≤◌, Bool, true, List, [], ◌∷◌, length, None, is_some, refl, sym, ap, subst, ◌∙◌, arith, Ghosts, Event, Accept}
-use Rattle.rx_book.proofs.Common.{Kept, is_open, debt, accepted_by, IsSettled, stays, first_cause, by_key, holding_causes, closes_none_kept, settled_on, find}
+use Rattle.rx_book.proofs.Common.{◌≡◌, ◌+◌, ◌≤◌, true, List, [], ◌∷◌, length, None, is_some, refl, sym, ap, subst, ◌∙◌, Ghosts, Event, Accept}
+use Rattle.rx_book.proofs.Common.{Kept, is_open, debt, accepted_by, IsSettled, stays, first_cause, closes_none_kept, settled_on, find}
 use Rattle.rx_book.proofs.Common.{accepted_by_new, is_held_at, some_of, Writes, Gathers, Ground, gathers_nothing, gathers_quiet, IsStanding, IsReady, AreTied}
 use Rattle.rx_book.proofs.Common.{AreLeased, KeepsHeld, leases_stay, Key, ResKey, has_key, Request, stands, is_fresh_in, hold_request, Accepts, IsNewResKey}
 use Rattle.rx_book.proofs.Common.{tree_key_of, res_key_shown, keys_of, state_of, IsLetIn}
@@ -11,6 +11,7 @@ use Rattle.rx_book.proofs.CallWithoutCause.{SettlesTo, let_in, one_ready, pays, 
 use Rattle.rx_book.proofs.MadeKeyIsListed.{res_key_listed}
 use Rattle.rx_book.proofs.HoldingUnstood.{holding_unstood}
 use Rattle.rx_book.proofs.ListOfClosed.{standing_begun, accepts_begun}
+use Rattle.std.proofs.Common.{rules}
 
 module _ {T : Type 0} (g : Ghosts T) (b : Ground T) (node : Key) (x : T) (standing : IsStanding g b) (promised : IsPromised b.register)
     (listed : has_key (keys_of b.tree) node ≡ true) (fresh : is_fresh_in g x ≡ true)
@@ -30,16 +31,12 @@ module _ {T : Type 0} (g : Ghosts T) (b : Ground T) (node : Key) (x : T) (standi
 
   unstood : first_cause (stands (state_of g b) asked) ≡ None
   unstood =
-      let causes = λ (f : Bool). holding_causes b.register.base b.register.history b.register.limit f node.number (g.tag_of x) in
-      let within = promised.room in
-      ap (λ (k : Bool). first_cause (by_key k (causes (is_fresh_in g x)))) listed ∙ ap (λ (f : Bool). first_cause (by_key true (causes f))) fresh ∙
-      holding_unstood b.register.base h b.register.limit node.number (g.tag_of x) alive (omega arith)
+      search (rules, is_fresh_in, holding_unstood, alive)
 
   -- as where the list of what is closed was begun
   holding_let_in : IsLetIn g (record b { closed = [] }) (hold_request g (state_of g b) node x)
   holding_let_in =
-      let notes = standing.paid.notes in
-      let_in g (record b { closed = [] }) asked (standing_begun standing) promised unstood tt (record { events = events; notes = omega arith }) refl
+      search (rules, let_in, standing_begun, unstood)
 
   pub holding_ready : IsReady b.register (Accept node.number (g.tag_of x))
   holding_ready = one_ready g (record b { closed = [] }) asked holding_let_in (Accept node.number (g.tag_of x)) refl

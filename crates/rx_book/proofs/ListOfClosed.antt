@@ -1,9 +1,10 @@
 -- The list of what a call closes: begun anew it changes nothing else, and what goes on it has gone.
-use Rattle.rx_book.proofs.Common.{◌≡◌, ℕ, List, [], ◌∷◌, ◌++◌, map, refl, sym, ap, subst, ◌∙◌, Ok, Ghosts, Kept, Event, IsForcedOn, Wanted, goes, numbers_of}
+use Rattle.rx_book.proofs.Common.{◌≡◌, ℕ, List, [], ◌∷◌, ◌++◌, map, refl, ap, ◌∙◌, Ok, Ghosts, Kept, Event, IsForcedOn, Wanted, goes, numbers_of}
 use Rattle.rx_book.proofs.Common.{Gathers, Ground, IsStanding, HasRoomBeside, IsFurther, gone_on, gone_forced, Key, State, AreJust, Request, Accepts, Answers}
 use Rattle.rx_book.proofs.Common.{IsOpened, IsOpenedUsing, Opened, OpenedUsing, At, OpenedHolding, AnswersOpenedHolding, Kind, key_shown}
 use Rattle.rx_slots.specs.declared.Key.{Key as TreeKey}
 use Rattle.rx_book.proofs.AnswersOkOrErr.{answers_ok}
+use Rattle.std.proofs.Common.{rules}
 
 -- the list begun ----------------------------------------------------------------------------------
 
@@ -12,30 +13,11 @@ pub standing_begun : {T : Type 0} {g : Ghosts T} {b : Ground T} → IsStanding g
 standing_begun s = record { tied = s.tied; leased = s.leased; settled = s.settled; paid = s.paid }
 
 pub room_begun : {T : Type 0} {b : Ground T} {wanted : Wanted} → HasRoomBeside b wanted → HasRoomBeside (record b { closed = [] }) wanted
-room_begun has = record {
-  events = has.events;
-  notes = has.notes;
-  nodes = has.nodes;
-  space = has.space;
-  resources = has.resources;
-  hubs = has.hubs;
-  slots = has.slots;
-  leases = has.leases;
-}
+room_begun has = search rules
 
 -- and what is accepted then is accepted from before
 pub accepts_begun : {s new : State} {asked : Request} → Accepts (record s { closed = [] }) asked new → Accepts s asked new
-accepts_begun a = record {
-  no_cause = a.no_cause;
-  base = a.base;
-  step = a.step;
-  limit = a.limit;
-  given = a.given;
-  keys = a.keys;
-  res_keys = a.res_keys;
-  lease_keys = a.lease_keys;
-  closed = a.closed;
-}
+accepts_begun a = search rules
 
 pub answers_begun : {A E : Type 0} {gives tells : A → Type 0} {refuses denies : E → Type 0} {s new : State} {asked : Request} {x : A} →
     (gives x → tells x) → Answers gives refuses (record s { closed = [] }) asked new (Ok x) → Answers tells denies s asked new (Ok x)
@@ -49,22 +31,7 @@ opened_using_begun o = record { key = o.key; res = o.res }
 
 pub holding_begun : {T : Type 0} {g : Ghosts T} {s new : State} {at : At} {kind : Kind} {x : T} {o : OpenedHolding} →
     AnswersOpenedHolding g (record s { closed = [] }) at kind x new (Ok o) → AnswersOpenedHolding g s at kind x new (Ok o)
-holding_begun a = record {
-  ok = record {
-    middle = a.ok.middle;
-    opens = accepts_begun a.ok.opens;
-    holds = a.ok.holds;
-    last = a.ok.last;
-    keys = a.ok.keys;
-    closed = a.ok.closed;
-    opened = opened_begun a.ok.opened;
-    res = a.ok.res;
-  };
-  no_cause = a.no_cause;
-  refused = tt;
-  back = tt;
-  kept = tt;
-}
+holding_begun a = search (rules, accepts_begun, opened_begun)
 
 -- the state that a caller sees has the list begun
 pub begun_at : {s t u : State} → t ≡ record s { closed = [] } → s ≡ u → t ≡ record u { closed = [] }
@@ -84,13 +51,9 @@ shown_numbers (x ∷ xs) = ap (λ (ns : List ℕ). x.number ∷ ns) (shown_numbe
 pub just_gone : {h k : List Event} {list longer : List TreeKey} → list ≡ [] → Gathers h list k longer →
     AreJust (goes h k) (map (λ (j : Key). j.number) (map key_shown longer))
 just_gone {h} {k} {list} {longer} begun gathers =
-    subst (AreJust (goes h k)) (sym same) (record { each = gathers.each; every = gathers.every; once = gathers.once })
-  where
-    same : map (λ (j : Key). j.number) (map key_shown longer) ≡ numbers_of gathers.gone
-    same = shown_numbers longer ∙ ap numbers_of (gathers.listed ∙ ap (λ (xs : List TreeKey). xs ++ gathers.gone) begun)
+    search (rules, map, shown_numbers)
 
 pub gathers_just : {h k : List Event} {longer : List TreeKey} → AreJust (goes h k) (map (λ (j : Key). j.number) (map key_shown longer)) →
     Gathers h [] k longer
 gathers_just {h} {k} {longer} just =
-    let told = subst (AreJust (goes h k)) (shown_numbers longer) just in
-    record { gone = longer; listed = refl; each = told.each; every = told.every; once = told.once }
+    search (rules, shown_numbers)

@@ -1,19 +1,17 @@
 -- What a call made is listed after what it forced.
-use Rattle.rx_book.proofs.Common.{◌≡◌, ℕ, true, length, Some, IsSome, ap, ◌∙◌, Ghosts, Accept, is_open, accepted_by, find, is_held_at, Ground, IsTied, Key}
+use Rattle.rx_book.proofs.Common.{◌≡◌, ℕ, true, length, Some, IsSome, Ghosts, Accept, is_open, accepted_by, find, is_held_at, Ground, IsTied, Key}
 use Rattle.rx_book.proofs.Common.{KeepsOlder, resource_stays, ResKey, key_shown, res_key_shown, state_of, IsNewKey, IsNewResKey}
 use Rattle.rx_slots.specs.declared.Key.{Key as TreeKey}
 use Rattle.rx_tree.specs.declared.node.ResKey.{ResKey as TreeResKey}
 use Rattle.rx_book.proofs.ShownKeys.{has_key_is, has_res_key_is}
+use Rattle.std.proofs.Common.{rules}
 
 module _ {T : Type 0} (g : Ghosts T) (mid new : Ground T)
     (nodes : KeepsOlder new.register.history (length mid.register.history) mid.tree.nodes new.tree.nodes) (place : ℕ) where
   -- a node that is open then
   pub key_listed : (key : TreeKey) (k : Key) → k ≡ key_shown key → key.number ≡ place → IsSome (find mid.tree.nodes key) →
       is_open new.register.history place ≡ true → IsNewKey (state_of g new) place k
-  key_listed key k shown number there alive = rw shown (record {
-    number = number;
-    listed = has_key_is new.tree (key_shown key) ∙ nodes.still key there (ap (is_open new.register.history) number ∙ alive);
-  })
+  key_listed key k shown number there alive = search (rules, has_key_is)
 
   -- a resource of such a node
   pub res_key_listed : IsTied mid.register.base g mid.register.history mid.tree → (res : TreeResKey) {k : ResKey} → k ≡ res_key_shown res →
@@ -21,7 +19,4 @@ module _ {T : Type 0} (g : Ghosts T) (mid new : Ground T)
       accepted_by mid.register.base mid.register.history place ≡ Some (Accept n tag) → is_open new.register.history n ≡ true →
       IsNewResKey (state_of g new) place k
   res_key_listed tied res shown same number held {n} {tag} accepted alive =
-      let at_res : accepted_by mid.register.base mid.register.history res.number ≡ Some (Accept n tag) =
-      ap (accepted_by mid.register.base mid.register.history) number ∙ accepted in
-      let listed = has_res_key_is new.tree (res_key_shown res) ∙ resource_stays g mid new tied _ nodes same res n tag at_res alive held in
-      rw shown (record { number = number; listed = listed })
+      search (rules, Accept, has_res_key_is, resource_stays)

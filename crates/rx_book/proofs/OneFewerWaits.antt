@@ -1,9 +1,10 @@
 -- A resource that is taken waited, and then one fewer waits.
-use Rattle.rx_book.proofs.Common.{◌≡◌, ℕ, ◌<◌, true, List, [], ◌∷◌, ◌++◌, length, map, sym, ap, ◌∙◌, arith, length-map, All-contains, Ghosts, Event, Take}
-use Rattle.rx_book.proofs.Common.{is_waiting, waiting_count, MayFollow, IsLawful, waiting_count-take, Stowed, Tree, AreApart, waiting_in, label_in, IsTied}
+use Rattle.rx_book.proofs.Common.{◌≡◌, ℕ, ◌<◌, true, List, [], ◌∷◌, ◌++◌, length, map, sym, ap, ◌∙◌, length-map, All-contains, Ghosts, Event, Take}
+use Rattle.rx_book.proofs.Common.{is_waiting, MayFollow, IsLawful, waiting_count-take, Stowed, Tree, AreApart, waiting_in, label_in, IsTied}
 use Rattle.rx_book.proofs.Common.{IsListed, just_waiting, length-waiting, Contains-map, Contains-from_map}
 use Rattle.rx_event.specs.Kept.{Kept as Base}
 use Rattle.rx_ground.specs.Shown.{Label, Kept, label_of}
+use Rattle.std.proofs.Common.{rules}
 
 module _ {T : Type 0} (g : Ghosts T) where
   -- a resource that is shown among those that wait does
@@ -21,10 +22,4 @@ module _ {T : Type 0} (g : Ghosts T) where
       AreApart old.resources → AreApart new.resources → IsLawful base h → MayFollow base h (Take r) → k ≡ h ++ Take r ∷ [] →
       length (map (label_in g) (waiting_in new)) < length (map (label_in g) (waiting_in old))
   fewer_wait {base} {after} {h} {k} {old} {new} {r} tied tied_after apart apart_after law next grown =
-      let shown = length-map (waiting_in old) (label_in g) in
-      let shown_after = length-map (waiting_in new) (label_in g) in
-      let waits = length-waiting base g h old tied apart in
-      let waits_after = length-waiting after g k new tied_after apart_after in
-      let falls = waiting_count-take base h r law next in
-      let same = ap waiting_count grown in
-      omega arith
+      search (rules, length-map, waiting_in, label_in, length-waiting, waiting_count-take)

@@ -1,14 +1,12 @@
 -- What an opening answers holds after one more event too, which makes no connection and closes no node.
-use Rattle.rx_book.proofs.Common.{◌≡◌, ℕ, ◌+◌, ◌<◌, Bool, true, false, List, [], ◌∷◌, ◌++◌, length, Option, Some, None, cond, IsTrue, IfSome, refl, sym, ap}
-use Rattle.rx_book.proofs.Common.{subst, ◌∙◌, inl, inr, ◌⊎◌, arith, length-append, option_map_or, cases_order, Event, at, at-append, at_within, Opened, Key}
-use Rattle.rx_book.proofs.Common.{slice_get_last, State, has_key, IsOpened, connection_made, makes_connection}
+use Rattle.rx_book.proofs.Common.{◌≡◌, ℕ, ◌+◌, ◌<◌, Bool, false, List, [], ◌∷◌, ◌++◌, length, Option, Some, None, cond, sym, ap}
+use Rattle.rx_book.proofs.Common.{◌∙◌, inl, inr, ◌⊎◌, arith, length-append, option_map_or, cases_order, Event, at, at-append, at_within, Opened}
+use Rattle.rx_book.proofs.Common.{slice_get_last, State, IsOpened, connection_made, makes_connection}
+use Rattle.std.proofs.Common.{rules}
 
 -- past the end of a history there is no event
 none_past : (p : Event → Bool) (h : List Event) (n : ℕ) → (n < length h → ⊥) → at p h n ≡ false
-none_past p h n past = by_test (at p h n) refl where
-  by_test : (b : Bool) → at p h n ≡ b → b ≡ false
-  by_test true found = absurd (past (at_within p h n found))
-  by_test false found = refl
+none_past p h n past = search (rules, at_within)
 
 made_on : (h m : List Event) (e : Event) → makes_connection e ≡ false → connection_made h m ≡ connection_made h (m ++ e ∷ [])
 made_on h m e none = ap (λ (b : Bool). cond b (Some (length h + 1)) None) (by_place (cases_order (length h + 1) (length m))) where
@@ -29,8 +27,4 @@ made_on h m e none = ap (λ (b : Bool). cond b (Some (length h + 1)) None) (by_p
 
 pub opened_after : (old mid new : State) (e : Event) {o : Opened} → makes_connection e ≡ false → new.history ≡ mid.history ++ e ∷ [] →
     new.keys ≡ mid.keys → IsOpened old mid o → IsOpened old new o
-opened_after old mid new e {o} none grown same opened = record {
-  key = record { number = opened.key.number; listed = ap (λ (keys : List Key). has_key keys o.key) same ∙ opened.key.listed };
-  connection = opened.connection ∙ made_on old.history mid.history e none ∙ ap (connection_made old.history) (sym grown);
-  connected = subst (λ (keys : List Key). IfSome o.connected (λ k. IsTrue (has_key keys k))) (sym same) opened.connected;
-}
+opened_after old mid new e {o} none grown same opened = search (rules, made_on)

@@ -6,6 +6,7 @@ use Rattle.rx_book.proofs.Common.{key_above, tree_key_of}
 use Rattle.rx_slots.specs.declared.Key.{Key}
 use Rattle.rx_ground.specs.Memory.{TakesOneNode}
 use Rattle.rx_book.specs.declared.answer.At.TheVariants.{Root as AtRoot, Source as AtSource, Inner as AtInner, Notifier as AtNotifier}
+use Rattle.std.proofs.Common.{rules}
 
 -- where a hub waits after the opening there is room for its connection
 pub opening_room : {T : Type 0} {old new : Ground T} {place : Place} {kind : Kind} → IsLawful old.register.base old.register.history →
@@ -36,7 +37,7 @@ node_space b space begun = let none = ap (λ (keys : List Key). length keys) beg
 -- the node above
 module _ (base : Kept) {T : Type 0} (g : Ghosts T) (h : List Event) (tree : Tree T) (tied : IsTied base g h tree) (kind : Kind) where
   is_lower : (key : Key) → IsSome (find tree.nodes key) → key.number < length h
-  is_lower key there = let x = some_of (find tree.nodes key) there in is_open_within h key.number (tied.records.each key x.0 x.1).alive
+  is_lower key there = search (rules, some_of, find, is_open_within)
 
   pub placed_at : (at : At) → is_there tree.nodes (key_above at) ≡ true → IsPlaced tree.nodes (length h) (Open (place_of at) kind) (key_above at)
   placed_at AtRoot there = record { makes = refl; named = refl; lower = tt; there = tt }

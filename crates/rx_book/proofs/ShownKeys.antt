@@ -1,5 +1,5 @@
 -- The keys that are listed are those that find something.
-use Rattle.rx_book.proofs.Common.{◌≡◌, true, false, List, Option, Some, None, is_some, IsSome, refl, sym, ap, subst, ◌∙◌, eq-eqb, nat_eq, ◌&&◌, Contains, Key}
+use Rattle.rx_book.proofs.Common.{◌≡◌, true, false, List, Option, Some, None, is_some, IsSome, refl, sym, ap, ◌∙◌, eq-eqb, nat_eq, Contains, Key}
 use Rattle.rx_book.proofs.Common.{option_map_or, and_parts, and_from, eqb-true, false≢true, Slots, find, lease_key, is_out_at, Node, Stowed, Tree, is_held_at}
 use Rattle.rx_book.proofs.Common.{some_of, held_in, is_there, ResKey, LeaseKey, At, has_key, has_res_key, has_lease_key, is_known_place, key_above, key_shown}
 use Rattle.rx_book.proofs.Common.{tree_key_of, tree_res_key_of, ground_lease_key_of, keys_of, res_keys_of, lease_keys_of, Contains-map, Contains-from_map}
@@ -9,8 +9,8 @@ use Rattle.rx_tree.specs.declared.node.ResKey.{ResKey as TreeResKey}
 use Rattle.rx_tree.specs.Resources.{is_held, store_key}
 use Rattle.rx_ground.specs.Shown.{Kept, kept_in}
 use Rattle.rx_ground.proofs.Laws.Keys.{kept_finds, finds_kept, held_finds, finds_held}
-use Rattle.rx_book.specs.declared.answer.At.TheVariants.{Root, Source, Inner, Notifier}
 use Rattle.rx_book.proofs.Laws.Keys.{Contains-has_key}
+use Rattle.std.proofs.Common.{rules}
 
 -- keys here and there -----------------------------------------------------------------------------
 
@@ -20,20 +20,15 @@ same_res_key j k slot number = λ i. record { slot = slot i; number = number i }
 -- to know a key is to contain it
 pub has_key-Contains : (keys : List Key) (k : Key) → Contains keys k → has_key keys k ≡ true
 has_key-Contains keys k c =
-    let itself = and_from _ _ (eq-eqb k.slot k.slot refl) (eq-eqb k.number k.number refl) in
-    list_any_at (λ (j : Key). nat_eq j.slot k.slot && nat_eq j.number k.number) keys c.0 k c.1 (rw c.2 itself)
+    search (rules, and_from, eq-eqb, list_any_at, nat_eq)
 
 pub has_res_key-Contains : (keys : List ResKey) (k : ResKey) → Contains keys k → has_res_key keys k ≡ true
 has_res_key-Contains keys k c =
-    let itself = and_from _ _ (eq-eqb k.slot k.slot refl) (eq-eqb k.number k.number refl) in
-    list_any_at (λ (j : ResKey). nat_eq j.slot k.slot && nat_eq j.number k.number) keys c.0 k c.1 (rw c.2 itself)
+    search (rules, and_from, eq-eqb, list_any_at, nat_eq)
 
 pub Contains-has_res_key : (keys : List ResKey) (k : ResKey) → has_res_key keys k ≡ true → Contains keys k
 Contains-has_res_key keys k found =
-    let a = Any-from_list_any (λ (j : ResKey). nat_eq j.slot k.slot && nat_eq j.number k.number) keys found in
-    let parts = and_parts _ _ a.4 in
-    let same = same_res_key a.1 k (eqb-true a.1.slot k.slot parts.0) (eqb-true a.1.number k.number parts.1) in
-    subst (λ (j : ResKey). Contains keys j) same (a.0, a.2, a.3)
+    search (rules, Any-from_list_any, nat_eq, and_parts, same_res_key, eqb-true)
 
 -- where a node is to be opened --------------------------------------------------------------------
 
@@ -64,10 +59,7 @@ module _ {T : Type 0} (tree : Tree T) where
 
   -- a place is known where the key that it names finds a record
   pub is_known_place_is : (at : At) → is_known_place (keys_of tree) at ≡ is_there tree.nodes (key_above at)
-  is_known_place_is Root = refl
-  is_known_place_is (Source k) = has_key_is k
-  is_known_place_is (Inner k) = has_key_is k
-  is_known_place_is (Notifier k) = has_key_is k
+  is_known_place_is x0 = search (rules, has_key_is)
 
   -- resources -------------------------------------------------------------------------------------
 
@@ -101,15 +93,11 @@ same_lease_key j k slot number = λ i. record { slot = slot i; number = number i
 
 has_lease_key-Contains : (keys : List LeaseKey) (k : LeaseKey) → Contains keys k → has_lease_key keys k ≡ true
 has_lease_key-Contains keys k c =
-    let itself = and_from _ _ (eq-eqb k.slot k.slot refl) (eq-eqb k.number k.number refl) in
-    list_any_at (λ (j : LeaseKey). nat_eq j.slot k.slot && nat_eq j.number k.number) keys c.0 k c.1 (rw c.2 itself)
+    search (rules, and_from, eq-eqb, list_any_at, nat_eq)
 
 Contains-has_lease_key : (keys : List LeaseKey) (k : LeaseKey) → has_lease_key keys k ≡ true → Contains keys k
 Contains-has_lease_key keys k found =
-    let a = Any-from_list_any (λ (j : LeaseKey). nat_eq j.slot k.slot && nat_eq j.number k.number) keys found in
-    let parts = and_parts _ _ a.4 in
-    let same = same_lease_key a.1 k (eqb-true a.1.slot k.slot parts.0) (eqb-true a.1.number k.number parts.1) in
-    subst (λ (j : LeaseKey). Contains keys j) same (a.0, a.2, a.3)
+    search (rules, Any-from_list_any, nat_eq, and_parts, same_lease_key, eqb-true)
 
 module _ (leases : Slots TreeResKey) where
   abbrev shown_lease : Kept TreeResKey → LeaseKey
@@ -128,6 +116,4 @@ module _ (leases : Slots TreeResKey) where
 
   pub has_lease_key_is : (k : LeaseKey) → has_lease_key (lease_keys_of leases) k ≡ is_out_at leases (ground_lease_key_of k)
   has_lease_key_is k =
-      same_test _ _
-      (λ has. lease_key_finds k (Contains-has_lease_key (lease_keys_of leases) k has))
-      (λ out. has_lease_key-Contains (lease_keys_of leases) k (finding_lease_key k out))
+      search (rules, lease_key_finds, Contains-has_lease_key, has_lease_key-Contains, finding_lease_key)

@@ -8,6 +8,7 @@ use Rattle.rx_tree.specs.declared.node.ResKey.{ResKey as TreeResKey}
 use Rattle.rx_ground.specs.declared.leases.LeaseKey.{LeaseKey as GroundLeaseKey}
 use Rattle.rx_ground.specs.Leases.{IsOut}
 use Rattle.rx_book.proofs.ShownKeys.{has_lease_key_is}
+use Rattle.std.proofs.Common.{rules}
 
 module _ {T : Type 0} (h : List Event) (resources : Slots (Stowed T)) (leases : Slots TreeResKey) (leased : AreLeased h resources leases) where
   -- a lease that is out has a key
@@ -16,9 +17,7 @@ module _ {T : Type 0} (h : List Event) (resources : Slots (Stowed T)) (leases : 
 
   -- where there is no key, none is out
   pub open_lease_none : HasNone (IsOut leases) 0 → find (is_out h) (places h) ≡ None
-  open_lease_none none = find_nothing (is_out h) (λ l. false_from_ne_true (is_out h l) (no_lease l)) (places h) where
-    no_lease : (l : ℕ) → is_out h l ≡ true → ⊥
-    no_lease l out = let k = out_key l out in let less = none k.0 k.2 in absurd (omega arith)
+  open_lease_none none = search (rules, find_nothing, false_from_ne_true, out_key)
 
   -- and the first key is that of the first lease that is out
   pub open_lease_some : (key : SlotKey) → IsFirst (IsOut leases) 0 key → find (is_out h) (places h) ≡ Some key.number

@@ -1,5 +1,5 @@
 -- What callers see of a ground that stands keeps what a book promises.
-use Rattle.rx_book.proofs.Common.{◌≡◌, ℕ, ◌+◌, Bool, true, List, [], ◌∷◌, length, map, nat_lt, refl, sym, ap, subst, ◌∙◌, arith, All, Contains, lt-ltb, Event}
+use Rattle.rx_book.proofs.Common.{◌≡◌, ℕ, ◌+◌, Bool, true, List, [], ◌∷◌, length, map, nat_lt, refl, sym, ap, ◌∙◌, arith, All, Contains, lt-ltb, Event}
 use Rattle.rx_book.proofs.Common.{option_and_then, length-map, All-map, Ghosts, is_auto_hub, at, is_open, open_subscribers, IsSettled, IsLawful, is_out, Node}
 use Rattle.rx_book.proofs.Common.{is_held, is_waiting, accepted_count, taken_count, accepted_count-parts, notes_grammatical, one_where_subscribed, Slots, Key}
 use Rattle.rx_book.proofs.Common.{Stowed, AreApart, has_connection, Ground, held_in, waiting_in, label_in, IsStored, IsStanding, just_waiting, length-waiting}
@@ -12,6 +12,7 @@ use Rattle.rx_register.specs.State.{IsPromised as IsRegisterPromised}
 use Rattle.rx_ground.specs.Shown.{Label, Kept, kept_in}
 use Rattle.rx_ground.proofs.Laws.Numbers.{ListsJust}
 use Rattle.rx_ground.proofs.Laws.JustOpenHeldWaiting.{numbers, stored_held, stored_waiting, just_nodes, just_held, just_out, length-held}
+use Rattle.std.proofs.Common.{rules}
 
 -- numbers -----------------------------------------------------------------------------------------
 
@@ -25,8 +26,7 @@ module _ {X : Type 0} where
   shown_just : {Y : Type 0} (test : ℕ → Bool) (f : Kept X → Y) (of : Y → ℕ) → ((k : Kept X) → of (f k) ≡ k.key.number) →
       (ks : List (Kept X)) → ListsJust test (numbers ks) → AreJust test (map of (map f ks))
   shown_just test f of same ks just =
-      subst (λ (ns : List ℕ). AreJust test ns) (sym (map-map f of (λ (k : Kept X). k.key.number) same ks))
-      (record { each = just.each; every = just.every; once = just.once })
+      search (rules, map-map)
 
 -- hubs --------------------------------------------------------------------------------------------
 

@@ -1,11 +1,11 @@
 -- The open root of least number.
-use Rattle.rx_book.proofs.Common.{◌≡◌, ℕ, ◌<◌, true, false, List, length, Option, Some, None, IsSome, option_map, refl, sym, ap, ◌∙◌, arith, IsTrue, IfSome}
+use Rattle.rx_book.proofs.Common.{◌≡◌, ℕ, ◌<◌, true, List, length, Option, Some, None, IsSome, option_map, ◌∙◌, arith, IsTrue, IfSome}
 use Rattle.rx_book.proofs.Common.{option_map_or, and_parts, and_from, false_from_ne_true, false≢true, Kept, Ghosts, Event, is_root, at, is_open, places, Node}
 use Rattle.rx_book.proofs.Common.{is_open_within, Tree, IsRoot, IsFirst, HasNone, IsTied, find_nothing, find_first, has_key, is_open_root, key_shown, keys_of}
 use Rattle.std.specs.List.{find}
 use Rattle.rx_slots.specs.declared.Key.{Key as TreeKey}
-use Rattle.rx_slots.specs.Slots.{find as find_in}
 use Rattle.rx_book.proofs.ShownKeys.{has_key_is}
+use Rattle.std.proofs.Common.{rules}
 
 -- roots -------------------------------------------------------------------------------------------
 
@@ -16,27 +16,16 @@ IsRootRecord o = IfSome (option_map (λ node. is_root node.made) o) IsTrue × Is
 module _ (base : Kept) {T : Type 0} (g : Ghosts T) (h : List Event) (tree : Tree T) (tied : IsTied base g h tree) where
   -- a root's record is that of an open root
   key_root : (key : TreeKey) → IsRoot tree.nodes key → is_open_root h key.number ≡ true
-  key_root key root = by_record (find_in tree.nodes key) refl root where
-    by_record : (o : Option Node) → find_in tree.nodes key ≡ o → IsRootRecord o → is_open_root h key.number ≡ true
-    by_record None found r = absurd (false≢true r.1)
-    by_record (Some node) found r =
-        let is = tied.records.each key node found in
-        and_from (is_open h key.number) (at is_root h key.number) is.alive (ap (λ o. option_map_or is_root o false) is.made ∙ r.0)
+  key_root key root = search (rules, false≢true, and_from, option_map_or)
 
   -- and an open root has a record
   root_key : (n : ℕ) → is_open_root h n ≡ true → (key : TreeKey) × (key.number ≡ n) × IsRoot tree.nodes key
   root_key n root =
-      let parts = and_parts (is_open h n) (at is_root h n) root in
-      let has = tied.records.every n parts.0 in
-      let made = (tied.records.each has.key has.value has.found).made in
-      let is_so : is_root has.value.made ≡ true = sym (ap (λ o. option_map_or is_root o false) made) ∙ ap (at is_root h) has.numbered ∙ parts.1 in
-      (has.key, has.numbered, rw has.found (is_so, refl))
+      search (rules, and_parts, option_map_or)
 
   -- where the tree has none, none is open
   pub open_root_none : HasNone (IsRoot tree.nodes) 0 → find (is_open_root h) (places h) ≡ None
-  open_root_none none = find_nothing (is_open_root h) (λ n. false_from_ne_true (is_open_root h n) (no_root n)) (places h) where
-    no_root : (n : ℕ) → is_open_root h n ≡ true → ⊥
-    no_root n root = let k = root_key n root in let l = none k.0 k.2 in absurd (omega arith)
+  open_root_none none = search (rules, find_nothing, false_from_ne_true, root_key)
 
   -- and the first that it has is the first open one
   pub open_root_some : (key : TreeKey) → IsFirst (IsRoot tree.nodes) 0 key → find (is_open_root h) (places h) ≡ Some key.number

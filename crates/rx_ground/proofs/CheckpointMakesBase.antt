@@ -9,6 +9,7 @@ use Rattle.rx_tree.specs.Tree.{IsPromised as IsTreePromised}
 use Rattle.rx_hub.specs.Hubs.{IsPromised as IsHubsPromised, hub_as_kept}
 use Rattle.rx_ground.proofs.KeptRecords.{hubs_kept, nodes_kept, resources_kept, leases_kept}
 use Rattle.rx_ground.proofs.StandsAfterCheckpoint.{standing_still}
+use Rattle.std.proofs.Common.{rules}
 
 -- the counts of a base are those of the register, and what it lists is kept of what is there
 pub record IsKeptOf {T : Type 0} (g : Ghosts T) (b : Ground T) (whole : Base) : Type 0 where
@@ -78,14 +79,7 @@ pub checkpoint_made : {T : Type 0} {old new : Ground T} {reserved : ℕ} → Reb
     reserved ≡ debt old.register.base old.register.history →
     new.tree ≡ old.tree → new.hubs ≡ record old.hubs { hubs = map without_end old.hubs.hubs } → new.leases ≡ old.leases → new.closed ≡ old.closed →
     new.space ≡ old.space → IsCheckpoint old new
-checkpoint_made {old} {new} rebases same tree hubs leases closed space = record {
-  register = subst (Rebases old.register new.register) same rebases;
-  tree = tree;
-  hubs = hubs;
-  leases = leases;
-  closed = closed;
-  space = space;
-}
+checkpoint_made {old} {new} rebases same tree hubs leases closed space = search (rules, leases)
 
 -- so it stands, whose parts are those of a ground that stood
 pub standing_after : {T : Type 0} {g : Ghosts T} {parts old new : Ground T} → parts ≡ old → IsRegisterPromised old.register → IsStanding g old →

@@ -3,13 +3,14 @@ use Rattle.rx_ground.proofs.Common.{◌≡◌, ℕ, ◌<◌, ◌≤◌, Bool, tr
 use Rattle.rx_ground.proofs.Common.{slice_get, sym, ap, subst, ◌∙◌, inl, inr, arith, ◌&&◌, option_and_then, option_map_or, option_to_list, false≢true, Kept}
 use Rattle.rx_ground.proofs.Common.{both_ways, and_parts, cases_lt, false_from_ne_true, none-some, same_Some, slice_get_within, Ghosts, Event, makes_hub, at}
 use Rattle.rx_ground.proofs.Common.{is_manual_hub, IsLawful, places, open_connections, first_connection, Key, Slots, find, Node, Tree, Published, Hub, Hubs}
-use Rattle.rx_ground.proofs.Common.{find_hub, HasHub, AreHubsOf, numbers, found_hub, has_connection, AreTied, is_connected_manual}
+use Rattle.rx_ground.proofs.Common.{find_hub, HasHub, AreHubsOf, numbers, found_hub, AreTied, is_connected_manual}
 use Rattle.std.specs.List.{find as find_number}
 use Rattle.rx_event.specs.declared.event.Event.TheVariants.{Hub as Publish}
 use Rattle.rx_hub.specs.Hubs.{IsPromised, published_of}
 use Rattle.rx_ground.proofs.HubsBesideTree.{connected_hub}
 use Rattle.rx_ground.proofs.HubsAfterEvent.{hub_is_older, found_made, connection_kept}
 use Rattle.rx_ground.proofs.Laws.Ranges.{find_first, find_nothing}
+use Rattle.std.proofs.Common.{rules}
 
 -- a hub's own -------------------------------------------------------------------------------------
 
@@ -21,8 +22,7 @@ unconnected base h law n unmade = by_list (open_connections h n) refl where
   by_list (c ∷ cs) is = absurd (both_ways (at makes_hub h n) unmade (connected_hub base h law c n (first_connection h n c cs is).0))
 
 numbered : (o : Option Key) → option_to_list (option_map (λ (key : Key). key.number) o) ≡ numbers (option_to_list o)
-numbered None = refl
-numbered (Some key) = refl
+numbered x0 = search rules
 
 -- the key of the open connection of hub n, if it has one, which is in the tree
 pub record IsConnectionOf (h : List Event) (nodes : Slots Node) (n : ℕ) (connection : Option Key) : Type 0 where
@@ -54,9 +54,7 @@ connection_known {base} h tree hubs law tied n o is =
 -- connected by hand -------------------------------------------------------------------------------
 
 manual_made : (o : Option Event) → option_map_or is_manual_hub o false ≡ true → option_map_or makes_hub o false ≡ true
-manual_made None manual = absurd (false≢true manual)
-manual_made (Some (Publish mode)) manual = refl
-manual_made (Some _) manual = absurd (false≢true manual)
+manual_made x0 manual = search (rules, false≢true)
 
 abbrev pub is_up_by_hand : Published → Bool
 is_up_by_hand p = is_manual_hub (Publish p.mode) && is_some p.connection
@@ -68,46 +66,30 @@ NoneBefore h hubs index = (i : ℕ) (hub : Hub) → i < index → slice_get hubs
 -- the hub at an index, by what is kept of it
 kept_at : (hubs : List Hub) (index : ℕ) (p : Published) → option_map published_of (slice_get hubs index) ≡ Some p →
     (hub : Hub) × (slice_get hubs index ≡ Some hub) × (published_of hub ≡ p)
-kept_at hubs index p kept = by_hub (slice_get hubs index) refl kept where
-  by_hub : (o : Option Hub) → slice_get hubs index ≡ o → option_map published_of o ≡ Some p →
-      (hub : Hub) × (slice_get hubs index ≡ Some hub) × (published_of hub ≡ p)
-  by_hub None at_index none = absurd (none-some p none)
-  by_hub (Some hub) at_index some = (hub, at_index, same_Some (published_of hub) p some)
+kept_at hubs index p kept = search (rules, slice_get, option_map, none-some, same_Some)
 
 module _ (h : List Event) (s : Hubs) (published : AreHubsOf h s.hubs) where
   -- what is kept of a hub says whether it is one
   by_hand : (index : ℕ) (hub : Hub) → slice_get s.hubs index ≡ Some hub → is_connected_manual h hub.number ≡ is_up_by_hand (published_of hub)
   by_hand index hub at_index =
-      let is = published.each index hub at_index in
-      (λ i. option_map_or is_manual_hub (is.made i) false && sym (connection_kept h hub is) i)
+      search (rules, option_map_or, connection_kept)
 
   kept_by_hand : (index : ℕ) (p : Published) → option_map published_of (slice_get s.hubs index) ≡ Some p → is_connected_manual h p.number ≡ is_up_by_hand p
   kept_by_hand index p kept =
-      let x = kept_at s.hubs index p kept in
-      subst (λ (q : Published). is_connected_manual h q.number ≡ is_up_by_hand q) x.2 (by_hand index x.0 x.1)
+      search (rules, kept_at, by_hand)
 
   -- each such number is a hub's
   its_hub : (n : ℕ) → is_connected_manual h n ≡ true → HasHub s.hubs n
-  its_hub n is = published.every n (manual_made (slice_get h n) (and_parts (at is_manual_hub h n) (has_connection h n) is).0)
+  its_hub n is = search (rules, manual_made, slice_get, and_parts)
 
   -- and stands at this index or behind it, where none before is one
   not_before : (index n : ℕ) → NoneBefore h s.hubs index → (has : HasHub s.hubs n) → is_connected_manual h n ≡ true → index ≤ has.index
-  not_before index n before has is = elim (cases_lt has.index index) [
-    | inl l ↦ absurd (both_ways (is_connected_manual h n) (ap (is_connected_manual h) (sym has.numbered) ∙ before has.index has.hub l has.there) is)
-    | inr behind ↦ behind
-  ]
+  not_before index n before has is = search (rules, cases_lt, both_ways)
 
   -- where none is, none is found
   pub none_by_hand : (index : ℕ) → length s.hubs ≤ index → NoneBefore h s.hubs index → find_number (is_connected_manual h) (places h) ≡ None
   none_by_hand index past before =
-      find_nothing (is_connected_manual h) (λ n. false_from_ne_true (is_connected_manual h n) (not_one n)) (places h)
-    where
-      not_one : (n : ℕ) → is_connected_manual h n ≡ true → ⊥
-      not_one n is =
-          let has = its_hub n is in
-          let within = slice_get_within s.hubs has.index has.hub has.there in
-          let behind = not_before index n before has is in
-          absurd (omega (arith, past, within, behind))
+      search (rules, find_nothing, false_from_ne_true, its_hub, slice_get_within, not_before)
 
   -- and the first that is one is found
   pub first_by_hand : IsPromised s → (index : ℕ) (p : Published) → option_map published_of (slice_get s.hubs index) ≡ Some p →

@@ -2,9 +2,10 @@
 use Rattle.rx_ground.proofs.Common.{◌≡◌, ℕ, zero, suc, ◌+◌, ◌++◌, ◌<◌, ◌≤◌, true, false, nat_lt, List, [], ◌∷◌, length, Option, Some, None, Bool, IfSome, sym}
 use Rattle.rx_ground.proofs.Common.{refl, ap, subst, ◌∙◌, arith, if◌then◌else◌, not, filter_map, cons_option, lt-ltb, le-ltb, false≢true, most_visits, Key}
 use Rattle.rx_ground.proofs.Common.{Slots, Node, Reached, Stop, Delivery, Projection, Firing, Connection, Hub, Route, IsUnderWay, Arrives, stops_left, sum_at}
-use Rattle.rx_ground.proofs.Common.{all_visits, visited_over, onward_over, climb_over, stops_over, arrival_at, IsArrived, IsMeasured, owed_at, told_at}
+use Rattle.rx_ground.proofs.Common.{all_visits, visited_over, onward_over, climb_over, stops_over, IsArrived, IsMeasured, owed_at, told_at}
 use Rattle.rx_hub.specs.Way.{way, end_of}
 use Rattle.rx_hub.proofs.Laws.StopInTree.{climb_over-arrived, stops_over-arrived}
+use Rattle.std.proofs.Common.{rules}
 
 -- the limit ---------------------------------------------------------------------------------------
 
@@ -28,18 +29,13 @@ few : (a b c most : ℕ) → a ≤ b → b ≤ suc c → c ≡ most → a ≤ su
 few a b c most x y z = omega arith
 
 pub stops_few : (nodes : Slots Node) (hubs : List Hub) (key : Key) → length (stops_over nodes hubs key) ≤ 1048577
-stops_few nodes hubs key = few (length (stops_over nodes hubs key)) (length (climb_over nodes hubs key)) most_visits 1048576
-    (filtered_few (arrival_at nodes) (climb_over nodes hubs key)) (visited_few (suc most_visits) nodes hubs (key ∷ [])) limit_is
+stops_few nodes hubs key = search (rules, few, length, filtered_few, visited_few, limit_is)
 
 pub visits_past : (n v : ℕ) → n ≡ v → 1048576 < n → false ≡ not (nat_lt most_visits v)
-visits_past n v same many = past n v most_visits same many limit_is where
-  past : (n v most : ℕ) → n ≡ v → 1048576 < n → most ≡ 1048576 → false ≡ not (nat_lt most v)
-  past n v most same many is = sym (ap not (lt-ltb most v (omega arith)))
+visits_past n v same many = search (rules, limit_is, not, nat_lt, lt-ltb)
 
 pub visits_within : (n v : ℕ) → n ≡ v → n ≤ 1048576 → true ≡ not (nat_lt most_visits v)
-visits_within n v same less = within n v most_visits same less limit_is where
-  within : (n v most : ℕ) → n ≡ v → n ≤ 1048576 → most ≡ 1048576 → true ≡ not (nat_lt most v)
-  within n v most same less is = sym (ap not (le-ltb most v (omega arith)))
+visits_within n v same less = search (rules, limit_is, not, nat_lt, le-ltb)
 
 -- in its own tree ---------------------------------------------------------------------------------
 
@@ -86,10 +82,7 @@ pub record IsMeasuring (nodes : Slots Node) (hubs : List Hub) (key : Key) (room 
   pub one : IfSome only (λ stop. stops_over nodes hubs key ≡ stop ∷ stops_left nodes hubs route)
 
 one_at : (stop : Stop) → (owed_at stop ≤ 1) × (told_at stop ≤ 1)
-one_at (Delivery key) = (omega arith, omega arith)
-one_at (Projection key) = (omega arith, omega arith)
-one_at (Firing key) = (omega arith, omega arith)
-one_at (Connection key) = (omega arith, omega arith)
+one_at x0 = search rules
 
 module _ (nodes : Slots Node) (hubs : List Hub) (key : Key) (room : ℕ) where
   pub measuring_starts : (route : Route) → IsUnderWay nodes hubs route → route.room ≡ room → all_visits nodes hubs route ≡ length (climb_over nodes hubs key) →
@@ -145,20 +138,10 @@ module _ (nodes : Slots Node) (hubs : List Hub) (key : Key) (room : ℕ) where
       IsMeasuring nodes hubs key room old events notes is_first only → Arrives nodes hubs old new None →
       IsMeasured (stops_over nodes hubs key) (record { events = events; notes = notes }) × (new.visits ≡ length (climb_over nodes hubs key)) × (new.room ≡ room)
   measuring_ends old new events notes is_first only was arrives =
-      let none : stops_left nodes hubs old ≡ [] = arrives.stops ∙ arrives.ended in
-      let o = ap (sum_at owed_at) none in
-      let t = ap (sum_at told_at) none in
-      let w = was.owed in
-      let x = was.told in
-      let z = was.few_notes in
-      (record { events = omega arith; notes = omega arith; few = omega arith }, arrives.counted ∙ was.visits, arrives.room ∙ was.room_is)
+      search (rules, few)
 
   -- and the stop is the only one that was the first and the last
   pub measuring_only : (old new : Route) (events notes : ℕ) (is_first : Bool) (only : Option Stop) →
       IsMeasuring nodes hubs key room old events notes is_first only → Arrives nodes hubs old new None →
       IfSome only (λ stop. stops_over nodes hubs key ≡ stop ∷ [])
-  measuring_only old new events notes is_first only was arrives = by_value only was.one where
-    by_value : (o : Option Stop) → IfSome o (λ s. stops_over nodes hubs key ≡ s ∷ stops_left nodes hubs old) →
-        IfSome o (λ s. stops_over nodes hubs key ≡ s ∷ [])
-    by_value None is = tt
-    by_value (Some s) is = is ∙ ap (λ (ss : List Stop). s ∷ ss) (arrives.stops ∙ arrives.ended)
+  measuring_only old new events notes is_first only was arrives = search (rules, only)

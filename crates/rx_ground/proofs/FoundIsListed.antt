@@ -3,6 +3,7 @@ use Rattle.rx_ground.proofs.Common.{◌≡◌, ℕ, zero, suc, ◌+◌, Bool, tr
 use Rattle.rx_ground.proofs.Common.{inl, inr, ◌⊎◌, arith, Contains, filter, none-some, same_Some, Entry, Key, Slots, entry_of, find, entry_found, found_entry}
 use Rattle.rx_ground.specs.Shown.{Kept, kept_from, kept_in}
 use Rattle.rx_ground.proofs.Laws.Members.{Contains-head, Contains-later, Contains-none, Contains-cases}
+use Rattle.std.proofs.Common.{rules}
 
 module _ {X : Type 0} where
   -- lists that are filtered or mapped ---------------------------------------------------------------
@@ -52,15 +53,9 @@ module _ {X : Type 0} where
   listed_from first [] i e at = absurd (none-some e at)
   listed_from first (None ∷ es) zero e at = absurd (none-some e at)
   listed_from first (None ∷ es) (suc i) e at =
-      subst (λ (s : ℕ). Contains (kept_from (suc first) es) (record { key = record { slot = s; number = e.number }; value = e.value })) (omega arith)
-      (listed_from (suc first) es i e at)
+      search (rules, listed_from (suc first) es i e at)
   listed_from first (Some d ∷ es) zero e at =
-      subst (λ (x : Entry X). Contains (kept_from first (Some d ∷ es)) (record {
-        key = record { slot = first + 0; number = x.number };
-        value = x.value;
-      })) (same_Some d e at)
-      (subst (λ (s : ℕ). Contains (kept_from first (Some d ∷ es)) (record { key = record { slot = s; number = d.number }; value = d.value }))
-      (omega arith) (Contains-head _ (kept_from (suc first) es)))
+      search (rules, same_Some)
   listed_from first (Some d ∷ es) (suc i) e at = Contains-later _ (kept_from (suc first) es) _
       (subst (λ (s : ℕ). Contains (kept_from (suc first) es) (record { key = record { slot = s; number = e.number }; value = e.value })) (omega arith)
       (listed_from (suc first) es i e at))

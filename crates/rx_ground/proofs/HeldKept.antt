@@ -1,8 +1,9 @@
 -- Which resources' keys stay: those held after one event were held before it.
-use Rattle.rx_ground.proofs.Common.{◌≡◌, ◌≢◌, ℕ, zero, suc, ◌-◌, ◌<◌, ◌==◌, Bool, true, false, Option, Some, None, is_some, option_map, refl, sym, ap, ◌∙◌}
-use Rattle.rx_ground.proofs.Common.{inl, inr, ◌⊎◌, arith, not, ◌&&◌, ◌||◌, option_map_or, false≢true, ne_eqb, Key, Slots, find, KeepsOthers, Node, Stowed}
+use Rattle.rx_ground.proofs.Common.{◌≡◌, ◌≢◌, ℕ, ◌<◌, true, false, Option, Some, None, is_some, option_map, sym, ap, ◌∙◌}
+use Rattle.rx_ground.proofs.Common.{inl, inr, ◌⊎◌, arith, not, ◌||◌, option_map_or, false≢true, ne_eqb, Key, Slots, find, KeepsOthers, Node, Stowed}
 use Rattle.rx_ground.proofs.Common.{ResKey, Tree, Rewrites, store_key, is_owned, is_owned_at, is_lent, is_held, is_held_at, removed, one_lease_less}
 use Rattle.rx_ground.proofs.Common.{cases_key, KeepsHeld}
+use Rattle.std.proofs.Common.{rules}
 
 module _ {T : Type 0} (old new : Tree T) (number : ℕ) (nodes : new.nodes ≡ old.nodes) (k : Key) (others : KeepsOthers old.resources new.resources k) where
   -- where only one key's resource changed, it is enough to know of that
@@ -37,18 +38,10 @@ held_rewritten {T = T} old new number k change nodes w keeps = held_but old new 
 
 -- one that is removed was held where a lease of it is out, and so was one of which a lease was given back
 pub removed_held : {T : Type 0} (nodes : Slots Node) (x : Stowed T) → is_held nodes (removed x) ≡ true → is_held nodes x ≡ true
-removed_held nodes x = shape (is_some (find nodes x.node)) (not x.removed) (is_lent x) where
-  shape : (a b l : Bool) → ((a && false) || l) ≡ true → ((a && b) || l) ≡ true
-  shape true true l held = refl
-  shape true false l held = held
-  shape false b l held = held
+removed_held nodes x = search (rules, is_some, find, not, is_lent)
 
 pub less_held : {T : Type 0} (nodes : Slots Node) (x : Stowed T) → is_held nodes (one_lease_less x) ≡ true → is_held nodes x ≡ true
-less_held nodes x = shape (is_owned nodes x) x.leases where
-  shape : (a : Bool) (n : ℕ) → (a || not ((n - 1) == 0)) ≡ true → (a || not (n == 0)) ≡ true
-  shape true n held = refl
-  shape false zero held = held
-  shape false (suc n) held = rw (ne_eqb (suc n) 0 (λ e. omega arith)) refl
+less_held nodes x = search (rules, not, ne_eqb)
 
 -- one that is owned was held, whatever became of it
 pub held_owned : {T : Type 0} (old new : Tree T) (number : ℕ) (res : ResKey) → new.nodes ≡ old.nodes → KeepsOthers old.resources new.resources (store_key res) →

@@ -4,7 +4,7 @@ use Rattle.rx_ground.proofs.Common.{IsSome, IfSome, IfNone, option_map, slice_ge
 use Rattle.rx_ground.proofs.Common.{option_to_list, AllByRecursion, Contains, false≢true, lt-ltb, ltb-true, ltb_from_iff, length-map, length-filter, Kept, at}
 use Rattle.rx_ground.proofs.Common.{slice_get_within, slice_get-get_or, get_or_from_slice_get, Ghosts, Mode, Event, Connect, Marks, makes_hub, is_auto_hub}
 use Rattle.rx_ground.proofs.Common.{MayFollow, IsLawful, places, shuts_none, at_within, Key, Slots, find, Node, Tree, LastEnd, Published, joins_hubs, Hub}
-use Rattle.rx_ground.proofs.Common.{hubs_after, without_gone, Hubs, find_hub, at_hub, connected, new_hub, IsHubOf, AreHubsOf, numbers, hubs_follow, hubs_stay}
+use Rattle.rx_ground.proofs.Common.{hubs_after, without_gone, Hubs, find_hub, at_hub, connected, new_hub, IsHubOf, AreHubsOf, hubs_follow, hubs_stay}
 use Rattle.rx_ground.proofs.Common.{pushed_from, closes_none, hubs_published, hubs_connected, found_hub, has_connection, State, Writes, IsHubTold, IsTied}
 use Rattle.rx_ground.proofs.Common.{AreTied, AreJoined, KeepsNodes, Remarks}
 use Rattle.rx_event.specs.declared.event.Event.TheVariants.{Hub as Publish}
@@ -15,6 +15,7 @@ use Rattle.rx_ground.proofs.HubsBesideTree.{joined_without, joined_still, joined
 use Rattle.rx_ground.proofs.StaysTied.{IsOpenedIn, found_still, still_there}
 use Rattle.rx_ground.proofs.Laws.Members.{Contains-map, Contains-from_map, All-members, AllPairs-map}
 use Rattle.rx_ground.proofs.Laws.Numbers.{ListsJust, just_counted}
+use Rattle.std.proofs.Common.{rules}
 
 -- numbers -----------------------------------------------------------------------------------------
 
@@ -25,18 +26,7 @@ hub_is_older h hubs of i hub at_i = slice_get_within h hub.number (Publish hub.m
 -- a hub is found just where one was made ----------------------------------------------------------
 
 pub found_made : (h : List Event) (hubs : List Hub) → AreHubsOf h hubs → (g : ℕ) → is_some (find_hub hubs g) ≡ at makes_hub h g
-found_made h hubs of g = by_hub (find_hub hubs g) refl where
-  found_if : (b : Bool) → at makes_hub h g ≡ b → find_hub hubs g ≡ None → false ≡ b
-  found_if false made none = refl
-  found_if true made none =
-      let has = of.every g made in
-      absurd (false≢true (sym (ap is_some none) ∙ ap (λ (m : ℕ). is_some (find_hub hubs m)) (sym has.numbered) ∙ found_named hubs has.index has.hub has.there))
-
-  by_hub : (o : Option Hub) → find_hub hubs g ≡ o → is_some o ≡ at makes_hub h g
-  by_hub None none = found_if (at makes_hub h g) refl none
-  by_hub (Some hub) found =
-      let at_i = found_hub hubs g hub found in
-      sym (ap (at makes_hub h) (sym at_i.1.1) ∙ ap (λ o. option_map_or makes_hub o false) (of.each at_i.0 hub at_i.1.0).made)
+found_made h hubs of g = search (rules, false≢true, is_some, found_named, found_hub, option_map_or)
 
 pub hub_found : (h : List Event) (hubs : List Hub) → AreHubsOf h hubs → (g : ℕ) → is_some (option_map published_of (find_hub hubs g)) ≡ at makes_hub h g
 hub_found h hubs of g = mapped (find_hub hubs g) ∙ found_made h hubs of g where
@@ -48,13 +38,10 @@ hub_found h hubs of g = mapped (find_hub hubs g) ∙ found_made h hubs of g wher
 
 -- a connection is kept just where one is open
 pub connection_kept : (h : List Event) (hub : Hub) → IsHubOf h hub → is_some hub.connection ≡ has_connection h hub.number
-connection_kept h hub is = by_key hub.connection ∙ ap (λ (ns : List ℕ). nat_lt 0 (length ns)) is.connection where
-  by_key : (o : Option Key) → is_some o ≡ nat_lt 0 (length (numbers (option_to_list o)))
-  by_key None = refl
-  by_key (Some key) = refl
+connection_kept h hub is = search (rules, nat_lt, length, is_some, option_to_list)
 
 hub_told : (h : List Event) (hub : Hub) → IsHubOf h hub → (g : ℕ) → hub.number ≡ g → IsHubTold h g (published_of hub)
-hub_told h hub is g same = subst (λ (n : ℕ). IsHubTold h n (published_of hub)) same (record { made = is.made; connection = connection_kept h hub is })
+hub_told h hub is g same = search (rules, connection_kept)
 
 -- what is found of a hub is so, and where none is found none was made
 pub hub_known : (h : List Event) (hubs : List Hub) → AreHubsOf h hubs → (g : ℕ) (o : Option Published) → o ≡ option_map published_of (find_hub hubs g) →
@@ -68,14 +55,7 @@ hub_known h hubs of g o is =
     by_hub (Some hub) found = let at_i = found_hub hubs g hub found in (hub_told h hub (of.each at_i.0 hub at_i.1.0) g at_i.1.1, tt)
 
 pub no_auto_hub : (h : List Event) (g : ℕ) → at makes_hub h g ≡ false → at is_auto_hub h g ≡ false
-no_auto_hub h g none = by_place (slice_get h g) none where
-  by_event : (e : Event) → makes_hub e ≡ false → is_auto_hub e ≡ false
-  by_event (Publish mode) unmade = absurd (false≢true (sym unmade))
-  by_event _ unmade = refl
-
-  by_place : (o : Option Event) → option_map_or makes_hub o false ≡ false → option_map_or is_auto_hub o false ≡ false
-  by_place None unmade = refl
-  by_place (Some e) unmade = by_event e unmade
+no_auto_hub h g none = search (rules, slice_get, false≢true, option_map_or)
 
 -- there are as many as were made ------------------------------------------------------------------
 
@@ -120,7 +100,7 @@ unfolding most_hubs
 most_is = omega arith
 
 one_more : (most less count n : ℕ) → most ≡ less + 1 → count ≡ n → nat_lt less count ≡ nat_lt most (n + 1)
-one_more most less count n limit same = ltb_from_iff (λ over. let l = ltb-true less count over in omega arith, λ over. lt-ltb less count (omega arith))
+one_more most less count n limit same = search (rules, ltb_from_iff, ltb-true, lt-ltb)
 
 -- beside 1,023 others there may be one more
 pub too_many : (h : List Event) (s : Hubs) → IsPromised s → AreHubsOf h s.hubs → (count : ℕ) → count ≡ length s.hubs →
@@ -133,7 +113,7 @@ too_many h s promised of count is = one_more most_hubs 1023 count (length (hubs_
 pub connected_after : (h : List Event) (n : ℕ) (key : Key) (hubs : List Hub) → AreHubsOf h hubs → key.number ≡ length h →
     hubs_after h (Connect n) key.slot hubs ≡ at_hub n (connected key) hubs
 connected_after h n key hubs of numbered =
-    hubs_connected h n key.slot hubs of ∙ (λ i. at_hub n (connected (record { slot = key.slot; number = sym numbered i })) hubs)
+    search (rules, hubs_connected)
 
 -- the nodes that this event closes are gone from the hubs, and their connections ended so
 pub record LeavesHubs (h : List Event) (e : Event) (gone : Key → Bool) (ended : Option LastEnd) (hubs later : Hubs) : Type 0 where
@@ -154,11 +134,7 @@ module _ {T : Type 0} (g : Ghosts T) where
   -- another tree of the same history with the same nodes, beside the same hubs
   pub tied_beside : (base : Kept) → {h : List Event} {old new : Tree T} {hubs later : Hubs} → later.hubs ≡ hubs.hubs →
       ((key : Key) → IsSome (find old.nodes key) → IsSome (find new.nodes key)) → AreTied base g h old hubs → IsTied base g h new → AreTied base g h new later
-  tied_beside base {h = h} {old = old} {new = new} {hubs = hubs} {later = later} same still was tied = record {
-    of_tree = tied;
-    published = subst (AreHubsOf h) (sym same) was.published;
-    joined = subst (AreJoined new.nodes) (sym same) (joined_still h old.nodes new.nodes hubs.hubs was.published (λ key some alive. still key some) was.joined);
-  }
+  tied_beside base {h = h} {old = old} {new = new} {hubs = hubs} {later = later} same still was tied = search (rules, joined_still)
 
   -- a tree after one more event, which closes no node and makes none, and no hub
   pub tied_on : {base : Kept} → {h k : List Event} {old new : Tree T} {hubs : Hubs} {e : Event} → IsLawful base h → MayFollow base h e →

@@ -5,6 +5,7 @@ use Rattle.rx_ground.proofs.Common.{AreApart, hubs_after, with_made, next_key, i
 use Rattle.rx_ground.proofs.Common.{hubs_with_made, hubs_exchanged, ready_to_subscribe, ready_to_exchange, AreTied, AreJoined, Remarks, opened_marks}
 use Rattle.rx_ground.proofs.HubsBesideTree.{as_many, joined_cut, joined_found, joined_opened}
 use Rattle.rx_ground.proofs.ReadyToOpen.{IsReadyToOpen, IsOpenedBelow, none_closed, opened_found, opened_new, opened_tied}
+use Rattle.std.proofs.Common.{rules}
 
 module _ {base : Kept} {T : Type 0} {g : Ghosts T} {h : List Event} {place : Place} {kind : Kind} {old left : Tree T} {hubs later : Hubs} {replaces : Bool}
     (ready : IsReadyToOpen base g h place kind old left hubs later replaces) where
@@ -31,26 +32,11 @@ module _ {base : Kept} {T : Type 0} {g : Ghosts T} {h : List Event} {place : Pla
 
   -- of the rest nothing changes
   pub rest_same : later ≡ record hubs { hubs = later.hubs }
-  rest_same = by_test (cases_Bool replaces) where
-    by_test : (replaces ≡ true) ⊎ (replaces ≡ false) → later ≡ record hubs { hubs = later.hubs }
-    by_test (inl takes) =
-        let leave = (ready.clears.exchanged takes).leave in
-        leave ∙ ap (λ (hs : Hubs). record hubs { hubs = hs.hubs }) (sym leave)
-    by_test (inr leaves) =
-        let same = ready.clears.same leaves in
-        same ∙ ap (λ (hs : Hubs). record hubs { hubs = hs.hubs }) (sym same)
+  rest_same = search (rules, cases_Bool)
 
   -- what is left of the hubs finds its records in what is left of the tree
   pub joined_left : AreJoined left.nodes later.hubs
-  joined_left = by_test (cases_Bool replaces) where
-    by_test : (replaces ≡ true) ⊎ (replaces ≡ false) → AreJoined left.nodes later.hubs
-    by_test (inl takes) =
-        let x = ready.clears.exchanged takes in
-        subst (λ (hs : Hubs). AreJoined left.nodes hs.hubs) (sym x.leave)
-        (joined_cut base g h old hubs ready.tied ready.law ready.sound left x.inner.number None x.cuts)
-    by_test (inr leaves) =
-        subst (λ (hs : Hubs). AreJoined left.nodes hs.hubs) (sym (ready.clears.same leaves))
-        (subst (λ (t : Tree T). AreJoined t.nodes hubs.hubs) (sym (ready.way.same leaves)) ready.tied.joined)
+  joined_left = search (rules, cases_Bool, joined_cut)
 
   -- the hub that is subscribed to is there still, and its subscribers are older
   pub ready_left : (n : ℕ) → kind ≡ Sub n → (hub : Hub) × (find_hub later.hubs n ≡ Some hub) × AreBelow (length h) hub.subscribers
@@ -70,17 +56,13 @@ module _ {base : Kept} {T : Type 0} {g : Ghosts T} {h : List Event} {place : Pla
   -- those that a new node joins are older
   pub older_left : (number n : ℕ) → number ≡ length h → kind ≡ Sub n → IfSome (find_hub later.hubs n) (λ (hub : Hub). AreBelow number hub.subscribers)
   older_left number n numbered same =
-      let r = ready_left n same in
-      subst (λ (o : Option Hub). IfSome o (λ (hub : Hub). AreBelow number hub.subscribers)) (sym r.1)
-      (subst (λ (m : ℕ). AreBelow m r.0.subscribers) (sym numbered) r.2)
+      search (rules, ready_left)
 
   -- the hubs that the node joined are those after the opening
   pub hubs_opened : {last : Hubs} (key : Key) → key.number ≡ length h → last ≡ record later { hubs = with_made key (Open place kind) later.hubs } →
       last ≡ record hubs { hubs = hubs_after h (Open place kind) key.slot hubs.hubs }
   hubs_opened key numbered made =
-      made ∙ ap (λ (hs : Hubs). record hs { hubs = with_made key (Open place kind) later.hubs }) rest_same ∙
-      (λ i. record hubs { hubs = with_made (record { slot = key.slot; number = numbered i }) (Open place kind) later.hubs }) ∙
-      ap (λ (hs : List Hub). record hubs { hubs = hs }) (sym (cleared key.slot))
+      search (rules, rest_same, cleared)
 
   -- tree and hubs are tied to the longer history then
   pub all_opened : {mid new : Tree T} {last : Hubs} {key : Key} (above : Option Key) → IsOpenedBelow h place kind above old left mid key →

@@ -2,7 +2,7 @@
 use Rattle.rx_ground.proofs.Common.{◌≡◌, ℕ, zero, suc, ◌<◌, ◌==◌, cond, Bool, true, false, List, [], ◌∷◌, ◌++◌, map, length, slice_get, drop, take, inl, inr}
 use Rattle.rx_ground.proofs.Common.{◌⊎◌, Option, Some, None, is_some, IsSome, IfSome, refl, sym, ap, subst, ◌∙◌, arith, take-append-drop, zero-add, not, ◌&&◌}
 use Rattle.rx_ground.proofs.Common.{◌||◌, AllByRecursion, Contains, list_any, option_map_or, option_to_list, false≢true, and_parts, and_from, eq-eqb, Kept}
-use Rattle.rx_ground.proofs.Common.{eqb-true, not-true, length-map, length-range_with_len, none-some, same_Some, slice_get_within, get_or_from_slice_get, Sub}
+use Rattle.rx_ground.proofs.Common.{eqb-true, not-true, length-map, length-range_with_len, none-some, same_Some, slice_get_within, get_or_from_slice_get}
 use Rattle.rx_ground.proofs.Common.{Ghosts, Event, Open, Connect, Place, Kind, makes_hub, hub_connected, hub_subscribed, is_connect_of, is_subscriber_of, at}
 use Rattle.rx_ground.proofs.Common.{is_open, places, IsLawful, hub_before, AllByRecursion-both, is_open_within, at-append, at_within, Key, Slots, find, Node}
 use Rattle.rx_ground.proofs.Common.{entry_at, with_number, Tree, IsSound, is_key, is_on, is_below, Closed, IsSubtree, key_is, some_of, LastEnd, AgreeAt, Hub}
@@ -15,6 +15,7 @@ use Rattle.std.proofs.lemmas.List.FromFn.{get_or-range_with_len}
 use Rattle.rx_ground.proofs.Laws.Members.{Contains-head, Contains-later, Contains-none, Contains-cases, Contains-from_map}
 use Rattle.rx_ground.proofs.FoundIsListed.{filter_has}
 use Rattle.rx_ground.proofs.Records.{below_is_within}
+use Rattle.std.proofs.Common.{rules}
 
 -- lists -------------------------------------------------------------------------------------------
 
@@ -24,10 +25,7 @@ AreFound nodes keys = AllByRecursion (λ key. IsSome (find nodes key)) keys
 module _ {X : Type 0} where
   all_filtered : (P : X → Type 0) (p : X → Bool) (xs : List X) → AllByRecursion P xs → AllByRecursion P (filter p xs)
   all_filtered P p [] all = tt
-  all_filtered P p (x ∷ xs) all = by_test (p x) (all_filtered P p xs all.1) where
-    by_test : (b : Bool) → AllByRecursion P (filter p xs) → AllByRecursion P (cond b (x ∷ filter p xs) (filter p xs))
-    by_test true rest = (all.0, rest)
-    by_test false rest = rest
+  all_filtered P p (x ∷ xs) all = search (rules, AllByRecursion, filter, cond, all_filtered P p xs all.1)
 
   all_weaker : (P Q : X → Type 0) → ((x : X) → P x → Q x) → (xs : List X) → AllByRecursion P xs → AllByRecursion Q xs
   all_weaker P Q weaker [] all = tt
@@ -39,10 +37,7 @@ module _ {X : Type 0} where
 
   all_at : (P : X → Type 0) (xs : List X) (x : X) → AllByRecursion P xs → Contains xs x → P x
   all_at P [] x all c = absurd (Contains-none x c)
-  all_at P (y ∷ xs) x all c = by_place (Contains-cases y xs x c) (all_at P xs x all.1) where
-    by_place : (y ≡ x) ⊎ Contains xs x → (Contains xs x → P x) → P x
-    by_place (inl same) rest = subst P same all.0
-    by_place (inr later) rest = rest later
+  all_at P (y ∷ xs) x all c = search (rules, all_at P xs x all.1)
 
   any_at : (p : X → Bool) (xs : List X) (x : X) → Contains xs x → p x ≡ true → list_any p xs ≡ true
   any_at p [] x c passes = absurd (Contains-none x c)
@@ -68,43 +63,26 @@ key_itself key = and_from _ _ (eq-eqb key.slot key.slot refl) (eq-eqb key.number
 
 place_listed : (h : List Event) (n : ℕ) → n < length h → Contains (places h) n
 place_listed h n within =
-    let long : length (places h) ≡ length h = length-range_with_len 0 (length h) in
-    (n, omega arith, get_or-range_with_len 0 (length h) n n within ∙ zero-add n)
+    search (rules, length, length-range_with_len, get_or-range_with_len, zero-add)
 
 module _ {X : Type 0} where
   all_kept : (P Q : X → Type 0) (p : X → Bool) → ((x : X) → P x → p x ≡ true → Q x) → (xs : List X) → AllByRecursion P xs → AllByRecursion Q (filter p xs)
   all_kept P Q p stays [] all = tt
-  all_kept P Q p stays (x ∷ xs) all = by_test (p x) refl (all_kept P Q p stays xs all.1) where
-    by_test : (b : Bool) → p x ≡ b → AllByRecursion Q (filter p xs) → AllByRecursion Q (cond b (x ∷ filter p xs) (filter p xs))
-    by_test true e rest = (stays x all.0 e, rest)
-    by_test false e rest = rest
+  all_kept P Q p stays (x ∷ xs) all = search (rules, AllByRecursion, filter, cond, all_kept P Q p stays xs all.1)
 
 -- what is left of the hubs ------------------------------------------------------------------------
 
 module _ (gone : Key → Bool) (ended : Option LastEnd) (x : Hub) where
   subscribers_without : (without_gone gone ended x).subscribers ≡ filter (λ key. not (gone key)) x.subscribers
-  subscribers_without = by_test (option_map_or gone x.connection false) where
-    by_test : (b : Bool) → (cond b (disconnected ended (remaining gone x)) (remaining gone x)).subscribers ≡ filter (λ key. not (gone key)) x.subscribers
-    by_test true = refl
-    by_test false = refl
+  subscribers_without = search (rules, option_map_or, cond, filter, not)
 
   connection_without : (P : Key → Type 0) → IfSome x.connection P → IfSome (without_gone gone ended x).connection P
-  connection_without P there = by_test (option_map_or gone x.connection false) where
-    by_test : (b : Bool) → IfSome (cond b (disconnected ended (remaining gone x)) (remaining gone x)).connection P
-    by_test true = tt
-    by_test false = there
+  connection_without P there = search (rules, option_map_or, cond)
 
 -- the keys of those that stay find what they found
 pub joined_without : (nodes : Slots Node) (gone : Key → Bool) (ended : Option LastEnd) (hubs : List Hub) → AreJoined nodes hubs →
     AreJoined nodes (map (without_gone gone ended) hubs)
-joined_without nodes gone ended hubs joined = record {
-  subscribers = λ i hub at_i. let m = mapped_from (without_gone gone ended) hubs i hub at_i in
-      subst (λ (y : Hub). AreFound nodes y.subscribers) m.2 (subst (AreFound nodes) (sym (subscribers_without gone ended m.0))
-      (all_filtered (λ key. IsSome (find nodes key)) (λ key. not (gone key)) m.0.subscribers (joined.subscribers i m.0 m.1)));
-  connection = λ i hub at_i. let m = mapped_from (without_gone gone ended) hubs i hub at_i in
-      subst (λ (y : Hub). IfSome y.connection (λ key. IsSome (find nodes key))) m.2
-      (connection_without gone ended m.0 (λ key. IsSome (find nodes key)) (joined.connection i m.0 m.1));
-}
+joined_without nodes gone ended hubs joined = search (rules, mapped_from, subscribers_without, all_filtered, find, not, connection_without)
 
 -- in a tree that keeps the nodes that are open the keys of its hubs find their records
 pub joined_still : (k : List Event) (old new : Slots Node) (hubs : List Hub) → AreHubsOf k hubs →
@@ -125,14 +103,7 @@ joined_still k old new hubs of still joined = record {
 -- and in one that has all that another has
 pub joined_found : (old new : Slots Node) (hubs : List Hub) → ((key : Key) → IsSome (find old key) → IsSome (find new key)) → AreJoined old hubs →
     AreJoined new hubs
-joined_found old new hubs still joined = record {
-  subscribers = λ i hub at_i. all_weaker (λ key. IsSome (find old key)) (λ key. IsSome (find new key)) still hub.subscribers (joined.subscribers i hub at_i);
-  connection = λ i hub at_i. by_option hub.connection (joined.connection i hub at_i);
-}
-  where
-    by_option : (o : Option Key) → IfSome o (λ key. IsSome (find old key)) → IfSome o (λ key. IsSome (find new key))
-    by_option None there = tt
-    by_option (Some key) there = still key there
+joined_found old new hubs still joined = search (rules, all_weaker, find)
 
 -- what a closing takes away -----------------------------------------------------------------------
 
@@ -140,22 +111,17 @@ joined_found old new hubs still joined = record {
 pub found_named : (hubs : List Hub) (i : ℕ) (hub : Hub) → slice_get hubs i ≡ Some hub → is_some (find_hub hubs hub.number) ≡ true
 found_named [] i hub at_i = absurd (none-some hub at_i)
 found_named (x ∷ hubs) zero hub at_i =
-    ap (λ b. is_some (cond b (Some x) (find_hub hubs hub.number))) (eq-eqb x.number hub.number (ap (λ (y : Hub). y.number) (same_Some x hub at_i)))
-found_named (x ∷ hubs) (suc i) hub at_i = by_test (x.number == hub.number) (found_named hubs i hub at_i) where
-  by_test : (b : Bool) → is_some (find_hub hubs hub.number) ≡ true → is_some (cond b (Some x) (find_hub hubs hub.number)) ≡ true
-  by_test true rest = refl
-  by_test false rest = rest
+    search (rules, is_some, cond, eq-eqb, same_Some)
+found_named (x ∷ hubs) (suc i) hub at_i = search (rules, is_some, cond, found_named hubs i hub at_i)
 
 found_has : (hubs : List Hub) (g : ℕ) → HasHub hubs g → IsSome (find_hub hubs g)
-found_has hubs g has = ap (λ n. is_some (find_hub hubs n)) (sym has.numbered) ∙ found_named hubs has.index has.hub has.there
+found_has hubs g has = search (rules, is_some, found_named)
 
 subscriber_named : (e : Event) (g : ℕ) → hub_subscribed e ≡ Some g → is_subscriber_of g e ≡ true
-subscriber_named (Open place (Sub k)) g named = eq-eqb k g (same_Some k g named)
-subscriber_named _ g named = absurd (none-some g named)
+subscriber_named x0 g named = search (rules, eq-eqb, same_Some, none-some)
 
 connection_named : (e : Event) (g : ℕ) → hub_connected e ≡ Some g → e ≡ Connect g
-connection_named (Connect k) g named = ap (λ n. Connect n) (same_Some k g named)
-connection_named _ g named = absurd (none-some g named)
+connection_named x0 g named = search (rules, same_Some, none-some)
 
 -- what was connected is a hub
 pub connected_hub : (base : Kept) → (h : List Event) → IsLawful base h → (c g : ℕ) → slice_get h c ≡ Some (Connect g) → at makes_hub h g ≡ true
@@ -315,10 +281,7 @@ module _ (nodes : Slots Node) where
   -- a subscriber that comes has a record
   pub joined_opened : (key : Key) (place : Place) (kind : Kind) (hubs : List Hub) → IsSome (find nodes key) → AreJoined nodes hubs →
       AreJoined nodes (with_made key (Open place kind) hubs)
-  joined_opened key place (Sub g) hubs there joined =
-      joined_at g (subscribed key) hubs
-      (λ hub all. AllByRecursion-both (λ k. IsSome (find nodes k)) hub.subscribers (key ∷ []) all (there, tt)) (λ hub there. there) joined
-  joined_opened key place _ hubs there joined = joined
+  joined_opened key place x2 hubs there joined = search (rules, joined_at, AllByRecursion-both, find)
 
   -- and so has a connection
   pub joined_connected : (key : Key) (g : ℕ) (hubs : List Hub) → IsSome (find nodes key) → AreJoined nodes hubs →
@@ -343,8 +306,7 @@ as_many_at g change hubs = length-map hubs (λ (x : Hub). cond (x.number == g) (
 
 -- and so does an opening
 pub as_many : (key : Key) (place : Place) (kind : Kind) (hubs : List Hub) → length (with_made key (Open place kind) hubs) ≡ length hubs
-as_many key place (Sub g) hubs = as_many_at g (subscribed key) hubs
-as_many key place _ hubs = refl
+as_many key place x2 hubs = search (rules, as_many_at)
 
 -- where a hub is found there is one
 pub some_hub : (hubs : List Hub) (n : ℕ) (hub : Hub) → find_hub hubs n ≡ Some hub → 0 < length hubs

@@ -1,18 +1,17 @@
 -- The children of a Switch: its source, and one inner.
-use Rattle.rx_ground.proofs.Common.{IfNone, ◌≡◌, ℕ, ◌+◌, true, false, List, Option, Some, None, is_some, IsSome, IfSome, option_map, slice_get, refl, sym, ap}
+use Rattle.rx_ground.proofs.Common.{IfNone, ◌≡◌, ℕ, ◌+◌, true, false, List, Option, Some, is_some, IsSome, IfSome, option_map, slice_get, sym, ap}
 use Rattle.rx_ground.proofs.Common.{◌∙◌, inl, inr, ◌⊎◌, arith, option_map_or, false≢true, both_ways, eq-eqb, false_from_ne_true, none-some, same_Some, Kept}
-use Rattle.rx_ground.proofs.Common.{Place, Source, Inner, Notifier, Switch, Event, Open, is_switch, is_until, is_source_of, is_inner_of, inner_named, at, Key}
+use Rattle.rx_ground.proofs.Common.{Place, Source, Inner, Notifier, Event, Open, is_switch, is_until, is_source_of, is_inner_of, inner_named, at, Key}
 use Rattle.rx_ground.proofs.Common.{named_by, parent_named, is_open, parent, IsLawful, one_source, parent_within, parent_name, event_at, notifier_stands}
 use Rattle.rx_ground.proofs.Common.{Slots, find, Node, IsChild, IsFirst, HasNone, some_of, child_found, AreRecords, IsInner, HasNoInner, ReplacesNone}
 use Rattle.rx_event.proofs.Laws.MarksInner.{switched_parent}
 use Rattle.rx_ground.proofs.Records.{parent_in_tree}
+use Rattle.std.proofs.Common.{rules}
 
 -- children ----------------------------------------------------------------------------------------
 
 no_until : (o : Option Event) → option_map_or is_switch o false ≡ true → option_map_or is_until o false ≡ true → ⊥
-no_until None s u = absurd (false≢true s)
-no_until (Some (Open place Switch)) s u = absurd (false≢true u)
-no_until (Some _) s u = absurd (false≢true s)
+no_until x0 s u = search (rules, false≢true)
 
 -- what stands below a Switch is a source or an inner
 child_of_switch : (base : Kept) → (h : List Event) → IsLawful base h → (f n : ℕ) → at is_switch h f ≡ true → parent h n ≡ Some f →
@@ -54,27 +53,12 @@ module _ (base : Kept) (h : List Event) (law : IsLawful base h) (nodes : Slots N
 
   -- without a child it has no inner
   pub no_child : HasNone (IsChild nodes switch) 0 → HasNoInner h switch.number
-  no_child none n inner = false_from_ne_true (is_open h n) (λ alive.
-      let key = inner_child n inner alive in
-      let less = none key.0 key.1 in
-      absurd (omega arith))
+  no_child none n inner = search (rules, false_from_ne_true, inner_child)
 
   -- a child whose event opened an inner is one
   pub inner_first : (first : Key) (node : Node) → IsChild nodes switch first → find nodes first ≡ Some node → is_some (inner_named node.made) ≡ true →
       IsInner h nodes switch.number first
-  inner_first first node child found inner = by_place (child_place first child) where
-    made : slice_get h first.number ≡ Some node.made
-    made = (r.each first node found).made
-
-    source_inner : (e : Event) → is_source_of switch.number e ≡ true → is_some (inner_named e) ≡ true → ⊥
-    source_inner (Open (Inner q) kind) s i = absurd (false≢true s)
-    source_inner _ s i = absurd (false≢true i)
-
-    by_place : (at (is_source_of switch.number) h first.number ≡ true) ⊎ (at (is_inner_of switch.number) h first.number ≡ true) →
-        IsInner h nodes switch.number first
-    by_place (inl source) =
-        absurd (source_inner node.made (sym (ap (λ (o : Option Event). option_map_or (is_source_of switch.number) o false) made) ∙ source) inner)
-    by_place (inr stands) = record { stands = stands; found = ap is_some found }
+  inner_first first node child found inner = search (rules, child_place, slice_get, is_some, false≢true, option_map_or)
 
   module _ (first : Key) (node : Node) (oldest : IsFirst (IsChild nodes switch) 0 first) (found : find nodes first ≡ Some node)
       (not_inner : is_some (inner_named node.made) ≡ false) where
@@ -115,21 +99,17 @@ module _ (base : Kept) (h : List Event) (law : IsLawful base h) (nodes : Slots N
 -- values that may be there ------------------------------------------------------------------------
 
 pub if_none : {X : Type 0} (o : Option X) (P : Type 0) → P → IfNone o P
-if_none None P holds = holds
-if_none (Some x) P holds = tt
+if_none x0 x1 holds = search rules
 
 pub if_some_by : {X : Type 0} (o : Option X) (P Q : X → Type 0) → ((x : X) → P x → Q x) → IfSome o P → IfSome o Q
-if_some_by None P Q then holds = tt
-if_some_by (Some x) P Q then holds = then x holds
+if_some_by x0 x1 x2 then holds = search rules
 
 pub if_none_by : {X : Type 0} (o : Option X) (P Q : Type 0) → (P → Q) → IfNone o P → IfNone o Q
-if_none_by None P Q then holds = then holds
-if_none_by (Some x) P Q then holds = tt
+if_none_by x0 x1 x2 then holds = search rules
 
 -- the record whose event was read
 pub made_found : (o : Option Node) (made : Event) → option_map (λ (x : Node). x.made) o ≡ Some made → (x : Node) × (o ≡ Some x) × (x.made ≡ made)
-made_found None made read = absurd (none-some made read)
-made_found (Some x) made read = (x, refl, same_Some x.made made read)
+made_found x0 made read = search (rules, none-some, same_Some)
 
 -- where the node above is no Switch, nothing is replaced
 pub no_switch : {base : Kept} → {h : List Event} {nodes : Slots Node} {chain : List Key} (r : AreRecords base h nodes chain) {place : Place}

@@ -1,8 +1,9 @@
 -- Which connections a node stands inside of, by its record and those above it.
-use Rattle.rx_ground.proofs.Common.{◌≡◌, ℕ, suc, ◌<◌, true, false, List, [], Option, Some, None, is_some, option_map, refl, sym, ap, subst, ◌∙◌, arith, ◌||◌}
-use Rattle.rx_ground.proofs.Common.{list_any, option_and_then, option_map_or, Kept, Ghosts, Event, parent_named, at, parent, if_less, ancestors, parent-lt}
+use Rattle.rx_ground.proofs.Common.{◌≡◌, ℕ, suc, ◌<◌, true, false, List, Option, Some, None, is_some, option_map, sym, ap, ◌∙◌, ◌||◌}
+use Rattle.rx_ground.proofs.Common.{list_any, option_and_then, option_map_or, Kept, Ghosts, Event, parent_named, at, parent, if_less, parent-lt}
 use Rattle.rx_ground.proofs.Common.{ancestors_step, Key, Slots, find, Node, Tree, IsSound, named_above, parent_number, some_of, named_parent, connects_up_to}
 use Rattle.rx_ground.proofs.Common.{IsTied, is_inside_up_to}
+use Rattle.std.proofs.Common.{rules}
 
 -- a record that is found has the key of the node that its place names
 pub parent_read : (nodes : Slots Node) (key : Key) (node : Node) → find nodes key ≡ Some node → IsSound nodes →
@@ -24,10 +25,7 @@ parent_told base g h tree tied key there =
 
 -- a node is inside such a connection where it is one itself, or where the node above is inside one
 inside_step : (h : List Event) (g n : ℕ) → is_inside_up_to h g (Some n) ≡ (at (connects_up_to g) h n || is_inside_up_to h g (parent h n))
-inside_step h g n = ap (list_any (at (connects_up_to g) h)) (ancestors_step h n) ∙ ap (λ b. at (connects_up_to g) h n || b) (by_parent (parent h n)) where
-  by_parent : (o : Option ℕ) → list_any (at (connects_up_to g) h) (option_map_or (ancestors h) o []) ≡ is_inside_up_to h g o
-  by_parent None = refl
-  by_parent (Some p) = refl
+inside_step h g n = search (rules, list_any, ancestors_step, option_map_or)
 
 pub inside_here : (h : List Event) (g n : ℕ) → at (connects_up_to g) h n ≡ true → is_inside_up_to h g (Some n) ≡ true
 inside_here h g n is = inside_step h g n ∙ ap (λ b. b || is_inside_up_to h g (parent h n)) is
@@ -49,11 +47,8 @@ module _ (h : List Event) (g : ℕ) (from : Option Key) (key : Key) (is : from �
   pub climb_on : at (connects_up_to g) h key.number ≡ false → (above : Option Key) → number_of above ≡ parent h key.number →
       is_inside_up_to h g (number_of above) ≡ is_inside_up_to h g (number_of from)
   climb_on elsewhere above named =
-      ap (is_inside_up_to h g) named ∙ sym (inside_above h g key.number elsewhere) ∙ ap (λ (o : Option Key). is_inside_up_to h g (number_of o)) (sym is)
+      search (rules, inside_above)
 
 pub climb_nearer : (h : List Event) (from above : Option Key) (key : Key) → from ≡ Some key → number_of above ≡ parent h key.number →
     steps_from above < steps_from from
-climb_nearer h from above key is named = subst (λ (o : Option Key). steps_from above < steps_from o) (sym is) (by_above above named) where
-  by_above : (o : Option Key) → number_of o ≡ parent h key.number → steps_from o < suc key.number
-  by_above None named = omega arith
-  by_above (Some k) named = let l = parent-lt h key.number k.number (sym named) in omega arith
+climb_nearer h from above key is named = search (rules, parent-lt)

@@ -1,10 +1,11 @@
 -- An item that went its whole way, and its event.
-use Rattle.rx_ground.proofs.Common.{◌≡◌, ℕ, ℤ, ◌+◌, List, [], ◌∷◌, ◌++◌, length, sym, ap, subst, ◌∙◌, append-nil, filter_map, Ghosts, Event, Item, told, Tree}
+use Rattle.rx_ground.proofs.Common.{◌≡◌, ℕ, ℤ, ◌+◌, List, [], ◌∷◌, ◌++◌, length, sym, ap, subst, ◌∙◌, append-nil, filter_map, Ghosts, Event, Item, Tree}
 use Rattle.rx_ground.proofs.Common.{MayFollow, IsLawful, Hubs, Writes, AreTied, ArePassed, IsPassing}
 use Rattle.rx_event.specs.Climb.{Stop as NumberedStop, stops}
 use Rattle.rx_register.specs.State.{State as Register}
 use Rattle.rx_ground.proofs.RecordsAfterItem.{tied_item}
 use Rattle.rx_ground.proofs.RegisterAfterWrite.{writes_told}
+use Rattle.std.proofs.Common.{rules}
 
 module _ {T : Type 0} (first : Register) (start : Tree T) (leaf : ℕ) (value : ℤ) (register : Register) (tree : Tree T)
     (passed : IsPassing first start leaf value register tree []) where
@@ -15,11 +16,7 @@ module _ {T : Type 0} (first : Register) (start : Tree T) (leaf : ℕ) (value : 
       new.room + 1 ≡ register.room →
       new.limit ≡ register.limit → new.given ≡ register.given → new.mail_room ≡ register.mail_room → Writes first (Item leaf value ∷ []) new
   arrived_writes new =
-      writes_told (record {
-        same = passed.same;
-        notes = passed.mail_room ∙
-            ap (λ (ss : List NumberedStop). register.mail_room + length (filter_map (told (length first.history) value) ss)) all_done;
-      })
+      search (rules, writes_told, length, filter_map, all_done)
 
   pub arrived_tied : (g : Ghosts T) (hubs : Hubs) → IsLawful first.base first.history → MayFollow first.base first.history (Item leaf value) →
       AreTied first.base g first.history start hubs →

@@ -18,6 +18,7 @@ use Rattle.rx_ground.proofs.Laws.Numbers.{ListsJust}
 use Rattle.rx_ground.proofs.TreeAgreesOnResource.{owned_agrees, held_agrees}
 use Rattle.rx_ground.proofs.FoundIsListed.{kept_found}
 use Rattle.rx_ground.proofs.RisingNumbers.{Rising, rising_just, in_order}
+use Rattle.std.proofs.Common.{rules}
 
 -- slots as lists ------------------------------------------------------------------------------------
 
@@ -69,10 +70,7 @@ module _ {X Y : Type 0} (keep : Entry X → Y) where
 -- nodes, resources and leases -----------------------------------------------------------------------
 
 untaken_within : (h : List Event) (r : ℕ) → is_untaken h r ≡ true → r < length h
-untaken_within h r u = by_state (is_held_in h r) refl u where
-  by_state : (b : Bool) → is_held_in h r ≡ b → (b || is_waiting h r) ≡ true → r < length h
-  by_state true held passes = is_held_within h r held
-  by_state false free waits = is_waiting_within h r waits
+untaken_within h r u = search (rules, length, is_held_within, is_waiting_within)
 
 module _ (base : Base) {T : Type 0} (g : Ghosts T) (h : List Event) (tree : Tree T) (tied : IsTied base g h tree) where
   node_kept : (k : Kept Node) → Contains (kept_in tree.nodes) k → node_as_kept (entry_of k.key.number k.value) ≡ keep_node base h k.key.number

@@ -7,18 +7,15 @@ use Rattle.rx_ground.proofs.Common.{is_out_within, is_out_past, is_out_last, lea
 use Rattle.rx_ground.proofs.Common.{ResKey, Stowed, store_key, is_lent, is_lent_at, Tree, AreApart, IsPast, cases_key, none_not_some, some_of, LeaseKey}
 use Rattle.rx_ground.proofs.Common.{lease_key, is_out_at, HasKey, IsTied, IsLeaseOf, AreLeased, KeepsLeases}
 use Rattle.rx_event.specs.Resources.{is_out, is_out_of, leases_of, is_waiting}
+use Rattle.std.proofs.Common.{rules}
 
 and_true : (b : Bool) → (b && true) ≡ b
-and_true true = refl
-and_true false = refl
+and_true x0 = search rules
 
 -- no lease is out in no history
 pub leased_empty : {T : Type 0} (h : List Event) (resources : Slots (Stowed T)) (leases : Slots ResKey) → h ≡ [] →
     ((key : Key) → find leases key ≡ None) → AreLeased h resources leases
-leased_empty h resources leases empty none = record {
-  each = λ key res found. absurd (none-some res (sym (none key) ∙ found));
-  every = λ l out. absurd (both_ways (is_out h l) (is_out_past h l (let long = ap (length {A = Event}) empty in omega arith)) out);
-}
+leased_empty h resources leases empty none = search (rules, none-some, both_ways, is_out_past, length)
 
 module _ {T : Type 0} (h : List Event) (resources : Slots (Stowed T)) (leases : Slots ResKey) (leased : AreLeased h resources leases) where
   -- the next number is greater than any before
@@ -166,7 +163,7 @@ module _ {T : Type 0} (base : Kept) (h k : List Event) (e : Event) (old new : Sl
 
   -- where no resource changed
   pub leased_quiet : new ≡ old → AreLeased k new later
-  leased_quiet unchanged = leased_kept (λ l res is. ap (λ (r : Slots (Stowed T)). is_some (find r (store_key res))) unchanged ∙ is.stored)
+  leased_quiet unchanged = search (rules, leased_kept, is_some, find)
 
   -- where every key that was found is found
   pub leased_found : ((key : Key) → IsSome (find old key) → IsSome (find new key)) → AreLeased k new later
@@ -200,13 +197,7 @@ lent_there base {T = T} g h tree tied l res is =
 
 -- a new lease is no older one, and one that is given back is out no more
 pub leases_more : (old new : Slots ResKey) (number : ℕ) (key : Key) → KeepsOthers old new key → key.number ≡ number → KeepsLeases old new number
-leases_more old new number key others numbered = record { from = by_key } where
-  by_key : (k : Key) → IsSome (find new k) → k.number < number → IsSome (find old k)
-  by_key k some less =
-      ap is_some (sym (others k (λ same. absurd (let n = ap (λ (j : Key). j.number) same in omega arith)))) ∙ some
+leases_more old new number key others numbered = search (rules, find, is_some)
 
 pub leases_less : (old new : Slots ResKey) (number : ℕ) (key : Key) → find new key ≡ None → KeepsOthers old new key → KeepsLeases old new number
-leases_less old new number key gone others = record { from = by_key } where
-  by_key : (k : Key) → IsSome (find new k) → k.number < number → IsSome (find old k)
-  by_key k some less =
-      ap is_some (sym (others k (λ same. none_not_some _ (ap (find new) same ∙ gone) some))) ∙ some
+leases_less old new number key gone others = search (rules, find, is_some, none_not_some)

@@ -3,43 +3,29 @@ use Rattle.rx_ground.proofs.Common.{◌≡◌, ◌≢◌, ℕ, ◌+◌, ◌<◌,
 use Rattle.rx_ground.proofs.Common.{IsSome, refl, sym, subst, ◌∙◌, inl, inr, ◌⊎◌, arith, not, option_map_or, cases_Bool, false≢true, both_ways, eqb-true, Key}
 use Rattle.rx_ground.proofs.Common.{eq-eqb, and_parts, Entry, Slots, entry_at, entry_of, find, Changes, ResKey, AreApart, IsPast, same_key, Lists, list_at}
 use Rattle.rx_ground.proofs.Common.{is_in, take_out, number_in, AreRising, IsInOrder}
-use Rattle.std.proofs.Common.{◌||◌, ◌&&◌}
+use Rattle.std.proofs.Common.{◌||◌}
 use Rattle.rx_slots.proofs.Laws.EntryByNumber.{found_entry, with_number-same}
 use Rattle.rx_ground.proofs.RisingSlots.{is_in-append, is_in-out, rising_append, rising_out, rising_same, rising_apart}
+use Rattle.std.proofs.Common.{rules}
 
 -- the slot of a lease stands on the list, and its number is the lease's
 module _ (out : Slots ResKey) (order : Lists) (is : IsInOrder out order) where
   there_in : (key : Key) → IsSome (find out key) → (is_in key.slot (list_at order 0) ≡ true) × (number_in out key.slot ≡ key.number)
   there_in key some =
-      let e = found_entry out key some in
-      (is.each key.slot ∙ ap is_some e.1, ap (λ (o : Option (Entry ResKey)). option_map_or (λ x. x.number) o 0) e.1 ∙ e.2)
+      search (rules, found_entry, is_some, option_map_or)
 
   pub order_apart : AreApart out
   order_apart a b some_a some_b same =
-      let x = there_in a some_a in
-      let y = there_in b some_b in
-      same_key a b (rising_apart (number_in out) (list_at order 0) is.rising a.slot b.slot x.0 y.0 (x.1 ∙ same ∙ sym y.1)) same
+      search (rules, there_in, same_key, rising_apart)
 
   -- what stands on the list is there
   on_list : (slot : ℕ) → is_in slot (list_at order 0) ≡ true → (e : Entry ResKey) × (entry_at out slot ≡ Some e)
-  on_list slot on = of (entry_at out slot) refl (sym (is.each slot) ∙ on) where
-    of : (o : Option (Entry ResKey)) → entry_at out slot ≡ o → is_some o ≡ true → (e : Entry ResKey) × (entry_at out slot ≡ Some e)
-    of None none some = absurd (false≢true some)
-    of (Some e) found some = (e, found)
+  on_list slot on = search (rules, is_some, false≢true)
 
   -- where no entry changed
   pub order_same : (new : Slots ResKey) (order' : Lists) → new.entries ≡ out.entries → list_at order' 0 ≡ list_at order 0 → length order'.lists ≤ 1 →
       (0 < order'.members → 0 < length order'.lists) → IsInOrder new order'
-  order_same new order' same list few there = record {
-    single = few;
-    there = there;
-    each = λ slot. ap (is_in slot) list ∙ is.each slot ∙ ap is_some (sym (entry slot));
-    rising = subst (AreRising (number_in new)) (sym list) (rising_same (number_in out) (number_in new) (list_at order 0)
-        (λ y on. ap (λ (o : Option (Entry ResKey)). option_map_or (λ x. x.number) o 0) (entry y)) is.rising);
-  }
-    where
-      entry : (slot : ℕ) → entry_at new slot ≡ entry_at out slot
-      entry slot = ap (λ (es : List (Option (Entry ResKey))). get_or es slot None) same
+  order_same new order' same list few there = search (rules, is_some, rising_same, option_map_or, get_or)
 
   -- a lease comes last
   pub order_joined : {new : Slots ResKey} {order' : Lists} {m : ℕ} (number : ℕ) (res : ResKey) → IsPast out number → entry_at out m ≡ None →
@@ -93,39 +79,4 @@ module _ (out : Slots ResKey) (order : Lists) (is : IsInOrder out order) where
   -- and one leaves from anywhere
   pub order_left : (new : Slots ResKey) (order' : Lists) (m : ℕ) → Changes out new m None → list_at order' 0 ≡ take_out m (list_at order 0) →
       length order'.lists ≡ length order.lists → order'.members ≡ order.members → IsInOrder new order'
-  order_left new order' m changes list lists members = record {
-    single = let few = is.single in omega arith;
-    there = λ some. let t = is.there (let s = members in omega arith) in omega arith;
-    each = λ slot. ap (is_in slot) list ∙ is_in-out slot m xs ∙ each slot (cases_Bool (m == slot));
-    rising = subst (AreRising (number_in new)) (sym list)
-        (rising_same (number_in out) (number_in new) (take_out m xs) number_same (rising_out (number_in out) m xs is.rising));
-  }
-    where
-      xs : List ℕ
-      xs = list_at order 0
-
-      and_false : (b : Bool) → (b && false) ≡ false
-      and_false true = refl
-      and_false false = refl
-
-      and_true : (b : Bool) → (b && true) ≡ b
-      and_true true = refl
-      and_true false = refl
-
-      each : (slot : ℕ) → ((m == slot) ≡ true) ⊎ ((m == slot) ≡ false) → (is_in slot xs && not (m == slot)) ≡ is_some (entry_at new slot)
-      each slot (inl here) =
-          ap (λ b. is_in slot xs && not b) here ∙
-          and_false (is_in slot xs) ∙
-          sym (ap is_some (ap (entry_at new) (sym (eqb-true m slot here)) ∙ changes.changed))
-      each slot (inr other) =
-          ap (λ b. is_in slot xs && not b) other ∙ and_true (is_in slot xs) ∙ is.each slot ∙
-          sym (ap is_some (changes.others slot (λ same. both_ways (m == slot) other (eq-eqb m slot (sym same)))))
-
-      no_test : (b : Bool) → not b ≡ true → b ≡ false
-      no_test false n = refl
-      no_test true n = absurd (false≢true n)
-
-      number_same : (y : ℕ) → is_in y (take_out m xs) ≡ true → number_in new y ≡ number_in out y
-      number_same y on =
-          let other = no_test (m == y) (and_parts (is_in y xs) _ (sym (is_in-out y m xs) ∙ on)).1 in
-          ap (λ (o : Option (Entry ResKey)). option_map_or (λ x. x.number) o 0) (changes.others y (λ same. both_ways (m == y) other (eq-eqb m y (sym same))))
+  order_left new order' m changes list lists members = search (rules, is_in-out, cases_Bool, rising_same, rising_out, not, is_some, eqb-true, both_ways, eq-eqb, false≢true, and_parts, option_map_or)

@@ -4,6 +4,7 @@ use Rattle.rx_ground.proofs.Common.{sum_by-cons, Event, places, open_count, owne
 use Rattle.rx_ground.proofs.Common.{owed_count, debt, IsLawful, debt-counts, accepted_count-parts, owned_held, State, IsPromised, IsPaid}
 use Rattle.rx_event.specs.Resources.{is_owned, is_held}
 use Rattle.rx_ground.proofs.TreeAgreesOnResource.{is_alone}
+use Rattle.std.proofs.Common.{rules}
 
 -- what is held is owned, or leases alone hold it
 counted_apart : (p q : ℕ → Bool) → ((n : ℕ) → q n ≡ true → p n ≡ true) → (ns : List ℕ) →
@@ -34,14 +35,11 @@ pub debt_counted : {base : Kept} {h : List Event} {nodes waiting accepted taken 
     leases ≡ lease_count h → owing ≡ owed_count base h →
     nodes + 2 * ((accepted - taken - waiting) - alone) + alone + waiting + leases + owing ≡ debt base h
 debt_counted {base} {h} law o w a t k l p =
-    let parts = accepted_count-parts base h law in
-    let counts = debt-counts base h in
-    let apart = held_counted h in
-    omega arith
+    search (rules, accepted_count-parts, debt-counts, held_counted)
 
 -- a register that is paid for has room for it
 pub debt_bounded : (s : State) → IsPromised s → IsPaid s → debt s.base s.history ≤ 4294967295
-debt_bounded s promised paid = let e = paid.events in let b = promised.begun in let r = promised.room in let l = promised.limited in omega arith
+debt_bounded s promised paid = search rules
 
 -- and each open node takes a part of it
 pub open_count_in_debt : (base : Kept) → (h : List Event) → open_count h ≤ debt base h

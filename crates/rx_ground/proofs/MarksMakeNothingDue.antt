@@ -1,63 +1,37 @@
 -- A node at whose place a node is opened, or to which an item is projected, has not to end by that, so its key need not go
 -- on the chain.
-use Rattle.rx_ground.proofs.Common.{◌≡◌, ℕ, ◌+◌, ◌==◌, ◌++◌, cond, Bool, true, false, List, [], ◌∷◌, Option, Some, None, is_some, option_map, IsSome, IfSome}
-use Rattle.rx_ground.proofs.Common.{refl, sym, ap, subst, ◌∙◌, arith, option_map_or, option_or, nat_tests, none-some, Terminal, Marks, Event, Open, Connect}
-use Rattle.rx_ground.proofs.Common.{End, Pass, Flat, Switch, Until, terminal_due, due_at, after_source, after_notifier, Key, Slots, find, Node, Tree, is_on}
+use Rattle.rx_ground.proofs.Common.{◌≡◌, ℕ, ◌+◌, ◌==◌, cond, Bool, false, List, Option, Some, None, is_some, option_map, IsSome, IfSome}
+use Rattle.rx_ground.proofs.Common.{refl, sym, ap, subst, ◌∙◌, option_map_or, option_or, nat_tests, none-some, Terminal, Marks, Event}
+use Rattle.rx_ground.proofs.Common.{End, terminal_due, due_at, after_source, after_notifier, Key, Slots, find, Node, Tree, is_on}
 use Rattle.rx_ground.proofs.Common.{Rewrites, is_due, with_due, with_marks, some_of, IsUndue, Remarks}
 use Rattle.std.proofs.Common.{◌&&◌, true≢false}
-use Rattle.rx_event.specs.Marks.{completed_if, is_over, after_projection}
+use Rattle.rx_event.specs.Marks.{completed_if, after_projection}
 use Rattle.rx_ground.proofs.TiedWhileSettling.{SetsMarks, set_remarks}
+use Rattle.std.proofs.Common.{rules}
 
 -- marks -------------------------------------------------------------------------------------------
 
 -- a FlatMap or a Switch does not complete while a child is open
 busy : (c : Option Terminal) (over a d : Bool) (n : ℕ) → option_or c (completed_if over) ≡ None → option_or c (completed_if (a && (n + 1 == 0) && d)) ≡ None
-busy (Some t) over a d n none = none
-busy None over a d n none = shape a (n + 1 == 0) d (grind (arith, nat_tests)) where
-  shape : (a b d : Bool) → b ≡ false → completed_if (a && b && d) ≡ None
-  shape false b d some = refl
-  shape true true d some = absurd (true≢false some)
-  shape true false d some = refl
+busy x0 over a d n none = search (rules, nat_tests, true≢false)
 
 -- what had not to end has not to with a child more
 pub source_undue : (made : Event) (m : Marks) → terminal_due made m ≡ None → terminal_due made (after_source m) ≡ None
-source_undue (Open place Pass) m none = none
-source_undue (Open place Until) m none = none
-source_undue (Open place Flat) m none = busy m.child_terminal (is_over m) m.source_completed (m.owed == 0) m.open_children none
-source_undue (Open place Switch) m none = busy m.child_terminal (is_over m) m.source_completed (m.owed == 0) m.open_children none
-source_undue (Connect g) m none = none
-source_undue _ m none = refl
+source_undue x0 m none = search (rules, busy)
 
 pub notifier_undue : (made : Event) (m : Marks) → terminal_due made m ≡ None → terminal_due made (after_notifier m) ≡ None
-notifier_undue (Open place Pass) m none = none
-notifier_undue (Open place Until) m none = none
-notifier_undue (Open place Flat) m none = busy m.child_terminal (is_over m) m.source_completed (m.owed == 0) m.open_children none
-notifier_undue (Open place Switch) m none = busy m.child_terminal (is_over m) m.source_completed (m.owed == 0) m.open_children none
-notifier_undue (Connect g) m none = none
-notifier_undue _ m none = refl
+notifier_undue x0 m none = search (rules, busy)
 
 -- nor with an item more that it owes an inner
 owing : (c : Option Terminal) (over a b : Bool) (n : ℕ) → option_or c (completed_if over) ≡ None → option_or c (completed_if (a && b && (n + 1 == 0))) ≡ None
-owing (Some t) over a b n none = none
-owing None over a b n none = shape a b (n + 1 == 0) (grind (arith, nat_tests)) where
-  shape : (a b d : Bool) → d ≡ false → completed_if (a && b && d) ≡ None
-  shape false b d some = refl
-  shape true false d some = refl
-  shape true true true some = absurd (true≢false some)
-  shape true true false some = refl
+owing x0 over a b n none = search (rules, nat_tests, true≢false)
 
 pub projection_undue : (made : Event) (m : Marks) → terminal_due made m ≡ None → terminal_due made (after_projection m) ≡ None
-projection_undue (Open place Pass) m none = none
-projection_undue (Open place Until) m none = none
-projection_undue (Open place Flat) m none = owing m.child_terminal (is_over m) m.source_completed (m.open_children == 0) m.owed none
-projection_undue (Open place Switch) m none = owing m.child_terminal (is_over m) m.source_completed (m.open_children == 0) m.owed none
-projection_undue (Connect g) m none = none
-projection_undue _ m none = refl
+projection_undue x0 m none = search rules
 
 -- no event is forced just where no terminal is
 pub no_terminal : (n : ℕ) (o : Option Terminal) → option_map (λ (t : Terminal). End n t) o ≡ None → o ≡ None
-no_terminal n None none = refl
-no_terminal n (Some t) none = absurd (none-some (End n t) (sym none))
+no_terminal n x1 none = search (rules, none-some)
 
 -- off a chain no node has to end
 pub off_undue : (nodes : Slots Node) (chain : List Key) →
@@ -72,11 +46,7 @@ off_undue nodes chain quiet key off = by_value (find nodes key) refl where
 
 -- it stays where a node off it has not to end
 same_chain : (nodes : Slots Node) (key : Key) (chain : List Key) → (is_on key chain ≡ false → is_due nodes key ≡ false) → with_due nodes key chain ≡ chain
-same_chain nodes key chain off = by_test (is_due nodes key) (is_on key chain) off where
-  by_test : (d b : Bool) → (b ≡ false → d ≡ false) → cond d (cond b chain (chain ++ key ∷ [])) chain ≡ chain
-  by_test false b off = refl
-  by_test true true off = refl
-  by_test true false off = absurd (true≢false (off refl))
+same_chain nodes key chain off = search (rules, cond, true≢false)
 
 -- marks that change so, by which the node has not to end
 pub remarks_undue : {T : Type 0} {old new : Tree T} {key : Key} (change : Marks → Marks) →
@@ -102,16 +72,4 @@ remarks_undue {T = T} {old} {new} {key} change undue there quiet nodes chain sto
 pub remarks_none : {T : Type 0} (tree : Tree T) (key : Key) → IsSome (find tree.nodes key) → (is_on key tree.chain ≡ false → IsUndue tree.nodes key) →
     Remarks tree tree key (λ m. m)
 remarks_none {T = T} tree key there quiet =
-    let x = some_of (find tree.nodes key) there in
-    let off : is_on key tree.chain ≡ false → is_due tree.nodes key ≡ false =
-    λ off. ap (λ (o : Option Node). option_map_or (λ (n : Node). is_some (terminal_due n.made n.marks)) o false) x.1 ∙
-    ap is_some (subst (λ (o : Option Node). IfSome o (λ n. terminal_due n.made n.marks ≡ None)) x.1 (quiet off)) in
-    record {
-      nodes = record { changed = same (find tree.nodes key); others = λ other differs. refl; rest = refl };
-      chain = sym (same_chain tree.nodes key tree.chain off);
-      resources = refl;
-    }
-  where
-    same : (o : Option Node) → o ≡ option_map (λ (node : Node). with_marks node.marks node) o
-    same None = refl
-    same (Some node) = refl
+    search (rules, some_of, find, option_map_or, is_some, same_chain, option_map)

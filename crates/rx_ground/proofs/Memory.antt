@@ -1,5 +1,6 @@
 -- Writes that take no memory, alone and in turn.
-use Rattle.rx_ground.proofs.Common.{◌≡◌, ◌+◌, List, length, ap, ◌∙◌, arith, length-append, Event, Slots, Writes, Ground, TakesNoMemory}
+use Rattle.rx_ground.proofs.Common.{◌≡◌, ◌+◌, List, length, ap, length-append, Event, Slots, Writes, Ground, TakesNoMemory}
+use Rattle.std.proofs.Common.{rules}
 
 -- slots whose entries alone changed
 pub same_places : {X : Type 0} (old new : Slots X) → new ≡ record old { entries = new.entries } → new.count + new.room ≡ old.count + old.room
@@ -12,24 +13,8 @@ module _ {T : Type 0} where
       new.tree.resources.count + new.tree.resources.room ≡ old.tree.resources.count + old.tree.resources.room →
       new.tree.nodes.count + new.space ≡ old.tree.nodes.count + old.space →
       length new.hubs.hubs + new.hubs.room ≡ length old.hubs.hubs + old.hubs.room → new.hubs.slots ≡ old.hubs.slots → TakesNoMemory old new
-  written_memory {old = old} {new = new} es w nodes resources closing hubs slots = record {
-    events = let n = ap (λ (k : List Event). length k) w.history in let r = w.room in omega (arith, length-append old.register.history es);
-    notes = let r = w.mail_room in omega arith;
-    nodes = nodes;
-    resources = resources;
-    hubs = hubs;
-    slots = slots;
-    closing = closing;
-  }
+  written_memory {old = old} {new = new} es w nodes resources closing hubs slots = search (rules, length, length-append)
 
   -- one after the other
   pub memory_on : (a b c : Ground T) → TakesNoMemory a b → TakesNoMemory b c → TakesNoMemory a c
-  memory_on a b c x y = record {
-    events = y.events ∙ x.events;
-    notes = y.notes ∙ x.notes;
-    nodes = y.nodes ∙ x.nodes;
-    resources = y.resources ∙ x.resources;
-    hubs = y.hubs ∙ x.hubs;
-    slots = y.slots ∙ x.slots;
-    closing = y.closing ∙ x.closing;
-  }
+  memory_on a b c x y = search rules

@@ -5,6 +5,7 @@ use Rattle.rx_ground.proofs.Common.{after_child, MayFollow, IsLawful, is_open_ou
 use Rattle.rx_ground.proofs.Common.{parent_number, some_of, Record, IsTied, KeepsNodes, Remarks, Cuts, record_of}
 use Rattle.rx_ground.proofs.Records.{parent_in_tree}
 use Rattle.rx_ground.proofs.StaysTied.{tied_end_top, tied_end_child, parent_stays, cut_keeps, keeps_marked}
+use Rattle.std.proofs.Common.{rules}
 
 -- what the record of a node tells of it
 pub record IsRead (h : List Event) (nodes : Slots Node) (key : Key) (read : Record) : Type 0 where
@@ -56,12 +57,7 @@ module _ {base : Kept} {T : Type 0} {g : Ghosts T} {h : List Event} {n : ℕ} {t
   -- and has an open child
   pub above_counted : (above : Option Key) → IsReadyToEnd base g h n t made above old mid →
       IfSome above (λ key. IfSome (find mid.nodes key) (λ node. 0 < node.marks.open_children))
-  above_counted None ready = tt
-  above_counted (Some p) ready =
-      let x = above_stays p ready in
-      let counted = child_counted h n p.number ready.alive (sym ready.named) in
-      let marks = (ready.tied.records.each p x.0 x.1).marks in
-      subst (λ o. IfSome o (λ (node : Node). 0 < node.marks.open_children)) (sym x.2) (rw marks counted)
+  above_counted x0 ready = search (rules, above_stays, child_counted)
 
   pub ended_tied : {new : Tree T} (above : Option Key) → IsReadyToEnd base g h n t made above old mid → AreApart mid.nodes →
       IfSome above (λ key. IfSome (find mid.nodes key) (λ node.

@@ -9,15 +9,13 @@ use Rattle.std.specs.List.{count_by}
 use Rattle.rx_event.specs.Climb.{Stop, stop_at, onward, visited, climb, stops}
 use Rattle.rx_event.proofs.Laws.Projections.{owed-push, owed_new, projected_open, projected_count, stops_open}
 use Rattle.rx_register.specs.State.{State as Register}
+use Rattle.std.proofs.Common.{rules}
 
 -- what one node owes ------------------------------------------------------------------------------
 
 -- what an open node owes
 pub owed_open-open : (base : Kept) → (h : List Event) → IsLawful base h → (n : ℕ) → is_open h n ≡ true → owed_open base h n ≡ owed base h n
-owed_open-open base h law n alive = by_kind (at is_merging h n) refl where
-  by_kind : (b : Bool) → at is_merging h n ≡ b → owed_open base h n ≡ owed base h n
-  by_kind true merges = rw (alive, merges) refl
-  by_kind false plain = rw (alive, plain) (sym (owed_plain base h law n alive plain))
+owed_open-open base h law n alive = search (rules, owed_plain)
 
 -- what all owe ------------------------------------------------------------------------------------
 
@@ -46,8 +44,7 @@ unfolding stops climb
 projected_item h l = projected_visits (suc most_visits) h (l ∷ [])
 
 few_projected : (h : List Event) (e : Event) (most : ℕ) → suc most_visits ≡ most → count_by is_projection (stops_of h e) ≤ most
-few_projected h (Item l v) most is = let few = projected_item h l in omega arith
-few_projected h _ most is = omega arith
+few_projected h x1 most is = search (rules, projected_item)
 
 -- an event adds what it projects at most
 owed_count-rise : (base : Kept) → (h : List Event) (e : Event) → IsLawful base h → MayFollow base h e →
@@ -92,23 +89,14 @@ owed_count-le base =
 -- and with at most 4,294,967,295 events since, and a base whose closing fits them, it is far within 64 bits
 pub owed_count-bounded : (s : Register) → IsPromised s → owed_count s.base s.history ≤ 4503608216256510
 owed_count-bounded s promised =
-    let all = owed_count-le s.base s.history promised.lawful in
-    let long = length-shown s.base in
-    let within = promised.within in
-    let limited = promised.limited in
-    let closing = promised.closing in
-    let counts = debt-counts s.base (shown s.base) in
-    omega arith
+    search (rules, owed_count-le, length-shown, debt-counts)
 
 -- by the records of a tree ------------------------------------------------------------------------
 
 -- a node's marks owe something where it does by the history
 pub owes_told : {base : Kept} {h : List Event} {nodes : Slots Node} {chain : List Key} (key : Key) → AreRecords base h nodes chain →
     0 < owed base h key.number → IfSome (find nodes key) (λ (node : Node). 0 < node.marks.owed)
-owes_told {base} {h} {nodes} {chain} key records some = by_value (find nodes key) refl where
-  by_value : (o : Option Node) → find nodes key ≡ o → IfSome o (λ (node : Node). 0 < node.marks.owed)
-  by_value None found = tt
-  by_value (Some node) found = let same = ap (λ (m : Marks). m.owed) (records.each key node found).marks in omega (arith, some)
+owes_told {base} {h} {nodes} {chain} key records some = search (rules, find)
 
 -- what the records owe together is what the history's FlatMaps and Switches do
 pub owed_in-count : (base : Kept) → (h : List Event) → IsLawful base h → (nodes : Slots Node) (chain : List Key) → AreRecords base h nodes chain →
@@ -129,6 +117,4 @@ owed_in-count base h law nodes chain records apart = owed_in-numbers (owed_open 
 pub owed_in-bounded : {T : Type 0} (g : Ghosts T) (s : Register) (tree : Tree T) → IsTied s.base g s.history tree → IsPromised s → AreApart tree.nodes →
     owed_in tree.nodes ≤ 4503608216256510
 owed_in-bounded g s tree tied promised apart =
-    let same = owed_in-count s.base s.history promised.lawful tree.nodes tree.chain tied.records apart in
-    let all = owed_count-bounded s promised in
-    omega arith
+    search (rules, owed_in-count, owed_count-bounded)

@@ -1,12 +1,12 @@
 -- An item on its way over a tree and its hubs, from stop to stop.
-use Rattle.rx_ground.proofs.Common.{◌≡◌, ◌≢◌, ℕ, ℤ, zero, suc, ◌+◌, ◌<◌, ◌≤◌, Bool, true, false, cond, List, [], ◌∷◌, ◌++◌, length, Option, Some, None, refl}
+use Rattle.rx_ground.proofs.Common.{◌≡◌, ◌≢◌, ℕ, ℤ, zero, suc, ◌+◌, ◌<◌, ◌≤◌, cond, List, [], ◌∷◌, ◌++◌, length, Option, Some, None, refl}
 use Rattle.rx_ground.proofs.Common.{is_some, IsSome, IfSome, option_map, count_by, sym, ap, subst, ◌∙◌, inl, inr, ◌⊎◌, arith, length-append, append_assoc}
-use Rattle.rx_ground.proofs.Common.{if◌then◌else◌, AllByRecursion, filter_map, cons_option, option_and_then, option_map_or, option_to_list, filter_map-append}
-use Rattle.rx_ground.proofs.Common.{sum_by-append, Kept, Mail, Marks, Root, Source, Notifier, Event, Open, Item, is_merging, hub_connected, most_visits, told}
+use Rattle.rx_ground.proofs.Common.{AllByRecursion, filter_map, cons_option, option_and_then, option_map_or, option_to_list, filter_map-append}
+use Rattle.rx_ground.proofs.Common.{sum_by-append, Kept, Mail, Marks, Event, Item, told}
 use Rattle.rx_ground.proofs.Common.{is_projection, mail_of, IsLawful, AllByRecursion-both, Key, Slots, find, Node, owed_in, Tree, IsSound, AreApart, Rewrites}
-use Rattle.rx_ground.proofs.Common.{with_marks, cases_key, some_of, owed_rewritten, Stop, Delivery, Projection, Firing, Connection, numbered, made_of, Hub}
-use Rattle.rx_ground.proofs.Common.{above_of, stop_made, stop_of, stop_of-found, above_found, find_hub, Route, IsOrdered, IsUnderWay, Arrives, stops_left}
-use Rattle.rx_ground.proofs.Common.{IsWalk, subscribers_of, onward_by, onward_over, visited_over, arrival, arrival_at, stops_over, all_stops_told, AreRecords}
+use Rattle.rx_ground.proofs.Common.{with_marks, cases_key, some_of, owed_rewritten, Stop, Delivery, Projection, Firing, Connection, numbered, Hub}
+use Rattle.rx_ground.proofs.Common.{stop_made, stop_of-found, above_found, find_hub, Route, IsOrdered, IsUnderWay, Arrives, stops_left}
+use Rattle.rx_ground.proofs.Common.{IsWalk, subscribers_of, onward_over, visited_over, arrival, arrival_at, stops_over, all_stops_told, AreRecords}
 use Rattle.rx_ground.proofs.Common.{IsOrdered-walk, Remarks, ArePassed, IsPassing, IsThere, IsMarkedAt, owed_at, told_at, mail_at, sum_at}
 use Rattle.rx_event.specs.Climb.{Stop as NumberedStop, Delivery as DeliveryTo, Projection as ProjectionTo, Firing as FiringOf, stops}
 use Rattle.rx_event.specs.Marks.{after_projection, after_firing}
@@ -15,6 +15,7 @@ use Rattle.rx_hub.proofs.Laws.Routes.{stops_left-marked, ordered-marked, under_w
 use Rattle.rx_ground.proofs.CountsOnTheWay.{filtered_few, stops_few}
 use Rattle.rx_ground.proofs.RecordsAfterItem.{Changes, projection_changes, firing_changes, passed_none, passed_told, passed_marked}
 use Rattle.rx_ground.proofs.WayAsInHistory.{told_sum}
+use Rattle.std.proofs.Common.{rules}
 
 -- what is reached is there ------------------------------------------------------------------------
 
@@ -24,25 +25,10 @@ AreFound nodes keys = AllByRecursion (λ key. IsSome (find nodes key)) keys
 module _ (nodes : Slots Node) (hubs : List Hub) (sound : IsSound nodes)
     (subscribed : (g : ℕ) (hub : Hub) → find_hub hubs g ≡ Some hub → AreFound nodes hub.subscribers) where
   subscribers_found : (made : Option Event) → AreFound nodes (subscribers_of hubs made)
-  subscribers_found made = by_hub (option_and_then hub_connected made) where
-    by_number : (g : ℕ) (o : Option Hub) → find_hub hubs g ≡ o → AreFound nodes (option_map_or (λ (hub : Hub). hub.subscribers) o [])
-    by_number g None found = tt
-    by_number g (Some hub) found = subscribed g hub found
-
-    by_hub : (o : Option ℕ) → AreFound nodes (option_map_or (λ (hub : Hub). hub.subscribers) (option_and_then (find_hub hubs) o) [])
-    by_hub None = tt
-    by_hub (Some g) = by_number g (find_hub hubs g) refl
+  subscribers_found made = search (rules, option_and_then, option_map_or)
 
   onward_found : (key : Key) → AreFound nodes (onward_over nodes hubs key)
-  onward_found key = by_stop (stop_of nodes key) where
-    to_parent : (o : Option Key) → above_of nodes key ≡ o → AreFound nodes (option_to_list o)
-    to_parent None above = tt
-    to_parent (Some up) above = (above_found nodes key up sound above, tt)
-
-    by_stop : (s : Option Stop) → AreFound nodes (onward_by nodes hubs key s)
-    by_stop None = to_parent (above_of nodes key) refl
-    by_stop (Some (Connection c)) = subscribers_found (made_of nodes c)
-    by_stop (Some _) = tt
+  onward_found key = search (rules, option_to_list, above_found, subscribers_found)
 
   visited_found : (left : ℕ) (keys : List Key) → AreFound nodes keys → AreFound nodes (visited_over left nodes hubs keys)
   visited_found zero keys found = tt
@@ -50,20 +36,12 @@ module _ (nodes : Slots Node) (hubs : List Hub) (sound : IsSound nodes)
   visited_found (suc left) (key ∷ keys) found = (
     found.0,
     visited_found left (onward_over nodes hubs key ++ keys)
-        (AllByRecursion-both (λ k. IsSome (find nodes k)) (onward_over nodes hubs key) keys (onward_found key) found.1),
+        (search (rules, AllByRecursion-both, find, onward_found)),
   )
 
   made_there : (key : Key) (above : Option Key) (made : Event) → IsSome (find nodes key) → IfSome above (λ k. IsSome (find nodes k)) →
       IfSome (option_and_then arrival (stop_made nodes key above made)) (IsThere nodes)
-  made_there key above (Open Root kind) there up = there
-  made_there key None (Open (Source f) kind) there up = tt
-  made_there key (Some p) (Open (Source f) kind) there up = by_test (option_map_or is_merging (made_of nodes p) false) where
-    by_test : (b : Bool) → IfSome (option_and_then arrival (option_map (λ k. Projection k) (if b then Some p else None))) (IsThere nodes)
-    by_test true = up
-    by_test false = tt
-  made_there key None (Open (Notifier u) kind) there up = tt
-  made_there key (Some p) (Open (Notifier u) kind) there up = up
-  made_there key above _ there up = tt
+  made_there key above x2 there up = search (rules, option_map_or, option_and_then, option_map)
 
   arrival_there : (key : Key) → IsSome (find nodes key) → IfSome (arrival_at nodes key) (IsThere nodes)
   arrival_there key there =
@@ -73,14 +51,10 @@ module _ (nodes : Slots Node) (hubs : List Hub) (sound : IsSound nodes)
 
   arrivals_there : (keys : List Key) → AreFound nodes keys → AllByRecursion (IsThere nodes) (filter_map (arrival_at nodes) keys)
   arrivals_there [] found = tt
-  arrivals_there (key ∷ keys) found = by_stop (arrival_at nodes key) (arrival_there key found.0) (arrivals_there keys found.1) where
-    by_stop : (o : Option Stop) → IfSome o (IsThere nodes) → AllByRecursion (IsThere nodes) (filter_map (arrival_at nodes) keys) →
-        AllByRecursion (IsThere nodes) (cons_option o (filter_map (arrival_at nodes) keys))
-    by_stop None is rest = rest
-    by_stop (Some s) is rest = (is, rest)
+  arrivals_there (key ∷ keys) found = search (rules, arrival_there, AllByRecursion, filter_map, cons_option, arrivals_there keys found.1)
 
   stops_there : (key : Key) → IsSome (find nodes key) → AllByRecursion (IsThere nodes) (stops_over nodes hubs key)
-  stops_there key there = arrivals_there (visited_over (suc most_visits) nodes hubs (key ∷ [])) (visited_found (suc most_visits) (key ∷ []) (there, tt))
+  stops_there key there = search (rules, arrivals_there, visited_found, there)
 
 -- one stop ----------------------------------------------------------------------------------------
 
@@ -304,8 +278,7 @@ module _ {T : Type 0} (first : Register) (start : Tree T) (hubs : List Hub) (roo
     (arrives : Arrives tree.nodes hubs route next (Some stop)) (marks : IsMarkedAt stop tree marked) where
   marked_further : (last : NumberedStop) × IsNumbered stop last × IsFurther first.base first.history going.passing.done hubs next stop last tree marked
   marked_further =
-      further first.base first.history going.passing.done hubs next tree marked going.passing.records going.apart going.ordered arrives.under_way stop
-      (stop_there first start hubs room leaf value register tree route next stop going arrives) marks
+      search (rules, further)
 
   pub going_on : (told_register : Register) → told_register ≡ record register { pending = told_register.pending; mail_room = told_register.mail_room } →
       told_register.pending ≡ register.pending ++ option_to_list (mail_at (length register.history) value stop) →
@@ -348,16 +321,12 @@ module _ {T : Type 0} (first : Register) (start : Tree T) (hubs : List Hub) (lea
       all.0
 
   one_stop : stops first.history leaf.number ≡ filter_map numbered (stop ∷ [])
-  one_stop = all_stops_told first.base first.history start.nodes hubs leaf walk found ∙ ap (filter_map numbered) one
+  one_stop = search (rules, all_stops_told, filter_map)
 
   -- there is room for what it tells
   pub one_room : length (mail_of first.history (Item leaf.number value)) ≤ first.mail_room → told_at stop ≤ first.mail_room
   one_room notes =
-      let f = told (length first.history) value in
-      let all = ap (λ (ss : List NumberedStop). length (filter_map f ss)) one_stop in
-      let sum = told_sum (length first.history) value (stop ∷ []) in
-      let none : sum_at told_at (stop ∷ []) ≡ told_at stop + 0 = refl in
-      omega arith
+      search (rules, length, filter_map, one_stop, told_sum)
 
   module _ (told_register : Register) (marked : Tree T) (marks : IsMarkedAt stop start marked) where
     one_further : (last : NumberedStop) × IsNumbered stop last × IsFurther first.base first.history [] hubs (nowhere hubs) stop last start marked

@@ -2,8 +2,8 @@
 use Rattle.rx_ground.proofs.Common.{◌≡◌, ◌≢◌, ℕ, suc, ◌+◌, ◌<◌, Bool, true, false, List, [], ◌∷◌, ◌++◌, length, Option, Some, None, is_some, IsSome, IfSome}
 use Rattle.rx_ground.proofs.Common.{option_map, refl, sym, ap, subst, ◌∙◌, arith, inl, inr, ◌⊎◌, IfNone, not, ◌&&◌, ne_eqb, cases_Bool, none-some, same_Some}
 use Rattle.rx_ground.proofs.Common.{count_by-le-length, length-range_with_len, Kept, Ghosts, Marks, Place, Root, Source, Inner, Notifier, Kind, Event, Open}
-use Rattle.rx_ground.proofs.Common.{named_by, is_switch, is_inner_of, at, is_open, places, is_open_child_of, is_within, owed, terminal_due, marks_of, touches}
-use Rattle.rx_ground.proofs.Common.{open_children, after_source, after_notifier, after_inner, MayFollow, IsLawful, IsOpenInner, is_open_kept, is_open_cut}
+use Rattle.rx_ground.proofs.Common.{named_by, at, is_open, places, is_open_child_of, is_within, owed, terminal_due, marks_of, touches}
+use Rattle.rx_ground.proofs.Common.{open_children, after_source, after_notifier, after_inner, MayFollow, IsLawful, is_open_kept, is_open_cut}
 use Rattle.rx_ground.proofs.Common.{is_cut_inner, is_open_within, may_open, may_name, marks-source_at, marks-notifier_at, marks-inner_at_flat, Key, find}
 use Rattle.rx_ground.proofs.Common.{marks-inner_at_first, marks-inner_at_next, entry_at, KeepsOthers, Node, Tree, IsSound, AreApart, IsNewest, IsPlaced, Hubs}
 use Rattle.rx_ground.proofs.Common.{is_on, blank_node, some_of, newest_fewer, IsRecordOf, IsTied, AreTied, IsUndue, Remarks, IsNewNode, opened_marks}
@@ -13,32 +13,19 @@ use Rattle.rx_ground.proofs.MarksMakeNothingDue.{no_terminal}
 use Rattle.rx_ground.proofs.Newest.{newest}
 use Rattle.rx_ground.proofs.Records.{AreLeft, all_left, cut_left}
 use Rattle.rx_ground.proofs.StaysTied.{IsOpenedIn, found_still, still_there, rewritten_there, tied_root, tied_below}
+use Rattle.std.proofs.Common.{rules}
 
 -- what an opening closes --------------------------------------------------------------------------
 
 -- where it takes the place of none it closes none
 pub none_closed : (h : List Event) (place : Place) (kind : Kind) → ReplacesNone h place → (n : ℕ) → n < length h →
     is_open (h ++ Open place kind ∷ []) n ≡ is_open h n
-none_closed h Root kind none n l = is_open_kept h (Open Root kind) n l refl
-none_closed h (Source f) kind none n l = is_open_kept h (Open (Source f) kind) n l refl
-none_closed h (Notifier f) kind none n l = is_open_kept h (Open (Notifier f) kind) n l refl
-none_closed h (Inner f) kind none n l = by_test (cases_Bool (at is_switch h f)) where
-  by_test : (at is_switch h f ≡ true) ⊎ (at is_switch h f ≡ false) → is_open (h ++ Open (Inner f) kind ∷ []) n ≡ is_open h n
-  by_test (inl switch) = is_open-inner_first h f kind (none f refl switch) n l
-  by_test (inr flat) = is_open-inner_flat h f kind flat n l
+none_closed h x1 kind none n l = search (rules, is_open_kept, cases_Bool, is_open-inner_first, is_open-inner_flat)
 
 -- the node above stays open
 above_open : (base : Kept) → (h : List Event) (place : Place) (kind : Kind) (p : ℕ) → MayFollow base h (Open place kind) → named_by place ≡ Some p →
     is_open (h ++ Open place kind ∷ []) p ≡ true
-above_open base h Root kind p next named = absurd (none-some p named)
-above_open base h (Source f) kind p next named = let alive = may_name base next named in
-    is_open_kept h (Open (Source f) kind) p (is_open_within h p alive) refl ∙ alive
-above_open base h (Notifier f) kind p next named =
-    let alive = may_name base next named in is_open_kept h (Open (Notifier f) kind) p (is_open_within h p alive) refl ∙ alive
-above_open base h (Inner f) kind p next named =
-    let alive = may_name base next named in
-    let same = same_Some f p named in
-    is_open_cut h (Open (Inner f) kind) p (is_open_within h p alive) ∙ rw (alive, is_cut_inner h f kind p (omega arith)) refl
+above_open base h x2 kind p next named = search (rules, none-some, may_name, is_open_kept, is_open_within, same_Some, is_open_cut, is_cut_inner)
 
 same_inner : (f q : ℕ) → Inner f ≡ Inner q → f ≡ q
 same_inner f q same = same_Some f q (ap named_by same)
@@ -99,39 +86,11 @@ module _ {base : Kept} {T : Type 0} {g : Ghosts T} {h : List Event} {place : Pla
         (none_closed h place kind (ready.way.none leaves)))
 
   pub way_resources : left.resources ≡ old.resources
-  way_resources = by_test (cases_Bool replaces) where
-    by_test : (replaces ≡ true) ⊎ (replaces ≡ false) → left.resources ≡ old.resources
-    by_test (inl takes) = (ready.way.exchanged takes).cuts.resources
-    by_test (inr leaves) = ap (λ (t : Tree T). t.resources) (ready.way.same leaves)
+  way_resources = search (rules, cases_Bool)
 
   -- an inner changes the marks of the node above as it takes the place of another or not
   way_marks : (f : ℕ) → place ≡ Inner f → marks_of base (h ++ Open (Inner f) kind ∷ []) f ≡ after_inner replaces (marks_of base h f)
-  way_marks f named = by_test (cases_Bool replaces) where
-    may : MayFollow base h (Open (Inner f) kind)
-    may = subst (λ (q : Place). MayFollow base h (Open q kind)) named ready.next
-
-    exchanged : Exchanges h place old left → marks_of base (h ++ Open (Inner f) kind ∷ []) f ≡ after_inner true (marks_of base h f)
-    exchanged x =
-        let r = x.replaced in
-        let same : r.switch ≡ f = same_inner r.switch f (sym r.named ∙ named) in
-        let found = some_of (find old.nodes x.inner) r.inner.found in
-        let alive : is_open h x.inner.number ≡ true = (ready.tied.of_tree.records.each x.inner found.0 found.1).alive in
-        let open_inner : IsOpenInner h f x.inner.number =
-        record {
-          switch = ap (at is_switch h) (sym same) ∙ r.switches;
-          inner = ap (λ n. at (is_inner_of n) h x.inner.number) (sym same) ∙ r.inner.stands;
-          alive = alive;
-        } in
-        marks-inner_at_next ready.law may open_inner
-
-    beside : ReplacesNone h place → (at is_switch h f ≡ true) ⊎ (at is_switch h f ≡ false) →
-        marks_of base (h ++ Open (Inner f) kind ∷ []) f ≡ after_inner false (marks_of base h f)
-    beside none (inl switch) = marks-inner_at_first base h f kind ready.law may (none f named switch)
-    beside none (inr flat) = marks-inner_at_flat base h f kind ready.law may flat
-
-    by_test : (replaces ≡ true) ⊎ (replaces ≡ false) → marks_of base (h ++ Open (Inner f) kind ∷ []) f ≡ after_inner replaces (marks_of base h f)
-    by_test (inl takes) = exchanged (ready.way.exchanged takes) ∙ ap (λ b. after_inner b (marks_of base h f)) (sym takes)
-    by_test (inr leaves) = beside (ready.way.none leaves) (cases_Bool (at is_switch h f)) ∙ ap (λ b. after_inner b (marks_of base h f)) (sym leaves)
+  way_marks f named = search (rules, cases_Bool, named, same_inner, some_of, find, marks-inner_at_next, marks-inner_at_first, marks-inner_at_flat)
 
   -- the node above is there, as it was
   pub above_found : (p : Key) (x : Node) → named_by place ≡ Some p.number → find old.nodes p ≡ Some x → find left.nodes p ≡ Some x
@@ -228,8 +187,7 @@ module _ {base : Kept} {T : Type 0} {g : Ghosts T} {h : List Event} {place : Pla
   pub opened_found : {mid : Tree T} {key : Key} (new : Tree T) (above : Option Key) → IsOpenedBelow h place kind above old left mid key →
       IfSome above (λ k. Remarks mid new k (opened_marks replaces place)) → IfNone above (new ≡ mid) →
       (k : Key) → IsSome (find left.nodes k) → IsSome (find new.nodes k)
-  opened_found new None below marked same k some = ap (λ (t : Tree T). is_some (find t.nodes k)) same ∙ ap is_some (left_still below k some) ∙ some
-  opened_found new (Some p) below marked same k some = still_there p marked.nodes k (ap is_some (left_still below k some) ∙ some)
+  opened_found new x1 below marked same k some = search (rules, is_some, find, left_still, still_there)
 
 -- the tie after an opening ----------------------------------------------------------------------------
 

@@ -2,14 +2,15 @@
 use Rattle.rx_ground.proofs.Common.{◌≡◌, ◌≢◌, ℕ, zero, suc, ◌<◌, ◌==◌, Bool, true, false, cond, List, [], ◌∷◌, ◌++◌, length, Option, Some, None, is_some, sym}
 use Rattle.rx_ground.proofs.Common.{option_map, slice_get, refl, ap, subst, ◌∙◌, inl, inr, ◌⊎◌, arith, length-append, not, ◌&&◌, ◌||◌, list_any, false≢true}
 use Rattle.rx_ground.proofs.Common.{option_and_then, option_map_or, cases_order, and_parts, and_from, or_parts, both_ways, eq-eqb, not-true, not_from_false}
-use Rattle.rx_ground.proofs.Common.{none-some, same_Some, Kept, Marks, Terminal, Event, End, makes_node, parent_named, is_open, parent, if_less, ancestors}
-use Rattle.rx_ground.proofs.Common.{shuts, marks_of, due_at, terminal_due, touches, MayFollow, IsLawful, slice_get-append, slice_get_last, ancestors_step}
+use Rattle.rx_ground.proofs.Common.{none-some, same_Some, Kept, Marks, Event, makes_node, parent_named, is_open, parent, if_less, ancestors}
+use Rattle.rx_ground.proofs.Common.{shuts, marks_of, due_at, touches, MayFollow, IsLawful, slice_get-append, slice_get_last, ancestors_step}
 use Rattle.rx_ground.proofs.Common.{parent-lt, option_map_or-same, shuts_none, is_open_within, is_open_cut, is_open_unchanged, parent_open, is_open_new, Key}
 use Rattle.rx_ground.proofs.Common.{marks-new, marks_untouched, blank_quiet, Slots, find, entry_at, with_number, KeepsOthers, Node, IsSound, AreApart, is_key}
-use Rattle.rx_ground.proofs.Common.{Rewrites, blank_node, named_above, parent_number, with_marks, with_last, with_due, is_on, is_due, is_below, outside}
+use Rattle.rx_ground.proofs.Common.{Rewrites, blank_node, named_above, parent_number, with_marks, with_last, with_due, is_on, is_below, outside}
 use Rattle.rx_ground.proofs.Common.{key_is, cases_key, IsChained, IsRecordOf, AreRecordsOf, HasKey, AreRecords}
 use Rattle.rx_tree.specs.Below.{up, ancestors as tree_ancestors}
 use Rattle.rx_tree.proofs.Laws.Below.{climb_step, up-lt, record_found}
+use Rattle.std.proofs.Common.{rules}
 
 -- the chain ---------------------------------------------------------------------------------------
 
@@ -18,63 +19,31 @@ key_itself a = and_from _ _ (eq-eqb a.slot a.slot refl) (eq-eqb a.number a.numbe
 
 on_append : (k : Key) (xs ys : List Key) → is_on k (xs ++ ys) ≡ (is_on k xs || is_on k ys)
 on_append k [] ys = refl
-on_append k (x ∷ xs) ys = by_test (is_key k x) (on_append k xs ys) where
-  by_test : (b : Bool) → is_on k (xs ++ ys) ≡ (is_on k xs || is_on k ys) → (b || is_on k (xs ++ ys)) ≡ ((b || is_on k xs) || is_on k ys)
-  by_test true e = refl
-  by_test false e = e
+on_append k (x ∷ xs) ys = search (rules, on_append k xs ys)
 
 -- a key that is put on the chain is there
 on_last : (p : Key) (chain : List Key) → is_on p (with_last p chain) ≡ true
-on_last p chain = by_test (is_on p chain) refl where
-  by_test : (b : Bool) → is_on p chain ≡ b → is_on p (cond b chain (chain ++ p ∷ [])) ≡ true
-  by_test true e = e
-  by_test false e = on_append p chain (p ∷ []) ∙ rw (e, key_itself p) refl
+on_last p chain = search (rules, cond, on_append, key_itself)
 
 -- and what is not there then was not there before
 off_last : (k p : Key) (chain : List Key) → is_on k (with_last p chain) ≡ false → is_on k chain ≡ false
-off_last k p chain off = by_test (is_on p chain) off where
-  by_test : (b : Bool) → is_on k (cond b chain (chain ++ p ∷ [])) ≡ false → is_on k chain ≡ false
-  by_test true e = e
-  by_test false e = (or_parts (is_on k chain) _ (sym (on_append k chain (p ∷ [])) ∙ e)).0
+off_last k p chain off = search (rules, off, cond, or_parts, on_append)
 
 -- a node that has to end is put there
 pub off_due : (nodes : Slots Node) (k p : Key) (chain : List Key) → is_on k (with_due nodes p chain) ≡ false → is_on k chain ≡ false
-off_due nodes k p chain off = by_test (is_due nodes p) off where
-  by_test : (b : Bool) → is_on k (cond b (with_last p chain) chain) ≡ false → is_on k chain ≡ false
-  by_test true e = off_last k p chain e
-  by_test false e = e
+off_due nodes k p chain off = search (rules, off, cond, off_last)
 
 -- and one that is not there then has not to end
 pub undue : (nodes : Slots Node) (p : Key) (node : Node) (chain : List Key) → find nodes p ≡ Some node → is_on p (with_due nodes p chain) ≡ false →
     due_at node.made node.marks p.number ≡ None
 undue nodes p node chain found off =
-    ap (option_map (λ (t : Terminal). End p.number t)) (none_of (terminal_due node.made node.marks) (sym now ∙ by_test (is_due nodes p) refl off))
-  where
-    now : is_due nodes p ≡ is_some (terminal_due node.made node.marks)
-    now = ap (λ (o : Option Node). option_map_or (λ (x : Node). is_some (terminal_due x.made x.marks)) o false) found
-
-    none_of : (o : Option Terminal) → is_some o ≡ false → o ≡ None
-    none_of None e = refl
-    none_of (Some t) e = absurd (false≢true (sym e))
-
-    by_test : (b : Bool) → is_due nodes p ≡ b → is_on p (cond b (with_last p chain) chain) ≡ false → is_due nodes p ≡ false
-    by_test true is e = absurd (both_ways (is_on p (with_last p chain)) e (on_last p chain))
-    by_test false is e = is
+    search (rules, option_map, off, is_some, option_map_or, false≢true, cond, both_ways, on_last)
 
 -- what stays open and is not on the chain that stays was not on it
 pub off_outside : (nodes : Slots Node) (top : ℕ) (k : Key) (chain : List Key) → is_below nodes top k.number ≡ false →
     is_on k (outside nodes top chain) ≡ false → is_on k chain ≡ false
 off_outside nodes top k [] apart off = refl
-off_outside nodes top k (x ∷ chain) apart off = by_test (off_outside nodes top k chain apart) (is_below nodes top x.number) refl off where
-  by_key : (is_on k (outside nodes top chain) ≡ false → is_on k chain ≡ false) → is_below nodes top x.number ≡ true →
-      is_on k (outside nodes top chain) ≡ false → (b : Bool) → is_key k x ≡ b → (b || is_on k chain) ≡ false
-  by_key rest e off true same = absurd (false≢true (sym apart ∙ ap (λ (j : Key). is_below nodes top j.number) (key_is k x same) ∙ e))
-  by_key rest e off false other = rest off
-
-  by_test : (is_on k (outside nodes top chain) ≡ false → is_on k chain ≡ false) → (b : Bool) → is_below nodes top x.number ≡ b →
-      is_on k (cond (not b) (x ∷ outside nodes top chain) (outside nodes top chain)) ≡ false → (is_key k x || is_on k chain) ≡ false
-  by_test rest false e off = let parts = or_parts (is_key k x) (is_on k (outside nodes top chain)) off in rw parts.0 (rest parts.1)
-  by_test rest true e off = by_key rest e off (is_key k x) refl
+off_outside nodes top k (x ∷ chain) apart off = search (rules, off, false≢true, key_is, cond, not, or_parts, off_outside nodes top k chain apart)
 
 -- a step of the records ---------------------------------------------------------------------------
 
@@ -156,10 +125,7 @@ as_records base h nodes chain r = record {
 
 -- nothing is due off their chain
 pub chained : (base : Kept) → (h : List Event) (nodes : Slots Node) (chain : List Key) → AreRecords base h nodes chain → IsChained nodes chain
-chained base h nodes chain r key off = by_node (find nodes key) refl where
-  by_node : (o : Option Node) → find nodes key ≡ o → option_and_then (λ (node : Node). due_at node.made node.marks key.number) o ≡ None
-  by_node None found = refl
-  by_node (Some node) found = r.quiet key node found off
+chained base h nodes chain r key off = search (rules, find, option_and_then, off)
 
 -- another chain, off which nothing is due
 pub rechained : (base : Kept) → (h : List Event) (nodes : Slots Node) (chain other : List Key) → AreRecords base h nodes chain → IsChained nodes other →
@@ -219,7 +185,7 @@ module _ (base : Kept) (h : List Event) (e : Event) (law : IsLawful base h) (nex
     (r : AreRecords base h nodes chain) where
   -- what was made is still made
   made_still : (key : Key) (node : Node) → find nodes key ≡ Some node → slice_get (h ++ e ∷ []) key.number ≡ Some node.made
-  made_still key node found = let is = r.each key node found in slice_get-append h (e ∷ []) key.number (is_open_within h key.number is.alive) ∙ is.made
+  made_still key node found = search (rules, slice_get-append, is_open_within)
 
   -- an event that touches no node
   pub records_still : shuts_none e ≡ true → makes_node e ≡ false → ((n : ℕ) → touches h n e ≡ false) → AreRecords base (h ++ e ∷ []) nodes chain

@@ -8,6 +8,7 @@ use Rattle.rx_event.specs.Marks.{after_stop, after_stops, after_projection, afte
 use Rattle.rx_ground.proofs.HubsAfterEvent.{tied_on}
 use Rattle.rx_ground.proofs.Records.{undue, off_due}
 use Rattle.rx_ground.proofs.ResourcesAfterEvent.{all_stored}
+use Rattle.std.proofs.Common.{rules}
 
 -- marks -------------------------------------------------------------------------------------------
 
@@ -37,25 +38,13 @@ firing_changes n = record {
 
 -- before the first stop
 pub passed_none : (base : Kept) → (h : List Event) (nodes : Slots Node) (chain : List Key) → AreRecords base h nodes chain → ArePassed base h [] nodes chain
-passed_none base h nodes chain r = record {
-  made = λ key node found. (r.each key node found).made;
-  alive = λ key node found. (r.each key node found).alive;
-  marks = λ key node found. (r.each key node found).marks;
-  every = r.every;
-  quiet = r.quiet;
-}
+passed_none base h nodes chain r = search rules
 
 -- at a stop that changes no marks
 pub passed_told : (base : Kept) → (h : List Event) (done : List NumberedStop) (nodes : Slots Node) (chain : List Key) (root : ℕ) →
     ArePassed base h done nodes chain →
     ArePassed base h (done ++ DeliveryTo root ∷ []) nodes chain
-passed_told base h done nodes chain root p = record {
-  made = p.made;
-  alive = p.alive;
-  marks = λ key node found. p.marks key node found ∙ sym (after_stops-append key.number done (DeliveryTo root) (marks_of base h key.number));
-  every = p.every;
-  quiet = p.quiet;
-}
+passed_told base h done nodes chain root p = search (rules, after_stops-append)
 
 -- at one that changes those of one record
 pub passed_marked : {base : Kept} →
@@ -130,17 +119,7 @@ passed_marked {base} {h} {done} {nodes} {new} {chain} p s change was apart there
 pub passed_all : {base : Kept} → (h : List Event) (leaf : ℕ) (v : ℤ) (nodes : Slots Node) (chain : List Key) → IsLawful base h →
     MayFollow base h (Item leaf v) →
     ArePassed base h (stops h leaf) nodes chain → AreRecords base (h ++ Item leaf v ∷ []) nodes chain
-passed_all {base} h leaf v nodes chain law next p = record {
-  each = λ key node found.
-      let within = is_open_within h key.number (p.alive key node found) in
-      record {
-        made = slice_get-append h (Item leaf v ∷ []) key.number within ∙ p.made key node found;
-        alive = is_open_unchanged h (Item leaf v) refl refl key.number ∙ p.alive key node found;
-        marks = p.marks key node found ∙ sym (marks-item_at base h leaf v law next key.number within);
-      };
-  every = λ n alive. p.every n (sym (is_open_unchanged h (Item leaf v) refl refl n) ∙ alive);
-  quiet = p.quiet;
-}
+passed_all {base} h leaf v nodes chain law next p = search (rules, is_open_within, slice_get-append, is_open_unchanged, marks-item_at)
 
 -- ties --------------------------------------------------------------------------------------------
 
@@ -151,10 +130,4 @@ pub tied_item : {base : Kept} → {T : Type 0} {g : Ghosts T} {h : List Event} {
     ((key : Key) → IsSome (find old.nodes key) → IsSome (find new.nodes key)) →
     new.resources ≡ old.resources → AreTied base g (h ++ Item leaf v ∷ []) new hubs
 tied_item {base} {g} {h} {leaf} v law next {old} new tied passed still same =
-    tied_on g law next tied refl refl refl still (record {
-      records = passed_all h leaf v new.nodes new.chain law next passed;
-      stored =
-          all_stored base g h law (Item leaf v) old new tied.of_tree.stored same refl
-          (λ r. record { removes = refl; takes = refl; uses = refl; leases = refl; returns = refl })
-          (λ key there alive. still key there);
-    })
+    search (rules, tied_on, passed_all, all_stored)

@@ -10,6 +10,7 @@ use Rattle.rx_ground.proofs.Common.{uses_new, find, entry_at, with_number, Keeps
 use Rattle.rx_ground.proofs.Common.{one_lease_more, one_lease_less, with_resource, some_of, HasKey, IsStored, AreStored}
 use Rattle.rx_event.specs.Resources.{is_owned, leases_of, uses}
 use Rattle.rx_event.proofs.Laws.Leases.{leases_of_kept, leases_of_still, leases_of_new, leases_of-return}
+use Rattle.std.proofs.Common.{rules}
 
 -- the event is about no resource of this number, and gives no lease back
 pub record IsApart (r : ℕ) (e : Event) : Type 0 where
@@ -34,8 +35,7 @@ pub record IsHeldIn {T : Type 0} (h : List Event) (old new : Slots (Stowed T)) (
   pub others : KeepsOthers old new k
 
 at_most_one : (test : Bool) → cond {A = ℕ} test 1 0 ≤ 1
-at_most_one true = omega arith
-at_most_one false = omega arith
+at_most_one x0 = search rules
 
 module _ (base : Kept) {T : Type 0} (g : Ghosts T) (h : List Event) (law : IsLawful base h) where
   -- where a stored resource came to be held is an older node

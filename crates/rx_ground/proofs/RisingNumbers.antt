@@ -6,6 +6,7 @@ use Rattle.std.specs.List.Sorted.{IsNonDecreasingBy}
 use Rattle.std.proofs.lemmas.Map.Keys.{IsDistinct-IsPermutation, IsDistinct-from_apart, IsDistinct-head, IsDistinct-tail}
 use Rattle.rx_ground.proofs.Laws.Members.{Contains-head, Contains-later, Contains-none, Contains-cases, Contains-from_map}
 use Rattle.rx_ground.proofs.Laws.Numbers.{ListsJust}
+use Rattle.std.proofs.Common.{rules}
 
 -- each number is less than all after it
 abbrev pub Rising : List ℕ → Type 0
@@ -41,19 +42,7 @@ same_rising (x ∷ xs) (y ∷ ys) up down there back = λ i. heads i ∷ same_ri
 
 from_filter : (test : ℕ → Bool) (s n k : ℕ) → Contains (filter test (range_with_len s n)) k → (test k ≡ true) × (s ≤ k)
 from_filter test s zero k c = absurd (Contains-none k c)
-from_filter test s (suc n) k c = by_test (from_filter test (s + 1) n k) (test s) refl c where
-  more : List ℕ
-  more = filter test (range_with_len (s + 1) n)
-
-  less : s + 1 ≤ k → s ≤ k
-  less l = omega arith
-
-  by_test : (Contains more k → (test k ≡ true) × (s + 1 ≤ k)) → (b : Bool) → test s ≡ b → Contains (cond b (s ∷ more) more) k → (test k ≡ true) × (s ≤ k)
-  by_test rest false fails here = let r = rest here in (r.0, less r.1)
-  by_test rest true passes here = by_place (Contains-cases s more k here) where
-    by_place : (s ≡ k) ⊎ Contains more k → (test k ≡ true) × (s ≤ k)
-    by_place (inl same) = (ap test (sym same) ∙ passes, omega arith)
-    by_place (inr later) = let r = rest later in (r.0, less r.1)
+from_filter test s (suc n) k c = search (rules, filter, range_with_len, cond, from_filter test (s + 1) n k)
 
 beyond : (s k : ℕ) → s ≤ k → (s ≡ k → ⊥) → s + 1 ≤ k
 beyond s k l apart = omega arith
@@ -95,16 +84,10 @@ rising_just test m ns up each every below =
 
 member_of : {X : Type 0} (P : X → Type 0) (xs : List X) → AllByRecursion P xs → (x : X) → Contains xs x → P x
 member_of P [] all x c = absurd (Contains-none x c)
-member_of P (y ∷ xs) all x c = by_place (member_of P xs all.1 x) (Contains-cases y xs x c) where
-  by_place : (Contains xs x → P x) → (y ≡ x) ⊎ Contains xs x → P x
-  by_place rest (inl same) = subst P same all.0
-  by_place rest (inr later) = rest later
+member_of P (y ∷ xs) all x c = search (rules, member_of P xs all.1 x)
 
 flips : (a b : ℕ) → (a == b) ≡ (b == a)
-flips a b = by_test (a == b) refl where
-  by_test : (c : Bool) → (a == b) ≡ c → c ≡ (b == a)
-  by_test true same = sym (eq-eqb b a (sym (eqb-true a b same)))
-  by_test false apart = sym (ne_eqb b a (λ e. both_ways (a == b) apart (eq-eqb a b (sym e))))
+flips a b = search (rules, eq-eqb, eqb-true, ne_eqb, both_ways)
 
 distinct : (ns : List ℕ) → AllPairs (λ a b. a ≢ b) ns → IsDistinct (λ a b. a == b) ns
 distinct ns pairs = IsDistinct-from_apart (λ a b. a == b) ns (λ i j d l m. ne_eqb (get_or ns i d) (get_or ns j d) (pairs i j d l m))

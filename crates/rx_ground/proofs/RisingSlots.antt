@@ -2,48 +2,21 @@
 use Rattle.rx_ground.proofs.Common.{◌≡◌, ◌≢◌, ℕ, ◌+◌, ◌<◌, ◌≤◌, ◌==◌, ◌++◌, cond, Bool, true, false, List, [], ◌∷◌, Some, is_some, refl, sym, ap, ◌∙◌, inl}
 use Rattle.rx_ground.proofs.Common.{inr, ◌⊎◌, arith, not, cases_Bool, false≢true, eqb-true, eq-eqb, and_parts, is_in, take_out, head_of, AreRising}
 use Rattle.std.proofs.Common.{◌||◌, ◌&&◌}
+use Rattle.std.proofs.Common.{rules}
 
 -- who stands on a longer list
 pub is_in-append : (y m : ℕ) (xs : List ℕ) → is_in y (xs ++ m ∷ []) ≡ (is_in y xs || (y == m))
-is_in-append y m [] = or_false (y == m) where
-  or_false : (b : Bool) → (b || false) ≡ b
-  or_false true = refl
-  or_false false = refl
-is_in-append y m (x ∷ xs) = ap (λ b. (y == x) || b) (is_in-append y m xs) ∙ shape (y == x) (is_in y xs) (y == m) where
-  shape : (a b c : Bool) → (a || (b || c)) ≡ ((a || b) || c)
-  shape true b c = refl
-  shape false b c = refl
+is_in-append y m [] = search rules
+is_in-append y m (x ∷ xs) = search (rules, is_in-append y m xs)
 
 -- and on one that a number left
 pub is_in-out : (y m : ℕ) (xs : List ℕ) → is_in y (take_out m xs) ≡ (is_in y xs && not (m == y))
 is_in-out y m [] = refl
-is_in-out y m (x ∷ xs) = by_test (is_in-out y m xs) (cases_Bool (m == x)) where
-  absorbs : (a b : Bool) → (a ≡ true → b ≡ true) → (c : Bool) → (c && not b) ≡ ((a || c) && not b)
-  absorbs true true has c = and_none c where
-    and_none : (c : Bool) → (c && false) ≡ false
-    and_none true = refl
-    and_none false = refl
-  absorbs true false has c = absurd (false≢true (has refl))
-  absorbs false b has c = refl
-
-  keeps : (a b : Bool) → (a ≡ true → b ≡ false) → (c : Bool) → (a || (c && not b)) ≡ ((a || c) && not b)
-  keeps true true off c = absurd (false≢true (sym (off refl)))
-  keeps true false off c = refl
-  keeps false b off c = refl
-
-  by_test : is_in y (take_out m xs) ≡ (is_in y xs && not (m == y)) → ((m == x) ≡ true) ⊎ ((m == x) ≡ false) →
-      is_in y (cond (not (m == x)) (x ∷ take_out m xs) (take_out m xs)) ≡ (((y == x) || is_in y xs) && not (m == y))
-  by_test below (inl same) =
-      rw same (below ∙ absorbs (y == x) (m == y) (λ is. eq-eqb m y (eqb-true m x same ∙ sym (eqb-true y x is))) (is_in y xs))
-  by_test below (inr other) =
-      rw other (ap (λ b. (y == x) || b) below ∙ keeps (y == x) (m == y) (λ is. ap (λ k. m == k) (eqb-true y x is) ∙ other) (is_in y xs))
+is_in-out y m (x ∷ xs) = search (rules, cases_Bool, not, false≢true, cond, eq-eqb, eqb-true, is_in-out y m xs)
 
 -- the first of a list stands on it, and where there is none nobody does
 pub head_in : (xs : List ℕ) (m : ℕ) → head_of xs ≡ Some m → is_in m xs ≡ true
-head_in [] m is = absurd (false≢true (ap is_some is))
-head_in (x ∷ xs) m is = rw (eq-eqb m x (sym (same_number x m is))) refl where
-  same_number : (a b : ℕ) → Some a ≡ Some b → a ≡ b
-  same_number a b e = cc
+head_in x0 m is = search (rules, false≢true, is_some, eq-eqb)
 
 module _ (f : ℕ → ℕ) where
   pub rising_append : (m : ℕ) (xs : List ℕ) → AreRising f xs → ((y : ℕ) → is_in y xs ≡ true → f y < f m) → AreRising f (xs ++ m ∷ [])
@@ -63,23 +36,11 @@ module _ (f : ℕ → ℕ) where
 
   pub rising_out : (m : ℕ) (xs : List ℕ) → AreRising f xs → AreRising f (take_out m xs)
   rising_out m [] r = tt
-  rising_out m (x ∷ xs) r = by_test (rising_out m xs r.1) (m == x) where
-    by_test : AreRising f (take_out m xs) → (b : Bool) → AreRising f (cond (not b) (x ∷ take_out m xs) (take_out m xs))
-    by_test below true = below
-    by_test below false = ((λ y on. r.0 y (and_parts (is_in y xs) (not (m == y)) (sym (is_in-out y m xs) ∙ on)).0), below)
+  rising_out m (x ∷ xs) r = search (rules, cond, not, and_parts, is_in-out, rising_out m xs r.1)
 
   -- the first is least
   pub first_least : (xs : List ℕ) (m : ℕ) → head_of xs ≡ Some m → AreRising f xs → (y : ℕ) → is_in y xs ≡ true → f m ≤ f y
-  first_least [] m is r y on = absurd (false≢true on)
-  first_least (x ∷ xs) m is r y on = by_test (cases_Bool (y == x)) where
-    same : x ≡ m
-    same = same_number x m is where
-      same_number : (a b : ℕ) → Some a ≡ Some b → a ≡ b
-      same_number a b e = cc
-
-    by_test : ((y == x) ≡ true) ⊎ ((y == x) ≡ false) → f m ≤ f y
-    by_test (inl is_first) = let e = eqb-true y x is_first in omega (arith, ap f same, ap f e)
-    by_test (inr later) = let l = r.0 y (ap (λ b. b || is_in y xs) (sym later) ∙ on) in omega (arith, ap f same)
+  first_least x0 m is r y on = search (rules, false≢true, cases_Bool, eqb-true)
 
 -- what is read alike of all on a list rises alike
 pub rising_same : (f g : ℕ → ℕ) (xs : List ℕ) → ((y : ℕ) → is_in y xs ≡ true → g y ≡ f y) → AreRising f xs → AreRising g xs

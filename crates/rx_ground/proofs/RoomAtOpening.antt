@@ -1,5 +1,5 @@
 -- What makes way for a node takes no memory, and leaves a ground that is ready for it.
-use Rattle.rx_ground.proofs.Common.{◌≡◌, ◌+◌, ◌-◌, ◌<◌, ◌≤◌, ◌∙◌, ◌++◌, ◌∷◌, [], ℕ, Bool, true, false, List, Option, IfSome, length, sym, ap, subst, arith}
+use Rattle.rx_ground.proofs.Common.{◌≡◌, ◌+◌, ◌-◌, ◌<◌, ◌≤◌, ◌++◌, ◌∷◌, [], ℕ, Bool, true, false, List, Option, IfSome, length, sym, subst, arith}
 use Rattle.rx_ground.proofs.Common.{inl, inr, ◌⊎◌, cases_Bool, is_open_new, Ghosts, Event, Open, Kind, Place, MayFollow, IsLawful, IsPromised, Writes, Key}
 use Rattle.rx_ground.proofs.Common.{Slots, find, Closed, ResKey, owed_in, Tree, IsSound, hubs_after, with_made, Hubs, Gathers, MakesWay, ClearsHubs, ListsWay}
 use Rattle.rx_ground.proofs.Common.{ListsReplaced, TakesNoMemory, Ground, closed_keys, AreTied}
@@ -9,6 +9,7 @@ use Rattle.rx_ground.proofs.HubsAtOpening.{hubs_opened}
 use Rattle.rx_ground.proofs.ReadyToOpen.{IsReadyToOpen, IsOpenedBelow, few_above, none_closed, way_left}
 use Rattle.rx_ground.proofs.MovedHaveGone.{gathers_cut}
 use Rattle.rx_ground.proofs.Laws.GoneStaysGone.{gathers_none}
+use Rattle.std.proofs.Common.{rules}
 
 -- a ground of these parts, whose list has room for so many
 abbrev pub ground_of : {T : Type 0} → Register → Tree T → Hubs → Slots ResKey → List Closed → ℕ → Ground T
@@ -38,18 +39,7 @@ module _ {T : Type 0} where
       AreTied now.register.base g now.register.history now.tree now.hubs → IsSound old.tree.nodes → IsLeft place replaces now after →
       IsWayMade g place kind old left replaces
   way_made {g = g} {place = place} {kind = kind} {old = old} {now = now} {left = left} {replaces = replaces} was is law next tied sound told =
-      let stays = subst (λ (b : Ground T). IsLeft place replaces b left) (sym was) (subst (IsLeft place replaces now) (sym is) told) in
-      record {
-        ready = record {
-          law = law;
-          next = subst (λ (b : Ground T). MayFollow b.register.base b.register.history (Open place kind)) (sym was) next;
-          tied = subst (λ (b : Ground T). AreTied b.register.base g b.register.history b.tree b.hubs) (sym was) tied;
-          sound = sound;
-          way = stays.way;
-          clears = stays.hubs;
-        };
-        stays = stays;
-      }
+      search (rules, AreTied)
 
   -- the children of the node above can still be counted
   pub few_children : {g : Ghosts T} {place : Place} {kind : Kind} {old left : Ground T} {replaces : Bool} {mid : Tree T} {key : Key}
@@ -77,12 +67,7 @@ module _ {T : Type 0} where
       (0 < length old.hubs.hubs → old.tree.nodes.count + old.tree.nodes.room ≤ old.hubs.slots) → 0 < length left.hubs.hubs →
       (slot : ℕ) → slot < left.tree.nodes.count + left.tree.nodes.room → slot < left.hubs.slots
   slot_within x rest reserved some slot within =
-      let room = ap (λ (s : Hubs). s.room) rest in
-      let slots = ap (λ (s : Hubs). s.slots) rest in
-      let hubs = x.memory.hubs in
-      let nodes = x.memory.nodes in
-      let enough = reserved (omega arith) in
-      omega arith
+      search rules
 
   -- an event that is written then takes no memory beside its own
   pub left_memory : {place : Place} {replaces : Bool} {old left new : Ground T} → IsLeft place replaces old left → (es : List Event) →
@@ -90,9 +75,7 @@ module _ {T : Type 0} where
       new.tree.resources ≡ left.tree.resources → new.tree.nodes.count + new.space ≡ left.tree.nodes.count + left.space →
       length new.hubs.hubs + new.hubs.room ≡ length left.hubs.hubs + left.hubs.room → new.hubs.slots ≡ left.hubs.slots → TakesNoMemory old new
   left_memory x es written nodes resources space hubs slots =
-      let m = x.memory in
-      written_memory es written (nodes ∙ m.nodes) (ap (λ s. s.count + s.room) resources ∙ m.resources) (space ∙ m.closing) (hubs ∙ m.hubs)
-      (slots ∙ m.slots)
+      search (rules, written_memory)
 
   -- what was closed for the node has gone after it, and nothing else went
   pub gathers_opened : {g : Ghosts T} {place : Place} {kind : Kind} {old left : Ground T} {replaces : Bool} → IsWayMade g place kind old left replaces →

@@ -1,5 +1,5 @@
 -- A ground stands after a checkpoint as it did before.
-use Rattle.rx_ground.proofs.Common.{◌≡◌, ℕ, Bool, true, false, List, map, slice_get, Option, Some, None, count_by, IfSome, IsSome, refl, sym, ap, subst, ◌∙◌}
+use Rattle.rx_ground.proofs.Common.{◌≡◌, ℕ, Bool, true, false, List, map, slice_get, Option, Some, None, count_by, refl, sym, ap, subst, ◌∙◌}
 use Rattle.rx_ground.proofs.Common.{arith, not, ◌&&◌, ◌||◌, AllByRecursion, list_any, range_with_len, false≢true, Terminal, Ghosts, Event, End, is_take_of}
 use Rattle.rx_ground.proofs.Common.{makes_resource, shown, at, debt, open_count, base_of, is_untaken, Agree, Started, IsLawful, IsSettled, none_waits, Alike}
 use Rattle.rx_ground.proofs.Common.{length_base, made_untaken, held_resource, held_not_taken, waiting_parts, alike_of, sound_of, settled_connected, same_debt}
@@ -9,6 +9,7 @@ use Rattle.rx_ground.proofs.Common.{forgot_get, forgotten_hubs, Ground, IsCheckp
 use Rattle.rx_event.specs.Kept.{Kept as Base}
 use Rattle.rx_event.specs.Resources.{is_held, is_waiting, is_taken}
 use Rattle.rx_register.specs.State.{Rebases, IsPromised as IsRegisterPromised}
+use Rattle.std.proofs.Common.{rules}
 
 -- in a settled history nothing is due at any hub
 pub settled_quiet_hubs : (base : Base) (h : List Event) (hubs : List Hub) → AreHubsOf h hubs → IsSettled base h → IsQuiet hubs
@@ -39,21 +40,11 @@ untaken_parts base h law r u = by_state (is_held h r) refl u where
 
 accepted_untaken : (h : List Event) (r : ℕ) → at makes_resource h r ≡ true → list_any (is_take_of r) h ≡ false → is_untaken h r ≡ true
 unfolding is_waiting is_taken
-accepted_untaken h r made none = shape (at makes_resource h r) (is_held h r) (list_any (is_take_of r) h) made none where
-  shape : (a b d : Bool) → a ≡ true → d ≡ false → (b || (a && not b && not (a && d))) ≡ true
-  shape true true d x y = refl
-  shape true false false x y = refl
-  shape true false true x y = absurd (false≢true (sym y))
-  shape false b d x y = absurd (false≢true x)
+accepted_untaken h r made none = search (rules, list_any, not, false≢true)
 
 -- what stands inside hubs that forgot their ends stands there as before
 joined_still : (nodes : Slots Node) (hubs : List Hub) → AreJoined nodes hubs → AreJoined nodes (map without_end hubs)
-joined_still nodes hubs joined = record {
-  subscribers = λ i hub at_i. let before = forgot_get hubs i hub at_i in
-      subst (λ (x : Hub). AllByRecursion (λ key. IsSome (find nodes key)) x.subscribers) (sym before.2) (joined.subscribers i before.0 before.1);
-  connection = λ i hub at_i. let before = forgot_get hubs i hub at_i in
-      subst (λ (x : Hub). IfSome x.connection (λ key. IsSome (find nodes key))) (sym before.2) (joined.connection i before.0 before.1);
-}
+joined_still nodes hubs joined = search (rules, forgot_get, AllByRecursion, find)
 
 module _ (b : Base) (h : List Event) (law : IsLawful b h) (settled : IsSettled b h) where
   abbrev c : Base

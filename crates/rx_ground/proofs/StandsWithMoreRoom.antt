@@ -1,7 +1,7 @@
 -- A ground that has just been made stands, and one that stands does so with more room.
-use Rattle.rx_ground.proofs.Common.{◌≡◌, ℕ, ◌+◌, ◌≤◌, List, [], get_or, slice_get, Option, None, refl, sym, ap, subst, ◌∙◌, arith, is_some, Result, Ok, Err}
-use Rattle.rx_ground.proofs.Common.{OnOk, OnErr, both_ways, false≢true, none-some, Kept, Ghosts, Event, is_open, debt, open_count, Connect, IsSettled, Entry}
-use Rattle.rx_ground.proofs.Common.{MayWait, none_waits, connecting, Key, Slots, find, with_number, Node, ResKey, Stowed, store_key, Tree, is_on, Ground, Hub}
+use Rattle.rx_ground.proofs.Common.{◌≡◌, ℕ, ◌+◌, ◌≤◌, List, [], get_or, slice_get, Option, None, sym, ap, subst, ◌∙◌, arith, is_some, Result}
+use Rattle.rx_ground.proofs.Common.{OnOk, OnErr, both_ways, false≢true, none-some, Kept, Ghosts, Event, debt, open_count, Connect, IsSettled, Entry}
+use Rattle.rx_ground.proofs.Common.{MayWait, none_waits, connecting, Key, Slots, find, with_number, Node, ResKey, Stowed, store_key, Tree, is_on, Ground}
 use Rattle.rx_ground.proofs.Common.{Hubs, HasKey, AreRecords, IsStored, IsTied, AreTied, AreLeased, IsStanding, IsRoomier, SetsAside, HasRoom, HasRoomBeside}
 use Rattle.rx_event.proofs.Laws.Openness.{is_open_past}
 use Rattle.rx_register.specs.State.{State as Register}
@@ -9,13 +9,14 @@ use Rattle.rx_register.proofs.Laws.Empty.{settled_empty, paid_empty}
 use Rattle.rx_ground.specs.declared.base.Wanted.{Wanted}
 use Rattle.rx_ground.proofs.LeasesAfterEvent.{leased_empty, leased_same}
 use Rattle.rx_ground.proofs.HubsAfterEvent.{tied_beside}
+use Rattle.std.proofs.Common.{rules}
 
 -- slots of the same entries find the same
 same_finds : {X : Type 0} (old new : Slots X) → new.entries ≡ old.entries → (key : Key) → find new key ≡ find old key
 same_finds {X = X} old new same key = ap (λ (es : List (Option (Entry X))). with_number key.number (get_or es key.slot None)) same
 
 has_still : {X : Type 0} (old new : Slots X) → new.entries ≡ old.entries → (n : ℕ) → HasKey old n → HasKey new n
-has_still old new same n has = record { key = has.key; value = has.value; found = same_finds old new same has.key ∙ has.found; numbered = has.numbered }
+has_still old new same n has = search (rules, same_finds)
 
 -- and those of none find nothing
 none_found : {X : Type 0} (slots : Slots X) → slots.entries ≡ [] → (key : Key) → find slots key ≡ None
@@ -23,43 +24,15 @@ none_found {X = X} slots empty key = ap (λ (es : List (Option (Entry X))). with
 
 module _ {T : Type 0} (g : Ghosts T) where
   tied_empty : (base : Kept) → (tree : Tree T) → tree.nodes.entries ≡ [] → tree.resources.entries ≡ [] → IsTied base g [] tree
-  tied_empty base tree nodes resources = record {
-    records = record {
-      each = λ key node found. absurd (none-some node (sym (none_found tree.nodes nodes key) ∙ found));
-      every = λ n alive. absurd (both_ways (is_open [] n) (is_open_past [] n (omega arith)) alive);
-      quiet = λ key node found off. absurd (none-some node (sym (none_found tree.nodes nodes key) ∙ found));
-    };
-    stored = record {
-      each = λ key s found. absurd (none-some s (sym (none_found tree.resources resources key) ∙ found));
-      every = λ r made untaken. absurd (false≢true made);
-    };
-  }
+  tied_empty base tree nodes resources = search (rules, none-some, none_found, both_ways, is_open_past, false≢true)
 
   hubs_empty : (base : Kept) → (tree : Tree T) (hubs : Hubs) → hubs.hubs ≡ [] → IsTied base g [] tree → AreTied base g [] tree hubs
-  hubs_empty base tree hubs none tied = record {
-    of_tree = tied;
-    published = record {
-      each = λ i hub at_i. absurd (none-some hub (sym (ap (λ (hs : List Hub). slice_get hs i) none) ∙ at_i));
-      every = λ n made. absurd (false≢true made);
-      subscribed = λ n s subscribes. absurd (false≢true subscribes);
-    };
-    joined = record {
-      subscribers = λ i hub at_i. absurd (none-some hub (sym (ap (λ (hs : List Hub). slice_get hs i) none) ∙ at_i));
-      connection = λ i hub at_i. absurd (none-some hub (sym (ap (λ (hs : List Hub). slice_get hs i) none) ∙ at_i));
-    };
-  }
+  hubs_empty base tree hubs none tied = search (rules, none-some, slice_get, false≢true)
 
   -- a ground with no events, nodes, resources and hubs
   pub standing_empty : (b : Ground T) → b.register.history ≡ [] → b.register.pending ≡ [] → b.tree.nodes.entries ≡ [] →
       b.tree.resources.entries ≡ [] → b.hubs.hubs ≡ [] → b.leases.entries ≡ [] → IsStanding g b
-  standing_empty b empty told nodes resources none no_leases = record {
-    tied =
-        subst (λ (h : List Event). AreTied b.register.base g h b.tree b.hubs) (sym empty)
-        (hubs_empty b.register.base b.tree b.hubs none (tied_empty b.register.base b.tree nodes resources));
-    leased = leased_empty b.register.history b.tree.resources b.leases empty (none_found b.leases no_leases);
-    settled = subst (IsSettled b.register.base) (sym empty) (settled_empty b.register.base);
-    paid = paid_empty b.register empty told;
-  }
+  standing_empty b empty told nodes resources none no_leases = search (rules, AreTied, hubs_empty, tied_empty, leased_empty, none_found, settled_empty, paid_empty)
 
   -- a tree of the same entries and chain
   tied_same_entries : (base : Kept) → (h : List Event) (old new : Tree T) → new.nodes.entries ≡ old.nodes.entries →
@@ -143,8 +116,7 @@ module _ {T : Type 0} (g : Ghosts T) where
 
 -- by what the register answers that sets it aside
 on_ok : {A E : Type 0} {P Q : Type 0} (answer : Result A E) → (P → Q) → OnOk answer P → OnOk answer Q
-on_ok (Ok x) f p = f p
-on_ok (Err e) f p = tt
+on_ok x0 f p = search rules
 
 pub aside_wanted : {A E : Type 0} (answer : Result A E) (room owing load events : ℕ) → load ≡ owing → OnOk answer (room ≡ load + events) →
     OnOk answer (owing + events ≤ room)
@@ -152,8 +124,7 @@ aside_wanted answer room owing load events same = on_ok answer (λ is. omega ari
 
 pub aside_enough : {A E : Type 0} (answer : Result A E) (old new : Register) (owing load events : ℕ) → load ≡ owing → owing ≤ old.room →
     OnOk answer (new.room ≡ load + events) → OnErr answer (new ≡ old) → owing ≤ new.room
-aside_enough (Ok x) old new owing load events same paid is kept = omega arith
-aside_enough (Err e) old new owing load events same paid is kept = let room = ap (λ (r : Register). r.room) kept in omega arith
+aside_enough x0 old new owing load events same paid is kept = search rules
 
 module _ {T : Type 0} where
   -- another register, in which no more than the room changed
@@ -167,16 +138,7 @@ module _ {T : Type 0} where
 
   aside_roomier : {old new : Ground T} → SetsAside old new → IsRoomier old new
   aside_roomier {old} {new} aside =
-      subst (IsRoomier old) (sym aside.kept) (record {
-        register = refl;
-        mail_room = omega arith;
-        nodes = refl;
-        resources = refl;
-        chain = refl;
-        hubs = refl;
-        leases = refl;
-        closed = refl;
-      })
+      search rules
 
   pub standing_aside : (g : Ghosts T) (old new : Ground T) → SetsAside old new → IsStanding g old → IsStanding g new
   standing_aside g old new aside = standing_roomier g old new (aside_roomier aside) aside.enough
@@ -187,16 +149,7 @@ module _ {T : Type 0} where
   -- and then more room
   pub roomier_after_aside : (old mid new : Ground T) → SetsAside old mid → IsRoomier mid new → IsRoomier old new
   roomier_after_aside old mid new aside more =
-      subst (λ (b : Ground T). IsRoomier b new → IsRoomier old new) (sym aside.kept) (λ m. record {
-        register = m.register;
-        mail_room = m.mail_room;
-        nodes = m.nodes;
-        resources = m.resources;
-        chain = m.chain;
-        hubs = m.hubs;
-        leases = m.leases;
-        closed = m.closed;
-      }) more
+      search rules
 
   -- room beside what closing everything needs, of which that for the events was set aside before
   pub has_beside : (old new : Ground T) (wanted : Wanted) {alive : ℕ} → alive ≡ open_count old.register.history → IsRoomier old new →
@@ -209,13 +162,4 @@ module _ {T : Type 0} where
         hubs = wanted.hubs;
         leases = wanted.leases;
       }) → HasRoomBeside new wanted
-  has_beside old new wanted nodes more room events has = record {
-    events = let d = ap (λ (r : Register). debt r.base r.history) more.register in omega arith;
-    notes = let o = ap (λ (r : Register). open_count r.history) more.register in let n = has.notes in omega arith;
-    nodes = has.nodes;
-    space = has.space;
-    resources = has.resources;
-    hubs = has.hubs;
-    slots = has.slots;
-    leases = has.leases;
-  }
+  has_beside old new wanted nodes more room events has = search rules

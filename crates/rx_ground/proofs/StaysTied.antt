@@ -1,72 +1,49 @@
 -- A tree that is tied to a history is tied to the longer one, after an event is written on both.
-use Rattle.rx_ground.proofs.Common.{◌≡◌, ◌≢◌, ℕ, ◌==◌, Bool, true, false, cond, List, [], ◌∷◌, ◌++◌, length, Option, Some, None, is_some, IsSome, option_map}
-use Rattle.rx_ground.proofs.Common.{slice_get, refl, sym, ap, subst, ◌∙◌, inl, inr, ◌⊎◌, arith, not, ◌&&◌, list_any, false≢true, and_parts, eq-eqb, ne_eqb}
-use Rattle.rx_ground.proofs.Common.{not-true, false_from_ne_true, none-some, same_Some, Kept, Ghosts, Terminal, Marks, Place, Root, Source, Kind, Event, Open}
+use Rattle.rx_ground.proofs.Common.{◌≡◌, ◌≢◌, ℕ, ◌==◌, true, false, cond, List, [], ◌∷◌, ◌++◌, length, Option, Some, None, is_some, IsSome, option_map}
+use Rattle.rx_ground.proofs.Common.{slice_get, refl, sym, ap, subst, ◌∙◌, arith, not, ◌&&◌, list_any, false≢true, and_parts, eq-eqb, ne_eqb}
+use Rattle.rx_ground.proofs.Common.{not-true, false_from_ne_true, none-some, same_Some, Kept, Ghosts, Terminal, Marks, Place, Root, Kind, Event, Open}
 use Rattle.rx_ground.proofs.Common.{Decline, End, Close, makes_node, makes_resource, parent_named, source_named, is_source_of, is_merging, is_open, parent}
 use Rattle.rx_ground.proofs.Common.{ancestors, is_within, marks_of, touches, is_child_of, after_child, after_decline, MayFollow, IsLawful, is_within-le, Key}
 use Rattle.rx_ground.proofs.Common.{parent-lt, parent_name, shuts_none, is_open_outside-end, is_open_outside-close, is_child_parent, marks_closed, Slots}
 use Rattle.rx_ground.proofs.Common.{marks-end_other, marks-decline_at, marks-end_at, find, entry_at, with_number, KeepsOthers, Node, Tree, IsSound, AreApart}
-use Rattle.rx_ground.proofs.Common.{Rewrites, blank_node, with_due, is_below, cases_key, some_of, AreRecords, AreStored, IsTied, KeepsNodes, Remarks, Cuts}
+use Rattle.rx_ground.proofs.Common.{Rewrites, blank_node, with_due, cases_key, some_of, AreRecords, AreStored, IsTied, KeepsNodes, Remarks, Cuts}
 use Rattle.rx_ground.proofs.Records.{AreNearly, AreLeft, all_fresh, remarked, records_still, records_touched, records_opened, records_cut, below_is_within}
 use Rattle.rx_ground.proofs.ResourcesAfterEvent.{IsApart, all_stored}
+use Rattle.std.proofs.Common.{rules}
 
 -- nodes that are kept -----------------------------------------------------------------------------
 
 -- a value that is written over is there before and after
 pub rewritten_there : {X : Type 0} {old new : Slots X} {change : X → X} (k : Key) → Rewrites old new k change → (key : Key) → IsSome (find new key) →
     IsSome (find old key)
-rewritten_there {X = X} {old = old} {new = new} {change = change} k w key some = by_key (cases_key key k) where
-  mapped : (o : Option X) → IsSome (option_map change o) → IsSome o
-  mapped None e = absurd (false≢true e)
-  mapped (Some x) e = refl
-
-  by_key : (key ≡ k) ⊎ (key ≢ k) → IsSome (find old key)
-  by_key (inl same) =
-      ap (λ (j : Key). is_some (find old j)) same ∙
-      mapped (find old k) (ap is_some (sym w.changed) ∙ ap (λ (j : Key). is_some (find new j)) (sym same) ∙ some)
-  by_key (inr differs) = ap is_some (sym (w.others key differs)) ∙ some
+rewritten_there {X = X} {old = old} {new = new} {change = change} k w key some = search (rules, cases_key, option_map, false≢true, find, is_some)
 
 pub still_there : {X : Type 0} {old new : Slots X} {change : X → X} (k : Key) → Rewrites old new k change → (key : Key) → IsSome (find old key) →
     IsSome (find new key)
-still_there {X = X} {old = old} {new = new} {change = change} k w key some = by_key (cases_key key k) where
-  mapped : (o : Option X) → IsSome o → IsSome (option_map change o)
-  mapped None e = absurd (false≢true e)
-  mapped (Some x) e = refl
-
-  by_key : (key ≡ k) ⊎ (key ≢ k) → IsSome (find new key)
-  by_key (inl same) =
-      ap (λ (j : Key). is_some (find new j)) same ∙ ap is_some w.changed ∙ mapped (find old k) (ap (λ (j : Key). is_some (find old j)) (sym same) ∙ some)
-  by_key (inr differs) = ap is_some (w.others key differs) ∙ some
+still_there {X = X} {old = old} {new = new} {change = change} k w key some = search (rules, cases_key, option_map, false≢true, find, is_some)
 
 -- what writes the marks of one record over keeps the nodes
 pub remarked_keeps : {T : Type 0} (h : List Event) (old new : Tree T) (u : Key) (change : Marks → Marks) → Remarks old new u change →
     KeepsNodes h old.nodes new.nodes
-remarked_keeps h old new u change marked = record { from = rewritten_there u marked.nodes; still = λ key some alive. still_there u marked.nodes key some }
+remarked_keeps h old new u change marked = search (rules, rewritten_there, still_there)
 
 -- the source of a node -----------------------------------------------------------------------------
 
 pub source_at : (made : Event) (p : ℕ) → parent_named made ≡ Some p → is_some (source_named made) ≡ is_source_of p made
-source_at (Open (Source f) kind) p named = sym (let same = same_Some f p named in rw same (eq_itself p))
-  where
-    eq_itself : (n : ℕ) → (n == n) ≡ true
-    eq_itself n = eq-eqb n n refl
-source_at _ p named = refl
+source_at x0 p named = search (rules, same_Some, eq-eqb)
 
 module _ (base : Kept) {T : Type 0} (g : Ghosts T) (h : List Event) (e : Event) (law : IsLawful base h) (next : MayFollow base h e) (old : Tree T)
     (tied : IsTied base g h old) where
   -- an event that leaves the records as they are
   pub tied_still : (new : Tree T) → shuts_none e ≡ true → makes_node e ≡ false → ((n : ℕ) → touches h n e ≡ false) → new.nodes ≡ old.nodes →
       new.chain ≡ old.chain → AreStored base g (h ++ e ∷ []) new → IsTied base g (h ++ e ∷ []) new
-  tied_still new shuts makes untouched nodes chain stored = record {
-    records = rw (nodes, chain) (records_still base h e law next old.nodes old.chain tied.records shuts makes untouched);
-    stored = stored;
-  }
+  tied_still new shuts makes untouched nodes chain stored = search (rules, chain, records_still, makes, untouched)
 
   -- one that is about no resource either
   pub tied_same : shuts_none e ≡ true → makes_node e ≡ false → makes_resource e ≡ false → ((n : ℕ) → touches h n e ≡ false) → ((r : ℕ) → IsApart r e) →
       IsTied base g (h ++ e ∷ []) old
   tied_same shuts makes none untouched apart =
-      tied_still old shuts makes untouched refl refl (all_stored base g h law e old old tied.stored refl none apart (λ key some alive. some))
+      search (rules, tied_still, makes, untouched, all_stored, none, apart)
 
 -- an opening ----------------------------------------------------------------------------------------
 
@@ -93,18 +70,13 @@ module _ (base : Kept) {T : Type 0} (g : Ghosts T) (h : List Event) (law : IsLaw
   pub found_still : (e : Event) (above : Option Key) → IsOpenedIn h e above left mid key → (k : Key) → IsSome (find left.nodes k) →
       find mid.nodes k ≡ find left.nodes k
   found_still e above opened k some =
-      opened.others k (λ same. true_false (sym some ∙ ap is_some (ap (find left.nodes) same ∙ ap (with_number key.number) opened.free)))
-    where
-      true_false : true ≡ false → ⊥
-      true_false e = absurd (false≢true (sym e))
+      search (rules, is_some, find, with_number, false≢true)
 
   -- what stays open stands in the tree with the new node
   pub opened_there : (e : Event) (above : Option Key) → AreLeft h e old.nodes left.nodes old.chain left.chain → IsOpenedIn h e above left mid key →
       (k : Key) → IsSome (find old.nodes k) → is_open (h ++ e ∷ []) k.number ≡ true → IsSome (find mid.nodes k)
   opened_there e above stays opened k some alive =
-      let x = some_of (find old.nodes k) some in
-      let here = ap is_some (stays.still k x.0 x.1 alive) in
-      ap is_some (found_still e above opened k here) ∙ here
+      search (rules, some_of, find, is_some, found_still)
 
   -- a node that stands below none
   pub tied_top : {e : Event} → MayFollow base h e → OpensTop h e → AreLeft h e old.nodes left.nodes old.chain left.chain → left.resources ≡ old.resources →
@@ -194,31 +166,11 @@ module _ (base : Kept) {T : Type 0} (h : List Event) (e : Event) (old mid : Tree
     (is_open h n && not (list_any (λ a. top == a) (ancestors h n)))) (cuts : Cuts old mid top) where
   -- a closing keeps what stays open
   pub cut_keeps : KeepsNodes (h ++ e ∷ []) old.nodes mid.nodes
-  cut_keeps = record {
-    from = λ key some. by_test key (is_below old.nodes top key.number) (ap is_some (sym (cuts.nodes key)) ∙ some);
-    still = λ key some alive. ap is_some (outside_found key some alive) ∙ some;
-  }
-    where
-      by_test : (key : Key) (b : Bool) → is_some (cond b None (find old.nodes key)) ≡ true → IsSome (find old.nodes key)
-      by_test key true some = absurd (false≢true some)
-      by_test key false some = some
-
-      outside_found : (key : Key) → IsSome (find old.nodes key) → is_open (h ++ e ∷ []) key.number ≡ true → find mid.nodes key ≡ find old.nodes key
-      outside_found key some alive =
-          let found = some_of (find old.nodes key) some in
-          let parts = and_parts (is_open h key.number) (not (list_any (λ a. top == a) (ancestors h key.number))) (sym (opens key.number) ∙ alive) in
-          cuts.nodes key ∙
-          ap (λ b. cond b None (find old.nodes key))
-          (below_is_within base h old.nodes old.chain r sound key found.0 found.1 top ∙
-          not-true (list_any (λ a. top == a) (ancestors h key.number)) parts.1)
+  cut_keeps = search (rules, top, is_some, cond, find, false≢true, some_of, and_parts, not, list_any, below_is_within, not-true)
 
   -- so does the marking of the one above
   pub keeps_marked : (new : Tree T) (p : Key) (change : Marks → Marks) → Remarks mid new p change → KeepsNodes (h ++ e ∷ []) old.nodes new.nodes
-  keeps_marked new p change marked = let k = cut_keeps in
-      record {
-        from = λ key some. k.from key (rewritten_there p marked.nodes key some);
-        still = λ key some alive. still_there p marked.nodes key (k.still key some alive);
-      }
+  keeps_marked new p change marked = search (rules, cut_keeps, rewritten_there, still_there)
 
 module _ (base : Kept) {T : Type 0} (g : Ghosts T) (h : List Event) (c : ℕ) (t : Terminal) (law : IsLawful base h) (next : MayFollow base h (End c t))
     (old mid new : Tree T) (tied : IsTied base g h old) (sound : IsSound old.nodes) (cuts : Cuts old mid c) where
@@ -226,8 +178,7 @@ module _ (base : Kept) {T : Type 0} (g : Ghosts T) (h : List Event) (c : ℕ) (t
       ((n : ℕ) → stale ≢ Some n → is_open (h ++ End c t ∷ []) n ≡ true → marks_of base (h ++ End c t ∷ []) n ≡ marks_of base h n) →
       AreNearly base (h ++ End c t ∷ []) stale mid.nodes mid.chain
   near_end stale kept =
-      records_cut base h (End c t) law next old.nodes old.chain tied.records mid.chain c stale sound kept (is_open_outside-end h c t) cuts.nodes
-      cuts.chain
+      search (rules, records_cut, is_open_outside-end)
 
   no_child : (o : Option ℕ) → parent h c ≡ o → (n : ℕ) → o ≢ Some n → is_child_of h n c ≡ false
   no_child o above n differs = false_from_ne_true (is_child_of h n c) (λ child. differs (sym above ∙ is_child_parent h n c child))

@@ -1,13 +1,14 @@
 -- What is known of a resource that is taken out of a tree.
-use Rattle.rx_ground.proofs.Common.{◌≡◌, ℕ, Bool, true, false, List, [], ◌∷◌, map, Some, refl, sym, ap, subst, ◌∙◌, not, ◌&&◌, ◌||◌, IsTrue, Contains, Ghosts}
+use Rattle.rx_ground.proofs.Common.{◌≡◌, ℕ, Bool, true, false, List, [], ◌∷◌, map, Some, refl, sym, ap, subst, ◌∙◌, not, ◌&&◌, IsTrue, Contains, Ghosts}
 use Rattle.rx_ground.proofs.Common.{list_any, false≢true, Live, Event, makes_resource, is_take_of, at, Key, find, Stowed, Tree, Takes, is_owned, is_lent}
 use Rattle.rx_ground.proofs.Common.{is_held, IsTied, IsStored, IsListed}
 use Rattle.rx_event.specs.Kept.{Kept as Base}
-use Rattle.rx_event.specs.Resources.{is_owned as is_owned_in, is_held as is_held_in, is_waiting, is_taken}
+use Rattle.rx_event.specs.Resources.{is_held as is_held_in, is_waiting, is_taken}
 use Rattle.rx_ground.specs.Shown.{Label, label_of, Kept, kept_in, waiting_in, label_in}
 use Rattle.rx_ground.proofs.Laws.Members.{Contains-head, Contains-map}
 use Rattle.rx_ground.proofs.TreeAgreesOnResource.{owned_agrees, held_agrees as stored_held, is_alone}
 use Rattle.rx_ground.proofs.FoundIsListed.{filter_member, filter_has, kept_found, kept_listed}
+use Rattle.std.proofs.Common.{rules}
 
 module _ (base : Base) {T : Type 0} (g : Ghosts T) (h : List Event) (tree : Tree T) (tied : IsTied base g h tree) where
   -- a stored resource is held in the tree just where it is in the history
@@ -17,14 +18,7 @@ module _ (base : Base) {T : Type 0} (g : Ghosts T) (h : List Event) (tree : Tree
   -- and leases alone hold it there just where they do in the history
   pub alone_agrees : (k : Kept (Stowed T)) → Contains (kept_in tree.resources) k →
       is_alone h k.key.number ≡ (is_lent k.value && not (is_owned tree.nodes k.value))
-  alone_agrees k c = (λ i. held_agrees k c i && not (owned i)) ∙ shape (is_owned tree.nodes k.value) (is_lent k.value) where
-    owned : is_owned_in h k.key.number ≡ is_owned tree.nodes k.value
-    owned = owned_agrees base g h tree tied k.key k.value (kept_found tree.resources k c)
-
-    shape : (a b : Bool) → ((a || b) && not a) ≡ (b && not a)
-    shape true true = refl
-    shape true false = refl
-    shape false b = refl
+  alone_agrees k c = search (rules, held_agrees, not, is_lent, owned_agrees, kept_found)
 
   pub waits_agrees : (k : Kept (Stowed T)) → Contains (kept_in tree.resources) k → is_waiting h k.key.number ≡ not (is_held tree.nodes k.value)
   unfolding is_waiting is_taken

@@ -1,9 +1,9 @@
 -- What the loop that settles leaves of the tie.
-use Rattle.rx_ground.proofs.Common.{◌≡◌, ℕ, ◌<◌, Bool, true, false, List, [], ◌∷◌, ◌++◌, length, Option, Some, None, is_some, IsSome, IfSome, option_map, sym}
-use Rattle.rx_ground.proofs.Common.{slice_get, refl, ap, subst, ◌∙◌, ◌≤◌, ◌+◌, arith, length-append, AllByRecursion, option_and_then, ◌||◌, false≢true, Kept}
-use Rattle.rx_ground.proofs.Common.{none-some, same_Some, Ghosts, Terminal, Marks, Event, Connect, End, is_merging, is_open, due_at, after_child, mail_of}
-use Rattle.rx_ground.proofs.Common.{IsConnectDue, IsForced, IsSettled, connecting, due, IsLawful, IsForcedOn, forced, stays, more, is_open_within, Key, Slots}
-use Rattle.rx_ground.proofs.Common.{stays_closed, forced_connected, find, Node, Tree, Rewrites, is_on, is_key, with_marks, with_due, key_is, some_of, Writes}
+use Rattle.rx_ground.proofs.Common.{◌≡◌, ℕ, ◌<◌, Bool, true, List, [], ◌∷◌, ◌++◌, length, Option, Some, None, is_some, IsSome, IfSome, option_map, sym}
+use Rattle.rx_ground.proofs.Common.{slice_get, refl, ap, subst, ◌∙◌, ◌≤◌, ◌+◌, arith, length-append, AllByRecursion, option_and_then, false≢true, Kept}
+use Rattle.rx_ground.proofs.Common.{none-some, same_Some, Ghosts, Terminal, Marks, Event, Connect, End, is_merging, is_open, after_child}
+use Rattle.rx_ground.proofs.Common.{IsConnectDue, IsForced, IsSettled, IsLawful, IsForcedOn, forced, stays, more, is_open_within, Key, Slots}
+use Rattle.rx_ground.proofs.Common.{stays_closed, forced_connected, find, Node, Tree, Rewrites, is_on, with_marks, with_due, key_is, some_of, Writes}
 use Rattle.rx_ground.proofs.Common.{IsPaid, told_by_end, Due, IsChained, AreRecordsOf, due_at_in, due_forced, AreLeased, AreRecords, AreTied, IsReady, IsNext}
 use Rattle.rx_ground.proofs.Common.{WithChain, KeepsOlder, Remarks, HasRoomToConnect, is_there, key_due, TakesNoMemory, Settles, Gathers, Ground, list_room}
 use Rattle.rx_ground.proofs.Common.{HubDue, event_of, IsDueIn, IsQuiet, ConcernsHub, Hub, Hubs, find_hub, hubs_forced, found_hub}
@@ -15,22 +15,19 @@ use Rattle.rx_ground.proofs.Laws.GoneStaysGone.{IsFurther, gone_push, gone_force
 use Rattle.rx_ground.proofs.Records.{as_records, rechained}
 use Rattle.rx_hub.specs.declared.hub.HubDue.TheVariants.{Connect as ConnectDue, End as EndDue, Close as CloseDue}
 use Rattle.rx_hub.proofs.Laws.Dues.{none_waits, quiet_settles}
+use Rattle.std.proofs.Common.{rules}
 
 -- settling ------------------------------------------------------------------------------------------
 
 -- a Connect is forced where its hub waits for it
 connect_due : (base : Kept) → {h : List Event} {n : ℕ} → IsForced base h (Connect n) → IsConnectDue h n
-connect_due base (connecting d) = d
-connect_due base (due none d) = absurd (elim d [ ])
+connect_due base x1 = search rules
 
 -- a key that is among those that are found is found
 found_on : (nodes : Slots Node) (key : Key) (keys : List Key) → AllByRecursion (λ k. IsSome (find nodes k)) keys → is_on key keys ≡ true →
     IsSome (find nodes key)
 found_on nodes key [] all on = absurd (false≢true on)
-found_on nodes key (k ∷ keys) all on = by_test (is_key key k) refl (found_on nodes key keys all.1) where
-  by_test : (b : Bool) → is_key key k ≡ b → (is_on key keys ≡ true → IsSome (find nodes key)) → IsSome (find nodes key)
-  by_test true here later = ap (λ (x : Key). is_some (find nodes x)) (key_is key k here) ∙ all.0
-  by_test false here later = later (ap (λ b. b || is_on key keys) (sym here) ∙ on)
+found_on nodes key (k ∷ keys) all on = search (rules, find, is_some, key_is, found_on nodes key keys all.1)
 
 -- where no hub has anything to do
 module _ (base : Kept) {T : Type 0} (g : Ghosts T) (h : List Event) (tree : Tree T) (hubs : Hubs)
@@ -48,10 +45,7 @@ module _ (base : Kept) {T : Type 0} (g : Ghosts T) (h : List Event) (tree : Tree
 
 -- where nothing stands on the chain nothing is due at any record
 pub quiet_chain : {base : Kept} {h : List Event} {nodes : Slots Node} {chain : List Key} → AreRecords base h nodes chain → chain ≡ [] → IsQuietTree nodes
-quiet_chain {nodes} {chain} records none key = by_value (find nodes key) refl where
-  by_value : (o : Option Node) → find nodes key ≡ o → option_and_then (λ (node : Node). due_at node.made node.marks key.number) o ≡ None
-  by_value None e = refl
-  by_value (Some node) e = records.quiet key node e (ap (is_on key) none)
+quiet_chain {nodes} {chain} records none key = search (rules, find, option_and_then)
 
 module _ {T : Type 0} (g : Ghosts T) (b : Ground T) (tied : AreTied b.register.base g b.register.history b.tree b.hubs) where
   -- what is due at a hub comes next
@@ -69,34 +63,18 @@ module _ {T : Type 0} (g : Ghosts T) (b : Ground T) (tied : AreTied b.register.b
 
   -- what comes next may be written
   pub next_ready : (d : HubDue) → IsLawful b.register.base b.register.history → IsNext b d → IsPaid b.register → IsReady b.register (event_of d)
-  next_ready d law next paid = record {
-    next = forced next.forced;
-    room = forced_room b.register (event_of d) law next.forced paid;
-    notes = by_due d next.forced;
-    pending = paid.pending;
-  }
-    where
-      by_due : (d : HubDue) → IsForced b.register.base b.register.history (event_of d) → length (mail_of b.register.history (event_of d)) ≤ b.register.mail_room
-      by_due (ConnectDue n) f = omega arith
-      by_due (EndDue key t) f = let one = told_by_end b.register.history key.number t in let room = end_room b.register key.number t f paid in omega arith
-      by_due (CloseDue key) f = omega arith
+  next_ready d law next paid = search (rules, next, forced, forced_room, law, paid, length, told_by_end, end_room)
 
 -- nodes that stay, change after change ---------------------------------------------------------------
 
 -- what is open after one event more was open before
 open_before : (h : List Event) (e : Event) (n : ℕ) → n < length h → is_open (h ++ e ∷ []) n ≡ true → is_open h n ≡ true
-open_before h e n l alive = by_test (is_open h n) refl where
-  by_test : (b : Bool) → is_open h n ≡ b → b ≡ true
-  by_test true was = refl
-  by_test false was = absurd (false≢true (sym (stays_closed h e n l was) ∙ alive))
+open_before h e n l alive = search (rules, false≢true, stays_closed)
 
 older_on : {h : List Event} (e : Event) {number : ℕ} (old mid new : Slots Node) → number ≤ length h →
     ((key : Key) → IsSome (find old key) → key.number < length h) →
     KeepsOlder h number old mid → KeepsOlder (h ++ e ∷ []) (length h) mid new → KeepsOlder (h ++ e ∷ []) number old new
-older_on {h} e {number} old mid new le within first then = record {
-  from = λ key some l. first.from key (then.from key some (omega arith)) l;
-  still = λ key some alive. then.still key (first.still key some (open_before h e key.number (within key some) alive)) alive;
-}
+older_on {h} e {number} old mid new le within first then = search (rules, open_before)
 
 -- the loop that settles -----------------------------------------------------------------------------
 
@@ -291,14 +269,7 @@ pub end_marked : {T : Type 0} (old new : Tree T) (key : Key) (source : Bool) (t 
     Rewrites old.nodes new.nodes key (with_marks (after_child source (is_merging node.made) t node.marks))) →
     new.chain ≡ with_due new.nodes key old.chain → new.resources ≡ old.resources →
     IfSome (find old.nodes key) (λ node. Remarks old new key (after_child source (is_merging node.made) t))
-end_marked {T = T} old new key source t nodes chain stored = by_value (find old.nodes key) refl where
-  by_value : (o : Option Node) → find old.nodes key ≡ o → IfSome o (λ node. Remarks old new key (after_child source (is_merging node.made) t))
-  by_value None e = tt
-  by_value (Some x) e =
-      let at_marks : option_map (λ (node : Node). node.marks) (find old.nodes key) ≡ Some x.marks = ap (option_map (λ (node : Node). node.marks)) e in
-      let sets : SetsMarks old new key (after_child source (is_merging x.made) t x.marks) =
-      record { nodes = nodes x e; chain = chain; stored = stored } in
-      set_remarks (after_child source (is_merging x.made) t) at_marks refl sets
+end_marked {T = T} old new key source t nodes chain stored = search (rules, find, option_map, chain, set_remarks)
 
 pub end_rest : {T : Type 0} (old new : Tree T) (key : Key) (source : Bool) (t : Terminal) → IsSome (find old.nodes key) → ((node : Node) →
     find old.nodes key ≡ Some node →

@@ -1,8 +1,8 @@
 -- What the record of a node says of the causes.
-use Rattle.rx_ground.proofs.Common.{◌≡◌, ℕ, ◌+◌, ◌==◌, Bool, true, false, cond, List, [], ◌∷◌, Option, Some, None, is_some, option_map, slice_get, refl, sym}
+use Rattle.rx_ground.proofs.Common.{◌≡◌, ℕ, ◌+◌, Bool, true, false, cond, List, [], ◌∷◌, Option, Some, is_some, option_map, slice_get, refl, sym}
 use Rattle.rx_ground.proofs.Common.{ap, ◌∙◌, arith, zero-add, nat_lt, not, ◌||◌, list_any, option_map_or, lt-ltb, sum_by-cons, none-some, same_Some, Kept, at}
-use Rattle.rx_ground.proofs.Common.{Ghosts, Marks, Place, Root, Source, Inner, Notifier, Event, has_source, is_merging, is_until, named_by, places, is_open}
-use Rattle.rx_ground.proofs.Common.{is_open_child_of, has_open_child, source_opened, notifier_opened, owed, marks_of, open_children, is_wrong_place, Key}
+use Rattle.rx_ground.proofs.Common.{Ghosts, Marks, Place, Event, named_by, is_open}
+use Rattle.rx_ground.proofs.Common.{has_open_child, marks_of, open_children, is_wrong_place, Key}
 use Rattle.rx_ground.proofs.Common.{is_taken_place, is_unowed_place, Slots, find, Node, Stowed, ResKey, Tree, store_key, is_owned, is_owned_at, is_held_at}
 use Rattle.rx_ground.proofs.Common.{some_of, LeaseKey, is_out_at, Record, IsTied, AreLeased, record_of, IsTold, has_place, is_used, is_unowed}
 use Rattle.std.specs.List.{count_by}
@@ -10,6 +10,7 @@ use Rattle.rx_event.specs.Resources.{is_owned as is_owned_in, is_out, is_held as
 use Rattle.rx_ground.proofs.TreeAgreesOnResource.{owned_agrees, held_agrees}
 use Rattle.rx_ground.proofs.LeasesAfterEvent.{out_in_history as lease_in_history}
 use Rattle.rx_ground.proofs.Newest.{held_found}
+use Rattle.std.proofs.Common.{rules}
 
 module _ (base : Kept) {T : Type 0} (g : Ghosts T) (h : List Event) (tree : Tree T) (tied : IsTied base g h tree) where
   -- a node that is there is open
@@ -31,18 +32,7 @@ module _ (base : Kept) {T : Type 0} (g : Ghosts T) (h : List Event) (tree : Tree
 
   -- what a record tells
   pub told : (key : Key) (r : Record) → Some r ≡ option_map record_of (find tree.nodes key) → IsTold base h tree.nodes key r
-  told key r says = by_value (find tree.nodes key) refl says where
-    by_value : (o : Option Node) → find tree.nodes key ≡ o → Some r ≡ option_map record_of o → IsTold base h tree.nodes key r
-    by_value None found says = absurd (none-some r (sym says))
-    by_value (Some node) found says =
-        let is = tied.records.each key node found in
-        let same = same_Some r (record_of node) says in
-        record {
-          there = ap is_some found;
-          alive = is.alive;
-          made = is.made ∙ ap (λ (x : Record). Some x.made) (sym same);
-          marks = ap (λ (x : Record). x.marks) same ∙ is.marks;
-        }
+  told key r says = search (rules, find, option_map, none-some, same_Some, is_some)
 
 -- a lease that is out under its key is out in the history
 pub out_in_history : {T : Type 0} (h : List Event) (resources : Slots (Stowed T)) (leases : Slots ResKey) → AreLeased h resources leases →
@@ -56,21 +46,15 @@ told_at p h n made found = ap (λ o. option_map_or p o false) found
 -- what a place asks of the node that it names
 pub wrong_at : (h : List Event) (place : Place) (n : ℕ) (made : Event) → named_by place ≡ Some n → slice_get h n ≡ Some made →
     is_wrong_place h place ≡ not (has_place made place)
-wrong_at h Root n made named found = refl
-wrong_at h (Source p) n made named found = ap (λ m. not (at has_source h m)) (same_Some p n named) ∙ ap not (told_at has_source h n made found)
-wrong_at h (Inner p) n made named found = ap (λ m. not (at is_merging h m)) (same_Some p n named) ∙ ap not (told_at is_merging h n made found)
-wrong_at h (Notifier p) n made named found = ap (λ m. not (at is_until h m)) (same_Some p n named) ∙ ap not (told_at is_until h n made found)
+wrong_at h x1 n made named found = search (rules, not, same_Some)
 
 pub taken_at : (base : Kept) → (h : List Event) (place : Place) (n : ℕ) (m : Marks) → named_by place ≡ Some n → m ≡ marks_of base h n →
     is_taken_place base h place ≡ is_used m place
-taken_at base h (Source p) n m named is = ap (source_opened base h) (same_Some p n named) ∙ ap (λ (x : Marks). x.source_opened) (sym is)
-taken_at base h (Notifier p) n m named is = ap (notifier_opened base h) (same_Some p n named) ∙ ap (λ (x : Marks). x.notifier_opened) (sym is)
-taken_at base h _ n m named is = refl
+taken_at base h x2 n m named is = search (rules, same_Some)
 
 pub unowed_at : (base : Kept) → (h : List Event) (place : Place) (n : ℕ) (m : Marks) → named_by place ≡ Some n → m ≡ marks_of base h n →
     is_unowed_place base h place ≡ is_unowed m place
-unowed_at base h (Inner p) n m named is = ap (λ k. owed base h k == 0) (same_Some p n named) ∙ ap (λ (x : Marks). x.owed == 0) (sym is)
-unowed_at base h _ n m named is = refl
+unowed_at base h x2 n m named is = search (rules, same_Some)
 
 -- a test holds of some member just where a member is counted
 any_counted : {X : Type 0} (p : X → Bool) (xs : List X) → list_any p xs ≡ nat_lt 0 (count_by p xs)
@@ -85,4 +69,4 @@ any_counted {X = X} p (x ∷ xs) = by_test (any_counted p xs) (p x) refl where
 pub child_marked : (base : Kept) → (h : List Event) (nodes : Slots Node) (key : Key) (r : Record) → IsTold base h nodes key r →
     has_open_child h key.number ≡ nat_lt 0 r.marks.open_children
 unfolding open_children
-child_marked base h nodes key r is = any_counted (is_open_child_of h key.number) (places h) ∙ ap (λ (m : Marks). nat_lt 0 m.open_children) (sym is.marks)
+child_marked base h nodes key r is = search (rules, any_counted, nat_lt)

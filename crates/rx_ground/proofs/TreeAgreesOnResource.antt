@@ -1,13 +1,13 @@
 -- What a tree says of a stored resource, whether it is owned, leased and held, the history says too.
-use Rattle.rx_ground.proofs.Common.{◌≡◌, ℕ, zero, suc, ◌==◌, Bool, List, Some, is_some, refl, sym, ap, ◌∙◌, nat_lt, not, ◌&&◌, ◌||◌, lt-ltb, ne_eqb, arith}
+use Rattle.rx_ground.proofs.Common.{◌≡◌, ℕ, ◌==◌, Bool, List, Some, is_some, sym, ap, ◌∙◌, nat_lt, not, ◌&&◌, ◌||◌, lt-ltb, ne_eqb}
 use Rattle.rx_ground.proofs.Common.{Kept, Ghosts, Event, is_open, held_is, Key, find, Stowed, Tree, is_owned, is_lent, is_held, some_of, IsTied, IsStored}
 use Rattle.std.specs.Cmp.{both_ways as same_test}
 use Rattle.rx_event.specs.Resources.{is_owned as is_owned_in, is_leased, is_held as is_held_in, leases_of}
+use Rattle.std.proofs.Common.{rules}
 
 -- some are, where they are not none
 some_are : (n : ℕ) → nat_lt 0 n ≡ not (n == 0)
-some_are zero = refl
-some_are (suc n) = rw (lt-ltb 0 (suc n) (omega arith), ne_eqb (suc n) 0 (λ e. omega arith)) refl
+some_are x0 = search (rules, lt-ltb, ne_eqb)
 
 -- leases alone hold it
 abbrev pub is_alone : List Event → ℕ → Bool

@@ -6,29 +6,25 @@ use Rattle.rx_ground.proofs.Common.{most_visits, Slots, find, Node, Tree, IsSoun
 use Rattle.rx_ground.proofs.Common.{IsWalk, stops_over, all_stops_told, found_hub, Way, AreRecords, AreTied, IsReach, IsMeasured, owed_at, told_at, sum_at}
 use Rattle.rx_event.specs.declared.refusal.Refusal.{Refusal}
 use Rattle.rx_event.specs.Causes.{causes, by_key}
-use Rattle.rx_event.specs.Climb.{Stop as NumberedStop, Delivery as DeliveryTo, Projection as ProjectionTo, Firing as FiringOf, stops, visits}
+use Rattle.rx_event.specs.Climb.{Stop as NumberedStop, stops, visits}
 use Rattle.rx_ground.proofs.Records.{as_records}
+use Rattle.std.proofs.Common.{rules}
 
 -- an item may go over a tree and hubs of one history
 pub walk_tied : (base : Kept) → {T : Type 0} {g : Ghosts T} {h : List Event} {tree : Tree T} {hubs : Hubs} → AreTied base g h tree hubs → IsSound tree.nodes →
     IsWalk base h tree.nodes hubs.hubs
-walk_tied base {h = h} {tree = tree} {hubs = hubs} tied sound = record {
-  sound = sound;
-  records = as_records base h tree.nodes tree.chain tied.of_tree.records;
-  published = tied.published;
-  found = λ n hub at_n. let at_i = found_hub hubs.hubs n hub at_n in tied.joined.subscribers at_i.0 hub at_i.1.0;
-}
+walk_tied base {h = h} {tree = tree} {hubs = hubs} tied sound = search (rules, as_records, found_hub)
 
 -- what it wants -----------------------------------------------------------------------------------
 
 owed_sum : (ss : List Stop) → sum_at owed_at ss ≡ count_by is_projection (filter_map numbered ss)
 owed_sum [] = refl
 owed_sum (Delivery key ∷ ss) =
-    let rest = owed_sum ss in let all = sum_by-cons (λ t. cond (is_projection t) 1 0) (DeliveryTo key.number) (filter_map numbered ss) in omega arith
+    search (rules, sum_by-cons, cond, filter_map, owed_sum ss)
 owed_sum (Projection key ∷ ss) =
-    let rest = owed_sum ss in let all = sum_by-cons (λ t. cond (is_projection t) 1 0) (ProjectionTo key.number) (filter_map numbered ss) in omega arith
+    search (rules, sum_by-cons, cond, filter_map, owed_sum ss)
 owed_sum (Firing key ∷ ss) =
-    let rest = owed_sum ss in let all = sum_by-cons (λ t. cond (is_projection t) 1 0) (FiringOf key.number) (filter_map numbered ss) in omega arith
+    search (rules, sum_by-cons, cond, filter_map, owed_sum ss)
 owed_sum (Connection key ∷ ss) = let rest = owed_sum ss in omega arith
 
 pub told_sum : (place : ℕ) (value : ℤ) (ss : List Stop) → length (filter_map (told place value) (filter_map numbered ss)) ≡ sum_at told_at ss
@@ -76,16 +72,13 @@ by_limits base h limit n =
 first_cause-emitting : (base : Kept) → (known : Bool) (h : List Event) (limit n : ℕ) (value : ℤ) →
     first_cause (by_key known (causes base h limit true (Emitting n value))) ≡
     cond known (cond (not (is_open h n)) (Some Gone) (cond (not (at is_leaf h n)) (Some WrongKind) (by_limits base h limit n))) (Some Gone)
-first_cause-emitting base true h limit n value = refl
-first_cause-emitting base false h limit n value = refl
+first_cause-emitting base x1 h limit n value = search rules
 
 test_is : (wide b : Bool) → b ≡ not wide → wide ≡ not b
-test_is true b e = ap not (sym e)
-test_is false b e = ap not (sym e)
+test_is x0 b e = search (rules, not)
 
 node_made : (made : Event) (o : Option Node) → Some made ≡ option_map (λ node. node.made) o → (x : Node) × (o ≡ Some x) × (x.made ≡ made)
-node_made made None at_none = absurd (none-some made (sym at_none))
-node_made made (Some x) at_x = (x, refl, sym (same_Some made x.made at_x))
+node_made made x1 at_none = search (rules, none-some, same_Some)
 
 -- at a key that finds a record
 abbrev pub IsMadeBy : Slots Node → Key → Event → Type 0

@@ -6,8 +6,7 @@ ghost use Rattle.std.specs.Prelude.{◌≡◌, ◌+◌, ◌<◌, ◌≤◌, [], 
 ghost use Rattle.rx_slots.specs.Lists.{list_at};
 
 use rx_event::BaseLease;
-use rx_slots::Rings;
-use rx_slots::{Key, Slots};
+use rx_slots::{Key, Rings, Slots};
 use rx_tree::ResKey;
 use std::alloc::{AllocError, Global};
 use std::marker::Model;

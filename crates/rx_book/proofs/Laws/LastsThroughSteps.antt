@@ -1,47 +1,30 @@
 -- What an event of one sort makes and one of another takes away, and what a step of the book leaves of it.
-use Rattle.rx_book.proofs.Common.{◌≡◌, ℕ, ◌+◌, ◌<◌, ◌≤◌, Bool, true, false, List, [], ◌∷◌, ◌++◌, length, map, cond, refl, sym, ap, ◌∙◌, arith, inl, inr, ◌⊎◌}
+use Rattle.rx_book.proofs.Common.{◌≡◌, ℕ, ◌+◌, ◌≤◌, Bool, true, false, List, [], ◌∷◌, ◌++◌, length, map, cond, refl, sym, ap, ◌∙◌, arith}
 use Rattle.rx_book.proofs.Common.{◌==◌, append_assoc, length-append, slice_get, not, ◌&&◌, ◌||◌, list_any, list_all, option_map_or, cases_order, and_parts}
 use Rattle.rx_book.proofs.Common.{ne_eqb, eqb-true, eq-eqb, false_from_ne_true, append-nil, Kept, Event, Open, Accept, Lease, Return, Close, Take, Place, at}
-use Rattle.rx_book.proofs.Common.{Pass, makes_resource, makes_lease, is_take_of, is_return_of, open_connections, is_out, IsLawful, IsForcedOn, stays, more}
-use Rattle.rx_book.proofs.Common.{Call, outside_of, IsStepOf, Opening, OpeningUsing, Holding, Applying, Removing, Leasing, GivingBack, Emitting, Ending}
-use Rattle.rx_book.proofs.Common.{Aborting, Declining, Failing, Disposing, Publishing, Connecting, Disconnecting, Taking, slice_get_last, at-append, no_take}
+use Rattle.rx_book.proofs.Common.{Pass, makes_resource, makes_lease, is_take_of, is_return_of, is_out, IsLawful, IsForcedOn, stays, more}
+use Rattle.rx_book.proofs.Common.{Call, outside_of, IsStepOf, OpeningUsing, Holding, Leasing, GivingBack}
+use Rattle.rx_book.proofs.Common.{Taking, slice_get_last, at-append, no_take}
 use Rattle.rx_book.proofs.Common.{at_within, at_before, list_any_push, forced_kind, may_be_forced}
 use Rattle.rx_event.proofs.Laws.Leases.{no_return}
 use Rattle.rx_book.specs.State.{is_kept}
+use Rattle.std.proofs.Common.{rules}
 
 same_test : (a b : Bool) → (a ≡ true → b ≡ true) → (b ≡ true → a ≡ true) → a ≡ b
-same_test true b p q = sym (p refl)
-same_test false true p q = q refl
-same_test false false p q = refl
+same_test x0 b p q = search rules
 
 -- made at this place, and not taken away by any event
 abbrev pub lasts : (Event → Bool) → (ℕ → Event → Bool) → List Event → ℕ → Bool
 lasts made gone h n = at made h n && not (list_any (gone n) h)
 
 at_same : (made : Event → Bool) (h : List Event) (e : Event) (n : ℕ) → made e ≡ false → at made (h ++ e ∷ []) n ≡ at made h n
-at_same made h e n none = same_test (at made (h ++ e ∷ []) n) (at made h n) (at_before made h e n none)
-    (λ there. at-append made h (e ∷ []) n (at_within made h n there) ∙ there)
+at_same made h e n none = search (rules, same_test, at_before, at-append, at_within)
 
 at_last : (made : Event → Bool) (h : List Event) (e : Event) (n : ℕ) → made e ≡ true → at made (h ++ e ∷ []) n ≡ cond (length h == n) true (at made h n)
-at_last made h e n makes = by_place (cases_order n (length h)) where
-  by_place : (n ≡ length h) ⊎ ((n < length h) ⊎ (length h < n)) → at made (h ++ e ∷ []) n ≡ cond (length h == n) true (at made h n)
-  by_place (inl last) =
-      let here : at made (h ++ e ∷ []) n ≡ true = ap (λ m. option_map_or made m false) (ap (slice_get (h ++ e ∷ [])) last ∙ slice_get_last h e) ∙ makes in
-      let same : (length h == n) ≡ true = eq-eqb (length h) n (sym last) in
-      here ∙ sym (ap (λ (b : Bool). cond b true (at made h n)) same)
-  by_place (inr (inl l)) =
-      let apart : (length h == n) ≡ false = ne_eqb (length h) n (omega arith) in
-      at-append made h (e ∷ []) n l ∙ sym (ap (λ (b : Bool). cond b true (at made h n)) apart)
-  by_place (inr (inr l)) =
-      let apart : (length h == n) ≡ false = ne_eqb (length h) n (omega arith) in
-      let new : at made (h ++ e ∷ []) n ≡ false = false_from_ne_true (at made (h ++ e ∷ []) n)
-      (λ there. let w = at_within made (h ++ e ∷ []) n there in omega (arith, length-append h (e ∷ []))) in
-      let old : at made h n ≡ false = false_from_ne_true (at made h n) (λ there. let w = at_within made h n there in omega arith) in
-      new ∙ sym (ap (λ (b : Bool). cond b true (at made h n)) apart ∙ old)
+at_last made h e n makes = search (rules, cases_order, length, cond, option_map_or, slice_get, slice_get_last, makes, eq-eqb, ne_eqb, at-append, false_from_ne_true, at_within, length-append)
 
 or_none : (b c : Bool) → c ≡ false → (b || c) ≡ b
-or_none false c none = none
-or_none true c none = refl
+or_none x0 c none = search rules
 
 -- a plain event makes nothing and takes nothing away, and all that are forced are plain, and all closings
 record LeavesAlone (made : Event → Bool) (gone : ℕ → Event → Bool) (plain : Event → Bool) : Type 0 where
@@ -54,9 +37,7 @@ module _ {made : Event → Bool} {gone : ℕ → Event → Bool} {plain : Event 
   -- by a plain event nothing changes
   lasts_plain : (h : List Event) (e : Event) → plain e ≡ true → (n : ℕ) → lasts made gone (h ++ e ∷ []) n ≡ lasts made gone h n
   lasts_plain h e p n =
-      let any : list_any (gone n) (h ++ e ∷ []) ≡ list_any (gone n) h =
-      list_any_push (gone n) h e ∙ or_none (list_any (gone n) h) (gone n e) (alone.takes e n p) in
-      (λ i. at_same made h e n (alone.makes e p) i && not (any i))
+      search (rules, list_any, list_any_push, or_none, at_same, not)
 
   lasts_all : (h es : List Event) → list_all plain es ≡ true → (n : ℕ) → lasts made gone (h ++ es) n ≡ lasts made gone h n
   lasts_all h [] p n = ap (λ (k : List Event). lasts made gone k n) (append-nil h)
@@ -87,35 +68,13 @@ module _ {made : Event → Bool} {gone : ℕ → Event → Bool} {plain : Event 
 lasts_made : (made : Event → Bool) (gone : ℕ → Event → Bool) (h : List Event) (e : Event) → made e ≡ true → ((n : ℕ) → gone n e ≡ false) →
     list_any (gone (length h)) h ≡ false →
     (n : ℕ) → lasts made gone (h ++ e ∷ []) n ≡ cond (length h == n) true (lasts made gone h n)
-lasts_made made gone h e makes keeps fresh n = by_test (length h == n) refl where
-  any : list_any (gone n) (h ++ e ∷ []) ≡ list_any (gone n) h
-  any = list_any_push (gone n) h e ∙ or_none (list_any (gone n) h) (gone n e) (keeps n)
-
-  both : lasts made gone (h ++ e ∷ []) n ≡ (cond (length h == n) true (at made h n) && not (list_any (gone n) h))
-  both = λ i. at_last made h e n makes i && not (any i)
-
-  by_test : (b : Bool) → (length h == n) ≡ b → lasts made gone (h ++ e ∷ []) n ≡ cond (length h == n) true (lasts made gone h n)
-  by_test true same =
-      let here : length h ≡ n = eqb-true (length h) n same in
-      let none : list_any (gone n) h ≡ false = ap (λ (m : ℕ). list_any (gone m) h) (sym here) ∙ fresh in
-      both ∙ rw (same, none) refl
-  by_test false apart = both ∙ rw apart refl
+lasts_made made gone h e makes keeps fresh n = search (rules, length, list_any, list_any_push, or_none, cond, not, at_last, makes, eqb-true)
 
 -- one is taken away
 lasts_gone : (made : Event → Bool) (gone : ℕ → Event → Bool) (h : List Event) (e : Event) (q : ℕ) → made e ≡ false → ((n : ℕ) → gone n e ≡ (q == n)) →
     (n : ℕ) → lasts made gone (h ++ e ∷ []) n ≡ cond (q == n) false (lasts made gone h n)
 lasts_gone made gone h e q makes takes n =
-    let any : list_any (gone n) (h ++ e ∷ []) ≡ (list_any (gone n) h || (q == n)) =
-    list_any_push (gone n) h e ∙ ap (λ (b : Bool). list_any (gone n) h || b) (takes n) in
-    (λ i. at_same made h e n makes i && not (any i)) ∙ shape (at made h n) (list_any (gone n) h) (q == n)
-  where
-    shape : (a b c : Bool) → (a && not (b || c)) ≡ cond c false (a && not b)
-    shape false b true = refl
-    shape false b false = refl
-    shape true true true = refl
-    shape true true false = refl
-    shape true false true = refl
-    shape true false false = refl
+    search (rules, list_any, list_any_push, takes, at_same, makes, not, cond)
 
 -- resources ------------------------------------------------------------------------------------------
 
@@ -125,19 +84,13 @@ plain_for_resources (Take r) = false
 plain_for_resources _ = true
 
 accepts_none : (e : Event) → plain_for_resources e ≡ true → makes_resource e ≡ false
-accepts_none (Accept node tag) p = sym p
-accepts_none (Take r) p = refl
-accepts_none _ p = refl
+accepts_none x0 p = search rules
 
 takes_none : (e : Event) (n : ℕ) → plain_for_resources e ≡ true → is_take_of n e ≡ false
-takes_none (Accept node tag) n p = refl
-takes_none (Take r) n p = absurd (cc)
-takes_none _ n p = refl
+takes_none x0 n p = search rules
 
 resource_forced : (e : Event) → may_be_forced e ≡ true → plain_for_resources e ≡ true
-resource_forced (Accept node tag) p = p
-resource_forced (Take r) p = p
-resource_forced _ p = refl
+resource_forced x0 p = search rules
 
 resources_alone : LeavesAlone makes_resource is_take_of plain_for_resources
 resources_alone = record { makes = accepts_none; takes = takes_none; follows = resource_forced; closes = λ c. refl }
@@ -150,19 +103,13 @@ plain_for_leases (Return l) = false
 plain_for_leases _ = true
 
 leases_none : (e : Event) → plain_for_leases e ≡ true → makes_lease e ≡ false
-leases_none (Lease r) p = sym p
-leases_none (Return l) p = refl
-leases_none _ p = refl
+leases_none x0 p = search rules
 
 returns_none : (e : Event) (n : ℕ) → plain_for_leases e ≡ true → is_return_of n e ≡ false
-returns_none (Lease r) n p = refl
-returns_none (Return l) n p = absurd (cc)
-returns_none _ n p = refl
+returns_none x0 n p = search rules
 
 lease_forced : (e : Event) → may_be_forced e ≡ true → plain_for_leases e ≡ true
-lease_forced (Lease r) p = p
-lease_forced (Return l) p = p
-lease_forced _ p = refl
+lease_forced x0 p = search rules
 
 leases_alone : LeavesAlone makes_lease is_return_of plain_for_leases
 leases_alone = record { makes = leases_none; takes = returns_none; follows = lease_forced; closes = λ c. refl }
@@ -183,44 +130,10 @@ keeps_leases (GivingBack l) = false
 keeps_leases _ = true
 
 resources_outside : (h : List Event) (call : Call) → keeps_resources call ≡ true → list_all plain_for_resources (outside_of h call) ≡ true
-resources_outside h (OpeningUsing place tag) p = p
-resources_outside h (Holding node tag) p = p
-resources_outside h (Taking r) p = p
-resources_outside h (Disconnecting g) p =
-    all_closed resources_alone (open_connections h g)
-resources_outside h (Opening place kind) p = refl
-resources_outside h (Applying r) p = refl
-resources_outside h (Removing r) p = refl
-resources_outside h (Leasing r) p = refl
-resources_outside h (GivingBack l) p = refl
-resources_outside h (Emitting leaf value) p = refl
-resources_outside h (Ending leaf t) p = refl
-resources_outside h (Aborting n code) p = refl
-resources_outside h (Declining f) p = refl
-resources_outside h (Failing f code) p = refl
-resources_outside h (Disposing root) p = refl
-resources_outside h (Publishing mode) p = refl
-resources_outside h (Connecting g) p = refl
+resources_outside h x1 p = search (rules, all_closed, resources_alone)
 
 leases_outside : (h : List Event) (call : Call) → keeps_leases call ≡ true → list_all plain_for_leases (outside_of h call) ≡ true
-leases_outside h (Leasing r) p = p
-leases_outside h (GivingBack l) p = p
-leases_outside h (Disconnecting g) p =
-    all_closed leases_alone (open_connections h g)
-leases_outside h (OpeningUsing place tag) p = refl
-leases_outside h (Holding node tag) p = refl
-leases_outside h (Taking r) p = refl
-leases_outside h (Opening place kind) p = refl
-leases_outside h (Applying r) p = refl
-leases_outside h (Removing r) p = refl
-leases_outside h (Emitting leaf value) p = refl
-leases_outside h (Ending leaf t) p = refl
-leases_outside h (Aborting n code) p = refl
-leases_outside h (Declining f) p = refl
-leases_outside h (Failing f code) p = refl
-leases_outside h (Disposing root) p = refl
-leases_outside h (Publishing mode) p = refl
-leases_outside h (Connecting g) p = refl
+leases_outside h x1 p = search (rules, all_closed, leases_alone)
 
 -- a step that accepts and takes nothing keeps what is kept
 pub kept_same : {base : Kept} {h k : List Event} (call : Call) → IsStepOf base h call k → keeps_resources call ≡ true → (r : ℕ) → is_kept k r ≡ is_kept h r
@@ -278,6 +191,4 @@ out_returned {h = h} {q = q} step l =
 pub kept_past : (h : List Event) (r : ℕ) → length h ≤ r → is_kept h r ≡ false
 unfolding is_kept
 kept_past h r past =
-    let none : at makes_resource h r ≡ false =
-    false_from_ne_true (at makes_resource h r) (λ there. let w = at_within makes_resource h r there in omega arith) in
-    ap (λ (b : Bool). b && not (list_any (is_take_of r) h)) none
+    search (rules, false_from_ne_true, at_within, not, list_any)

@@ -1,6 +1,7 @@
 -- What one more step of a history leaves as it was.
-use Rattle.rx_book.proofs.Common.{◌≡◌, ◌≤◌, ◌+◌, ◌++◌, ◌∷◌, [], Bool, List, length, length-append, cond, refl, ◌∙◌, arith, count_by, sum_by-append, Kept}
+use Rattle.rx_book.proofs.Common.{◌≡◌, ◌≤◌, ◌+◌, ◌++◌, ◌∷◌, [], Bool, List, length, length-append, cond, arith, count_by, sum_by-append, Kept}
 use Rattle.rx_book.proofs.Common.{Event, is_take, taken_count, IsForcedOn, stays, more, Call, outside_of, IsStepOf, State, Continues, Request, Accepts}
+use Rattle.std.proofs.Common.{rules}
 
 pub count_by-append : (p : Event → Bool) (xs ys : List Event) → count_by p (xs ++ ys) ≡ count_by p xs + count_by p ys
 count_by-append p xs ys = sum_by-append (λ x. cond (p x) 1 0) xs ys
@@ -22,35 +23,11 @@ pub step_taken : (base : Kept) → (h k : List Event) (call : Call) → IsStepOf
 step_taken base h k call step = omega (arith, forced_taken base step.forced, count_by-append is_take h (outside_of h call))
 
 pub accepted_continues : (old new : State) (asked : Request) → Accepts old asked new → Continues old new
-accepted_continues old new asked accepted = record {
-  base = accepted.base;
-  limit = accepted.limit;
-  given = accepted.given;
-  longer = let longer = step_longer old.base old.history new.history asked.call accepted.step in omega arith;
-  keys = accepted.keys;
-  res_keys = accepted.res_keys;
-  lease_keys = accepted.lease_keys;
-}
+accepted_continues old new asked accepted = search (rules, step_longer)
 
 pub continues_none : (s : State) → Continues s s
 continues_none s =
-    record {
-      base = refl;
-      limit = refl;
-      given = refl;
-      longer = omega arith;
-      keys = λ k listed old. listed;
-      res_keys = λ k listed old. listed;
-      lease_keys = λ k listed old. listed;
-    }
+    search rules
 
 pub continues_more : (a b c : State) → Continues a b → Continues b c → Continues a c
-continues_more a b c p q = record {
-  base = q.base ∙ p.base;
-  limit = q.limit ∙ p.limit;
-  given = q.given ∙ p.given;
-  longer = let first = p.longer in let second = q.longer in omega arith;
-  keys = λ k listed old. let first = p.longer in p.keys k (q.keys k listed (omega arith)) old;
-  res_keys = λ k listed old. let first = p.longer in p.res_keys k (q.res_keys k listed (omega arith)) old;
-  lease_keys = λ k listed old. let first = p.longer in p.lease_keys k (q.lease_keys k listed (omega arith)) old;
-}
+continues_more a b c p q = search rules

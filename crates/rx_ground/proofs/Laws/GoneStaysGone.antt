@@ -7,6 +7,7 @@ use Rattle.rx_ground.proofs.Common.{Writes, has_gone, numbers_of, Gathers, AllPa
 use Rattle.std.proofs.lemmas.List.Elements.{Contains-append_left, Contains-append_right, Contains-append_cases}
 use Rattle.rx_register.specs.State.{State as Register}
 use Rattle.rx_ground.proofs.Laws.Members.{Contains-head, Contains-later, All-members, AllPairs-head, AllPairs-tail, AllPairs-nil}
+use Rattle.std.proofs.Common.{rules}
 
 -- histories ---------------------------------------------------------------------------------------
 
@@ -16,10 +17,7 @@ IsFurther h k = (n : ℕ) → has_gone h n ≡ true → has_gone k n ≡ true
 
 pub gone_push : (h : List Event) (e : Event) → IsFurther h (h ++ e ∷ [])
 gone_push h e n gone =
-    let parts = and_parts (at makes_node h n) (not (is_open h n)) gone in
-    let l = at_within makes_node h n parts.0 in
-    let shut = false_from_ne_true (is_open (h ++ e ∷ []) n) (λ o. both_ways (is_open h n) (not-true (is_open h n) parts.1) (open_old h e n l o)) in
-    and_from (at makes_node (h ++ e ∷ []) n) (not (is_open (h ++ e ∷ []) n)) (at-append makes_node h (e ∷ []) n l ∙ parts.0) (not_from_false _ shut)
+    search (rules, and_parts, not, at_within, false_from_ne_true, both_ways, not-true, open_old, and_from, at-append, not_from_false)
 
 pub gone_on : (h es : List Event) → IsFurther h (h ++ es)
 gone_on h [] n gone = ap (λ (k : List Event). has_gone k n) (append-nil h) ∙ gone
@@ -82,26 +80,16 @@ module _ {X : Type 0} where
 
 -- where nothing goes the list stays
 pub gathers_same : (h k : List Event) (list : List Key) → ((n : ℕ) → goes h k n ≡ true → ⊥) → Gathers h list k list
-gathers_same h k list none = record {
-  gone = [];
-  listed = sym (append-nil list);
-  each = λ i d l. absurd (omega arith);
-  every = λ n now. absurd (none n now);
-  once = AllPairs-nil (λ m n. m ≢ n);
-}
+gathers_same h k list none = search (rules, append-nil, AllPairs-nil)
 
 -- nothing goes with an event that closes none
 pub gathers_none : (h : List Event) (e : Event) (list : List Key) → ((n : ℕ) → n < length h → is_open (h ++ e ∷ []) n ≡ is_open h n) →
     is_open (h ++ e ∷ []) (length h) ≡ makes_node e → Gathers h list (h ++ e ∷ []) list
-gathers_none h e list kept opens = gathers_same h (h ++ e ∷ []) list (λ n now.
-    let w = went h e opens n now in
-    both_ways (is_open (h ++ e ∷ []) n) w.2 (kept n w.0 ∙ w.1))
+gathers_none h e list kept opens = search (rules, gathers_same, went, both_ways)
 
 -- nor where the history stays
 pub gathers_nothing : (h : List Event) (list : List Key) → Gathers h list h list
-gathers_nothing h list = gathers_same h h list (λ n now.
-    let parts = and_parts (has_gone h n) (not (has_gone h n)) now in
-    both_ways (has_gone h n) (not-true (has_gone h n) parts.1) parts.0)
+gathers_nothing h list = search (rules, gathers_same, and_parts, not, both_ways, not-true)
 
 -- one list after the other
 module _ {h k j : List Event} {a b c : List Key} (further : IsFurther h k) (onward : IsFurther k j) (first : Gathers h a k b) (then : Gathers k b j c) where
@@ -119,23 +107,14 @@ module _ {h k j : List Event} {a b c : List Key} (further : IsFurther h k) (onwa
 
   goes_first : (n : ℕ) → goes h k n ≡ true → goes h j n ≡ true
   goes_first n now =
-      let parts = and_parts (has_gone k n) (not (has_gone h n)) now in
-      and_from (has_gone j n) (not (has_gone h n)) (onward n parts.0) parts.1
+      search (rules, and_parts, not, and_from)
 
   goes_then : (n : ℕ) → goes k j n ≡ true → goes h j n ≡ true
   goes_then n now =
-      let parts = and_parts (has_gone j n) (not (has_gone k n)) now in
-      let stayed = false_from_ne_true (has_gone h n) (λ gone. both_ways (has_gone k n) (not-true (has_gone k n) parts.1) (further n gone)) in
-      and_from (has_gone j n) (not (has_gone h n)) parts.0 (not_from_false _ stayed)
+      search (rules, and_parts, not, false_from_ne_true, both_ways, not-true, and_from, not_from_false)
 
   goes_either : (n : ℕ) → goes h j n ≡ true → (goes h k n ≡ true) ⊎ (goes k j n ≡ true)
-  goes_either n now = by_test (cases_Bool (has_gone k n)) where
-    parts : (has_gone j n ≡ true) × (not (has_gone h n) ≡ true)
-    parts = and_parts (has_gone j n) (not (has_gone h n)) now
-
-    by_test : (has_gone k n ≡ true) ⊎ (has_gone k n ≡ false) → (goes h k n ≡ true) ⊎ (goes k j n ≡ true)
-    by_test (inl gone) = inl (and_from (has_gone k n) (not (has_gone h n)) gone parts.1)
-    by_test (inr stayed) = inr (and_from (has_gone j n) (not (has_gone k n)) parts.0 (not_from_false _ stayed))
+  goes_either n now = search (rules, cases_Bool, not, and_parts, and_from, not_from_false)
 
   pub gathers_on : Gathers h a j c
   gathers_on = record {
@@ -169,9 +148,7 @@ module _ {h k j : List Event} {a b c : List Key} (further : IsFurther h k) (onwa
 pub gathers_quiet : {old new : Register} {list later : List Key} (e : Event) → MayFollow old.base old.history e → shuts_none e ≡ true →
     Writes old (e ∷ []) new → later ≡ list → Gathers old.history list new.history later
 gathers_quiet {old} {new} {list} {later} e next quiet w same =
-    subst (λ (k : List Event). Gathers old.history list k later) (sym w.history)
-    (subst (Gathers old.history list (old.history ++ e ∷ [])) (sym same)
-    (gathers_none old.history e list (λ n l. is_open_kept old.history e n l quiet) (is_open_new old.base old.history e next)))
+    search (rules, gathers_none, is_open_kept, is_open_new)
 
 pub further_written : {old new : Register} (es : List Event) → Writes old es new → IsFurther old.history new.history
 further_written {old} es w = subst (IsFurther old.history) (sym w.history) (gone_on old.history es)

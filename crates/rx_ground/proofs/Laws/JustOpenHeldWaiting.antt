@@ -14,6 +14,7 @@ use Rattle.rx_ground.proofs.FoundIsListed.{filter_member, filter_has, stands_fro
 use Rattle.rx_ground.proofs.TreeAgreesOnResource.{is_alone}
 use Rattle.rx_ground.proofs.TakenResourceWaited.{held_agrees, alone_agrees, waits_agrees}
 use Rattle.rx_ground.proofs.Laws.Numbers.{ListsJust, just_counted}
+use Rattle.std.proofs.Common.{rules}
 
 -- slots -------------------------------------------------------------------------------------------
 
@@ -58,23 +59,17 @@ module _ {X : Type 0} where
   length-kept_from : (first : ℕ) (es : List (Option (Entry X))) → length (kept_from first es) ≡ count_by is_some es
   length-kept_from first [] = refl
   length-kept_from first (None ∷ es) =
-      let rest = length-kept_from (suc first) es in
-      omega (arith, sum_by-cons (λ (o : Option (Entry X)). cond (is_some o) 1 0) None es)
+      search (rules, sum_by-cons, cond, is_some, length-kept_from (suc first) es)
   length-kept_from first (Some e ∷ es) =
-      let rest = length-kept_from (suc first) es in
-      omega (arith, sum_by-cons (λ (o : Option (Entry X)). cond (is_some o) 1 0) (Some e) es)
+      search (rules, sum_by-cons, cond, is_some, length-kept_from (suc first) es)
 
   count_by-kept_from : (p : X → Bool) (first : ℕ) (es : List (Option (Entry X))) →
       count_by (λ k. p k.value) (kept_from first es) ≡ count_by (passes_in p) es
   count_by-kept_from p first [] = refl
   count_by-kept_from p first (None ∷ es) =
-      let rest = count_by-kept_from p (suc first) es in
-      omega (arith, sum_by-cons (λ (o : Option (Entry X)). cond (passes_in p o) 1 0) None es)
+      search (rules, sum_by-cons, cond, count_by-kept_from p (suc first) es)
   count_by-kept_from p first (Some e ∷ es) =
-      let rest = count_by-kept_from p (suc first) es in
-      let here : Kept X = record { key = record { slot = first; number = e.number }; value = e.value } in
-      let listed = sum_by-cons (λ (k : Kept X). cond (p k.value) 1 0) here (kept_from (suc first) es) in
-      omega (arith, sum_by-cons (λ (o : Option (Entry X)). cond (passes_in p o) 1 0) (Some e) es)
+      search (rules, sum_by-cons, cond, count_by-kept_from p (suc first) es)
 
   -- a test on numbers says of the values in these slots what another test says of them, and passes no other number
   pub record Agrees (slots : Slots X) (p : X → Bool) (test : ℕ → Bool) : Type 0 where
@@ -172,10 +167,7 @@ module _ (base : Base) {T : Type 0} (g : Ghosts T) (h : List Event) (tree : Tree
 
   untaken : (r : ℕ) → at makes_resource h r ≡ true → is_taken h r ≡ false → list_any (is_take_of r) h ≡ false
   unfolding is_taken
-  untaken r made none = shape (at makes_resource h r) (list_any (is_take_of r) h) made none where
-    shape : (a b : Bool) → a ≡ true → (a && b) ≡ false → b ≡ false
-    shape true b made none = none
-    shape false b made none = absurd (false≢true made)
+  untaken r made none = search (rules, list_any, false≢true)
 
   -- the resources that wait there are just those that wait in the history
   pub just_waiting : AreApart tree.resources → ListsJust (is_waiting h) (numbers (waiting_in tree))

@@ -2,6 +2,7 @@
 use Rattle.rx_ground.proofs.Common.{◌≡◌, Bool, true, Some, Contains, Key, Slots, find, Stowed, Tree, is_held}
 use Rattle.rx_ground.specs.Shown.{Kept, kept_in, held_in}
 use Rattle.rx_ground.proofs.FoundIsListed.{filter_member, filter_has, kept_found, kept_listed}
+use Rattle.std.proofs.Common.{rules}
 
 module _ {X : Type 0} (slots : Slots X) where
   -- what is listed is found under its key, and what is found is listed
@@ -25,5 +26,4 @@ module _ {T : Type 0} (tree : Tree T) where
   pub finds_held : (key : Key) (x : Stowed T) → find tree.resources key ≡ Some x → is_held tree.nodes x ≡ true →
       Contains (held_in tree) (record { key = key; value = x })
   finds_held key x found held =
-      let here : Kept (Stowed T) = record { key = key; value = x } in
-      filter_has holds (kept_in tree.resources) here (kept_listed tree.resources key x found) held
+      search (rules, filter_has, kept_listed)

@@ -1,16 +1,15 @@
 -- No key of an old node or resource comes back: not by one write, nor by more of them.
-use Rattle.rx_ground.proofs.Common.{◌≡◌, ℕ, ◌<◌, ◌≤◌, Bool, true, false, List, length, Option, Some, None, is_some, IsSome, refl, sym, ap, ◌∙◌, arith, not}
-use Rattle.rx_ground.proofs.Common.{◌&&◌, ◌||◌, option_map_or, and_parts, and_from, Kept, Ghosts, Event, IsLawful, Key, Slots, find, Node, Stowed, ResKey}
-use Rattle.rx_ground.proofs.Common.{Tree, store_key, is_lent, is_held, is_held_at, IsTied, KeepsNodes, KeepsOlder, KeepsHeld, KeepsLeases, IsNewNode}
+use Rattle.rx_ground.proofs.Common.{◌≡◌, ℕ, ◌<◌, ◌≤◌, Bool, true, false, List, length, Some, is_some, IsSome, arith, not}
+use Rattle.rx_ground.proofs.Common.{◌||◌, option_map_or, and_parts, and_from, Kept, Ghosts, Event, IsLawful, Key, Slots, find, Stowed, ResKey}
+use Rattle.rx_ground.proofs.Common.{Tree, store_key, is_lent, is_held_at, IsTied, KeepsNodes, KeepsOlder, KeepsHeld, KeepsLeases, IsNewNode}
 use Rattle.rx_ground.proofs.ResourcesAfterEvent.{stored_within}
+use Rattle.std.proofs.Common.{rules}
 
 or_true : (b : Bool) → (b || true) ≡ true
-or_true true = refl
-or_true false = refl
+or_true x0 = search rules
 
 or_false : (b : Bool) → (b || false) ≡ b
-or_false true = refl
-or_false false = refl
+or_false x0 = search rules
 
 module _ {T : Type 0} where
   -- of what is older than this, only what was there is there
@@ -20,49 +19,26 @@ module _ {T : Type 0} where
 
   -- one change after another
   pub keeps_on : (old mid new : Tree T) (number later : ℕ) → number ≤ later → KeepsKeys old mid number → KeepsKeys mid new later → KeepsKeys old new number
-  keeps_on old mid new number later le first then = record {
-    nodes = λ key there l. first.nodes key (then.nodes key there (omega arith)) l;
-    held = λ res held l. first.held res (then.held res held (omega arith)) l;
-  }
+  keeps_on old mid new number later le first then = search rules
 
   -- where no resource changed, what is held was held, if its node was there
   pub held_before : (old new : Tree T) → new.resources ≡ old.resources → (res : ResKey) →
       ((s : Stowed T) → find old.resources (store_key res) ≡ Some s → IsSome (find new.nodes s.node) → IsSome (find old.nodes s.node)) →
       is_held_at new res ≡ true → is_held_at old res ≡ true
-  held_before old new same res from held = by_value (find old.resources (store_key res)) refl
-      (sym (ap (λ (r : Slots (Stowed T)). option_map_or (is_held new.nodes) (find r (store_key res)) false) same) ∙ held) where
-        by_value : (o : Option (Stowed T)) → find old.resources (store_key res) ≡ o → option_map_or (is_held new.nodes) o false ≡ true →
-            option_map_or (is_held old.nodes) o false ≡ true
-        by_value None none e = e
-        by_value (Some s) found e =
-            either (is_lent s) (is_some (find new.nodes s.node)) (is_some (find old.nodes s.node)) (not s.removed) (from s found) e where
-              either : (lent now was stays : Bool) → (now ≡ true → was ≡ true) → ((now && stays) || lent) ≡ true → ((was && stays) || lent) ≡ true
-              either true now was stays from e = or_true (was && stays)
-              either false now was stays from e =
-                  let p = and_parts now stays (sym (or_false (now && stays)) ∙ e) in
-                  or_false (was && stays) ∙ and_from was stays (from p.0) p.1
+  held_before old new same res from held = search (rules, find, option_map_or, is_lent, is_some, not, or_true, and_parts, or_false, and_from)
 
   -- a closing
   pub keeps_closed : (h : List Event) (old new : Tree T) (number : ℕ) → KeepsNodes h old.nodes new.nodes → new.resources ≡ old.resources →
       KeepsKeys old new number
-  keeps_closed h old new number kept same = record {
-    nodes = λ key there l. kept.from key there;
-    held = λ res held l. held_before old new same res (λ s found there. kept.from s.node there) held;
-  }
+  keeps_closed h old new number kept same = search (rules, held_before)
 
   -- what changes no node
   pub keeps_held : (old new : Tree T) (number : ℕ) → new.nodes ≡ old.nodes → KeepsHeld old new number → KeepsKeys old new number
-  keeps_held old new number same kept = record {
-    nodes = λ key there l. ap (λ (nodes : Slots Node). is_some (find nodes key)) (sym same) ∙ there;
-    held = kept.from;
-  }
+  keeps_held old new number same kept = search (rules, is_some, find)
 
   -- what changes no tree
   pub keeps_same : (old new : Tree T) (number : ℕ) → new ≡ old → KeepsKeys old new number
-  keeps_same old new number same = record {
-    nodes = λ key there l. ap (λ (tree : Tree T). is_some (find tree.nodes key)) (sym same) ∙ there;
-    held = λ res held l. ap (λ (tree : Tree T). is_held_at tree res) (sym same) ∙ held;
-  }
+  keeps_same old new number same = search (rules, is_some, find, is_held_at)
 
   -- an opening, or more than one: each resource is held at an older node
   pub keeps_older : {base : Kept} → (g : Ghosts T) (h : List Event) (old new : Tree T) → IsLawful base h → IsTied base g h old →
@@ -87,4 +63,4 @@ module _ {T : Type 0} where
 
 -- leases that stay, all of them
 pub leases_stay : (old new : Slots ResKey) (number : ℕ) → new ≡ old → KeepsLeases old new number
-leases_stay old new number same = record { from = λ key some less. ap (λ (s : Slots ResKey). is_some (find s key)) (sym same) ∙ some }
+leases_stay old new number same = search (rules, is_some, find)

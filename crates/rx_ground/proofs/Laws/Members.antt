@@ -1,6 +1,7 @@
 -- Members of a list, pairs of them, and the members of a list that is mapped.
-use Rattle.rx_ground.proofs.Common.{◌≡◌, zero, suc, List, [], ◌∷◌, map, get_or, refl, ap, subst, arith, inl, inr, ◌⊎◌, All, AllPairs, Contains, AllPairs-cons}
+use Rattle.rx_ground.proofs.Common.{◌≡◌, zero, suc, List, [], ◌∷◌, map, get_or, refl, ap, subst, arith, ◌⊎◌, All, AllPairs, Contains, AllPairs-cons}
 use Rattle.std.proofs.lemmas.List.Elements.{Contains-get_or}
+use Rattle.std.proofs.Common.{rules}
 
 module _ {X : Type 0} where
   pub Contains-head : (x : X) (xs : List X) → Contains (x ∷ xs) x
@@ -13,8 +14,7 @@ module _ {X : Type 0} where
   Contains-none x c = absurd (let l = c.1 in omega arith)
 
   pub Contains-cases : (x : X) (xs : List X) (y : X) → Contains (x ∷ xs) y → (x ≡ y) ⊎ Contains xs y
-  Contains-cases x xs y (zero, l, e) = inl e
-  Contains-cases x xs y (suc k, l, e) = inr (k, omega arith, e)
+  Contains-cases x xs y x3 = search rules
 
   -- what holds of each member
   pub All-members : (P : X → Type 0) (xs : List X) → ((x : X) → Contains xs x → P x) → All P xs

@@ -3,6 +3,7 @@ use Rattle.rx_ground.proofs.Common.{◌≡◌, ◌≢◌, ℕ, zero, suc, ◌+�
 use Rattle.rx_ground.proofs.Common.{◌∙◌, arith, eq-eqb, not, ◌&&◌, All, AllPairs, Contains, range_with_len, and_parts, and_from, not_from_false, ne_eqb}
 use Rattle.rx_ground.proofs.Common.{eqb-true, false≢true, false_from_ne_true, All-contains, All-head, sums_balance, sum_by_none, count_by_one}
 use Rattle.rx_ground.proofs.Laws.Members.{Contains-later, All-members, AllPairs-head, AllPairs-tail}
+use Rattle.std.proofs.Common.{rules}
 
 -- the numbers of the list are those that pass the test, each once
 pub record ListsJust (test : ℕ → Bool) (numbers : List ℕ) : Type 0 where
@@ -34,9 +35,7 @@ just_others test x xs just = record {
 -- such a list is as long as there are numbers that pass
 pub just_counted : (test : ℕ → Bool) (xs : List ℕ) (m : ℕ) → ListsJust test xs → ((n : ℕ) → test n ≡ true → n < m) →
     length xs ≡ count_by test (range_with_len 0 m)
-just_counted test [] m just below = sym (sum_by_none (λ k. cond (test k) 1 0) m (λ k l. ap (λ b. cond b 1 0) (none k))) where
-  none : (k : ℕ) → test k ≡ false
-  none k = false_from_ne_true (test k) (λ passes. let c = just.every k passes in absurd (omega (arith, c.1)))
+just_counted test [] m just below = search (rules, sum_by_none, cond, false_from_ne_true)
 just_counted test (x ∷ xs) m just below =
     let rest = just_counted (but x test) xs m (just_others test x xs just) (λ n passes. below n (and_parts (test n) (not (x == n)) passes).0) in
     let balance = sums_balance (λ k. cond (test k) 1 0) (λ k. 0) (λ k. cond (but x test k) 1 0) (λ k. cond (x == k) 1 0) m each in

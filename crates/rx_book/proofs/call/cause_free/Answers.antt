@@ -1,6 +1,7 @@
-use Rattle.rx_book.proofs.Common.{true, sym, Ending, Aborting, Declining, Failing, Disposing, Removing, GivingBack, causes}
+use Rattle.rx_book.proofs.Common.{true, sym, Ending, Aborting, Declining, Failing, Disposing, Removing}
 use Rattle.rx_book.proofs.CausesByKey.{first_of_node, first_of_res, first_by_lease_key}
 use Rattle.rx_book.proofs.call.cause_free.Goals as goal
+use Rattle.std.proofs.Common.{rules}
 
 pub returns-in-End : goal.returns-in-End
 returns-in-End g c =
@@ -30,6 +31,4 @@ returns-in-Remove g c =
 
 pub returns-in-GiveBack : goal.returns-in-GiveBack
 returns-in-GiveBack g c =
-    let b = c.args.ground.now in
-    let stand = causes b.register.base b.register.history b.register.limit true (GivingBack c.in-GiveBack.lease.number) in
-    rw c.in-GiveBack.is (sym (first_by_lease_key b.leases stand _ c.in-GiveBack.lease (rw c.ground_lease_key.ensures at c.returning_cause.ensures)))
+    search (rules, first_by_lease_key)

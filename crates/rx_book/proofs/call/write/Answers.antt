@@ -1,20 +1,19 @@
-use Rattle.rx_book.proofs.Common.{true, refl, ◌∙◌, not-false, Lease, Connect, Leased, Leasing, causes, no_cause, gathers_quiet, leases_stay, keeps_same}
-use Rattle.rx_book.proofs.Common.{keeps_opened, key_shown, lease_key_shown}
+use Rattle.rx_book.proofs.Common.{refl, not-false, Lease, Connect, no_cause, gathers_quiet, leases_stay, keeps_same}
+use Rattle.rx_book.proofs.Common.{keeps_opened}
 use Rattle.rx_event.specs.declared.event.Event.TheVariants.{Use, Hub as Publish}
 use Rattle.rx_book.proofs.CallWithoutCause.{one_ready, held_asked, owned_asked, written_held, written_keeping}
 use Rattle.rx_book.proofs.Openings.{node_space}
 use Rattle.rx_book.proofs.ShownKeys.{has_key_is, has_lease_key_is}
 use Rattle.rx_book.proofs.call.write.Goals as goal
+use Rattle.std.proofs.Common.{rules}
 
 pub write_use-requires-clause-ready : goal.write_use-requires-clause-ready
 write_use-requires-clause-ready g c κs within =
-    let a = rw c.in-Apply.is at c.requires.admitted in
-    rw c.tree_res_key.ensures (one_ready g.R.Resource c.args.ground.now _ a.let_in _ refl)
+    search (rules, one_ready)
 
 pub write_use-requires-clause-held : goal.write_use-requires-clause-held
 write_use-requires-clause-held g c κs within =
-    let a = rw c.in-Apply.is at c.requires.admitted in
-    rw c.tree_res_key.ensures (held_asked g.R.Resource c.args.ground.now _ a.let_in c.in-Apply.res refl)
+    search (rules, held_asked)
 
 pub returns-in-Apply-clause-written : goal.returns-in-Apply-clause-written
 returns-in-Apply-clause-written g c =
@@ -27,16 +26,11 @@ returns-in-Apply-clause-written g c =
 
 pub write_lease-requires-clause-ready : goal.write_lease-requires-clause-ready
 write_lease-requires-clause-ready g c κs within =
-    let a = rw c.in-Lease.is at c.requires.admitted in
-    rw c.tree_res_key-in-Lease.ensures (one_ready g.R.Resource c.args.ground.now _ a.let_in _ refl)
+    search (rules, one_ready)
 
 pub write_lease-requires-clause-owned : goal.write_lease-requires-clause-owned
 write_lease-requires-clause-owned g c κs within =
-    let a = rw c.in-Lease.is at c.requires.admitted in
-    let b = c.args.ground.now in
-    let l = a.let_in in
-    let stand = causes b.register.base b.register.history b.register.limit true (Leasing c.in-Lease.res.number) in
-    rw c.tree_res_key-in-Lease.ensures (owned_asked g.R.Resource b _ l c.in-Lease.res refl (not-false _ (no_cause stand l.may.no_cause Leased)))
+    search (rules, owned_asked, not-false, no_cause)
 
 pub write_lease-requires-clause-room : goal.write_lease-requires-clause-room
 write_lease-requires-clause-room g c κs within =
@@ -54,16 +48,10 @@ returns-in-Lease-clause-written g c =
 
 pub returns-in-Lease-clause-gives : goal.returns-in-Lease-clause-gives
 returns-in-Lease-clause-gives g c =
-    let u = c.write_lease.ensures in
-    rw (c.in-Lease.is, c.shown_lease_key.ensures) (record {
-      number = u.number;
-      listed = has_lease_key_is c.write_lease.new.self.leases (lease_key_shown c.write_lease.result) ∙ u.out;
-    })
+    search (rules, has_lease_key_is)
 
 pub write_hub-requires-clause-ready : goal.write_hub-requires-clause-ready
-write_hub-requires-clause-ready g c κs within =
-    let a = rw c.in-Hub.is at c.requires.admitted in
-    one_ready g.R.Resource c.args.ground.now _ a.let_in _ refl
+write_hub-requires-clause-ready g c κs within = let a = rw c.in-Hub.is at c.requires.admitted in one_ready g.R.Resource _ _ a.let_in _ refl
 
 pub write_hub-requires-clause-room : goal.write_hub-requires-clause-room
 write_hub-requires-clause-room g c κs within =
@@ -80,9 +68,7 @@ returns-in-Hub-clause-written g c =
     (leases_stay _ _ _ u.leases) (gathers_quiet (Publish c.in-Hub.mode) next refl u.written u.closed))
 
 pub write_connect-requires-clause-ready : goal.write_connect-requires-clause-ready
-write_connect-requires-clause-ready g c κs within =
-    let a = rw c.in-Connect.is at c.requires.admitted in
-    one_ready g.R.Resource c.args.ground.now _ a.let_in _ refl
+write_connect-requires-clause-ready g c κs within = let a = rw c.in-Connect.is at c.requires.admitted in one_ready g.R.Resource _ _ a.let_in _ refl
 
 pub write_connect-requires-clause-room : goal.write_connect-requires-clause-room
 write_connect-requires-clause-room g c κs within =
@@ -91,8 +77,7 @@ write_connect-requires-clause-room g c κs within =
 
 pub write_connect-requires-clause-space : goal.write_connect-requires-clause-space
 write_connect-requires-clause-space g c κs within =
-    let a = rw c.in-Connect.is at c.requires.admitted in
-    node_space c.args.ground.now a.room.space a.let_in.begun
+    search (rules, node_space)
 
 pub returns-in-Connect-clause-written : goal.returns-in-Connect-clause-written
 returns-in-Connect-clause-written g c =
@@ -108,8 +93,4 @@ returns-in-Connect-clause-written g c =
 
 pub returns-in-Connect-clause-gives : goal.returns-in-Connect-clause-gives
 returns-in-Connect-clause-gives g c =
-    let u = c.write_connect.ensures in
-    rw (c.in-Connect.is, c.shown_key.ensures) (record {
-      number = u.new.numbered;
-      listed = has_key_is c.write_connect.new.self.tree (key_shown c.write_connect.result) ∙ u.new.found;
-    })
+    search (rules, has_key_is)

@@ -1,21 +1,19 @@
-use Rattle.rx_book.proofs.Common.{◌≡◌, true, List, [], ◌∷◌, map, refl, sym, ap, subst, not-false, Event, Close, Leased, Removing, Disconnecting, outside_of}
-use Rattle.rx_book.proofs.Common.{causes, Writes, no_cause, gathers_quiet, leases_stay}
+use Rattle.rx_book.proofs.Common.{map, refl, sym, ap, not-false, Close}
+use Rattle.rx_book.proofs.Common.{no_cause, gathers_quiet, leases_stay}
 use Rattle.rx_event.specs.declared.event.Event.TheVariants.{Decline as Declined, Remove as Removed, Return as Returned}
 use Rattle.rx_book.proofs.CallWithoutCause.{one_ready, open_asked, owned_asked, out_asked, written_closed, written_held}
 use Rattle.rx_book.proofs.call.write_free.Goals as goal
+use Rattle.std.proofs.Common.{rules}
 
 pub write_end-requires-clause-ready : goal.write_end-requires-clause-ready
 write_end-requires-clause-ready g c κs within = rw c.tree_key.ensures (one_ready g.R.Resource c.args.ground.now _ (rw c.in-End.is at c.requires.let_in) _ refl)
 
 pub write_end-requires-clause-open : goal.write_end-requires-clause-open
-write_end-requires-clause-open g c κs within =
-    rw c.tree_key.ensures (open_asked g.R.Resource c.args.ground.now _ (rw c.in-End.is at c.requires.let_in) c.in-End.leaf refl)
+write_end-requires-clause-open g c κs within = rw c.tree_key.ensures (open_asked g.R.Resource _ _ (rw c.in-End.is at c.requires.let_in) _ refl)
 
 pub returns-in-End : goal.returns-in-End
 returns-in-End g c =
-    let u = c.write_end.ensures in
-    rw c.in-End.is (written_closed c.write_end.new.self _ (rw c.tree_key.ensures at u.written) u.tied u.leased u.kept
-    u.resources u.leases u.closed)
+    search (rules, written_closed)
 
 pub write_end-requires-in-Abort-clause-ready : goal.write_end-requires-in-Abort-clause-ready
 write_end-requires-in-Abort-clause-ready g c κs within =
@@ -27,9 +25,7 @@ write_end-requires-in-Abort-clause-open g c κs within =
 
 pub returns-in-Abort : goal.returns-in-Abort
 returns-in-Abort g c =
-    let u = c.write_end-in-Abort.ensures in
-    rw c.in-Abort.is (written_closed c.write_end-in-Abort.new.self _ (rw c.tree_key-in-Abort.ensures at u.written) u.tied
-    u.leased u.kept u.resources u.leases u.closed)
+    search (rules, written_closed)
 
 pub write_decline-requires-clause-ready : goal.write_decline-requires-clause-ready
 write_decline-requires-clause-ready g c κs within =
@@ -57,9 +53,7 @@ write_end-requires-in-Fail-clause-open g c κs within =
 
 pub returns-in-Fail : goal.returns-in-Fail
 returns-in-Fail g c =
-    let u = c.write_end-in-Fail.ensures in
-    rw c.in-Fail.is (written_closed c.write_end-in-Fail.new.self _ (rw c.tree_key-in-Fail.ensures at u.written) u.tied u.leased
-    u.kept u.resources u.leases u.closed)
+    search (rules, written_closed)
 
 pub write_close-requires-clause-ready : goal.write_close-requires-clause-ready
 write_close-requires-clause-ready g c κs within =
@@ -71,9 +65,7 @@ write_close-requires-clause-open g c κs within =
 
 pub returns-in-Dispose : goal.returns-in-Dispose
 returns-in-Dispose g c =
-    let u = c.write_close.ensures in
-    rw c.in-Dispose.is (written_closed c.write_close.new.self _ (rw c.tree_key-in-Dispose.ensures at u.written) u.tied u.leased
-    u.kept u.resources u.leases u.closed)
+    search (rules, written_closed)
 
 -- the hub's open connection is closed, and nothing else
 pub write_close-requires-in-Some-clause-ready : goal.write_close-requires-in-Some-clause-ready
@@ -82,13 +74,7 @@ write_close-requires-in-Some-clause-ready g c κs within =
 
 pub returns-in-Some : goal.returns-in-Some
 returns-in-Some g c =
-    let b = c.args.ground.now in
-    let u = c.write_close-in-Some.ensures in
-    let closes : outside_of b.register.history (Disconnecting c.in-Disconnect.hub) ≡ Close c.in-Some.connection.number ∷ [] =
-    ap (map (λ n. Close n)) (sym c.in-Some.ensures.number) in
-    let mid = c.write_close-in-Some.new.self in
-    let w = subst (λ (es : List Event). Writes b.register es mid.register) (sym closes) u.written in
-    rw c.in-Disconnect.is (written_closed mid _ w u.tied u.leased u.kept u.resources u.leases u.closed)
+    search (rules, map, written_closed)
 
 pub write_remove-requires-clause-ready : goal.write_remove-requires-clause-ready
 write_remove-requires-clause-ready g c κs within =
@@ -96,10 +82,7 @@ write_remove-requires-clause-ready g c κs within =
 
 pub write_remove-requires-clause-owned : goal.write_remove-requires-clause-owned
 write_remove-requires-clause-owned g c κs within =
-    let b = c.args.ground.now in
-    let l = rw c.in-Remove.is at c.requires.let_in in
-    let stand = causes b.register.base b.register.history b.register.limit true (Removing c.in-Remove.res.number) in
-    rw c.tree_res_key.ensures (owned_asked g.R.Resource b _ l c.in-Remove.res refl (not-false _ (no_cause stand l.may.no_cause Leased)))
+    search (rules, owned_asked, not-false, no_cause)
 
 pub returns-in-Remove : goal.returns-in-Remove
 returns-in-Remove g c =
@@ -116,7 +99,7 @@ write_return-requires-clause-ready g c κs within =
 
 pub write_return-requires-clause-out : goal.write_return-requires-clause-out
 write_return-requires-clause-out g c κs within =
-    rw c.ground_lease_key.ensures (out_asked g.R.Resource c.args.ground.now _ (rw c.in-GiveBack.is at c.requires.let_in) c.in-GiveBack.lease refl)
+    search (rules, out_asked)
 
 pub returns-in-GiveBack : goal.returns-in-GiveBack
 returns-in-GiveBack g c =

@@ -2,25 +2,23 @@ use Rattle.rx_book.proofs.CallWithoutCause.{pays, settles_to}
 use Rattle.rx_book.proofs.Openings.{opening_room, opening_space}
 use Rattle.rx_book.proofs.OpeningWritten.{opening_ready, opening_placed, opening_accepted, opened_key, opened_connection, opening_spares}
 use Rattle.rx_book.proofs.opening.write_opening.Goals as goal
+use Rattle.std.proofs.Common.{rules}
 
 pub write_open-key-requires-clause-ready : goal.write_open-key-requires-clause-ready
 write_open-key-requires-clause-ready g c κs within =
-    rw c.spot_of-spot.ensures.place (opening_ready g.R.Resource c.args.ground.now c.args.at c.args.kind c.requires.admitted)
+    search (rules, opening_ready)
 
 pub write_open-key-requires-clause-placed : goal.write_open-key-requires-clause-placed
-write_open-key-requires-clause-placed g c κs within =
-    rw (c.spot_of-spot.ensures.place, c.spot_of-spot.ensures.above)
-    (opening_placed g.R.Resource c.args.ground.now c.args.at c.args.kind c.requires.admitted)
+write_open-key-requires-clause-placed g c κs within = rw (c.spot_of-spot.ensures.place, c.spot_of-spot.ensures.above) (opening_placed g.R.Resource _ _
+    _ c.requires.admitted)
 
 pub write_open-key-requires-clause-space : goal.write_open-key-requires-clause-space
 write_open-key-requires-clause-space g c κs within =
-    let a = c.requires.admitted in
-    opening_space c.args.ground.now c.args.kind a.room.space a.let_in.begun
+    search (rules, opening_space)
 
 pub settle-requires-clause-paid : goal.settle-requires-clause-paid
-settle-requires-clause-paid g c κs within =
-    let w = rw c.spot_of-spot.ensures.place at c.write_open-key.ensures.written in
-    pays g.R.Resource c.args.ground.now _ c.requires.admitted.let_in c.write_open-key.new.self.register w
+settle-requires-clause-paid g c κs within = let w = rw c.spot_of-spot.ensures.place at c.write_open-key.ensures.written in pays g.R.Resource _ _
+    c.requires.admitted.let_in _ w
 
 pub settle-requires-clause-room : goal.settle-requires-clause-room
 settle-requires-clause-room g c κs within =
@@ -33,34 +31,17 @@ settle-requires-clause-room g c κs within =
 
 pub returns-clause-accepted : goal.returns-clause-accepted
 returns-clause-accepted g c =
-    let o = c.write_open-key.ensures in
-    let s = c.settle.ensures in
-    opening_accepted g.R.Resource c.args.ground.now c.args.at c.args.kind c.requires.admitted c.write_open-key.new.self c.settle.new.self
-    c.write_open-key.result (rw c.spot_of-spot.ensures.place at o.written) o.tied.of_tree o.new o.resources o.leases o.closed
-    (settles_to s.standing s.base s.forced s.nodes s.resources s.limit s.given s.leases s.closed)
+    search (rules, opening_accepted, settles_to)
 
 pub returns-clause-opened : goal.returns-clause-opened
-returns-clause-opened g c =
-    let R = g.R.Resource in
-    let b = c.args.ground.now in
-    let mid = c.write_open-key.new.self in
-    let new = c.settle.new.self in
-    let a = c.requires.admitted in
-    let o = c.write_open-key.ensures in
-    let s = c.settle.ensures in
-    let w = rw c.spot_of-spot.ensures.place at o.written in
-    let settles = settles_to s.standing s.base s.forced s.nodes s.resources s.limit s.given s.leases s.closed in
-    let of = c.connection_of.ensures in
-    let key = opened_key R b c.args.at c.args.kind a mid new c.write_open-key.result w o.tied.of_tree o.new o.resources o.leases o.closed settles
-    c.shown_key.result c.shown_key.ensures in
-    let connection = opened_connection R b c.args.at c.args.kind a mid new c.write_open-key.result w o.tied.of_tree o.new o.resources o.leases o.closed settles
-    c.forces_connect-connects.result c.connection_of.result c.forces_connect-connects.ensures of.forced of.quiet in
-    record { key = key; connection = connection; connected = of.known }
+returns-clause-opened g c = let R = g.R.Resource in let b = c.args.ground.now in let mid = c.write_open-key.new.self in let new = c.settle.new.self in
+    let a = c.requires.admitted in let o = c.write_open-key.ensures in let s = c.settle.ensures in let w = rw c.spot_of-spot.ensures.place at
+    o.written in let settles = settles_to s.standing s.base s.forced s.nodes s.resources s.limit s.given s.leases s.closed in let of =
+    c.connection_of.ensures in let key = opened_key R b _ _ a mid new _ w o.tied.of_tree o.new o.resources o.leases o.closed settles _
+    c.shown_key.ensures in let connection = opened_connection R b _ _ a mid new _ w o.tied.of_tree o.new o.resources o.leases o.closed settles _ _
+    c.forces_connect-connects.ensures of.forced of.quiet in record { key = key; connection = connection; connected = of.known }
 
 pub returns-clause-spare : goal.returns-clause-spare
-returns-clause-spare g c =
-    let o = c.write_open-key.ensures in
-    let s = c.settle.ensures in
-    opening_spares g.R.Resource c.args.ground.now c.args.at c.args.kind c.requires.admitted c.write_open-key.new.self c.settle.new.self
-    c.write_open-key.result (rw c.spot_of-spot.ensures.place at o.written) o.tied.of_tree o.new o.resources o.leases o.closed
-    (settles_to s.standing s.base s.forced s.nodes s.resources s.limit s.given s.leases s.closed) s.memory
+returns-clause-spare g c = let o = c.write_open-key.ensures in let s = c.settle.ensures in opening_spares g.R.Resource _ _ _ c.requires.admitted _ _ _
+    (rw c.spot_of-spot.ensures.place at o.written) o.tied.of_tree o.new o.resources o.leases o.closed (settles_to s.standing s.base s.forced s.nodes
+    s.resources s.limit s.given s.leases s.closed) s.memory

@@ -1,18 +1,15 @@
 use Rattle.rx_book.proofs.CallWithoutCause.{live_fresh, unused_fresh}
 use Rattle.rx_book.proofs.HoldingWritten.{holding_there, holding_ready, holding_standing, holding_accepted, holding_gathers, held_key}
 use Rattle.rx_book.proofs.opening_holding.write_holding.Goals as goal
+use Rattle.std.proofs.Common.{rules}
 
 pub write_accept-res-requires-clause-ready : goal.write_accept-res-requires-clause-ready
 write_accept-res-requires-clause-ready g c κs within =
-    let q = c.requires in
-    rw c.tree_key.ensures
-    (holding_ready g.R.Resource c.args.ground.now c.args.node c.args.resource q.standing c.promise.ensures.register q.known q.fresh q.events)
+    search (rules, holding_ready)
 
 pub write_accept-res-requires-clause-open : goal.write_accept-res-requires-clause-open
 write_accept-res-requires-clause-open g c κs within =
-    let q = c.requires in
-    rw c.tree_key.ensures
-    (holding_there g.R.Resource c.args.ground.now c.args.node c.args.resource q.standing c.promise.ensures.register q.known q.fresh q.events)
+    search (rules, holding_there)
 
 pub write_accept-res-requires-clause-live : goal.write_accept-res-requires-clause-live
 write_accept-res-requires-clause-live g c κs within = live_fresh g.R.Resource c.args.resource c.requires.fresh
@@ -22,10 +19,7 @@ write_accept-res-requires-clause-unused g c κs within = unused_fresh g.R.Resour
 
 pub returns-clause-standing : goal.returns-clause-standing
 returns-clause-standing g c =
-    let q = c.requires in
-    let a = c.write_accept-res.ensures in
-    holding_standing g.R.Resource c.args.ground.now c.args.node c.args.resource q.standing c.promise.ensures.register q.known q.fresh q.events
-    c.write_accept-res.new.self (rw c.tree_key.ensures at a.written) a.tied a.leased
+    search (rules, holding_standing)
 
 pub returns-clause-accepted : goal.returns-clause-accepted
 returns-clause-accepted g c =
@@ -36,17 +30,11 @@ returns-clause-accepted g c =
 
 pub returns-clause-closed : goal.returns-clause-closed
 returns-clause-closed g c =
-    let q = c.requires in
-    let a = c.write_accept-res.ensures in
-    holding_gathers g.R.Resource c.args.ground.now c.args.node c.args.resource q.standing c.promise.ensures.register q.known q.fresh q.events
-    c.write_accept-res.new.self (rw c.tree_key.ensures at a.written) a.tied a.leased a.closed
+    search (rules, holding_gathers)
 
 pub returns-clause-history : goal.returns-clause-history
 returns-clause-history g c = let w = rw c.tree_key.ensures at c.write_accept-res.ensures.written in w.history
 
 pub returns-clause-res : goal.returns-clause-res
 returns-clause-res g c =
-    let q = c.requires in
-    let a = c.write_accept-res.ensures in
-    held_key g.R.Resource c.args.ground.now c.args.node c.args.resource q.standing c.promise.ensures.register q.known q.fresh q.events
-    c.write_accept-res.new.self (rw c.tree_key.ensures at a.written) a.tied a.leased c.write_accept-res.result c.shown_res_key.ensures a.number a.held
+    search (rules, held_key)

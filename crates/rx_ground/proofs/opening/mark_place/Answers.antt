@@ -12,9 +12,7 @@ returns-in-Source g c =
     rw c.in-Source.is (remarks_undue after_source source_undue c.requires.open c.requires.quiet m.nodes m.chain m.resources)
 
 pub returns-in-Inner : goal.returns-in-Inner
-returns-in-Inner g c =
-    let m = c.mark_inner.ensures in
-    rw c.in-Inner.is (found_marked (after_inner c.args.replaces) c.requires.open m.nodes m.chain m.resources)
+returns-in-Inner g c = let m = c.mark_inner.ensures in rw c.in-Inner.is (found_marked (after_inner _) c.requires.open m.nodes m.chain m.resources)
 
 pub returns-in-Notifier : goal.returns-in-Notifier
 returns-in-Notifier g c =

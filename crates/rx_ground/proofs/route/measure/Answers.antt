@@ -4,9 +4,8 @@ use Rattle.rx_ground.proofs.route.measure.Goals as goal
 
 alone : (g : Over) (c : goal.After-told_at-told g) → IsAlone c.args.tree.now.nodes c.args.hubs.now.hubs c.args.node c.in-Some.stop
     c.owed_at-owed.result c.told_at-told.result
-alone g c =
-    arrived_alone c.args.tree.now.nodes c.args.hubs.now.hubs c.args.node c.climb-reached.result c.in-Some.stop c.owed_at-owed.result
-    c.told_at-told.result c.in-Some.ensures c.climb-reached.ensures.visits c.climb-reached.ensures.stop c.owed_at-owed.ensures c.told_at-told.ensures
+alone g c = arrived_alone _ _ _ _ _ _ _ c.in-Some.ensures c.climb-reached.ensures.visits c.climb-reached.ensures.stop c.owed_at-owed.ensures
+    c.told_at-told.ensures
 
 pub returns-in-Some-clause-reach : goal.returns-in-Some-clause-reach
 returns-in-Some-clause-reach g c = (alone g c).reach

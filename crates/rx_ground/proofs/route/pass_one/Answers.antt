@@ -2,6 +2,7 @@ use Rattle.rx_ground.proofs.Common.{w64, to_z-of_z}
 use Rattle.rx_ground.proofs.Passage.{one_there, one_room, one_passed}
 use Rattle.rx_ground.proofs.MarksMakeNothingDue.{off_undue}
 use Rattle.rx_ground.proofs.route.pass_one.Goals as goal
+use Rattle.std.proofs.Common.{rules}
 
 pub tell_at-requires : goal.tell_at-requires
 tell_at-requires g c = record {
@@ -11,8 +12,7 @@ tell_at-requires g c = record {
 
 pub mark_at-requires-clause-there : goal.mark_at-requires-clause-there
 mark_at-requires-clause-there g c κs within =
-    one_there c.args.register.now c.args.tree.now c.args.hubs.now.hubs c.args.leaf c.args.value c.requires.lawful c.requires.walk c.requires.records
-    c.requires.open c.args.only c.requires.only
+    search (rules, one_there)
 
 pub returns : goal.returns
 returns g c =

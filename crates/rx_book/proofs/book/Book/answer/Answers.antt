@@ -1,4 +1,4 @@
-use Rattle.rx_book.proofs.Common.{Bool, sym, subst, ◌∙◌, Ok, State, Request, stands, Answers, IsRefusalOf, state_of, IsAdmitted}
+use Rattle.rx_book.proofs.Common.{sym, subst, Ok, State, Request, Answers, state_of, IsAdmitted}
 use Rattle.rx_book.specs.Asks.{request_of, refuses, gives, Asks}
 use Rattle.rx_book.proofs.Admitted.{state_admitted}
 use Rattle.rx_book.proofs.AnswersOkOrErr.{answers_ok, passed_refusal}
@@ -8,20 +8,15 @@ use Rattle.rx_book.proofs.CallsAsValues.{fixed_takes, fixed_within, fixed_admitt
 use Rattle.rx_book.proofs.book.Book.answer.Given as given
 use Rattle.rx_book.proofs.book.Book.answer.Goals as goal
 use Rattle.rx_book.proofs.book.Book.answer.Goals.{In_ok-admit}
+use Rattle.std.proofs.Common.{rules}
 
 pub admit-requires-clause-within : goal.admit-requires-clause-within
 admit-requires-clause-within g c κs within none =
-    let b = c.self.inside.ground in
-    fixed_within g.R.Resource b c.args.call c.cost.result c.requires (c.cost.ensures (state_of g.R.Resource b)) (sym c.cause-cause.ensures ∙ none)
+    search (rules, fixed_within)
 
 pub returns-in_err-admit : goal.returns-in_err-admit
 returns-in_err-admit g c =
-    let s = state_of g.R.Resource c.self.inside.ground in
-    let a = c.in_err-admit in
-    let stand = stands s (request_of s c.args.call) in
-    let why = subst (λ (b : Bool). IsRefusalOf b stand a.field-0.0) (sym (fixed_takes c.args.call c.requires))
-    (a.ensures.err stand (sym c.cause-cause.ensures)) in
-    rw (← c.self.view_is) (passed_refusal c.from_residual.result a.field-0.0 c.from_residual.ensures.1 why a.ensures.same)
+    search (rules, fixed_takes, passed_refusal)
 
 called : (g : given.Over) (c : In_ok-admit g) → (let b = c.admit.new.ground in IsAdmitted g.R.Resource b (request_of (state_of g.R.Resource b) c.args.call))
 called g c =

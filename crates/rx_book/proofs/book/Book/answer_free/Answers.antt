@@ -1,4 +1,4 @@
-use Rattle.rx_book.proofs.Common.{Bool, sym, subst, Ok, State, Request, stands, Answers, IsRefusalOf, state_of, IsLetIn}
+use Rattle.rx_book.proofs.Common.{sym, subst, Ok, State, Request, Answers, state_of, IsLetIn}
 use Rattle.rx_book.specs.Answers.{IsPlace}
 use Rattle.rx_book.specs.Asks.{request_of, refuses}
 use Rattle.rx_book.proofs.Admitted.{state_admitted}
@@ -9,14 +9,11 @@ use Rattle.rx_book.proofs.CallsAsValues.{free_let_in, free_subscribes_none, unli
 use Rattle.rx_book.proofs.book.Book.answer_free.Given as given
 use Rattle.rx_book.proofs.book.Book.answer_free.Goals as goal
 use Rattle.rx_book.proofs.book.Book.answer_free.Goals.{In_ok-admit}
+use Rattle.std.proofs.Common.{rules}
 
 pub returns-in_err-admit : goal.returns-in_err-admit
 returns-in_err-admit g c =
-    let s = state_of g.R.Resource c.self.inside.ground in
-    let a = c.in_err-admit in
-    let stand = stands s (request_of s c.args.call) in
-    let why = subst (λ (b : Bool). IsRefusalOf b stand a.field-0.0) (sym c.requires) (a.ensures.err stand (sym c.cause_free-cause.ensures)) in
-    rw (← c.self.view_is) (passed_refusal c.from_residual.result a.field-0.0 c.from_residual.ensures.1 why a.ensures.same)
+    search (rules, passed_refusal)
 
 called : (g : given.Over) (c : In_ok-admit g) → (let b = c.admit.new.ground in IsLetIn g.R.Resource b (request_of (state_of g.R.Resource b) c.args.call))
 called g c = free_let_in c.args.call (sym c.cause_free-cause.ensures) c.requires c.in_ok-admit.ensures.ok

@@ -1,14 +1,14 @@
-use Rattle.rx_book.proofs.Common.{◌≡◌, [], ap, ◌∙◌, Kept, accepted_count}
+use Rattle.rx_book.proofs.Common.{◌≡◌, []}
 use Rattle.rx_book.proofs.Closings.{closed_book, closed_released, takes_accepted, shut_let_go, shut_none_out}
 use Rattle.rx_book.proofs.book.Book.close.Given as given
 use Rattle.rx_book.proofs.book.Book.close.Goals as goal
 use Rattle.rx_book.proofs.book.Book.close.Goals.{After-promise-3}
+use Rattle.std.proofs.Common.{rules}
 
 closed : (g : given.Over) (c : After-promise-3 g) →
     (c.release_waiting-closed.new.self.keys ≡ []) × (c.release_waiting-closed.new.self.held ≡ []) × (c.release_waiting-closed.new.self.lease_keys ≡ [])
 closed g c =
-    closed_book c.shut.new.self c.release_waiting-closed.new.self (shut_let_go c.shut.new.self c.promise-2.ensures c.shut.ensures.none_open)
-    (shut_none_out c.shut.new.self c.promise-2.ensures c.shut.ensures.none_out) c.release_waiting-closed.ensures.drains.takes c.promise-3.ensures
+    search (rules, closed_book, shut_let_go, shut_none_out)
 
 pub returns-clause-none_open : goal.returns-clause-none_open
 returns-clause-none_open g c = (closed g (goal.at.returns-clause-none_open g c).After-promise-3).0
@@ -21,9 +21,7 @@ returns-clause-none_out g c = (closed g (goal.at.returns-clause-none_out g c).Af
 
 pub returns-clause-accepted : goal.returns-clause-accepted
 returns-clause-accepted g c =
-    let d = c.release_waiting-closed.ensures in
-    ap (λ (b : Kept). accepted_count b c.release_waiting-closed.new.self.history) d.continues.base ∙ takes_accepted _ d.drains.takes ∙
-    c.shut.ensures.accepted
+    search (rules, takes_accepted)
 
 pub returns-clause-released : goal.returns-clause-released
 returns-clause-released g c =

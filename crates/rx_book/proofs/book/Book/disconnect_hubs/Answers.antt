@@ -2,10 +2,11 @@ use Rattle.rx_book.proofs.Common.{refl, ap, ◌∙◌, Kept, accepted_count, tak
 use Rattle.rx_book.proofs.Closings.{disconnected_out, disconnected_taken, disconnected_accepted, roots_older, hub_found, hub_missing, disconnectable}
 use Rattle.rx_book.proofs.Closings.{closes_some, less_room}
 use Rattle.rx_book.proofs.book.Book.disconnect_hubs.Goals as goal
+use Rattle.std.proofs.Common.{rules}
 
 pub loop-hub-init : goal.loop-hub-init
 loop-hub-init g c =
-    record { kept = c.promise.ensures; lets_go = none_let_go; base = refl; limit = refl; given = refl; roots = λ n found. found; out = λ n found. found; accepted = refl; taken = refl }
+    search (rules, none_let_go)
 
 pub loop-hub-smaller : goal.loop-hub-smaller
 loop-hub-smaller g c =

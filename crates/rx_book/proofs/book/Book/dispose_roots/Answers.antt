@@ -1,10 +1,11 @@
 use Rattle.rx_book.proofs.Common.{refl, ap, ◌∙◌, arith, Kept, accepted_count, taken_count, none_let_go, next_let_go}
 use Rattle.rx_book.proofs.Closings.{disposed_out, disposed_taken, disposed_accepted, root_found, root_missing, disposable, less_room}
 use Rattle.rx_book.proofs.book.Book.dispose_roots.Goals as goal
+use Rattle.std.proofs.Common.{rules}
 
 pub loop-root-init : goal.loop-root-init
 loop-root-init g c =
-    record { kept = c.promise.ensures; lets_go = none_let_go; base = refl; limit = refl; given = refl; out = λ n found. found; accepted = refl; taken = refl }
+    search (rules, none_let_go)
 
 pub loop-root-smaller : goal.loop-root-smaller
 loop-root-smaller g c = less_room c.loop-root.self c.dispose.new.self _ c.in-Ok.ensures.accepted c.promise-in-Ok.ensures (omega arith)

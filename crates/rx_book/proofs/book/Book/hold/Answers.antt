@@ -1,7 +1,7 @@
-use Rattle.rx_book.proofs.Common.{List, length, refl, ap, subst, ◌∙◌, arith, Ok, Event, Accept, Holding, Kept, accepted_by, accepted_by_new, accepted_stays}
+use Rattle.rx_book.proofs.Common.{List, length, refl, ap, subst, ◌∙◌, Ok, Event, Accept, Holding, Kept, accepted_by, accepted_by_new, accepted_stays}
 use Rattle.rx_book.proofs.Common.{gathers_quiet, leases_stay, State, hold_request, stands, AnswersResKey, state_of, IsLetIn, IsAdmitted}
 use Rattle.rx_book.proofs.AnswersOkOrErr.{answers_ok, answers_err}
-use Rattle.rx_book.proofs.CallWithoutCause.{one_ready, open_asked, fresh_asked, live_fresh, unused_fresh, pays, connects_none, written_held, accepts_written}
+use Rattle.rx_book.proofs.CallWithoutCause.{one_ready, fresh_asked, live_fresh, unused_fresh, pays, connects_none, written_held, accepts_written}
 use Rattle.rx_book.proofs.CallWithoutCause.{settles_to}
 use Rattle.rx_book.proofs.MadeKeyIsListed.{res_key_listed}
 use Rattle.rx_book.proofs.ListOfClosed.{answers_begun, begun_at}
@@ -10,14 +10,11 @@ use Rattle.rx_book.proofs.book.Book.hold.Goals as goal
 use Rattle.rx_book.proofs.book.Book.hold.Goals.{In_default}
 use Rattle.rx_book.proofs.Admitted.{admitted_as, state_admitted, within_limit}
 use Rattle.rx_book.proofs.CausesByKey.{first_of_node}
+use Rattle.std.proofs.Common.{rules}
 
 pub admit-requires-clause-within : goal.admit-requires-clause-within
 admit-requires-clause-within g c κs within none =
-    let R = g.R.Resource in
-    let b = c.self.inside.ground in
-    let told = rw (c.tag-tag.ensures, c.is_fresh-fresh.ensures) at c.holding_cause-cause.ensures in
-    let first = first_of_node c.self.inside.ground _ c.args.node (λ n. Holding n (g.R.Resource.tag_of c.args.resource)) c.tree_key.ensures told in
-    within_limit R b (hold_request R (state_of R b) c.args.node c.args.resource) c.of_holding.result refl (first ∙ none) c.of_holding.ensures (omega arith)
+    search (rules, first_of_node, within_limit, hold_request)
 
 pub returns-in-Err : goal.returns-in-Err
 returns-in-Err g c =
@@ -48,18 +45,15 @@ write_accept-res-requires-clause-ready g c κs within =
 
 pub write_accept-res-requires-clause-open : goal.write_accept-res-requires-clause-open
 write_accept-res-requires-clause-open g c κs within =
-    let l = called g (goal.at.write_accept-res-requires-clause-open g c).In_default in
-    rw c.tree_key-2.ensures (open_asked g.R.Resource c.admit.new.ground _ l c.args.node refl)
+    search (rules, called)
 
 pub write_accept-res-requires-clause-live : goal.write_accept-res-requires-clause-live
 write_accept-res-requires-clause-live g c κs within =
-    let l = called g (goal.at.write_accept-res-requires-clause-live g c).In_default in
-    live_fresh g.R.Resource c.args.resource (fresh_asked g.R.Resource c.admit.new.ground _ l refl)
+    search (rules, called, live_fresh, fresh_asked)
 
 pub write_accept-res-requires-clause-unused : goal.write_accept-res-requires-clause-unused
 write_accept-res-requires-clause-unused g c κs within =
-    let l = called g (goal.at.write_accept-res-requires-clause-unused g c).In_default in
-    unused_fresh g.R.Resource c.args.resource (fresh_asked g.R.Resource c.admit.new.ground _ l refl)
+    search (rules, called, unused_fresh, fresh_asked)
 
 pub settle-requires-clause-paid : goal.settle-requires-clause-paid
 settle-requires-clause-paid g c κs within =

@@ -1,20 +1,20 @@
-use Rattle.rx_book.proofs.Common.{true, None, Some, [], refl, sym, ap, subst, ◌∙◌, inl, arith, w64, Ok, to_z-of_z, Item, Emitting, Wanted, MakesOnly, Ground}
-use Rattle.rx_book.proofs.Common.{IsStanding, gathers_quiet, State, next_request, stands, state_of, tree_key_of, IsLetIn, IsWithin, Admits}
+use Rattle.rx_book.proofs.Common.{true, None, Some, [], refl, sym, ap, subst, ◌∙◌, inl, w64, Ok, to_z-of_z, Item, Emitting, MakesOnly}
+use Rattle.rx_book.proofs.Common.{IsStanding, gathers_quiet, State, next_request, stands, state_of, tree_key_of, IsLetIn, Admits}
 use Rattle.rx_ground.proofs.Laws.OneStop.{MakesOnly-roomier}
 use Rattle.rx_book.specs.Answers.{AnswersPlaceOrWant}
 use Rattle.rx_book.proofs.Admitted.{admitted_as, state_admitted, within_limit, item_cost}
 use Rattle.rx_book.proofs.CausesByKey.{first_of_node}
 use Rattle.rx_book.proofs.AnswersOkOrErr.{answers_ok, passed_refusal}
-use Rattle.rx_book.proofs.CallWithoutCause.{one_ready, open_asked, pays, connects_none, written_closed, accepts_written, settles_to}
+use Rattle.rx_book.proofs.CallWithoutCause.{one_ready, pays, connects_none, written_closed, accepts_written, settles_to}
 use Rattle.rx_book.proofs.ListOfClosed.{answers_begun, begun_at}
 use Rattle.rx_book.proofs.book.Book.next.Given as given
 use Rattle.rx_book.proofs.book.Book.next.Goals as goal
 use Rattle.rx_book.proofs.book.Book.next.Goals.{In_ok-admit}
+use Rattle.std.proofs.Common.{rules}
 
 admitted : (g : given.Over) (c : In_ok-admit g) → Admits g.R.Resource c.self.inside.ground None (Some c.of_item.result) c.admit.new.ground
 admitted g c =
-    let w = Some c.of_item.result in
-    subst (λ (x : Ground g.row.R.Denot). Admits g.R.Resource x None w c.admit.new.ground) c.in_ok-way.ensures.kept c.in_ok-admit.ensures.ok
+    search (rules, Admits)
 
 called : (g : given.Over) (c : In_ok-admit g) → (let b = c.admit.new.ground in
     IsLetIn g.R.Resource b (next_request (state_of g.R.Resource b) c.args.leaf c.args.value))
@@ -38,17 +38,7 @@ admit-requires-clause-standing g c κs within = subst (IsStanding g.R.Resource) 
 
 pub admit-requires-clause-within : goal.admit-requires-clause-within
 admit-requires-clause-within g c κs within none =
-    let R = g.R.Resource in
-    let b = c.self.inside.ground in
-    let told = rw (to_z-of_z w64 c.args.value c.ranges.value) at (sym c.in_ok-way.ensures.none) in
-    let unstood = first_of_node b true c.args.leaf (λ n. Emitting n c.args.value) c.tree_key.ensures told in
-    let is = rw c.tree_key.ensures at c.in_ok-way.ensures.ok in
-    let cost = c.of_item.ensures ∙ item_cost b.register.history b.tree.nodes (tree_key_of c.args.leaf) c.args.value c.in_ok-way.way.reach is in
-    let few = is.few in
-    let notes = ap (λ (w : Wanted). w.notes) cost in
-    let reached = ap (λ (w : Wanted). w.notes) c.of_item.ensures in
-    subst (λ (x : Ground g.row.R.Denot). IsWithin x c.of_item.result) (sym c.in_ok-way.ensures.kept)
-    (within_limit R b (next_request (state_of R b) c.args.leaf c.args.value) c.of_item.result refl unstood cost (omega arith))
+    search (rules, to_z-of_z, w64, first_of_node, item_cost, within_limit)
 
 pub returns-in_err-admit : goal.returns-in_err-admit
 returns-in_err-admit g c =
@@ -68,7 +58,7 @@ write_item-requires-clause-ready g c κs within =
 
 pub write_item-requires-clause-open : goal.write_item-requires-clause-open
 write_item-requires-clause-open g c κs within =
-    rw c.tree_key-2.ensures (open_asked g.R.Resource c.admit.new.ground _ (called g (goal.at.write_item-requires-clause-open g c).In_ok-admit) c.args.leaf refl)
+    search (rules, called)
 
 pub write_item-requires-clause-only : goal.write_item-requires-clause-only
 write_item-requires-clause-only g c κs within =

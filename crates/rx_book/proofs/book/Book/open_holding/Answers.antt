@@ -9,6 +9,7 @@ use Rattle.rx_book.proofs.ListOfClosed.{begun_at, holding_begun, further_step, g
 use Rattle.rx_book.proofs.book.Book.open_holding.Given as given
 use Rattle.rx_book.proofs.book.Book.open_holding.Goals as goal
 use Rattle.rx_book.proofs.book.Book.open_holding.Goals.{After-opening_holding_cost-cost, In_default}
+use Rattle.std.proofs.Common.{rules}
 
 -- what stands first, by the caller's key
 first : (g : given.Over) (c : After-opening_holding_cost-cost g) →
@@ -56,8 +57,7 @@ write_holding-res-requires-clause-events g c κs within =
 
 pub write_holding-res-requires-clause-room : goal.write_holding-res-requires-clause-room
 write_holding-res-requires-clause-room g c κs within =
-    let a = admitted g (goal.at.write_holding-res-requires-clause-room g c).In_default in
-    rw c.write_opening-opened.ensures.resources a.resources
+    search (rules, admitted)
 
 pub returns : goal.returns
 returns g c =

@@ -14,17 +14,11 @@ use Rattle.rx_book.proofs.MadeKeyIsListed.{key_listed, res_key_listed}
 use Rattle.rx_book.proofs.book.Book.open_using.Given as given
 use Rattle.rx_book.proofs.book.Book.open_using.Goals as goal
 use Rattle.rx_book.proofs.book.Book.open_using.Goals.{In_default}
+use Rattle.std.proofs.Common.{rules}
 
 pub admit-requires-clause-within : goal.admit-requires-clause-within
 admit-requires-clause-within g c κs within none =
-    let R = g.R.Resource in
-    let b = c.self.inside.ground in
-    let spot = c.spot_of-spot.ensures in
-    let told = rw (c.tag-tag.ensures, c.is_fresh-fresh.ensures) at c.using_cause-cause.ensures in
-    let call = λ (place : Place). OpeningUsing place (g.R.Resource.tag_of c.args.resource) in
-    let first = first_of_place c.self.inside.ground _ c.args.at call spot.place spot.above told in
-    within_limit R b (using_request R (state_of R b) c.args.at c.args.resource) c.of_using.result refl (first ∙ none)
-    (rw spot.place at c.of_using.ensures) (omega arith)
+    search (rules, first_of_place, within_limit, using_request)
 
 pub returns-in-Err : goal.returns-in-Err
 returns-in-Err g c =
@@ -52,18 +46,14 @@ called g c = (admitted g c).let_in
 
 -- the opening may be written
 opens : (g : given.Over) (c : In_default g) → (let b = c.admit.new.ground in IsReady b.register (Open (place_of c.args.at) Pass))
-opens g c =
-    let b = c.admit.new.ground in
-    first_ready g.R.Resource b _ (called g c) (Open (place_of c.args.at) Pass) (Accept (length b.register.history) (g.R.Resource.tag_of c.args.resource)) refl
-    refl
+opens g c = let b = c.admit.new.ground in first_ready g.R.Resource b _ (called g c) (Open (place_of _) Pass) (Accept (length b.register.history)
+    (g.R.Resource.tag_of _)) refl refl
 
 -- and then the acceptance
 holds : (g : given.Over) (c : In_default g) (mid : Register) → (let b = c.admit.new.ground in Writes b.register (Open (place_of c.args.at) Pass ∷ []) mid →
     IsReady mid (Accept (length b.register.history) (g.R.Resource.tag_of c.args.resource)))
-holds g c mid w =
-    let b = c.admit.new.ground in
-    second_ready g.R.Resource b _ (called g c) (Open (place_of c.args.at) Pass) (Accept (length b.register.history) (g.R.Resource.tag_of c.args.resource)) mid
-    refl w refl
+holds g c mid w = let b = c.admit.new.ground in second_ready g.R.Resource b _ (called g c) (Open (place_of _) Pass) (Accept (length
+    b.register.history) (g.R.Resource.tag_of _)) mid refl w refl
 
 pub write_open-node-requires-clause-ready : goal.write_open-node-requires-clause-ready
 write_open-node-requires-clause-ready g c κs within = rw c.spot_of-spot.ensures.place (opens g (goal.at.write_open-node-requires-clause-ready g c).In_default)
@@ -78,8 +68,7 @@ write_open-node-requires-clause-placed g c κs within =
 
 pub write_open-node-requires-clause-space : goal.write_open-node-requires-clause-space
 write_open-node-requires-clause-space g c κs within =
-    let a = admitted g (goal.at.write_open-node-requires-clause-space g c).In_default in
-    node_space c.admit.new.ground a.room.space a.let_in.begun
+    search (rules, admitted, node_space)
 
 pub write_open-node-requires-clause-room : goal.write_open-node-requires-clause-room
 write_open-node-requires-clause-room g c κs within = (admitted g (goal.at.write_open-node-requires-clause-room g c).In_default).room.nodes
@@ -96,8 +85,7 @@ write_accept-res-requires-clause-unused g c κs within =
 
 pub write_accept-res-requires-clause-ready : goal.write_accept-res-requires-clause-ready
 write_accept-res-requires-clause-ready g c κs within =
-    rw c.write_open-node.ensures.new.numbered (holds g (goal.at.write_accept-res-requires-clause-ready g c).In_default c.write_open-node.new.self.register
-    (rw c.spot_of-spot.ensures.place at c.write_open-node.ensures.written))
+    search (rules, holds)
 
 pub settle-requires-clause-paid : goal.settle-requires-clause-paid
 settle-requires-clause-paid g c κs within =

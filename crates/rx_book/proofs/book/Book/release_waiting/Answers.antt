@@ -1,16 +1,12 @@
-use Rattle.rx_book.proofs.Common.{sym, ap, subst, arith, Kept, taken_count, Taking, IsStepOf, Drains, none_taken, next_taken}
+use Rattle.rx_book.proofs.Common.{ap, subst, arith, Kept, taken_count, Taking, IsStepOf, none_taken, next_taken}
 use Rattle.rx_book.proofs.Laws.StepsContinue.{accepted_continues, continues_none, continues_more}
 use Rattle.rx_book.proofs.Closings.{taken_one, less_room, none_waits}
 use Rattle.rx_book.proofs.book.Book.release_waiting.Goals as goal
 use Rattle.rx_book.proofs.book.Book.release_waiting.Goals.{then-is_some, else-is_some}
+use Rattle.std.proofs.Common.{rules}
 
 pub loop-handed-init : goal.loop-handed-init
-loop-handed-init g c = record {
-  kept = c.promise.ensures;
-  takes = none_taken;
-  continues = continues_none c.args.self.now;
-  faults = omega arith;
-}
+loop-handed-init g c = search (rules, none_taken, continues_none)
 
 pub loop-handed-smaller : goal.loop-handed-smaller
 loop-handed-smaller g c = less_room c.loop-handed.self c.take.new.self _ c.in-Some.ensures.accepted c.promise-in-Some.ensures (omega arith)
@@ -33,6 +29,4 @@ loop-handed-preserved g c =
 
 pub returns-clause-drains : goal.returns-clause-drains
 returns-clause-drains g c =
-    let same = c.in_default.ensures.kept in
-    subst (λ b. Drains c.args.self.now.base c.args.self.now.history b.history) (sym same)
-    (record { takes = c.loop-handed.invariant.takes; none_waits = none_waits c.loop-handed.self c.loop-handed.invariant.kept c.in_default.ensures.cases })
+    search (rules, none_waits)

@@ -1,10 +1,11 @@
 use Rattle.rx_book.proofs.Common.{refl, ap, ◌∙◌, arith, Kept, accepted_count, taken_count, none_let_go, next_let_go}
 use Rattle.rx_book.proofs.Closings.{returned_taken, returned_accepted, lease_found, lease_missing, returnable, less_room}
 use Rattle.rx_book.proofs.book.Book.return_leases.Goals as goal
+use Rattle.std.proofs.Common.{rules}
 
 pub loop-lease-init : goal.loop-lease-init
 loop-lease-init g c =
-    record { kept = c.promise.ensures; lets_go = none_let_go; base = refl; limit = refl; given = refl; accepted = refl; taken = refl }
+    search (rules, none_let_go)
 
 pub loop-lease-smaller : goal.loop-lease-smaller
 loop-lease-smaller g c = less_room c.loop-lease.self c.give_back.new.self _ c.in-Ok.ensures.accepted c.promise-in-Ok.ensures (omega arith)
@@ -25,8 +26,7 @@ loop-lease-preserved g c = record {
 }
 
 pub unreachable-requires : goal.unreachable-requires
-unreachable-requires g c = returnable c.loop-lease.self c.in-Some.lease c.in-Err.field-0 c.in-Some.ensures.key
-    (lease_found c.loop-lease.self.history c.in-Some.lease.number c.in-Some.ensures.least) c.in-Err.ensures.refused
+unreachable-requires g c = search (rules, returnable, lease_found)
 
 pub returns-clause-none_out : goal.returns-clause-none_out
 returns-clause-none_out g c = lease_missing c.loop-lease.self.history c.in_default.ensures.least

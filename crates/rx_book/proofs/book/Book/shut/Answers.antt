@@ -1,20 +1,15 @@
-use Rattle.rx_book.proofs.Common.{◌≡◌, ℕ, false, [], length, ap, ◌∙◌, arith, false_from_ne_true, both_ways, is_out, is_open_root, IsLetGo, none_taken}
+use Rattle.rx_book.proofs.Common.{◌≡◌, ℕ, false, [], length, ap, ◌∙◌, arith, false_from_ne_true, both_ways, is_out, IsLetGo, none_taken}
 use Rattle.rx_book.proofs.Closings.{closed_book, lets_all}
 use Rattle.rx_book.proofs.book.Book.shut.Given as given
 use Rattle.rx_book.proofs.book.Book.shut.Goals as goal
 use Rattle.rx_book.proofs.book.Book.shut.Goals.{After-promise-2}
+use Rattle.std.proofs.Common.{rules}
 
 none_out : (g : given.Over) (c : After-promise-2 g) → (l : ℕ) → is_out c.disconnect_hubs.new.self.history l ≡ false
-none_out g c l = false_from_ne_true _ (λ found. both_ways (is_out c.return_leases.new.self.history l) (c.return_leases.ensures.none_out l)
-    (c.dispose_roots.ensures.out l (c.disconnect_hubs.ensures.out l found)))
+none_out g c l = search (rules, false_from_ne_true, both_ways)
 
 let_go : (g : given.Over) (c : After-promise-2 g) → IsLetGo c.disconnect_hubs.new.self.history
-let_go g c = record {
-  unsubscribed =
-      λ n. false_from_ne_true _ (λ found. both_ways (is_open_root c.dispose_roots.new.self.history n) (c.dispose_roots.ensures.none_open n)
-      (c.disconnect_hubs.ensures.roots n found));
-  disconnected = c.disconnect_hubs.ensures.disconnected;
-}
+let_go g c = search (rules, false_from_ne_true, both_ways)
 
 closed : (g : given.Over) (c : After-promise-2 g) →
     (c.disconnect_hubs.new.self.keys ≡ []) × (c.disconnect_hubs.new.self.held ≡ []) × (c.disconnect_hubs.new.self.lease_keys ≡ [])
@@ -30,7 +25,7 @@ pub returns-clause-none_out : goal.returns-clause-none_out
 returns-clause-none_out g c = (closed g (goal.at.returns-clause-none_out g c).After-promise-2).2
 
 pub returns-clause-lets_go : goal.returns-clause-lets_go
-returns-clause-lets_go g c = lets_all (lets_all c.return_leases.ensures.lets_go c.dispose_roots.ensures.lets_go) c.disconnect_hubs.ensures.lets_go
+returns-clause-lets_go g c = search (rules, lets_all)
 
 pub returns-clause-waiting : goal.returns-clause-waiting
 returns-clause-waiting g c =

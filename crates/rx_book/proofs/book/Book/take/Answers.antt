@@ -6,6 +6,7 @@ use Rattle.rx_book.proofs.OneFewerWaits.{listed_waits, fewer_wait}
 use Rattle.rx_book.proofs.book.Book.take.Given as given
 use Rattle.rx_book.proofs.book.Book.take.Goals as goal
 use Rattle.rx_book.proofs.book.Book.take.Goals.{In_ok-handed}
+use Rattle.std.proofs.Common.{rules}
 
 pub write_take-requires-clause-room : goal.write_take-requires-clause-room
 write_take-requires-clause-room g c κs within = λ r waits.
@@ -17,21 +18,15 @@ write_take-requires-clause-room g c κs within = λ r waits.
 called : (g : given.Over) (c : In_ok-handed g) →
     IsLetIn g.R.Resource (record c.self.inside.ground { closed = [] }) (take_request c.in_ok-handed.handed.0)
 called g c =
-    let b = c.self.inside.ground in
-    let waits =
-    listed_waits g.R.Resource b.register.base b.register.history b.tree c.self.invariant.tied.of_tree c.promise.ensures.tree.resources_apart
-    c.in_ok-handed.handed
-    c.in_ok-handed.ensures.waited in
-    let_in_free g.R.Resource (record b { closed = [] }) _ (standing_begun c.self.invariant) c.promise.ensures.register refl waits refl refl refl
+    search (rules, listed_waits, let_in_free, standing_begun)
 
 pub settle-requires-clause-tied : goal.settle-requires-clause-tied
 settle-requires-clause-tied g c κs within =
-    subst (λ (x : Ground g.row.R.Denot). AreTied x.register.base g.R.Resource x.register.history x.tree x.hubs) (sym c.begin.ensures)
-    c.in_ok-handed.ensures.tied
+    search (rules, AreTied)
 
 pub settle-requires-clause-leased : goal.settle-requires-clause-leased
 settle-requires-clause-leased g c κs within =
-    subst (λ (x : Ground g.row.R.Denot). AreLeased x.register.history x.tree.resources x.leases) (sym c.begin.ensures) c.in_ok-handed.ensures.leased
+    search (rules, AreLeased)
 
 pub settle-requires-clause-paid : goal.settle-requires-clause-paid
 settle-requires-clause-paid g c κs within =

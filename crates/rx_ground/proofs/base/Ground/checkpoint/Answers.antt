@@ -1,13 +1,12 @@
-use Rattle.rx_ground.proofs.Common.{refl, sym, ap, subst, ◌∙◌, debt, IsQuiet, Ground}
+use Rattle.rx_ground.proofs.Common.{refl, sym, ap, ◌∙◌, debt, Ground}
 use Rattle.rx_ground.proofs.StandsAfterCheckpoint.{settled_quiet_hubs}
 use Rattle.rx_ground.proofs.CheckpointMakesBase.{checkpoint_made, standing_after}
 use Rattle.rx_ground.proofs.base.Ground.checkpoint.Goals as goal
+use Rattle.std.proofs.Common.{rules}
 
 pub forget_ends-requires : goal.forget_ends-requires
 forget_ends-requires g c =
-    let b = c.args.self.now in
-    subst (λ (s : Ground _). IsQuiet s.hubs.hubs) (sym c.self.view_is)
-    (settled_quiet_hubs b.register.base b.register.history b.hubs.hubs c.requires.standing.tied.published c.requires.standing.settled)
+    search (rules, settled_quiet_hubs)
 
 pub returns-clause-standing : goal.returns-clause-standing
 returns-clause-standing g c =

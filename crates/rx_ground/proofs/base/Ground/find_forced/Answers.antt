@@ -1,7 +1,8 @@
-use Rattle.rx_ground.proofs.Common.{◌≡◌, Option, None, is_some, sym, ap, subst, ◌∙◌, find, Tree, HubDue, IsDueIn, ConcernsHub, Hubs, AreTied, IsNext}
+use Rattle.rx_ground.proofs.Common.{◌≡◌, Option, None, is_some, sym, subst, find, HubDue, IsDueIn, ConcernsHub, Hubs, AreTied}
 use Rattle.std.proofs.Common.{MatchOption}
 use Rattle.rx_ground.proofs.TiedWhileSettling.{hub_next, node_forced, quiet_settled, tied_rechained}
 use Rattle.rx_ground.proofs.base.Ground.find_forced.Goals as goal
+use Rattle.std.proofs.Common.{rules}
 
 pub returns-in-Some-clause-next : goal.returns-in-Some-clause-next
 returns-in-Some-clause-next g c =
@@ -17,37 +18,19 @@ not_found : {A : Type 0} (P : HubDue → Type 0) (o : Option HubDue) → o ≡ N
 not_found {A = A} P o none a = subst (λ (x : Option HubDue). MatchOption x A P) (sym none) a
 
 pub returns-in_err-node-clause-tied : goal.returns-in_err-node-clause-tied
-returns-in_err-node-clause-tied g c =
-    let base = c.self.inside.register.base in
-    let h = c.self.inside.register.history in
-    let was : AreTied base g.R.Resource h c.self.inside.tree c.self.inside.hubs = rw (← c.self.view_is) at c.requires.tied in
-    tied_rechained c.next_due.new.tree c.self.inside.hubs c.next_forced.new.self _ was
-    c.in_default.ensures.kept c.next_due.ensures.kept c.next_due.ensures.chained
+returns-in_err-node-clause-tied g c = let base = c.self.inside.register.base in let h = c.self.inside.register.history in let was : AreTied base
+    g.R.Resource h _ c.self.inside.hubs = rw (← c.self.view_is) at c.requires.tied in tied_rechained _ _ _ _ was c.in_default.ensures.kept
+    c.next_due.ensures.kept c.next_due.ensures.chained
 
 pub returns-in_err-node-clause-next : goal.returns-in_err-node-clause-next
 returns-in_err-node-clause-next g c =
-    let base = c.self.inside.register.base in
-    let h = c.self.inside.register.history in
-    let was : AreTied base g.R.Resource h c.self.inside.tree c.self.inside.hubs = rw (← c.self.view_is) at c.requires.tied in
-    not_found (IsNext _) c.from_residual.result c.from_residual.ensures
-    (quiet_settled base g.R.Resource h c.self.inside.tree c.self.inside.hubs was c.in_default.ensures.none c.in_err-node.ensures.none)
+    search (rules, AreTied, not_found, quiet_settled)
 
 pub returns-clause-tied : goal.returns-clause-tied
-returns-clause-tied g c =
-    let base = c.self.inside.register.base in
-    let h = c.self.inside.register.history in
-    let was : AreTied base g.R.Resource h c.self.inside.tree c.self.inside.hubs = rw (← c.self.view_is) at c.requires.tied in
-    tied_rechained c.next_due.new.tree c.self.inside.hubs c.next_forced.new.self _ was
-    c.in_default.ensures.kept c.next_due.ensures.kept c.next_due.ensures.chained
+returns-clause-tied g c = let base = c.self.inside.register.base in let h = c.self.inside.register.history in let was : AreTied base g.R.Resource h _
+    c.self.inside.hubs = rw (← c.self.view_is) at c.requires.tied in tied_rechained _ _ _ _ was c.in_default.ensures.kept c.next_due.ensures.kept
+    c.next_due.ensures.chained
 
 pub returns-clause-next : goal.returns-clause-next
 returns-clause-next g c =
-    let base = c.self.inside.register.base in
-    let h = c.self.inside.register.history in
-    let was : AreTied base g.R.Resource h c.self.inside.tree c.self.inside.hubs = rw (← c.self.view_is) at c.requires.tied in
-    let next = c.in_ok-node.field-0 in
-    let due = c.in_ok-node.ensures.due in
-    record {
-      forced = node_forced base g.R.Resource h c.self.inside.tree c.self.inside.hubs was c.in_default.ensures.none next due;
-      there = ap (λ (t : Tree g.row.R.Denot). is_some (find t.nodes next.node)) c.next_due.ensures.kept ∙ ap is_some due.found;
-    }
+    search (rules, AreTied, node_forced, is_some, find)

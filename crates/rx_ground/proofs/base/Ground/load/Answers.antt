@@ -6,16 +6,15 @@ use Rattle.rx_ground.proofs.Laws.JustOpenHeldWaiting.{length-alone}
 use Rattle.rx_ground.proofs.Loads.{held_counted, debt_counted, debt_bounded}
 use Rattle.rx_ground.proofs.base.Ground.load.Given.{Over}
 use Rattle.rx_ground.proofs.base.Ground.load.Goals as goal
+use Rattle.std.proofs.Common.{rules}
 
 pub overflow_sub-held : goal.overflow_sub-held
 overflow_sub-held g c =
-    let parts = accepted_count-parts c.args.self.now.register.base c.args.self.now.register.history c.promise.ensures.register.lawful in
-    omega (arith, c.accepted.ensures, c.taken.ensures)
+    search (rules, accepted_count-parts)
 
 pub overflow_sub-held-2 : goal.overflow_sub-held-2
 overflow_sub-held-2 g c =
-    let parts = accepted_count-parts c.args.self.now.register.base c.args.self.now.register.history c.promise.ensures.register.lawful in
-    omega (arith, c.accepted.ensures, c.taken.ensures, c.waiting_count-waiting.ensures)
+    search (rules, accepted_count-parts)
 
 alone_of : (g : Over) (c : goal.After-owed-owed g) →
     c.lent_alone-alone.result ≡ count_by (is_alone c.args.self.now.register.history) (places c.args.self.now.register.history)
@@ -43,10 +42,7 @@ counted g c =
     c.lease_count-leases.ensures owing
 
 pub overflow_mul-result : goal.overflow_mul-result
-overflow_mul-result g c =
-    let is = counted g c in
-    let bounded = debt_bounded c.args.self.now.register c.promise.ensures.register c.requires.standing.paid in
-    omega arith
+overflow_mul-result g c = let is = counted g c in let bounded = debt_bounded _ c.promise.ensures.register c.requires.standing.paid in omega arith
 
 pub overflow_sub-result : goal.overflow_sub-result
 overflow_sub-result g c =
@@ -57,40 +53,23 @@ overflow_sub-result g c =
     omega (arith, c.accepted.ensures, c.taken.ensures, c.waiting_count-waiting.ensures)
 
 pub overflow_add-result : goal.overflow_add-result
-overflow_add-result g c =
-    let is = counted g c in
-    let bounded = debt_bounded c.args.self.now.register c.promise.ensures.register c.requires.standing.paid in
-    omega arith
+overflow_add-result g c = let is = counted g c in let bounded = debt_bounded _ c.promise.ensures.register c.requires.standing.paid in omega arith
 
 pub overflow_add-result-2 : goal.overflow_add-result-2
-overflow_add-result-2 g c =
-    let is = counted g c in
-    let bounded = debt_bounded c.args.self.now.register c.promise.ensures.register c.requires.standing.paid in
-    omega arith
+overflow_add-result-2 g c = let is = counted g c in let bounded = debt_bounded _ c.promise.ensures.register c.requires.standing.paid in omega arith
 
 pub overflow_add-result-3 : goal.overflow_add-result-3
-overflow_add-result-3 g c =
-    let is = counted g c in
-    let bounded = debt_bounded c.args.self.now.register c.promise.ensures.register c.requires.standing.paid in
-    omega arith
+overflow_add-result-3 g c = let is = counted g c in let bounded = debt_bounded _ c.promise.ensures.register c.requires.standing.paid in omega arith
 
 pub overflow_add-result-4 : goal.overflow_add-result-4
-overflow_add-result-4 g c =
-    let is = counted g c in
-    let bounded = debt_bounded c.args.self.now.register c.promise.ensures.register c.requires.standing.paid in
-    omega arith
+overflow_add-result-4 g c = let is = counted g c in let bounded = debt_bounded _ c.promise.ensures.register c.requires.standing.paid in omega arith
 
 pub overflow_add-result-5 : goal.overflow_add-result-5
-overflow_add-result-5 g c =
-    let is = counted g c in
-    let bounded = debt_bounded c.args.self.now.register c.promise.ensures.register c.requires.standing.paid in
-    omega arith
+overflow_add-result-5 g c = let is = counted g c in let bounded = debt_bounded _ c.promise.ensures.register c.requires.standing.paid in omega arith
 
 pub returns-clause-load : goal.returns-clause-load
 returns-clause-load g c = record { open_count = c.open_count-open.ensures; debt = counted g c }
 
 pub returns-clause-bound : goal.returns-clause-bound
 returns-clause-bound g c =
-    let is = counted g c in
-    let bounded = debt_bounded c.args.self.now.register c.promise.ensures.register c.requires.standing.paid in
-    omega arith
+    search (rules, counted, debt_bounded)

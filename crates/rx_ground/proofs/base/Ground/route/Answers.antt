@@ -2,12 +2,11 @@ use Rattle.rx_ground.proofs.Common.{false, true, sym, ap, ◌∙◌, is_over, Gr
 use Rattle.rx_register.specs.State.{State as Register}
 use Rattle.rx_ground.proofs.WayAsInHistory.{cause_of-no_leaf, cause_of-visits, cause_of-room}
 use Rattle.rx_ground.proofs.base.Ground.route.Goals as goal
+use Rattle.std.proofs.Common.{rules}
 
 pub returns-then-not-is_leaf-clause-first : goal.returns-then-not-is_leaf-clause-first
 returns-then-not-is_leaf-clause-first g c =
-    let standing = rw (← c.self.view_is) at c.requires.standing in
-    let refused = cause_of-no_leaf _ _ _ _ _ standing.tied.of_tree.records c.args.leaf c.args.value c.in-Some.made c.in-Some.ensures in
-    rw (← c.self.view_is) (refused c.if-not-is_leaf.ensures)
+    search (rules, cause_of-no_leaf)
 
 pub returns-in_default-measured-clause-first : goal.returns-in_default-measured-clause-first
 returns-in_default-measured-clause-first g c =

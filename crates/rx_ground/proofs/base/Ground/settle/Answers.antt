@@ -2,12 +2,12 @@ use Rattle.rx_ground.specs.Settling.{Settles}
 use Rattle.rx_ground.proofs.TiedWhileSettling.{settled, way_starts}
 use Rattle.rx_ground.proofs.base.Ground.settle.Given.{Over}
 use Rattle.rx_ground.proofs.base.Ground.settle.Goals as goal
+use Rattle.std.proofs.Common.{rules}
 
 -- where nothing is due nothing is written
 calm : (g : Over) (c : goal.Then-is_calm g) → Settles g.R.Resource c.args.self.now c.args.self.now
 calm g c =
-    let r = c.requires in
-    settled (c.is_calm.ensures c.if-is_calm.true) (way_starts g.R.Resource c.args.self.now r.tied r.leased r.paid r.room)
+    search (rules, settled, way_starts)
 
 pub returns-then-is_calm-clause-standing : goal.returns-then-is_calm-clause-standing
 returns-then-is_calm-clause-standing g c = (calm g c).standing

@@ -9,14 +9,13 @@ use Rattle.rx_ground.proofs.Newest.{past_resources}
 use Rattle.rx_ground.proofs.HubsAfterEvent.{rebased, tied_on_same}
 use Rattle.rx_ground.proofs.LeasesAfterEvent.{leased_kept}
 use Rattle.rx_ground.proofs.base.Ground.write_accept.Goals as goal
+use Rattle.std.proofs.Common.{rules}
 
 pub hold-requires-clause-newest : goal.hold-requires-clause-newest
-hold-requires-clause-newest g c κs within = past_resources c.self.inside.register.base g.R.Resource c.self.inside.register.history c.self.inside.tree
-    (rw (← c.self.view_is) at c.requires.tied.of_tree) c.promise.ensures.lawful c.len-number.result c.len-number.ensures
+hold-requires-clause-newest g c κs within = search (rules, past_resources)
 
 pub returns-clause-written : goal.returns-clause-written
-returns-clause-written g c = rw (← c.self.view_is) (writes_silent refl c.write.ensures.base (rw c.tag-tag.ensures at c.write.ensures.events)
-    c.write.ensures.pending c.write.ensures.room c.write.ensures.limit c.write.ensures.given c.write.ensures.mail_room)
+returns-clause-written g c = search (rules, writes_silent)
 
 pub returns-clause-tied : goal.returns-clause-tied
 returns-clause-tied g c =
@@ -44,15 +43,11 @@ returns-clause-kept g c = rw (← c.self.view_is) (held_new c.self.inside.tree c
     (store_key c.in-Ok.res) c.in-Ok.ensures.nodes c.in-Ok.ensures.kept (c.in-Ok.ensures.numbered ∙ c.len-number.ensures))
 
 pub returns-clause-memory : goal.returns-clause-memory
-returns-clause-memory g c =
-    let room : 0 < c.self.inside.tree.resources.room = rw (← c.self.view_is) at c.requires.room in
-    let more = c.in-Ok.ensures.count in
-    let less = c.in-Ok.ensures.had_room room in
-    let nodes = c.in-Ok.ensures.nodes in
-    written_memory (Accept c.args.node.number (g.R.Resource.tag_of c.args.resource) ∷ []) (returns-clause-written g c)
-    (rw (← c.self.view_is) (ap (λ (s : Slots Node). s.count + s.room) nodes)) (rw (← c.self.view_is) (omega arith))
-    (rw (← c.self.view_is) (ap (λ (s : Slots Node). s.count + (vec_capacity c.self.inside.closed - s.count)) nodes)) (rw (← c.self.view_is) refl)
-    (rw (← c.self.view_is) refl)
+returns-clause-memory g c = let room : 0 < c.self.inside.tree.resources.room = rw (← c.self.view_is) at c.requires.room in let more =
+    c.in-Ok.ensures.count in let less = c.in-Ok.ensures.had_room room in let nodes = c.in-Ok.ensures.nodes in written_memory (Accept _
+    (g.R.Resource.tag_of _) ∷ []) (returns-clause-written g c) (rw (← c.self.view_is) (ap (λ (s : Slots Node). s.count + s.room) nodes)) (rw (←
+    c.self.view_is) (omega arith)) (rw (← c.self.view_is) (ap (λ (s : Slots Node). s.count + (vec_capacity c.self.inside.closed - s.count)) nodes))
+    (rw (← c.self.view_is) refl) (rw (← c.self.view_is) refl)
 
 pub returns-clause-leased : goal.returns-clause-leased
 returns-clause-leased g c =

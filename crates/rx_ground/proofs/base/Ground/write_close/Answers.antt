@@ -1,5 +1,5 @@
 use Rattle.rx_ground.proofs.Common.{◌≡◌, List, ◌∷◌, ◌++◌, [], ◌+◌, ◌-◌, None, length, vec_capacity, refl, sym, ap, subst, ◌∙◌, Event, Close, MayFollow, State}
-use Rattle.rx_ground.proofs.Common.{is_open_outside-close, Writes, is_inside, Hubs, Ground, AreLeased, IsTied, AreTied, KeepsNodes, Cuts, Moves, left_inside}
+use Rattle.rx_ground.proofs.Common.{is_open_outside-close, is_inside, Hubs, Ground, AreLeased, IsTied, AreTied, KeepsNodes, Cuts, Moves, left_inside}
 use Rattle.rx_hub.proofs.Laws.AfterCases.{hubs_closed}
 use Rattle.rx_ground.proofs.MovedHaveGone.{gathers_closed}
 use Rattle.rx_ground.proofs.Memory.{written_memory}
@@ -9,42 +9,33 @@ use Rattle.rx_ground.proofs.HubsAfterEvent.{LeavesHubs, rebased, tied_closed}
 use Rattle.rx_ground.proofs.LeasesAfterEvent.{leased_quiet}
 use Rattle.rx_ground.proofs.base.Ground.write_close.Given.{Over}
 use Rattle.rx_ground.proofs.base.Ground.write_close.Goals as goal
+use Rattle.std.proofs.Common.{rules}
 
 -- the register is the one before, until the event is written
 registered : (g : Over) (c : goal.After-write g) → c.self-2.inside.register ≡ c.self.inside.register
-registered g c = ap (λ (b : Ground g.row.R.Denot). b.register) c.self-2.view_is ∙ c.cut.ensures.register ∙
-    sym (ap (λ (b : Ground g.row.R.Denot). b.register) c.self.view_is)
+registered g c = search rules
 
 grown : (g : Over) (c : goal.After-write g) → c.write.new.self.history ≡ c.self.inside.register.history ++ Close c.args.node.number ∷ []
-grown g c = c.write.ensures.events ∙ ap (λ (s : State). s.history ++ Close c.args.node.number ∷ []) (registered g c)
+grown g c = search (rules, registered)
 
 -- what is left of the tree and of the hubs
 cut_tree : (g : Over) (c : goal.After-write g) → Cuts c.self.inside.tree c.self-2.inside.tree c.args.node.number
 cut_tree g c =
-    let cuts : Cuts c.self.inside.tree c.cut.new.self.tree c.args.node.number = rw (← c.self.view_is) at c.cut.ensures.cut in
-    rw (← c.self-2.view_is) at cuts
+    search rules
 
 left_hubs : (g : Over) (c : goal.After-write g) → c.self-2.inside.hubs ≡ left_inside c.self.inside.register.history c.args.node.number None c.self.inside.hubs
 left_hubs g c =
-    let left : c.cut.new.self.hubs ≡ left_inside c.self.inside.register.history c.args.node.number None c.self.inside.hubs =
-    rw (← c.self.view_is) at c.cut.ensures.hubs in
-    ap (λ (b : Ground g.row.R.Denot). b.hubs) c.self-2.view_is ∙ left
+    search rules
 
 -- the nodes that stay open keep their keys
 nodes_kept : (g : Over) (c : goal.After-write g) →
     KeepsNodes (c.self.inside.register.history ++ Close c.args.node.number ∷ []) c.self.inside.tree.nodes c.self-2.inside.tree.nodes
 nodes_kept g c =
-    let h = c.self.inside.register.history in
-    let tied : IsTied c.self.inside.register.base g.R.Resource h c.self.inside.tree = rw (← c.self.view_is) at c.requires.tied.of_tree in
-    cut_keeps c.self.inside.register.base h (Close c.args.node.number) c.self.inside.tree c.self-2.inside.tree tied.records c.promise-2.ensures.sound
-    c.args.node.number
-    (is_open_outside-close h c.args.node.number) (cut_tree g c)
+    search (rules, cut_keeps, is_open_outside-close, cut_tree)
 
 pub returns-clause-written : goal.returns-clause-written
 returns-clause-written g c =
-    rw (← c.self.view_is) (subst (λ (s : State). Writes s (Close c.args.node.number ∷ []) c.write.new.self) (registered g c)
-    (writes_silent refl c.write.ensures.base c.write.ensures.events c.write.ensures.pending
-    c.write.ensures.room c.write.ensures.limit c.write.ensures.given c.write.ensures.mail_room))
+    search (rules, registered, writes_silent)
 
 pub returns-clause-tied : goal.returns-clause-tied
 returns-clause-tied g c =
@@ -107,13 +98,10 @@ returns-clause-leased g c =
 
 pub returns-clause-leases : goal.returns-clause-leases
 returns-clause-leases g c =
-    rw (← c.self.view_is) (ap (λ (b : Ground g.row.R.Denot). b.leases) c.self-2.view_is ∙ (rw (← c.self.view_is) at c.cut.ensures.leases))
+    search rules
 
 pub returns-clause-closed : goal.returns-clause-closed
-returns-clause-closed g c =
-    let h = c.self.inside.register.history in
-    let tied : IsTied c.self.inside.register.base g.R.Resource h c.self.inside.tree = rw (← c.self.view_is) at c.requires.tied.of_tree in
-    let next : MayFollow c.self.inside.register.base h (Close c.args.node.number) = rw (← c.self.view_is) at c.requires.ready.next in
-    let told : Moves c.self.inside.tree.nodes c.args.node.number _ c.cut.new.self.closed = rw (← c.self.view_is) at c.cut.ensures.closed in
-    rw (← c.self.view_is) (gathers_closed c.promise.ensures.lawful next tied c.promise-2.ensures.sound (cut_tree g c)
-    (is_open_outside-close h c.args.node.number) (rw (← c.self-2.view_is) at told) (grown g c))
+returns-clause-closed g c = let h = c.self.inside.register.history in let tied : IsTied _ g.R.Resource h c.self.inside.tree = rw (← c.self.view_is) at
+    c.requires.tied.of_tree in let next : MayFollow _ h (Close _) = rw (← c.self.view_is) at c.requires.ready.next in let told : Moves _ _ _
+    c.cut.new.self.closed = rw (← c.self.view_is) at c.cut.ensures.closed in rw (← c.self.view_is) (gathers_closed c.promise.ensures.lawful next tied
+    c.promise-2.ensures.sound (cut_tree g c) (is_open_outside-close h _) (rw (← c.self-2.view_is) at told) (grown g c))

@@ -9,13 +9,11 @@ use Rattle.rx_ground.proofs.HubsAfterEvent.{rebased, tied_on_marked}
 use Rattle.rx_ground.proofs.LeasesAfterEvent.{leased_quiet}
 use Rattle.rx_ground.proofs.base.Ground.write_decline.Given.{Over}
 use Rattle.rx_ground.proofs.base.Ground.write_decline.Goals as goal
+use Rattle.std.proofs.Common.{rules}
 
 pub mark_decline-requires-clause-owes : goal.mark_decline-requires-clause-owes
 mark_decline-requires-clause-owes g c κs within =
-    let h = c.self.inside.register.history in
-    let tied : IsTied c.self.inside.register.base g.R.Resource h c.self.inside.tree = rw (← c.self.view_is) at c.requires.tied.of_tree in
-    let next : MayFollow c.self.inside.register.base h (Decline c.args.merging.number) = rw (← c.self.view_is) at c.requires.ready.next in
-    owes_told c.args.merging tied.records (may_decline _ next).2
+    search (rules, owes_told, may_decline)
 
 marked : (g : Over) (c : goal.After-write g) → Remarks c.self.inside.tree c.mark_decline.new.self c.args.merging after_decline
 marked g c =
@@ -43,13 +41,10 @@ returns-clause-tied g c =
     c.promise-2.ensures.sound c.args.merging there next (marked g c))))
 
 pub returns-clause-kept : goal.returns-clause-kept
-returns-clause-kept g c =
-    rw (← c.self.view_is) (remarked_keeps c.write.new.self.history c.self.inside.tree c.mark_decline.new.self c.args.merging after_decline (marked g c))
+returns-clause-kept g c = rw (← c.self.view_is) (remarked_keeps _ _ _ _ after_decline (marked g c))
 
 pub returns-clause-written : goal.returns-clause-written
-returns-clause-written g c = rw (← c.self.view_is) (writes_silent refl
-    c.write.ensures.base c.write.ensures.events c.write.ensures.pending c.write.ensures.room c.write.ensures.limit
-    c.write.ensures.given c.write.ensures.mail_room)
+returns-clause-written g c = search (rules, writes_silent)
 
 pub returns-clause-memory : goal.returns-clause-memory
 returns-clause-memory g c =

@@ -1,15 +1,16 @@
-use Rattle.rx_ground.proofs.Common.{◌≡◌, ◌∷◌, [], refl, sym, ap, subst, ◌∙◌, arith, Option, Some, option_map, false, ◌+◌, ◌-◌, vec_capacity, length, Event}
-use Rattle.rx_ground.proofs.Common.{option_map_or, End, is_root, find, Slots, State, Writes, Stowed, is_inside, end_by, Hubs, hubs_ended, is_open_outside-end}
+use Rattle.rx_ground.proofs.Common.{◌≡◌, ◌∷◌, [], refl, sym, ap, ◌∙◌, arith, Option, Some, option_map, false, ◌+◌, ◌-◌, vec_capacity, length, Event}
+use Rattle.rx_ground.proofs.Common.{option_map_or, End, is_root, find, Slots, Writes, Stowed, is_inside, end_by, Hubs, hubs_ended, is_open_outside-end}
 use Rattle.rx_ground.proofs.Common.{Ground, AreLeased, IsTied, AreTied, record_of, left_inside}
 use Rattle.rx_ground.proofs.MovedHaveGone.{gathers_closed}
 use Rattle.rx_ground.proofs.Memory.{written_memory, same_places}
-use Rattle.rx_ground.proofs.RegisterAfterWrite.{TellsOf, writes_told}
+use Rattle.rx_ground.proofs.RegisterAfterWrite.{writes_told}
 use Rattle.rx_ground.proofs.NodeEnds.{IsReadyToEnd, IsEnded, record_read, above_counted, ended_tied}
 use Rattle.rx_ground.proofs.HubsAfterEvent.{LeavesHubs, rebased, tied_closed}
 use Rattle.rx_ground.proofs.LeasesAfterEvent.{leased_quiet}
 use Rattle.rx_ground.proofs.base.Ground.write_end.Given.{Over}
 use Rattle.rx_ground.proofs.base.Ground.write_end.Goals as goal
 use Rattle.rx_ground.proofs.base.Ground.write_end.Goals.{After-write}
+use Rattle.std.proofs.Common.{rules}
 
 pub tell_end-requires-clause-root : goal.tell_end-requires-clause-root
 tell_end-requires-clause-root g c =
@@ -49,10 +50,7 @@ registered g c = ap (λ (b : Ground g.row.R.Denot). b.register) c.self-2.view_is
 
 written : (g : Over) (c : goal.After-mark_end g) → Writes c.self.inside.register (End c.args.node.number c.args.terminal ∷ []) c.write.new.self
 written g c =
-    let w = c.write.ensures in
-    let tells : TellsOf (End c.args.node.number c.args.terminal) c.self.inside.register c.tell_end.new.register =
-    record { same = c.tell_end.ensures.kept; notes = c.tell_end.ensures.mail_room } in
-    writes_told (subst (TellsOf _ c.self.inside.register) (sym (registered g c)) tells) w.base w.events w.pending w.room w.limit w.given w.mail_room
+    search (rules, writes_told, registered)
 
 -- all that an end leaves
 ended : (g : Over) (c : goal.After-mark_end g) → IsEnded c.self.inside.register.base g.R.Resource c.write.new.self.history
@@ -67,11 +65,7 @@ invariant_of-self-2 g c = let count = (ended g c).count in ((let room = c.self-2
 left_hubs : (g : Over) (c : goal.After-mark_end g) → c.self-2.inside.hubs ≡ left_inside c.self.inside.register.history c.args.node.number
     (end_by (length c.self.inside.register.history) (End c.args.node.number c.args.terminal)) c.self.inside.hubs
 left_hubs g c =
-    let n = c.args.node.number in
-    let told = ap (λ (s : State). s.history) c.tell_end.ensures.kept in
-    ap (λ (b : Ground g.row.R.Denot). b.hubs) c.self-2.view_is ∙ c.cut.ensures.hubs ∙
-    (λ i. left_inside (told i) n (Some (record { place = c.len-place.ensures i; terminal = c.args.terminal })) c.self.inside.hubs) ∙
-    (λ i. left_inside c.self.inside.register.history n (Some (record { place = length (told i); terminal = c.args.terminal })) c.self.inside.hubs)
+    search (rules, length)
 
 pub returns-clause-tied : goal.returns-clause-tied
 returns-clause-tied g c =
@@ -116,9 +110,7 @@ returns-clause-memory g c =
 
 pub cut-requires-clause-tied : goal.cut-requires-clause-tied
 cut-requires-clause-tied g c κs within =
-    let was : AreTied c.self.inside.register.base g.R.Resource c.self.inside.register.history c.self.inside.tree c.self.inside.hubs =
-    rw (← c.self.view_is) at c.requires.tied in
-    subst (λ (s : State). AreTied s.base g.R.Resource s.history c.self.inside.tree c.self.inside.hubs) (sym c.tell_end.ensures.kept) was
+    search (rules, AreTied)
 
 same_leases : (g : Over) (c : goal.After-mark_end g) → c.self-2.inside.leases ≡ c.self.inside.leases
 same_leases g c = ap (λ (b : Ground g.row.R.Denot). b.leases) c.self-2.view_is ∙ c.cut.ensures.leases

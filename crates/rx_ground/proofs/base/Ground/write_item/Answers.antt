@@ -1,5 +1,5 @@
-use Rattle.rx_ground.proofs.Common.{◌+◌, ◌-◌, ◌∷◌, ◌++◌, [], sym, ap, subst, ◌∙◌, w64, refl, vec_capacity, to_z-of_z, Item, MayFollow, Slots, Node, Stowed}
-use Rattle.rx_ground.proofs.Common.{MakesOnly, Ground, AreLeased, AreTied}
+use Rattle.rx_ground.proofs.Common.{◌+◌, ◌-◌, ◌∷◌, ◌++◌, [], ap, ◌∙◌, w64, refl, vec_capacity, to_z-of_z, Item, MayFollow, Slots, Node, Stowed}
+use Rattle.rx_ground.proofs.Common.{AreLeased, AreTied}
 use Rattle.rx_ground.proofs.HubsAfterEvent.{rebased}
 use Rattle.rx_register.specs.State.{State as Register}
 use Rattle.rx_ground.proofs.ItemWentItsWay.{arrived_writes, arrived_tied}
@@ -8,22 +8,19 @@ use Rattle.rx_ground.proofs.OwedCountBounded.{owed_in-bounded}
 use Rattle.rx_ground.proofs.WayAsInHistory.{walk_tied}
 use Rattle.rx_ground.proofs.LeasesAfterEvent.{leased_quiet}
 use Rattle.rx_ground.proofs.base.Ground.write_item.Goals as goal
+use Rattle.std.proofs.Common.{rules}
 
 pub pass-requires-clause-walk : goal.pass-requires-clause-walk
-pass-requires-clause-walk g c κs within =
-    let tied : AreTied c.self.inside.register.base g.R.Resource c.self.inside.register.history c.self.inside.tree c.self.inside.hubs =
-    rw (← c.self.view_is) at c.requires.tied in
-    walk_tied c.self.inside.register.base tied c.promise-2.ensures.sound
+pass-requires-clause-walk g c κs within = let tied : AreTied _ g.R.Resource _ _ c.self.inside.hubs = rw (← c.self.view_is) at c.requires.tied in
+    walk_tied _ tied c.promise-2.ensures.sound
 
 pub pass-requires-clause-countable : goal.pass-requires-clause-countable
-pass-requires-clause-countable g c κs within =
-    let tied : AreTied c.self.inside.register.base g.R.Resource c.self.inside.register.history c.self.inside.tree c.self.inside.hubs =
-    rw (← c.self.view_is) at c.requires.tied in
-    owed_in-bounded g.R.Resource c.self.inside.register c.self.inside.tree tied.of_tree c.promise.ensures c.promise-2.ensures.sound.apart
+pass-requires-clause-countable g c κs within = let tied : AreTied _ g.R.Resource _ _ c.self.inside.hubs = rw (← c.self.view_is) at c.requires.tied in
+    owed_in-bounded g.R.Resource _ _ tied.of_tree c.promise.ensures c.promise-2.ensures.sound.apart
 
 pub pass-requires-clause-only : goal.pass-requires-clause-only
 pass-requires-clause-only g c κs within =
-    subst (λ (b : Ground g.row.R.Denot). MakesOnly b.tree.nodes b.hubs.hubs c.args.leaf c.args.way.only) (sym c.self.view_is) c.requires.only
+    search rules
 
 pub returns-clause-written : goal.returns-clause-written
 returns-clause-written g c =

@@ -9,11 +9,11 @@ use Rattle.rx_ground.proofs.Newest.{owned_found, if_found}
 use Rattle.rx_ground.proofs.LeasesAfterEvent.{past_leases, few_leases, leased_more, leased_same, leases_more}
 use Rattle.rx_ground.proofs.HubsAfterEvent.{rebased, tied_on_same}
 use Rattle.rx_ground.proofs.base.Ground.write_lease.Goals as goal
+use Rattle.std.proofs.Common.{rules}
 
 pub lease-lease-requires-clause-newest : goal.lease-lease-requires-clause-newest
 lease-lease-requires-clause-newest g c =
-    let was : AreLeased c.self.inside.register.history c.self.inside.tree.resources c.self.inside.leases = rw (← c.self.view_is) at c.requires.leased in
-    past_leases c.self.inside.register.history c.self.inside.tree.resources c.self.inside.leases was c.len-number.result c.len-number.ensures
+    search (rules, AreLeased, past_leases)
 
 pub lend-requires-clause-countable : goal.lend-requires-clause-countable
 lend-requires-clause-countable g c κs within =
@@ -30,29 +30,18 @@ lend-requires-clause-countable g c κs within =
     if_found (stowed_of old c.args.res) f.stowed (λ stowed. stowed.leases + 1 < 18446744073709551616) f.found (omega arith)
 
 pub returns-clause-written : goal.returns-clause-written
-returns-clause-written g c = rw (← c.self.view_is) (writes_silent refl c.write.ensures.base
-    c.write.ensures.events c.write.ensures.pending c.write.ensures.room c.write.ensures.limit c.write.ensures.given c.write.ensures.mail_room)
+returns-clause-written g c = search (rules, writes_silent)
 
 pub returns-clause-tied : goal.returns-clause-tied
-returns-clause-tied g c =
-    let base = c.self.inside.register.base in
-    let h = c.self.inside.register.history in
-    let old = c.self.inside.tree in
-    let new = c.lend.new.self in
-    let e : Event = Lease c.args.res.number in
-    let law = c.promise.ensures.lawful in
-    let tied : IsTied base g.R.Resource h old = rw (← c.self.view_is) at c.requires.tied.of_tree in
-    let next : MayFollow base h e = rw (← c.self.view_is) at c.requires.ready.next in
-    let owned : is_owned_at old c.args.res ≡ true = rw (← c.self.view_is) at c.requires.owned in
-    let f = owned_found old c.args.res owned in
-    let was : AreTied base g.R.Resource h old c.self.inside.hubs = rw (← c.self.view_is) at c.requires.tied in
-    let nodes = c.lend.ensures.nodes in
-    let stored =
-    stored_leased base g.R.Resource h law old new tied.stored c.promise-2.ensures.resources_apart nodes (store_key c.args.res) f.stowed f.found
-    c.lend.ensures.resources in
-    let still = tied_still base g.R.Resource h e law next old tied new refl refl (λ n. refl) nodes c.lend.ensures.chain stored in
-    rebased g.R.Resource c.write.ensures.base (tied_on_same g.R.Resource law next was c.write.ensures.events refl refl nodes
-    (subst (λ (k : List Event). IsTied base g.R.Resource k new) (sym c.write.ensures.events) still))
+returns-clause-tied g c = let base = c.self.inside.register.base in let h = c.self.inside.register.history in let old = c.self.inside.tree in let new
+    = c.lend.new.self in let e : Event = Lease _ in let law = c.promise.ensures.lawful in let tied : IsTied base g.R.Resource h old = rw (←
+    c.self.view_is) at c.requires.tied.of_tree in let next : MayFollow base h e = rw (← c.self.view_is) at c.requires.ready.next in let owned :
+    is_owned_at old c.args.res ≡ true = rw (← c.self.view_is) at c.requires.owned in let f = owned_found old _ owned in let was : AreTied base
+    g.R.Resource h old c.self.inside.hubs = rw (← c.self.view_is) at c.requires.tied in let nodes = c.lend.ensures.nodes in let stored = stored_leased
+    base g.R.Resource h law old new tied.stored c.promise-2.ensures.resources_apart nodes (store_key _) f.stowed f.found c.lend.ensures.resources in
+    let still = tied_still base g.R.Resource h e law next old tied new refl refl (λ n. refl) nodes c.lend.ensures.chain stored in rebased g.R.Resource
+    c.write.ensures.base (tied_on_same g.R.Resource law next was c.write.ensures.events refl refl nodes (subst (λ (k : List Event). IsTied base
+    g.R.Resource k new) (sym c.write.ensures.events) still))
 
 pub returns-clause-leased : goal.returns-clause-leased
 returns-clause-leased g c =
@@ -79,10 +68,7 @@ returns-clause-out g c = ap is_some c.lease-lease.ensures.out
 
 pub returns-clause-kept : goal.returns-clause-kept
 returns-clause-kept g c =
-    let old = c.self.inside.tree in
-    let owned : is_owned_at old c.args.res ≡ true = rw (← c.self.view_is) at c.requires.owned in
-    rw (← c.self.view_is)
-    (held_owned old c.lend.new.self (length c.self.inside.register.history) c.args.res c.lend.ensures.nodes c.lend.ensures.resources.others owned)
+    search (rules, is_owned_at, held_owned, length)
 
 pub returns-clause-memory : goal.returns-clause-memory
 returns-clause-memory g c =
@@ -94,5 +80,4 @@ returns-clause-memory g c =
     (rw (← c.self.view_is) refl) (rw (← c.self.view_is) refl)
 
 pub returns-clause-leases : goal.returns-clause-leases
-returns-clause-leases g c = rw (← c.self.view_is) (leases_more c.self.inside.leases c.lease-lease.new.self (length c.self.inside.register.history)
-    (lease_key c.lease-lease.result) c.lease-lease.ensures.kept (c.lease-lease.ensures.numbered ∙ c.len-number.ensures))
+returns-clause-leases g c = search (rules, leases_more, length)

@@ -1,4 +1,4 @@
-use Rattle.rx_ground.proofs.Common.{is_some, ◌≡◌, refl, subst, ◌∙◌, arith, ◌∷◌, [], ◌+◌, ◌<◌, ap, vec_capacity, Open, Slots, State, Writes, Node, Hubs}
+use Rattle.rx_ground.proofs.Common.{is_some, ◌≡◌, refl, ◌∙◌, arith, ◌∷◌, [], ◌+◌, ap, vec_capacity, Open, Slots, Writes, Node, Hubs}
 use Rattle.rx_ground.proofs.Common.{AreLeased}
 use Rattle.rx_ground.proofs.RegisterAfterWrite.{writes_silent}
 use Rattle.rx_ground.proofs.ReadyToOpen.{IsOpenedBelow, stands_below, opened_new, owes_above, above_there_still, quiet_above, newest_left, placed_left}
@@ -11,6 +11,7 @@ use Rattle.rx_ground.proofs.LeasesAfterEvent.{leased_quiet}
 use Rattle.rx_ground.proofs.base.Ground.write_open.Given.{Over}
 use Rattle.rx_ground.proofs.base.Ground.write_open.Goals as goal
 use Rattle.rx_ground.proofs.base.Ground.write_open.Goals.{After-open, After-join}
+use Rattle.std.proofs.Common.{rules}
 
 -- way is made in what the call finds
 way : (g : Over) (c : goal.After-open-arg-1 g) → (let b = c.self.inside in let l = c.self-2.inside in
@@ -30,15 +31,11 @@ open-requires-clause-placed g c κs within = placed_left (way g c).ready c.len-n
 -- the node, which takes one place of what is free, stands below the one that its place names
 below : (g : Over) (c : After-join g) → IsOpenedBelow c.self.inside.register.history c.args.place c.args.kind c.args.above
     c.self.inside.tree c.self-2.inside.tree c.open.new.self c.in-Ok.key
-below g c = let o = c.in-Ok.ensures in
-    stands_below c.requires.placed.named (rw (← c.self.view_is) at c.requires.placed.there) (o.numbered ∙ c.len-number.ensures) o.was_free o.opened
-    o.kept o.resources o.chain
+below g c = search (rules, stands_below)
 
 place_taken : (g : Over) (c : After-open g) → c.open.new.self.nodes.room + 1 ≡ c.self-2.inside.tree.nodes.room
 place_taken g c =
-    let room : 0 < c.self.inside.tree.nodes.room = rw (← c.self.view_is) at c.requires.room in
-    let more = (way g c.before).stays.room in
-    c.open.ensures.had_room (omega arith)
+    search rules
 
 pub join-requires-clause-there : goal.join-requires-clause-there
 join-requires-clause-there g c = λ n same. ap is_some (ready_left (way g (goal.at.join-requires-clause-there g c).After-open.before).ready n same).1
@@ -83,9 +80,7 @@ abbrev at_opening : (g : Over) (c : goal.After-write g) → goal.After-open-arg-
 at_opening g c = (goal.at.returns-clause-tied g c).After-open.before
 
 written : (g : Over) (c : goal.After-write g) → Writes c.self.inside.register (Open c.args.place c.args.kind ∷ []) c.write.new.self
-written g c = let w = c.write.ensures in
-    subst (λ (s : State). Writes s (Open c.args.place c.args.kind ∷ []) c.write.new.self) (way g (at_opening g c)).stays.register
-    (writes_silent refl w.base w.events w.pending w.room w.limit w.given w.mail_room)
+written g c = search (rules, writes_silent)
 
 pub returns-clause-written : goal.returns-clause-written
 returns-clause-written g c = rw (← c.self.view_is) (written g c)
@@ -104,7 +99,7 @@ returns-clause-new g c = let m = c.mark_opened.ensures in rw (← c.self.view_is
 
 -- the resources are those before
 same_resources : (g : Over) (c : goal.After-write g) → c.mark_opened.new.tree.resources ≡ c.self.inside.tree.resources
-same_resources g c = c.mark_opened.ensures.resources ∙ c.in-Ok.ensures.resources ∙ way_resources (way g (at_opening g c)).ready
+same_resources g c = search (rules, way_resources)
 
 pub returns-clause-resources : goal.returns-clause-resources
 returns-clause-resources g c = rw (← c.self.view_is) (same_resources g c)
@@ -125,12 +120,7 @@ returns-clause-memory g c = let m = c.mark_opened.ensures in
 
 pub returns-clause-left : goal.returns-clause-left
 returns-clause-left g c =
-    let more = (way g (at_opening g c)).stays.room in
-    let less = place_taken g (goal.at.returns-clause-left g c).After-open in
-    let kept = ap (λ (s : Slots Node). s.room) c.mark_opened.ensures.rest in
-    let listed = (way g (at_opening g c)).stays.lists.counted in let count = c.in-Ok.ensures.count in
-    let same = ap (λ (s : Slots Node). s.count) c.mark_opened.ensures.rest in
-    rw (← c.self.view_is) (record { room = omega arith; listed = omega arith })
+    search (rules, place_taken)
 
 pub returns-clause-leased : goal.returns-clause-leased
 returns-clause-leased g c =

@@ -9,11 +9,10 @@ use Rattle.rx_ground.proofs.Newest.{owned_found}
 use Rattle.rx_ground.proofs.HubsAfterEvent.{rebased, tied_on_same}
 use Rattle.rx_ground.proofs.LeasesAfterEvent.{leased_found}
 use Rattle.rx_ground.proofs.base.Ground.write_remove.Goals as goal
+use Rattle.std.proofs.Common.{rules}
 
 pub returns-clause-written : goal.returns-clause-written
-returns-clause-written g c = rw (← c.self.view_is) (writes_silent refl
-    c.write.ensures.base c.write.ensures.events c.write.ensures.pending c.write.ensures.room c.write.ensures.limit
-    c.write.ensures.given c.write.ensures.mail_room)
+returns-clause-written g c = search (rules, writes_silent)
 
 pub returns-clause-tied : goal.returns-clause-tied
 returns-clause-tied g c =
@@ -48,8 +47,6 @@ returns-clause-memory g c =
     (rw (← c.self.view_is) refl)
 
 pub returns-clause-leased : goal.returns-clause-leased
-returns-clause-leased g c =
-    let h = c.self.inside.register.history in
-    let was : AreLeased h c.self.inside.tree.resources c.self.inside.leases = rw (← c.self.view_is) at c.requires.leased in
-    leased_found c.self.inside.register.base h _ (Remove c.args.res.number) c.self.inside.tree.resources _ c.self.inside.leases _
-    c.promise.ensures.lawful was refl refl (c.write.ensures.events) (refl) (still_there (store_key c.args.res) c.unhold.ensures.resources)
+returns-clause-leased g c = let h = c.self.inside.register.history in let was : AreLeased h _ c.self.inside.leases = rw (← c.self.view_is) at
+    c.requires.leased in leased_found _ h _ (Remove _) _ _ _ _ c.promise.ensures.lawful was refl refl (c.write.ensures.events) (refl) (still_there
+    (store_key _) c.unhold.ensures.resources)

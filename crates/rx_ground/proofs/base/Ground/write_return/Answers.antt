@@ -8,40 +8,27 @@ use Rattle.rx_ground.proofs.HeldKept.{held_rewritten, less_held}
 use Rattle.rx_ground.proofs.LeasesAfterEvent.{lent_there, leased_less, leased_same, leases_less}
 use Rattle.rx_ground.proofs.HubsAfterEvent.{rebased, tied_on_same}
 use Rattle.rx_ground.proofs.base.Ground.write_return.Goals as goal
+use Rattle.std.proofs.Common.{rules}
 
 pub unlend-requires-clause-lent : goal.unlend-requires-clause-lent
-unlend-requires-clause-lent g c κs within =
-    let tied : IsTied c.self.inside.register.base g.R.Resource c.self.inside.register.history c.self.inside.tree =
-    rw (← c.self.view_is) at c.requires.tied.of_tree in
-    let was : AreLeased c.self.inside.register.history c.self.inside.tree.resources c.self.inside.leases = rw (← c.self.view_is) at c.requires.leased in
-    lent_there c.self.inside.register.base g.R.Resource c.self.inside.register.history c.self.inside.tree tied c.args.lease.number c.in-Some.res
-    (was.each (lease_key c.args.lease) c.in-Some.res (sym c.give_back.ensures.value ∙ c.in-Some.is))
+unlend-requires-clause-lent g c κs within = let tied : IsTied _ g.R.Resource _ c.self.inside.tree = rw (← c.self.view_is) at c.requires.tied.of_tree
+    in let was : AreLeased _ _ c.self.inside.leases = rw (← c.self.view_is) at c.requires.leased in lent_there _ g.R.Resource _ _ tied _ _ (was.each
+    (lease_key _) _ (sym c.give_back.ensures.value ∙ c.in-Some.is))
 
 pub returns-clause-written : goal.returns-clause-written
-returns-clause-written g c = rw (← c.self.view_is) (writes_silent refl c.write.ensures.base
-    c.write.ensures.events c.write.ensures.pending c.write.ensures.room c.write.ensures.limit c.write.ensures.given c.write.ensures.mail_room)
+returns-clause-written g c = search (rules, writes_silent)
 
 pub returns-clause-tied : goal.returns-clause-tied
-returns-clause-tied g c =
-    let base = c.self.inside.register.base in
-    let h = c.self.inside.register.history in
-    let old = c.self.inside.tree in
-    let new = c.unlend.new.self in
-    let e : Event = Return c.args.lease.number in
-    let law = c.promise.ensures.lawful in
-    let tied : IsTied base g.R.Resource h old = rw (← c.self.view_is) at c.requires.tied.of_tree in
-    let next : MayFollow base h e = rw (← c.self.view_is) at c.requires.ready.next in
-    let was : AreTied base g.R.Resource h old c.self.inside.hubs = rw (← c.self.view_is) at c.requires.tied in
-    let leased : AreLeased h old.resources c.self.inside.leases = rw (← c.self.view_is) at c.requires.leased in
-    let of = leased.each (lease_key c.args.lease) c.in-Some.res (sym c.give_back.ensures.value ∙ c.in-Some.is) in
-    let x = some_of (find old.resources (store_key c.in-Some.res)) of.stored in
-    let nodes = c.unlend.ensures.nodes in
-    let stored =
-    stored_returned base g.R.Resource h law old new tied.stored c.promise-2.ensures.resources_apart nodes c.args.lease.number (store_key c.in-Some.res)
-    x.0 next of.made x.1 c.unlend.ensures.resources in
-    let still = tied_still base g.R.Resource h e law next old tied new refl refl (λ n. refl) nodes c.unlend.ensures.chain stored in
-    rebased g.R.Resource c.write.ensures.base (tied_on_same g.R.Resource law next was c.write.ensures.events refl refl nodes
-    (subst (λ (k : List Event). IsTied base g.R.Resource k new) (sym c.write.ensures.events) still))
+returns-clause-tied g c = let base = c.self.inside.register.base in let h = c.self.inside.register.history in let old = c.self.inside.tree in let new
+    = c.unlend.new.self in let e : Event = Return _ in let law = c.promise.ensures.lawful in let tied : IsTied base g.R.Resource h old = rw (←
+    c.self.view_is) at c.requires.tied.of_tree in let next : MayFollow base h e = rw (← c.self.view_is) at c.requires.ready.next in let was : AreTied
+    base g.R.Resource h old c.self.inside.hubs = rw (← c.self.view_is) at c.requires.tied in let leased : AreLeased h old.resources
+    c.self.inside.leases = rw (← c.self.view_is) at c.requires.leased in let of = leased.each (lease_key _) _ (sym c.give_back.ensures.value ∙
+    c.in-Some.is) in let x = some_of (find old.resources (store_key _)) of.stored in let nodes = c.unlend.ensures.nodes in let stored =
+    stored_returned base g.R.Resource h law old new tied.stored c.promise-2.ensures.resources_apart nodes _ (store_key _) x.0 next of.made x.1
+    c.unlend.ensures.resources in let still = tied_still base g.R.Resource h e law next old tied new refl refl (λ n. refl) nodes
+    c.unlend.ensures.chain stored in rebased g.R.Resource c.write.ensures.base (tied_on_same g.R.Resource law next was c.write.ensures.events refl
+    refl nodes (subst (λ (k : List Event). IsTied base g.R.Resource k new) (sym c.write.ensures.events) still))
 
 pub returns-clause-leased : goal.returns-clause-leased
 returns-clause-leased g c =
@@ -74,5 +61,4 @@ returns-clause-memory g c =
     (rw (← c.self.view_is) refl) (rw (← c.self.view_is) refl)
 
 pub returns-clause-leases : goal.returns-clause-leases
-returns-clause-leases g c = rw (← c.self.view_is) (leases_less c.self.inside.leases c.give_back.new.self (length c.self.inside.register.history)
-    (lease_key c.args.lease) c.give_back.ensures.gone c.give_back.ensures.kept)
+returns-clause-leases g c = search (rules, leases_less, length)

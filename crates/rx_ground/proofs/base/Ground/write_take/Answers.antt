@@ -11,24 +11,18 @@ use Rattle.rx_ground.proofs.HubsAfterEvent.{rebased, tied_on_same}
 use Rattle.rx_ground.proofs.LeasesAfterEvent.{leased_taken}
 use Rattle.rx_ground.proofs.base.Ground.write_take.Given.{Over}
 use Rattle.rx_ground.proofs.base.Ground.write_take.Goals as goal
+use Rattle.std.proofs.Common.{rules}
 
 pub returns-in_err-number-clause-waited : goal.returns-in_err-number-clause-waited
-returns-in_err-number-clause-waited g c = rw (c.from_residual.ensures, ← c.self.view_is) (none_waits c.self.inside.tree c.in_err-number.ensures.none)
+returns-in_err-number-clause-waited g c = search (rules, none_waits)
 
 pub write-requires-clause-next : goal.write-requires-clause-next
 write-requires-clause-next g c =
-    let tied : IsTied c.self.inside.register.base g.R.Resource c.self.inside.register.history c.self.inside.tree =
-    rw (← c.self.view_is) at c.requires.tied.of_tree in
-    let settled : IsSettled c.self.inside.register.base c.self.inside.register.history = rw (← c.self.view_is) at c.requires.settled in
-    allowed settled (taken (takes_waiting g.R.Resource c.self.inside.register.history c.self.inside.tree c.take_waiting.new.self c.in_ok-number.number
-    c.in_ok-number.resource c.self.inside.register.base tied c.in_ok-number.ensures.some))
+    search (rules, allowed, takes_waiting)
 
 ready : (g : Over) (c : goal.After-write-arg-1 g) → IsReady c.self.inside.register (Take c.in_ok-number.number)
-ready g c =
-    let tied : IsTied c.self.inside.register.base g.R.Resource c.self.inside.register.history c.self.inside.tree =
-    rw (← c.self.view_is) at c.requires.tied.of_tree in
-    (rw (← c.self.view_is) at c.requires.room) c.in_ok-number.number (takes_waiting g.R.Resource c.self.inside.register.history c.self.inside.tree
-    c.take_waiting.new.self c.in_ok-number.number c.in_ok-number.resource c.self.inside.register.base tied c.in_ok-number.ensures.some)
+ready g c = let tied : IsTied _ g.R.Resource _ c.self.inside.tree = rw (← c.self.view_is) at c.requires.tied.of_tree in (rw (← c.self.view_is) at
+    c.requires.room) _ (takes_waiting g.R.Resource _ _ _ _ _ _ tied c.in_ok-number.ensures.some)
 
 pub write-requires-clause-room : goal.write-requires-clause-room
 write-requires-clause-room g c = (ready g c).room
@@ -38,15 +32,10 @@ write-requires-clause-told g c = (ready g c).pending
 
 pub new-requires-clause-live : goal.new-requires-clause-live
 new-requires-clause-live g c κs within =
-    let tied : IsTied c.self.inside.register.base g.R.Resource c.self.inside.register.history c.self.inside.tree =
-    rw (← c.self.view_is) at c.requires.tied.of_tree in
-    takes_live g.R.Resource c.self.inside.register.history c.self.inside.tree c.take_waiting.new.self c.in_ok-number.number c.in_ok-number.resource
-    c.self.inside.register.base tied c.in_ok-number.ensures.some
+    search (rules, takes_live)
 
 pub returns-clause-written : goal.returns-clause-written
-returns-clause-written g c = rw (c.new.ensures, ← c.self.view_is) (writes_silent
-    refl c.write.ensures.base c.write.ensures.events c.write.ensures.pending c.write.ensures.room c.write.ensures.limit
-    c.write.ensures.given c.write.ensures.mail_room)
+returns-clause-written g c = search (rules, writes_silent)
 
 pub returns-clause-tied : goal.returns-clause-tied
 returns-clause-tied g c =
@@ -71,13 +60,10 @@ returns-clause-tied g c =
 
 pub returns-clause-kept : goal.returns-clause-kept
 returns-clause-kept g c =
-    rw (← c.self.view_is) (let t = c.in_ok-number.ensures.some in
-    held_gone c.self.inside.tree c.take_waiting.new.self (length c.self.inside.register.history) t.key c.in_ok-number.ensures.nodes t.others t.gone)
+    search (rules, held_gone, length)
 
 pub returns-clause-waited : goal.returns-clause-waited
-returns-clause-waited g c =
-    rw (c.new.ensures, ← c.self.view_is)
-    (takes_listed g.R.Resource c.self.inside.tree c.take_waiting.new.self c.in_ok-number.number c.in_ok-number.resource c.in_ok-number.ensures.some)
+returns-clause-waited g c = rw (c.new.ensures, ← c.self.view_is) (takes_listed g.R.Resource _ _ _ _ c.in_ok-number.ensures.some)
 
 pub returns-clause-memory : goal.returns-clause-memory
 returns-clause-memory g c =
@@ -90,12 +76,7 @@ returns-clause-memory g c =
     (rw (← c.self.view_is) refl)
 
 pub returns-clause-leased : goal.returns-clause-leased
-returns-clause-leased g c =
-    let h = c.self.inside.register.history in
-    let was : AreLeased h c.self.inside.tree.resources c.self.inside.leases = rw (← c.self.view_is) at c.requires.leased in
-    let tied : IsTied c.self.inside.register.base g.R.Resource h c.self.inside.tree = rw (← c.self.view_is) at c.requires.tied.of_tree in
-    let t = c.in_ok-number.ensures.some in
-    leased_taken c.self.inside.register.base h _ (Take c.in_ok-number.number) c.self.inside.tree.resources _ c.self.inside.leases _
-    c.promise.ensures.lawful was refl refl (c.write.ensures.events) (refl) t.key
-    (subst (λ n. is_waiting h n ≡ true) (sym t.numbered) (takes_waiting g.R.Resource h c.self.inside.tree c.take_waiting.new.self
-    c.in_ok-number.number c.in_ok-number.resource c.self.inside.register.base tied t)) t.others
+returns-clause-leased g c = let h = c.self.inside.register.history in let was : AreLeased h _ c.self.inside.leases = rw (← c.self.view_is) at
+    c.requires.leased in let tied : IsTied _ g.R.Resource h c.self.inside.tree = rw (← c.self.view_is) at c.requires.tied.of_tree in let t =
+    c.in_ok-number.ensures.some in leased_taken _ h _ (Take _) _ _ _ _ c.promise.ensures.lawful was refl refl (c.write.ensures.events) (refl) t.key
+    (subst (λ n. is_waiting h n ≡ true) (sym t.numbered) (takes_waiting g.R.Resource h _ _ _ _ _ tied t)) t.others

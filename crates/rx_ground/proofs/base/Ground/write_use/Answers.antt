@@ -9,6 +9,7 @@ use Rattle.rx_ground.proofs.Newest.{held_found, of_found, if_found}
 use Rattle.rx_ground.proofs.HubsAfterEvent.{rebased, tied_on_same}
 use Rattle.rx_ground.proofs.LeasesAfterEvent.{leased_found}
 use Rattle.rx_ground.proofs.base.Ground.write_use.Goals as goal
+use Rattle.std.proofs.Common.{rules}
 
 pub apply-answer-requires-clause-live : goal.apply-answer-requires-clause-live
 apply-answer-requires-clause-live g c κs within =
@@ -35,9 +36,7 @@ apply-answer-requires-clause-countable g c κs within =
     omega arith)
 
 pub returns-clause-written : goal.returns-clause-written
-returns-clause-written g c = rw (← c.self.view_is) (writes_silent refl
-    c.write.ensures.base c.write.ensures.events c.write.ensures.pending c.write.ensures.room c.write.ensures.limit
-    c.write.ensures.given c.write.ensures.mail_room)
+returns-clause-written g c = search (rules, writes_silent)
 
 pub returns-clause-tied : goal.returns-clause-tied
 returns-clause-tied g c =
@@ -60,27 +59,18 @@ returns-clause-tied g c =
     u.nodes (store_key c.args.res) f.stowed u.after f.found u.uses u.tag u.life u.written))))
 
 pub returns-clause-kept : goal.returns-clause-kept
-returns-clause-kept g c =
-    let old = c.self.inside.tree in
-    let new = c.apply-answer.new.self in
-    let held : is_held_at old c.args.res ≡ true = rw (← c.self.view_is) at c.requires.held in
-    let f = held_found old c.args.res held in
-    let u = of_found (stowed_of old c.args.res) f.stowed (Uses g.R.Resource old new c.args.res) f.found c.apply-answer.ensures in
-    rw (← c.self.view_is)
-    (held_rewritten old new (length c.self.inside.register.history) (store_key c.args.res) (with_resource u.after) u.nodes u.written (λ x h. h))
+returns-clause-kept g c = let old = c.self.inside.tree in let new = c.apply-answer.new.self in let held : is_held_at old c.args.res ≡ true = rw (←
+    c.self.view_is) at c.requires.held in let f = held_found old _ held in let u = of_found (stowed_of old _) f.stowed (Uses g.R.Resource old new _)
+    f.found c.apply-answer.ensures in rw (← c.self.view_is) (held_rewritten old new (length _) (store_key _) (with_resource u.after) u.nodes u.written
+    (λ x h. h))
 
 pub returns-clause-memory : goal.returns-clause-memory
-returns-clause-memory g c =
-    let old = c.self.inside.tree in
-    let new = c.apply-answer.new.self in
-    let held : is_held_at old c.args.res ≡ true = rw (← c.self.view_is) at c.requires.held in
-    let f = held_found old c.args.res held in
-    let u = of_found (stowed_of old c.args.res) f.stowed (Uses g.R.Resource old new c.args.res) f.found c.apply-answer.ensures in
-    written_memory (Use c.args.res.number ∷ []) (returns-clause-written g c)
-    (rw (← c.self.view_is) (ap (λ (s : Slots Node). s.count + s.room) u.nodes))
-    (rw (← c.self.view_is) (same_places old.resources new.resources u.written.rest))
-    (rw (← c.self.view_is) (ap (λ (s : Slots Node). s.count + (vec_capacity c.self.inside.closed - s.count)) u.nodes)) (rw (← c.self.view_is) refl)
-    (rw (← c.self.view_is) refl)
+returns-clause-memory g c = let old = c.self.inside.tree in let new = c.apply-answer.new.self in let held : is_held_at old c.args.res ≡ true = rw (←
+    c.self.view_is) at c.requires.held in let f = held_found old _ held in let u = of_found (stowed_of old _) f.stowed (Uses g.R.Resource old new _)
+    f.found c.apply-answer.ensures in written_memory (Use c.args.res.number ∷ []) (returns-clause-written g c) (rw (← c.self.view_is) (ap (λ (s :
+    Slots Node). s.count + s.room) u.nodes)) (rw (← c.self.view_is) (same_places old.resources new.resources u.written.rest)) (rw (← c.self.view_is)
+    (ap (λ (s : Slots Node). s.count + (vec_capacity c.self.inside.closed - s.count)) u.nodes)) (rw (← c.self.view_is) refl) (rw (← c.self.view_is)
+    refl)
 
 pub returns-clause-leased : goal.returns-clause-leased
 returns-clause-leased g c =
