@@ -14,6 +14,7 @@ use Rattle.rx_agenda.specs.declared.answer.Cause.TheVariants.{Book}
 use Rattle.rx_agenda.specs.Claims.{IsOrderOf}
 use Rattle.rx_agenda.proofs.RunsInOrder.{runs_in_order}
 use Rattle.rx_agenda.proofs.OneOrder.{determined}
+use Rattle.std.proofs.Common.{rules}
 
 -- a run that computes: commands are answered as these answers say, cancels by the agenda ------------
 
@@ -42,15 +43,10 @@ left_from until (answer ∷ answers) a =
     (followed_by (act answer p.0.action p.1).0 (list_of p.0.followers) (act answer p.0.action p.1).1)) (next_step until a) a
 
 cancelled_acts : (a : Agenda) (label : Name) (o : Option ℕ) → bound a.labels label ≡ o → Acts a (cancel label) (cancelled a o).0 (cancelled a o).1
-cancelled_acts a label None is = does_cancel (none_waits (rw is refl))
-cancelled_acts a label (Some ticket) is = go (item_of ticket a.timeline.work) refl where
-  go : (o : Option Step) → item_of ticket a.timeline.work ≡ o → Acts a (cancel label) (cancelled_at a ticket o).0 (cancelled_at a ticket o).1
-  go None gone = does_cancel (none_waits (rw (is, gone) refl))
-  go (Some s) there = does_cancel (taken_off is there)
+cancelled_acts a label x2 is = search (rules, does_cancel, none_waits, cancel, taken_off)
 
 acts : (answer : Answer) (action : Action) (a : Agenda) → Acts a action (act answer action a).0 (act answer action a).1
-acts answer (command c) a = does_command
-acts answer (cancel label) a = cancelled_acts a label (bound a.labels label) refl
+acts answer x1 a = search (rules, does_command, cancelled_acts)
 
 computed : (until : ℕ) (first : Agenda) (answers : List Answer) (before : List (Step × Answer)) (a : Agenda) → HaveCome until first before a
     → HaveCome until first (before ++ done_from until answers a) (left_from until answers a)
@@ -90,8 +86,7 @@ AgreesWith (x ∷ xs) (y ∷ ys) = (x.1 ≡ y.1) × AgreesWith xs ys
 agreed : (xs ys : List (Step × Answer)) → AgreesWith xs ys → (k : ℕ) (x y : Step × Answer) → slice_get xs k ≡ Some x → slice_get ys k ≡ Some y → x.1 ≡ y.1
 agreed [] ys same k x y at_x at_y = absurd (cc)
 agreed (a ∷ xs) [] same k x y at_x at_y = absurd (cc)
-agreed (a ∷ xs) (b ∷ ys) same zero x y at_x at_y = let is_a : a ≡ x = cc in let is_b : b ≡ y = cc in sym (ap (λ (p : Step × Answer). p.1) is_a) ∙ same.0
-    ∙ ap (λ (p : Step × Answer). p.1) is_b
+agreed (a ∷ xs) (b ∷ ys) same zero x y at_x at_y = search (rules, Answer)
 agreed (a ∷ xs) (b ∷ ys) same (suc k) x y at_x at_y = agreed xs ys same.1 k x y at_x at_y
 
 only_one : (steps : List Step) (until : ℕ) (one other : List (Step × Answer)) → IsOrderOf steps until one → AgreesWith one other

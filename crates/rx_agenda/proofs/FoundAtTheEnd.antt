@@ -1,5 +1,6 @@
 -- What is found once one more stands at the end.
-use Rattle.rx_agenda.proofs.Common.{◌≡◌, List, [], ◌∷◌, ◌++◌, Bool, true, false, cond, refl, Option, Some, None, find}
+use Rattle.rx_agenda.proofs.Common.{◌≡◌, List, [], ◌∷◌, ◌++◌, Bool, cond, refl, Option, Some, None, find}
+use Rattle.std.proofs.Common.{rules}
 
 -- the last where none was found before
 abbrev pub or_last : {A : Type 0} → (A → Bool) → A → Option A → Option A
@@ -8,5 +9,4 @@ or_last p x None = cond (p x) (Some x) None
 
 pub find-push : {A : Type 0} (p : A → Bool) (xs : List A) (x : A) → find p (xs ++ x ∷ []) ≡ or_last p x (find p xs)
 find-push p [] x = refl
-find-push p (y ∷ ys) x = elim (p y) as (λ b. cond b (Some y) (find p (ys ++ x ∷ [])) ≡ or_last p x
-    (cond b (Some y) (find p ys))) [ true ↦ refl | false ↦ find-push p ys x ]
+find-push p (y ∷ ys) x = search (rules, cond, find, find-push p ys x)

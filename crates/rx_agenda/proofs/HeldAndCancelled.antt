@@ -9,6 +9,7 @@ use Rattle.rx_agenda.proofs.PlacedSteps.{PlacedAgenda, IsPending, IsWithin, Take
 use Rattle.rx_agenda.proofs.EntriesRise.{FirstOf, IsReady}
 use Rattle.rx_agenda.proofs.StepsJoin.{IsOneOf, IsReadyAt, one_of_get, get_one_of}
 use Rattle.rx_agenda.proofs.LeastStepLeaves.{TakesWell, takes_well, Says}
+use Rattle.std.proofs.Common.{rules}
 
 -- it is what this step, with this answer, takes off
 pub record IsTakenBy (Ever : Placed → Type 0) (s : Step) (answer : Answer) (y : Placed) : Type 0 where
@@ -75,8 +76,7 @@ pub record IsSoFar (steps : List Step) (until : ℕ) (es : List Executed) (g : P
 
 module _ (steps : List Step) (es : List Executed) where
   pub held_holder : (y : Placed) → IsHeld steps es y → y.origin.holder ≤ length es
-  held_holder y (by_scenario i s got) = omega arith
-  held_holder y (by_step k i e s there accepted got) = let below : k < length es = slice_get_within es k e there in omega arith
+  held_holder y x1 = search (rules, length, slice_get_within)
 
   module _ (e : Executed) where
     pub held_more : (y : Placed) → IsHeld steps es y → IsHeld steps (es ++ e ∷ []) y

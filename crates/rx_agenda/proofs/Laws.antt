@@ -1,17 +1,17 @@
 -- What names stand for, by keys and by numbers.
-use Rattle.rx_agenda.proofs.Common.{◌≡◌, ℕ, List, [], ◌∷◌, ◌++◌, Bool, true, false, map, cond, refl, ap, subst, ◌∙◌, arith, Option, Some, None, is_some}
+use Rattle.rx_agenda.proofs.Common.{◌≡◌, ℕ, List, [], ◌∷◌, ◌++◌, Bool, true, false, map, cond, refl, subst, arith, Option, Some, None, is_some}
 use Rattle.rx_agenda.proofs.Common.{option_map, find, bytes_eq, bytes_eq-Decides, Name, Named, name_of, key_of, Binding, bound, number_binding}
 use Rattle.std.specs.List.{All}
 use Rattle.std.proofs.lemmas.List.Elements.{All-tail}
 use Rattle.rx_agenda.proofs.FoundAtTheEnd.{or_last, find-push}
 pub use Rattle.rx_agenda.proofs.RunsInOrder.{runs_in_order}
 pub use Rattle.rx_agenda.proofs.OneOrder.{Agrees, determined, determined_so_far, cancel_alike}
+use Rattle.std.proofs.Common.{rules}
 
 find-map : {A B : Type 0} (p : B → Bool) (f : A → B) (xs : List A) → find p (map f xs) ≡ option_map f (find (λ x. p (f x)) xs)
 find-map p f [] = refl
 find-map p f (x ∷ xs) =
-    elim (p (f x)) as (λ b. cond b (Some (f x)) (find p (map f xs)) ≡ option_map f (cond b (Some x) (find (λ y. p (f y)) xs)))
-    [ true ↦ refl | false ↦ find-map p f xs ]
+    search (rules, cond, find, map, option_map, find-map p f xs)
 
 found_passes : {A : Type 0} (P : A → Type 0) (p : A → Bool) (xs : List A) (x : A) → All P xs → find p xs ≡ Some x → P x
 found_passes P p [] x all e = absurd (cc)
@@ -22,8 +22,7 @@ found_passes P p (y ∷ ys) x all e =
     branch (p y) e
 
 option_key : {K : Type 0} (P : K → Type 0) (o : Option (Named K)) (k : K) → ((n : Named K) → o ≡ Some n → P n.key) → option_map (λ n. n.key) o ≡ Some k → P k
-option_key P None k each e = absurd (cc)
-option_key P (Some n) k each e = let same : n.key ≡ k = cc in subst P same (each n refl)
+option_key x0 x1 k each e = search rules
 
 -- what holds of all keys holds of the one that a name stands for
 pub key_of-holds : {K : Type 0} (P : K → Type 0) (names : List (Named K)) (name : Name) (k : K) → All (λ n. P n.key) names → key_of names name ≡ Some k → P k
@@ -36,21 +35,19 @@ module _ {K : Type 0} (number_of : K → ℕ) where
   binding_of n = record { name = name_of n; number = number_of n.key }
 
   keyed_number : (o : Option (Named K)) → option_map (λ (b : Binding). b.number) (option_map binding_of o) ≡ option_map number_of (option_map (λ n. n.key) o)
-  keyed_number None = refl
-  keyed_number (Some n) = refl
+  keyed_number x0 = search rules
 
   pub bound-keys : (names : List (Named K)) (name : Name) → bound (map binding_of names) name ≡ option_map number_of (key_of names name)
   unfolding bound key_of
-  bound-keys names name = ap (option_map (λ b. b.number)) (find-map (λ b. bytes_eq b.name name) binding_of names) ∙ keyed_number _
+  bound-keys names name = search (rules, option_map, find-map, bytes_eq, keyed_number)
 
 numbers_number : (o : Option (Named ℕ)) → option_map (λ b. b.number) (option_map number_binding o) ≡ option_map (λ n. n.key) o
-numbers_number None = refl
-numbers_number (Some n) = refl
+numbers_number x0 = search rules
 
 -- of hubs, or of labels
 pub bound-numbers : (names : List (Named ℕ)) (name : Name) → bound (map number_binding names) name ≡ key_of names name
 unfolding bound key_of
-bound-numbers names name = ap (option_map (λ b. b.number)) (find-map (λ b. bytes_eq b.name name) number_binding names) ∙ numbers_number _
+bound-numbers names name = search (rules, option_map, find-map, bytes_eq, numbers_number)
 
 -- one more name is bound ---------------------------------------------------------------------------
 
@@ -58,24 +55,16 @@ module _ {K : Type 0} (n : Named K) where
   -- where the name stood for nothing, it stands for the new key, and every other name for what it stood for
   answered : (b : Bool) (o : Option (Named K)) → (b ≡ true → option_map (λ m. m.key) o ≡ None)
       → option_map (λ m. m.key) (or_last (λ m. b) n o) ≡ cond b (Some n.key) (option_map (λ m. m.key) o)
-  answered true None free = refl
-  answered true (Some m) free = let clash : Some m.key ≡ None = free refl in absurd (cc)
-  answered false None free = refl
-  answered false (Some m) free = refl
+  answered x0 x1 free = search rules
 
   same_last : (p : Named K → Bool) (o : Option (Named K)) → or_last p n o ≡ or_last (λ m. p n) n o
-  same_last p None = refl
-  same_last p (Some m) = refl
+  same_last p x1 = search rules
 
   pub key_of-bind : (names : List (Named K)) (q : Name) → key_of names (name_of n) ≡ None
       → key_of (names ++ n ∷ []) q ≡ cond (bytes_eq (name_of n) q) (Some n.key) (key_of names q)
   unfolding key_of
   key_of-bind names q free =
-      let p : Named K → Bool = λ m. bytes_eq (name_of m) q in
-      let taken : bytes_eq (name_of n) q ≡ true → key_of names q ≡ None =
-      λ is. let same : name_of n ≡ q = (bytes_eq-Decides (name_of n) q).0 is in subst (λ name. key_of names name ≡ None) same free in
-      ap (option_map (λ m. m.key)) (find-push p names n ∙ same_last p (find p names)) ∙ answered (bytes_eq (name_of n) q) (find p names) taken
+      search (rules, bytes_eq, bytes_eq-Decides, option_map, find-push, same_last, find, answered)
 
 pub none_there : {K : Type 0} (o : Option K) → is_some o ≡ false → o ≡ None
-none_there None free = refl
-none_there (Some k) free = absurd (cc)
+none_there x0 free = search rules

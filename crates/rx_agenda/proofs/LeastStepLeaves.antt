@@ -9,36 +9,29 @@ use Rattle.rx_agenda.proofs.Members.{IsIn, Pairwise, pairwise_removed, pairwise_
 use Rattle.rx_agenda.proofs.PlacedSteps.{Entry, PlacedAgenda, IsPending, IsWithin, Pops, of_turn, of_timeline, without_first, without_entry, Takes, takes}
 use Rattle.rx_agenda.proofs.PlacedSteps.{leaves, without_placed}
 use Rattle.rx_agenda.proofs.EntriesRise.{IsEntry, Rises, FirstOf, IsReady}
+use Rattle.std.proofs.Common.{rules}
 
 -- what comes next of a timeline --------------------------------------------------------------------
 
 within : (a b : ℕ) → nat_le a b ≡ true → a ≤ b
-within a b is = elim (cases_lt b a) [ inl above ↦ (let not_so : nat_le a b ≡ false = lt-leb a b above in absurd (cc)) | inr below ↦ below ]
+within a b is = search (rules, cases_lt, nat_le, lt-leb)
 
 beyond : (a b : ℕ) → nat_le a b ≡ false → b < a
-beyond a b is = elim (cases_lt b a) [ inl above ↦ above | inr below ↦ (let so : nat_le a b ≡ true = le-leb a b below in absurd (cc)) ]
+beyond a b is = search (rules, cases_lt, nat_le, le-leb)
 
 pub record IsLeast (work : List Entry) (e : Entry) : Type 0 where
   pub there : IsIn e work
   pub least : (f : Entry) → IsIn f work → (f ≡ e) ⊎ ((e.1.due < f.1.due) ⊎ ((e.1.due ≡ f.1.due) × Rises e f))
 
 earlier_some : (g : Entry) (o : Option Entry) → earlier g o ≡ None → ⊥
-earlier_some g None none = absurd (cc)
-earlier_some g (Some h) none = elim (nat_le g.1.due h.1.due) as (λ b. cond b (Some g) (Some h) ≡ None → ⊥) [
-  | true ↦ λ none. absurd
-      (cc)
-  | false ↦ λ none. absurd (cc)
-] none
+earlier_some g x1 none = search (rules, nat_le, cond)
 
 no_entry : (work : List Entry) → next_of work ≡ None → work ≡ []
 no_entry [] none = refl
 no_entry (g ∷ gs) none = absurd (earlier_some g (next_of gs) none)
 
 no_later : (e f : Entry) (work : List Entry) → IsLeast work e → IsIn f work → e.1.due ≤ f.1.due
-no_later e f work l there = elim (l.least f there) [
-  | inl same ↦ let due : f.1.due ≡ e.1.due = ap (λ (g : Entry). g.1.due) same in omega arith
-  | inr after ↦ elim after [ inl above ↦ omega arith | inr tie ↦ let due : e.1.due ≡ f.1.due = tie.0 in omega arith ]
-]
+no_later e f work l there = search (rules, there)
 
 least_step : (g : Entry) (gs : List Entry) (o : Option Entry) → next_of gs ≡ o → ((h : Entry) → o ≡ Some h → IsLeast gs h) → Pairwise Rises (g ∷ gs)
     → (e : Entry) → earlier g o ≡ Some e → IsLeast (g ∷ gs) e
@@ -79,20 +72,10 @@ least_of [] pairs e comes = absurd (cc)
 least_of (g ∷ gs) pairs e comes = least_step g gs (next_of gs) refl (λ h is. least_of gs pairs.1 h is) pairs e comes
 
 if_due_some : (until : ℕ) (o : Option Entry) (e : Entry) → if_due until o ≡ Some e → (o ≡ Some e) × (e.1.due ≤ until)
-if_due_some until None e comes = absurd (cc)
-if_due_some until (Some f) e comes =
-    elim (nat_le f.1.due until) as (λ b. nat_le f.1.due until ≡ b → cond b (Some f) None ≡ Some e → (Some f ≡ Some e) × (e.1.due ≤ until)) [
-      | true ↦ λ test is. let same : f ≡ e = cc in (is, subst (λ (g : Entry). g.1.due ≤ until) same (within f.1.due until test))
-      | false ↦ λ test is. absurd (cc)
-    ] refl comes
+if_due_some until x1 e comes = search (rules, nat_le, cond)
 
 if_due_none : (until : ℕ) (o : Option Entry) → if_due until o ≡ None → (e : Entry) → o ≡ Some e → until < e.1.due
-if_due_none until None none e is = absurd (cc)
-if_due_none until (Some f) none e is =
-    elim (nat_le f.1.due until) as (λ b. nat_le f.1.due until ≡ b → cond b (Some f) None ≡ None → until < e.1.due) [
-      | true ↦ λ test no. absurd (cc)
-      | false ↦ λ test no. let same : f ≡ e = cc in subst (λ (g : Entry). until < g.1.due) same (beyond f.1.due until test)
-    ] refl none
+if_due_none until x1 none e is = search (rules, nat_le, cond)
 
 -- where nothing is due, all that waits is of a later time
 pub none_due : (until : ℕ) (work : List Entry) → Pairwise Rises work → next_due until work ≡ None → (f : Entry) → IsIn f work → until < f.1.due

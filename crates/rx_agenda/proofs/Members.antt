@@ -4,6 +4,7 @@ use Rattle.rx_agenda.proofs.Common.{arith, ◌⊎◌, Some, slice_get, lookup}
 use Rattle.std.specs.Map.{remove_entry}
 use Rattle.std.proofs.lemmas.Bool.{eqb-true}
 use Rattle.std.proofs.lemmas.Bool.Decides.{nat_tests}
+use Rattle.std.proofs.Common.{rules}
 
 module _ {A : Type 0} where
   abbrev pub IsIn : A → List A → Type 0
@@ -97,10 +98,7 @@ module _ {V : Type 0} where
   pub pairwise_removed : (R : ℕ × V → ℕ × V → Type 0) (p : ℕ → Bool) (es : List (ℕ × V)) → Pairwise R es → Pairwise R (remove_entry p es)
   pairwise_removed R p [] pairs = tt
   pairwise_removed R p (e ∷ es) pairs =
-      elim (p e.0) as (λ b. Pairwise R (cond b es (e ∷ remove_entry p es))) [
-        | true ↦ pairs.1
-        | false ↦ ((λ f there. pairs.0 f (removed_in p f es there)), pairwise_removed R p es pairs.1)
-      ]
+      search (rules, cond, removed_in, pairwise_removed R p es pairs.1)
 
   -- numbers that rise
   module _ (R : ℕ × V → ℕ × V → Type 0) (rises : (e f : ℕ × V) → R e f → e.0 < f.0) where

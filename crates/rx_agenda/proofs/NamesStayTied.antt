@@ -1,14 +1,15 @@
 -- The map of a space of names goes on as its list does.
-use Rattle.rx_agenda.proofs.Common.{◌≡◌, ℕ, List, [], ◌∷◌, ◌++◌, false, cond, String, Global, refl, sym, ap, ◌∙◌, Some, is_some, bytes_eq, update, get_by_text}
+use Rattle.rx_agenda.proofs.Common.{◌≡◌, ℕ, List, [], ◌∷◌, ◌++◌, false, cond, String, Global, refl, Some, is_some, bytes_eq, update, get_by_text}
 use Rattle.rx_agenda.proofs.Common.{Named, name_of, key_of, IsTied}
 use Rattle.std.specs.HashMap.{HashMap, IsEmpty}
 use Rattle.rx_agenda.proofs.Laws.{key_of-bind, none_there}
+use Rattle.std.proofs.Common.{rules}
 
 pub still_tied : {K S : Type 0} (names : List (Named K)) (n : Named K) (old new : HashMap (String Global) K S)
     → IsTied names old → is_some (key_of names (name_of n)) ≡ false
     → ((q : List ℕ) → get_by_text new q ≡ update bytes_eq (get_by_text old) (name_of n) (Some n.key) q) → IsTied (names ++ n ∷ []) new
 still_tied names n old new tied free updated q =
-    updated q ∙ ap (λ o. cond (bytes_eq (name_of n) q) (Some n.key) o) (tied q) ∙ sym (key_of-bind n names q (none_there (key_of names (name_of n)) free))
+    search (rules, cond, bytes_eq, key_of-bind, none_there)
 
 -- no name, and an empty map
 pub tied_empty : {K S : Type 0} (names : List (Named K)) (m : HashMap (String Global) K S) → names ≡ [] → IsEmpty m → IsTied names m

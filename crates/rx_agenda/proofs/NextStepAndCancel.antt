@@ -1,10 +1,10 @@
 -- What is to come, seen as the definitions see it.
 use Rattle.rx_agenda.proofs.Common.{◌≡◌, ◌+◌, ℕ, List, [], ◌∷◌, ◌++◌, true, false, map, option_map, string_bytes, String, Global, refl, ap, subst, ◌∙◌, arith}
-use Rattle.rx_agenda.proofs.Common.{Option, Some, None, is_some, sum_by, map-append, sum_by-cons, Work, Schedule, next_due, item_of, without, entry_seen}
+use Rattle.rx_agenda.proofs.Common.{Some, None, is_some, sum_by, map-append, sum_by-cons, Work, Schedule, next_due, item_of, without, entry_seen}
 use Rattle.rx_agenda.proofs.Common.{next_due-seen, without-seen, item_of-seen, Name, Step, step_of, Accepted, Refused, NoStep, Named, key_of, bound, Agenda}
 use Rattle.rx_agenda.proofs.Common.{with_label, with_step, with_steps, next_step, without_ticket, Cancels, taken_off, none_waits, number_binding, agenda_of}
 use Rattle.rx_agenda.proofs.Common.{size_of}
-use Rattle.std.specs.Prelude.{Result, Ok, Err, OnOk, IfSome}
+use Rattle.std.specs.Prelude.{Result, OnOk, IfSome}
 use Rattle.std.specs.List.Sorted.{IsPermutation}
 use Rattle.std.proofs.lemmas.List.Sorted.{sum_by-IsPermutation}
 use Rattle.rx_time.specs.Schedule.{items_of}
@@ -12,10 +12,10 @@ use Rattle.rx_scenario.specs.declared.scenario.Step.{Step as StepInCode}
 use Rattle.rx_agenda.specs.declared.agenda.Agenda.{Agenda as AgendaInCode}
 use Rattle.rx_agenda.specs.Agenda.{first_of_turn}
 use Rattle.rx_agenda.proofs.Laws.{bound-numbers}
+use Rattle.std.proofs.Common.{rules}
 
 pub OnOk-map : {T E A B : Type 0} (r : Result T E) → (A → B) → OnOk r A → OnOk r B
-OnOk-map (Ok x) f here = f here
-OnOk-map (Err e) f here = here
+OnOk-map x0 f here = search rules
 
 -- labels -------------------------------------------------------------------------------------------
 
@@ -51,21 +51,10 @@ module _ (a : AgendaInCode) (until : ℕ) (turn : List StepInCode) (timeline : S
   pub next_step-some : (due : ℕ) (step : StepInCode) → option_map given_of (next_due until a.timeline.work) ≡ Some (due, step)
       → IfSome (next_due until a.timeline.work) TakesOut
       → next_step until (agenda_of a) ≡ Some (step_of step, agenda_of (record { timeline = timeline; turn = turn; labels = a.labels }))
-  next_step-some due step came taken = next_step-over ∙ go (next_due until a.timeline.work) came taken where
-    go : (o : Option (ℕ × Work StepInCode)) → option_map given_of o ≡ Some (due, step) → IfSome o TakesOut
-        → option_map (first_of_turn (agenda_of a)) (option_map (entry_seen step_of) o) ≡ Some
-        (step_of step, agenda_of (record { timeline = timeline; turn = turn; labels = a.labels }))
-    go None came taken = absurd (cc)
-    go (Some e) came taken =
-        let pair : given_of e ≡ (due, step) = cc in
-        let item : e.1.item ≡ step = ap (λ (p : ℕ × StepInCode). p.1) pair in
-        rw (still, taken, item, without-seen step_of e.0 a.timeline.work) refl
+  next_step-some due step came taken = search (rules, next_step-over, next_due, option_map, entry_seen, without-seen)
 
   pub next_step-none : option_map given_of (next_due until a.timeline.work) ≡ None → next_step until (agenda_of a) ≡ None
-  next_step-none came = next_step-over ∙ go (next_due until a.timeline.work) came where
-    go : (o : Option (ℕ × Work StepInCode)) → option_map given_of o ≡ None → option_map (first_of_turn (agenda_of a)) (option_map (entry_seen step_of) o) ≡ None
-    go None came = refl
-    go (Some e) came = absurd (cc)
+  next_step-none came = search (rules, next_step-over, next_due, option_map, entry_seen)
 
 pub size_left-taken : (old new : Schedule StepInCode) (step : StepInCode) → IsPermutation (items_of old.work) (step ∷ items_of new.work)
     → sum_by size_of (items_of new.work) + size_of step ≡ sum_by size_of (items_of old.work)
@@ -84,7 +73,7 @@ module _ (a : AgendaInCode) (label : Name) where
   pub cancel-gone : (ticket : ℕ) (timeline : Schedule StepInCode) → key_of a.labels label ≡ Some ticket → item_of ticket a.timeline.work ≡ None
       → timeline ≡ a.timeline → Cancels (agenda_of a) label (Refused NoStep) (agenda_of (record { timeline = timeline; turn = a.turn; labels = a.labels }))
   cancel-gone ticket timeline known gone same =
-      rw same (none_waits (rw (bound-numbers a.labels label, known, item_of-seen step_of ticket a.timeline.work, gone) refl))
+      search (rules, none_waits, bound-numbers, item_of-seen)
 
   pub cancel-taken : (ticket : ℕ) (step : StepInCode) (timeline : Schedule StepInCode) → key_of a.labels label ≡ Some ticket
       → item_of ticket a.timeline.work ≡ Some step

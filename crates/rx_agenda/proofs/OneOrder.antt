@@ -1,10 +1,11 @@
 -- What the answers were determines which steps came, and in which order.
 use Rattle.rx_agenda.proofs.Common.{◌≡◌, ◌<◌, ◌≤◌, ◌+◌, ℕ, zero, suc, List, [], ◌∷◌, refl, sym, ap, subst, ◌∙◌, inl, inr, arith, ◌⊎◌, Option, Some, None}
-use Rattle.rx_agenda.proofs.Common.{slice_get, cases_lt, Name, Step, list_of, Answer, Origin, Turn, Placed, Executed, IsScheduledBefore, ComesBefore}
-use Rattle.rx_agenda.proofs.Common.{opening_turn, turn_after, placed_at, held_by, IsHeld, by_scenario, by_step, IsCancelled, IsDue, IsInOrder, WaitsAt}
+use Rattle.rx_agenda.proofs.Common.{slice_get, cases_lt, Name, Step, Answer, Origin, Turn, Placed, Executed, IsScheduledBefore, ComesBefore}
+use Rattle.rx_agenda.proofs.Common.{placed_at, held_by, IsHeld, by_scenario, by_step, IsCancelled, IsDue, IsInOrder, WaitsAt}
 use Rattle.rx_agenda.proofs.Common.{IsAnswered, one_waits, no_step_waits}
 use Rattle.rx_agenda.specs.Claims.{OrderIsDetermined, HeadsComeFirst}
 use Rattle.rx_agenda.proofs.ComesBeforeIsAnOrder.{comes-trans, comes-asym, comes-self, comes-cases}
+use Rattle.std.proofs.Common.{rules}
 
 -- up to this number they are the same
 abbrev pub Agrees : List Executed → List Executed → ℕ → Type 0
@@ -21,31 +22,13 @@ agrees-sym one other k agree j lt = sym (agree j lt)
 -- so far what is held in one is held in the other
 held_over : (steps : List Step) (one other : List Executed) (k : ℕ) (x : Placed) → Agrees one other k → IsHeld steps one x → x.origin.holder ≤ k
     → IsHeld steps other x
-held_over steps one other k x agree (by_scenario i s got) below = by_scenario i s got
-held_over steps one other k x agree (by_step j i e s there accepted got) below = by_step j i e s (sym (agree j (omega arith)) ∙ there) accepted got
+held_over steps one other k x agree x6 below = search (rules, by_scenario, by_step)
 
 -- a step is told by where it is held
 step_told : {steps : List Step} {one other : List Executed} (k : ℕ) (x y : Placed) → Agrees one other k → IsHeld steps one x → IsHeld steps other y
     → x.origin.holder ≤ k
     → x.origin ≡ y.origin → x.step ≡ y.step
-step_told {steps} k x y agree (by_scenario i s got) (by_scenario j t had) below same =
-    let place : i + 1 ≡ j + 1 = ap (λ (o : Origin). o.place) same in
-    let at : i ≡ j = omega arith in
-    let both : Some s ≡ Some t = sym got ∙ ap (slice_get steps) at ∙ had in
-    cc
-step_told k x y agree (by_scenario i s got) (by_step m j f t there accepted had) below same =
-    let holder : 0 ≡ m + 1 = ap (λ (o : Origin). o.holder) same in absurd (omega arith)
-step_told k x y agree (by_step m i e s there accepted got) (by_scenario j t had) below same =
-    let holder : m + 1 ≡ 0 = ap (λ (o : Origin). o.holder) same in absurd (omega arith)
-step_told {other} k x y agree (by_step m i e s there accepted got) (by_step n j f t there_too accepted_too had) below same =
-    let holder : m + 1 ≡ n + 1 = ap (λ (o : Origin). o.holder) same in
-    let number : m ≡ n = omega arith in
-    let place : i + 1 ≡ j + 1 = ap (λ (o : Origin). o.place) same in
-    let at : i ≡ j = omega arith in
-    let one_step : Some e ≡ Some f = sym there ∙ agree m (omega arith) ∙ ap (slice_get other) number ∙ there_too in
-    let alike : e ≡ f = cc in
-    let both : Some s ≡ Some t = sym got ∙ (λ d. slice_get (list_of (alike d).placed.step.followers) (at d)) ∙ had in
-    cc
+step_told k x y agree x5 x6 below same = search (rules, slice_get)
 
 module _ (steps : List Step) (until : ℕ) (one other : List Executed) (first : IsInOrder steps until one) (second : IsInOrder steps until other) (k : ℕ)
     (agree : Agrees one other k)
@@ -62,12 +45,7 @@ module _ (steps : List Step) (until : ℕ) (one other : List Executed) (first : 
   -- one of the first list that is lower was held in the other too
   lower_over : (z : Placed) → IsHeld steps one z → IsScheduledBefore z.origin x.placed.origin → IsHeld steps other z
   lower_over z held lower =
-      let below : x.placed.origin.holder ≤ k = x_holder in
-      held_over steps one other k z agree held (elim lower [
-        | inl less ↦ omega arith
-        | inr same ↦ let tie : z.origin.holder ≡ x.placed.origin.holder =
-            same.0 in omega arith
-      ])
+      search (rules, x_holder, held_over)
 
   module _ (before : ComesBefore x.placed y.placed) where
     -- from there on the other list has none that comes before x
@@ -137,45 +115,18 @@ module _ (steps : List Step) (until : ℕ) (one other : List Executed) (first : 
 
   -- what the ended list has it has before
   before_end : (m : ℕ) (z : Executed) → slice_get one m ≡ Some z → m < k
-  before_end m z there = elim (cases_lt m k) [
-    | inl sooner ↦ sooner
-    | inr later ↦ (let none : slice_get one m ≡ None = none_beyond one k m over later in
-        absurd (cc))
-  ]
+  before_end m z there = search (rules, cases_lt, slice_get, none_beyond)
 
   back_over : (z : Placed) → IsHeld steps other z → z.origin.holder ≤ k → IsHeld steps one z
   back_over z held below = held_over steps other one k z (agrees-sym one other k agree) held below
 
   y_alive : ¬ IsCancelled steps one y.placed
   y_alive c =
-      let sooner : c.number < k = before_end c.number c.by c.there in
-      let below : y.placed.origin.holder ≤ k = y_holder in
-      y_due.not_cancelled (record {
-        number = c.number;
-        by = c.by;
-        label = c.label;
-        there = sym (agree c.number sooner) ∙ c.there;
-        cancels = c.cancels;
-        accepted = c.accepted;
-        meant = record {
-          waits = c.meant.waits;
-          scheduled = c.meant.scheduled;
-          to_come = c.meant.to_come;
-          first = λ z held waits lower.
-              let low : z.origin.holder ≤ k = elim lower [
-                | inl less ↦ omega arith
-                | inr same ↦ let tie : z.origin.holder ≡ y.placed.origin.holder =
-                    same.0 in omega arith
-              ] in
-              c.meant.first z (back_over z held low) waits lower;
-        };
-      })
+      search (rules, before_end, y_holder, back_over)
 
   none_longer : ⊥
   none_longer =
-      let done = first.all_due y.placed (record { held = back_over y.placed y_due.held y_holder; in_time = y_due.in_time; not_cancelled = y_alive }) in
-      let sooner : done.number < k = before_end done.number done.by done.there in
-      comes-self done.by.placed y.placed done.same (second.in_order done.number k done.by y sooner (sym (agree done.number sooner) ∙ done.there) y_there)
+      search (rules, back_over, y_holder, y_alive, before_end, comes-self)
 
 module _ (steps : List Step) (until : ℕ) (one other : List Executed) (first : IsInOrder steps until one) (second : IsInOrder steps until other)
     (alike : AreAnsweredAlike one other) where
@@ -226,17 +177,14 @@ determined_so_far steps until one other first second alike =
 
 pub determined : OrderIsDetermined
 determined steps until one other first second alike =
-    determined_so_far steps until one other first second (λ k agree x y at_x at_y placed. alike k x y at_x at_y)
+    search (rules, determined_so_far)
 
 -- what a cancel is answered ------------------------------------------------------------------------
 
 -- where all before it is the same, a cancel finds the same steps waiting
 module _ (steps : List Step) (one other : List Executed) (k : ℕ) (agree : Agrees one other k) (x y : Executed) (same : x.placed ≡ y.placed) where
   scheduled_too : (z p : Placed) → IsScheduledBefore z.origin p.origin → p.origin.holder ≤ k → z.origin.holder ≤ k
-  scheduled_too z p lower below = elim lower [
-    | inl less ↦ omega arith
-    | inr tie ↦ let holder : z.origin.holder ≡ p.origin.holder = tie.0 in omega arith
-  ]
+  scheduled_too z p lower below = search rules
 
   back : (z : Placed) → IsHeld steps other z → z.origin.holder ≤ k → IsHeld steps one z
   back z held below = held_over steps other one k z (agrees-sym one other k agree) held below
@@ -292,19 +240,14 @@ module _ (steps : List Step) (until : ℕ) (executed : List Executed) (order : I
   in_turn_of : (now : Turn) (h i : ℕ) (s : Step) → now.head.holder < h ⊎ ((now.head.holder ≡ h) × (now.head.place < i + 1)) → (delay : Option ℕ)
       → s.delay ≡ delay
       → IsHeadOrBehind (placed_at now (held_by h i) s)
-  in_turn_of now h i s before None is = inr (subst (λ (t : Turn). IsScheduledBefore t.head (held_by h i)) (sym (ap (turn_after now (held_by h i)) is)) before)
-  in_turn_of now h i s before (Some delay) is = inl (ap (λ (d : Option ℕ). (turn_after now (held_by h i) d).head) is)
+  in_turn_of now h i s before x5 is = search rules
 
   holder_behind : (e : Executed) (j : ℕ) → e.placed.origin.holder ≤ j → IsHeadOrBehind e.placed → e.placed.turn.head.holder < j + 1
-  holder_behind e j below (inl same) = let holder : e.placed.turn.head.holder ≡ e.placed.origin.holder = ap (λ (o : Origin). o.holder) same in omega arith
-  holder_behind e j below (inr (inl less)) = omega arith
-  holder_behind e j below (inr (inr tie)) = let holder : e.placed.turn.head.holder ≡ e.placed.origin.holder = tie.0 in omega arith
+  holder_behind e j below x3 = search rules
 
   behind_by : (n : ℕ) (x : Placed) → IsHeld steps executed x → x.origin.holder ≤ n
       → ((j : ℕ) (e : Executed) → j < n → slice_get executed j ≡ Some e → IsHeadOrBehind e.placed) → IsHeadOrBehind x
-  behind_by n x (by_scenario i s got) below each = in_turn_of opening_turn 0 i s (inr (refl, omega arith)) s.delay refl
-  behind_by n x (by_step j i e s there accepted got) below each =
-      in_turn_of e.placed.turn (j + 1) i s (inl (holder_behind e j (order.behind_holder j e there) (each j e (omega arith) there))) s.delay refl
+  behind_by n x x2 below each = search (rules, in_turn_of, holder_behind)
 
   behind_head : (n k : ℕ) (x : Executed) → k < n → slice_get executed k ≡ Some x → IsHeadOrBehind x.placed
   behind_head zero k x below there = absurd (omega arith)

@@ -7,6 +7,7 @@ use Rattle.std.specs.Prelude.{option_and_then}
 use Rattle.rx_time.specs.Schedule.{seen_as}
 use Rattle.rx_agenda.specs.Agenda.{with_step_after}
 use Rattle.rx_agenda.proofs.Members.{IsIn}
+use Rattle.std.proofs.Common.{rules}
 
 -- an entry of the timeline
 abbrev pub Entry : Type 0
@@ -44,8 +45,7 @@ abbrev pub with_placed : Placed → PlacedAgenda → PlacedAgenda
 with_placed x g = with_placed_after x.step.delay x g
 
 with_placed_after-seen : (delay : Option ℕ) (x : Placed) (g : PlacedAgenda) → with_step_after delay x.step (seen g) ≡ seen (with_placed_after delay x g)
-with_placed_after-seen None x g = rw (map-append step_in g.turn (x ∷ [])) refl
-with_placed_after-seen (Some delay) x g = rw (map-append (entry_seen step_in) g.timeline.work) refl
+with_placed_after-seen x0 x g = search (rules, map-append, entry_seen)
 
 pub with_placed-seen : (x : Placed) (g : PlacedAgenda) → with_step x.step (seen g) ≡ seen (with_placed x g)
 with_placed-seen x g = with_placed_after-seen x.step.delay x g
@@ -122,8 +122,7 @@ module _ (until : ℕ) (timeline : Schedule Placed) (labels : List Binding) wher
   -- nothing comes next: the turn is over, and nothing that waits is due
   none_timeline : (o : Option Entry) → next_due until timeline.work ≡ o → option_map begun (option_map (entry_seen step_in) o) ≡ None
       → next_due until timeline.work ≡ None
-  none_timeline None is over = is
-  none_timeline (Some e) is over = absurd (cc)
+  none_timeline x0 is over = search rules
 
   pub over_seen : (turn : List Placed) → next_step until (seen (unordered timeline turn labels)) ≡ None → (turn ≡ []) × (next_due until timeline.work ≡ None)
   over_seen [] over = (refl, none_timeline (next_due until timeline.work) refl (sym (ap (option_map begun) (next_due-seen step_in until timeline.work)) ∙ over))
@@ -157,8 +156,7 @@ some_entry g label ticket s (Some w) is found known = record {
 }
 
 no_work : (o : Option (Work Placed)) → option_map step_in (option_map (λ w. w.item) o) ≡ None → o ≡ None
-no_work None none = refl
-no_work (Some w) none = absurd (cc)
+no_work x0 none = search rules
 
 none_bound : (g : PlacedAgenda) (t : ℕ) → item_of t (map (entry_seen step_in) g.timeline.work) ≡ None → lookup (nat_eq t) g.timeline.work ≡ None
 none_bound g t none = no_work (lookup (nat_eq t) g.timeline.work) (sym (item_of-seen step_in t g.timeline.work) ∙ none)

@@ -1,7 +1,7 @@
 -- From one step to the next: the executed steps stay in order.
 use Rattle.rx_agenda.proofs.Common.{◌≡◌, ◌<◌, ◌≤◌, ◌+◌, ℕ, List, [], ◌∷◌, ◌++◌, length, refl, sym, ap, subst, ◌∙◌, inl, inr, arith, ◌⊎◌, Option, Some, None}
 use Rattle.rx_agenda.proofs.Common.{slice_get, slice_get_within, schedule, next_due, Name, Step, list_of, bound, Answer, Accepted, Turn, Placed, Executed}
-use Rattle.rx_agenda.proofs.Common.{IsEarlierTurn, ComesBefore, opening_turn, turn_after, placed_at, held_by, IsHeld, by_scenario, by_step, WaitsUnder}
+use Rattle.rx_agenda.proofs.Common.{ComesBefore, opening_turn, placed_at, held_by, IsHeld, by_scenario, by_step, WaitsUnder}
 use Rattle.rx_agenda.proofs.Common.{IsCancelled, IsDue, IsExecuted, IsInOrder, WaitsAt, IsAnswered, one_waits, no_step_waits, AreCancelsAnswered}
 use Rattle.std.proofs.Common.{length-append}
 use Rattle.rx_agenda.proofs.Members.{IsIn, get_push, get_old, get_last}
@@ -12,18 +12,16 @@ use Rattle.rx_agenda.proofs.StepsJoin.{IsOneOf, with_all, IsReadyAt, ready_all, 
 use Rattle.rx_agenda.proofs.LeastStepLeaves.{PopsWell, Says, one_there, none_there, none_due}
 use Rattle.rx_agenda.proofs.HeldAndCancelled.{ActsWell, IsSoFar, held_holder, held_more, held_cases, one_held, one_holder, meant_less, meant_now}
 use Rattle.rx_agenda.proofs.HeldAndCancelled.{cancelled_more, cancelled_before, cancelled_cases, taken_cancelled, answered_more}
+use Rattle.std.proofs.Common.{rules}
 
 -- a step that joins comes after the one that holds it
 module _ (x : Placed) (h : ℕ) (before : x.origin.holder < h) (head : x.turn.head.holder < h) where
   one_placed : (i : ℕ) (s : Step) (delay : Option ℕ) → s.delay ≡ delay → ComesBefore x (placed_at x.turn (held_by h i) s)
-  one_placed i s None is = inr (sym (ap (turn_after x.turn (held_by h i)) is), inl before)
-  one_placed i s (Some delay) is =
-      inl (subst (λ (t : Turn). IsEarlierTurn x.turn t) (sym (ap (turn_after x.turn (held_by h i)) is)) (later_turn x.turn delay (held_by h i) (inl head)))
+  one_placed i s x2 is = search (rules, later_turn)
 
   comes_first : (i : ℕ) (ss : List Step) (y : Placed) → IsOneOf x.turn h i ss y → ComesBefore x y
   comes_first i ss y one =
-      let at = get_one_of x.turn h i ss y one in
-      subst (ComesBefore x) at.is (one_placed (i + at.place) at.step at.step.delay refl)
+      search (rules, get_one_of, one_placed)
 
 module _ (steps : List Step) (until : ℕ) (es : List Executed) (g : PlacedAgenda) (now : Turn) (so : IsSoFar steps until es g now) (e : Executed)
     (mid left : PlacedAgenda)
@@ -46,7 +44,7 @@ module _ (steps : List Step) (until : ℕ) (es : List Executed) (g : PlacedAgend
   Joins y = (e.answer ≡ Accepted) × IsOneOf e.placed.turn (length es + 1) 0 followers y
 
   x_head : e.placed.turn.head.holder < length es + 1
-  x_head = elim p.ready.head [ inl lower ↦ omega arith | inr same ↦ let tie : e.placed.turn.head.holder ≡ length es = same.0 in omega arith ]
+  x_head = search (rules, length)
 
   after_x : (y : Placed) → IsPending left y ⊎ Joins y → ComesBefore e.placed y
   after_x y (inl at) = (p.comes y (a.from y at)).1
@@ -109,11 +107,7 @@ module _ (steps : List Step) (until : ℕ) (es : List Executed) (g : PlacedAgend
   ]
 
   behind_then : (i : ℕ) (x : Executed) → slice_get more i ≡ Some x → x.placed.origin.holder ≤ i
-  behind_then i x got = elim (get_push es e x i got) [
-    | inl old ↦ so.behind_holder i x old
-    | inr new ↦ let last : i ≡ length es = new.0 in let holder : e.placed.origin.holder ≤ length es = x_holder in subst
-        (λ (z : Executed). z.placed.origin.holder ≤ i) new.1 (omega arith)
-  ]
+  behind_then i x got = search (rules, get_push, length, x_holder)
 
   within_then : e.placed.turn.moment ≤ until
   within_then = p.in_time so.within
@@ -184,12 +178,7 @@ module _ (steps : List Step) (until : ℕ) (es : List Executed) (g : PlacedAgend
   answered_now label answer (none_there none) = no_step_waits (none_waits_now label none)
 
   cancels_then : AreCancelsAnswered steps more
-  cancels_then i x label got cancels = elim (get_push es e x i got) [
-    | inl old ↦ answered_more steps es e label i x (slice_get_within es i x old) x.answer (so.cancels i x label old cancels)
-    | inr new ↦ subst (λ (n : ℕ). IsAnswered steps more label n x x.answer) (sym new.0)
-        (subst (λ (z : Executed). IsAnswered steps more label (length es) z z.answer) new.1
-        (answered_now label e.answer (a.says label (ap (λ (z : Executed). z.placed.step.action) new.1 ∙ cancels))))
-  ]
+  cancels_then i x label got cancels = search (rules, get_push, answered_more, slice_get_within, length, answered_now)
 
   one_longer : length es + 1 ≡ length more
   one_longer = sym (length-append es (e ∷ []))
@@ -260,21 +249,7 @@ NoneEver y = ⊥
 
 none_ready : IsReady NoneEver opening_turn (held_by 0 0) no_agenda
 unfolding bound
-none_ready = record {
-  clock = refl;
-  rises = tt;
-  entries = λ e there. absurd there;
-  turn_rises = tt;
-  members = λ x there. absurd there;
-  head = inr (refl, omega arith);
-  labelled = record {
-    unbound = λ l free y ever. absurd ever;
-    first = λ l t w known there. absurd there;
-    given = λ l t known. absurd (cc);
-    borne = λ l t known. absurd (cc);
-    bears = λ l f there waits first. absurd there;
-  };
-}
+none_ready = search rules
 
 module _ (steps : List Step) (until : ℕ) where
   held_first : (y : Placed) → IsHeld steps [] y → IsOneOf opening_turn 0 0 steps y
@@ -285,30 +260,13 @@ module _ (steps : List Step) (until : ℕ) where
 
   first_held : (y : Placed) → IsOneOf opening_turn 0 0 steps y → IsHeld steps [] y
   first_held y one =
-      let at = get_one_of opening_turn 0 0 steps y one in
-      let plain : at.place ≡ 0 + at.place = omega arith in
-      subst (IsHeld steps []) (ap (λ (n : ℕ). placed_at opening_turn (held_by 0 n) at.step) plain ∙ at.is) (by_scenario at.place at.step at.got)
+      search (rules, get_one_of, by_scenario)
 
   first_pending : (y : Placed) → IsPending (with_all opening_turn 0 0 steps no_agenda) y → IsOneOf opening_turn 0 0 steps y
-  first_pending y at = elim (pending_all opening_turn 0 0 steps no_agenda y at) [
-    | inl none ↦ elim none [ inl in_turn ↦ absurd in_turn | inr waits ↦ absurd waits.1 ]
-    | inr one ↦ one
-  ]
+  first_pending y at = search (rules, pending_all)
 
   pub so_far_none : IsSoFar steps until [] (with_all opening_turn 0 0 steps no_agenda) opening_turn
-  so_far_none = record {
-    at = ready_all NoneEver (IsHeld steps []) 0 0 steps none_ready (λ y held. inr (held_first y held))
-        (λ y each. elim each [ inl none ↦ absurd none | inr one ↦ first_held y one ]);
-    held = λ y at. first_held y (first_pending y at);
-    after = λ k e x got at. absurd (cc);
-    alive = λ y at c. let there = c.there in absurd (cc);
-    complete = λ y held. inr (inl (all_pending opening_turn 0 0 steps no_agenda y (inr (held_first y held))));
-    in_order = λ i j x y lt at_i at_j. absurd (cc);
-    behind_holder = λ i x got. absurd (cc);
-    only_due = λ x done. let there = done.there in absurd (cc);
-    cancels = λ i x label got cancels. absurd (cc);
-    within = omega arith;
-  }
+  so_far_none = search (rules, ready_all, none_ready, held_first, first_held, first_pending, all_pending)
 
   -- where nothing comes next, they are in order
   pub in_order_at_end : (es : List Executed) (g : PlacedAgenda) (now : Turn) → IsSoFar steps until es g now → g.turn ≡ []

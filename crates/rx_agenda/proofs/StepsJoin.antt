@@ -8,6 +8,7 @@ use Rattle.rx_agenda.proofs.ComesBeforeIsAnOrder.{scheduled-trans, scheduled-asy
 use Rattle.rx_agenda.proofs.PlacedSteps.{Entry, PlacedAgenda, IsPending, with_placed_after, with_placed, with_placed-seen, seen}
 use Rattle.rx_agenda.proofs.EntriesRise.{bound_old_or_new, bound_none, bound_kept, bound_new, labelled_as, IsBorne, IsEntry, IsOfTurn, Rises, FirstOf}
 use Rattle.rx_agenda.proofs.EntriesRise.{IsLabelled, IsReady}
+use Rattle.std.proofs.Common.{rules}
 
 -- those before, and one more
 abbrev pub OrOne : (Placed → Type 0) → Placed → Placed → Type 0
@@ -24,7 +25,7 @@ module _ (Ever : Placed → Type 0) (x : Placed) (next beyond : Origin) (at : x.
   known_now = subst (λ (o : Origin). IsScheduledBefore o beyond) (sym at) on
 
   borne_more : (l : Name) → IsBorne Ever next l → IsBorne (OrOne Ever x) beyond l
-  borne_more l b = record { placed = b.placed; ever = inl b.ever; waits = b.waits; known = scheduled-trans b.placed.origin next beyond b.known on }
+  borne_more l b = search (rules, scheduled-trans)
 
   module _ (now : Turn) (g : PlacedAgenda) (r : IsReady Ever now next g) where
     entry_later : (tickets : ℕ) → g.timeline.tickets ≤ tickets → (e : Entry) → IsIn e g.timeline.work → IsEntry now beyond tickets e
@@ -246,13 +247,7 @@ ready_one {Ever} now h i s g r (Some delay) is = ready_wait Ever (placed_at now 
     (next_place h i) now g r delay (ap (turn_after now (held_by h i)) is) (ap is_some is)
 
 pending_one : (delay : Option ℕ) (x y : Placed) (g : PlacedAgenda) → IsPending (with_placed_after delay x g) y → IsPending g y ⊎ (y ≡ x)
-pending_one None x y g (inl there) = elim (in-push y g.turn x there) [ inl old ↦ inl (inl old) | inr new ↦ inr new ]
-pending_one None x y g (inr there) = inl (inr there)
-pending_one (Some delay) x y g (inl there) = inl (inl there)
-pending_one (Some delay) x y g (inr there) = elim (in-push there.0 g.timeline.work _ there.1) [
-  | inl old ↦ inl (inr (there.0, old, there.2))
-  | inr new ↦ inr (sym there.2 ∙ ap (λ (e : Entry). e.1.item) new)
-]
+pending_one x0 x y g x4 = search (rules, in-push)
 
 one_pending : (delay : Option ℕ) (x y : Placed) (g : PlacedAgenda) → IsPending g y ⊎ (y ≡ x) → IsPending (with_placed_after delay x g) y
 one_pending None x y g (inl (inl there)) = inl (in_front y g.turn (x ∷ []) there)
@@ -297,15 +292,7 @@ pub record IsReadyAt (Ever : Placed → Type 0) (now : Turn) (h : ℕ) (g : Plac
 ready_as : (Ever Same : Placed → Type 0) (now : Turn) (next : Origin) (g : PlacedAgenda) → ((y : Placed) → Same y → Ever y)
     → ((y : Placed) → Ever y → Same y) → IsReady Ever now next g
     → IsReady Same now next g
-ready_as Ever Same now next g to from r = record {
-  clock = r.clock;
-  rises = r.rises;
-  entries = r.entries;
-  turn_rises = r.turn_rises;
-  members = r.members;
-  head = r.head;
-  labelled = labelled_as Same next g.timeline.work g.labels (λ o before. before) to from r.labelled;
-}
+ready_as Ever Same now next g to from r = search (rules, labelled_as)
 
 pub ready_all : (Ever Same : Placed → Type 0) {now : Turn} (h i : ℕ) (ss : List Step) {g : PlacedAgenda} → IsReady Ever now (held_by h i) g
     → ((y : Placed) → Same y → Ever y ⊎ IsOneOf now h i ss y) → ((y : Placed) → Ever y ⊎ IsOneOf now h i ss y → Same y) → IsReadyAt Same now h
@@ -353,12 +340,9 @@ all_pending now h i (s ∷ ss) g y (inr (inr more)) =
 pub one_of_get : (now : Turn) (h i j : ℕ) (ss : List Step) (s : Step) → slice_get ss j ≡ Some s → IsOneOf now h i ss (placed_at now (held_by h (i + j)) s)
 one_of_get now h i j [] s got = absurd (cc)
 one_of_get now h i zero (x ∷ ss) s got =
-    let same : x ≡ s = cc in let place : i + 0 ≡ i = omega arith in
-    inl (λ k. placed_at now (held_by h (place k)) (sym same k))
+    search rules
 one_of_get now h i (suc j) (x ∷ ss) s got =
-    let rest : IsOneOf now h (i + 1) ss (placed_at now (held_by h (i + 1 + j)) s) = one_of_get now h (i + 1) j ss s got in
-    let place : i + 1 + j ≡ i + suc j = omega arith in
-    inr (subst (λ n. IsOneOf now h (i + 1) ss (placed_at now (held_by h n) s)) place rest)
+    search (rules, got, one_of_get now h (i + 1) j ss s got)
 
 pub record IsAt (now : Turn) (h i : ℕ) (ss : List Step) (y : Placed) : Type 0 where
   pub place : ℕ

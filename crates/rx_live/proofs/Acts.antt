@@ -1,13 +1,14 @@
 -- What a command hands in, and what the lines of a session come to.
-use Rattle.rx_live.proofs.Common.{◌≡◌, ℕ, Bool, true, false, cond, List, [], ◌++◌, map, Option, Some, None, refl, sym, ap, ◌∙◌, subst, is_some, ◌||◌, Name}
-use Rattle.rx_live.proofs.Common.{bytes_eq, option_map_or, Command, using, open_node, hold, lease, give_back}
-use Rattle.rx_live.proofs.Common.{make_hub, connect, drain, checkpoint, Refusal, State, Request, stands, hub_request, Accepts, Task, Act}
-use Rattle.rx_live.proofs.Common.{plain, open_holding, Cause, NoName, NameTaken, Book, Accepted, Refused, spot_of, Session, hub_of, has_resource, Carries}
-use Rattle.rx_live.proofs.Common.{Goes, IsAlike, Gives, NamesOne, BindsHub, released, with_held, Leads, no_act, hands_in, IsKept, holder_causes, OpensHolder}
+use Rattle.rx_live.proofs.Common.{◌≡◌, ℕ, Bool, true, false, cond, List, [], ◌++◌, map, Option, Some, None, refl, sym, ap, subst, is_some, ◌||◌, Name}
+use Rattle.rx_live.proofs.Common.{bytes_eq, option_map_or, Command}
+use Rattle.rx_live.proofs.Common.{Refusal, State, Request, stands, Accepts, Task, Act}
+use Rattle.rx_live.proofs.Common.{plain, Cause, Accepted, Refused, spot_of, Session, has_resource, Carries}
+use Rattle.rx_live.proofs.Common.{Goes, IsAlike, Gives, NamesOne, released, with_held, Leads, no_act, hands_in, IsKept}
 use Rattle.rx_live.proofs.Common.{Runs, Does, handed_by, IsCarried, Ends, GoesOn, no_line, one_line, IsFresh}
 use Rattle.rx_live.proofs.AcceptedBindsNames.{or_false, alike_same}
 use Rattle.rx_live.proofs.Laws.HeldStaysHeld.{leads_on, leads_same, alike_held, fresh_held}
 use Rattle.rx_live.proofs.SessionAfterCheckpoint.{refused_same}
+use Rattle.std.proofs.Common.{rules}
 
 -- what an accepted command says -----------------------------------------------------------------------
 
@@ -26,11 +27,7 @@ module _ {A : Type 0} (stand : State → A → Refusal → Bool) (accepts : Stat
 
   gave_none_by : (old new : Session) (asked : Option A) (taken : Bool) (bound : Session → Type 0) (why : Cause) →
       Gives stand accepts old asked taken bound (Refused why) new → IsAlike old new
-  gave_none_by old new None taken bound why gives = gives.1
-  gave_none_by old new (Some call) true bound why gives = gives.1
-  gave_none_by old new (Some call) false bound NoName gives = absurd gives
-  gave_none_by old new (Some call) false bound NameTaken gives = absurd gives
-  gave_none_by old new (Some call) false bound (Book cause) gives = gives.1
+  gave_none_by old new x2 taken bound why gives = search rules
 
 pub gave : (old new : Session) (asked : Option Request) (taken : Bool) (bound : Session → Type 0) → Gives stands Accepts old asked taken bound Accepted new →
     HasGiven (λ call. Accepts old.book call new.book) taken (bound new)
@@ -41,8 +38,7 @@ gave_none : (old new : Session) (asked : Option Request) (taken : Bool) (bound :
 gave_none = gave_none_by stands Accepts
 
 went : (old new : Session) (asked : Option Request) → Carries old asked Accepted new → new ≡ record old { book = new.book }
-went old new None carries = let e = carries.0 in absurd (cc)
-went old new (Some call) carries = carries.1
+went old new x2 carries = search rules
 
 -- the same names are held -----------------------------------------------------------------------------
 
@@ -51,56 +47,22 @@ same_held old new resources unnamed n = λ i. is_some (spot_of (resources i) n) 
 
 one_held : (old new : Session) (name : Name) (number : ℕ) → NamesOne old.resources name number new.resources → new.unnamed ≡ old.unnamed →
     (n : Name) → has_resource new n ≡ with_held true name (has_resource old) n
-one_held old new name number one unnamed n = (λ i. is_some (one.binds.spots n i) || option_map_or (bytes_eq n) (unnamed i) false) ∙ shape (bytes_eq name n)
-  where
-    shape : (b : Bool) →
-        (is_some (cond b (Some one.spot) (spot_of old.resources n)) || option_map_or (bytes_eq n) old.unnamed false) ≡ cond b true (has_resource old n)
-    shape true = refl
-    shape false = refl
+one_held old new name number one unnamed n = search (rules, is_some, option_map_or, bytes_eq, cond)
 
 keeps : (old new : Session) → ((n : Name) → has_resource new n ≡ has_resource old n) → Leads (has_resource old) [] (has_resource new)
 keeps old new same = no_act same
 
 by_goes : (old new : Session) (asked : Option Request) → Goes old asked Accepted new → Leads (has_resource old) [] (has_resource new)
 by_goes old new asked goes =
-    let is = went old new asked goes.carries in
-    no_act (same_held old new (ap (λ (s : Session). s.resources) is) (ap (λ (s : Session). s.unnamed) is))
+    search (rules, went, no_act, same_held)
 
 -- a command that is carried out hands in what it is to hand in, which was not held
 runs_hands : (old new : Session) (c : Command) → Runs old c Accepted new → Leads (has_resource old) (handed_by (plain c)) (has_resource new)
-runs_hands old new (using name site res) runs =
-    let given = gave old new _ _ _ runs.gives in
-    let free = (or_false _ (has_resource old res) given.free).1 in
-    hands_in res free (no_act (one_held old new res _ given.binds.resource (ap (λ (s : Session). s.unnamed) given.binds.rest)))
-runs_hands old new (hold node res) runs =
-    let given = gave old new _ _ _ runs.gives in
-    hands_in res given.free (no_act (one_held old new res _ given.binds.resource (ap (λ (s : Session). s.unnamed) given.binds.rest)))
-runs_hands old new (open_node name site sort) runs =
-    let is = (gave old new _ _ _ runs.gives).binds.rest in
-    no_act (same_held old new (ap (λ (s : Session). s.resources) is) (ap (λ (s : Session). s.unnamed) is))
-runs_hands old new (lease res name) runs =
-    let is = (gave old new _ _ _ runs.gives).binds.rest in
-    no_act (same_held old new (ap (λ (s : Session). s.resources) is) (ap (λ (s : Session). s.unnamed) is))
-runs_hands old new (give_back name) runs =
-    let is = (gave old new _ _ _ runs.gives).binds.rest in
-    no_act (same_held old new (ap (λ (s : Session). s.resources) is) (ap (λ (s : Session). s.unnamed) is))
-runs_hands old new (make_hub name mode) runs =
-    let is = (gave old new (Some (hub_request mode)) (is_some (hub_of old name)) (BindsHub old name) runs.gives).binds.rest in
-    no_act (same_held old new (ap (λ (s : Session). s.resources) is) (ap (λ (s : Session). s.unnamed) is))
-runs_hands old new (connect hub name) runs =
-    let is = (gave old new _ _ _ runs.gives).binds.rest in
-    no_act (same_held old new (ap (λ (s : Session). s.resources) is) (ap (λ (s : Session). s.unnamed) is))
-runs_hands old new drain runs = no_act (λ n. ap (λ (s : Session). has_resource s n) runs.1)
-runs_hands old new checkpoint runs = no_act (same_held old new (ap (λ (s : Session). s.resources) runs.rest) (ap (λ (s : Session). s.unnamed) runs.rest))
-runs_hands old new _ runs = by_goes old new _ runs
+runs_hands old new x2 runs = search (rules, gave, or_false, hands_in, no_act, one_held, same_held, is_some, by_goes)
 
 -- and so does a task
 does_hands : (old new : Session) (t : Task) → Does old t Accepted new → Leads (has_resource old) (handed_by t) (has_resource new)
-does_hands old new (plain c) does = runs_hands old new c does
-does_hands old new (open_holding name site sort res) does =
-    let given = gave_by holder_causes OpensHolder old new _ _ _ does.gives in
-    let free = (or_false _ (has_resource old res) given.free).1 in
-    hands_in res free (no_act (one_held old new res _ given.binds.resource (ap (λ (s : Session). s.unnamed) given.binds.opened.rest)))
+does_hands old new x2 does = search (rules, runs_hands, gave_by, or_false, hands_in, no_act, one_held)
 
 -- all of a carried line
 pub carried_leads : (old new : Session) (t : Task) (text : List ℕ) (acts : List Act) → IsCarried old t text acts new →
@@ -125,31 +87,18 @@ goes_leads (one_line line text new sent rest) = leads_on sent.leads (goes_leads 
 pub session_kept : (first last new : Session) (acts : List Act) (text : List ℕ) → IsFresh first → GoesOn first acts last → (ends : Ends last text new) →
     IsKept (acts ++ map released ends.names)
 session_kept first last new acts text fresh goes ends =
-    leads_same (λ n. false) (has_resource first) (λ n. false) (acts ++ map released ends.names) (fresh_held first fresh) (leads_on (goes_leads goes) ends.leads)
+    search (rules, leads_same, map, fresh_held, leads_on, goes_leads)
 
 -- a refused command ----------------------------------------------------------------------------------
 
 went_none : (old new : Session) (asked : Option Request) (why : Cause) → Carries old asked (Refused why) new → new ≡ old
-went_none old new None why carries = carries.1
-went_none old new (Some call) NoName carries = absurd carries
-went_none old new (Some call) NameTaken carries = absurd carries
-went_none old new (Some call) (Book cause) carries = carries.1
+went_none old new x2 why carries = search rules
 
 same_alike : (old new : Session) → new ≡ old → IsAlike old new
 same_alike old new same = subst (λ (s : Session). IsAlike old s) (sym same) (alike_same old)
 
 command_alike : (old new : Session) (c : Command) (why : Cause) → Runs old c (Refused why) new → IsAlike old new
-command_alike old new (using name site res) why runs = gave_none old new _ _ _ why runs.gives
-command_alike old new (open_node name site sort) why runs = gave_none old new _ _ _ why runs.gives
-command_alike old new (hold node res) why runs = gave_none old new _ _ _ why runs.gives
-command_alike old new (lease res name) why runs = gave_none old new _ _ _ why runs.gives
-command_alike old new (give_back name) why runs = gave_none old new _ _ _ why runs.gives
-command_alike old new (make_hub name mode) why runs = gave_none old new (Some (hub_request mode)) (is_some (hub_of old name)) (BindsHub old name) why runs.gives
-command_alike old new (connect hub name) why runs = gave_none old new _ _ _ why runs.gives
-command_alike old new drain why runs = same_alike old new runs.1
-command_alike old new checkpoint why runs = same_alike old new (refused_same old new why runs)
-command_alike old new _ why runs = same_alike old new (went_none old new _ why runs.carries)
+command_alike old new x2 why runs = search (rules, gave_none, is_some, same_alike, refused_same, went_none)
 
 pub refused_alike : (old new : Session) (t : Task) (why : Cause) → Does old t (Refused why) new → IsAlike old new
-refused_alike old new (plain c) why does = command_alike old new c why does
-refused_alike old new (open_holding name site sort res) why does = gave_none_by holder_causes OpensHolder old new _ _ _ why does.gives
+refused_alike old new x2 why does = search (rules, command_alike, gave_none_by)

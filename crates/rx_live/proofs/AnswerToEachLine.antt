@@ -1,7 +1,7 @@
 -- What an answer says of the session.
 use Rattle.rx_live.proofs.Common.{◌≡◌, ℕ, List, [], ◌++◌, codes, map, Option, Some, None, Result, Ok, Err, refl, ap, ◌∙◌, append_assoc, subst, Bool, true}
 use Rattle.rx_live.proofs.Common.{false, IfOk, OnOk, is_some, AllocError, Name, Task, Order, task, query, list, dump, refused_text, faulty_text, name_text}
-use Rattle.rx_live.proofs.Common.{member_text, Cause, Accepted, Refused, Session, IsSound, has_resource, released, no_act, told_text, WritesNotes, is_late}
+use Rattle.rx_live.proofs.Common.{member_text, Cause, Accepted, Refused, Session, IsSound, released, no_act, told_text, WritesNotes, is_late}
 use Rattle.rx_live.proofs.Common.{late_text, all_names, front_text, closed_names, SaysClosed, Renews, IsFullByOpen, query_text, dump_text, Does, handed_by}
 use Rattle.rx_live.proofs.Common.{TellsAll, as_it_was, renewed, FindsFull, Ends, IsClosed, Answered, IsFullByAge, Writes, Tries}
 use Rattle.rx_live.specs.Lines.{CarriesOut, refuses, carries, is_faulty, is_refused, is_carried, is_queried, is_listed, is_dumped, AnswersAsked}
@@ -9,12 +9,12 @@ use Rattle.rx_live.proofs.Laws.HeldStaysHeld.{leads_same, alike_held, renewed_he
 use Rattle.rx_live.proofs.AcceptedBindsNames.{alike_same}
 use Rattle.rx_live.proofs.Acts.{carried_leads, refused_alike}
 use Rattle.rx_live.proofs.Listings.{leads_all}
+use Rattle.std.proofs.Common.{rules}
 
 -- behind what was written
 behind : (b f p q r s : List ℕ) → b ++ f ++ p ++ q ++ r ++ s ≡ b ++ (f ++ p ++ q ++ r ++ s)
 behind b f p q r s =
-    ap (λ (t : List ℕ). t ++ q ++ r ++ s) (append_assoc b f p) ∙ ap (λ (t : List ℕ). t ++ r ++ s) (append_assoc b (f ++ p) q)
-    ∙ ap (λ (t : List ℕ). t ++ s) (append_assoc b (f ++ p ++ q) r) ∙ append_assoc b (f ++ p ++ q ++ r) s
+    search (rules, append_assoc)
 
 -- a task that is carried out
 pub carried_out : {old : Session} (done new : Session) (k : Task) (begun front said text : List ℕ) → Does old k Accepted done →
@@ -38,7 +38,16 @@ carried_out {old} done new k begun front said text does is closed tells =
     } in
     record {
       answer = answer;
-      is = carries (handed_by k ++ map released all.names) (record { done = done; does = does; said = said; closed = closed; left = new; tells = all; alike = alike_same new; acts_are = refl });
+      is = carries (handed_by k ++ map released all.names) (record {
+        done = done;
+        does = does;
+        said = said;
+        closed = closed;
+        left = new;
+        tells = all;
+        alike = alike_same new;
+        acts_are = refl;
+      });
       written = tells.written ∙ behind begun (front ++ said) notes names late (codes "}")
           ∙ ap (λ (t : List ℕ). begun ++ (t ++ said ++ notes ++ names ++ late ++ codes "}")) is;
     }
@@ -66,9 +75,7 @@ tried_task old new asked k begun text (Ok false) order tried = (record { t = k; 
 -- an answer that changed nothing
 pub tried_said : (old : Session) (asked : Option Order) (begun answer text : List ℕ) (result : Result Bool AllocError) → Answered old asked old answer →
     IfOk result (λ b. b ≡ true) → OnOk result (text ≡ begun ++ answer) → IfOk result (Tries (Answered old asked old) (IsFullByAge old asked old) begun text)
-tried_said old asked begun answer text (Err e) answered done is = tt
-tried_said old asked begun answer text (Ok true) answered done is = record { answer = answer; is = answered; written = is }
-tried_said old asked begun answer text (Ok false) answered done is = absurd (cc)
+tried_said old asked begun answer text x5 answered done is = search rules
 
 pub answered_queried : (old : Session) (asked : Option Order) (text : List ℕ) (node : Name) → asked ≡ Some (query node) → text ≡ query_text old node →
     Answered old asked old text
@@ -94,22 +101,12 @@ found_so p q begun text is tried = subst (λ (b : Bool). Tries p q begun text b)
 pub sent_first : (old new : Session) (asked : Option Order) (begun text : List ℕ) → Writes (Answered old asked new) begun text → IsSound new →
     Writes (λ t. AnswersAsked old asked t new) begun text
 sent_first old new asked begun text wrote sound =
-    written_as (Answered old asked new) (λ t. AnswersAsked old asked t new) begun text
-    (λ t answered. record { aged = old; ages = as_it_was; acts = answered.acts; answer = answered.answer; leads = answered.leads; sound = sound }) wrote
+    search (rules, written_as, as_it_was)
 
 pub sent_again : {old mid : Session} (aged new : Session) (asked : Option Order) (begun text : List ℕ) → IsFullByAge old asked mid → Renews mid aged →
     Writes (Answered aged asked new) begun text → IsSound new → Writes (λ t. AnswersAsked old asked t new) begun text
 sent_again {old} {mid} aged new asked begun text full renews wrote sound =
-    let same : (n : Name) → has_resource aged n ≡ has_resource old n = renewed_held old mid aged full.full.alike renews in
-    written_as (Answered aged asked new) (λ t. AnswersAsked old asked t new) begun text
-    (λ t answered. record {
-      aged = aged;
-      ages = renewed mid full.t full.order full.full renews;
-      acts = answered.acts;
-      answer = answered.answer;
-      leads = leads_same (has_resource old) (has_resource aged) (has_resource new) answered.acts same answered.leads;
-      sound = sound;
-    }) wrote
+    search (rules, renewed_held, written_as, renewed, leads_same)
 
 -- the last line
 pub ended : {old : Session} (left new : Session) (front after text : List ℕ) → IsSound old →

@@ -9,6 +9,7 @@ use Rattle.rx_live.specs.Taken.{WritesEach, comma_if, AnsweredArray, AnsweredVal
 use Rattle.rx_live.proofs.Laws.HeldStaysHeld.{leads_on, waits_held}
 use Rattle.rx_live.proofs.AcceptedBindsNames.{alike_same}
 use Rattle.rx_live.proofs.Tellings.{joined_more}
+use Rattle.std.proofs.Common.{rules}
 
 -- an element ------------------------------------------------------------------------------------------
 
@@ -23,11 +24,7 @@ no_memory = refl
 
 pub element_put_off : (old new : Session) (asked : Option Order) (begun mid text : List ℕ) → WaitsFor asked old new → mid ≡ begun →
     text ≡ mid ++ codes "{\"refused\":\"NoMemory\"}" → Writes (AnsweredOne old asked new) begun text
-element_put_off old new asked begun mid text waits same written = record {
-  answer = refused_text (Book NoMemory);
-  is = record { acts = []; one = is_put_off waits };
-  written = written ∙ (λ i. same i ++ no_memory i);
-}
+element_put_off old new asked begun mid text waits same written = search (rules, is_put_off, no_memory)
 
 -- the elements ----------------------------------------------------------------------------------------
 
@@ -37,12 +34,7 @@ answering_begun s ds begun = record { texts = []; acts = []; later = λ new more
 -- one piece more
 joined_on : (begun : List ℕ) (texts : List (List ℕ)) (first : Bool) (t : List ℕ) → first ≡ is_nil texts →
     ((begun ++ joined texts) ++ comma_if first) ++ t ≡ begun ++ joined (texts ++ t ∷ [])
-joined_on begun [] true t is = ap (λ (u : List ℕ). u ++ t) (append-nil (begun ++ []) ∙ append-nil begun) ∙ ap (λ (u : List ℕ). begun ++ u) (sym (append-nil t))
-joined_on begun (p ∷ ps) false t is =
-    append_assoc (begun ++ joined (p ∷ ps)) (codes ",") t ∙ append_assoc begun (joined (p ∷ ps)) (codes "," ++ t)
-    ∙ ap (λ (u : List ℕ). begun ++ u) (sym (append_assoc (joined (p ∷ ps)) (codes ",") t) ∙ joined_more p ps t)
-joined_on begun [] false t is = absurd (cc)
-joined_on begun (p ∷ ps) true t is = absurd (cc)
+joined_on begun x1 x2 t is = search (rules, append-nil, append_assoc, codes, joined_more)
 
 not_nil : (texts : List (List ℕ)) (t : List ℕ) → false ≡ is_nil (texts ++ t ∷ [])
 not_nil [] t = refl
@@ -62,7 +54,8 @@ answering_on {old} {now} {mid} {all} {left} d rest begun before led text first s
           let all_of : AnswersEach now left (t ∷ more) (wrote.is.acts ++ done) new =
           subst (λ (ds : Items). AnswersEach now ds (t ∷ more) (wrote.is.acts ++ done) new) (sym next) (one_more mid wrote.is.one each) in
           subst (λ (ts : List (List ℕ)). AnswersEach old all ts ((acts ++ wrote.is.acts) ++ done) new) (sym (append_assoc texts (t ∷ []) more))
-          (subst (λ (bs : List Act). AnswersEach old all (texts ++ t ∷ more) bs new) (sym (append_assoc acts wrote.is.acts done)) (so_far.later new (t ∷ more) (wrote.is.acts ++ done) all_of));
+          (subst (λ (bs : List Act). AnswersEach old all (texts ++ t ∷ more) bs new) (sym (append_assoc acts wrote.is.acts done)) (so_far.later new (t ∷
+          more) (wrote.is.acts ++ done) all_of));
       written = wrote.written ∙ ap (λ (u : List ℕ). u ++ t) (leads ∙ ap (λ (u : List ℕ). u ++ comma_if first) so_far.written)
           ∙ joined_on begun texts first t so_far.first;
       first = not_nil texts t;
@@ -82,18 +75,12 @@ answering_ended {old} {now} {all} {left} begun text first so_far none =
 
 pub array_answered : (old new : Session) (ds : Items) (front mid text : List ℕ) → front ≡ codes "[" → WritesEach old ds front new mid → text ≡ mid ++ codes "]" →
     AnsweredArray old ds new text
-array_answered old new ds front mid text begins wrote ends = record {
-  texts = wrote.texts;
-  acts = wrote.acts;
-  each = wrote.each;
-  is = ends ∙ ap (λ (t : List ℕ). t ++ codes "]") (wrote.written ∙ ap (λ (t : List ℕ). t ++ joined wrote.texts) begins);
-}
+array_answered old new ds front mid text begins wrote ends = search (rules, codes)
 
 -- what they hand in and release
 one_leads : {old new : Session} {asked : Option Order} {text : List ℕ} {acts : List Act} → AnswersOne old asked text acts new →
     Leads (has_resource old) acts (has_resource new)
-one_leads (is_taken one) = one.leads
-one_leads {old} {new} (is_put_off waits) = no_act (waits_held old new waits)
+one_leads x0 = search (rules, no_act, waits_held)
 
 each_leads : {old new : Session} {ds : Items} {texts : List (List ℕ)} {acts : List Act} → AnswersEach old ds texts acts new →
     Leads (has_resource old) acts (has_resource new)
@@ -119,8 +106,7 @@ waits_same asked old new same =
 
 pub array_waits : (asked : Option Order) (old new : Session) (result : Result (String Global) AllocError) → OnErr result (new ≡ old) →
     OnErr result (WaitsFor asked old new)
-array_waits asked old new (Ok s) same = same
-array_waits asked old new (Err e) same = waits_same asked old new same
+array_waits asked old new x3 same = search (rules, waits_same)
 
 -- a line ----------------------------------------------------------------------------------------------
 
@@ -132,9 +118,7 @@ line_sent old new line d (Ok s) json sound value =
 
 pub line_waits : (old new : Session) (line : List ℕ) (d : Data) (result : Result (String Global) AllocError) → IsJsonOf line d →
     OnErr result (WaitsFor (order_in d) old new) → OnErr result (IsPutOff line old new)
-line_waits old new line d (Ok s) json waits = waits
-line_waits old new line d (Err e) json waits =
-    record { asked = order_in d; order = λ o is. record { value = d; json = json; order = is }; waits = waits }
+line_waits old new line d x4 json waits = search rules
 
 pub line_faulty : (s : Session) (line told : List ℕ) (result : Result (String Global) AllocError) → ((d : Data) → ¬ IsJsonOf line d) → IsSound s →
     IfOk result (λ t. string_bytes t ≡ faulty_text told) → IfOk result (λ t. Sends s line (string_bytes t) s)

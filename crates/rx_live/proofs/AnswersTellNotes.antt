@@ -3,7 +3,7 @@ use Rattle.rx_live.proofs.Common.{◌≡◌, ℕ, ◌≤◌, Bool, List, [], ◌
 use Rattle.rx_live.proofs.Common.{is_some, option_to_list, append-nil, drop_at, drop-append-le, Mail, Event, Kept, notes, mail_of, moments, Call, outside_of}
 use Rattle.rx_live.proofs.Common.{IsStepOf, IsForcedOn, stays, more, notes-push, Data, Items, Task, plain, open_holding, Order, Command, using, open_node}
 use Rattle.rx_live.proofs.Common.{hold, lease, give_back, make_hub, connect, drain, Goes}
-use Rattle.rx_live.proofs.Common.{checkpoint, State, Request, stands, hub_request, take_request, Accepts, Accepted, Session, hub_of, Carries, IsAlike, Gives}
+use Rattle.rx_live.proofs.Common.{checkpoint, State, Request, stands, hub_request, Accepts, Accepted, Session, hub_of, Carries, IsAlike, Gives}
 use Rattle.rx_live.proofs.Common.{BindsHub, to_tell, Takes, none_taken, one_taken, Renews, holder_causes, OpensHolder, Runs, Does, IsCarried, GoesOn, no_line}
 use Rattle.rx_live.proofs.Common.{one_line, IsFresh, IsAged, as_it_was, renewed, is_put_off, Act}
 use Rattle.rx_live.specs.Lines.{IsAnswer, is_faulty, is_refused, is_carried, is_queried, is_listed, is_dumped, AnswersAsked, AnswersOne, is_taken, none_left}
@@ -12,6 +12,7 @@ use Rattle.rx_live.specs.Sessions.{told_by, written_of, written_by, told_one, wr
 use Rattle.rx_live.specs.Sessions.{written_line, told_in, written_in}
 use Rattle.rx_live.proofs.Acts.{gave, gave_by, refused_alike}
 use Rattle.rx_live.proofs.OpenedNodesHold.{opening, holding}
+use Rattle.std.proofs.Common.{rules}
 
 -- a history that goes on ------------------------------------------------------------------------------
 
@@ -64,7 +65,7 @@ owes_more old new goes given untold behind =
 
 owes_call : (old new : Session) (asked : Request) → Accepts old.book asked new.book → new.untold ≡ old.untold → IsBehind old → Owes old new
 owes_call old new asked accepts untold behind =
-    owes_more old new (noted_step old.book.base old.book.history new.book.history asked.call accepts.step) accepts.given untold behind
+    search (rules, owes_more, noted_step, behind)
 
 -- a command -------------------------------------------------------------------------------------------
 
@@ -125,7 +126,7 @@ noted_do old new (open_holding name site sort res) does behind =
 noted_takes : {a b : State} → Takes a b → GoesOnNoted a.history b.history
 noted_takes {a} none_taken = noted_none a.history
 noted_takes {a} {b} (one_taken mid r before accepts) =
-    noted_on (noted_takes before) (noted_step mid.base mid.history b.history (take_request r).call accepts.step)
+    search (rules, noted_on, noted_step, noted_takes before)
 
 given_takes : {a b : State} → Takes a b → b.given ≡ a.given
 given_takes none_taken = refl
@@ -147,8 +148,7 @@ nil_last (x ∷ xs) ys is = absurd (cc)
 -- behind a checkpoint there are no notes yet
 begun_silent : (old new : Session) → Renews old new → notes new.book.history ≡ []
 begun_silent old new renews =
-    nil_last (option_to_list new.untold) (notes new.book.history)
-    (ap (λ (g : ℕ). option_to_list new.untold ++ drop g (notes new.book.history)) (sym renews.book.given) ∙ renews.untold)
+    search (rules, nil_last, option_to_list, drop)
 
 -- what was told and released after the task was carried out
 module _ (old new : Session) (t : Task) (text : List ℕ) (acts : List Act) (carried : IsCarried old t text acts new) where
@@ -157,15 +157,11 @@ module _ (old new : Session) (t : Task) (text : List ℕ) (acts : List Act) (car
       (ap (λ (s : Session). s.untold) carried.tells.releases.rest) carried.tells.sound.kept.given
 
   all_notes : notes new.book.history ≡ notes carried.done.book.history ++ later.goes.rest
-  all_notes = ap (λ (b : State). notes b.history) carried.alike.book ∙ later.goes.is
-      ∙ ap (λ (s : Session). notes s.book.history ++ later.goes.rest) carried.tells.tells.rest
+  all_notes = search rules
 
   last_told : (front : List Mail) → to_tell carried.done ≡ front → front ++ later.goes.rest ≡ carried.tells.tells.mails ++ to_tell new
   last_told front is =
-      let mails : List Mail = carried.tells.tells.mails in
-      ap (λ (ms : List Mail). ms ++ later.goes.rest) (sym is ∙ carried.tells.tells.left)
-      ∙ append_assoc mails (to_tell carried.tells.mid) later.goes.rest
-      ∙ ap (λ (ms : List Mail). mails ++ ms) (sym later.owed ∙ sym (alike_tells carried.left new carried.alike))
+      search (rules, is, append_assoc, alike_tells)
 
   carried_balances : IsBehind old → Balances old new (written_of t (notes old.book.history) (notes new.book.history)) carried.tells.tells.mails
   carried_balances behind = by_run (noted_do old carried.done t carried.does behind) where

@@ -5,6 +5,7 @@ use Rattle.rx_live.proofs.Common.{eq-eqb, none-some, same_Some, list_any_push, N
 use Rattle.rx_live.proofs.Common.{node_in, AreOpenSame, AreOpen}
 use Rattle.rx_live.proofs.AcceptedBindsNames.{forgot}
 use Rattle.rx_live.proofs.NamesOfOpenNodes.{no_node, node_found, open_forgot}
+use Rattle.std.proofs.Common.{rules}
 
 abbrev pub spot_at : Names → ℕ → Option Spot
 spot_at nodes number = option_and_then (spot_of nodes) (name_of nodes number)
@@ -70,8 +71,7 @@ AreLeft book nodes numbers =
     (k : ℕ) (name : Name) → name_of nodes k ≡ Some name → (is_some (node_in book nodes name) ≡ true) ⊎ (list_any (nat_eq k) numbers ≡ true)
 
 or_cases : (a b : Bool) → (a || b) ≡ true → (a ≡ true) ⊎ (b ≡ true)
-or_cases true b is = inl refl
-or_cases false b is = inr is
+or_cases x0 b is = search rules
 
 pub left_one : (book : State) (old new : Names) (numbers : List ℕ) (n : ℕ) → AreOpenSame None book old new →
     ((name : Name) → name_of new n ≡ Some name → is_some (node_in book new name) ≡ true) → AreLeft book old (numbers ++ n ∷ []) → AreLeft book new numbers

@@ -1,14 +1,12 @@
 -- A session that was closed is sound.
-use Rattle.rx_live.proofs.Common.{◌≡◌, ℕ, ◌<◌, Bool, true, false, List, [], map, refl, sym, ap, ◌∙◌, arith, subst, inl, inr, ◌⊎◌, is_some, not, ◌&&◌, Event}
+use Rattle.rx_live.proofs.Common.{◌≡◌, ℕ, Bool, true, false, List, [], map, sym, ap, ◌∙◌, inl, inr, ◌⊎◌, is_some, not, ◌&&◌, Event}
 use Rattle.rx_live.proofs.Common.{Contains, list_any, none-some, makes_resource, is_take_of, at, is_out, is_held, is_waiting, is_taken, IsPromised, is_kept}
 use Rattle.rx_live.proofs.Common.{IsPaired, Session, IsSound, IsClosed}
 use Rattle.std.proofs.lemmas.Bool.{false_from_ne_true}
+use Rattle.std.proofs.Common.{rules}
 
 kept_shape : (made held gone : Bool) → (made && not gone) ≡ true → (held ≡ true) ⊎ ((made && not held && not (made && gone)) ≡ true)
-kept_shape made true gone p = inl refl
-kept_shape true false false p = inr refl
-kept_shape true false true p = absurd (cc)
-kept_shape false false gone p = absurd (cc)
+kept_shape made x1 gone p = search rules
 
 -- what is kept is held or waits
 kept_where : (h : List Event) (r : ℕ) → is_kept h r ≡ true → (is_held h r ≡ true) ⊎ (is_waiting h r ≡ true)
@@ -17,7 +15,7 @@ kept_where h r kept = kept_shape (at makes_resource h r) (is_held h r) (list_any
 
 none_in : {L : Type 0} (number : L → ℕ) (ls : List L) (r : ℕ) → ls ≡ [] → Contains (map number ls) r → ⊥
 none_in {L} number ls r none within =
-    let there : Contains (map number []) r = subst (λ (l : List L). Contains (map number l) r) none within in (let l : there.0 < 0 = there.1 in omega arith)
+    search (rules, map)
 
 pub closed_sound : (t : Session) → IsPromised t.book → IsClosed t → IsPaired t.nodes → IsPaired t.hubs → IsPaired t.resources → IsPaired t.leases → IsSound t
 closed_sound t kept closed nodes hubs resources leases = record {

@@ -1,6 +1,6 @@
 -- Names that are released one after another.
 use Rattle.rx_live.proofs.Common.{◌≡◌, ℕ, ◌≤◌, ◌==◌, zero, suc, Bool, true, false, cond, List, [], ◌∷◌, ◌++◌, codes, length, map, Option, Some, None, refl}
-use Rattle.rx_live.proofs.Common.{option_map, sym, ap, ◌∙◌, arith, subst, String, Global, string_bytes, IfSome, IfNone, is_some, IsTrue, not, ◌&&◌, ◌||◌, at}
+use Rattle.rx_live.proofs.Common.{option_map, sym, ap, ◌∙◌, arith, subst, String, Global, string_bytes, IfSome, IfNone, is_some, not, ◌&&◌, ◌||◌, at}
 use Rattle.rx_live.proofs.Common.{bytes_eq, Contains, list_any, option_map_or, append-nil, map-append, All-contains, none-some, bytes_eq-Decides, Taking, Act}
 use Rattle.rx_live.proofs.Common.{Event, makes_resource, is_take_of, is_waiting, is_held, is_taken, Name, State, IsPromised, is_kept, take_request, Accepts}
 use Rattle.rx_live.proofs.Common.{Spot, Names, spot_of, name_of, IsPaired, Forgets, name_text, joined, Session, IsSound, has_resource, released, Leads, Takes}
@@ -11,14 +11,12 @@ use Rattle.rx_live.proofs.Soundness.{accepted_longer}
 use Rattle.rx_live.proofs.AcceptedBindsNames.{placed_longer, some_gone}
 use Rattle.rx_live.proofs.NamesOfOpenNodes.{free_forgot}
 use Rattle.rx_live.proofs.Tellings.{array_more, array_end}
+use Rattle.std.proofs.Common.{rules}
 
 -- what waits is kept, and so has a name --------------------------------------------------------------
 
 kept_shape : (made held gone : Bool) → (made && not held && not (made && gone)) ≡ true → (made && not gone) ≡ true
-kept_shape true true gone p = absurd (cc)
-kept_shape true false true p = absurd (cc)
-kept_shape true false false p = refl
-kept_shape false held gone p = absurd (cc)
+kept_shape x0 x1 gone p = search rules
 
 waiting_kept : (h : List Event) (r : ℕ) → is_waiting h r ≡ true → is_kept h r ≡ true
 unfolding is_waiting is_taken is_kept
@@ -34,14 +32,11 @@ contains_number number ls l r within is = subst (λ (n : ℕ). Contains (map num
 
 pub waiting_named : (s : Session) (r : ℕ) → IsSound s → Contains (map (λ l. l.number) s.book.waiting) r → is_some (name_of s.resources r) ≡ true
 waiting_named s r sound member =
-    sound.resources r ∙
-    waiting_kept s.book.history r
-    (All-contains (λ (n : ℕ). IsTrue (is_waiting s.book.history n)) (map (λ l. l.number) s.book.waiting) r sound.kept.waiting.each member)
+    search (rules, waiting_kept, All-contains, map)
 
 pub never_none : (result : Option (String Global)) (named : Option Name) (P : Type 0) → option_map string_bytes result ≡ named → is_some named ≡ true →
     IfNone result P
-never_none None named P value some = let e : false ≡ true = ap is_some value ∙ some in absurd (cc)
-never_none (Some n) named P value some = tt
+never_none x0 named x2 value some = search (rules, is_some)
 
 -- of the names t, what is told of resource q is gone, and was its name
 pub record IsForgotten (s : Session) (q : ℕ) (told : Option (String Global)) (t : Names) : Type 0 where
@@ -81,50 +76,18 @@ eq_sym : (m n : Name) → bytes_eq m n ≡ true → bytes_eq n m ≡ true
 eq_sym m n same = (bytes_eq-Decides n m).1 (sym ((bytes_eq-Decides m n).0 same))
 
 apart_sym : (m n : Name) → bytes_eq m n ≡ false → bytes_eq n m ≡ false
-apart_sym m n apart = by_test (bytes_eq n m) refl where
-  by_test : (b : Bool) → bytes_eq n m ≡ b → bytes_eq n m ≡ false
-  by_test true same = let e : false ≡ true = sym apart ∙ eq_sym n m same in absurd (cc)
-  by_test false is = is
+apart_sym m n apart = search (rules, bytes_eq, eq_sym)
 
 or_true : (a b : Bool) → b ≡ true → (a || b) ≡ true
-or_true true b p = refl
-or_true false b p = p
+or_true x0 b p = search rules
 
 pub or_none : (a b : Bool) → b ≡ false → (a || b) ≡ a
-or_none true b p = refl
-or_none false b p = p
+or_none x0 b p = search rules
 
 -- the name of a resource that was taken before
 pub dropped_unnamed : (s : Session) (name : Name) (rest : Option Name) → IsSound s → s.unnamed ≡ Some name → rest ≡ None →
     DropsName s name (record s { unnamed = rest })
-dropped_unnamed s name rest sound is none = record {
-  was =
-      or_true (is_some (spot_of s.resources name)) _
-      (ap (λ (o : Option Name). option_map_or (bytes_eq name) o false) is ∙ (bytes_eq-Decides name name).1 refl);
-  held = λ n. by_name n (bytes_eq name n) refl;
-  free = free;
-  gone = none;
-  takes = none_taken;
-  rest = refl;
-  fewer = let one : ◌≡◌ {A = ℕ} (option_map_or (λ (n : Name). 1) s.unnamed 0) 1 = ap (λ (o : Option Name). option_map_or (λ (n : Name). 1) o 0) is in
-      let none_there : ◌≡◌ {A = ℕ} (option_map_or (λ (n : Name). 1) rest 0) 0 = ap (λ (o : Option Name). option_map_or (λ (n : Name). 1) o 0) none in
-      omega (arith, one, none_there);
-} where
-  free : spot_of s.resources name ≡ None
-  free = sound.unnamed name is
-
-  by_name : (n : Name) (b : Bool) → bytes_eq name n ≡ b →
-      (is_some (spot_of s.resources n) || option_map_or (bytes_eq n) rest false) ≡ cond (bytes_eq name n) false (has_resource s n)
-  by_name n true same =
-      let there : spot_of s.resources n ≡ None = ap (spot_of s.resources) (sym ((bytes_eq-Decides name n).0 same)) ∙ free in
-      (λ i. is_some (there i) || option_map_or (bytes_eq n) (none i) false) ∙ sym (ap (λ (b : Bool). cond b false (has_resource s n)) same)
-  by_name n false apart =
-      let other : option_map_or (bytes_eq n) s.unnamed false ≡ false =
-      ap (λ (o : Option Name). option_map_or (bytes_eq n) o false) is ∙ apart_sym name n apart in
-      let gone : option_map_or (bytes_eq n) rest false ≡ false = ap (λ (o : Option Name). option_map_or (bytes_eq n) o false) none in
-      or_none (is_some (spot_of s.resources n)) _ gone ∙
-      sym (or_none (is_some (spot_of s.resources n)) _ other) ∙
-      sym (ap (λ (b : Bool). cond b false (has_resource s n)) apart)
+dropped_unnamed s name rest sound is none = search (rules, or_true, is_some, option_map_or, bytes_eq, bytes_eq-Decides, none_taken, cond, apart_sym, or_none)
 
 known_spot : (s : Session) (number : ℕ) (name : Name) → IsSound s → name_of s.resources number ≡ Some name → is_some (spot_of s.resources name) ≡ true
 known_spot s number name sound known = by_spot (spot_of s.resources name) (sound.resource_pairs.numbered number name known) where
@@ -133,8 +96,7 @@ known_spot s number name sound known = by_spot (spot_of s.resources name) (sound
   by_spot (Some p) is = refl
 
 or_first : (a b : Bool) → a ≡ true → (a || b) ≡ true
-or_first true b p = refl
-or_first false b p = absurd (cc)
+or_first x0 b p = search rules
 
 -- that of one which is taken now
 dropped_one : (s new : Session) (name : Name) → s.unnamed ≡ None → IsSound s → TakesName s name new → DropsName s name new
@@ -167,14 +129,11 @@ dropped_one s new name none sound taken = record {
 pub dropped_taken : (s mid new : Session) (result : Option (String Global)) → mid ≡ s → s.unnamed ≡ None → IsSound s →
     IfSome result (λ n. TakesName mid (string_bytes n) new) →
     IfSome result (λ n. DropsName s (string_bytes n) new)
-dropped_taken s mid new None same none sound taken = tt
-dropped_taken s mid new (Some n) same none sound taken =
-    dropped_one s new (string_bytes n) none sound (subst (λ (t : Session). TakesName t (string_bytes n) new) same taken)
+dropped_taken s mid new x3 same none sound taken = search (rules, dropped_one, string_bytes)
 
 pub wrote_no_name : (s new : Session) (begun : List ℕ) → new ≡ s → s.book.waiting ≡ [] → WritesNoName s begun new begun
 wrote_no_name s new begun same none =
-    subst (λ (t : Session). WritesNoName s begun t begun) (sym same)
-    (record { held = λ n. refl; takes = none_taken; all = λ told. none; rest = refl; written = refl })
+    search (rules, none_taken)
 
 -- many ------------------------------------------------------------------------------------------------
 
@@ -185,18 +144,13 @@ takes_on p (one_taken mid r before accepts) = one_taken mid r (takes_on p before
 names_rest : (a b c : Session) → b ≡ record a { book = b.book; resources = b.resources; unnamed = b.unnamed } →
     c ≡ record b { book = c.book; resources = c.resources; unnamed = c.unnamed } →
     c ≡ record a { book = c.book; resources = c.resources; unnamed = c.unnamed }
-names_rest a b c p q = q ∙ ap (λ (s : Session). record s { book = c.book; resources = c.resources; unnamed = c.unnamed }) p
+names_rest a b c p q = search rules
 
 drop_leads : (a b : Session) (name : Name) → DropsName a name b → Leads (has_resource a) (released name ∷ []) (has_resource b)
 drop_leads a b name drops = releases name drops.was (no_act drops.held)
 
 pub names_begun : (old now : Session) (begun text : List ℕ) → WritesName old begun (codes ",\"release\":[") now text → AreNamesWritten old begun now text
-names_begun old now begun text one = record {
-  first = one.name;
-  more = [];
-  releases = record { leads = drop_leads old now one.name one.drops; takes = one.drops.takes; rest = one.drops.rest };
-  written = one.written ∙ ap (λ (t : List ℕ). begun ++ codes ",\"release\":[" ++ t) (sym (append-nil (name_text one.name)));
-}
+names_begun old now begun text one = search (rules, releases, drop_leads, codes, append-nil)
 
 pub names_more : (old mid now : Session) (begun before text : List ℕ) → AreNamesWritten old begun mid before → WritesName mid before (codes ",") now text →
     AreNamesWritten old begun now text
@@ -232,9 +186,4 @@ names_ended old mid now begun before text so_far none =
     }
 
 pub names_none : (old now : Session) (begun text : List ℕ) → WritesNoName old begun now text → WritesNames old begun now text
-names_none old now begun text none = record {
-  names = [];
-  releases = record { leads = no_act none.held; takes = none.takes; rest = none.rest };
-  all = none.all;
-  written = none.written ∙ sym (append-nil begun);
-}
+names_none old now begun text none = search (rules, releases, no_act, append-nil)

@@ -3,6 +3,7 @@ use Rattle.rx_live.proofs.Common.{◌≡◌, ℕ, suc, ◌+◌, Bool, false, Lis
 use Rattle.rx_live.proofs.Common.{filter_map-append, is_nil, led_text, same_texts, more_nil, more_text}
 use Rattle.std.proofs.Common.{filter_map}
 use Rattle.rx_live.proofs.Listings.{range_more}
+use Rattle.std.proofs.Common.{rules}
 
 range_next : (k : ℕ) → range_with_len 0 (k + 1) ≡ range_with_len 0 k ++ k ∷ []
 range_next k =
@@ -12,17 +13,16 @@ range_next k =
 module _ (f : ℕ → Option (List ℕ)) (k : ℕ) where
   longer : {o : Option (List ℕ)} → f k ≡ o → filter_map f (range_with_len 0 (k + 1)) ≡ filter_map f (range_with_len 0 k) ++ cons_option o []
   longer there =
-      ap (filter_map f) (range_next k) ∙ filter_map-append f (range_with_len 0 k) (k ∷ [])
-      ∙ ap (λ (o : Option (List ℕ)). filter_map f (range_with_len 0 k) ++ cons_option o []) there
+      search (rules, filter_map, range_next, filter_map-append, range_with_len, cons_option)
 
   pub entry_same : f k ≡ None → filter_map f (range_with_len 0 k) ≡ filter_map f (range_with_len 0 (k + 1))
   entry_same none = same_texts (filter_map f (range_with_len 0 k)) (filter_map f (range_with_len 0 (k + 1))) (longer none)
 
   pub entry_nil : {entry : List ℕ} → f k ≡ Some entry → false ≡ is_nil (filter_map f (range_with_len 0 (k + 1)))
-  entry_nil {entry} there = more_nil (filter_map f (range_with_len 0 k)) (filter_map f (range_with_len 0 (k + 1))) entry (longer there)
+  entry_nil {entry} there = search (rules, more_nil, filter_map, range_with_len, longer)
 
   pub entry_written : {entry : List ℕ} (first : Bool) (begun : List ℕ) {text new : List ℕ} → f k ≡ Some entry →
       first ≡ is_nil (filter_map f (range_with_len 0 k)) → text ≡ begun ++ joined (filter_map f (range_with_len 0 k)) → new ≡ text ++ led_text first entry →
       new ≡ begun ++ joined (filter_map f (range_with_len 0 (k + 1)))
   entry_written {entry} first begun there is written next =
-      more_text (filter_map f (range_with_len 0 k)) (filter_map f (range_with_len 0 (k + 1))) entry first begun (longer there) is written next
+      search (rules, more_text, filter_map, range_with_len, longer)

@@ -1,5 +1,5 @@
 -- What a command comes to that makes a call as a value.
-use Rattle.rx_live.proofs.Common.{◌≡◌, true, false, Bool, Option, None, Some, option_map, Result, Ok, Err, IfOk, IfErr, refl, sym, subst, inl, AllocError}
+use Rattle.rx_live.proofs.Common.{◌≡◌, true, Bool, Option, None, Some, option_map, Result, IfOk, IfErr, refl, sym, subst, AllocError}
 use Rattle.rx_live.proofs.Common.{Refusal, Call, keeps_resources, keeps_leases, IsRefusal, stands, State, IsPromised, Command, Outcome, Refused, NoName}
 use Rattle.rx_live.proofs.Common.{Session, IsSound, apply, remove, next, end, abort, decline, fail, dispose, disconnect, node_of, resource_of, hub_of}
 use Rattle.rx_live.proofs.Common.{Goes, outcome_of, Runs}
@@ -10,6 +10,7 @@ use Rattle.rx_book.specs.declared.call.Call.{Call as Asked}
 use Rattle.rx_book.specs.declared.call.Call.TheVariants.{Next, End, Abort, Decline, Fail, Dispose, Apply, Remove, Disconnect}
 use Rattle.rx_live.specs.KeyedCalls.{is_asked, keyed_call}
 use Rattle.rx_live.proofs.Soundness.{Called, goes_on}
+use Rattle.std.proofs.Common.{rules}
 
 -- the call accepts and takes no resource, and gives and takes back no lease
 abbrev pub KeepsNames : Call → Type 0
@@ -24,9 +25,7 @@ Comes s (Some call) o t = KeepsNames (request_of s.book call).call → Goes s (S
 by_name : {K : Type 0} (s : Session) (f : K → Asked) (key : Option K) (o : Outcome) (t : Session) → IsSound s
     → ((k : K) → KeepsNames (request_of s.book (f k)).call) → Comes s (option_map f key) o t
     → Goes s (option_map (λ k. request_of s.book (f k)) key) o t × IsSound t
-by_name s f None o t sound keeps comes =
-    let stays = subst (λ (x : Session). IsSound x) (sym comes.1) sound in (record { carries = comes; sound = stays }, stays)
-by_name s f (Some k) o t sound keeps comes = let goes = comes (keeps k) in (goes, goes.sound)
+by_name s f x2 o t sound keeps comes = search rules
 
 pub runs : (s : Session) (c : Command) (o : Outcome) (t : Session) → IsSound s → is_asked c ≡ true → Comes s (keyed_call s c) o t → Runs s c o t × IsSound t
 runs s (apply res word) o t sound asked comes = by_name s (λ k. Apply k word) (resource_of s res) o t sound (λ k. (refl, refl)) comes
@@ -43,9 +42,7 @@ runs s _ o t sound asked comes = absurd (cc)
 -- a call is refused for its first cause, or one that takes memory for want of it
 cause_or_want : (may_want : Bool) (stand : Refusal → Bool) (answer : Result Answer Refusal) → IfErr answer (IsRefusalOf may_want stand)
     → IfErr answer (IsRefusal stand)
-cause_or_want may_want stand (Ok a) is = is
-cause_or_want true stand (Err why) is = is
-cause_or_want false stand (Err why) is = inl is
+cause_or_want may_want stand x2 is = search rules
 
 pub call_runs : {s : Session} (c : Command) {call : Asked} {book : State} {answer : Result Answer Refusal} → IsSound s → is_asked c ≡ true
     → keyed_call s c ≡ Some call → IsPromised book → Asks s.book call book answer
@@ -60,8 +57,7 @@ call_runs {s} c {call} {book} {answer} sound asked found kept asks =
 
 pub nameless_runs : (s : Session) (c : Command) → IsSound s → is_asked c ≡ true → keyed_call s c ≡ None → Runs s c (Refused NoName) s
 nameless_runs s c sound asked none =
-    (runs s c (Refused NoName) s sound asked (subst (λ (j : Option Asked). Comes s j (Refused NoName) s) (sym none) (refl, refl))).0
+    search (rules, runs)
 
 pub told_so : (P : Outcome → Type 0) (outcome : Outcome) (result : Result Outcome AllocError) → P outcome → IfOk result (λ o. o ≡ outcome) → IfOk result P
-told_so P outcome (Ok o) p is = subst P (sym is) p
-told_so P outcome (Err e) p is = is
+told_so x0 outcome x2 p is = search rules

@@ -1,7 +1,7 @@
 -- All names that are bound, as a session ends.
 use Rattle.rx_live.proofs.Common.{◌≡◌, ℕ, ◌+◌, ◌<◌, ◌≤◌, zero, suc, Bool, true, false, cond, List, [], ◌∷◌, ◌++◌, codes, length, take, map, filter, get_or}
-use Rattle.rx_live.proofs.Common.{Option, Some, None, option_map, refl, sym, ap, ◌∙◌, arith, subst, append_assoc, add-one, inl, inr, ◌⊎◌, is_some, nat_lt}
-use Rattle.rx_live.proofs.Common.{not, ◌&&◌, filter_map, cons_option, range_with_len, bytes_eq, option_map_or, option_to_list, lt-ltb, ltb-false, le-ltb, Act}
+use Rattle.rx_live.proofs.Common.{Option, Some, None, option_map, refl, sym, ap, ◌∙◌, arith, subst, append_assoc, add-one, is_some, nat_lt}
+use Rattle.rx_live.proofs.Common.{not, ◌&&◌, filter_map, cons_option, range_with_len, bytes_eq, option_map_or, option_to_list, lt-ltb, ltb-false, le-ltb}
 use Rattle.rx_live.proofs.Common.{cases_order, append-nil, map-append, take_more, take_all, filter_map-append, none-some, same_Some, bytes_eq-Decides, Name}
 use Rattle.rx_live.proofs.Common.{Spot, spot_of, name_of, name_text, joined, is_kept, Session, IsSound, has_resource, released, with_held, Leads, no_act}
 use Rattle.rx_live.proofs.Common.{releases, all_names, kept_past}
@@ -10,14 +10,12 @@ use Rattle.rx_live.proofs.AcceptedBindsNames.{none_of}
 use Rattle.rx_live.proofs.Tellings.{joined_more}
 use Rattle.rx_live.proofs.Laws.HeldStaysHeld.{leads_on, leads_same}
 use Rattle.rx_live.proofs.Drops.{dropped_unnamed, or_none}
+use Rattle.std.proofs.Common.{rules}
 
 -- text -----------------------------------------------------------------------------------------------
 
 pub nil_more : (names : List Name) (o : Option Name) → is_nil (names ++ option_to_list o) ≡ (is_nil names && not (is_some o))
-nil_more [] None = refl
-nil_more [] (Some n) = refl
-nil_more (name ∷ names) None = refl
-nil_more (name ∷ names) (Some n) = refl
+nil_more x0 x1 = search rules
 
 pub text_more : (names : List Name) (o : Option Name) → open_text (names ++ option_to_list o) ≡ open_text names ++ led_text (is_nil names) o
 text_more names None = ap open_text (append-nil names) ∙ sym (append-nil (open_text names))
@@ -33,8 +31,7 @@ abbrev pub names_at : Session → List ℕ → List Name
 names_at s ns = filter_map (name_of s.resources) ns
 
 one_name : (o : Option Name) → cons_option o [] ≡ option_to_list o
-one_name None = refl
-one_name (Some n) = refl
+one_name x0 = search rules
 
 -- a number more
 pub names_more : (s : Session) (before : List Name) (ns : List ℕ) (i d : ℕ) → i < length ns →
@@ -49,8 +46,7 @@ names_more s before ns i d within =
 pub range_more : (a n : ℕ) → range_with_len a (suc n) ≡ range_with_len a n ++ (a + n) ∷ []
 range_more a zero = ap (λ (k : ℕ). k ∷ []) (let e : a ≡ a + 0 = omega arith in e)
 range_more a (suc n) =
-    ap (λ (ns : List ℕ). a ∷ ns)
-    (range_more (a + 1) n ∙ ap (λ (k : ℕ). range_with_len (a + 1) n ++ k ∷ []) (let e : (a + 1) + n ≡ a + suc n = omega arith in e))
+    search (rules, range_with_len, range_more (a + 1) n)
 
 below_is : (s : Session) (k : ℕ) → names_at s (range_with_len 0 k) ≡ names_below s k
 below_is s zero = refl
@@ -62,12 +58,7 @@ below_is s (suc k) =
 -- numbers without a name may be left out
 named_alone : (s : Session) (ns : List ℕ) → names_at s (filter (λ n. is_some (name_of s.resources n)) ns) ≡ names_at s ns
 named_alone s [] = refl
-named_alone s (n ∷ ns) = by_name (name_of s.resources n) refl (named_alone s ns) where
-  by_name : (o : Option Name) → name_of s.resources n ≡ o → names_at s (filter (λ m. is_some (name_of s.resources m)) ns) ≡ names_at s ns →
-      names_at s (cond (is_some o) (n ∷ filter (λ m. is_some (name_of s.resources m)) ns) (filter (λ m. is_some (name_of s.resources m)) ns))
-      ≡ names_at s (n ∷ ns)
-  by_name (Some name) is rest = ap (cons_option (name_of s.resources n)) rest
-  by_name None is rest = rest ∙ sym (ap (λ (o : Option Name). cons_option o (names_at s ns)) is)
+named_alone s (n ∷ ns) = search (rules, filter, is_some, cond, cons_option, named_alone s ns)
 
 -- all numbers that have names
 placed_resources : (s : Session) → IsSound s → (n : ℕ) → length s.book.history ≤ n → name_of s.resources n ≡ None
@@ -77,15 +68,12 @@ pub names_all : (s : Session) (before : List Name) (ns : List ℕ) (i : ℕ) →
     ((len : ℕ) → ((n : ℕ) → len ≤ n → name_of s.resources n ≡ None) → ns ≡ filter (λ n. is_some (name_of s.resources n)) (range_with_len 0 len)) →
     before ++ names_at s (take i ns) ≡ before ++ names_below s (length s.book.history)
 names_all s before ns i sound past are =
-    let len = length s.book.history in
-    ap (λ (names : List Name). before ++ names)
-    (ap (names_at s) (take_all i ns past ∙ are len (placed_resources s sound)) ∙ named_alone s (range_with_len 0 len) ∙ below_is s len)
+    search (rules, length, take_all, placed_resources, named_alone, range_with_len, below_is)
 
 pub text_step : (names : List Name) {more : List Name} (o : Option Name) (begun : List ℕ) {text new : List ℕ} (first : Bool) →
     more ≡ names ++ option_to_list o → first ≡ is_nil names → text ≡ begun ++ open_text names → new ≡ text ++ led_text first o → new ≡ begun ++ open_text more
 text_step names o begun first longer is written next =
-    next ∙ (λ i. written i ++ led_text (is i) o) ∙ append_assoc begun (open_text names) (led_text (is_nil names) o)
-    ∙ ap (λ (t : List ℕ). begun ++ t) (sym (text_more names o) ∙ ap open_text (sym longer))
+    search (rules, append_assoc, text_more)
 
 pub first_step : (names more : List Name) (o : Option Name) (first new : Bool) → more ≡ names ++ option_to_list o → first ≡ is_nil names →
     new ≡ (first && not (is_some o)) → new ≡ is_nil more
@@ -99,26 +87,17 @@ abbrev bound_from : Session → ℕ → Name → Bool
 bound_from s k n = option_map_or (λ (spot : Spot). not (nat_lt spot.number k)) (spot_of s.resources n) false
 
 lt_other : (m k : ℕ) → (m ≡ k → ⊥) → nat_lt m (suc k) ≡ nat_lt m k
-lt_other m k apart = by_case (cases_order m k) where
-  by_case : (m ≡ k) ⊎ ((m < k) ⊎ (k < m)) → nat_lt m (suc k) ≡ nat_lt m k
-  by_case (inl same) = absurd (apart same)
-  by_case (inr (inl l)) = lt-ltb m (suc k) (omega (arith, add-one k)) ∙ sym (lt-ltb m k l)
-  by_case (inr (inr l)) = le-ltb m (suc k) (omega (arith, add-one k)) ∙ sym (le-ltb m k (omega arith))
+lt_other m k apart = search (rules, cases_order, nat_lt, lt-ltb, add-one, le-ltb)
 
 module _ (s : Session) (sound : IsSound s) where
   -- a number without a name
   none_step : (k : ℕ) → name_of s.resources k ≡ None → (n : Name) → bound_from s (suc k) n ≡ bound_from s k n
-  none_step k none n = by_spot (spot_of s.resources n) refl where
-    by_spot : (o : Option Spot) → spot_of s.resources n ≡ o →
-        option_map_or (λ (spot : Spot). not (nat_lt spot.number (suc k))) o false ≡ option_map_or (λ (spot : Spot). not (nat_lt spot.number k)) o false
-    by_spot None found = refl
-    by_spot (Some spot) found =
-        ap not (lt_other spot.number k (λ same. none-some n (sym none ∙ ap (name_of s.resources) (sym same) ∙ sound.resource_pairs.named n spot found)))
+  none_step k none n = search (rules, option_map_or, not, nat_lt, lt_other, none-some)
 
   -- one with a name
   name_spot : (k : ℕ) (name : Name) → name_of s.resources k ≡ Some name → (n : Name) (spot : Spot) → spot_of s.resources n ≡ Some spot → spot.number ≡ k →
       name ≡ n
-  name_spot k name known n spot found same = same_Some name n (sym known ∙ ap (name_of s.resources) (sym same) ∙ sound.resource_pairs.named n spot found)
+  name_spot k name known n spot found same = search (rules, same_Some)
 
   here : (k : ℕ) (name : Name) → name_of s.resources k ≡ Some name → bound_from s k name ≡ true
   here k name known = by_spot (spot_of s.resources name) (sound.resource_pairs.numbered k name known) where
@@ -135,36 +114,18 @@ module _ (s : Session) (sound : IsSound s) where
     by_spot (Some spot) is = let number : spot.number ≡ k = same_Some spot.number k is in ap not (lt-ltb spot.number (suc k) (omega (arith, add-one k)))
 
   some_step : (k : ℕ) (name : Name) → name_of s.resources k ≡ Some name → (n : Name) → bound_from s (suc k) n ≡ with_held false name (bound_from s k) n
-  some_step k name known n = by_name (bytes_eq name n) refl where
-    by_name : (b : Bool) → bytes_eq name n ≡ b → bound_from s (suc k) n ≡ cond (bytes_eq name n) false (bound_from s k n)
-    by_name true same =
-        ap (bound_from s (suc k)) (sym ((bytes_eq-Decides name n).0 same)) ∙
-        gone_here k name known ∙
-        sym (ap (λ (b : Bool). cond b false (bound_from s k n)) same)
-    by_name false apart = by_spot (spot_of s.resources n) refl ∙ sym (ap (λ (b : Bool). cond b false (bound_from s k n)) apart) where
-      by_spot : (o : Option Spot) → spot_of s.resources n ≡ o →
-          option_map_or (λ (spot : Spot). not (nat_lt spot.number (suc k))) o false ≡ option_map_or (λ (spot : Spot). not (nat_lt spot.number k)) o false
-      by_spot None found = refl
-      by_spot (Some spot) found =
-          ap not (lt_other spot.number k
-          (λ same. (let e : false ≡ true = sym apart ∙ (bytes_eq-Decides name n).1 (name_spot k name known n spot found same) in absurd (cc))))
+  some_step k name known n = search (rules, bytes_eq, cond, bytes_eq-Decides, gone_here, option_map_or, not, nat_lt, lt_other, name_spot)
 
   leads_one : (k : ℕ) (o : Option Name) → name_of s.resources k ≡ o → Leads (bound_from s k) (map released (option_to_list o)) (bound_from s (suc k))
-  leads_one k None none = no_act (none_step k none)
-  leads_one k (Some name) known = releases name (here k name known) (no_act (some_step k name known))
+  leads_one k x1 none = search (rules, no_act, none_step, releases, here, some_step)
 
   leads_below : (k : ℕ) → Leads (bound_from s 0) (map released (names_below s k)) (bound_from s k)
   leads_below zero = no_act (λ n. refl)
   leads_below (suc k) =
-      subst (λ (acts : List Act). Leads (bound_from s 0) acts (bound_from s (suc k)))
-      (sym (map-append released (names_below s k) (option_to_list (name_of s.resources k))))
-      (leads_on (leads_below k) (leads_one k (name_of s.resources k) refl))
+      search (rules, map-append, option_to_list, leads_on, leads_one, leads_below k)
 
   from_zero : (n : Name) → bound_from s 0 n ≡ is_some (spot_of s.resources n)
-  from_zero n = by_spot (spot_of s.resources n) where
-    by_spot : (o : Option Spot) → option_map_or (λ (spot : Spot). not (nat_lt spot.number 0)) o false ≡ is_some o
-    by_spot None = refl
-    by_spot (Some spot) = ap not (le-ltb spot.number 0 (omega arith))
+  from_zero n = search (rules, option_map_or, not, nat_lt, is_some, le-ltb)
 
   none_left : (n : Name) → bound_from s (length s.book.history) n ≡ false
   none_left n = by_spot (spot_of s.resources n) refl where
@@ -189,12 +150,7 @@ module _ (s : Session) (sound : IsSound s) where
 
   by_unnamed : (o : Option Name) → s.unnamed ≡ o →
       Leads (has_resource s) (map released (option_to_list o ++ names_below s (length s.book.history))) (λ n. false)
-  by_unnamed None none =
-      leads_bound (has_resource s) (λ n. sym (or_none (is_some (spot_of s.resources n)) _ (ap (λ (o : Option Name). option_map_or (bytes_eq n) o false) none)))
-  by_unnamed (Some name) is =
-      let drops = dropped_unnamed s name None sound is refl in
-      releases name drops.was
-      (leads_bound (with_held false name (has_resource s)) (λ n. sym (or_none (is_some (spot_of s.resources n)) false refl) ∙ drops.held n))
+  by_unnamed x0 none = search (rules, leads_bound, or_none, is_some, option_map_or, bytes_eq, dropped_unnamed, releases)
 
   pub leads_all : Leads (has_resource s) (map released (all_names s)) (λ n. false)
   leads_all = by_unnamed s.unnamed refl

@@ -1,64 +1,43 @@
 -- Nodes that are opened and connected, and the names that they get.
-use Rattle.rx_live.proofs.Common.{◌≡◌, ℕ, ◌+◌, ◌==◌, ◌<◌, ◌≤◌, Bool, true, false, cond, List, length, Option, Some, None, option_map, Result, Ok, Err, refl}
+use Rattle.rx_live.proofs.Common.{◌≡◌, ℕ, ◌+◌, ◌==◌, ◌<◌, ◌≤◌, Bool, true, false, cond, List, length, Option, Some, None, option_map, Result, refl}
 use Rattle.rx_live.proofs.Common.{sym, ap, ◌∙◌, arith, subst, IfSome, OnErr, is_some, ◌||◌, or_parts, ne_eqb, bytes_eq, option_map_or, none-some, same_Some}
-use Rattle.rx_live.proofs.Common.{Event, Kind, at, Name, Key, At, Opened, State, IsPromised, Request, open_request, connect_request, Accepts, IsOpened, Spot}
-use Rattle.rx_live.proofs.Common.{makes_connection, connection_made, step_longer, Names, spot_of, name_of, IsPaired, AreSame, Binds, Session, IsSound}
-use Rattle.rx_live.proofs.Common.{IsPlaced, has_resource, AreOpenSame, IsAlike, IsUnchanged, NamesOne, using_at, is_node, is_open_taken, BindsMade, BindsNode}
+use Rattle.rx_live.proofs.Common.{Event, Kind, Name, Key, At, Opened, State, IsPromised, Request, open_request, connect_request, Accepts, IsOpened, Spot}
+use Rattle.rx_live.proofs.Common.{connection_made, step_longer, Names, spot_of, name_of, IsPaired, AreSame, Binds, Session, IsSound}
+use Rattle.rx_live.proofs.Common.{IsPlaced, has_resource, AreOpenSame, IsAlike, IsUnchanged, NamesOne, using_at, is_open_taken, BindsMade, BindsNode}
 use Rattle.rx_live.proofs.Common.{BindsUsing, BindsConnection, keeps_resources, keeps_leases, kept_same, out_same, kept_used, kept_past}
 use Rattle.rx_live.proofs.Soundness.{accepted_longer}
 use Rattle.rx_live.proofs.AcceptedBindsNames.{same_names, bound_after, none_of, some_cond, not_unnamed, placed_longer, placed_bound, sound_alike}
 use Rattle.rx_live.proofs.NamesOfOpenNodes.{open_same, open_on, placed_open, made_placed, made_within}
+use Rattle.std.proofs.Common.{rules}
 
 -- sessions that differ in the names of nodes --------------------------------------------------------
 
 pub alike_nodes : (s : Session) (t : Names) → AreOpenSame s.untold s.book s.nodes t → IsAlike s (record s { nodes = t })
-alike_nodes s t same = record {
-  book = refl;
-  nodes = same;
-  hubs = same_names s.hubs;
-  resources = same_names s.resources;
-  leases = same_names s.leases;
-  untold = refl;
-  unnamed = refl;
-}
+alike_nodes s t same = search (rules, same_names)
 
 pub unchanged_nodes : (s : Session) (t : Names) → IsSound s → AreOpenSame s.untold s.book s.nodes t → IsPaired t → IsUnchanged s (record s { nodes = t })
-unchanged_nodes s t sound same paired = record {
-  alike = alike_nodes s t same;
-  sound = sound_alike s (record s { nodes = t }) sound (alike_nodes s t same) paired sound.hub_pairs sound.resource_pairs sound.lease_pairs;
-}
+unchanged_nodes s t sound same paired = search (rules, alike_nodes, sound_alike)
 
 -- and where room was made, too
 pub unchanged_room : (s : Session) (mid t : Names) → IsSound s → AreOpenSame s.untold s.book s.nodes mid → AreSame mid t → IsPaired t →
     IsUnchanged s (record s { nodes = t })
 unchanged_room s mid t sound same room paired =
-    unchanged_nodes s t sound (open_on s.untold s.book s.nodes mid t same (open_same s.untold s.book mid t room)) paired
+    search (rules, unchanged_nodes, open_on, open_same)
 
 pub unchanged_rooms : {s : Session} {mid : Names} (t r : Names) → IsSound s → AreOpenSame s.untold s.book s.nodes mid → AreSame mid t → AreSame s.resources r →
     IsPaired t → IsPaired r →
     IsUnchanged s (record s { nodes = t; resources = r })
 unchanged_rooms {s} {mid} t r sound same room more paired pairs =
-    let alike : IsAlike s (record s { nodes = t; resources = r }) = record {
-      book = refl;
-      nodes = open_on s.untold s.book s.nodes mid t same (open_same s.untold s.book mid t room);
-      hubs = same_names s.hubs;
-      resources = more;
-      leases = same_names s.leases;
-      untold = refl;
-      unnamed = refl;
-    } in
-    record { alike = alike; sound = sound_alike s (record s { nodes = t; resources = r }) sound alike paired sound.hub_pairs pairs sound.lease_pairs }
+    search (rules, open_on, open_same, same_names, sound_alike)
 
 -- what is bound has to be free -----------------------------------------------------------------------
 
 other_free : (name : Name) (spot : Spot) (old new : Names) (other : Option Name) → Binds old name spot new → option_map_or (bytes_eq name) other false ≡ false →
     IfSome other (λ n. spot_of old n ≡ None) → IfSome other (λ n. spot_of new n ≡ None)
-other_free name spot old new None binds apart free = tt
-other_free name spot old new (Some n) binds apart free = binds.spots n ∙ ap (λ (b : Bool). cond b (Some spot) (spot_of old n)) apart ∙ free
+other_free name spot old new x4 binds apart free = search (rules, cond)
 
 room_free : (mid t : Names) (other : Option Name) → AreSame mid t → IfSome other (λ n. spot_of mid n ≡ None) → IfSome other (λ n. spot_of t n ≡ None)
-room_free mid t None room free = tt
-room_free mid t (Some n) room free = room.spots n ∙ free
+room_free mid t x2 room free = search rules
 
 apart_of : (a b c : Bool) → (a || b || c) ≡ false → b ≡ false
 apart_of a b c none = (or_parts a b (or_parts (a || b) c none).0).1
@@ -68,42 +47,22 @@ pub connection_free : (s : Session) {name : Name} {spot : Spot} {mid : Names} (t
     AreSame mid t → Binds t name spot with_node →
     IfSome other (λ n. spot_of mid n ≡ None) → IfSome other (λ n. spot_of with_node n ≡ None)
 connection_free s {name} {spot} {mid} t with_node other taken room binds free =
-    other_free name spot t with_node other binds
-    (apart_of (is_node s name) (option_map_or (bytes_eq name) other false) (option_map_or (is_node s) other false) taken)
-    (room_free mid t other room free)
+    search (rules, other_free, apart_of, option_map_or, bytes_eq, room_free)
 
 made_number : (h k : List Event) (n : ℕ) → connection_made h k ≡ Some n → n ≡ length h + 1
-made_number h k n is = by_test (at makes_connection k (length h + 1)) is where
-  by_test : (b : Bool) → cond b (Some (length h + 1)) None ≡ Some n → n ≡ length h + 1
-  by_test true one = sym (same_Some (length h + 1) n one)
-  by_test false one = absurd (none-some n one)
+made_number h k n is = search (rules, length, cond, same_Some, none-some)
 
 -- and what was made has no name yet
 pub made_unnamed : (h k : List Event) {old new : Names} {name : Name} {spot : Spot} → IsPlaced h old → Binds old name spot new → spot.number ≡ length h →
     (made : Option Key) → option_map (λ key. key.number) made ≡ connection_made h k → IfSome made (λ key. name_of new key.number ≡ None)
-made_unnamed h k placed binds is None e = tt
-made_unnamed h k {old} {new} {name} {spot} placed binds is (Some key) e =
-    let n : key.number ≡ length h + 1 = made_number h k key.number (sym e) in
-    let apart : (spot.number == key.number) ≡ false = ne_eqb spot.number key.number (omega (arith, is)) in
-    binds.names key.number ∙ ap (λ (b : Bool). cond b (Some name) (name_of old key.number)) apart ∙ placed key.number (omega arith)
+made_unnamed h k placed binds is x5 e = search (rules, length, made_number, ne_eqb, cond)
 
 -- an opened node -------------------------------------------------------------------------------------
 
 nodes_sound : {s : Session} {asked : Request} {book : State} (t : Names) → IsSound s → IsPromised book → IsPaired t → IsPlaced book.history t →
     Accepts s.book asked book →
     keeps_resources asked.call ≡ true → keeps_leases asked.call ≡ true → IsSound (record s { book = book; nodes = t })
-nodes_sound {s} {asked} {book} t sound kept paired placed accepts resources leases = record {
-  kept = kept;
-  node_pairs = paired;
-  hub_pairs = sound.hub_pairs;
-  resource_pairs = sound.resource_pairs;
-  lease_pairs = sound.lease_pairs;
-  nodes = placed;
-  hubs = placed_longer s.book.history book.history s.hubs sound.hubs (accepted_longer s.book book asked accepts);
-  resources = λ r. sound.resources r ∙ sym (kept_same asked.call accepts.step resources r);
-  leases = λ l. sound.leases l ∙ sym (out_same asked.call accepts.step leases l);
-  unnamed = sound.unnamed;
-}
+nodes_sound {s} {asked} {book} t sound kept paired placed accepts resources leases = search (rules, placed, placed_longer, accepted_longer, kept_same, out_same)
 
 -- names as some of closed nodes are forgotten, and as room is made
 module _ {s : Session} {mid t : Names} (sound : IsSound s) (same : AreOpenSame s.untold s.book s.nodes mid) (room : AreSame mid t) where
@@ -149,13 +108,7 @@ module _ {s : Session} {mid t : Names} (sound : IsSound s) (same : AreOpenSame s
   held_binds = bound_after s.resources more resources res held.spot grown held.binds
 
   pub used_bound : {book : State} → BindsUsing s name res (record s { book = book; nodes = nodes; resources = resources })
-  used_bound = record {
-    nodes = t;
-    alike = alike_nodes s t (all_same sound same room);
-    node = node;
-    resource = record { spot = held.spot; is = held.is; binds = held_binds };
-    rest = refl;
-  }
+  used_bound = search (rules, alike_nodes, all_same, held_binds)
 
   pub used_sound : {book : State} (place : At) → IsPromised book → IsPaired nodes → IsPaired resources → has_resource s res ≡ false →
       Accepts s.book (using_at s.book place) book → IsSound (record s { book = book; nodes = nodes; resources = resources })
@@ -182,7 +135,7 @@ module _ {s : Session} {mid t : Names} (sound : IsSound s) (same : AreOpenSame s
 
 -- a number that is not given yet has no name
 pub unnamed_past : (s : Session) (more : Names) (n : ℕ) → IsSound s → AreSame s.resources more → length s.book.history ≤ n → name_of more n ≡ None
-unnamed_past s more n sound grown past = grown.names n ∙ none_of (name_of s.resources n) (sound.resources n ∙ kept_past s.book.history n past)
+unnamed_past s more n sound grown past = search (rules, none_of, kept_past)
 
 -- a connection ---------------------------------------------------------------------------------------
 
@@ -205,11 +158,10 @@ module _ {s : Session} {mid t : Names} (sound : IsSound s) (same : AreOpenSame s
 -- outcomes -------------------------------------------------------------------------------------------
 
 pub on_err : {A E : Type 0} (result : Result A E) (P : Type 0) → P → OnErr result P
-on_err (Ok a) P p = tt
-on_err (Err e) P p = p
+on_err x0 x1 p = search rules
 
 -- the book stays as it was
 pub with_book : (s : Session) (book : State) (nodes resources : Names) → book ≡ s.book → IsUnchanged s (record s { nodes = nodes; resources = resources }) →
     IsUnchanged s (record s { book = book; nodes = nodes; resources = resources })
 with_book s book nodes resources same unchanged =
-    subst (λ (b : State). IsUnchanged s (record s { book = b; nodes = nodes; resources = resources })) (sym same) unchanged
+    search rules

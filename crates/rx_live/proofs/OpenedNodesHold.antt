@@ -1,7 +1,7 @@
 -- A node that holds a resource from its opening on, and the names that both get.
-use Rattle.rx_live.proofs.Common.{◌≡◌, ℕ, ◌+◌, ◌==◌, ◌<◌, [], ◌∷◌, Bool, true, false, cond, length, length-append, Option, Some, option_map, refl, sym, ap}
-use Rattle.rx_live.proofs.Common.{◌∙◌, arith, subst, is_some, Event, Accept, Kept, IsLawful, Call, by_key, Place, Kind, Refusal, Full, At, Name, Opened}
-use Rattle.rx_live.proofs.Common.{State, is_kept, IsPromised, place_of, is_known_place, open_request, IsOpened, connection_made, step_longer, kept_same}
+use Rattle.rx_live.proofs.Common.{◌≡◌, ℕ, ◌+◌, ◌==◌, ◌<◌, Bool, true, false, cond, length, length-append, Option, Some, option_map, refl, sym, ap}
+use Rattle.rx_live.proofs.Common.{◌∙◌, arith, subst, is_some, Accept, Kept, IsLawful, Call, Place, Kind, Refusal, At, Name, Opened}
+use Rattle.rx_live.proofs.Common.{State, is_kept, IsPromised, open_request, IsOpened, connection_made, step_longer, kept_same}
 use Rattle.rx_live.proofs.Common.{out_same, kept_held, Names, spot_of, name_of, IsPaired, AreSame, Binds, Session, IsSound, IsPlaced, has_resource, NamesOne}
 use Rattle.rx_live.proofs.Common.{AreOpenSame, hold_tagged, holder_at, holder_causes, OpensHolder, BindsMade, BindsHolder}
 use Rattle.rx_ground.specs.OpeningHolding.{opening_holding_causes}
@@ -10,19 +10,18 @@ use Rattle.rx_live.specs.Openings.{Holder, opening_with_causes}
 use Rattle.rx_live.proofs.AcceptedBindsNames.{bound_after, some_cond, not_unnamed, placed_longer, placed_bound}
 use Rattle.rx_live.proofs.NamesOfOpenNodes.{made_placed, made_within}
 use Rattle.rx_live.proofs.OpenedNodesGetNames.{placed, opened_bound}
+use Rattle.std.proofs.Common.{rules}
 
 -- what stands against it ----------------------------------------------------------------------------
 
 same_causes : (s : State) (place : Place) (kind : Kind) (why : Refusal) →
     opening_holding_causes s.base s.history s.limit true place kind why ≡ opening_with_causes s place kind why
-same_causes s place kind Full = refl
-same_causes s place kind _ = refl
+same_causes s place kind x3 = search rules
 
 -- as the book says it of a resource that is fresh
 pub causes_of : (s : State) (at : At) (kind : Kind) {fresh : Bool} → fresh ≡ true → stands_holding s at kind fresh ≡ holder_causes s (holder_at at kind)
 causes_of s at kind fresh =
-    ap (λ (b : Bool). stands_holding s at kind b) fresh
-    ∙ (λ i. by_key (is_known_place s.keys at) (λ why. same_causes s (place_of at) kind why i))
+    search (rules, same_causes)
 
 -- the two steps ---------------------------------------------------------------------------------------
 
@@ -35,7 +34,7 @@ module _ {old new : State} {asked : Holder} (o : OpensHolder old asked new) wher
 
   -- the acceptance is the last event, and stands behind the opening
   pub last_place : length new.history ≡ length o.middle.history + 1
-  last_place = ap (length {A = Event}) o.last ∙ length-append o.middle.history (Accept o.key.number o.key.number ∷ [])
+  last_place = search (rules, length, length-append, Accept)
 
   pub behind_opening : length old.history < length o.middle.history
   behind_opening = let steps = step_longer old.base old.history o.middle.history opening o.opens.step in omega arith

@@ -1,30 +1,26 @@
 -- What a checkpoint makes of a session.
-use Rattle.rx_live.proofs.Common.{◌≡◌, ℕ, ◌-◌, ◌<◌, ◌≤◌, suc, Bool, true, false, List, [], ◌++◌, length, drop, Option, Some, None, Result, Ok, Err, refl, sym}
-use Rattle.rx_live.proofs.Common.{ap, ◌∙◌, arith, subst, inl, inr, ◌⊎◌, IfOk, is_some, nat_lt, list_any, option_to_list, not, ◌&&◌, ◌||◌, and_cases, ltb-true}
-use Rattle.rx_live.proofs.Common.{and_parts, and_right, not-false, ltb-false, lt-ltb, le-ltb, cases_lt, drop_all, length-drop, Mail, Event, Refusal, Full, at}
-use Rattle.rx_live.proofs.Common.{MailLeft, TooMany, makes_resource, is_take_of, Kept, shown, base_of, is_held, is_waiting, is_taken, IsLawful, notes, State}
+use Rattle.rx_live.proofs.Common.{◌≡◌, ℕ, ◌-◌, ◌≤◌, Bool, true, false, List, [], length, drop, Option, None, Result, refl, sym}
+use Rattle.rx_live.proofs.Common.{◌∙◌, arith, subst, inl, inr, ◌⊎◌, IfOk, is_some, nat_lt, list_any, option_to_list, not, ◌&&◌, ◌||◌, and_cases, ltb-true}
+use Rattle.rx_live.proofs.Common.{and_parts, and_right, not-false, ltb-false, lt-ltb, le-ltb, cases_lt, drop_all, length-drop, Mail, Event, Refusal, Full}
+use Rattle.rx_live.proofs.Common.{MailLeft, Kept, base_of, is_held, is_waiting, is_taken, IsLawful, State}
 use Rattle.rx_live.proofs.Common.{first_cause, IsRefusal, made_untold, held_resource, held_not_taken, checkpoint_causes, most_places, IsPromised, is_kept}
-use Rattle.rx_live.proofs.Common.{Names, Cause, NoName, NameTaken, Book, Outcome, Refused, AllocError, name_of, IsPaired, Session, IsSound, AreOpenSame, Task}
+use Rattle.rx_live.proofs.Common.{Names, Cause, Book, Outcome, Refused, AllocError, name_of, IsPaired, Session, IsSound, AreOpenSame, Task}
 use Rattle.rx_live.proofs.Common.{IsAlike, to_tell, AreOpen, Renews, renewing_causes, Renewing, IsFullByOpen, may_renew, Does, FindsFull, is_full}
 use Rattle.rx_register.proofs.Laws.NoCause.{no_cause}
 use Rattle.rx_book.specs.Checkpoints.{Checkpoints}
+use Rattle.std.proofs.Common.{rules}
 
 -- what is kept ----------------------------------------------------------------------------------------
 
 kept_shape : (made gone held : Bool) → (held ≡ true → (made ≡ true) × ((made && gone) ≡ false)) →
     (made && not gone) ≡ (held || (made && not held && not (made && gone)))
-kept_shape true true true p = let e : true ≡ false = (p refl).1 in absurd (cc)
-kept_shape true false true p = refl
-kept_shape false gone true p = let e : false ≡ true = (p refl).0 in absurd (cc)
-kept_shape true true false p = refl
-kept_shape true false false p = refl
-kept_shape false gone false p = refl
+kept_shape x0 x1 x2 p = search rules
 
 -- what is kept is held or waits
 kept_is : (base : Kept) (h : List Event) → IsLawful base h → (r : ℕ) → is_kept h r ≡ (is_held h r || is_waiting h r)
 unfolding is_waiting is_taken is_kept
 kept_is base h law r =
-    kept_shape (at makes_resource h r) (list_any (is_take_of r) h) (is_held h r) (λ held. (held_resource h r held, held_not_taken base h law r held))
+    search (rules, kept_shape, list_any, held_resource, held_not_taken)
 
 -- a session that is sound stays so --------------------------------------------------------------------
 
@@ -52,16 +48,12 @@ renewed_sound s book nodes sound kept made paired same = record {
 
 told_before : (s : Session) → s.untold ≡ None → first_cause (checkpoint_causes s.book.history s.book.given) ≡ None → to_tell s ≡ []
 told_before s none free =
-    let all : length (notes s.book.history) ≤ s.book.given =
-    ltb-false s.book.given (length (notes s.book.history)) (no_cause (checkpoint_causes s.book.history s.book.given) free MailLeft) in
-    (λ i. option_to_list (none i) ++ drop s.book.given (notes s.book.history)) ∙ drop_all s.book.given (notes s.book.history) all
+    search (rules, length, ltb-false, no_cause, option_to_list, drop, drop_all)
 
 told_after : (s : Session) (book : State) (nodes : Names) → s.untold ≡ None → IsPromised book → Checkpoints s.book book →
     to_tell (record s { book = book; nodes = nodes }) ≡ []
 told_after s book nodes none kept made =
-    let silent : notes book.history ≡ [] = ap notes made.history ∙ made_untold (shown book.base) kept.lawful.started.making in
-    let all : length (notes book.history) ≤ book.given = let e = ap (length {A = Mail}) silent in omega (arith, e) in
-    (λ i. option_to_list (none i) ++ drop book.given (notes book.history)) ∙ drop_all book.given (notes book.history) all
+    search (rules, made_untold, length, option_to_list, drop, drop_all)
 
 pub renews : (s : Session) (book : State) (nodes : Names) → s.untold ≡ None → IsPromised book → Checkpoints s.book book →
     AreOpenSame None book s.nodes nodes → AreOpen book nodes →
@@ -78,28 +70,17 @@ renews s book nodes none kept made same alive = record {
 -- causes ----------------------------------------------------------------------------------------------
 
 some_left : (g n : ℕ) → nat_lt 0 (n - g) ≡ nat_lt g n
-some_left g n = by_order (cases_lt g n) where
-  by_order : (g < n) ⊎ (n ≤ g) → nat_lt 0 (n - g) ≡ nat_lt g n
-  by_order (inl more) = lt-ltb 0 (n - g) (omega arith) ∙ sym (lt-ltb g n more)
-  by_order (inr all) = le-ltb 0 (n - g) (omega arith) ∙ sym (le-ltb g n all)
+some_left g n = search (rules, cases_lt, nat_lt, lt-ltb, le-ltb)
 
 same_cause : (s : Session) → s.untold ≡ None → (why : Refusal) → checkpoint_causes s.book.history s.book.given why ≡ renewing_causes s why
-same_cause s none MailLeft =
-    let left : length (to_tell s) ≡ length (notes s.book.history) - s.book.given =
-    ap (λ (o : Option Mail). length (option_to_list o ++ drop s.book.given (notes s.book.history))) none ∙ length-drop s.book.given (notes s.book.history) in
-    sym (some_left s.book.given (length (notes s.book.history))) ∙ ap (nat_lt 0) (sym left)
-same_cause s none TooMany = refl
-same_cause s none _ = refl
+same_cause s none x2 = search (rules, length, option_to_list, drop, length-drop, some_left, nat_lt)
 
 pub refused_cause : (s : Session) (why : Refusal) → s.untold ≡ None → IsRefusal (checkpoint_causes s.book.history s.book.given) why →
     IsRefusal (renewing_causes s) why
 refused_cause s why none refusal = subst (λ (stands : Refusal → Bool). IsRefusal stands why) (λ i w. same_cause s none w i) refusal
 
 left_over : (s : Session) (o : Option Mail) → s.untold ≡ o → is_some o ≡ true → nat_lt 0 (length (to_tell s)) ≡ true
-left_over s None is some = absurd (cc)
-left_over s (Some m) is some =
-    ap (λ (u : Option Mail). nat_lt 0 (length (option_to_list u ++ drop s.book.given (notes s.book.history)))) is
-    ∙ lt-ltb 0 (suc (length (drop s.book.given (notes s.book.history)))) (omega arith)
+left_over s x1 is some = search (rules, nat_lt, length, option_to_list, drop, lt-ltb)
 
 pub mail_left : (s : Session) → is_some s.untold ≡ true → IsRefusal (renewing_causes s) MailLeft
 mail_left s some = let left : renewing_causes s MailLeft ≡ true = left_over s s.untold refl some in inl (rw left refl)
@@ -108,14 +89,10 @@ mail_left s some = let left : renewing_causes s MailLeft ≡ true = left_over s 
 pub renewing_refused : (s : Session) (book : State) (why : Refusal) (result : Result Outcome AllocError) → IfOk result (λ o. o ≡ Refused (Book why)) →
     IsRefusal (renewing_causes s) why →
     book ≡ s.book → IfOk result (λ o. Renewing s o (record s { book = book }))
-renewing_refused s book why (Err e) told refusal same = told
-renewing_refused s book why (Ok o) told refusal same =
-    subst (λ (p : Outcome). Renewing s p (record s { book = book })) (sym told) (refusal, ap (λ (b : State). record s { book = b }) same)
+renewing_refused s book why x3 told refusal same = search rules
 
 pub refused_same : (old new : Session) (why : Cause) → Renewing old (Refused why) new → new ≡ old
-refused_same old new NoName r = absurd r
-refused_same old new NameTaken r = absurd r
-refused_same old new (Book why) r = r.1
+refused_same old new x2 r = search rules
 
 -- by age ----------------------------------------------------------------------------------------------
 
@@ -131,20 +108,15 @@ by_open s _ kept none = tt
 
 -- after a refusal, which changed nothing
 full_why : (why : Cause) → is_full why ≡ true → why ≡ Book Full
-full_why (Book Full) e = refl
-full_why _ e = absurd (cc)
+full_why x0 e = search rules
 
 pub full_by_age : (old new : Session) (t : Task) (why : Cause) → Does old t (Refused why) new → IsAlike old new →
     (is_full why && may_renew new) ≡ true → FindsFull old t new
-full_by_age old new t why does alike both = record {
-  does = subst (λ (w : Cause). Does old t (Refused w) new) (full_why why (and_parts (is_full why) (may_renew new) both).0) does;
-  alike = alike;
-  aged = subst (λ (b : State). may_renew (record old { book = b }) ≡ true) alike.book (and_parts (is_full why) (may_renew new) both).1;
-}
+full_by_age old new t why does alike both = search (rules, full_why, and_parts)
 
 pub full_by_open : (old new : Session) (why : Cause) → IsPromised old.book → IsAlike old new → (is_full why && may_renew new) ≡ false → IsFullByOpen old why
 full_by_open old new why kept alike none =
-    by_open old why kept (subst (λ (b : State). (is_full why && may_renew (record old { book = b })) ≡ false) alike.book none)
+    search (rules, by_open)
 
 -- behind a checkpoint a history is young
 at_base : (b : Kept) (h : List Event) → (base_of b h).at_length ≡ length h
@@ -153,10 +125,4 @@ at_base b h = refl
 
 pub young : (old new : Session) → Renews old new → may_renew new ≡ true → ⊥
 young old new renews aged =
-    let same : length new.book.history ≡ new.book.base.at_length =
-    sym renews.book.agree.same_length ∙ sym (at_base old.book.base old.book.history) ∙ ap (λ (b : Kept). b.at_length) (sym renews.book.base) in
-    let none : nat_lt new.book.base.at_length (length new.book.history) ≡ false =
-    le-ltb new.book.base.at_length (length new.book.history) (omega (arith, same)) in
-    let both : may_renew new ≡ false =
-    and_right (not (nat_lt most_places (length new.book.history))) (nat_lt new.book.base.at_length (length new.book.history)) none in
-    let clash : false ≡ true = sym both ∙ aged in absurd (cc)
+    search (rules, length, at_base, nat_lt, le-ltb, and_right, not)

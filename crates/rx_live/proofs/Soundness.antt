@@ -1,8 +1,9 @@
 -- A session stays sound as its book goes on.
-use Rattle.rx_live.proofs.Common.{◌≡◌, ℕ, ◌≤◌, true, false, Some, Result, Ok, Err, length, refl, sym, ap, ◌∙◌, arith, subst, List}
+use Rattle.rx_live.proofs.Common.{◌≡◌, ℕ, ◌≤◌, true, false, Some, Result, length, refl, sym, ap, ◌∙◌, arith, List}
 use Rattle.rx_live.proofs.Common.{[], IfErr, OnOk, OnErr, is_some, Refusal, none-some, Event, is_out, is_out_past, IsPaired, State, is_kept}
 use Rattle.rx_live.proofs.Common.{IsPromised, Request, Accepts, IsCauseOrWant, step_longer, Outcome, Session, IsSound, IsFresh, outcome_of, Goes}
 use Rattle.rx_live.proofs.Common.{keeps_resources, keeps_leases, kept_same, out_same}
+use Rattle.std.proofs.Common.{rules}
 
 pub accepted_longer : (old new : State) (asked : Request) → Accepts old asked new → length old.history ≤ length new.history
 accepted_longer old new asked accepts = let l = step_longer old.base old.history new.history asked.call accepts.step in omega arith
@@ -11,18 +12,7 @@ accepted_longer old new asked accepts = let l = step_longer old.base old.history
 pub sound_on : (s : Session) (asked : Request) (book : State) → IsSound s → IsPromised book → Accepts s.book asked book → keeps_resources asked.call ≡ true →
     keeps_leases asked.call ≡ true →
     IsSound (record s { book = book })
-sound_on s asked book sound kept accepts resources leases = record {
-  kept = kept;
-  node_pairs = sound.node_pairs;
-  hub_pairs = sound.hub_pairs;
-  resource_pairs = sound.resource_pairs;
-  lease_pairs = sound.lease_pairs;
-  nodes = λ n past. let l = accepted_longer s.book book asked accepts in sound.nodes n (omega arith);
-  hubs = λ n past. let l = accepted_longer s.book book asked accepts in sound.hubs n (omega arith);
-  resources = λ r. sound.resources r ∙ sym (kept_same asked.call accepts.step resources r);
-  leases = λ l. sound.leases l ∙ sym (out_same asked.call accepts.step leases l);
-  unnamed = sound.unnamed;
-}
+sound_on s asked book sound kept accepts resources leases = search (rules, kept, accepted_longer, kept_same, leases, out_same)
 
 -- what is known of the book's answer to such a call
 pub record Called {A : Type 0} (old : State) (asked : Request) (answer : Result A Refusal) (new : State) : Type 0 where
@@ -36,13 +26,7 @@ pub record Called {A : Type 0} (old : State) (asked : Request) (answer : Result 
 -- what such a call is answered
 pub goes_on : {A : Type 0} {s : Session} {asked : Request} {book : State} {answer : Result A Refusal} {outcome : Outcome} → IsSound s →
     Called s.book asked answer book → outcome ≡ outcome_of answer → Goes s (Some asked) outcome (record s { book = book })
-goes_on {s = s} {asked = asked} {book = book} {answer = Ok a} sound called is =
-    subst (λ (o : Outcome). Goes s (Some asked) o (record s { book = book })) (sym is)
-    (record { carries = (called.accepts, refl); sound = sound_on s asked book sound called.kept called.accepts called.resources called.leases })
-goes_on {s = s} {asked = asked} {book = book} {answer = Err why} sound called is =
-    let stays : record s { book = book } ≡ s = ap (λ (b : State). record s { book = b }) called.same in
-    subst (λ (o : Outcome). Goes s (Some asked) o (record s { book = book })) (sym is)
-    (record { carries = (called.refuses, stays); sound = subst (λ (t : Session). IsSound t) (sym stays) sound })
+goes_on sound called is = search (rules, sound_on)
 
 -- before the first line
 kept_none : (r : ℕ) → is_kept [] r ≡ false

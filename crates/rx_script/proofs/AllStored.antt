@@ -1,22 +1,13 @@
 -- Where no checkpoint was made, as at the beginning, the book stores the whole history.
-use Rattle.rx_script.proofs.Common.{◌≡◌, List, [], ◌∷◌, ◌++◌, length, refl, sym, ap, subst, ◌∙◌, append-nil, arith, Event, Kept, nothing_kept, shown, base_of}
+use Rattle.rx_script.proofs.Common.{◌≡◌, List, [], ◌∷◌, length, refl, sym, ap, subst, ◌∙◌, append-nil, arith, Event, nothing_kept, shown, base_of}
 use Rattle.rx_script.proofs.Common.{moments, notes, IsLawful_nothing, shown_nothing, settled_empty, State, Tallies, AreCountsOf, AreNotesOf, IsHistoryOf}
-use Rattle.rx_event.proofs.Laws.Begin.{empty_base}
 use Rattle.rx_script.proofs.WholeHistory.{kept_length}
+use Rattle.std.proofs.Common.{rules}
 
 -- nothing is kept of nothing
 pub base_nothing : base_of nothing_kept [] ≡ nothing_kept
 unfolding base_of
-base_nothing = λ i. record {
-  at_length = 0;
-  items = 0;
-  accepted = empty_base.accepted [] i;
-  taken = 0;
-  hubs = [];
-  nodes = [];
-  resources = [];
-  leases = [];
-}
+base_nothing = search rules
 
 none_before : (h : List Event) → length h ≡ 0 → h ≡ []
 none_before [] none = refl
@@ -30,7 +21,7 @@ module _ {t : Tallies} {s : State} {h : List Event} (w : IsHistoryOf h t s) (unc
   no_base = w.base ∙ ap (base_of nothing_kept) no_front ∙ base_nothing
 
   pub all_stored : s.history ≡ h
-  all_stored = w.history ∙ ap (λ (b : Kept). shown b ++ w.since) no_base ∙ ap (λ (l : List Event). l ++ w.since) (shown_nothing ∙ sym no_front) ∙ sym w.whole
+  all_stored = search (rules, no_base, shown_nothing, no_front)
 
 -- before the first event
 no_notes : notes [] ≡ []

@@ -1,29 +1,22 @@
 -- A checkpoint, carried out by an engine: what is to be reported is gathered, and then the book lets its events go.
-use Rattle.rx_script.proofs.Common.{◌≡◌, ◌++◌, ℕ, List, [], length, drop, refl, sym, ap, subst, ◌∙◌, arith, append-nil, Contains, Event, nothing_kept, shown}
-use Rattle.rx_script.proofs.Common.{notes, is_open, is_held, is_out, alike_of, base_length, checkpoints_agree, Key, ResKey, LeaseKey, State, IsPromised}
+use Rattle.rx_script.proofs.Common.{◌≡◌, ◌++◌, ℕ, List, [], length, drop, refl, sym, ap, subst, ◌∙◌, arith, append-nil, Event, nothing_kept, shown}
+use Rattle.rx_script.proofs.Common.{notes, alike_of, base_length, checkpoints_agree, Key, ResKey, LeaseKey, State, IsPromised}
 use Rattle.rx_script.proofs.Common.{Checkpoints, Accepted, checkpoint, Tallies, AreNotesOf, AreTalliesOf, GoesOn, Gathers, IsNodeKey, IsHeldKey, IsLeaseKey}
 use Rattle.rx_script.proofs.Common.{Engine, limited, Executes, checkpointed, stage_of, IsHistoryOf, IsSound, Carries}
 use Rattle.std.proofs.Math.Seq.{drop-append_seam}
 use Rattle.rx_event.proofs.Laws.SameForcedAndAllowed.{agree_back, settled_too}
 use Rattle.rx_script.proofs.EngineCarriesOut.{stored_lawful, history_lawful, history_agrees}
 use Rattle.rx_script.proofs.WholeHistory.{shown_length, kept_length, notes_whole}
+use Rattle.std.proofs.Common.{rules}
 
 -- what was gathered is that of the whole history
 module _ {t : Tallies} {s : State} {h : List Event} (w : IsHistoryOf h t s) (kept : IsPromised s) where
   goes_on : GoesOn w.front h s
-  goes_on = record {
-    stored = let same = kept_length w.front w.lawful w.settled s.base w.base in omega arith;
-    rest = w.whole ∙ ap (λ (l : List Event). w.front ++ l) (sym since);
-  } where
-    since : drop (length w.front) s.history ≡ w.since
-    since =
-        ap (drop (length w.front)) w.history ∙ ap (λ (n : ℕ). drop n (shown s.base ++ w.since)) (sym (shown_length w.front w.lawful w.settled s.base w.base))
-        ∙ drop-append_seam (shown s.base) w.since
+  goes_on = search (rules, kept_length, drop, length, shown_length, drop-append_seam)
 
   told : notes w.front ++ drop s.given (notes s.history) ≡ notes h
   told =
-      ap (λ (n : ℕ). notes w.front ++ drop n (notes s.history)) w.given ∙ ap (λ (l : List Event). notes w.front ++ notes l) w.history
-      ∙ sym (notes_whole w.front w.lawful w.settled s.base w.base w.since (stored_lawful w kept)) ∙ ap notes (sym w.whole)
+      search (rules, drop, notes_whole, stored_lawful)
 
   pub gathered : (u : Tallies) → Gathers t u s → AreTalliesOf h u
   gathered u gathers = record {
@@ -39,25 +32,13 @@ module _ (s mid new : State) (same : mid.history ≡ s.history) (same_keys : mid
   long = ap length (sym same) ∙ made.agree.same_length
 
   node_key_stays : (k : Key) → IsNodeKey s k → IsNodeKey new k
-  node_key_stays k known = record {
-    within = let less = known.within in let l = long in omega arith;
-    found = λ alive. subst (λ keys. Contains keys k) (sym (made.keys ∙ same_keys))
-        (known.found (ap (λ l. is_open l k.number) (sym same) ∙ (alike_of made.agree).same_open k.number ∙ alive));
-  }
+  node_key_stays k known = search (rules, long, alike_of)
 
   held_key_stays : (k : ResKey) → IsHeldKey s k → IsHeldKey new k
-  held_key_stays k known = record {
-    within = let less = known.within in let l = long in omega arith;
-    found = λ held. subst (λ keys. Contains keys k) (sym (made.res_keys ∙ same_res))
-        (known.found (ap (λ l. is_held l k.number) (sym same) ∙ made.agree.held k.number ∙ held));
-  }
+  held_key_stays k known = search (rules, long)
 
   lease_key_stays : (k : LeaseKey) → IsLeaseKey s k → IsLeaseKey new k
-  lease_key_stays k known = record {
-    within = let less = known.within in let l = long in omega arith;
-    found = λ out. subst (λ keys. Contains keys k) (sym (made.lease_keys ∙ same_leases))
-        (known.found (ap (λ l. is_out l k.number) (sym same) ∙ made.agree.out k.number ∙ out));
-  }
+  lease_key_stays k known = search (rules, long)
 
 -- the engine after it
 module _ {R : Type 0} (e : Engine R) (t : Tallies) (given : ℕ) (book : State) (sound : IsSound e) (kept : IsPromised book)

@@ -4,10 +4,10 @@ use Rattle.rx_script.proofs.Common.{option_and_then, Kind, Refusal, Gone, NoMemo
 use Rattle.rx_script.proofs.Common.{Failing, Disposing, Applying, Removing, Leasing, GivingBack, first_cause, Key, ResKey, At, State, has_key}
 use Rattle.rx_script.proofs.Common.{has_res_key, has_lease_key, place_of, is_known_place, causes, by_key, by_res_key, stands, Refused}
 use Rattle.rx_script.proofs.Common.{Cause, NoName, NameTaken, NoStock, Book, Named, Engine, Name, Site, Sort, Command, open_node, apply, remove, lease}
-use Rattle.rx_script.proofs.Common.{next, end, abort, decline, fail, dispose, make_hub, connect, disconnect, using, hold, false≢true}
+use Rattle.rx_script.proofs.Common.{next, end, abort, decline, fail, dispose, make_hub, connect, disconnect, false≢true}
 use Rattle.rx_script.proofs.Common.{lacks_name, takes_name, lacks_stock, kind_at, call_of, front_is_fresh, bound, is_unbound, key_of, at_of, kind_of}
 use Rattle.rx_script.proofs.Common.{IsSound, Carries, IsNodeKey, IsHeldKey, IsLeaseKey, key_of-holds}
-use Rattle.rx_script.proofs.Common.{Sub, sub, is_unbound_hub, connection_name, own_cause, ◌||◌, bound-numbers, give_back}
+use Rattle.rx_script.proofs.Common.{is_unbound_hub, own_cause, bound-numbers, give_back}
 use Rattle.rx_agenda.proofs.Laws.{bound-keys}
 use Rattle.rx_event.specs.Causes.{by_lease_key}
 use Rattle.rx_event.specs.declared.refusal.Refusal.TheVariants.{NotHeld, NoLease}
@@ -21,6 +21,7 @@ use Rattle.rx_script.proofs.KeysByNumber.{has_key-is_open, has_res_key-is_held, 
 use Rattle.rx_script.proofs.EngineCarriesOut.{Agrees, first_cause-by_key, with, refused_own, refused_there, stored_stage, cause_of}
 use Rattle.rx_script.proofs.Openings.{binding_by, IsPlaced, site_placed, site_nameless, is_bound-nodes, is_bound-leases, is_bound-hubs}
 use Rattle.rx_script.proofs.Openings.{taken-bound, taken_beside-bound}
+use Rattle.std.proofs.Common.{rules}
 
 -- it uses no name that is not bound, and takes nothing of the stock; it is this call of the stage, and refused by keys as by numbers
 pub record IsCalled {R : Type 0} (e : Engine R) (step : Command) (call : Asked) : Type 0 where
@@ -37,31 +38,26 @@ IsResolved e step (Some call) = IsCalled e step call
 
 -- kinds: a sort stands for the same by numbers as by names
 kind_same : {R : Type 0} (e : Engine R) (sort : Sort) → kind_at (stored_stage e) sort ≡ kind_of e.hubs sort
-kind_same e (sub hub connection) = ap (option_map Sub) (bound-numbers e.hubs hub)
-kind_same e _ = refl
+kind_same e x1 = search (rules, option_map, bound-numbers)
 
 hub_same : {R : Type 0} (e : Engine R) (sort : Sort) → is_unbound_hub (stored_stage e) sort ≡ is_none (kind_of e.hubs sort)
-hub_same e (sub hub connection) = ap is_none (bound-numbers e.hubs hub) ∙ sym (is_none-map Sub (key_of e.hubs hub))
-hub_same e _ = refl
+hub_same e x1 = search (rules, is_none, bound-numbers, is_none-map)
 
 -- to look for the key is to look whether the resource is held, or the lease out
 by_res_same : (known : Bool) (stand : Refusal → Bool) → (known ≡ false → first_cause stand ≡ Some NotHeld)
     → first_cause (by_res_key known stand) ≡ first_cause stand
-by_res_same true stand none = refl
-by_res_same false stand none = sym (none refl)
+by_res_same x0 stand none = search rules
 
 by_lease_same : (known : Bool) (stand : Refusal → Bool) → (known ≡ false → first_cause stand ≡ Some NoLease)
     → first_cause (by_lease_key known stand) ≡ first_cause stand
-by_lease_same true stand none = refl
-by_lease_same false stand none = sym (none refl)
+by_lease_same x0 stand none = search rules
 
 -- a command that uses one name, for which this stands if it is bound
 by_name : {R K : Type 0} (e : Engine R) (step : Command) (number_of : K → ℕ) (names : List (Named K)) (name : Name) (f : K → Asked) (o : Option K)
     → key_of names name ≡ o → lacks_name (stored_stage e) step ≡ is_unbound (map (binding_by number_of) names) name
     → ((k : K) → key_of names name ≡ Some k → bound (map (binding_by number_of) names) name ≡ Some (number_of k) → IsCalled e step (f k))
     → IsResolved e step (option_map f o)
-by_name e step number_of names name f None at lacks is = lacks ∙ ap is_none (bound-keys number_of names name ∙ ap (option_map number_of) at)
-by_name e step number_of names name f (Some k) at lacks is = is k at (bound-keys number_of names name ∙ ap (option_map number_of) at)
+by_name e step number_of names name f x6 at lacks is = search (rules, is_none, bound-keys, option_map)
 
 module _ {R : Type 0} (e : Engine R) (sound : IsSound e) where
   -- the causes against a call by numbers
@@ -156,20 +152,12 @@ module _ {R : Type 0} (e : Engine R) (sound : IsSound e) where
 -- a name that is bound is bound on the stage
 takes_name-rebinds : {R : Type 0} (e : Engine R) (step : Command) → is_asked step ≡ true
     → takes_name (stored_stage e) step ≡ rebinds e.nodes e.hubs e.leases step
-takes_name-rebinds e (using name site res) asked = absurd (false≢true asked)
-takes_name-rebinds e (hold node res) asked = absurd (false≢true asked)
-takes_name-rebinds e (open_node name site sort) asked =
-    λ i. is_bound-nodes e.nodes name i || taken_beside-bound e.nodes name (connection_name sort) i
-takes_name-rebinds e (lease res name) asked = is_bound-leases e.leases name
-takes_name-rebinds e (make_hub name mode) asked = is_bound-hubs e.hubs name
-takes_name-rebinds e (connect hub name) asked = taken-bound e.nodes name
-takes_name-rebinds e _ asked = refl
+takes_name-rebinds e x1 asked = search (rules, false≢true, is_bound-nodes, taken_beside-bound, is_bound-leases, is_bound-hubs, taken-bound)
 
 -- carrying out -------------------------------------------------------------------------------------
 
 cause_asked : (may_want : Bool) (stand : Refusal → Bool) (why : Refusal) → IsRefusalOf may_want stand why → why ≢ NoMemory → first_cause stand ≡ Some why
-cause_asked true stand why refusal other = cause_of stand why refusal other
-cause_asked false stand why cause other = cause
+cause_asked x0 stand why refusal other = search (rules, cause_of)
 
 -- the causes of the scenario's own, in their order
 abbrev own_by : (lacks takes stockless : Bool) → Option Cause

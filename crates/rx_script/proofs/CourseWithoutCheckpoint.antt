@@ -1,11 +1,12 @@
 -- A course of a scenario that makes no checkpoint is at none.
 use Rattle.rx_script.proofs.Common.{◌≡◌, ℕ, zero, suc, ◌<◌, false, List, [], ◌∷◌, ◌++◌, Some, map, slice_get, refl, ap, ◌∙◌, arith, AllByRecursion, Event}
-use Rattle.rx_script.proofs.Common.{Answer, Placed, Executed, done_in, Command, using, checkpoint, Action, command, Step, steps_of, Script, has_checkpoint}
-use Rattle.rx_script.proofs.Common.{list_of-steps_of, Ware, Stage, after, Manner, Executes, refused, refused_by_book, accepted, drained, checkpointed, Does}
-use Rattle.rx_script.proofs.Common.{does, leaves, Plays, none_played, one_played, Course, IsCourseIn}
+use Rattle.rx_script.proofs.Common.{Answer, Placed, Executed, done_in, Command, checkpoint, Action, command, Step, steps_of, Script, has_checkpoint}
+use Rattle.rx_script.proofs.Common.{list_of-steps_of, Ware, Stage, after, Manner, Executes, Does}
+use Rattle.rx_script.proofs.Common.{Plays, none_played, one_played, Course, IsCourseIn}
 use Rattle.rx_agenda.specs.Order.{IsHeld, by_scenario, by_step, IsInOrder}
 use Rattle.rx_scenario.specs.Checkpoints.{makes_checkpoint}
 use Rattle.rx_scenario.proofs.Laws.Checkpoints.{is_checkpoint-makes, has_checkpoint-followers, makes_checkpoint-at}
+use Rattle.std.proofs.Common.{rules}
 
 -- the executed steps ---------------------------------------------------------------------------------
 
@@ -27,22 +28,15 @@ module _ (steps : List Step) (until : ℕ) (executed : List Executed) (order : I
 -- what they do ---------------------------------------------------------------------------------------
 
 after-checked : (s : Stage) (step : Command) (k : List Event) → ¬ (step ≡ checkpoint) → (after s step k).checked ≡ s.checked
-after-checked s (using name site res) k other = refl
-after-checked s checkpoint k other = absurd (other refl)
-after-checked s _ k other = refl
+after-checked s x1 k other = search rules
 
 executed_unchecked : {m : Manner} {s last : Stage} {step : Command} {answer : Answer} → ¬ (step ≡ checkpoint) → Executes m s step answer last
     → last.checked ≡ s.checked
-executed_unchecked other (refused own) = refl
-executed_unchecked other (refused_by_book own called stands) = refl
-executed_unchecked {s = s} other (accepted {step = step} k own called none goes) = after-checked s step k other
-executed_unchecked other (drained drains) = refl
-executed_unchecked other checkpointed = absurd (other refl)
+executed_unchecked other x1 = search (rules, after-checked)
 
 did_unchecked : {m : Manner} {s last : Stage} {action : Action} {answer : Answer} → ¬ (action ≡ command checkpoint) → Does m s action answer last
     → last.checked ≡ s.checked
-did_unchecked other (does done) = executed_unchecked (λ is. other (ap command is)) done
-did_unchecked other leaves = refl
+did_unchecked other x1 = search (rules, executed_unchecked, command)
 
 abbrev AllPlain : List (Step × Answer) → Type 0
 AllPlain done = AllByRecursion (λ d. makes_checkpoint d.0 ≡ false) done

@@ -15,6 +15,7 @@ use Rattle.rx_script.proofs.StepsInOneOrder.{FirstStep, ordered_step, OrderedDra
 use Rattle.rx_script.proofs.OneCourse.{one_canonical_course}
 use Rattle.rx_script.proofs.StepsToCome.{to_come, IsOrderly, IsLeft, IsNoMore, empty-orderly, with_steps-orderly, followed-total, followed-orderly, next_left}
 use Rattle.rx_script.proofs.StepsToCome.{cancelled_left}
+use Rattle.std.proofs.Common.{rules}
 
 -- a command --------------------------------------------------------------------------------------------------------------------------
 
@@ -163,7 +164,7 @@ go_far until (suc steps) p law settled orderly few = by_next (next_step until p.
 led_on : {until : ℕ} {first p : Progress} {answers rest : List Answer} {last : Stage} → Leads in_one_order until first answers p → GoesOn until p rest last
     → Ends in_one_order until first (answers ++ rest) last
 led_on {until = until} {first = first} {p = p} {answers = answers} leads (halts over) =
-    record { left = p.agenda; leads = subst (λ (l : List Answer). Leads in_one_order until first l p) (sym (append-nil answers)) leads; over = over }
+    search (rules, Answer, in_one_order, append-nil)
 led_on {until = until} {first = first} {answers = answers} {last = last} leads (goes {answer = answer} {answers = rest} step on) =
     subst (λ (l : List Answer). Ends in_one_order until first l last) (append_assoc answers (answer ∷ []) rest) (led_on (advanced leads step) on)
 

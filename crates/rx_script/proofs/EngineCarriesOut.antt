@@ -1,11 +1,11 @@
 -- An engine carries out a step: it is refused by the scenario, refused by the book, or accepted. The book goes by its stored history,
 -- and the course by the whole one.
 use Rattle.rx_script.proofs.Common.{◌≡◌, ◌≤◌, ◌+◌, ◌++◌, ℕ, List, [], Bool, true, false, refl, sym, ap, subst, ◌∙◌, arith, append_assoc, length, Some, None}
-use Rattle.rx_script.proofs.Common.{none-some, Event, Refusal, Gone, nothing_kept, shown, Agree, taken_count, IsLawful, Call, IsStepOf, first_cause, State}
+use Rattle.rx_script.proofs.Common.{none-some, Event, Refusal, Gone, nothing_kept, Agree, taken_count, IsLawful, Call, IsStepOf, first_cause, State}
 use Rattle.rx_script.proofs.Common.{IsPromised, Continues, by_key, causes, Request, stands, Accepts, connection_made, Answer, Accepted, Refused, Cause, Book}
 use Rattle.rx_script.proofs.Common.{Engine, Command, drain, checkpoint, Stage, own_cause, call_of, after, front_is_fresh, Drains, limited, Executes, refused}
-use Rattle.rx_script.proofs.Common.{refused_by_book, accepted, drained, Shelf, Tallies, AreTalliesOf, stage_of, IsHistoryOf, IsSound, Carries}
-use Rattle.rx_script.proofs.Common.{◌≢◌, inl, inr, NoMemory, IsRefusal, Result, Ok, Err, IfOk}
+use Rattle.rx_script.proofs.Common.{refused_by_book, accepted, drained, Shelf, Tallies, stage_of, IsHistoryOf, IsSound, Carries}
+use Rattle.rx_script.proofs.Common.{◌≢◌, inl, inr, NoMemory, IsRefusal, Result, IfOk}
 use Rattle.std.specs.declared.alloc.AllocError.{AllocError}
 use Rattle.rx_event.specs.Kept.{stored}
 use Rattle.rx_book.proofs.Laws.StepsContinue.{step_taken}
@@ -13,11 +13,11 @@ use Rattle.rx_script.proofs.GivenKeysStay.{HasKeys, keys_kept}
 use Rattle.rx_script.proofs.SameRows.{same_row}
 use Rattle.rx_script.proofs.SameNames.{own_kept, call_kept, after_kept, connection_past, with_history}
 use Rattle.rx_script.proofs.WholeHistory.{whole_lawful, whole_agree, StepOver, step_over, DrainOver, drain_over}
+use Rattle.std.proofs.Common.{rules}
 
 -- to look for the key is to look whether the node is open
 pub first_cause-by_key : (known : Bool) (stand : Refusal → Bool) → (known ≡ false → stand Gone ≡ true) → first_cause (by_key known stand) ≡ first_cause stand
-first_cause-by_key true stand gone = refl
-first_cause-by_key false stand gone = let stands_gone : stand Gone ≡ true = gone refl in rw stands_gone refl
+first_cause-by_key x0 stand gone = search rules
 
 -- the stage that the stored history tells of
 abbrev pub stored_stage : {R : Type 0} → Engine R → Stage
@@ -47,7 +47,7 @@ module _ {t : Tallies} {s : State} {h : List Event} (w : IsHistoryOf h t s) (kep
   stored_lawful = subst (IsLawful s.base) w.history kept.lawful
 
   pub history_lawful : IsLawful nothing_kept h
-  history_lawful = subst (IsLawful nothing_kept) (sym w.whole) (whole_lawful w.front w.lawful w.settled s.base w.base w.since stored_lawful)
+  history_lawful = search (rules, whole_lawful, stored_lawful)
 
   pub history_agrees : Agree nothing_kept h s.base s.history
   history_agrees = subst (λ (l : List Event). Agree nothing_kept l s.base s.history) (sym w.whole)
@@ -57,8 +57,7 @@ module _ {t : Tallies} {s : State} {h : List Event} (w : IsHistoryOf h t s) (kep
   cause_same : (fresh : Bool) (call : Call)
       → first_cause (causes nothing_kept h (s.base.at_length + s.limit) fresh call) ≡ first_cause (causes s.base s.history s.limit fresh call)
   cause_same fresh call =
-      let same_end : nothing_kept.at_length + (s.base.at_length + s.limit) ≡ s.base.at_length + s.limit = omega arith in
-      same_row nothing_kept h s.base s.history history_agrees history_lawful (s.base.at_length + s.limit) s.limit same_end fresh call
+      search (rules, same_row, history_agrees, history_lawful)
 
   -- the history with these events more
   abbrev on : List Event → List Event
@@ -68,22 +67,12 @@ module _ {t : Tallies} {s : State} {h : List Event} (w : IsHistoryOf h t s) (kep
   on_whole events = sym (append_assoc w.front w.since events) ∙ ap (λ (l : List Event). l ++ events) (sym w.whole)
 
   on_stored : (events : List Event) → stored s.base (w.since ++ events) ≡ s.history ++ events
-  on_stored events = sym (append_assoc (shown s.base) w.since events) ∙ ap (λ (l : List Event). l ++ events) (sym w.history)
+  on_stored events = search (rules, append_assoc)
 
   history_on : (u : Tallies) (new : State) (events : List Event) → u ≡ t → new.base ≡ s.base → new.given ≡ s.given
       → new.history ≡ stored s.base (w.since ++ events)
       → IsHistoryOf (on events) u new
-  history_on u new events same_tallies same_base same_given same_history = record {
-    front = w.front;
-    since = w.since ++ events;
-    whole = refl;
-    lawful = w.lawful;
-    settled = w.settled;
-    base = same_base ∙ w.base;
-    history = same_history ∙ ap (λ b. stored b (w.since ++ events)) (sym same_base);
-    tallies = subst (AreTalliesOf w.front) (sym same_tallies) w.tallies;
-    given = same_given ∙ w.given;
-  }
+  history_on u new events same_tallies same_base same_given same_history = search rules
 
 -- refusals by the book -------------------------------------------------------------------------------
 
@@ -93,8 +82,7 @@ cause_of stand why refusal other = elim refusal [ inl cause ↦ cause | inr none
 
 pub answered : (r : Result Answer AllocError) (why : Refusal) (P : Answer → Type 0)
     → IfOk r (λ a. (a ≡ Refused (Book why)) × (why ≢ NoMemory)) → (why ≢ NoMemory → P (Refused (Book why))) → IfOk r P
-answered (Ok a) why P told here = subst P (sym told.0) (here told.1)
-answered (Err e) why P told here = tt
+answered x0 why x2 told here = search rules
 
 -- carrying out ---------------------------------------------------------------------------------------
 
@@ -119,7 +107,7 @@ pub refused_own : {R : Type 0} {e : Engine R} (step : Command) (why : Cause) (bo
     → stock.wares ≡ e.stock.wares
     → own_cause (stored_stage e) step ≡ Some why → Carries e step (Refused why) (with e book stock)
 refused_own {e} step why book stock sound same_book same_stock own =
-    unchanged step (Refused why) book stock sound same_book same_stock (λ h w. refused (own_kept (stored_stage e) h e.book.base.at_length step ∙ own))
+    search (rules, unchanged, refused, own_kept, own)
 
 pub refused_there : {R : Type 0} {e : Engine R} {step : Command} {asked : Request} {why : Refusal} (book : State) (stock : Shelf) → IsSound e
     → book ≡ e.book → stock.wares ≡ e.stock.wares → Agrees e asked step

@@ -1,8 +1,9 @@
 -- What one more event adds to the counts.
 use Rattle.rx_script.proofs.Common.{◌≡◌, ℕ, ◌<◌, ◌≤◌, ◌==◌, Bool, true, false, List, [], ◌∷◌, ◌++◌, length, cond, refl, sym, ap, ◌∙◌, arith, inl, inr, ◌⊎◌}
-use Rattle.rx_script.proofs.Common.{length-append, option_map_or, cases_order, ne_eqb, eq-eqb, slice_get_past, count_by-le-length, Event, Open, Use, is_use_of}
+use Rattle.rx_script.proofs.Common.{length-append, option_map_or, cases_order, ne_eqb, eq-eqb, slice_get_past, count_by-le-length, Event, Use, is_use_of}
 use Rattle.rx_script.proofs.Common.{nothing_kept, uses, at, slice_get_last, is_told}
 use Rattle.rx_event.proofs.Laws.Places.{at-append}
+use Rattle.std.proofs.Common.{rules}
 
 beyond : (p : Event → Bool) (h : List Event) (n : ℕ) → length h ≤ n → at p h n ≡ false
 beyond p h n past = ap (λ o. option_map_or p o false) (slice_get_past h n past)
@@ -40,9 +41,7 @@ unfolding uses
 uses_few h r = count_by-le-length (is_use_of r) h
 
 pub unused : (e : Event) → ((r : ℕ) → e ≡ Use r → ⊥) → (r : ℕ) → is_use_of r e ≡ false
-unused (Use q) no_use r = absurd (no_use q refl)
-unused (Open place kind) no_use r = refl
-unused _ no_use r = refl
+unused x0 no_use r = search rules
 
 -- nothing happened yet
 pub none_used : (r : ℕ) → uses nothing_kept [] r ≡ 0

@@ -3,7 +3,7 @@ use Rattle.rx_script.proofs.Common.{◌≡◌, ◌∷◌, [], List, Bool, true, 
 use Rattle.rx_script.proofs.Common.{slice_get, drop, not, Refusal, NoMemory, Gone, is_open, Call, OpeningUsing, Holding, first_cause, IsRefusal, Key, ResKey}
 use Rattle.rx_script.proofs.Common.{At, State, IsPromised, has_key, causes, by_key, Request, place_of, is_known_place, stands, Accepts, IsNewResKey, Accepted}
 use Rattle.rx_script.proofs.Common.{Refused, NoName, NameTaken, NoStock, Book, Named, Engine, Name, Site, using, hold, Ware, is_empty, own_cause, front}
-use Rattle.rx_script.proofs.Common.{front_is_fresh, bound, is_unbound, Shelf, key_of, IsNodeKey, IsHeldKey, at_of, IsSound, Carries, key_of-holds}
+use Rattle.rx_script.proofs.Common.{front_is_fresh, bound, Shelf, key_of, IsNodeKey, IsHeldKey, at_of, IsSound, Carries, key_of-holds}
 use Rattle.rx_script.proofs.Common.{accepted_continues}
 use Rattle.rx_book.specs.declared.answer.OpenedUsing.{OpenedUsing}
 use Rattle.rx_book.specs.Answers.{IsOpenedUsing}
@@ -13,6 +13,7 @@ use Rattle.rx_script.proofs.GivenKeysStay.{keys_kept}
 use Rattle.rx_script.proofs.EngineCarriesOut.{Agrees, first_cause-by_key, with, refused_own, refused_there, accepted_to, stored_stage, cause_of}
 use Rattle.rx_script.proofs.Openings.{is_bound-nodes, is_bound-resources, IsPlaced, site_placed, site_nameless, Binds, numbers_bound, all_bound, new_node_key}
 use Rattle.rx_script.proofs.Openings.{new_held_key}
+use Rattle.std.proofs.Common.{rules}
 
 -- a stock with a resource in front
 module _ {R : Type 0} (e : Engine R) (w : Ware) (rest : List Ware) (stocked : e.stock.wares ≡ w ∷ rest) where
@@ -33,14 +34,13 @@ module _ {R : Type 0} (e : Engine R) (w : Ware) (rest : List Ware) (stocked : e.
       → first_cause (by_key known (causes e.book.base e.book.history e.book.limit w.is_fresh call))
       ≡ first_cause (causes e.book.base e.book.history e.book.limit (front_is_fresh (stored_stage e)) call)
   same_stocked known call gone =
-      first_cause-by_key known (causes e.book.base e.book.history e.book.limit w.is_fresh call) gone
-      ∙ ap (λ f. first_cause (causes e.book.base e.book.history e.book.limit f call)) (sym fresh_stocked)
+      search (rules, first_cause-by_key, fresh_stocked)
 
 -- opening with a resource --------------------------------------------------------------------------
 
 module _ {R : Type 0} (e : Engine R) (name : Name) (site : Site) (res : Name) (sound : IsSound e) where
   pub using_nameless : at_of e.nodes site ≡ None → Carries e (using name site res) (Refused NoName) (with e e.book e.stock)
-  using_nameless none = let nameless = site_nameless e site none in refused_own (using name site res) NoName e.book e.stock sound refl refl (rw nameless refl)
+  using_nameless none = search (rules, site_nameless, refused_own, using)
 
   module _ (place : At) (at : at_of e.nodes site ≡ Some place) where
     facts : IsPlaced e site place
@@ -128,8 +128,7 @@ module _ {R : Type 0} (e : Engine R) (name : Name) (site : Site) (res : Name) (s
 module _ {R : Type 0} (e : Engine R) (node : Name) (res : Name) (sound : IsSound e) where
   pub hold_nameless : key_of e.nodes node ≡ None → Carries e (hold node res) (Refused NoName) (with e e.book e.stock)
   hold_nameless none =
-      let nameless : is_unbound (stored_stage e).nodes node ≡ true = ap is_none (node_unbound e.nodes node none) in
-      refused_own (hold node res) NoName e.book e.stock sound refl refl (rw nameless refl)
+      search (rules, stored_stage, is_none, node_unbound, refused_own, hold)
 
   module _ (k : Key) (at : key_of e.nodes node ≡ Some k) where
     number_named : bound (stored_stage e).nodes node ≡ Some k.number

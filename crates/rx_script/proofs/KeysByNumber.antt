@@ -10,12 +10,11 @@ use Rattle.std.proofs.lemmas.List.{get_or-map, get_or_default}
 use Rattle.std.proofs.lemmas.List.Folds.{list_any_at}
 use Rattle.std.proofs.lemmas.Map.Views.{Contains-from_any}
 use Rattle.rx_book.specs.State.{AreJust}
+use Rattle.std.proofs.Common.{rules}
 
 Contains-map : {A B : Type 0} (f : A → B) (xs : List A) (x : A) → Contains xs x → Contains (map f xs) (f x)
 Contains-map f xs x h =
-    let long : length (map f xs) ≡ length xs = length-map xs f in
-    let lt = h.1 in
-    (h.0, omega arith, get_or-map f xs h.0 x (f x) h.1 ∙ ap f h.2)
+    search (rules, length, map, length-map, get_or-map)
 
 Contains-from_map : {A B : Type 0} (f : A → B) (xs : List A) (d : A) (y : B) → Contains (map f xs) y → (x : A) × Contains xs x × (f x ≡ y)
 Contains-from_map f xs d y h =
@@ -66,8 +65,7 @@ same_test a b there back = grind arith
 module _ {K : Type 0} (slot number : K → ℕ) (whole : (k j : K) → slot j ≡ slot k → number j ≡ number k → k ≡ j) where
   same_parts : (k j : K) → (slot j == slot k && number j == number k) ≡ true → k ≡ j
   same_parts k j h =
-      let parts = and_parts (slot j == slot k) (number j == number k) h in
-      whole k j (eqb-true (slot j) (slot k) parts.0) (eqb-true (number j) (number k) parts.1)
+      search (rules, and_parts, eqb-true)
 
   contained : (keys : List K) (k : K) → list_any (λ j. slot j == slot k && number j == number k) keys ≡ true → Contains keys k
   contained keys k h = Contains-from_any {eq = λ q j. slot j == slot q && number j == number q} same_parts k keys h
@@ -82,13 +80,13 @@ module _ {K : Type 0} (slot number : K → ℕ) (whole : (k j : K) → slot j �
       (and_from _ _ (eq-eqb _ _ (ap slot there.2)) (eq-eqb _ _ (ap number there.2))))
 
 whole_key : (k j : Key) → j.slot ≡ k.slot → j.number ≡ k.number → k ≡ j
-whole_key k j slots numbers = ap (λ n. record { slot = n; number = k.number }) (sym slots) ∙ ap (λ n. record { slot = j.slot; number = n }) (sym numbers)
+whole_key k j slots numbers = search rules
 
 whole_res_key : (k j : ResKey) → j.slot ≡ k.slot → j.number ≡ k.number → k ≡ j
-whole_res_key k j slots numbers = ap (λ n. record { slot = n; number = k.number }) (sym slots) ∙ ap (λ n. record { slot = j.slot; number = n }) (sym numbers)
+whole_res_key k j slots numbers = search rules
 
 whole_lease_key : (k j : LeaseKey) → j.slot ≡ k.slot → j.number ≡ k.number → k ≡ j
-whole_lease_key k j slots numbers = ap (λ n. record { slot = n; number = k.number }) (sym slots) ∙ ap (λ n. record { slot = j.slot; number = n }) (sym numbers)
+whole_lease_key k j slots numbers = search rules
 
 pub has_key-contained : (keys : List Key) (k : Key) → has_key keys k ≡ true → Contains keys k
 has_key-contained = contained (λ (j : Key). j.slot) (λ (j : Key). j.number) whole_key

@@ -1,15 +1,15 @@
 -- The leases that are out, and how many of each resource, after one more event.
 use Rattle.rx_script.proofs.Common.{◌≡◌, ℕ, ◌-◌, ◌<◌, ◌≤◌, ◌==◌, Bool, true, false, List, [], ◌∷◌, ◌++◌, length, Option, Some, None, cond, slice_get, refl, sym}
-use Rattle.rx_script.proofs.Common.{ap, ◌∙◌, arith, inl, inr, ◌⊎◌, length-append, not, ◌&&◌, option_and_then, option_map_or, cases_order, cases_Bool, ne_eqb}
+use Rattle.rx_script.proofs.Common.{ap, ◌∙◌, arith, inl, inr, ◌⊎◌, length-append, not, option_and_then, option_map_or, cases_order, cases_Bool, ne_eqb}
 use Rattle.rx_script.proofs.Common.{eq-eqb, eqb-true, false≢true, count_by-le-length, Event, Open, Lease, Return, makes_lease, is_lease_of, is_return}
-use Rattle.rx_script.proofs.Common.{nothing_kept, shown, IsLawful, MayFollow, places, is_out, leases_of, slice_get-append, slice_get_last, lawful_front}
+use Rattle.rx_script.proofs.Common.{nothing_kept, shown, IsLawful, MayFollow, is_out, leases_of, slice_get-append, slice_get_last, lawful_front}
 use Rattle.rx_script.proofs.Common.{lawful_last}
 use Rattle.std.proofs.lemmas.List.FromFn.{length-range_with_len}
 use Rattle.rx_event.specs.Events.{leased_of, is_return_of}
-use Rattle.rx_event.specs.Resources.{is_out_of}
 use Rattle.rx_event.proofs.Laws.Steps.{may_return}
 use Rattle.rx_event.proofs.Laws.Leases.{is_out-push, is_out_last, is_out_past, out_lease, leases_of-return}
 use Rattle.rx_script.specs.Tallies.{leased_out}
+use Rattle.std.proofs.Common.{rules}
 
 pub nothing_before : (h : List Event) → length (shown nothing_kept) ≤ length h
 unfolding shown
@@ -26,11 +26,7 @@ last_follows h e law = lawful_last nothing_kept h e (nothing_before h) law
 
 older_out : (h : List Event) (e : Event) (l : ℕ) → l < length h → leased_out (h ++ e ∷ []) l ≡ cond (is_return_of l e) None (leased_out h l)
 older_out h e l less =
-    (λ i. cond (is_out-push h e l less i) (option_and_then leased_of (slice_get-append h (e ∷ []) l less i)) None)
-    ∙ shape (is_out h l) (is_return_of l e) (option_and_then leased_of (slice_get h l))
-  where
-    shape : (a b : Bool) (x : Option ℕ) → cond (a && not b) x None ≡ cond b None (cond a x None)
-    shape a b = grind arith
+    search (rules, cond, is_out-push, option_and_then, slice_get-append, slice_get, not)
 
 new_out : (h : List Event) (e : Event) → IsLawful nothing_kept h → leased_out (h ++ e ∷ []) (length h) ≡ leased_of e
 new_out h e law = (λ i. cond (is_out_last nothing_kept h e law i) (option_and_then leased_of (slice_get_last h e i)) None) ∙ by_event e where
@@ -63,24 +59,12 @@ leased_out-push h e l law = by_order (cases_order (length h) l) where
 -- where no lease is given out
 pub leased_out-plain : (h : List Event) (e : Event) (l : ℕ) → IsLawful nothing_kept h → leased_of e ≡ None
     → leased_out (h ++ e ∷ []) l ≡ cond (is_return_of l e) None (leased_out h l)
-leased_out-plain h e l law none = leased_out-push h e l law ∙ by_end (cases_Bool (length h == l)) where
-  none_back : (b : Bool) (x : Option ℕ) → x ≡ None → None ≡ cond b None x
-  none_back b e = grind arith
-
-  by_end : ((length h == l) ≡ true) ⊎ ((length h == l) ≡ false)
-      → cond (length h == l) (leased_of e) (cond (is_return_of l e) None (leased_out h l)) ≡ cond (is_return_of l e) None (leased_out h l)
-  by_end (inl same) =
-      ap (λ b. cond b (leased_of e) (cond (is_return_of l e) None (leased_out h l))) same ∙ none
-      ∙ none_back (is_return_of l e) (leased_out h l) (let is = eqb-true (length h) l same in none_out_past h l (omega arith))
-  by_end (inr apart) = ap (λ b. cond b (leased_of e) (cond (is_return_of l e) None (leased_out h l))) apart
+leased_out-plain h e l law none = search (rules, leased_out-push, cases_Bool, length, cond, eqb-true, none_out_past)
 
 -- how many of each resource ------------------------------------------------------------------------------
 
 lease_found : (o : Option Event) → option_map_or makes_lease o false ≡ true → (q : ℕ) × (o ≡ Some (Lease q))
-lease_found None fails = absurd (false≢true fails)
-lease_found (Some (Lease q)) holds = (q, refl)
-lease_found (Some (Open place kind)) fails = absurd (false≢true fails)
-lease_found (Some _) fails = absurd (false≢true fails)
+lease_found x0 fails = search (rules, false≢true)
 
 -- what is returned was out, of this resource
 pub returned_lease : (h : List Event) (l : ℕ) → MayFollow nothing_kept h (Return l) → (q : ℕ) × (slice_get h l ≡ Some (Lease q)) × (leased_out h l ≡ Some q)
@@ -97,24 +81,19 @@ leases_of_less h l q r law next is = let back = leases_of-return nothing_kept h 
 pub leases_few : (h : List Event) (r : ℕ) → leases_of h r ≤ length h
 unfolding leases_of
 leases_few h r =
-    let most = count_by-le-length (is_out_of h r) (places h) in
-    let long : length (places h) ≡ length h = length-range_with_len 0 (length h) in
-    omega arith
+    search (rules, count_by-le-length, length, length-range_with_len)
 
 -- one event more, by what it is ----------------------------------------------------------------------------
 
 pub out_leased : {h : List Event} {e : Event} (l : ℕ) {place r : ℕ} (old new : Option ℕ) → IsLawful nothing_kept h → place ≡ length h → e ≡ Lease r
     → old ≡ leased_out h l → new ≡ cond (place == l) (Some r) old → new ≡ leased_out (h ++ e ∷ []) l
 out_leased {h} {e} l {r} old new law is leases before here =
-    here ∙ (λ i. cond (is i == l) (Some r) (before i))
-    ∙ ap (λ e. cond (length h == l) (leased_of e) (cond (is_return_of l e) None (leased_out h l))) (sym leases)
-    ∙ sym (leased_out-push h e l law)
+    search (rules, cond, length, leases, leased_out-push)
 
 pub out_returned : {h : List Event} {e : Event} (l m : ℕ) (old new : Option ℕ) → IsLawful nothing_kept h → e ≡ Return m → old ≡ leased_out h l
     → new ≡ cond (m == l) None old → new ≡ leased_out (h ++ e ∷ []) l
 out_returned {h} {e} l m old new law returns before here =
-    here ∙ ap (λ x. cond (m == l) None x) before ∙ ap (λ e. cond (is_return_of l e) None (leased_out h l)) (sym returns)
-    ∙ sym (leased_out-plain h e l law (ap leased_of returns))
+    search (rules, cond, returns, leased_out-plain)
 
 -- an event that neither gives out a lease nor takes one back
 pub record LeasesNone (e : Event) : Type 0 where
@@ -130,7 +109,7 @@ leases_none (Open place kind) no_lease no_return = record { leases = refl; lease
 leases_none _ no_lease no_return = record { leases = refl; lease_of = λ r. refl; returns = refl; return_of = λ l. refl }
 
 pub out_same : (h : List Event) (e : Event) (l : ℕ) → IsLawful nothing_kept h → LeasesNone e → leased_out h l ≡ leased_out (h ++ e ∷ []) l
-out_same h e l law none = sym (leased_out-plain h e l law none.leases ∙ ap (λ b. cond b None (leased_out h l)) (none.return_of l))
+out_same h e l law none = search (rules, leased_out-plain, cond)
 
 -- nothing happened yet
 pub none_leased : (r : ℕ) → leases_of [] r ≡ 0

@@ -1,8 +1,9 @@
 -- Names that stand for other numbers.
-use Rattle.rx_script.proofs.Common.{◌≡◌, ℕ, Bool, true, false, List, [], ◌∷◌, Option, Some, None, cond, map, refl, sym, ap, subst, ◌∙◌, is_some, is_none}
+use Rattle.rx_script.proofs.Common.{◌≡◌, ℕ, Bool, true, false, List, [], ◌∷◌, Option, Some, cond, map, refl, ap, subst, ◌∙◌, is_some, is_none}
 use Rattle.rx_script.proofs.Common.{option_map, bytes_eq, AllByRecursion, map-append, same_Some, none-some, AllByRecursion-both, Name, Binding, bound}
 use Rattle.rx_script.proofs.Common.{is_unbound, is_bound, with_binding}
 use Rattle.std.specs.Prelude.{find}
+use Rattle.std.proofs.Common.{rules}
 
 abbrev pub renamed : (ℕ → ℕ) → Binding → Binding
 renamed r b = record { name = b.name; number = r b.number }
@@ -12,8 +13,7 @@ abbrev pub AllNumbers : (ℕ → Type 0) → List Binding → Type 0
 AllNumbers P bindings = AllByRecursion (λ b. P b.number) bindings
 
 number_of : (r : ℕ → ℕ) (o : Option Binding) → option_map (λ b. b.number) (option_map (renamed r) o) ≡ option_map r (option_map (λ b. b.number) o)
-number_of r None = refl
-number_of r (Some b) = refl
+number_of r x1 = search rules
 
 find_renamed : (r : ℕ → ℕ) (bindings : List Binding) (name : Name)
     → find (λ b. bytes_eq b.name name) (map (renamed r) bindings) ≡ option_map (renamed r) (find (λ b. bytes_eq b.name name) bindings)
@@ -28,15 +28,13 @@ find_renamed r (b ∷ bindings) name = by_test (bytes_eq b.name name) (find_rena
 -- what a name stands for
 pub bound-renamed : (r : ℕ → ℕ) (bindings : List Binding) (name : Name) → bound (map (renamed r) bindings) name ≡ option_map r (bound bindings name)
 unfolding bound
-bound-renamed r bindings name = ap (option_map (λ b. b.number)) (find_renamed r bindings name) ∙ number_of r (find (λ b. bytes_eq b.name name) bindings)
+bound-renamed r bindings name = search (rules, option_map, find_renamed, bytes_eq)
 
 is_some-map : (r : ℕ → ℕ) (o : Option ℕ) → is_some (option_map r o) ≡ is_some o
-is_some-map r None = refl
-is_some-map r (Some n) = refl
+is_some-map r x1 = search rules
 
 is_none-map : (r : ℕ → ℕ) (o : Option ℕ) → is_none (option_map r o) ≡ is_none o
-is_none-map r None = refl
-is_none-map r (Some n) = refl
+is_none-map r x1 = search rules
 
 pub bound-same : (r : ℕ → ℕ) (bindings others : List Binding) (name : Name) → others ≡ map (renamed r) bindings
     → bound others name ≡ option_map r (bound bindings name)
@@ -76,9 +74,8 @@ renamed-same q r (b ∷ bindings) all = λ i. (let x : Binding = record { name =
 pub with_binding-renamed : (r : ℕ → ℕ) (bindings others : List Binding) (name : Name) (n m : ℕ) → others ≡ map (renamed r) bindings → r n ≡ m
     → with_binding others name m ≡ map (renamed r) (with_binding bindings name n)
 with_binding-renamed r bindings others name n m same number =
-    (λ i. with_binding (same i) name (sym number i)) ∙ sym (map-append (renamed r) bindings ((record { name = name; number = n }) ∷ []))
+    search (rules, map-append)
 
 pub with_binding-all : (P : ℕ → Type 0) (bindings : List Binding) (name : Name) (n : ℕ) → AllNumbers P bindings → P n
     → AllNumbers P (with_binding bindings name n)
-with_binding-all P bindings name n all holds = AllByRecursion-both (λ (b : Binding). P b.number) bindings ((record { name = name; number = n }) ∷ []) all
-    (holds, tt)
+with_binding-all P bindings name n all holds = search (rules, AllByRecursion-both)

@@ -5,7 +5,6 @@ use Rattle.rx_script.proofs.Common.{Accepted, Named, Engine, Binding, with_bindi
 use Rattle.rx_script.proofs.Common.{IsNodeKey, IsLeaseKey, IsSound, Carries, accepted_continues, same_Some, false≢true}
 use Rattle.rx_scenario.specs.declared.scenario.Site.{Site as SiteInCode}
 use Rattle.rx_scenario.specs.declared.scenario.Sort.{Sort as SortInCode}
-use Rattle.rx_scenario.specs.declared.scenario.Sort.TheVariants.{Sub as SubInCode}
 use Rattle.rx_scenario.specs.declared.scenario.Command.{Command as CommandInCode}
 use Rattle.rx_scenario.specs.declared.scenario.Command.TheVariants.{Open as OpenThere, Lease as LeaseThere, Hub as HubThere, Connect as ConnectThere}
 use Rattle.rx_scenario.specs.declared.scenario.Command.TheVariants.{Using as UsingThere, Hold as HoldThere, Checkpoint as CheckpointThere}
@@ -21,10 +20,10 @@ use Rattle.rx_script.proofs.EngineCarriesOut.{HasAccepted, accepted_to, stored_s
 use Rattle.rx_script.proofs.Commands.{call_agrees}
 use Rattle.rx_script.proofs.MadeOfOptions.{made_of, made_of_two}
 use Rattle.rx_script.proofs.Openings.{Binds, numbers_bound, all_bound, named_bound, all_named, forced_node_key, new_node_key, new_out_key}
+use Rattle.std.proofs.Common.{rules}
 
 pub connection_named : (sort : SortInCode) → option_map string_bytes (connection_of sort) ≡ connection_name (sort_of sort)
-connection_named (SubInCode hub connection) = refl
-connection_named _ = refl
+connection_named x0 = search rules
 
 module _ {R : Type 0} (e : Engine R) (sound : IsSound e) {book : State} (kept : IsPromised book) where
   -- the engine with its names as they were

@@ -8,6 +8,7 @@ use Rattle.rx_script.proofs.Common.{leaves, Plays, none_played, one_played, Cour
 use Rattle.std.specs.Option.{option_or}
 use Rattle.rx_event.proofs.Laws.Finishes.{one_finish}
 use Rattle.rx_agenda.proofs.Laws.{Agrees, determined_so_far, cancel_alike}
+use Rattle.std.proofs.Common.{rules}
 
 -- one step ---------------------------------------------------------------------------------------------------------------------------
 
@@ -20,7 +21,7 @@ over_settled k settled = by_first (first_forced nothing_kept k) refl where
 
 one_first_step : (h outside k j : List Event) → IsFirstStep nothing_kept h outside k → IsFirstStep nothing_kept h outside j → k ≡ j
 one_first_step h outside k j one other =
-    one_finish nothing_kept (h ++ outside) k j one.ordered (over_settled k one.step.settled) other.ordered (over_settled j other.step.settled)
+    search (rules, one_finish, over_settled)
 
 none_first : (ns : List ℕ) (r : ℕ) → ns ≡ [] → slice_get ns 0 ≡ Some r → {X : Type 0} → X
 none_first ns r none found = absurd (none-some r (sym (ap (λ (l : List ℕ). slice_get l 0) none) ∙ found))
@@ -79,13 +80,10 @@ one_rest s checkpoint k j one other = one ∙ sym other
 one_rest s _ k j one other = one_drain one other
 
 one_way_on : (s : Stage) (step : Command) (o : Option Call) (k j : List Event) → GoesTo s step o k → GoesTo s step o j → k ≡ j
-one_way_on s step None k j one other = one_rest s step k j one other
-one_way_on s step (Some call) k j one other = one_first_step s.history (outside_of s.history call) k j one other
+one_way_on s step x2 k j one other = search (rules, one_rest, one_first_step)
 
 one_left : (f : Option Cause) (s : Stage) (step : Command) {a b : Answer} {x y : Stage} → Leaves f s step a x → Leaves f s step b y → (a ≡ b) × (x ≡ y)
-one_left (Some why) s step one other = (one.0 ∙ sym other.0, one.1 ∙ sym other.1)
-one_left None s step one other =
-    (one.2 ∙ sym other.2, one.3 ∙ ap (after s step) (one_way_on s step (call_of s step) one.0 other.0 one.1 other.1) ∙ sym other.3)
+one_left x0 s step one other = search (rules, one_way_on)
 
 one_executed : {s x y : Stage} {step : Command} {a b : Answer} → Executes in_one_order s step a x → Executes in_one_order s step b y → (a ≡ b) × (x ≡ y)
 one_executed {s = s} {step = step} one other = one_left (fate s step) s step (fated one) (fated other)
@@ -127,13 +125,7 @@ answered_alike : (one other : List Executed) {k : ℕ} {x y : Executed} {first x
 answered_alike [] other plays others meet is = let at_x = meet.at_one in absurd (cc)
 answered_alike (e ∷ es) [] plays others meet is = let at_y = meet.at_other in absurd (cc)
 answered_alike (e ∷ es) (f ∷ fs) {k = zero} {x} {y} {first = first} {c = c} (plays_one {q = p} did on) (plays_one {q = q} done beyond) meet is =
-    (one_did did_x did_y).0 c is where
-      did_x : Does in_one_order first x.placed.step.action x.answer p
-      did_x = subst (λ (v : Executed). Does in_one_order first v.placed.step.action v.answer p) (same_Some e x meet.at_one) did
-
-      did_y : Does in_one_order first x.placed.step.action y.answer q
-      did_y = subst (λ (v : Placed). Does in_one_order first v.step.action y.answer q) (sym meet.same)
-          (subst (λ (v : Executed). Does in_one_order first v.placed.step.action v.answer q) (same_Some f y meet.at_other) done)
+    search (rules, one_did, in_one_order, same_Some)
 answered_alike (e ∷ es) (f ∷ fs) {k = suc k} {x} {y} {first = first} {y_last = last} (plays_one {q = p} did on) (plays_one {q = q} done beyond) meet is =
     let further : MeetAt es fs k x y =
     record { before = λ j lt. meet.before (suc j) (omega arith); at_one = meet.at_one; at_other = meet.at_other; same = meet.same } in

@@ -1,32 +1,29 @@
 -- One more step of a course.
 use Rattle.rx_script.proofs.Common.{◌≡◌, ◌≤◌, ◌+◌, ◌++◌, ◌∷◌, [], ℕ, List, length, map, string_bytes, String, Global, refl, sym, ap, subst, ◌∙◌, arith, Result}
-use Rattle.rx_script.proofs.Common.{Ok, Err, IfOk, Some, None, Event, step_of, list_of, list_of-steps_of, Answer, Engine, Cancels, followed_by, next_step}
+use Rattle.rx_script.proofs.Common.{IfOk, Some, None, Event, step_of, list_of, list_of-steps_of, Answer, Engine, Cancels, followed_by, next_step}
 use Rattle.rx_script.proofs.Common.{limited, Performs, executes, cancels, Advances, Leads, not_begun, advanced, Ends, stage_of, MovesOn, IsSound, Carries}
 use Rattle.rx_script.proofs.Common.{agenda_of, size_left}
 use Rattle.std.specs.Prelude.{sum_by}
 use Rattle.rx_scenario.specs.declared.scenario.Action.TheVariants.{Command as CommandThere, Cancel}
 use Rattle.rx_scenario.specs.declared.scenario.Command.{Command as CommandInCode}
 use Rattle.rx_scenario.specs.declared.scenario.Step.{Step as StepInCode, out-Step}
-use Rattle.rx_scenario.specs.Scenario.{command_of, labels_in}
+use Rattle.rx_scenario.specs.Scenario.{command_of}
 use Rattle.rx_scenario.proofs.Laws.{step_of-parts, length-labels_in}
 use Rattle.rx_agenda.specs.declared.agenda.Agenda.{Agenda as AgendaInCode}
 use Rattle.rx_script.specs.Engine.{Performed, Followed}
 use Rattle.rx_agenda.specs.Shown.{size_of}
+use Rattle.std.proofs.Common.{rules}
 
 pub IfOk-map : {T E : Type 0} {A B : T → Type 0} (r : Result T E) → ((x : T) → A x → B x) → IfOk r A → IfOk r B
-IfOk-map (Ok x) f here = f x here
-IfOk-map (Err e) f here = here
+IfOk-map x0 f here = search rules
 
 -- what a step has to follow it
 pub followers-listed : (s : StepInCode) → list_of (step_of s).followers ≡ map step_of (out-Step s).then.items
-followers-listed s = ap (λ t. list_of t.followers) (step_of-parts s) ∙ list_of-steps_of (map step_of (out-Step s).then.items)
+followers-listed s = search (rules, step_of-parts, list_of-steps_of, map)
 
 size_of-parts : (s : StepInCode) → size_of s ≡ 1 + sum_by size_of (out-Step s).then.items
 size_of-parts s =
-    let below : length (labels_in (step_of s).followers) ≡ sum_by size_of (out-Step s).then.items =
-    ap (λ t. length (labels_in t.followers)) (step_of-parts s) ∙ length-labels_in step_of (out-Step s).then.items in
-    let here : size_of s ≡ 1 + length (labels_in (step_of s).followers) = omega arith in
-    here ∙ ap (λ n. 1 + n) below
+    search (rules, length, step_of-parts, length-labels_in)
 
 module _ {R : Type 0} where
   pub performed_command : (e new : Engine R) (a : AgendaInCode) (c : CommandInCode) (answer : Answer) → Carries e (command_of c) answer new
@@ -42,13 +39,7 @@ module _ {R : Type 0} where
   pub performed_cancel : {e : Engine R} (a now : AgendaInCode) (label : String Global) (answer : Answer) → IsSound e
       → Cancels (agenda_of a) (string_bytes label) answer (agenda_of now) → size_left now ≤ size_left a → now.timeline.clock ≡ a.timeline.clock
       → Performed e a (Cancel label) answer e now
-  performed_cancel a now label answer sound cancelled size clock = record {
-    performs = λ h w. (h, cancels cancelled, w);
-    sound = sound;
-    limit = refl;
-    size = size;
-    clock = clock;
-  }
+  performed_cancel a now label answer sound cancelled size clock = search (rules, cancels)
 
   module _ (e new : Engine R) (before between : AgendaInCode) (s : StepInCode) (answer : Answer)
       (done : Performed e before (out-Step s).action answer new between) where
@@ -80,12 +71,7 @@ module _ {R : Type 0} where
 
   pub not_led : (limit until : ℕ) (first : Engine R) (begun : AgendaInCode) (answers : List Answer) → answers ≡ []
       → HasLed limit until first begun answers first begun
-  not_led limit until first begun answers none = λ h w. (
-    h,
-    subst (λ l. Leads (limited limit) until (record { stage = stage_of first h; agenda = agenda_of begun }) l
-        (record { stage = stage_of first h; agenda = agenda_of begun })) (sym none) not_begun,
-    w,
-  )
+  not_led limit until first begun answers none = search (rules, limited, not_begun)
 
   module _ (limit until : ℕ) (first e new : Engine R) (begun before between now : AgendaInCode) (s : StepInCode)
       (answers pushed : List Answer) (answer : Answer) (same : e.book.limit ≡ limit)

@@ -1,9 +1,9 @@
 -- Names that commands bind, places where nodes are opened, and what is known of a name that is new.
-use Rattle.rx_script.proofs.Common.{◌≡◌, ◌<◌, ◌+◌, ◌++◌, ◌∷◌, [], ℕ, List, Bool, true, false, cond, String, Global, string_bytes, refl, sym, ap, subst, ◌∙◌}
-use Rattle.rx_script.proofs.Common.{map, length, arith, ◌||◌, Option, Some, None, is_none, is_some, option_map, bytes_eq, option_map_or, not, All, map-append}
+use Rattle.rx_script.proofs.Common.{◌≡◌, ◌<◌, ◌+◌, ◌++◌, ◌∷◌, [], ℕ, List, true, false, cond, String, Global, string_bytes, refl, sym, ap, subst, ◌∙◌}
+use Rattle.rx_script.proofs.Common.{map, length, ◌||◌, Option, Some, None, is_none, is_some, option_map, bytes_eq, option_map_or, not, All, map-append}
 use Rattle.rx_script.proofs.Common.{Source, Inner, Notifier, at, is_open, at_within, outside_of, Key, ResKey, LeaseKey, At, State, has_key}
 use Rattle.rx_script.proofs.Common.{is_gone, Request, place_of, is_known_place, Accepts, IsNewKey, IsNewResKey, IsNewLeaseKey}
-use Rattle.rx_script.proofs.Common.{IsOpened, makes_connection, Named, Engine, Name, Site, root, source, inner, notifier, Binding, is_bound, is_unbound}
+use Rattle.rx_script.proofs.Common.{IsOpened, Named, Engine, Name, Site, root, source, inner, notifier, Binding, is_bound, is_unbound}
 use Rattle.rx_script.proofs.Common.{with_binding, is_unbound_site, place_at, with_connection, name_of, key_of, node_binding, res_binding, lease_binding}
 use Rattle.rx_script.proofs.Common.{IsNodeKey, IsHeldKey, IsLeaseKey, number_binding, at_of, is_taken_beside, with_named, IsSound, key_of-holds, bound-numbers}
 use Rattle.rx_script.proofs.Common.{or_parts, none-some, same_Some, false≢true}
@@ -17,12 +17,12 @@ use Rattle.rx_script.proofs.MadeOfOptions.{made_of, is_none-map}
 use Rattle.rx_script.proofs.NamesStandForKeys.{bound-nodes, bound-resources, bound-leases, node_bound}
 use Rattle.rx_book.proofs.Laws.StepsContinue.{step_longer}
 use Rattle.rx_script.proofs.EngineCarriesOut.{stored_stage}
+use Rattle.std.proofs.Common.{rules}
 
 -- names that are taken -----------------------------------------------------------------------------
 
 is_some-map : {A B : Type 0} (f : A → B) (o : Option A) → is_some (option_map f o) ≡ is_some o
-is_some-map f None = refl
-is_some-map f (Some x) = refl
+is_some-map f x1 = search rules
 
 pub is_bound-nodes : (names : List (Named Key)) (name : Name) → is_bound (map node_binding names) name ≡ is_some (key_of names name)
 is_bound-nodes names name = ap is_some (bound-nodes names name) ∙ is_some-map _ (key_of names name)
@@ -71,7 +71,7 @@ module _ {R : Type 0} (e : Engine R) where
 
   nameless : (f : Key → At) (name : Name) → option_map f (key_of e.nodes name) ≡ None → is_unbound (stored_stage e).nodes name ≡ true
   nameless f name at =
-      ap is_none (bound-nodes e.nodes name) ∙ is_none-map (λ k. k.number) (key_of e.nodes name) ∙ sym (is_none-map f (key_of e.nodes name)) ∙ ap is_none at
+      search (rules, is_none, bound-nodes, is_none-map)
 
   pub site_nameless : (site : Site) → at_of e.nodes site ≡ None → is_unbound_site (stored_stage e) site ≡ true
   site_nameless root at = absurd (none-some AtRoot (sym at))
@@ -84,23 +84,17 @@ module _ {R : Type 0} (e : Engine R) where
 pub new_node_key : {old new : State} {asked : Request} {k : Key} → Accepts old asked new → IsNewKey new (length old.history) k
     → 0 < length (outside_of old.history asked.call) → IsNodeKey new k
 new_node_key {old} {new} {asked} {k} accepts given some =
-    let longer = step_longer old.base old.history new.history asked.call accepts.step in
-    let number = given.number in
-    record { within = omega arith; found = λ open_now. has_key-contained new.keys k given.listed }
+    search (rules, step_longer, has_key-contained)
 
 pub new_held_key : {old new : State} {asked : Request} {place : ℕ} {k : ResKey} → Accepts old asked new → IsNewResKey new place k
     → place < length old.history + length (outside_of old.history asked.call) → IsHeldKey new k
 new_held_key {old} {new} {asked} {k = k} accepts given some =
-    let longer = step_longer old.base old.history new.history asked.call accepts.step in
-    let number = given.number in
-    record { within = omega arith; found = λ held_now. has_res_key-contained new.res_keys k given.listed }
+    search (rules, step_longer, has_res_key-contained)
 
 pub new_out_key : {old new : State} {asked : Request} {k : LeaseKey} → Accepts old asked new → IsNewLeaseKey new (length old.history) k
     → 0 < length (outside_of old.history asked.call) → IsLeaseKey new k
 new_out_key {old} {new} {asked} {k} accepts given some =
-    let longer = step_longer old.base old.history new.history asked.call accepts.step in
-    let number = given.number in
-    record { within = omega arith; found = λ out_now. has_lease_key-contained new.lease_keys k given.listed }
+    search (rules, step_longer, has_lease_key-contained)
 
 -- one more name is bound, to this key
 pub record Binds {K : Type 0} (old : List (Named K)) (name : Name) (key : K) (new : List (Named K)) : Type 0 where
@@ -119,8 +113,7 @@ module _ {K : Type 0} {old new : List (Named K)} {name : Name} {key : K} (binds 
   pub numbers_bound : (number_of : K → ℕ) {number : ℕ} → number_of key ≡ number
       → map (binding_by number_of) new ≡ with_binding (map (binding_by number_of) old) name number
   numbers_bound number_of same =
-      ap (map (binding_by number_of)) binds.pushed ∙ map-append (binding_by number_of) old (last ∷ [])
-      ∙ (λ i. with_binding (map (binding_by number_of) old) (binds.spelt i) (same i))
+      search (rules, map, map-append)
 
   pub all_bound : (P : K → Type 0) → All (λ n. P n.key) old → P key → All (λ n. P n.key) new
   all_bound P all here = subst (All (λ n. P n.key)) (sym binds.pushed) (All-push (λ n. P n.key) old last all here)
@@ -128,30 +121,21 @@ module _ {K : Type 0} {old new : List (Named K)} {name : Name} {key : K} (binds 
 -- names for connections ----------------------------------------------------------------------------
 
 pub taken-bound : (names : List (Named Key)) (name : Option Name) → option_map_or (is_bound (map node_binding names)) name false ≡ is_taken names name
-taken-bound names None = refl
-taken-bound names (Some n) = is_bound-nodes names n
+taken-bound names x1 = search (rules, is_bound-nodes)
 
 pub taken_beside-bound : (names : List (Named Key)) (node : Name) (name : Option Name)
     → option_map_or (λ c. is_bound (map node_binding names) c || bytes_eq node c) name false ≡ is_taken_beside names node name
-taken_beside-bound names node None = refl
-taken_beside-bound names node (Some n) = ap (λ b. b || bytes_eq node n) (is_bound-nodes names n)
+taken_beside-bound names node x2 = search (rules, bytes_eq, is_bound-nodes)
 
 -- a name that is free, and is not the node's, is free still once the node has its own
 pub free_behind : (names between : List (Named Key)) (x : Named Key) (name : Option Name)
     → between ≡ names ++ x ∷ [] → is_some (key_of names (name_of x)) ≡ false
     → is_taken_beside names (name_of x) name ≡ false → is_taken between name ≡ false
-free_behind names between x None pushed free beside = refl
-free_behind names between x (Some n) pushed free beside =
-    let parts = or_parts (is_some (key_of names n)) (bytes_eq (name_of x) n) beside in
-    ap (λ l. is_some (key_of l n)) pushed ∙ ap is_some (key_of-bind x names n (none_there (key_of names (name_of x)) free))
-    ∙ ap (λ b. is_some (cond b (Some x.key) (key_of names n))) parts.1 ∙ parts.0
+free_behind names between x x3 pushed free beside = search (rules, or_parts, is_some, bytes_eq, key_of-bind, none_there, cond)
 
 pub named_bound : (names : List (Named Key)) (name : Option (String Global)) (made : Option Key)
     → map node_binding (with_named names name made) ≡ with_connection (map node_binding names) (option_map string_bytes name) (option_map (λ k. k.number) made)
-named_bound names None None = refl
-named_bound names None (Some k) = refl
-named_bound names (Some n) None = refl
-named_bound names (Some n) (Some k) = map-append node_binding names _
+named_bound names x1 x2 = search (rules, map-append)
 
 pub all_named : (P : Key → Type 0) (names : List (Named Key)) (name : Option (String Global)) (made : Option Key) → All (λ n. P n.key) names → IfSome made P
     → All (λ n. P n.key) (with_named names name made)
@@ -163,15 +147,4 @@ all_named P names (Some n) (Some k) all here = All-push (λ n. P n.key) names (r
 -- a connection that was forced is a node of the history
 pub forced_node_key : (old new : State) (made : Option Key) {key : Key}
     → IsOpened old new (record { key = key; connected = made }) → IfSome made (IsNodeKey new)
-forced_node_key old new None opened = tt
-forced_node_key old new (Some k) opened =
-    let place = length old.history + 1 in
-    let by_test : (b : Bool) → at makes_connection new.history place ≡ b → Some k.number ≡ cond b (Some place) None → k.number < length new.history =
-    λ b. elim b as (λ b. at makes_connection new.history place ≡ b → Some k.number ≡ cond b (Some place) None → k.number < length new.history) [
-      | true ↦ λ is same. let number : k.number ≡ place = cc in let within = at_within makes_connection new.history place is in omega arith
-      | false ↦ λ is same. absurd (cc)
-    ] in
-    record {
-      within = by_test (at makes_connection new.history place) refl opened.connection;
-      found = λ open_now. has_key-contained new.keys k opened.connected;
-    }
+forced_node_key old new x2 opened = search (rules, length, cond, at_within, has_key-contained)

@@ -4,6 +4,7 @@ use Rattle.rx_script.proofs.Common.{Command, Action, Step, Stage, front_is_fresh
 use Rattle.rx_script.proofs.Common.{refused, refused_by_book, accepted, drained, checkpointed, Does, does, leaves, Plays, none_played, one_played}
 use Rattle.rx_script.specs.Course.{CanonicalCoursesArePossible}
 use Rattle.rx_script.proofs.StepsInOneOrder.{roomy, roomy_first}
+use Rattle.std.proofs.Common.{rules}
 
 -- what is drained in order is drained ------------------------------------------------------------------------------------------------
 
@@ -47,13 +48,4 @@ played_too (one_played s plays did) =
 
 pub possible_too : CanonicalCoursesArePossible
 possible_too script stock c is =
-    let w = played_too is.plays in (
-      w.0,
-      λ events room. record {
-        executed = is.executed;
-        answers = is.answers;
-        in_order = is.in_order;
-        answered = is.answered;
-        plays = w.1 events room;
-      },
-    )
+    search (rules, played_too)

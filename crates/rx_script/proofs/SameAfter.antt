@@ -11,6 +11,7 @@ use Rattle.rx_event.specs.Lawful.{IsStep}
 use Rattle.rx_script.proofs.NamesForOtherNumbers.{renamed, AllNumbers, all_numbers, renamed-same, with_binding-renamed, with_binding-all}
 use Rattle.rx_script.proofs.SameStages.{AreSameStages}
 use Rattle.rx_script.proofs.MadeOfOptions.{made_of, made_of_two}
+use Rattle.std.proofs.Common.{rules}
 
 -- places in a longer history ---------------------------------------------------------------------------------------------------------
 
@@ -21,10 +22,7 @@ stands_on (more {k = k} {e = x} on f) n e at_n =
     slice_get-append k (x ∷ []) n (slice_get_within k n e before) ∙ before
 
 found_at : (q : Event → Bool) (h : List Event) (n : ℕ) → at q h n ≡ true → (e : Event) × (slice_get h n ≡ Some e) × (q e ≡ true)
-found_at q h n holds = by_event (slice_get h n) refl holds where
-  by_event : (o : Option Event) → slice_get h n ≡ o → option_map_or q o false ≡ true → (e : Event) × (slice_get h n ≡ Some e) × (q e ≡ true)
-  by_event None at_n fails = absurd (false≢true fails)
-  by_event (Some e) at_n holds = (e, at_n, holds)
+found_at q h n holds = search (rules, slice_get, option_map_or, false≢true)
 
 at_event : (q : Event → Bool) (h : List Event) (n : ℕ) (e : Event) → slice_get h n ≡ Some e → at q h n ≡ q e
 at_event q h n e at_n = ap (λ (o : Option Event). option_map_or q o false) at_n
@@ -69,7 +67,7 @@ module _ (r s q t : ℕ → ℕ) (x y : Stage) (k j : List Event) (a : AreSameSt
       (all_numbers (λ n. at p x.history n ≡ true) (λ n. q n ≡ r n) bindings (λ n made. g.older n (at_within p x.history n made)) all))
 
   kept_made : (p : Event → Bool) (bindings : List Binding) → AllNumbers (λ n. at p x.history n ≡ true) bindings → AllNumbers (λ n. at p k n ≡ true) bindings
-  kept_made p bindings all = all_numbers (λ n. at p x.history n ≡ true) (λ n. at p k n ≡ true) bindings (λ n made. at_stands p x.history k g.stands n made) all
+  kept_made p bindings all = search (rules, all_numbers, at_stands)
 
   pub same_on : AreSameStages q t (record x { history = k }) (record y { history = j })
   same_on = record {
@@ -117,7 +115,7 @@ module _ (q t : ℕ → ℕ) (x y : Stage) (a : AreSameStages q t x y) where
   one_more : (p : Event → Bool) (bindings others : List Binding) → Names p bindings others → (name : Name) (n m : ℕ) → at p x.history n ≡ true → q n ≡ m
       → Names p (with_binding bindings name n) (with_binding others name m)
   one_more p bindings others names name n m made number =
-      (with_binding-renamed q bindings others name n m names.0 number, with_binding-all (λ i. at p x.history i ≡ true) bindings name n names.1 made)
+      search (rules, with_binding-renamed, with_binding-all)
 
   with_node : (name : Name) (n m : ℕ) → at makes_node x.history n ≡ true → q n ≡ m
       → AreSameStages q t (record x { nodes = with_binding x.nodes name n }) (record y { nodes = with_binding y.nodes name m })
@@ -157,20 +155,16 @@ module _ (q t : ℕ → ℕ) (x y : Stage) (a : AreSameStages q t x y) where
 -- what was made since ----------------------------------------------------------------------------------------------------------------
 
 connection_named : (e : Event) → makes_connection e ≡ true → is_named e ≡ true
-connection_named (Connect g) made = refl
-connection_named _ made = absurd (false≢true made)
+connection_named x0 made = search (rules, false≢true)
 
 connection_node : (e : Event) → makes_connection e ≡ true → makes_node e ≡ true
-connection_node (Connect g) made = refl
-connection_node _ made = absurd (false≢true made)
+connection_node x0 made = search (rules, false≢true)
 
 connection_by : (r : ℕ → ℕ) (e : Event) → makes_connection (event_by r e) ≡ makes_connection e
-connection_by r (Connect g) = refl
-connection_by r _ = refl
+connection_by r x1 = search rules
 
 named_by_numbers : (r : ℕ → ℕ) (e : Event) → is_named (event_by r e) ≡ is_named e
-named_by_numbers r (Open place kind) = refl
-named_by_numbers r _ = refl
+named_by_numbers r x1 = search rules
 
 module _ (r : ℕ → ℕ) (h c k j : List Event) (since : AreSameSince nothing_kept r h c k j) where
   number_next : at is_named k (length h) ≡ true → since.reads (length h) ≡ length c
@@ -239,23 +233,10 @@ module _ (r : ℕ → ℕ) (h c k j : List Event) (since : AreSameSince nothing_
         place = let a = distance in let b = reads_there in let d = round in omega arith
 
   connection_same : at is_named k (length h) ≡ true → connection_made c j ≡ option_map since.reads (connection_made h k)
-  connection_same named = by_tests (at makes_connection k (length h + 1)) refl (at makes_connection j (length c + 1)) refl where
-    by_tests : (one : Bool) → at makes_connection k (length h + 1) ≡ one → (other : Bool) → at makes_connection j (length c + 1) ≡ other
-        → cond other (Some (length c + 1)) None ≡ option_map since.reads (cond one (Some (length h + 1)) None)
-    by_tests true is true also =
-        let w = found_at makes_connection k (length h + 1) is in
-        ap (λ (n : ℕ). Some n) (sym (number_second (at_event is_named k (length h + 1) w.0 w.1 ∙ connection_named w.0 w.2)))
-    by_tests true is false also = absurd (false≢true (sym also ∙ connects_there is))
-    by_tests false is true also = absurd (false≢true (sym is ∙ connects_here named also))
-    by_tests false is false also = refl
+  connection_same named = search (rules, length, cond, option_map, found_at, number_second, at_event, connection_named, false≢true, connects_there, connects_here)
 
   connection_node_made : (n : ℕ) → connection_made h k ≡ Some n → at makes_node k n ≡ true
-  connection_node_made n made = by_test (at makes_connection k (length h + 1)) refl made where
-    by_test : (b : Bool) → at makes_connection k (length h + 1) ≡ b → cond b (Some (length h + 1)) None ≡ Some n → at makes_node k n ≡ true
-    by_test false is made = absurd (none-some n made)
-    by_test true is made =
-        let w = found_at makes_connection k (length h + 1) is in
-        ap (at makes_node k) (sym (same_Some (length h + 1) n made)) ∙ at_event makes_node k (length h + 1) w.0 w.1 ∙ connection_node w.0 w.2
+  connection_node_made n made = search (rules, length, cond, none-some, found_at, same_Some, at_event, connection_node)
 
 -- each step --------------------------------------------------------------------------------------------------------------------------
 

@@ -1,9 +1,9 @@
 -- Stages that are the same but for numbers are reported the same, line by line.
-use Rattle.rx_script.proofs.Common.{◌≡◌, ℕ, ◌+◌, Bool, true, false, List, [], ◌∷◌, ◌++◌, length, Option, Some, None, cond, map, filter, slice_get, refl, sym}
-use Rattle.rx_script.proofs.Common.{ap, ◌∙◌, arith, flat_map, unwrap_or, option_and_then, option_map_or, false≢true, length-map, nothing_kept, Root, Source}
-use Rattle.rx_script.proofs.Common.{Inner, Notifier, Leaf, Event, Open, Accept, makes_node, makes_resource, at, places, is_held, held_count, waiting_count}
-use Rattle.rx_script.proofs.Common.{event_by, is_named, AreSameBy, accepted_count-parts, accepted_tag, Answer, Binding, node_line, res_line, totals_line}
-use Rattle.rx_script.proofs.Common.{closed_line, Held, Waiting, Taken, refused_lines, is_told, node_shown, node_lines, account_of, res_lines, totals_of, Stage}
+use Rattle.rx_script.proofs.Common.{◌≡◌, ℕ, ◌+◌, Bool, true, false, List, [], ◌∷◌, ◌++◌, length, Option, Some, cond, map, filter, slice_get, refl, sym}
+use Rattle.rx_script.proofs.Common.{ap, ◌∙◌, flat_map, unwrap_or, option_and_then, option_map_or, false≢true, length-map, nothing_kept}
+use Rattle.rx_script.proofs.Common.{Event, Accept, makes_node, makes_resource, at, places, is_held, held_count, waiting_count}
+use Rattle.rx_script.proofs.Common.{event_by, is_named, AreSameBy, accepted_count-parts, accepted_tag, Answer, Binding, node_line, res_line}
+use Rattle.rx_script.proofs.Common.{Held, Waiting, Taken, is_told, node_shown, node_lines, account_of, res_lines, totals_of, Stage}
 use Rattle.rx_script.proofs.Common.{unclosed_report, report}
 use Rattle.std.proofs.lemmas.List.Sums.{length-filter}
 use Rattle.rx_event.specs.Resources.{held_resources}
@@ -15,19 +15,13 @@ use Rattle.rx_event.proofs.Laws.RisingLists.{same_list}
 use Rattle.rx_event.proofs.Laws.ReadSeen.{callers_see}
 use Rattle.rx_script.proofs.NamesForOtherNumbers.{renamed, AllNumbers}
 use Rattle.rx_script.proofs.SameStages.{AreSameStages}
+use Rattle.std.proofs.Common.{rules}
 
 told_by : (r : ℕ → ℕ) (e : Event) → is_told (event_by r e) ≡ is_told e
-told_by r (Open Root kind) = refl
-told_by r (Open (Source p) Leaf) = refl
-told_by r (Open (Inner p) Leaf) = refl
-told_by r (Open (Notifier p) Leaf) = refl
-told_by r _ = refl
+told_by r x1 = search rules
 
 node_made : (h : List Event) (n : ℕ) → at makes_node h n ≡ true → (e : Event) × (slice_get h n ≡ Some e) × (makes_node e ≡ true)
-node_made h n holds = by_event (slice_get h n) refl holds where
-  by_event : (o : Option Event) → slice_get h n ≡ o → option_map_or makes_node o false ≡ true → (e : Event) × (slice_get h n ≡ Some e) × (makes_node e ≡ true)
-  by_event None at_n fails = absurd (false≢true fails)
-  by_event (Some e) at_n holds = (e, at_n, holds)
+node_made h n holds = search (rules, slice_get, option_map_or, false≢true)
 
 module _ (r s : ℕ → ℕ) (h c : List Event) (a : AreSameBy nothing_kept r s h c) where
   seen : CallersSeeTheSame nothing_kept r s h c
@@ -102,12 +96,7 @@ module _ (r s : ℕ → ℕ) (h c : List Event) (a : AreSameBy nothing_kept r s 
 
   waiting_count_same : waiting_count c ≡ waiting_count h
   waiting_count_same =
-      let held = held_count_same in
-      let parts = accepted_count-parts nothing_kept h a.numbers.law in
-      let parts_there = accepted_count-parts nothing_kept c a.numbers.other_law in
-      let total = a.shown.accepted_total in
-      let taken = a.shown.taken_total in
-      omega arith
+      search (rules, held_count_same, accepted_count-parts)
 
   pub totals_same : totals_of nothing_kept c ≡ totals_of nothing_kept h
   totals_same = λ i. record {
@@ -124,15 +113,4 @@ pub report_same : (r s : ℕ → ℕ) (answers : List Answer) (x y : Stage) (fau
     → report (record { answers = answers; last = y }) faults ≡ report (record { answers = answers; last = x }) faults
 unfolding report unclosed_report
 report_same r s answers x y faults a =
-    λ i. (refused_lines answers ++ nodes i ++ resources i ++ totals_line (totals i)) ++ closed_line (left i) faults where
-      totals : totals_of nothing_kept y.history ≡ totals_of nothing_kept x.history
-      totals = totals_same r s x.history y.history a.histories
-
-      nodes : node_lines y.history y.nodes ≡ node_lines x.history x.nodes
-      nodes = ap (node_lines y.history) a.nodes ∙ node_lines_same r s x.history y.history a.histories x.nodes a.nodes_made
-
-      resources : res_lines y.history y.resources ≡ res_lines x.history x.resources
-      resources = ap (res_lines y.history) a.resources ∙ res_lines_same r s x.history y.history a.histories x.resources a.resources_made
-
-      left : held_count y.history + waiting_count y.history ≡ held_count x.history + waiting_count x.history
-      left = λ i. held_count_same r s x.history y.history a.histories i + waiting_count_same r s x.history y.history a.histories i
+    search (rules, totals_same, node_lines_same, res_lines_same, held_count_same, waiting_count_same)

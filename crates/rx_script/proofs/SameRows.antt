@@ -1,14 +1,14 @@
 -- The same cause comes first against a call in two stored histories that agree, where the limits end at one place.
-use Rattle.rx_script.proofs.Common.{◌≡◌, ℕ, ◌+◌, Bool, true, false, List, [], ◌∷◌, length, Option, Some, cond, refl, sym, ap, ◌∙◌, inl, inr, ◌⊎◌, ◌==◌, nat_lt}
-use Rattle.rx_script.proofs.Common.{count_by, not, ◌&&◌, ◌||◌, list_any, AllByRecursion, range_with_len, option_map_or, false≢true, cases_Bool, Kept, Agree}
-use Rattle.rx_script.proofs.Common.{Mode, Place, Root, Source, Inner, Notifier, Kind, Sub, Event, Hub, Refusal, Full, Gone, makes_hub, at, ancestors, parent}
+use Rattle.rx_script.proofs.Common.{◌≡◌, ℕ, ◌+◌, Bool, true, false, List, [], ◌∷◌, length, cond, refl, sym, ap, ◌∙◌, inl, inr, ◌⊎◌, ◌==◌, nat_lt}
+use Rattle.rx_script.proofs.Common.{count_by, not, ◌||◌, list_any, AllByRecursion, range_with_len, option_map_or, false≢true, cases_Bool, Kept, Agree}
+use Rattle.rx_script.proofs.Common.{Mode, Place, Root, Source, Inner, Notifier, Kind, Sub, Event, Hub, Refusal, Full, Gone, makes_hub, at, ancestors}
 use Rattle.rx_script.proofs.Common.{is_open, most_visits, owed, most_nodes, most_hubs, debt, open_count, IsLawful, first_cause, Opening, OpeningUsing, Holding}
 use Rattle.rx_script.proofs.Common.{Applying, Removing, Leasing, GivingBack, Emitting, Ending, Aborting, Declining, Failing, Disposing, Publishing, Connecting}
 use Rattle.rx_script.proofs.Common.{Disconnecting, Call, Alike, alike_of, connections_alike, is_gone, is_over, added_by, causes, arith}
 use Rattle.std.proofs.Common.{◌*◌}
 use Rattle.rx_event.specs.declared.refusal.Refusal.TheVariants.{WrongKind, PlaceTaken, NothingOwed, NotRoot, NoHub, HubOrder, Connected, NotConnected, NoLease}
 use Rattle.rx_event.specs.declared.refusal.Refusal.TheVariants.{NotHeld, Leased, HasChild, TooMany}
-use Rattle.rx_event.specs.Events.{has_source, is_leaf, is_merging, is_until, is_root, is_auto_hub, is_manual_hub}
+use Rattle.rx_event.specs.Events.{is_leaf, is_merging, is_root, is_auto_hub, is_manual_hub}
 use Rattle.rx_event.specs.Tree.{is_open_child_of, has_open_child}
 use Rattle.rx_event.specs.Moments.{is_projection}
 use Rattle.rx_event.specs.Allowed.{may_abort}
@@ -20,26 +20,23 @@ use Rattle.rx_event.proofs.Laws.Checkpoints.{same_debt}
 use Rattle.rx_event.specs.Causes.{has_connection, is_without_hub, forces_connect, connects_up_to, is_out_of_order, is_wrong_place, is_taken_place}
 use Rattle.rx_event.specs.Causes.{is_unowed_place, is_crowded, nodes_opened, end_at}
 use Rattle.std.proofs.lemmas.Bool.{not-false}
+use Rattle.std.proofs.Common.{rules}
 
 same_first : (p q : Refusal → Bool) → ((why : Refusal) → p why ≡ q why) → first_cause p ≡ first_cause q
 same_first p q same = λ i. first_cause (λ why. same why i)
 
 -- what is gone is so whatever else stands
 gone_first : (p q : Refusal → Bool) → p NoHub ≡ q NoHub → p Gone ≡ true → q Gone ≡ true → first_cause p ≡ first_cause q
-gone_first p q hub gone also = by_gone p gone ∙ ap (λ b. cond {A = Option Refusal} b (Some NoHub) (Some Gone)) hub ∙ sym (by_gone q also) where
-  by_gone : (x : Refusal → Bool) → x Gone ≡ true → first_cause x ≡ cond (x NoHub) (Some NoHub) (Some Gone)
-  by_gone x is = rw is refl
+gone_first p q hub gone also = search (rules, cond)
 
 same_test : (x y : Bool) → (x ≡ true → y ≡ true) → (y ≡ true → x ≡ true) → x ≡ y
 same_test x y e e2 = grind arith
 
 auto_is : (e : Event) → is_auto_hub e ≡ true → (mode : Mode) × (e ≡ Hub mode)
-auto_is (Hub mode) is = (mode, refl)
-auto_is _ is = absurd (false≢true is)
+auto_is x0 is = search (rules, false≢true)
 
 manual_is : (e : Event) → is_manual_hub e ≡ true → (mode : Mode) × (e ≡ Hub mode)
-manual_is (Hub mode) is = (mode, refl)
-manual_is _ is = absurd (false≢true is)
+manual_is x0 is = search (rules, false≢true)
 
 same_any : (p q : ℕ → Bool) (ns : List ℕ) → AllByRecursion (λ n. p n ≡ q n) ns → list_any p ns ≡ list_any q ns
 same_any p q [] all = refl
@@ -62,7 +59,7 @@ module _ (b : Kept) (h : List Event) (c : Kept) (k : List Event) (a : Agree b h 
   on_open t n o = at_alike h k alike t n o
 
   on_hubs : (t : Event → Bool) → ((e : Event) → t e ≡ true → (mode : Mode) × (e ≡ Hub mode)) → (g : ℕ) → at t h g ≡ at t k g
-  on_hubs t is g = same_test (at t h g) (at t k g) (at_hub_alike h k alike t is g) (at_hub_alike k h (alike_back h k alike) t is g)
+  on_hubs t is g = search (rules, same_test, at_hub_alike, alike, alike_back)
 
   abbrev OpenPlace : Place → Type 0
   OpenPlace Root = Unit {0}
@@ -71,42 +68,28 @@ module _ (b : Kept) (h : List Event) (c : Kept) (k : List Event) (a : Agree b h 
   OpenPlace (Notifier p) = is_open h p ≡ true
 
   gone_same : (place : Place) → is_gone h place ≡ is_gone k place
-  gone_same Root = refl
-  gone_same (Source p) = ap not (alike.same_open p)
-  gone_same (Inner p) = ap not (alike.same_open p)
-  gone_same (Notifier p) = ap not (alike.same_open p)
+  gone_same x0 = search (rules, not)
 
   open_place : (place : Place) → is_gone h place ≡ false → OpenPlace place
-  open_place Root is = tt
-  open_place (Source p) is = not-false (is_open h p) is
-  open_place (Inner p) is = not-false (is_open h p) is
-  open_place (Notifier p) is = not-false (is_open h p) is
+  open_place x0 is = search (rules, not-false)
 
   wrong_same : (place : Place) → OpenPlace place → is_wrong_place h place ≡ is_wrong_place k place
-  wrong_same Root o = refl
-  wrong_same (Source p) o = ap not (on_open has_source p o)
-  wrong_same (Inner p) o = ap not (on_open is_merging p o)
-  wrong_same (Notifier p) o = ap not (on_open is_until p o)
+  wrong_same x0 o = search (rules, not, on_open)
 
   taken_same : (place : Place) → OpenPlace place → is_taken_place b h place ≡ is_taken_place c k place
-  taken_same (Source p) o = sym (λ i. (a.there.marks p o i).source_opened)
-  taken_same (Notifier p) o = sym (λ i. (a.there.marks p o i).notifier_opened)
-  taken_same _ o = refl
+  taken_same x0 o = search rules
 
   unowed_same : (place : Place) → OpenPlace place → is_unowed_place b h place ≡ is_unowed_place c k place
-  unowed_same (Inner p) o = ap (λ n. n == 0) (owes_same p o)
-  unowed_same _ o = refl
+  unowed_same x0 o = search (rules, owes_same)
 
   connection_same : (g : ℕ) → has_connection h g ≡ has_connection k g
   connection_same g = ap (λ (ns : List ℕ). nat_lt 0 (length ns)) (connections_alike h k alike g)
 
   without_same : (kind : Kind) → is_without_hub h kind ≡ is_without_hub k kind
-  without_same (Sub g) = ap not (on_hubs makes_hub hub_is g)
-  without_same _ = refl
+  without_same x0 = search (rules, not, on_hubs, hub_is)
 
   forces_same : (kind : Kind) → forces_connect h kind ≡ forces_connect k kind
-  forces_same (Sub g) = λ i. on_hubs is_auto_hub auto_is g i && not (connection_same g i)
-  forces_same _ = refl
+  forces_same x0 = search (rules, on_hubs, auto_is, not, connection_same)
 
   open_total : open_count h ≡ open_count k
   open_total = λ i. count_by (λ n. alike.same_open n i) (range_with_len 0 (a.same_length i))
@@ -116,10 +99,7 @@ module _ (b : Kept) (h : List Event) (c : Kept) (k : List Event) (a : Agree b h 
 
   order_at : (g p : ℕ) → is_open h p ≡ true → list_any (at (connects_up_to g) h) (ancestors h p) ≡ list_any (at (connects_up_to g) k) (ancestors k p)
   order_at g p o =
-      same_any (at (connects_up_to g) h) (at (connects_up_to g) k) (ancestors h p)
-      (each_same (λ n. is_open h n ≡ true) (at (connects_up_to g) h) (at (connects_up_to g) k) (on_open (connects_up_to g))
-      (ancestors h p) (ancestors_open h p o))
-      ∙ ap (list_any (at (connects_up_to g) k)) (ancestors_alike h k alike p o)
+      search (rules, same_any, each_same, on_open, ancestors_open, list_any, ancestors_alike, alike)
 
   order_same : (place : Place) (kind : Kind) → OpenPlace place → is_out_of_order h place kind ≡ is_out_of_order k place kind
   order_same Root (Sub g) o = refl
@@ -129,12 +109,7 @@ module _ (b : Kept) (h : List Event) (c : Kept) (k : List Event) (a : Agree b h 
   order_same place _ o = refl
 
   child_same : (p n : ℕ) → is_open_child_of h p n ≡ is_open_child_of k p n
-  child_same p n = by_open (is_open h n) refl where
-    by_open : (o : Bool) → is_open h n ≡ o → is_open_child_of h p n ≡ is_open_child_of k p n
-    by_open true o = λ i. alike.same_open n i && option_map_or (λ q. q == p) (parent_alike h k alike n o i) false
-    by_open false o =
-        ap (λ z. z && option_map_or (λ q. q == p) (parent h n) false) o
-        ∙ sym (ap (λ z. z && option_map_or (λ q. q == p) (parent k n) false) (sym (alike.same_open n) ∙ o))
+  child_same p n = search (rules, option_map_or, parent_alike, alike)
 
   children_same : (p : ℕ) → has_open_child h p ≡ has_open_child k p
   children_same p = λ i. list_any (λ n. child_same p n i) (range_with_len 0 (a.same_length i))

@@ -4,15 +4,16 @@ use Rattle.rx_script.proofs.Common.{◌≡◌, ℕ, true, false, List, Option, S
 use Rattle.rx_script.proofs.Common.{option_and_then, option_map_or, same_Some, none-some, nothing_kept, Place, Root, Source, Inner, Notifier, Kind, Leaf, Pass}
 use Rattle.rx_script.proofs.Common.{Flat, Switch, Until, Sub, makes_node, makes_hub, makes_resource, makes_lease, at, IsSettled, Call, Opening, OpeningUsing}
 use Rattle.rx_script.proofs.Common.{Holding, Applying, Removing, Leasing, GivingBack, Emitting, Ending, Aborting, Declining, Failing, Disposing, Publishing}
-use Rattle.rx_script.proofs.Common.{Connecting, Disconnecting, call_by, AreSameBy, NamesKnown, NoName, NameTaken, NoStock, Binding, bound, is_unbound, is_bound}
+use Rattle.rx_script.proofs.Common.{Connecting, Disconnecting, call_by, AreSameBy, NamesKnown, Binding, bound, is_unbound, is_bound}
 use Rattle.rx_script.proofs.Common.{Name, Site, root, source, inner, notifier, Sort, leaf, pass, flat, switch, until, sub, Command, using, open_node, hold}
 use Rattle.rx_script.proofs.Common.{apply, remove, lease, give_back, next, end, abort, decline, fail, dispose, make_hub, connect, disconnect, Ware, Stage}
-use Rattle.rx_script.proofs.Common.{is_unbound_site, is_unbound_hub, lacks_name, connection_name, takes_name, is_empty, lacks_stock, own_cause, place_at}
+use Rattle.rx_script.proofs.Common.{is_unbound_site, is_unbound_hub, lacks_name, takes_name, lacks_stock, own_cause, place_at}
 use Rattle.rx_script.proofs.Common.{kind_at, front, call_of}
 use Rattle.rx_event.specs.Renumbered.{place_by, kind_by}
 use Rattle.rx_register.proofs.Laws.SameCauses.{NamesPlace, NamesKind}
 use Rattle.rx_script.proofs.NamesForOtherNumbers.{renamed, AllNumbers, bound-same, is_bound-same, is_unbound-same, bound-holds}
 use Rattle.rx_script.proofs.MadeOfOptions.{made_of, made_of_two}
+use Rattle.std.proofs.Common.{rules}
 
 pub record AreSameStages (r s : ℕ → ℕ) (x y : Stage) : Type 0 where
   pub histories : AreSameBy nothing_kept r s x.history y.history
@@ -77,30 +78,20 @@ module _ (r s : ℕ → ℕ) (x y : Stage) (a : AreSameStages r s x y) where
 
   beside_same : (name : Name) (o : Option Name)
       → option_map_or (λ c. is_bound y.nodes c || bytes_eq name c) o false ≡ option_map_or (λ c. is_bound x.nodes c || bytes_eq name c) o false
-  beside_same name None = refl
-  beside_same name (Some c) = ap (λ b. b || bytes_eq name c) (a_node c)
+  beside_same name x1 = search (rules, bytes_eq, a_node)
 
   given_same : (o : Option Name) → option_map_or (is_bound y.nodes) o false ≡ option_map_or (is_bound x.nodes) o false
-  given_same None = refl
-  given_same (Some c) = a_node c
+  given_same x0 = search (rules, a_node)
 
   takes_same : (step : Command) → takes_name y step ≡ takes_name x step
-  takes_same (using name site res) = λ i. a_node name i || is_bound-same r x.resources y.resources res a.resources i
-  takes_same (open_node name site sort) = λ i. a_node name i || beside_same name (connection_name sort) i
-  takes_same (hold node res) = is_bound-same r x.resources y.resources res a.resources
-  takes_same (lease res name) = is_bound-same r x.leases y.leases name a.leases
-  takes_same (make_hub name mode) = is_bound-same r x.hubs y.hubs name a.hubs
-  takes_same (connect hub name) = given_same name
-  takes_same _ = refl
+  takes_same x0 = search (rules, a_node, is_bound-same, beside_same, given_same)
 
   stock_same : (step : Command) → lacks_stock y step ≡ lacks_stock x step
-  stock_same (using name site res) = ap is_empty a.stock
-  stock_same (hold node res) = ap is_empty a.stock
-  stock_same _ = refl
+  stock_same x0 = search rules
 
   pub own_same : (step : Command) → own_cause y step ≡ own_cause x step
   own_same step =
-      λ i. cond (lacks_same step i) (Some NoName) (cond (takes_same step i) (Some NameTaken) (cond (stock_same step i) (Some NoStock) None))
+      search (rules, cond, lacks_same, takes_same, stock_same)
 
   -- the call ---------------------------------------------------------------------------------------------------------------------
 
@@ -118,30 +109,23 @@ module _ (r s : ℕ → ℕ) (x y : Stage) (a : AreSameStages r s x y) where
   place_same (notifier name) = number_same Notifier (place_by r) (λ n. refl) x.nodes y.nodes name a.nodes
 
   kind_same : (sort : Sort) → kind_at y sort ≡ option_map (kind_by r) (kind_at x sort)
-  kind_same (sub hub connection) = number_same Sub (kind_by r) (λ n. refl) x.hubs y.hubs hub a.hubs
-  kind_same _ = refl
+  kind_same x0 = search (rules, number_same)
 
   pub front_same : front y ≡ front x
   front_same = ap (λ (l : List Ware). slice_get l 0) a.stock
 
   using_moved : (o : Option Place) (w : Option Ware) → option_and_then (λ place. option_map (λ v. OpeningUsing place v.tag) w) (option_map (place_by r) o)
       ≡ option_map (call_by r) (option_and_then (λ place. option_map (λ v. OpeningUsing place v.tag) w) o)
-  using_moved None w = refl
-  using_moved (Some place) None = refl
-  using_moved (Some place) (Some w) = refl
+  using_moved x0 w = search rules
 
   open_moved : (o : Option Place) (k : Option Kind)
       → option_and_then (λ place. option_map (Opening place) (option_map (kind_by r) k)) (option_map (place_by r) o)
       ≡ option_map (call_by r) (option_and_then (λ place. option_map (Opening place) k) o)
-  open_moved None k = refl
-  open_moved (Some place) None = refl
-  open_moved (Some place) (Some kind) = refl
+  open_moved x0 k = search rules
 
   hold_moved : (o : Option ℕ) (w : Option Ware) → option_and_then (λ n. option_map (λ v. Holding n v.tag) w) (option_map r o)
       ≡ option_map (call_by r) (option_and_then (λ n. option_map (λ v. Holding n v.tag) w) o)
-  hold_moved None w = refl
-  hold_moved (Some n) None = refl
-  hold_moved (Some n) (Some w) = refl
+  hold_moved x0 w = search rules
 
   node_call : (f : ℕ → Call) → ((n : ℕ) → f (r n) ≡ call_by r (f n)) → (name : Name)
       → option_map f (bound y.nodes name) ≡ option_map (call_by r) (option_map f (bound x.nodes name))
@@ -196,7 +180,7 @@ module _ (r s : ℕ → ℕ) (x y : Stage) (a : AreSameStages r s x y) where
 
   by_resource : (f : ℕ → Call) → ((n : ℕ) → at makes_resource x.history n ≡ true → NamesKnown x.history (f n)) → (name : Name) (call : Call)
       → option_map f (bound x.resources name) ≡ Some call → NamesKnown x.history call
-  by_resource f each name call called = by_number f (λ n. at makes_resource x.history n ≡ true) each x.resources a.resources_made name call called
+  by_resource f each name call called = search (rules, by_number)
 
   place_of_number : (f : ℕ → Place) → ((n : ℕ) → at makes_node x.history n ≡ true → NamesPlace x.history (f n)) → (name : Name) (place : Place)
       → option_map f (bound x.nodes name) ≡ Some place → NamesPlace x.history place

@@ -1,8 +1,8 @@
 -- A course that no full history cuts short has one in the one order beside it, with the same answers, at each of whose steps the names
 -- stand for the same things.
-use Rattle.rx_script.proofs.Common.{subst, ◌≡◌, ℕ, ◌+◌, Bool, true, false, List, [], ◌∷◌, ◌++◌, map, Option, Some, None, refl, sym, ap, ◌∙◌, slice_get, ◌||◌}
+use Rattle.rx_script.proofs.Common.{◌≡◌, ℕ, ◌+◌, Bool, true, false, List, [], ◌∷◌, ◌++◌, map, Option, Some, None, refl, sym, ap, ◌∙◌, slice_get, ◌||◌}
 use Rattle.rx_script.proofs.Common.{option_map, list_any, option_map_or, map-append, false≢true, or_parts, same_Some, none-some, slice_get_within, nothing_kept}
-use Rattle.rx_script.proofs.Common.{Event, Refusal, Full, first_cause, Call, Disconnecting, outside_of, IsStepOf, call_by, AreSameSince, shown_nothing, TakesOn}
+use Rattle.rx_script.proofs.Common.{Event, Refusal, Full, first_cause, Call, outside_of, IsStepOf, call_by, AreSameSince, shown_nothing, TakesOn}
 use Rattle.rx_script.proofs.Common.{takes_none, takes_one, slice_get-append, Take, causes, unlimited, settled_empty, NamesKnown, Drains, Answer, Accepted}
 use Rattle.rx_script.proofs.Common.{Refused, Cause, Book, done_in, Command, drain, checkpoint, Action, Step, Script, Ware, Stage, start, own_cause, call_of}
 use Rattle.rx_script.proofs.Common.{front_is_fresh, after, limited, in_one_order, cause_in, Executes, refused, refused_by_book, accepted, drained, checkpointed}
@@ -21,11 +21,11 @@ use Rattle.rx_script.proofs.CallsOfSteps.{call_ready}
 use Rattle.rx_script.proofs.StepsInOneOrder.{FirstStep, ordered_step, Drained, takes_drained, OrderedDrain, ordered_drain}
 use Rattle.rx_script.proofs.SameStages.{AreSameStages, own_same, front_same, call_same, call_known}
 use Rattle.rx_script.proofs.SameAfter.{stands_on, same_on, after_same}
+use Rattle.std.proofs.Common.{rules}
 
 -- what is known of a call's numbers
 known_number : (h : List Event) (call : Call) → NamesKnown h call → IsKnown h call
-known_number h (Disconnecting g) known = known
-known_number h _ known = tt
+known_number h x1 known = search rules
 
 -- the book's cause is the same with no limit
 cause_same : {r : ℕ → ℕ} (s : ℕ → ℕ) (x y : Stage) (limit : ℕ) (call : Call) → AreSameStages r s x y → NamesKnown x.history call
@@ -180,7 +180,7 @@ played_alike {y = y} {last = last} a (one_played {done = done} step {answer = an
         w = did_alike before.same did (or_parts (list_any is_full (map answer_in done)) (is_full answer) parts).1
 
 same_empty : AreSame nothing_kept [] []
-same_empty = subst (λ (h : List Event). AreSame nothing_kept h h) shown_nothing (same_start nothing_kept started_empty)
+same_empty = search (rules, shown_nothing, same_start, started_empty)
 
 begun_alike : (stock : List Ware) → AreSameStages same_empty.reads same_empty.reads_back (start stock) (start stock)
 begun_alike stock = record {

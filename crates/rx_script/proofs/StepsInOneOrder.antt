@@ -1,9 +1,9 @@
 -- In the one order a call against which no cause stands is carried out, and all that waits is taken.
 use Rattle.rx_script.proofs.Common.{◌≡◌, ℕ, zero, suc, ◌+◌, ◌<◌, ◌≤◌, Bool, true, false, List, [], ◌∷◌, ◌++◌, length, None, slice_get, refl, sym, ap, subst}
-use Rattle.rx_script.proofs.Common.{◌∙◌, arith, append_assoc, append-nil, false_from_ne_true, ltb-true, nothing_kept, Event, Take, Refusal, Full, places}
-use Rattle.rx_script.proofs.Common.{is_waiting, waiting_resources, waiting_count, debt, IsSettled, MayFollow, IsLawful, stays, first_cause, Call, Opening}
-use Rattle.rx_script.proofs.Common.{OpeningUsing, Holding, Applying, Removing, Leasing, GivingBack, Emitting, Ending, Aborting, Declining, Failing, Disposing}
-use Rattle.rx_script.proofs.Common.{Publishing, Connecting, Disconnecting, Taking, outside_of, IsStepOf, IsFirstStep, nothing_yet, IsLawful-push, lawful_begun}
+use Rattle.rx_script.proofs.Common.{◌∙◌, arith, append_assoc, append-nil, false_from_ne_true, ltb-true, nothing_kept, Event, Take, Refusal, places}
+use Rattle.rx_script.proofs.Common.{is_waiting, waiting_resources, waiting_count, debt, IsSettled, MayFollow, IsLawful, stays, first_cause, Call}
+use Rattle.rx_script.proofs.Common.{Applying}
+use Rattle.rx_script.proofs.Common.{Taking, outside_of, IsStepOf, IsFirstStep, nothing_yet, IsLawful-push, lawful_begun}
 use Rattle.rx_script.proofs.Common.{lawful_last, first_forced_on, TakesOn, takes_none, takes_one, is_over, added_by, causes, unlimited, IsReady, Takes}
 use Rattle.rx_script.proofs.Common.{none_taken, next_taken, DrainsInOrder, nothing_left, least_taken}
 use Rattle.rx_event.specs.Allowed.{taken}
@@ -15,6 +15,7 @@ use Rattle.rx_event.proofs.Laws.Finishes.{finishes, finish_settled}
 use Rattle.rx_register.specs.Claims.{MayFollowInTurn}
 use Rattle.rx_register.proofs.Laws.Calls.{call_follows}
 use Rattle.rx_script.proofs.LeasesOut.{nothing_before}
+use Rattle.std.proofs.Common.{rules}
 
 -- calls ------------------------------------------------------------------------------------------------------------------------------
 
@@ -23,29 +24,11 @@ abbrev pub roomy : List Event → Call → ℕ
 roomy h call = length h + debt nothing_kept h + added_by h call
 
 none_over : (h : List Event) (limit more : ℕ) → length h + debt nothing_kept h + more ≤ limit → is_over nothing_kept h limit more ≡ false
-none_over h limit more room = false_from_ne_true (is_over nothing_kept h limit more)
-    (λ is. let l = ltb-true (0 + limit) (length h + debt nothing_kept h + more) is in absurd (omega arith))
+none_over h limit more room = search (rules, false_from_ne_true, ltb-true, length)
 
 pub roomy_cause : (h : List Event) (limit : ℕ) (fresh : Bool) (call : Call) → roomy h call ≤ limit → (why : Refusal)
     → causes nothing_kept h limit fresh call why ≡ unlimited (causes nothing_kept h 0 fresh call) why
-roomy_cause h limit fresh (Opening place kind) room Full = none_over h limit (added_by h (Opening place kind)) room
-roomy_cause h limit fresh (OpeningUsing place tag) room Full = none_over h limit (added_by h (OpeningUsing place tag)) room
-roomy_cause h limit fresh (Holding n tag) room Full = none_over h limit (added_by h (Holding n tag)) room
-roomy_cause h limit fresh (Applying q) room Full = none_over h limit (added_by h (Applying q)) room
-roomy_cause h limit fresh (Leasing q) room Full = none_over h limit (added_by h (Leasing q)) room
-roomy_cause h limit fresh (Emitting l v) room Full = none_over h limit (added_by h (Emitting l v)) room
-roomy_cause h limit fresh (Publishing mode) room Full = none_over h limit (added_by h (Publishing mode)) room
-roomy_cause h limit fresh (Connecting g) room Full = none_over h limit (added_by h (Connecting g)) room
-roomy_cause h limit fresh (Removing q) room Full = refl
-roomy_cause h limit fresh (GivingBack l) room Full = refl
-roomy_cause h limit fresh (Ending l t) room Full = refl
-roomy_cause h limit fresh (Aborting n code) room Full = refl
-roomy_cause h limit fresh (Declining f) room Full = refl
-roomy_cause h limit fresh (Failing f code) room Full = refl
-roomy_cause h limit fresh (Disposing n) room Full = refl
-roomy_cause h limit fresh (Disconnecting g) room Full = refl
-roomy_cause h limit fresh (Taking q) room Full = refl
-roomy_cause h limit fresh _ room _ = refl
+roomy_cause h limit fresh x3 room x5 = search (rules, none_over, Applying)
 
 -- so with room enough the first cause is the one that stands with no limit
 pub roomy_first : (h : List Event) (limit : ℕ) (fresh : Bool) (call : Call) → roomy h call ≤ limit
@@ -93,7 +76,7 @@ settled_take h q law next settled = settled_on law next settled refl (λ n. refl
 
 may_take_on : {h k : List Event} {q : ℕ} → IsStepOf nothing_kept h (Taking q) k → MayFollow nothing_kept h (Take q)
 may_take_on {h = h} {q = q} step =
-    lawful_last nothing_kept h (Take q) (nothing_before h) (lawful_begun nothing_kept step.forced (nothing_before (h ++ Take q ∷ [])) step.lawful)
+    search (rules, lawful_last, nothing_before, lawful_begun)
 
 taken_alone : {h k : List Event} {q : ℕ} → IsLawful nothing_kept h → IsSettled nothing_kept h → IsStepOf nothing_kept h (Taking q) k → k ≡ h ++ Take q ∷ []
 taken_alone {h = h} {q = q} law settled step = unforced nothing_kept step.forced (settled_take h q law (may_take_on step) settled)

@@ -2,15 +2,15 @@
 -- than those that follow it.
 use Rattle.rx_script.proofs.Common.{◌≡◌, ℕ, suc, ◌+◌, ◌<◌, ◌≤◌, Bool, true, false, List, [], ◌∷◌, ◌++◌, Option, Some, None, cond, refl, ap, subst, arith}
 use Rattle.rx_script.proofs.Common.{nat_lt, nat_eq, option_map, AllByRecursion, false_from_ne_true, eqb-true, eq-eqb, ltb-true, same_Some, none-some}
-use Rattle.rx_script.proofs.Common.{AllByRecursion-both, Name, Steps, no_steps, Step, list_of, Answer, Accepted, Refused, Agenda, empty_agenda, with_steps}
+use Rattle.rx_script.proofs.Common.{AllByRecursion-both, Name, Steps, no_steps, Step, list_of, Answer, Agenda, empty_agenda, with_steps}
 use Rattle.rx_script.proofs.Common.{followed_by, next_step, Cancels, taken_off, none_waits}
 use Rattle.std.proofs.Common.{nat_le}
-use Rattle.std.specs.Prelude.{max}
 use Rattle.std.proofs.lemmas.Bool.{lt-ltb}
 use Rattle.rx_time.specs.declared.work.Work.{Work}
 use Rattle.rx_time.specs.Schedule.{earlier, next_of, if_due, next_due, without}
 use Rattle.rx_scenario.specs.Scenario.{one_more}
 use Rattle.rx_agenda.specs.Agenda.{with_step_after, with_step, first_of_turn, next_of_turn}
+use Rattle.std.proofs.Common.{rules}
 
 -- a step and those that follow it
 abbrev count_in : Steps → ℕ
@@ -55,15 +55,7 @@ waiting_total-push [] e = omega arith
 waiting_total-push (x ∷ es) e = let rest = waiting_total-push es e in omega arith
 
 step_after-total : (o : Option ℕ) (s : Step) (a : Agenda) → to_come (with_step_after o s a) ≡ to_come a + size s
-step_after-total None s a =
-    let is : to_come (with_step_after None s a) ≡ waiting_total a.timeline.work + total (a.turn ++ s ∷ []) = refl in
-    let push = total-push a.turn s in
-    omega arith
-step_after-total (Some d) s a =
-    let e : ℕ × Work Step = (a.timeline.tickets, record { due = max (a.timeline.clock + d) a.timeline.clock; item = s }) in
-    let is : to_come (with_step_after (Some d) s a) ≡ waiting_total (a.timeline.work ++ e ∷ []) + total a.turn = refl in
-    let push : waiting_total (a.timeline.work ++ e ∷ []) ≡ waiting_total a.timeline.work + size s = waiting_total-push a.timeline.work e in
-    omega arith
+step_after-total x0 s a = search (rules, total-push, waiting_total-push)
 
 with_step-total : (s : Step) (a : Agenda) → to_come (with_step s a) ≡ to_come a + size s
 with_step-total s a = step_after-total s.delay s a
@@ -73,8 +65,7 @@ with_steps-total [] a = omega arith
 with_steps-total (s ∷ ss) a = let rest = with_steps-total ss (with_step s a) in let one = with_step-total s a in omega arith
 
 pub followed-total : (answer : Answer) (s : Step) (a : Agenda) → to_come (followed_by answer (list_of s.followers) a) < to_come a + size s
-followed-total Accepted s a = let all = with_steps-total (list_of s.followers) a in let count = total-list_of s.followers in omega arith
-followed-total (Refused why) s a = omega arith
+followed-total x0 s a = search (rules, with_steps-total, total-list_of)
 
 without-total : (ticket : ℕ) (es : List (ℕ × Work Step)) → waiting_total (without ticket es) ≤ waiting_total es
 without-total ticket [] = omega arith
@@ -135,7 +126,7 @@ without-apart ticket (e ∷ es) apart = by_test (nat_eq ticket e.0) (without-apa
   by_test false rest = (without-all (λ f. nat_eq f.0 e.0 ≡ false) ticket es apart.0, rest)
 
 not_given : (n m : ℕ) → nat_lt n m ≡ true → nat_eq m n ≡ false
-not_given n m given = false_from_ne_true (nat_eq m n) (λ is. let l = ltb-true n m given in let e = eqb-true m n is in absurd (omega arith))
+not_given n m given = search (rules, false_from_ne_true, nat_eq, ltb-true, given, eqb-true)
 
 push-apart : (es : List (ℕ × Work Step)) (e : ℕ × Work Step) → AllApart es → AllByRecursion (λ (f : ℕ × Work Step). nat_lt f.0 e.0 ≡ true) es
     → AllApart (es ++ e ∷ [])
@@ -168,8 +159,7 @@ pub empty-orderly : IsOrderly empty_agenda
 empty-orderly = record { given = tt; apart = tt }
 
 pub followed-orderly : (answer : Answer) (ss : List Step) (a : Agenda) → IsOrderly a → IsOrderly (followed_by answer ss a)
-followed-orderly Accepted ss a o = with_steps-orderly ss a o
-followed-orderly (Refused why) ss a o = o
+followed-orderly x0 ss a o = search (rules, with_steps-orderly)
 
 -- what comes next, and what is taken off ---------------------------------------------------------------------------------------------
 
@@ -179,11 +169,7 @@ pub record IsLeft (a : Agenda) (s : Step) (rest : Agenda) : Type 0 where
   pub orderly : IsOrderly rest
 
 due_now : (until : ℕ) (o : Option (ℕ × Work Step)) (e : ℕ × Work Step) → if_due until o ≡ Some e → o ≡ Some e
-due_now until None e found = absurd (none-some e found)
-due_now until (Some f) e found = by_test (nat_le f.1.due until) found where
-  by_test : (t : Bool) → cond t (Some f) None ≡ Some e → Some f ≡ Some e
-  by_test true found = found
-  by_test false found = absurd (none-some e found)
+due_now until x1 e found = search (rules, none-some, nat_le, cond)
 
 pub next_left : (until : ℕ) (a : Agenda) (s : Step) (rest : Agenda) → IsOrderly a → next_step until a ≡ Some (s, rest) → IsLeft a s rest
 next_left until a s rest o comes = by_turn a.turn refl comes where

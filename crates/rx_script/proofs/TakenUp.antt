@@ -1,5 +1,5 @@
 -- What is taken from a book one by one: events from a place on, and notes.
-use Rattle.rx_script.proofs.Common.{◌≡◌, ◌<◌, ◌≤◌, ◌+◌, ◌++◌, ◌∷◌, [], ℕ, zero, suc, List, Bool, true, false, length, take, drop, refl, sym, ap, subst, ◌∙◌}
+use Rattle.rx_script.proofs.Common.{◌≡◌, ◌<◌, ◌≤◌, ◌+◌, ◌++◌, ◌∷◌, [], ℕ, zero, suc, List, true, false, length, take, drop, refl, sym, ap, subst, ◌∙◌}
 use Rattle.rx_script.proofs.Common.{append_assoc, append-nil, length-append, length-take, arith, inl, inr, ◌⊎◌, Some, None, slice_get, nat_eq, nat_lt}
 use Rattle.rx_script.proofs.Common.{option_map_or, get, take_more, cases_Bool, ltb-true, none-some, slice_get_past, Event, Mail, Kept, nothing_kept, IsLawful}
 use Rattle.rx_script.proofs.Common.{by_pushes, State, IsPromised, Tallies, AreCountsOf, AreNotesOf, GoesOn, slice_get_within}
@@ -10,6 +10,7 @@ use Rattle.std.proofs.lemmas.Bool.{cases_lt}
 use Rattle.std.proofs.lemmas.Option.{get_or_from_slice_get}
 use Rattle.rx_event.specs.Kept.{event_since}
 use Rattle.rx_script.proofs.LeasesOut.{front_lawful}
+use Rattle.std.proofs.Common.{rules}
 
 slice_get-past : {A : Type 0} (xs : List A) (n : ℕ) → slice_get xs n ≡ None → length xs ≤ n
 slice_get-past [] n missing = omega arith
@@ -36,16 +37,10 @@ from_start base h n none = ap (λ (b : Kept). event_since b h n) none ∙ ap (λ
     by_test (inr past) = past
 
 pub event_within : (base : Kept) (h : List Event) (n : ℕ) (e : Event) → Some e ≡ event_since base h n → n < length h
-event_within base h n e found = by_test (nat_lt n base.at_length) (sym found) where
-  by_test : (b : Bool) → (if b then None else slice_get h n) ≡ Some e → n < length h
-  by_test true none = absurd (none-some e none)
-  by_test false there = slice_get_within h n e there
+event_within base h n e found = search (rules, nat_lt, slice_get, length, none-some, slice_get_within)
 
 event_there : (base : Kept) (h : List Event) (n : ℕ) (e : Event) → Some e ≡ event_since base h n → slice_get h n ≡ Some e
-event_there base h n e found = by_test (nat_lt n base.at_length) (sym found) where
-  by_test : (b : Bool) → (if b then None else slice_get h n) ≡ Some e → slice_get h n ≡ Some e
-  by_test true none = absurd (none-some e none)
-  by_test false there = there
+event_there base h n e found = search (rules, nat_lt, slice_get, none-some)
 
 -- from the base on, no event is missing but those that did not happen yet
 no_event : (base : Kept) (h : List Event) (n : ℕ) → base.at_length ≤ n → None ≡ event_since base h n → slice_get h n ≡ None
@@ -57,11 +52,7 @@ no_event base h n since missing = by_test (cases_Bool (nat_lt n base.at_length))
 -- a book has far fewer events than a number can count
 pub few_events : (s : State) (n : ℕ) (e : Event) → IsPromised s → Some e ≡ event_since s.base s.history n → n < 18446744073709551615
 few_events s n e kept found =
-    let within = event_within s.base s.history n e found in
-    let room = kept.room in
-    let placed = kept.placed in
-    let limited = kept.limited in
-    omega arith
+    search (rules, event_within)
 
 -- events ------------------------------------------------------------------------------------------------
 
@@ -117,11 +108,7 @@ counted_next {front} {h} {s} {old} new e goes law before found more count = reco
 pub counted_all : (front h : List Event) (s : State) (t : Tallies) → GoesOn front h s → Counted front h t → None ≡ event_since s.base s.history t.events
     → AreCountsOf h t
 counted_all front h s t goes before missing =
-    let stored = goes.stored in
-    let past = before.past in
-    let none : slice_get h t.events ≡ None =
-    ap (λ k. slice_get k t.events) goes.rest ∙ same_past front s.history t.events past ∙ no_event s.base s.history t.events (omega arith) missing in
-    subst (λ k. AreCountsOf k t) (take_all t.events h (slice_get-past h t.events none)) before.counts
+    search (rules, slice_get, same_past, take_all, slice_get-past)
 
 -- notes -------------------------------------------------------------------------------------------------
 
@@ -135,12 +122,11 @@ module _ (first now next : State) (going : now ≡ record first { given = now.gi
 
   pub handed_book : next ≡ record first { given = next.given }
   handed_book =
-      handed ∙ ap {A = State} {B = State} (λ s. record s { given = now.given + 1 }) going
-      ∙ ap {A = ℕ} {B = State} (λ n. record first { given = n }) (sym one_more_given)
+      search (rules, one_more_given)
 
 -- the notes from the first on that was not handed out, as far as they are now
 pub mail_first : (mail all : List Mail) (n : ℕ) → mail ≡ mail ++ drop n (take n all)
-mail_first mail all n = sym (ap (λ l. mail ++ l) (drop_all n (take n all) (let long = length-take n all in omega arith)) ∙ append-nil mail)
+mail_first mail all n = search (rules, drop_all, take, length-take, append-nil)
 
 pub mail_next : (mail all : List Mail) (n m : ℕ) (note : Mail) → n ≤ m → m ≤ length all → Some note ≡ slice_get all m
     → (mail ++ drop n (take m all)) ++ note ∷ [] ≡ mail ++ drop n (take (m + 1) all)
@@ -158,16 +144,7 @@ all_given all m within missing = let past = slice_get-past all m (sym missing) i
 -- both ----------------------------------------------------------------------------------------------------
 
 pub counts_kept : (h : List Event) (old new : Tallies) → new ≡ record old { notes = new.notes } → AreCountsOf h old → AreCountsOf h new
-counts_kept h old new same counts = subst (λ t. AreCountsOf h t) (sym same) (record {
-  events = counts.events;
-  nodes = counts.nodes;
-  told = counts.told;
-  tags = counts.tags;
-  uses = counts.uses;
-  leases = counts.leases;
-  out = counts.out;
-  taken = counts.taken;
-})
+counts_kept h old new same counts = search rules
 
 pub goes_kept : (front h : List Event) (old new : State) → new ≡ record old { given = new.given } → GoesOn front h old → GoesOn front h new
 goes_kept front h old new same goes = subst (λ s. GoesOn front h s) (sym same) (record { stored = goes.stored; rest = goes.rest })

@@ -1,9 +1,10 @@
 -- What a book that stores a base, and tallies, say of the whole history.
-use Rattle.rx_script.proofs.Common.{◌≡◌, ℕ, Bool, false, List, length, Option, Some, None, refl, sym, ap, ◌∙◌, ◌&&◌, slice_get, count_by, is_some, list_any}
-use Rattle.rx_script.proofs.Common.{range_with_len, option_and_then, option_map_or, Event, Open, Accept, makes_resource, is_take_of, places, is_open, is_held}
+use Rattle.rx_script.proofs.Common.{◌≡◌, ℕ, Bool, false, List, length, Option, sym, ap, ◌∙◌, ◌&&◌, slice_get, count_by, is_some, list_any}
+use Rattle.rx_script.proofs.Common.{range_with_len, option_and_then, option_map_or, Event, makes_resource, is_take_of, places, is_open, is_held}
 use Rattle.rx_script.proofs.Common.{is_taken, open_count, held_count, waiting_count, alike_of, Key, ResKey, State, has_key, has_res_key, accepted_tag}
 use Rattle.rx_script.proofs.Common.{IsPromised, Tallies, IsNodeKey, IsHeldKey, IsWhole}
 use Rattle.rx_script.proofs.KeysByNumber.{has_key-is_open, has_res_key-is_held}
+use Rattle.std.proofs.Common.{rules}
 
 -- what is counted at each place alike
 same_count : (p q : ℕ → Bool) (h k : List Event) → length h ≡ length k → ((n : ℕ) → p n ≡ q n) → count_by p (places h) ≡ count_by q (places k)
@@ -28,10 +29,7 @@ module _ (h : List Event) (t : Tallies) (s : State) (w : IsWhole h t s) where
 
 -- a resource that has a tag was accepted
 accepted_there : (o : Option Event) → is_some (option_and_then accepted_tag o) ≡ option_map_or makes_resource o false
-accepted_there None = refl
-accepted_there (Some (Accept node tag)) = refl
-accepted_there (Some (Open place kind)) = refl
-accepted_there (Some _) = refl
+accepted_there x0 = search rules
 
 pub tagged-taken : (h : List Event) (r : ℕ) → (is_some (option_and_then accepted_tag (slice_get h r)) && list_any (is_take_of r) h) ≡ is_taken h r
 unfolding is_taken

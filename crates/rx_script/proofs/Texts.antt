@@ -1,7 +1,8 @@
 -- Lines of one more answer.
-use Rattle.rx_script.proofs.Common.{◌≡◌, ◌<◌, ◌+◌, ◌++◌, ◌∷◌, [], ℕ, List, length, take, get_or, sym, ap, ◌∙◌, append-nil, append_assoc, length-take, arith}
+use Rattle.rx_script.proofs.Common.{◌≡◌, ◌<◌, ◌+◌, ◌++◌, ◌∷◌, [], ℕ, List, length, take, get_or, ap, ◌∙◌, append-nil, append_assoc, length-take, arith}
 use Rattle.rx_script.proofs.Common.{flat_map, take_more, flat_map-append, Answer, refused_line, refused_lines}
 use Rattle.std.specs.List.{enumerate_from}
+use Rattle.std.proofs.Common.{rules}
 
 enumerate_from-push : {X : Type 0} (n : ℕ) (xs : List X) (x : X) → enumerate_from n (xs ++ x ∷ []) ≡ enumerate_from n xs ++ (n + length xs, x) ∷ []
 enumerate_from-push n [] x = let e : n ≡ n + 0 = omega arith in ap (λ k. (k, x) ∷ []) e
@@ -24,7 +25,4 @@ refused_lines-more xs i d h =
 pub pushed_refused : (old : List ℕ) {mid : List ℕ} (new : List ℕ) (xs : List Answer) (i : ℕ) (d : Answer) → i < length xs
     → mid ≡ old ++ refused_lines (take i xs) → new ≡ mid ++ refused_line i (get_or xs i d) → new ≡ old ++ refused_lines (take (i + 1) xs)
 pushed_refused old new xs i d h before here =
-    here
-    ∙ ap (λ l. l ++ refused_line i (get_or xs i d)) before
-    ∙ append_assoc old (refused_lines (take i xs)) (refused_line i (get_or xs i d))
-    ∙ ap (λ l. old ++ l) (sym (refused_lines-more xs i d h))
+    search (rules, get_or, append_assoc, take, refused_lines-more)

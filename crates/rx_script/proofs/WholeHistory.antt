@@ -1,7 +1,7 @@
 -- The history from its first event on, of which a book stores a base and the events since: both go on by the same steps.
-use Rattle.rx_script.proofs.Common.{◌≡◌, ℕ, ◌≤◌, List, [], ◌∷◌, ◌++◌, length, map, filter, refl, sym, ap, subst, ◌∙◌, arith, append_assoc, append-nil}
-use Rattle.rx_script.proofs.Common.{length-append, range_with_len, Event, Open, Accept, Close, Pass, Kept, nothing_kept, shown, base_of, Agree}
-use Rattle.rx_script.proofs.Common.{waiting_resources, notes, IsSettled, forced, stays, more, IsLawful, IsForcedOn, Call, OpeningUsing, Disconnecting, Taking}
+use Rattle.rx_script.proofs.Common.{◌≡◌, ◌≤◌, List, [], ◌∷◌, ◌++◌, length, map, filter, refl, sym, ap, subst, ◌∙◌, arith, append_assoc, append-nil}
+use Rattle.rx_script.proofs.Common.{length-append, range_with_len, Event, Accept, Kept, nothing_kept, shown, base_of, Agree}
+use Rattle.rx_script.proofs.Common.{waiting_resources, notes, IsSettled, forced, stays, more, IsLawful, IsForcedOn, Call, Taking}
 use Rattle.rx_script.proofs.Common.{outside_of, IsStepOf, IsLawful-push, lawful_front, lawful_last, lawful_begun, by_pushes, Alike, alike_of, connections_alike}
 use Rattle.rx_script.proofs.Common.{base_length, checkpoints_agree, Takes, none_taken, next_taken, Drains}
 use Rattle.rx_event.specs.Renumbered.{AreRead}
@@ -14,12 +14,11 @@ use Rattle.rx_event.proofs.Laws.ReadDue.{read_back, forced_read, settled_read}
 use Rattle.rx_event.proofs.Laws.Bases.{length_base}
 use Rattle.rx_event.proofs.Laws.CheckpointMarks.{base_untold}
 use Rattle.rx_script.proofs.LeasesOut.{nothing_before}
+use Rattle.std.proofs.Common.{rules}
 
 -- calls add the same events to histories that are alike
 outside_alike : (h k : List Event) → Alike h k → (call : Call) → outside_of h call ≡ outside_of k call
-outside_alike h k a (OpeningUsing place tag) = ap (λ (n : ℕ). Open place Pass ∷ Accept n tag ∷ []) a.same_length
-outside_alike h k a (Disconnecting g) = ap (map (λ c. Close c)) (connections_alike h k a g)
-outside_alike h k a _ = refl
+outside_alike h k a x3 = search (rules, Accept, map, connections_alike)
 
 -- a front that a checkpoint put a base in place of
 module _ (front : List Event) (law : IsLawful nothing_kept front) (settled : IsSettled nothing_kept front) (b : Kept)
@@ -58,12 +57,7 @@ module _ (front : List Event) (law : IsLawful nothing_kept front) (settled : IsS
     pub lawful : IsLawful b m
 
   forced_over : {k m : List Event} → IsForcedOn b k m → (es : List Event) → k ≡ shown b ++ es → IsLawful b k → ForcedOver es m
-  forced_over stays es at_k law_k = record {
-    events = [];
-    same = at_k ∙ ap (λ (l : List Event). shown b ++ l) (sym (append-nil es));
-    on = subst (λ (l : List Event). IsForcedOn nothing_kept (front ++ es) (front ++ l)) (sym (append-nil es)) stays;
-    lawful = law_k;
-  }
+  forced_over stays es at_k law_k = search (rules, append-nil, stays)
   forced_over (more {k = m} {e = e} before f) es at_k law_k = one_more (forced_over before es at_k law_k) f where
     one_more : ForcedOver es m → IsForced b m e → ForcedOver es (m ++ e ∷ [])
     one_more w g = record {
@@ -126,12 +120,7 @@ module _ (front : List Event) (law : IsLawful nothing_kept front) (settled : IsS
     pub lawful : IsLawful b k
 
   takes_over : {k m : List Event} → Takes b k m → (es : List Event) → k ≡ shown b ++ es → IsLawful b k → TakesOver es m
-  takes_over none_taken es at_k law_k = record {
-    events = [];
-    same = at_k ∙ ap (λ (l : List Event). shown b ++ l) (sym (append-nil es));
-    takes = subst (λ (l : List Event). Takes nothing_kept (front ++ es) (front ++ l)) (sym (append-nil es)) none_taken;
-    lawful = law_k;
-  }
+  takes_over none_taken es at_k law_k = search (rules, append-nil, none_taken)
   takes_over (next_taken {m = m} {k = k} {r = r} before step) es at_k law_k = one_more (takes_over before es at_k law_k) step where
     one_more : TakesOver es m → IsStepOf b m (Taking r) k → TakesOver es k
     one_more w taken = record {
@@ -173,8 +162,7 @@ module _ (front : List Event) (law : IsLawful nothing_kept front) (settled : IsS
 
   told_none : ToldSince []
   told_none law_es =
-      ap notes (append-nil front) ∙ sym (append-nil (notes front))
-      ∙ ap (λ (l : List _). notes front ++ l) (sym stored_untold ∙ ap notes (sym (append-nil (shown b))))
+      search (rules, append-nil, stored_untold)
 
   told_one : (es : List Event) (e : Event) → ToldSince es → ToldSince (es ++ e ∷ [])
   told_one es e before law_more =

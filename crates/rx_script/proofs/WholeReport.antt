@@ -1,13 +1,11 @@
 -- The whole report of a course.
-use Rattle.rx_script.proofs.Common.{◌≡◌, ◌≤◌, ◌+◌, ◌++◌, ℕ, List, true, false, refl, sym, ap, subst, ◌∙◌, append-nil, count_by, arith, range_with_len}
+use Rattle.rx_script.proofs.Common.{◌≡◌, ◌≤◌, ◌+◌, ◌++◌, ℕ, List, true, false, refl, sym, ap, ◌∙◌, append-nil, count_by, range_with_len}
 use Rattle.rx_script.proofs.Common.{false≢true, nothing_kept, Agree, held_count, waiting_count, accepted_count-parts, IsPromised, Steps, steps_of, Script}
 use Rattle.rx_script.proofs.Common.{has_checkpoint, Engine, Ware, Stage, start, with_steps, empty_agenda, limited, Course, HasNoFull, IsCourseOf, HasOneCourse}
-use Rattle.rx_script.proofs.Common.{begin, Ends, dump, Form, report, lacks_form, named_dump, has_history, unclosed_output, IsCarriedOut}
+use Rattle.rx_script.proofs.Common.{Form, report, lacks_form, has_history, unclosed_output, IsCarriedOut}
 use Rattle.std.proofs.Common.{min}
 use Rattle.rx_event.specs.Totals.{accepted_count}
-use Rattle.rx_script.specs.declared.Form.TheVariants.{Report, Dump, NamedDump}
 use Rattle.rx_script.specs.Report.{AreReportedAlike, output}
-use Rattle.rx_script.specs.NamedDumps.{run_names}
 use Rattle.rx_script.specs.Outputs.{closing}
 use Rattle.rx_script.specs.Running.{IsReportedCanonically}
 use Rattle.rx_script.proofs.CoursesInOrder.{course_in_order}
@@ -15,18 +13,15 @@ use Rattle.rx_script.proofs.OneCourse.{one_canonical_course}
 use Rattle.rx_script.proofs.SameSteps.{HasCanonical, has_canonical}
 use Rattle.rx_script.proofs.SameReports.{report_same}
 use Rattle.rx_script.proofs.CourseWithoutCheckpoint.{unchecked}
+use Rattle.std.proofs.Common.{rules}
 
 outputs_whole : (form : Form) (c : Course) (faults : ℕ)
     → unclosed_output form c.answers c.last ++ closing form (held_count c.last.history + waiting_count c.last.history) faults ≡ output form c faults
 unfolding report
-outputs_whole Report c faults = refl
-outputs_whole Dump c faults = append-nil (dump c.last.history)
-outputs_whole NamedDump c faults = append-nil (named_dump c.last.history (run_names c.last))
+outputs_whole x0 c faults = search (rules, append-nil)
 
 without_checkpoint : (form : Form) (steps : Steps) → has_history form ≡ true → lacks_form form steps ≡ false → has_checkpoint steps ≡ false
-without_checkpoint Report steps has has_form = absurd (false≢true has)
-without_checkpoint Dump steps has has_form = has_form
-without_checkpoint NamedDump steps has has_form = has_form
+without_checkpoint x0 steps has has_form = search (rules, false≢true)
 
 -- a course that no full history cut short is reported as the canonical one
 record IsReportedAs (script : Script) (stock : List Ware) (c : Course) : Type 0 where
@@ -74,17 +69,13 @@ module _ {R : Type 0} (form : Form) (script : Script) (stock : List Ware) (limit
   course = record { answers = out.answers; last = out.last }
 
   possible : IsCourseOf script stock course
-  possible = course_in_order (limited script.events) script stock out.answers out.last
-      (subst (λ n. Ends (limited n) script.until (begin stock script.steps) out.answers out.last) same_limit
-      (subst (λ s. Ends (limited limit) script.until (record { stage = s; agenda = with_steps script.steps empty_agenda }) out.answers out.last)
-      same_first out.ends))
+  possible = search (rules, course_in_order, limited)
 
   abbrev a : Agree nothing_kept out.last.history new.book.base new.book.history
   a = out.agree
 
   left : released ≡ held_count out.last.history + waiting_count out.last.history
-  left = rest ∙ sym (λ i. count_by (λ n. a.held n i) (range_with_len 0 (a.same_length i))
-      + count_by (λ n. a.waiting n i) (range_with_len 0 (a.same_length i)))
+  left = search (rules, count_by, range_with_len)
 
   lines_whole : whole ≡ output form course faults
   lines_whole =
@@ -96,13 +87,10 @@ module _ {R : Type 0} (form : Form) (script : Script) (stock : List Ware) (limit
   few : (at_end most : ℕ) → IsPromised new.book → at_end ≤ released → faults ≡ min (new.faults + at_end) most
       → faults ≤ accepted_count nothing_kept out.last.history
   few at_end most kept few_at_end sum =
-      let parts = accepted_count-parts new.book.base new.book.history kept.lawful in
-      let before = out.few_faults in
-      let total = a.accepted_total in
-      omega arith
+      search (rules, accepted_count-parts)
 
   pub whole_output : (at_end most : ℕ) → IsPromised new.book → at_end ≤ released → faults ≡ min (new.faults + at_end) most
       → (c : Course) × (n : ℕ) × IsCourseOf script stock c × (n ≤ accepted_count nothing_kept c.last.history) × (whole ≡ output form c n)
       × (HasNoFull c.answers → IsReportedCanonically script stock form c whole n)
   whole_output at_end most kept few_at_end sum =
-      (course, faults, possible, few at_end most kept few_at_end sum, lines_whole, canonical_report stock form course whole faults possible lines_whole)
+      search (rules, possible, few, lines_whole, canonical_report)

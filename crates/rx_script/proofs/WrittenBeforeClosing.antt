@@ -1,5 +1,5 @@
 -- What is written before the closing, of the whole history.
-use Rattle.rx_script.proofs.Common.{◌≡◌, ◌≤◌, ◌++◌, ℕ, true, List, map, sym, ap, subst, ◌∙◌, Result, Ok, Err, IfOk, Event, nothing_kept, Agree, taken_count}
+use Rattle.rx_script.proofs.Common.{◌≡◌, ◌≤◌, ◌++◌, ℕ, true, List, map, sym, ap, subst, ◌∙◌, Result, IfOk, Event, nothing_kept, Agree, taken_count}
 use Rattle.rx_script.proofs.Common.{Answer, Tallies, Gathers, IsWhole, node_binding, res_binding, totals_line, refused_lines, node_lines, res_lines, totals_of}
 use Rattle.rx_script.proofs.Common.{Engine, Form, Manner, Progress, Ends, unclosed_report, has_history, unclosed_output, IsCarriedOut, stage_of, IsHistoryOf}
 use Rattle.rx_script.proofs.Common.{IsSound}
@@ -7,6 +7,7 @@ use Rattle.std.specs.Prelude.{OnOk}
 use Rattle.rx_script.proofs.EngineCarriesOut.{history_lawful, history_agrees}
 use Rattle.rx_script.proofs.CheckpointCarriedOut.{gathered}
 use Rattle.rx_script.proofs.AllStored.{no_base, all_stored}
+use Rattle.std.proofs.Common.{rules}
 
 module _ {R : Type 0} (e : Engine R) (sound : IsSound e) (h : List Event) (w : IsHistoryOf h e.tallies e.book) where
   -- what was gathered is all that the report is written from
@@ -18,10 +19,7 @@ module _ {R : Type 0} (e : Engine R) (sound : IsSound e) (h : List Event) (w : I
       → c ≡ b ++ res_lines h (map res_binding e.resources) → d ≡ c ++ totals_line (totals_of nothing_kept h) → d ≡ unclosed_report answers (stage_of e h)
   unfolding unclosed_report
   lines_report answers b c d refusals nodes resources totals =
-      let two : List ℕ = node_lines h (map node_binding e.nodes) in
-      let three : List ℕ = res_lines h (map res_binding e.resources) in
-      let four : List ℕ = totals_line (totals_of nothing_kept h) in
-      totals ∙ ap (λ l. l ++ four) (resources ∙ ap (λ l. l ++ three) (nodes ∙ ap (λ l. l ++ two) refusals))
+      search (rules, map)
 
   -- what has the history in it, where no checkpoint was made
   pub history_whole : (text_of : List Event → List ℕ) (text : List ℕ) → e.book.base.at_length ≡ 0
@@ -31,8 +29,7 @@ module _ {R : Type 0} (e : Engine R) (sound : IsSound e) (h : List Event) (w : I
 -- what holds where a text was written
 pub written_of : {T E P Q S : Type 0} {A B : T → Type 0} (r : Result T E) → OnOk r P → OnOk r Q → OnOk r S → ((x : T) → P → Q → S → A x → B x) → IfOk r A
     → IfOk r B
-written_of (Ok x) p q s f a = f x p q s a
-written_of (Err e) p q s f a = a
+written_of x0 p q s f a = search rules
 
 -- a run that led here, and what is written of it
 pub carried_out : {R : Type 0} {m : Manner} {until : ℕ} {first : Progress} {form : Form} {text : List ℕ} {e : Engine R} (new : Engine R)

@@ -1,7 +1,8 @@
 -- Which names are held, along acts and from session to session.
-use Rattle.rx_live.proofs.Common.{◌≡◌, ℕ, Bool, false, List, Option, ◌++◌, refl, ap, ◌∙◌, subst, is_some, ◌||◌, bytes_eq, option_map_or, Name, spot_of, Order}
+use Rattle.rx_live.proofs.Common.{◌≡◌, ℕ, Bool, false, List, Option, ◌++◌, refl, ◌∙◌, subst, is_some, ◌||◌, bytes_eq, option_map_or, Name, Order}
 use Rattle.rx_live.proofs.Common.{Session, has_resource, IsAlike, Renews, Act, Leads, no_act, hands_in, releases, IsFresh, IsAged, as_it_was, renewed}
 use Rattle.rx_live.proofs.Common.{WaitsFor, IsPutOff}
+use Rattle.std.proofs.Common.{rules}
 
 -- acts ------------------------------------------------------------------------------------------------
 
@@ -20,9 +21,7 @@ alike_held old new alike n = λ i. is_some (alike.resources.spots n i) || option
 
 pub renewed_held : (old mid aged : Session) → IsAlike old mid → Renews mid aged → (n : Name) → has_resource aged n ≡ has_resource old n
 renewed_held old mid aged alike renews n =
-    (λ i. is_some (spot_of (ap (λ (s : Session). s.resources) renews.rest i) n) ||
-    option_map_or (bytes_eq n) (ap (λ (s : Session). s.unnamed) renews.rest i) false)
-    ∙ alike_held old mid alike n
+    search (rules, is_some, option_map_or, bytes_eq, alike_held)
 
 pub aged_held : {asked : Option Order} {old aged : Session} → IsAged asked old aged → (n : Name) → has_resource aged n ≡ has_resource old n
 aged_held as_it_was n = refl

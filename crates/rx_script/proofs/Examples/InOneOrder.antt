@@ -6,6 +6,7 @@ use Rattle.rx_script.proofs.Common.{list_of, Ware, own_cause, call_of, after, in
 use Rattle.rx_script.proofs.Common.{Leads, not_begun, advanced}
 use Rattle.rx_event.specs.Canonical.{IsFirstOn}
 use Rattle.rx_script.proofs.Examples.StepsThatForceNothing.{step_to}
+use Rattle.std.proofs.Common.{rules}
 
 -- a history that is lawful and settled
 pub record Stands (h : List Event) : Type 0 where
@@ -19,10 +20,7 @@ nothing_stands = record { law = IsLawful_nothing; settled = settled_empty nothin
 pub ordered_to : {h : List Event} (fresh : Bool) (call : Call) (k : List Event) → Stands h → IsReady h call
     → first_cause (unlimited (causes nothing_kept h 0 fresh call)) ≡ None → IsFirstOn nothing_kept (h ++ outside_of h call) k
     → first_forced nothing_kept k ≡ None → IsFirstStep nothing_kept h (outside_of h call) k
-ordered_to {h} fresh call k stands ready none ordered over = record {
-  step = step_to fresh call stands.law stands.settled ready none (first_forced_on nothing_kept ordered) over;
-  ordered = ordered;
-}
+ordered_to {h} fresh call k stands ready none ordered over = search (rules, step_to, first_forced_on)
 
 pub stands_after : {h k : List Event} (call : Call) → IsFirstStep nothing_kept h (outside_of h call) k → Stands k
 stands_after call one = record { law = one.step.lawful; settled = one.step.settled }

@@ -5,6 +5,7 @@ use Rattle.rx_script.proofs.Common.{Answer, Accepted, Agenda, next_step, Command
 use Rattle.rx_script.proofs.Common.{limited, in_one_order, cause_in, accepted, Progress, begin, executes, Leads, advanced}
 use Rattle.rx_event.proofs.Laws.InOrder.{settled_by_order}
 use Rattle.rx_script.proofs.StepsInOneOrder.{roomy, roomy_first, outside_lawful}
+use Rattle.std.proofs.Common.{rules}
 
 -- a step with no label, that does not wait, and that none follows
 abbrev pub doing : Command → Step
@@ -23,7 +24,7 @@ pub step_to : {h : List Event} (fresh : Bool) (call : Call) {k : List Event} →
     → first_cause (unlimited (causes nothing_kept h 0 fresh call)) ≡ None
     → IsForcedOn nothing_kept (h ++ outside_of h call) k → first_forced nothing_kept k ≡ None → IsStepOf nothing_kept h call k
 step_to {h} fresh call {k} law settled ready none on over =
-    record { forced = on; lawful = lawful_through on (outside_lawful h fresh call law settled ready none); settled = settled_by_order nothing_kept k over }
+    search (rules, forced, lawful_through, outside_lawful, settled_by_order)
 
 -- a call that forces nothing
 pub plain_step : (h : List Event) (fresh : Bool) (call : Call) → IsLawful nothing_kept h → IsSettled nothing_kept h → IsReady h call

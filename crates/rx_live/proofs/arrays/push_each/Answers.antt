@@ -3,6 +3,7 @@ use Rattle.rx_live.proofs.Common.{no_items, Value, value_view, items_view, data_
 use Rattle.std.proofs.lemmas.List.{at_drop_more, at_drop_all}
 use Rattle.rx_live.proofs.AnswersOfArrays.{answering_begun, answering_on, answering_ended}
 use Rattle.rx_live.proofs.arrays.push_each.Goals as goal
+use Rattle.std.proofs.Common.{rules}
 
 -- what is left, one step on and at the end
 left_more : {A : Type 0} (vs : List (Value A)) (i : ℕ) (x y : Value A) → i < length vs → x ≡ slice_index_or vs i y →
@@ -14,12 +15,7 @@ left_none : {A : Type 0} (vs : List (Value A)) (i : ℕ) → length vs ≤ i →
 left_none vs i past = at_drop_all (λ ys. items_data (items_view ys)) vs i past
 
 pub values-init : goal.values-init
-values-init c = record {
-  answering = answering_begun (session_of c.args.engine.now) (items_data (items_view c.args.values.now.items)) (string_bytes c.args.text.now);
-  sound = c.requires.sound;
-  room = c.requires.room;
-  share = (let s = c.requires.share in omega (arith, s));
-}
+values-init c = search (rules, answering_begun, items_data, items_view, string_bytes)
 
 pub values-preserved : goal.values-preserved
 values-preserved c =

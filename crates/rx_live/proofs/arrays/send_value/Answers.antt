@@ -1,6 +1,7 @@
-use Rattle.rx_live.proofs.Common.{◌≡◌, Some, None, option_map, sym, ap, ◌∙◌, as_array, items_view, part_data, items_data, order_in, session_of}
+use Rattle.rx_live.proofs.Common.{◌≡◌, Some, option_map, sym, ap, ◌∙◌, as_array, items_view, part_data, items_data, session_of}
 use Rattle.rx_live.proofs.AnswersOfArrays.{value_one, value_many, array_waits}
 use Rattle.rx_live.proofs.arrays.send_value.Goals as goal
+use Rattle.std.proofs.Common.{rules}
 
 pub returns-in-Some-clause-ok : goal.returns-in-Some-clause-ok
 returns-in-Some-clause-ok c =
@@ -11,10 +12,8 @@ returns-in-Some-clause-ok c =
 
 pub returns-in-Some-clause-err : goal.returns-in-Some-clause-err
 returns-in-Some-clause-err c =
-    array_waits (order_in (part_data c.args.value)) (session_of c.args.engine.now) (session_of c.send_array.new.engine) c.send_array.result c.send_array.ensures.err
+    search (rules, array_waits)
 
 pub returns-in-None-clause-ok : goal.returns-in-None-clause-ok
 returns-in-None-clause-ok c =
-    let single : as_array (part_data c.args.value) ≡ None =
-    sym c.as_array.ensures ∙ ap (option_map (λ v. items_data (items_view v.now.items))) c.in-None.is in
-    value_one (session_of c.args.engine.now) (session_of c.send_one.new.engine) (part_data c.args.value) c.send_one.result single c.send_one.ensures.ok
+    search (rules, as_array, option_map, items_data, items_view, value_one)

@@ -3,10 +3,11 @@ use Rattle.rx_scenario.specs.Scenario.{command_of}
 use Rattle.rx_live.specs.KeyedCalls.{keyed_call}
 use Rattle.rx_live.proofs.KeyedCalls.{call_runs, nameless_runs, told_so}
 use Rattle.rx_live.proofs.calls.ask.Goals as goal
+use Rattle.std.proofs.Common.{rules}
 
 pub returns-in_default-clause-ok : goal.returns-in_default-clause-ok
 returns-in_default-clause-ok c =
-    nameless_runs (session_of c.args.engine.now) (command_of c.args.command.now) c.requires.sound c.requires.asked (sym c.keyed_call.ensures ∙ c.in_default.is)
+    search (rules, nameless_runs)
 
 pub returns-clause-ok : goal.returns-clause-ok
 returns-clause-ok c =

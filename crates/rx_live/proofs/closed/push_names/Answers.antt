@@ -1,8 +1,9 @@
-use Rattle.rx_live.proofs.Common.{◌≡◌, ℕ, ◌++◌, List, Option, Some, option_map, length, string_bytes, sym, ap, ◌∙◌, arith, name_text, joined, is_nil}
-use Rattle.rx_live.proofs.Common.{session_of, closed_at, closed_texts}
+use Rattle.rx_live.proofs.Common.{◌≡◌, ℕ, ◌++◌, List, Option, Some, option_map, length, string_bytes, sym, ap, ◌∙◌, name_text, joined, is_nil}
+use Rattle.rx_live.proofs.Common.{session_of, closed_at}
 use Rattle.rx_live.proofs.EntriesWritten.{entry_same, entry_nil, entry_written}
 use Rattle.rx_live.proofs.closed.push_names.Goals.{in-Some+in_ok-push_led, in_default}
 use Rattle.rx_live.proofs.closed.push_names.Goals as goal
+use Rattle.std.proofs.Common.{rules}
 
 pub places-preserved : goal.places-preserved
 places-preserved c =
@@ -29,18 +30,8 @@ places-preserved c =
 
 pub returns-clause-first : goal.returns-clause-first
 returns-clause-first c =
-    let s = session_of c.args.engine.now in
-    let len = c.closed_count-place-end.ensures in
-    let over = c.places-test.false in
-    let most = c.places.auto.place-end in
-    let all : c.places.place ≡ length s.book.closed = omega arith in
-    c.places.invariant.first ∙ ap (λ (n : ℕ). is_nil (closed_texts s c.args.asked n)) all
+    search (rules, length)
 
 pub returns-clause-text : goal.returns-clause-text
 returns-clause-text c =
-    let s = session_of c.args.engine.now in
-    let len = c.closed_count-place-end.ensures in
-    let over = c.places-test.false in
-    let most = c.places.auto.place-end in
-    let all : c.places.place ≡ length s.book.closed = omega arith in
-    c.places.invariant.written ∙ ap (λ (n : ℕ). string_bytes c.args.text.now ++ joined (closed_texts s c.args.asked n)) all
+    search (rules, length, string_bytes)

@@ -1,8 +1,9 @@
-use Rattle.rx_live.proofs.Common.{◌≡◌, ℕ, ◌++◌, List, Option, Some, option_map, length, string_bytes, sym, ap, ◌∙◌, arith, joined, is_nil, led_text, entry_at}
-use Rattle.rx_live.proofs.Common.{session_of, entries}
+use Rattle.rx_live.proofs.Common.{◌≡◌, ℕ, ◌++◌, List, Option, Some, option_map, length, string_bytes, sym, ap, ◌∙◌, joined, is_nil, led_text, entry_at}
+use Rattle.rx_live.proofs.Common.{session_of}
 use Rattle.rx_live.proofs.EntriesWritten.{entry_same, entry_nil, entry_written}
 use Rattle.rx_live.proofs.dumping.push_entries.Goals.{in-Some+in_ok-push_entry, in_default}
 use Rattle.rx_live.proofs.dumping.push_entries.Goals as goal
+use Rattle.std.proofs.Common.{rules}
 
 pub places-preserved : goal.places-preserved
 places-preserved c =
@@ -28,8 +29,4 @@ places-preserved c =
 
 pub returns : goal.returns
 returns c =
-    let len = c.len-place-end.ensures in
-    let over = c.places-test.false in
-    let most = c.places.auto.place-end in
-    let all : c.places.place ≡ length c.args.engine.now.book.history = omega arith in
-    c.places.invariant.written ∙ ap (λ (n : ℕ). string_bytes c.args.text.now ++ joined (entries (session_of c.args.engine.now) n)) all
+    search (rules, length, string_bytes)

@@ -7,6 +7,7 @@ use Rattle.rx_live.proofs.AcceptedBindsNames.{none_of, or_false, is_new, accepte
 use Rattle.rx_live.proofs.OpenedNodesGetNames.{placed, unchanged_room, unchanged_rooms, connection_free, made_unnamed, unnamed_past, on_err, with_book}
 use Rattle.rx_live.proofs.OpenedNodesHold.{causes_of, holder_bound, holder_sound}
 use Rattle.rx_live.proofs.holder.open_holding_at.Goals as goal
+use Rattle.std.proofs.Common.{rules}
 
 pub returns-in_err-make_room-clause-err : goal.returns-in_err-make_room-clause-err
 returns-in_err-make_room-clause-err c =
@@ -131,15 +132,12 @@ bind_made-requires-clause-unnamed c =
     let opened = c.in-Ok.ensures.ok.opened in
     let number : spot.number ≡ length s.book.history = ap (λ (p : Spot). p.number) c.spot_of.ensures ∙ opened.key.number in
     let binds : Binds t name spot with_node = subst (λ (n : Name). Binds t n spot with_node) c.in_ok-name.ensures c.bind.ensures.binds in
-    made_unnamed s.book.history c.open_holding.new.self.history (placed c.requires c.are_taken.ensures.same c.make_room.ensures.same) binds number c.in-Ok.held.opened.connected opened.connection
+    made_unnamed s.book.history c.open_holding.new.self.history (placed c.requires c.are_taken.ensures.same c.make_room.ensures.same) binds number
+    c.in-Ok.held.opened.connected opened.connection
 
 pub bind-requires-in-Ok-clause-free : goal.bind-requires-in-Ok-clause-free
 bind-requires-in-Ok-clause-free c =
-    let s = session_of c.args.engine.now in
-    let res : Name = string_bytes c.args.res in
-    let free : has_resource s res ≡ false = ap (has_resource s) (sym c.as_str.ensures.value) ∙ sym c.has_resource.ensures ∙ c.if-has_resource.false in
-    ap (spot_of c.make_room-2.new.self) c.in_ok-res.ensures ∙ c.make_room-2.ensures.same.spots res
-    ∙ none_of (spot_of s.resources res) (or_false _ (option_map_or (bytes_eq res) s.unnamed false) free).0
+    search (rules, string_bytes, none_of, or_false, option_map_or, bytes_eq)
 
 pub bind-requires-in-Ok-clause-unnamed : goal.bind-requires-in-Ok-clause-unnamed
 bind-requires-in-Ok-clause-unnamed c =

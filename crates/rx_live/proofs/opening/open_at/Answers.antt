@@ -1,8 +1,9 @@
-use Rattle.rx_live.proofs.Common.{◌≡◌, false, Option, Some, None, length, refl, sym, ap, ◌∙◌, subst, option_map, string_bytes, IfSome, Name, Key, Accepts}
+use Rattle.rx_live.proofs.Common.{◌≡◌, false, Option, Some, length, refl, sym, ap, ◌∙◌, subst, option_map, string_bytes, Name, Key, Accepts}
 use Rattle.rx_live.proofs.Common.{open_request, Spot, spot_of, Binds, session_of, NamesOne, is_open_taken, BindsMade, BindsNode}
 use Rattle.rx_live.proofs.AcceptedBindsNames.{given_accepted, given_refused}
 use Rattle.rx_live.proofs.OpenedNodesGetNames.{unchanged_room, connection_free, on_err, with_book, opened_bound, opened_sound}
 use Rattle.rx_live.proofs.opening.open_at.Goals as goal
+use Rattle.std.proofs.Common.{rules}
 
 pub returns-in_err-make_room-clause-err : goal.returns-in_err-make_room-clause-err
 returns-in_err-make_room-clause-err c =
@@ -65,15 +66,4 @@ returns-in-Ok-clause-ok c =
 
 pub bind_made-requires-clause-free : goal.bind_made-requires-clause-free
 bind_made-requires-clause-free c =
-    let s = session_of c.args.engine.now in
-    let t = c.make_room.new.self in
-    let spot = c.spot_of.result in
-    let with_node = c.bind.new.self in
-    let name : Name = string_bytes c.args.name in
-    let connection : Option Name = option_map string_bytes c.args.connection in
-    let free : is_open_taken s name connection ≡ false =
-    ap (λ (n : Name). is_open_taken s n connection) (sym c.as_str.ensures.value) ∙ sym c.are_taken.ensures.answer ∙ c.if-are_taken.false in
-    let binds : Binds t name spot with_node = subst (λ (n : Name). Binds t n spot with_node) c.in_ok-name.ensures c.bind.ensures.binds in
-    subst (λ (o : Option Name). IfSome o (λ n. spot_of with_node n ≡ None)) (sym c.in_ok-connection.ensures)
-    (connection_free s t with_node connection free c.make_room.ensures.same binds
-    (c.are_taken.ensures.other_free c.if-are_taken.false))
+    search (rules, string_bytes, option_map, connection_free)

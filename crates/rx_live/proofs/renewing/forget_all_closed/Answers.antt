@@ -1,4 +1,4 @@
-use Rattle.std.proofs.Common.{◌≡◌, None, List, ℕ, length, subst, rules}
+use Rattle.std.proofs.Common.{None, List, ℕ, length, subst, rules}
 use Rattle.rx_live.proofs.NamesOfOpenNodes.{open_on}
 use Rattle.rx_live.proofs.ClosedNamesForgotten.{AreLeft, left_one, left_end, left_none}
 use Rattle.rx_live.proofs.renewing.forget_all_closed.Goals as goal
@@ -17,6 +17,4 @@ numbers-preserved c =
 
 pub returns-clause-open_alone : goal.returns-clause-open_alone
 returns-clause-open_alone c =
-    let none : length c.numbers.numbers.items ≡ 0 = search (rules, c.in_default.ensures.cases.0) in
-    left_none c.args.book.now c.numbers.nodes c.numbers.invariant.paired
-    (left_end c.args.book.now c.numbers.nodes c.numbers.numbers.items none c.numbers.invariant.left)
+    search (rules, length, left_none, left_end)

@@ -7,17 +7,11 @@ use Rattle.rx_live.proofs.SessionAfterCheckpoint.{full_by_age, full_by_open}
 use Rattle.rx_live.proofs.ConnectionAnswered.{front_said}
 use Rattle.rx_live.proofs.AnswerToEachLine.{carried_out, refused_out}
 use Rattle.rx_live.proofs.sending.carry_out.Goals as goal
+use Rattle.std.proofs.Common.{rules}
 
 pub returns-then-is_full_by_age-clause-ok : goal.returns-then-is_full_by_age-clause-ok
 returns-then-is_full_by_age-clause-ok c =
-    let old = session_of c.args.engine.now in
-    let new = session_of c.act.new.engine in
-    let runs : Does old (task_of c.args.task) (Refused c.in-Refused.why) new =
-    subst (λ (o : Outcome). Does old (task_of c.args.task) o new) c.in-Refused.is c.in_ok-act.ensures.ok in (
-      full_by_age old new (task_of c.args.task) c.in-Refused.why runs (refused_alike old new (task_of c.args.task) c.in-Refused.why runs)
-          (sym c.is_full_by_age.ensures ∙ c.if-is_full_by_age.true),
-      c.make_place.ensures.same,
-    )
+    search (rules, full_by_age, refused_alike)
 
 pub returns-in-Accepted-clause-ok : goal.returns-in-Accepted-clause-ok
 returns-in-Accepted-clause-ok c =
@@ -32,7 +26,8 @@ returns-in-Accepted-clause-ok c =
     let led : List ℕ = said_if (connects_at done.book c.place_behind-behind.result) said in
     let front : placed ++ led ≡ front_text old asked done =
     front_said old done asked placed said (placed ++ led) c.place_behind-behind.result c.requires.sound runs
-    (c.as_str-front.ensures.value ∙ c.in_ok-placed.ensures ∙ ap ok_text c.len.ensures) (c.as_str-said.ensures.value ∙ c.in_ok-connected.ensures) c.place_behind-behind.ensures refl in
+    (c.as_str-front.ensures.value ∙ c.in_ok-placed.ensures ∙ ap ok_text c.len.ensures) (c.as_str-said.ensures.value ∙ c.in_ok-connected.ensures)
+    c.place_behind-behind.ensures refl in
     let wrote = c.push_closed.ensures.said in
     let said_closed : List ℕ = wrote.said in
     let connected : string_bytes c.push_connected.new.text ≡ begun ++ (placed ++ led) =
@@ -53,7 +48,8 @@ returns-clause-ok c =
     let why = c.in-Refused.why in
     let runs : Does old (task_of c.args.task) (Refused why) new =
     subst (λ (o : Outcome). Does old (task_of c.args.task) o new) c.in-Refused.is c.in_ok-act.ensures.ok in
-    refused_out old new (task_of c.args.task) why (string_bytes c.args.text.now) (string_bytes c.in_ok-told-in-Refused.told) (string_bytes c.push_answer.new.text) runs
+    refused_out old new (task_of c.args.task) why (string_bytes c.args.text.now) (string_bytes c.in_ok-told-in-Refused.told) (string_bytes
+    c.push_answer.new.text) runs
     (full_by_open old new why c.requires.sound.kept (refused_alike old new (task_of c.args.task) why runs)
     (sym c.is_full_by_age.ensures ∙ c.if-is_full_by_age.false))
     c.in_ok-told-in-Refused.ensures
@@ -61,18 +57,8 @@ returns-clause-ok c =
 
 pub returns-in_err-told-in-Refused-clause-err : goal.returns-in_err-told-in-Refused-clause-err
 returns-in_err-told-in-Refused-clause-err c =
-    let old = session_of c.args.engine.now in
-    let new = session_of c.act.new.engine in
-    let runs : Does old (task_of c.args.task) (Refused c.in-Refused.why) new =
-    subst (λ (o : Outcome). Does old (task_of c.args.task) o new) c.in-Refused.is c.in_ok-act.ensures.ok in
-    on_err c.from_residual-in_err-told-in-Refused.result _
-    (record { alike = refused_alike old new (task_of c.args.task) c.in-Refused.why runs; sound = c.act.ensures.sound })
+    search (rules, on_err, refused_alike)
 
 pub returns-in_err-push_answer-in-Refused-clause-err : goal.returns-in_err-push_answer-in-Refused-clause-err
 returns-in_err-push_answer-in-Refused-clause-err c =
-    let old = session_of c.args.engine.now in
-    let new = session_of c.act.new.engine in
-    let runs : Does old (task_of c.args.task) (Refused c.in-Refused.why) new =
-    subst (λ (o : Outcome). Does old (task_of c.args.task) o new) c.in-Refused.is c.in_ok-act.ensures.ok in
-    on_err c.from_residual-in_err-push_answer-in-Refused.result _
-    (record { alike = refused_alike old new (task_of c.args.task) c.in-Refused.why runs; sound = c.act.ensures.sound })
+    search (rules, on_err, refused_alike)

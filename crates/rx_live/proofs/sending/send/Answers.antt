@@ -1,12 +1,13 @@
-use Rattle.rx_live.proofs.Common.{ℕ, List, subst, string_bytes, sym, part_data, order_in, Session, session_of, IsAlike, as_it_was, renewed, Answered, Writes}
+use Rattle.rx_live.proofs.Common.{ℕ, List, subst, string_bytes, part_data, order_in, session_of, as_it_was, renewed, Answered, Writes}
 use Rattle.rx_live.proofs.OpenedNodesGetNames.{on_err}
 use Rattle.rx_live.proofs.SessionAfterCheckpoint.{young}
 use Rattle.rx_live.proofs.AnswerToEachLine.{sent_first, sent_again, answered_so, found_so}
 use Rattle.rx_live.proofs.sending.send.Goals as goal
+use Rattle.std.proofs.Common.{rules}
 
 pub returns-in_err-is_answered-clause-err : goal.returns-in_err-is_answered-clause-err
 returns-in_err-is_answered-clause-err c =
-    on_err c.from_residual.result _ (record { aged = session_of c.args.engine.now; ages = as_it_was; alike = c.in_err-is_answered.ensures.err })
+    search (rules, on_err, as_it_was)
 
 pub returns-then-is_answered-clause-ok : goal.returns-then-is_answered-clause-ok
 returns-then-is_answered-clause-ok c =
@@ -15,21 +16,11 @@ returns-then-is_answered-clause-ok c =
 
 pub returns-in_err-make_room-clause-err : goal.returns-in_err-make_room-clause-err
 returns-in_err-make_room-clause-err c =
-    let old = session_of c.args.engine.now in
-    let full = found_so _ _ _ _ c.if-is_answered.false c.in_ok-is_answered.ensures.ok in
-    on_err c.from_residual-in_err-make_room.result _
-    (record { aged = old; ages = as_it_was; alike = subst (λ (s : Session). IsAlike old s) (sym c.in_err-make_room.ensures.err) full.0.full.alike })
+    search (rules, found_so, on_err, as_it_was)
 
 pub returns-in_err-is_done-clause-err : goal.returns-in_err-is_done-clause-err
 returns-in_err-is_done-clause-err c =
-    let mid = session_of c.answer.new.engine in
-    let full = found_so _ _ _ _ c.if-is_answered.false c.in_ok-is_answered.ensures.ok in
-    on_err c.from_residual-in_err-is_done.result _
-    (record {
-      aged = session_of c.make_room.new.engine;
-      ages = renewed mid full.0.t full.0.order full.0.full c.in_ok-make_room.ensures.ok;
-      alike = c.in_err-is_done.ensures.err;
-    })
+    search (rules, found_so, on_err, renewed)
 
 pub unreachable-requires : goal.unreachable-requires
 unreachable-requires c =

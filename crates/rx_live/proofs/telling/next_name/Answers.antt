@@ -1,6 +1,7 @@
-use Rattle.rx_live.proofs.Common.{◌≡◌, None, option_map, string_bytes, sym, ap, ◌∙◌, session_of}
+use Rattle.rx_live.proofs.Common.{option_map, string_bytes, sym, ap, ◌∙◌, session_of}
 use Rattle.rx_live.proofs.Drops.{dropped_unnamed, dropped_taken}
 use Rattle.rx_live.proofs.telling.next_name.Goals as goal
+use Rattle.std.proofs.Common.{rules}
 
 pub returns-in-Some-clause-some : goal.returns-in-Some-clause-some
 returns-in-Some-clause-some c =
@@ -10,8 +11,4 @@ returns-in-Some-clause-some c =
 
 pub returns-in-None-clause-some : goal.returns-in-None-clause-some
 returns-in-None-clause-some c =
-    let s = session_of c.args.engine.now in
-    let none : s.unnamed ≡ None = ap (option_map string_bytes) (sym c.take.ensures.value ∙ c.in-None.is) in
-    let same : option_map string_bytes c.take.new.self ≡ s.unnamed = ap (option_map string_bytes) c.take.ensures.after ∙ sym none in
-    dropped_taken s (record s { unnamed = option_map string_bytes c.take.new.self }) (session_of c.take_name.new.engine) c.take_name.result
-    (λ i. record s { unnamed = same i }) none c.requires c.take_name.ensures.some
+    search (rules, option_map, string_bytes, dropped_taken)

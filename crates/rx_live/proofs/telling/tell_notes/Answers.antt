@@ -31,14 +31,17 @@ returns-clause-told c =
     c.notes-test.ensures.told)
 
 pub returns-then-not-push_next-clause-room : goal.returns-then-not-push_next-clause-room
-returns-then-not-push_next-clause-room c = let r : HasRoom (c.args.rest + 15) c.args.text.now = c.requires.room in c.push_next.ensures.room (c.args.rest + 14) (omega arith) (omega (arith, r))
+returns-then-not-push_next-clause-room c = let r : HasRoom (c.args.rest + 15) c.args.text.now = c.requires.room in c.push_next.ensures.room (c.args.rest
+    + 14) (omega arith) (omega (arith, r))
 
 pub put-requires : goal.put-requires
 put-requires c =
-    let r : HasRoom (c.args.rest + 15) c.push_next-in-notes.new.text = c.push_next-in-notes.ensures.room (c.args.rest + 15) (omega arith) c.notes.invariant.room in
+    let r : HasRoom (c.args.rest + 15) c.push_next-in-notes.new.text = c.push_next-in-notes.ensures.room (c.args.rest + 15) (omega arith)
+    c.notes.invariant.room in
     record { room = omega (arith, r) }
 
 pub returns-clause-room : goal.returns-clause-room
 returns-clause-room c =
-    let r : HasRoom (c.args.rest + 15) c.push_next-in-notes.new.text = c.push_next-in-notes.ensures.room (c.args.rest + 15) (omega arith) c.notes.invariant.room in
+    let r : HasRoom (c.args.rest + 15) c.push_next-in-notes.new.text = c.push_next-in-notes.ensures.room (c.args.rest + 15) (omega arith)
+    c.notes.invariant.room in
     omega (arith, r, c.put.ensures.len, c.put.ensures.capacity)

@@ -1,6 +1,7 @@
 use Rattle.rx_live.proofs.Common.{ℕ, ◌+◌, List, sym, subst, arith, string_bytes, session_of, WritesNames, HasRoom}
 use Rattle.rx_live.proofs.Drops.{names_begun, names_more, names_ended, names_none}
 use Rattle.rx_live.proofs.telling.tell_releases.Goals as goal
+use Rattle.std.proofs.Common.{rules}
 
 pub names-init : goal.names-init
 names-init c = record {
@@ -31,19 +32,21 @@ returns-clause-told c =
     c.names-test.ensures.told)
 
 pub returns-then-not-push_name-clause-room : goal.returns-then-not-push_name-clause-room
-returns-then-not-push_name-clause-room c = let r : HasRoom (c.args.rest + 14) c.args.text.now = c.requires.room in c.push_name.ensures.room (c.args.rest + 13) (omega arith) (omega (arith, r))
+returns-then-not-push_name-clause-room c = let r : HasRoom (c.args.rest + 14) c.args.text.now = c.requires.room in c.push_name.ensures.room (c.args.rest
+    + 13) (omega arith) (omega (arith, r))
 
 pub put-requires : goal.put-requires
 put-requires c =
-    let r : HasRoom (c.args.rest + 14) c.push_name-in-names.new.text = c.push_name-in-names.ensures.room (c.args.rest + 14) (omega arith) c.names.invariant.room in
+    let r : HasRoom (c.args.rest + 14) c.push_name-in-names.new.text = c.push_name-in-names.ensures.room (c.args.rest + 14) (omega arith)
+    c.names.invariant.room in
     record { room = omega (arith, r) }
 
 pub returns-clause-room : goal.returns-clause-room
 returns-clause-room c =
-    let r : HasRoom (c.args.rest + 14) c.push_name-in-names.new.text = c.push_name-in-names.ensures.room (c.args.rest + 14) (omega arith) c.names.invariant.room in
+    let r : HasRoom (c.args.rest + 14) c.push_name-in-names.new.text = c.push_name-in-names.ensures.room (c.args.rest + 14) (omega arith)
+    c.names.invariant.room in
     omega (arith, r, c.put.ensures.len, c.put.ensures.capacity)
 
 pub returns-then-not-push_name-clause-told : goal.returns-then-not-push_name-clause-told
 returns-then-not-push_name-clause-told c =
-    names_none (session_of c.args.engine.now) (session_of c.push_name.new.engine) (string_bytes c.args.text.now) (string_bytes c.push_name.new.text)
-    c.if-not-push_name.ensures.told
+    search (rules, names_none, string_bytes)

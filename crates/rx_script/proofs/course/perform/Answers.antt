@@ -3,9 +3,7 @@ use Rattle.rx_script.proofs.OneMoreStep.{IfOk-map, performed_command, performed_
 use Rattle.rx_script.proofs.course.perform.Goals as goal
 
 pub returns-in-Command : goal.returns-in-Command
-returns-in-Command g c =
-    rw c.in-Command.is (IfOk-map c.execute.result (performed_command c.args.engine.now c.execute.new.engine c.args.agenda.now c.in-Command.command)
-    c.execute.ensures)
+returns-in-Command g c = rw c.in-Command.is (IfOk-map _ (performed_command _ _ _ _) c.execute.ensures)
 
 pub returns-in-Cancel : goal.returns-in-Cancel
 returns-in-Cancel g c =

@@ -1,14 +1,9 @@
-use Rattle.rx_script.proofs.Common.{◌≡◌, ◌≤◌, ◌++◌, ◌∷◌, [], ◌∙◌, refl, rules, arith}
+use Rattle.rx_script.proofs.Common.{◌≡◌, ◌≤◌, ◌++◌, ◌∷◌, [], ◌∙◌, rules, arith}
 use Rattle.rx_script.proofs.OneMoreStep.{not_led, leads_more, has_ended}
 use Rattle.rx_script.proofs.course.take_all.Goals as goal
 
 pub loop-step-init : goal.loop-step-init
-loop-step-init g c = record {
-  leads = not_led c.args.engine.now.book.limit c.args.until c.args.engine.now c.args.agenda.now _ c.new-answers.ensures.items;
-  sound = c.requires.sound;
-  limit = refl;
-  clock = c.requires.clock;
-}
+loop-step-init g c = search (rules, not_led)
 
 pub loop-step-preserved : goal.loop-step-preserved
 loop-step-preserved g c =

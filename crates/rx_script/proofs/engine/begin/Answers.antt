@@ -12,6 +12,5 @@ returns-clause-sound g c = record {
 }
 
 pub returns-clause-history : goal.returns-clause-history
-returns-clause-history g c =
-    begun c.new-6.result c.new-book.result (ap (λ s. s.base) c.new-book.ensures) (ap (λ s. s.history) c.new-book.ensures) (ap (λ s. s.given) c.new-book.ensures)
-    c.new-6.ensures.counts c.new-6.ensures.notes
+returns-clause-history g c = begun _ _ (ap (λ s. s.base) c.new-book.ensures) (ap (λ s. s.history) c.new-book.ensures) (ap (λ s. s.given)
+    c.new-book.ensures) c.new-6.ensures.counts c.new-6.ensures.notes

@@ -1,4 +1,4 @@
-use Rattle.rx_script.proofs.Common.{◌≡◌, ◌++◌, ◌∷◌, [], Some, true, false, refl, string_bytes, sym, ◌∙◌, is_some, key_of, Ware, ware_of}
+use Rattle.rx_script.proofs.Common.{◌≡◌, ◌++◌, ◌∷◌, [], true, false, refl, string_bytes, sym, ◌∙◌, is_some, key_of, Ware, ware_of}
 use Rattle.rx_script.proofs.EngineCarriesOut.{answered}
 use Rattle.rx_script.proofs.Holdings.{hold_nameless, hold_taken, hold_stockless, hold_refused, hold_accepted, put_back}
 use Rattle.rx_script.proofs.engine.hold.Goals as goal

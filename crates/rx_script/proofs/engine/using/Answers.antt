@@ -1,4 +1,4 @@
-use Rattle.rx_script.proofs.Common.{◌≡◌, ◌++◌, ◌∷◌, [], Some, None, true, false, refl, string_bytes, sym, ◌∙◌, is_some, site_of, key_of, at_of, Ware, ware_of}
+use Rattle.rx_script.proofs.Common.{◌≡◌, ◌++◌, ◌∷◌, [], None, true, false, refl, string_bytes, sym, ◌∙◌, is_some, site_of, key_of, at_of, Ware, ware_of}
 use Rattle.std.proofs.lemmas.Bool.{or_left, or_right, or_from}
 use Rattle.rx_script.proofs.EngineCarriesOut.{answered}
 use Rattle.rx_script.proofs.Holdings.{using_nameless, using_taken, using_stockless, using_refused, using_accepted, put_back}

@@ -1,17 +1,11 @@
-use Rattle.rx_script.proofs.Common.{◌≡◌, ◌≤◌, ◌++◌, Some, None, length, take, drop, slice_get, refl, sym, ap, subst, ◌∙◌, arith, notes, Tallies, AreNotesOf}
+use Rattle.rx_script.proofs.Common.{◌≡◌, ◌≤◌, ◌++◌, Some, None, length, take, drop, slice_get, sym, ap, subst, ◌∙◌, arith, notes, Tallies, AreNotesOf}
 use Rattle.rx_script.proofs.TakenUp.{same_history, one_more_given, handed_book, mail_first, mail_next, mail_all, all_given}
 use Rattle.rx_script.proofs.gathering.gather_notes.Goals as goal
+use Rattle.std.proofs.Common.{rules}
 
 pub loop-note-init : goal.loop-note-init
 loop-note-init g c =
-    let first = c.args.book.now in
-    record {
-      kept = c.promise.ensures;
-      begun = omega arith;
-      notes = λ mail before. subst (λ l. AreNotesOf l c.args.tallies.now) (mail_first mail (notes first.history) first.given) before;
-      tallies = refl;
-      book = refl;
-    }
+    search (rules, mail_first)
 
 pub loop-note-preserved : goal.loop-note-preserved
 loop-note-preserved g c =
@@ -45,9 +39,4 @@ returns-clause-notes g c = λ mail before.
 
 pub returns-clause-given : goal.returns-clause-given
 returns-clause-given g c =
-    let first = c.args.book.now in
-    let now = c.loop-note.book in
-    let same : now.history ≡ first.history = ap (λ s. s.history) c.loop-note.invariant.book in
-    let missing : None ≡ slice_get (notes first.history) now.given = c.in_default.ensures.value ∙ ap (λ h. slice_get (notes h) now.given) same in
-    let within : now.given ≤ length (notes first.history) = subst (λ h. now.given ≤ length (notes h)) same c.loop-note.invariant.kept.given in
-    ap (λ s. s.given) c.in_default.ensures.given ∙ all_given (notes first.history) now.given within missing
+    search (rules, slice_get, length, all_given)

@@ -5,9 +5,11 @@ use Rattle.rx_script.proofs.report.totals_of.Goals as goal
 pub returns : goal.returns
 returns g c = λ h whole i. record {
   nodes = whole.tallies.counts.nodes i;
-  open_nodes = (c.open_count.ensures ∙ open_total h c.args.tallies.now c.args.book.now whole) i;
-  accepted = (c.accepted.ensures ∙ sym whole.agree.accepted_total) i;
-  held = (c.held.ensures ∙ held_total h c.args.tallies.now c.args.book.now whole) i;
-  waiting = (c.waiting.ensures ∙ waiting_total h c.args.tallies.now c.args.book.now whole) i;
+  open_nodes = (c.open_count.ensures ∙ open_total h _ _ whole) i;
+  accepted =
+      (c.accepted.ensures ∙ sym whole.agree.accepted_total) i;
+  held = (c.held.ensures ∙ held_total h _ _ whole) i;
+  waiting = (c.waiting.ensures ∙
+      waiting_total h _ _ whole) i;
   taken = (c.taken.ensures ∙ sym whole.agree.taken_total) i;
 }

@@ -6,23 +6,22 @@ use Rattle.rx_script.specs.Running.{HasNoOutput}
 use Rattle.rx_script.proofs.running.run.Goals as goal
 
 pub returns-in_err-text-clause-syntax : goal.returns-in_err-text-clause-syntax
-returns-in_err-text-clause-syntax g c = λ is.
-    let back : IsErrOf c.output_of_input.result ScriptError.Syntax = grind arith in
-    inr (record {
-      input = c.in_ok-input.input.items;
-      whole = c.in_ok-input.ensures.ok;
-      no_json = λ d json. c.output_of_input.ensures.syntax back d (subst (λ s. IsJsonOf s d) (sym c.as_slice.ensures.value) json);
-    })
+returns-in_err-text-clause-syntax g c = λ is. let back : IsErrOf _ ScriptError.Syntax = grind arith in inr (record {
+  input =
+      c.in_ok-input.input.items;
+  whole = c.in_ok-input.ensures.ok;
+  no_json = λ d json. c.output_of_input.ensures.syntax back d (subst (λ s. IsJsonOf s
+      d) (sym c.as_slice.ensures.value) json);
+})
 
 pub returns-in_err-text-clause-shape : goal.returns-in_err-text-clause-shape
-returns-in_err-text-clause-shape g c = λ is.
-    let back : IsErrOf c.output_of_input.result ScriptError.Shape = grind arith in
-    let none : HasNoOutput c.as_slice.result.now c.args.form = c.output_of_input.ensures.shape back in
-    record {
+returns-in_err-text-clause-shape g c = λ is. let back : IsErrOf _ ScriptError.Shape = grind arith in let none : HasNoOutput _ c.args.form =
+    c.output_of_input.ensures.shape back in record {
       value = none.value;
       gave = record {
         input = c.in_ok-input.input.items;
-        whole = c.in_ok-input.ensures.ok;
+        whole =
+            c.in_ok-input.ensures.ok;
         json = subst (λ s. IsJsonOf s none.value) c.as_slice.ensures.value none.json;
       };
       none = none.none;
