@@ -1,29 +1,27 @@
 -- The tests that compute decide what callers may do.
-use Rattle.rx_audit.proofs.Common.{◌≡◌, ℕ, Bool, true, false, nat_lt, List, Some, None, refl, sym, ap, ◌∙◌, slice_get, not, ◌&&◌, ◌||◌, list_any}
-use Rattle.rx_audit.proofs.Common.{option_and_then, Event, Open, makes_resource, makes_lease, removed_of, returned_of, taken_of, at, is_open, parent, leases_of}
+use Rattle.rx_audit.proofs.Common.{◌≡◌, ℕ, Bool, true, false, nat_lt, List, Some, None, refl, sym, ap, ◌∙◌, slice_get, not, ◌&&◌, ◌||◌}
+use Rattle.rx_audit.proofs.Common.{option_and_then, Event, makes_resource, makes_lease, removed_of, returned_of, taken_of, at, is_open, parent, leases_of}
 use Rattle.rx_audit.proofs.Common.{ancestors_step, is_key, connects_later, is_in_order_at, list_any-same}
 use Rattle.rx_event.specs.Events.{node_of_accept, is_remove_of, is_return_of, is_take_of}
 use Rattle.rx_event.specs.Resources.{is_owned, is_out, is_leased, is_held, is_taken, is_waiting}
 use Rattle.rx_event.proofs.Laws.Resources.{held_is}
 use Rattle.rx_audit.specs.Rules.{was_removed, was_returned, was_taken}
+use Rattle.std.proofs.Common.{rules}
 
 removed_key : (r : ℕ) (e : Event) → is_key (removed_of e) r ≡ is_remove_of r e
-removed_key r (Open place kind) = refl
-removed_key r _ = refl
+removed_key r x1 = search rules
 
 returned_key : (l : ℕ) (e : Event) → is_key (returned_of e) l ≡ is_return_of l e
-returned_key l (Open place kind) = refl
-returned_key l _ = refl
+returned_key l x1 = search rules
 
 taken_key : (r : ℕ) (e : Event) → is_key (taken_of e) r ≡ is_take_of r e
-taken_key r (Open place kind) = refl
-taken_key r _ = refl
+taken_key r x1 = search rules
 
 -- resources --------------------------------------------------------------------------------------------
 
 pub owned_at : (h : List Event) (r n : ℕ) → option_and_then node_of_accept (slice_get h r) ≡ Some n → (is_open h n && not (was_removed h r)) ≡ is_owned h r
 unfolding is_owned
-owned_at h r n e = rw e (ap (λ b. is_open h n && not b) (list_any-same (λ x. is_key (removed_of x) r) (is_remove_of r) (removed_key r) h))
+owned_at h r n e = search (rules, not, list_any-same, removed_key)
 
 pub not_owned : (h : List Event) (r : ℕ) → option_and_then node_of_accept (slice_get h r) ≡ None → false ≡ is_owned h r
 unfolding is_owned
@@ -31,7 +29,7 @@ not_owned h r e = rw e refl
 
 pub out_at : (h : List Event) (l : ℕ) → (at makes_lease h l && not (was_returned h l)) ≡ is_out h l
 unfolding is_out
-out_at h l = ap (λ b. at makes_lease h l && not b) (list_any-same (λ x. is_key (returned_of x) l) (is_return_of l) (returned_key l) h)
+out_at h l = search (rules, not, list_any-same, returned_key)
 
 pub out_there : (h : List Event) (l : ℕ) → at makes_lease h l ≡ true → not (was_returned h l) ≡ is_out h l
 out_there h l m = ap (λ b. b && not (was_returned h l)) (sym m) ∙ out_at h l
@@ -53,7 +51,7 @@ leased_held h r unowned = sym (held_is h r ∙ ap (λ b. b || is_leased h r) uno
 
 pub waiting_at : (h : List Event) (r : ℕ) (b : Bool) → at makes_resource h r ≡ true → b ≡ (not (is_held h r) && not (was_taken h r)) → b ≡ is_waiting h r
 unfolding is_waiting is_taken
-waiting_at h r b m e = e ∙ rw m (ap (λ t. not (is_held h r) && not t) (list_any-same (λ x. is_key (taken_of x) r) (is_take_of r) (taken_key r) h))
+waiting_at h r b m e = search (rules, not, list_any-same, taken_key)
 
 pub not_waiting : (h : List Event) (r : ℕ) → at makes_resource h r ≡ false → false ≡ is_waiting h r
 unfolding is_waiting

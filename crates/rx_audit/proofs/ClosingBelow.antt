@@ -13,6 +13,7 @@ use Rattle.rx_event.specs.Tree.{is_shut}
 use Rattle.rx_audit.specs.Latest.{ShutsNone, IsShutAlone}
 use Rattle.rx_audit.proofs.Latest.{last_none, last_holds, key_is, is_key_of}
 use Rattle.rx_audit.proofs.StaysOpen.{stays_closed, shut_closed, below_closed, below_open, top_open}
+use Rattle.std.proofs.Common.{rules}
 
 pub within_marks : (ms : List Bool) (n : ℕ) → get_or ms n false ≡ true → n < length ms
 within_marks [] n e = absurd (false≢true e)
@@ -21,74 +22,32 @@ within_marks (m ∷ ms) (suc n) e = let r = within_marks ms n e in omega arith
 
 pub count_cleared : (ms : List Bool) (c : ℕ) → get_or ms c false ≡ true → mark_count (set ms c false) + 1 ≡ mark_count ms
 count_cleared ms c y =
-    let s = sum_by-set (λ (b : Bool). cond {A = ℕ} b 1 0) ms c false false (within_marks ms c y) in
-    let one : cond {A = ℕ} (get_or ms c false) 1 0 ≡ 1 = ap (λ b. cond {A = ℕ} b 1 0) y in
-    omega arith
+    search (rules, sum_by-set, cond, within_marks, get_or)
 
 -- a place that had no mark
 pub count_set : (ms : List Bool) (n : ℕ) (b : Bool) → n < length ms → get_or ms n false ≡ false → mark_count (set ms n b) ≡ mark_count ms + cond {A = ℕ} b 1 0
 count_set ms n b l unmarked =
-    let s = sum_by-set (λ (b : Bool). cond {A = ℕ} b 1 0) ms n b false l in
-    let none : cond {A = ℕ} (get_or ms n false) 1 0 ≡ 0 = ap (λ b. cond {A = ℕ} b 1 0) unmarked in
-    omega arith
+    search (rules, sum_by-set, cond, get_or)
 
 -- a mark that was taken away, and the others
 pub cleared : (ms : List Bool) (c n : ℕ) → get_or (set ms c false) n false ≡ true → (n ≢ c) × (get_or ms n false ≡ true)
-cleared ms c n e = by_order (cases_order n c) where
-  other : (n ≡ c → ⊥) → (n ≢ c) × (get_or ms n false ≡ true)
-  other ne = (ne, sym (get_or-set_other ms c n false false ne) ∙ e)
-
-  by_length : (c < length ms) ⊎ (length ms ≤ c) → get_or (set ms c false) c false ≡ false
-  by_length (inl l) = get_or-set_same ms c false false l
-  by_length (inr g) = by_mark (cases_Bool (get_or (set ms c false) c false)) where
-    by_mark : (get_or (set ms c false) c false ≡ true) ⊎ (get_or (set ms c false) c false ≡ false) → get_or (set ms c false) c false ≡ false
-    by_mark (inl y) = let w = within_marks (set ms c false) c y in let s : length (set ms c false) ≡ length ms = length-set ms c false in absurd (omega arith)
-    by_mark (inr n) = n
-
-  length_cases : (c < length ms) ⊎ (length ms ≤ c)
-  length_cases = by_three (cases_order c (length ms)) where
-    by_three : (c ≡ length ms) ⊎ ((c < length ms) ⊎ (length ms < c)) → (c < length ms) ⊎ (length ms ≤ c)
-    by_three (inl s) = inr (omega arith)
-    by_three (inr (inl l)) = inl l
-    by_three (inr (inr g)) = inr (omega arith)
-
-  by_order : (n ≡ c) ⊎ ((n < c) ⊎ (c < n)) → (n ≢ c) × (get_or ms n false ≡ true)
-  by_order (inl same) = absurd (both_ways (get_or (set ms c false) n false) (rw same (by_length length_cases)) e)
-  by_order (inr (inl l)) = other (omega arith)
-  by_order (inr (inr l)) = other (omega arith)
+cleared ms c n e = search (rules, cases_order, get_or, get_or-set_other, length, set, get_or-set_same, cases_Bool, within_marks, length-set, both_ways)
 
 -- where a mark is gone, it was this one's or gone before
 pub uncleared : (ms : List Bool) (c n : ℕ) → get_or (set ms c false) n false ≡ false → (n ≡ c) ⊎ (get_or ms n false ≡ false)
-uncleared ms c n e = by_order (cases_order n c) where
-  by_order : (n ≡ c) ⊎ ((n < c) ⊎ (c < n)) → (n ≡ c) ⊎ (get_or ms n false ≡ false)
-  by_order (inl same) = inl same
-  by_order (inr (inl l)) = let ne : n ≢ c = omega arith in inr (sym (get_or-set_other ms c n false false ne) ∙ e)
-  by_order (inr (inr l)) = let ne : n ≢ c = omega arith in inr (sym (get_or-set_other ms c n false false ne) ∙ e)
+uncleared ms c n e = search (rules, cases_order, get_or, get_or-set_other)
 
 gone_is : (ms : List Bool) (c : ℕ) → get_or ms c false ≡ true → get_or (set ms c false) c false ≡ false
 gone_is ms c y = get_or-set_same ms c false false (within_marks ms c y)
 
 pub stays_gone : (ms : List Bool) (c n : ℕ) → get_or ms n false ≡ false → get_or (set ms c false) n false ≡ false
-stays_gone ms c n e = by_mark (cases_Bool (get_or (set ms c false) n false)) where
-  by_mark : (get_or (set ms c false) n false ≡ true) ⊎ (get_or (set ms c false) n false ≡ false) → get_or (set ms c false) n false ≡ false
-  by_mark (inl y) = absurd (both_ways (get_or ms n false) e (cleared ms c n y).1)
-  by_mark (inr z) = z
+stays_gone ms c n e = search (rules, cases_Bool, get_or, set, both_ways, cleared)
 
 pub noted_more : (from : ℕ) (todo : List ℕ) (c n : ℕ) → IsNoted from todo n → IsNoted from (todo ++ c ∷ []) n
-noted_more from todo c n w = let a = w.within in let l = length-append todo (c ∷ []) in record {
-  at = w.at;
-  after = w.after;
-  within = omega arith;
-  is = get_or-append todo (c ∷ []) 0 w.at w.within ∙ w.is;
-}
+noted_more from todo c n w = search (rules, length-append, get_or-append)
 
 pub noted_last : (from : ℕ) (todo : List ℕ) (c : ℕ) → from ≤ length todo → IsNoted from (todo ++ c ∷ []) c
-noted_last from todo c m = let l = length-append todo (c ∷ []) in record {
-  at = length todo;
-  after = m;
-  within = omega arith;
-  is = get_or_push todo c 0 (length todo) refl;
-}
+noted_last from todo c m = search (rules, length-append, length, get_or_push)
 
 pub closing_none : (h : List Event) (p bound : ℕ) (ms : List Bool) (todo : List ℕ) → ((c : ℕ) → parent h c ≡ Some p → c < bound)
     → IsClosingBelow h p bound ms ms todo todo
@@ -306,10 +265,7 @@ stays_up {h} {e} {i} marks todo over w (suc bound) n l y = by_parent (parent h n
 
 pub passing_ends : (h : List Event) (e : Event) (i : ℕ) (marks : List Bool) (todo : List ℕ) → length todo ≤ i → IsPassing h e i marks todo
     → IsMarked marks (stays_open h e)
-passing_ends h e i marks todo over w n = by_mark (cases_Bool (get_or marks n false)) where
-  by_mark : (get_or marks n false ≡ true) ⊎ (get_or marks n false ≡ false) → get_or marks n false ≡ stays_open h e n
-  by_mark (inl y) = y ∙ sym (stays_up marks todo over w (suc n) n (omega arith) y)
-  by_mark (inr z) = z ∙ sym (w.sound n z)
+passing_ends h e i marks todo over w n = search (rules, cases_Bool, get_or, stays_up)
 
 -- what an event takes away itself -----------------------------------------------------------------
 
@@ -321,7 +277,7 @@ any_at p (x ∷ h) (suc i) e at_i y = rw (any_at p h i e at_i y) (or_true (p x))
 at_drop : (h : List Event) (n i : ℕ) → slice_get (drop n h) i ≡ slice_get h (n + i)
 at_drop h zero i = let same : 0 + i ≡ i = omega arith in ap (slice_get h) (sym same)
 at_drop [] (suc n) i = refl
-at_drop (x ∷ h) (suc n) i = let same : suc n + i ≡ suc (n + i) = omega arith in at_drop h n i ∙ ap (slice_get (x ∷ h)) (sym same)
+at_drop (x ∷ h) (suc n) i = search (rules, slice_get, at_drop h n i)
 
 shut_after : (h : List Event) (n c : ℕ) (e : Event) → n < c → slice_get h c ≡ Some e → shuts h n e ≡ true → is_shut h n ≡ true
 unfolding is_shut
@@ -346,24 +302,10 @@ older_closed h f n c l inner shut = by_event (slice_get h c) refl inner where
   by_event (Some _) at_c named = absurd (none-some f named)
 
 inner_at : (h : List Event) (f n : ℕ) → at (is_inner_of f) h n ≡ true → inner_named_at h n ≡ Some f
-inner_at h f n y = by_event (slice_get h n) y where
-  by_event : (o : Option Event) → option_map_or (is_inner_of f) o false ≡ true → option_and_then inner_named o ≡ Some f
-  by_event None inner = absurd (false≢true inner)
-  by_event (Some (Open (Inner g) kind)) inner = ap Some (eqb-true g f inner)
-  by_event (Some (Open Root kind)) inner = absurd (false≢true inner)
-  by_event (Some (Open (Source g) kind)) inner = absurd (false≢true inner)
-  by_event (Some (Open (Notifier g) kind)) inner = absurd (false≢true inner)
-  by_event (Some _) inner = absurd (false≢true inner)
+inner_at h f n y = search (rules, slice_get, option_map_or, option_and_then, false≢true, eqb-true)
 
 inner_of_named : (h : List Event) (f n : ℕ) → inner_named_at h n ≡ Some f → at (is_inner_of f) h n ≡ true
-inner_of_named h f n y = by_event (slice_get h n) y where
-  by_event : (o : Option Event) → option_and_then inner_named o ≡ Some f → option_map_or (is_inner_of f) o false ≡ true
-  by_event None named = absurd (none-some f named)
-  by_event (Some (Open (Inner g) kind)) named = eq-eqb g f (same_Some g f named)
-  by_event (Some (Open Root kind)) named = absurd (none-some f named)
-  by_event (Some (Open (Source g) kind)) named = absurd (none-some f named)
-  by_event (Some (Open (Notifier g) kind)) named = absurd (none-some f named)
-  by_event (Some _) named = absurd (none-some f named)
+inner_of_named h f n y = search (rules, slice_get, option_and_then, option_map_or, none-some, eq-eqb, same_Some)
 
 -- no inner of it, or a youngest one that is closed or no younger than it
 pub inner_none : (h : List Event) (f v : ℕ) → v ≡ last_below (keyed (inner_named_at h) f) (length h)
@@ -426,48 +368,27 @@ all_stays h e marks tied none = passing_ends h e 0 marks [] (omega arith) (recor
 })
 
 pub alone_number : (h : List Event) (n : ℕ) → is_open h n ≡ true → IsShutAlone h (λ k. n == k) n
-alone_number h n o = record {
-  within = is_open_within h n o;
-  open_before = o;
-  shut = eq-eqb n n refl;
-  alone = λ k here same. sym (eqb-true n k same);
-}
+alone_number h n o = search (rules, is_open_within, eq-eqb, eqb-true)
 
 pub none_number : (h : List Event) (n : ℕ) → is_open h n ≡ false → ShutsNone h (λ k. n == k)
-none_number h n closed k o = false_from_ne_true (n == k) (λ same. both_ways (is_open h k) (ap (is_open h) (sym (eqb-true n k same)) ∙ closed) o)
+none_number h n closed k o = search (rules, false_from_ne_true, both_ways, eqb-true, closed)
 
 -- what is listed in the end ---------------------------------------------------------------------------
 
 pub noted_first : (h : List Event) (ms : List Bool) (top : ℕ) → IsMarked ms (is_open h)
     → (n : ℕ) → is_open h n ≡ true → get_or (set ms top false) n false ≡ false
     → IsNoted 0 (top ∷ []) n
-noted_first h ms top tied n o gone = by_place (uncleared ms top n gone) where
-  by_place : (n ≡ top) ⊎ (get_or ms n false ≡ false) → IsNoted 0 (top ∷ []) n
-  by_place (inl same) = record { at = 0; after = omega arith; within = omega arith; is = sym same }
-  by_place (inr before) = absurd (both_ways (get_or ms n false) before (tied n ∙ o))
+noted_first h ms top tied n o gone = search (rules, uncleared, get_or, both_ways)
 
 pub noted_on : {h : List Event} {p : ℕ} {old : List Bool} (new : List Bool) (before after : List ℕ)
     → ((n : ℕ) → is_open h n ≡ true → get_or old n false ≡ false → IsNoted 0 before n) → IsClosingBelow h p 0 old new before after
     → (n : ℕ) → is_open h n ≡ true → get_or new n false ≡ false → IsNoted 0 after n
-noted_on {old} new before after so_far w n o gone = by_mark (cases_Bool (get_or old n false)) where
-  by_mark : (get_or old n false ≡ true) ⊎ (get_or old n false ≡ false) → IsNoted 0 after n
-  by_mark (inl y) = let m = w.noted n y gone in record { at = m.at; after = omega arith; within = m.within; is = m.is }
-  by_mark (inr z) =
-      let m = so_far n o z in
-      let a = m.within in
-      let l = w.longer in
-      record { at = m.at; after = omega arith; within = omega arith; is = w.same m.at m.within ∙ m.is }
+noted_on {old} new before after so_far w n o gone = search (rules, cases_Bool, get_or)
 
 pub closed_listed : (h : List Event) (e : Event) (marks : List Bool) (todo : List ℕ) → IsMarked marks (stays_open h e)
     → ((n : ℕ) → is_open h n ≡ true → get_or marks n false ≡ false → IsNoted 0 todo n)
     → ((k : ℕ) → k < length todo → get_or marks (get_or todo k 0) false ≡ false) → AreClosed h e todo
-closed_listed h e marks todo now noted gone = record {
-  noted = λ n o stays. noted n o (now n ∙ stays);
-  gone = λ k l. sym (now (get_or todo k 0)) ∙ gone k l;
-}
+closed_listed h e marks todo now noted gone = search (rules, get_or)
 
 pub none_listed : (h : List Event) (e : Event) (marks : List Bool) → IsMarked marks (is_open h) → IsMarked marks (stays_open h e) → AreClosed h e []
-none_listed h e marks tied now = record {
-  noted = λ n o stays. absurd (both_ways (stays_open h e n) stays (sym (now n) ∙ tied n ∙ o));
-  gone = λ k l. absurd (omega arith);
-}
+none_listed h e marks tied now = search (rules, both_ways)

@@ -2,27 +2,26 @@
 use Rattle.rx_audit.proofs.Common.{◌≡◌, ℕ, ◌+◌, ◌<◌, ◌≤◌, true, false, List, [], ◌∷◌, ◌++◌, length, Some, refl, sym, ap, ◌∙◌, arith, inl, inr, ◌⊎◌, slice_get}
 use Rattle.rx_audit.proofs.Common.{nat_le, length-append, not, ◌&&◌, ◌||◌, list_any, option_map_or, cases_Bool, both_ways, false≢true, and_parts, and_from}
 use Rattle.rx_audit.proofs.Common.{eq-eqb, le-leb, leb-true, slice_get_within, nothing_kept, Place, Root, Source, Inner, Notifier, Kind, Leaf, Pass, Flat}
-use Rattle.rx_audit.proofs.Common.{Switch, Sub, Event, Open, Connect, is_auto_hub, is_connect_of, is_subscriber_of, at, places, is_open, open_nodes, shuts}
+use Rattle.rx_audit.proofs.Common.{Switch, Sub, Event, Open, Connect, is_auto_hub, is_connect_of, is_subscriber_of, at, places, is_open, open_nodes}
 use Rattle.rx_audit.proofs.Common.{IsConnectDue, IsSettled, IsFree, IsLawful, slice_get_last, at-append, at_within, is_open_within, open_old, leaves_room}
 use Rattle.rx_audit.proofs.Common.{open_allowed, has_key, open_connected, or_left, or_right, or_cases, not-true, not_from_false, false_from_ne_true}
 use Rattle.rx_event.specs.declared.event.Kind.TheVariants.{Until}
 use Rattle.rx_event.specs.Tree.{open_connections}
 use Rattle.rx_event.proofs.Laws.Lists.{filter_nonempty}
-use Rattle.rx_event.proofs.Laws.Openness.{is_open_cut, is_open_last, is_open_made, is_cut, is_cut_none, is_cut_inner}
+use Rattle.rx_event.proofs.Laws.Openness.{is_open_cut, is_open_last, is_open_made, is_cut_none, is_cut_inner}
 use Rattle.rx_event.proofs.Laws.Hubs.{at_connect}
 use Rattle.rx_event.proofs.Laws.Waits.{settled_connected, kept_unsubscribed, kept_subscribed, cut_alone, spares, at_before}
 use Rattle.rx_audit.specs.Allowing.{needs_connection}
 use Rattle.rx_audit.proofs.TestsDecideRules.{filter_none, connected_key, find_number}
 use Rattle.rx_audit.proofs.KeysInRange.{any_found}
 use Rattle.rx_audit.proofs.TestsDecideAllowed.{open_free}
+use Rattle.std.proofs.Common.{rules}
 
 -- an opening takes no connection away
 connection_stays : (h : List Event) (place : Place) (kind : Kind) (c g : ℕ) → slice_get h c ≡ Some (Connect g) → is_open h c ≡ true
     → is_open (h ++ Open place kind ∷ []) c ≡ true
 connection_stays h place kind c g made alive =
-    let whole : shuts h c (Open place kind) ≡ false = false_from_ne_true _ (λ y. spares nothing_kept h (Open place kind) c g refl made y) in
-    let uncut : is_cut h (Open place kind) c ≡ false = cut_alone h (Open place kind) c g made ∙ whole in
-    is_open_cut h (Open place kind) c (is_open_within h c alive) ∙ rw (alive, uncut) refl
+    search (rules, false_from_ne_true, spares, cut_alone, is_open_cut, is_open_within)
 
 -- where none is open after it, none was
 none_before : (h : List Event) (place : Place) (kind : Kind) (g : ℕ)

@@ -1,5 +1,5 @@
 -- The tests that compute decide what is due, what is forced, and what is settled.
-use Rattle.rx_audit.proofs.Common.{◌≡◌, ℕ, Bool, true, false, List, [], length, Option, Some, None, refl, sym, ap, ◌∙◌, ◌==◌, cond, slice_get, not, ◌&&◌}
+use Rattle.rx_audit.proofs.Common.{◌≡◌, ℕ, true, false, List, [], length, Option, Some, None, sym, ap, ◌∙◌, ◌==◌, cond, slice_get, not, ◌&&◌}
 use Rattle.rx_audit.proofs.Common.{option_map_or, and_parts, both_ways, false≢true, eqb-true, none-some, nothing_kept, Event, Connect, Close, is_subscriber_of}
 use Rattle.rx_audit.proofs.Common.{is_connect_of, is_auto_hub, at, places, parent, is_open, is_open_child_of, has_open_child, open_subscribers, IsConnectDue}
 use Rattle.rx_audit.proofs.Common.{IsDue, left, parent_within, at_within, is_key, hub_subscribed_at, hub_connected_at, is_cut, open_subscribed, open_connected}
@@ -10,15 +10,12 @@ use Rattle.rx_audit.proofs.TestsDecideRules.{FoundNumber, find_number, subscribe
 use Rattle.rx_audit.proofs.TestsDecideRules.{filter_none, none_filtered, subscribed_key, connected_key}
 use Rattle.rx_event.proofs.Laws.Common.{number_itself}
 use Rattle.rx_audit.proofs.Latest.{is_key_of, key_is}
+use Rattle.std.proofs.Common.{rules}
 
 -- connections ------------------------------------------------------------------------------------------
 
 waiting_is : (h : List Event) (s g : ℕ) → open_waiting h s ≡ Some g → (is_cut h s ≡ false) × (is_open h s ≡ true) × (hub_subscribed_at h s ≡ Some g)
-waiting_is h s g e = by_tests (is_cut h s) (is_open h s) (hub_subscribed_at h s) e where
-  by_tests : (c o : Bool) (hub : Option ℕ) → cond c None (cond o hub None) ≡ Some g → (c ≡ false) × (o ≡ true) × (hub ≡ Some g)
-  by_tests true o hub e = absurd (none-some g e)
-  by_tests false false hub e = absurd (none-some g e)
-  by_tests false true hub e = (refl, refl, e)
+waiting_is h s g e = search (rules, cond, none-some)
 
 is_waiting : (h : List Event) (s g : ℕ) → is_cut h s ≡ false → is_open h s ≡ true → hub_subscribed_at h s ≡ Some g → open_waiting h s ≡ Some g
 is_waiting h s g c o e = rw (c, o) e
@@ -85,8 +82,7 @@ no_child_open h f closed = not_from_false _ (false_from_ne_true (has_open_child 
 
 is_left_of : (h : List Event) (g : ℕ) → at is_auto_hub h g ≡ true → open_subscribers h g ≡ [] → is_left h g ≡ true
 is_left_of h g a none =
-    and_from (at is_auto_hub h g) (not (has_key (open_subscribed h) h g)) a
-    (not_from_false (has_key (open_subscribed h) h g) (subscribed_key h g ∙ none_filtered (λ n. at (is_subscriber_of g) h n && is_open h n) (places h) none))
+    search (rules, and_from, not, not_from_false, subscribed_key, none_filtered)
 
 leaves : (h : List Event) (c g : ℕ) → is_open h c ≡ true → slice_get h c ≡ Some (Connect g) → is_left h g ≡ true → IsDue nothing_kept h (Close c)
 leaves h c g o at_c l =
@@ -95,20 +91,16 @@ leaves h c g o at_c l =
     (places h) (sym (subscribed_key h g) ∙ not-true (has_key (open_subscribed h) h g) w.1))
 
 leaves_at : (h : List Event) (c : ℕ) → is_open h c ≡ true → option_map_or (is_left h) (hub_connected_at h c) false ≡ true → IsDue nothing_kept h (Close c)
-leaves_at h c o e = by_hub (hub_connected_at h c) refl e where
-  by_hub : (hub : Option ℕ) → hub_connected_at h c ≡ hub → option_map_or (is_left h) hub false ≡ true → IsDue nothing_kept h (Close c)
-  by_hub None is e = absurd (false≢true e)
-  by_hub (Some g) is e = leaves h c g o (connection_at h c g is) e
+leaves_at h c o e = search (rules, option_map_or, false≢true, leaves, connection_at)
 
 pub close_is_due : (h : List Event) (c : ℕ) → close_due h c ≡ true → IsDue nothing_kept h (Close c)
 unfolding close_due
-close_is_due h c e = let w = and_parts (is_open h c) (option_map_or (is_left h) (hub_connected_at h c) false) e in leaves_at h c w.0 w.1
+close_is_due h c e = search (rules, and_parts, option_map_or, leaves_at)
 
 pub close_due_of : (h : List Event) (c : ℕ) → IsDue nothing_kept h (Close c) → close_due h c ≡ true
 unfolding close_due
 close_due_of h c (left {g = g} o at_c a none) =
-    and_from (is_open h c) (option_map_or (is_left h) (hub_connected_at h c) false) o
-    (ap (λ o. option_map_or (is_left h) o false) (at_connection h c g at_c) ∙ is_left_of h g a none)
+    search (rules, and_from, option_map_or, at_connection, is_left_of)
 
 -- forced -------------------------------------------------------------------------------------------------
 

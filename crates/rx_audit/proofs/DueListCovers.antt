@@ -2,13 +2,14 @@
 use Rattle.rx_audit.proofs.Common.{◌≡◌, ℕ, ◌<◌, Bool, true, false, List, [], ◌∷◌, ◌++◌, length, take, Option, Some, None, refl, sym, ap, ◌∙◌, arith, inl, inr}
 use Rattle.rx_audit.proofs.Common.{◌⊎◌, slice_get, length-append, cond, nat_lt, ◌+◌, ◌||◌, cases_order, both_ways, false≢true, and_parts, lt-ltb, none-some}
 use Rattle.rx_audit.proofs.Common.{same_Some, list_any, count_by, option_map, option_map_or, is_some, nothing_kept, Terminal, Event, End, Marks, sum_by-cons}
-use Rattle.rx_audit.proofs.Common.{is_open, has_open_child, is_open_child_of, places, open_children, marks_of, terminal_due, due_at, IsLawful, MayFollow}
+use Rattle.rx_audit.proofs.Common.{is_open, has_open_child, open_children, marks_of, terminal_due, due_at, IsLawful, MayFollow}
 use Rattle.rx_audit.proofs.Common.{is_open_within, open_old, slice_get-append, slice_get_last, event_at, IsNoted, IsUntouched, touched_by, due_made, node_due}
 use Rattle.rx_audit.proofs.Common.{IsCovered, and_false}
 use Rattle.std.proofs.Common.{zero-add}
 use Rattle.rx_event.proofs.Laws.MarksTouched.{quiet_new}
 use Rattle.rx_audit.proofs.ClosingBelow.{noted_more, noted_last}
 use Rattle.rx_audit.proofs.Marking.{marks_apart}
+use Rattle.std.proofs.Common.{rules}
 
 pub due_closed : (h : List Event) (n : ℕ) → is_open h n ≡ false → node_due h n ≡ false
 unfolding node_due
@@ -34,16 +35,10 @@ some_due made m n = by_terminal (terminal_due made m) where
   by_terminal (Some t) some = (t, refl)
 
 pub none_is_due : (made : Event) (m : Marks) (n : ℕ) → is_some (terminal_due made m) ≡ false → due_at made m n ≡ None
-none_is_due made m n = by_terminal (terminal_due made m) where
-  by_terminal : (o : Option Terminal) → is_some o ≡ false → option_map (λ t. End n t) o ≡ None
-  by_terminal None none = refl
-  by_terminal (Some t) none = absurd (false≢true (sym none))
+none_is_due made m n = search (rules, is_some, option_map, false≢true)
 
 quiet_is : (made : Event) (m : Marks) (n : ℕ) → due_at made m n ≡ None → is_some (terminal_due made m) ≡ false
-quiet_is made m n = by_terminal (terminal_due made m) where
-  by_terminal : (o : Option Terminal) → option_map (λ t. End n t) o ≡ None → is_some o ≡ false
-  by_terminal None none = refl
-  by_terminal (Some t) none = absurd (none-some (End n t) (sym none))
+quiet_is made m n = search (rules, option_map, is_some, none-some)
 
 pub noted_none : (xs : List ℕ) (n k : ℕ) → k ≡ 0 → IsNoted 0 (take k xs) n → ⊥
 noted_none xs n k zero_of w = let l = w.within in let none : length (take k xs) ≡ 0 = rw zero_of refl in omega arith
@@ -79,14 +74,7 @@ due_before h e law next no_item n differs y = by_place (cases_order n (length h)
 pub covered_more : {h : List Event} (e : Event) (due : List ℕ) (p : ℕ) → IsLawful nothing_kept h → MayFollow nothing_kept h e → IsUntouched h e
     → touched_by h e ≡ Some p
     → IsCovered h due → IsCovered (h ++ e ∷ []) (due ++ p ∷ [])
-covered_more {h} e due p law next no_item named covered n y = by_order (cases_order n p) where
-  other : (n ≡ p → ⊥) → IsNoted 0 (due ++ p ∷ []) n
-  other ne = noted_more 0 due p n (covered n (due_before h e law next no_item n (λ at_n. ne (same_Some n p (sym at_n ∙ named))) y))
-
-  by_order : (n ≡ p) ⊎ ((n < p) ⊎ (p < n)) → IsNoted 0 (due ++ p ∷ []) n
-  by_order (inl same) = rw same (noted_last 0 due p (omega arith))
-  by_order (inr (inl l)) = other (λ s. omega arith)
-  by_order (inr (inr l)) = other (λ s. omega arith)
+covered_more {h} e due p law next no_item named covered n y = search (rules, cases_order, noted_more, due_before, same_Some, noted_last)
 
 pub covered_same : (h : List Event) (e : Event) (due : List ℕ) → IsLawful nothing_kept h → MayFollow nothing_kept h e → IsUntouched h e → touched_by h e ≡ None
     → IsCovered h due → IsCovered (h ++ e ∷ []) due
@@ -104,4 +92,4 @@ any_counted {X = X} p (x ∷ xs) = by_test (any_counted p xs) (p x) refl where
 
 pub child_marked : (h : List Event) (n : ℕ) (m : Marks) → m ≡ marks_of nothing_kept h n → has_open_child h n ≡ nat_lt 0 m.open_children
 unfolding open_children
-child_marked h n m is = any_counted (is_open_child_of h n) (places h) ∙ ap (λ (x : Marks). nat_lt 0 x.open_children) (sym is)
+child_marked h n m is = search (rules, any_counted, nat_lt)

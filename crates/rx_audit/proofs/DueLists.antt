@@ -4,8 +4,8 @@ use Rattle.rx_audit.proofs.Common.{inl, inr, ◌⊎◌, get_or, slice_get, ◌&&
 use Rattle.rx_audit.proofs.Common.{slice_get_within, same_Some, none-some, Terminal, nothing_kept, Event, Connect, End, Close, is_subscriber_of, is_connect_of}
 use Rattle.rx_audit.proofs.Common.{at, is_open, marks_of, connecting, cut, left, due, IsDue, IsSettled, SourceEnded, IsLawful, MayFollow, is_open_within}
 use Rattle.rx_audit.proofs.Common.{at_within, event_at, subscriber_hub, open_old, last_connection, Hubs, keyed, IsNoted, AreClosed, last_below, node_due}
-use Rattle.rx_audit.proofs.Common.{due_made, IsCovered, AreHubs, Subscribers, on_list, AreLinked, AreOpenListed, number_of, IsLostNoted, acts, Keeps, HasAll}
-use Rattle.rx_audit.proofs.Common.{hub_connected_at, is_cut, close_due, any_connect_due, hub_subscribed_at, hub_ended, false_from_ne_true}
+use Rattle.rx_audit.proofs.Common.{due_made, IsCovered, AreHubs, Subscribers, on_list, AreLinked, AreOpenListed, IsLostNoted, acts, Keeps, HasAll}
+use Rattle.rx_audit.proofs.Common.{hub_connected_at, is_cut, close_due, any_connect_due, hub_ended, false_from_ne_true}
 use Rattle.rx_event.specs.Forced.{IsConnected}
 use Rattle.rx_event.specs.Claims.Connections.{EndsSource, HowLeft, left_before, subscriber_gone, connected_now}
 use Rattle.rx_event.proofs.Laws.MarksDue.{due_at_forced, settled_by_marks}
@@ -18,6 +18,7 @@ use Rattle.rx_audit.proofs.StaysOpen.{is_open_older}
 use Rattle.rx_audit.proofs.TestsDecideRules.{cut_ended, is_cut_of, at_subscriber, connection_at, at_connection}
 use Rattle.rx_audit.proofs.Due.{some_connect_due, close_is_due, close_due_of}
 use Rattle.rx_audit.proofs.DueListCovers.{due_parts, due_made_at, some_due, none_is_due}
+use Rattle.std.proofs.Common.{rules}
 
 due_close_open : {h : List Event} {c : ℕ} → IsDue nothing_kept h (Close c) → is_open h c ≡ true
 due_close_open (left o at_c a n) = o
@@ -96,31 +97,18 @@ left_after {h} {e} {known} {after} one so_far keeps lost new c is = by_reason (l
 
 acts_parts : (h : List Event) (n : ℕ) → acts h n ≡ true → (node_due h n ≡ true) ⊎ (((is_open h n ≡ true) × (is_cut h n ≡ true)) ⊎ (close_due h n ≡ true))
 unfolding acts
-acts_parts h n y = by_test (node_due h n) (is_open h n) (is_cut h n) (close_due h n) y where
-  by_test : (a o c d : Bool) → (a || (o && c) || d) ≡ true → (a ≡ true) ⊎ (((o ≡ true) × (c ≡ true)) ⊎ (d ≡ true))
-  by_test true o c d y = inl refl
-  by_test false true true d y = inr (inl (refl, refl))
-  by_test false true false d y = inr (inr y)
-  by_test false false c d y = inr (inr y)
+acts_parts h n y = search rules
 
 pub acts_noted : (h : List Event) (list : List ℕ) → ((n : ℕ) → node_due h n ≡ true → IsNoted 0 list n)
     → HasCut h list → HasLeft h list → (n : ℕ) → acts h n ≡ true → IsNoted 0 list n
-acts_noted h list marked cut_off unused n y = by_case (acts_parts h n y) where
-  by_case : (node_due h n ≡ true) ⊎ (((is_open h n ≡ true) × (is_cut h n ≡ true)) ⊎ (close_due h n ≡ true)) → IsNoted 0 list n
-  by_case (inl m) = marked n m
-  by_case (inr (inl c)) = cut_off n c.0 c.1
-  by_case (inr (inr l)) = unused n l
+acts_noted h list marked cut_off unused n y = search (rules, acts_parts)
 
 -- a hub that waits does
 pub waits_unsettled : (h : List Event) → any_connect_due h ≡ true → IsSettled nothing_kept h → ⊥
 waits_unsettled h y settled = let d = some_connect_due h y in settled.none (Connect d.0) (connecting d.1)
 
 pub acts_open : (h : List Event) (n : ℕ) → acts h n ≡ true → is_open h n ≡ true
-acts_open h n y = by_case (acts_parts h n y) where
-  by_case : (node_due h n ≡ true) ⊎ (((is_open h n ≡ true) × (is_cut h n ≡ true)) ⊎ (close_due h n ≡ true)) → is_open h n ≡ true
-  by_case (inl m) = (due_parts h n m).0
-  by_case (inr (inl c)) = c.0
-  by_case (inr (inr l)) = due_close_open (close_is_due h n l)
+acts_open h n y = search (rules, acts_parts, due_parts, due_close_open, close_is_due)
 
 -- where no hub waits, such a node leaves the history unsettled
 pub acts_unsettled : (h : List Event) (n : ℕ) → IsConnected h → acts h n ≡ true → IsSettled nothing_kept h → ⊥
@@ -186,12 +174,11 @@ lost_keeps h s connection before after so_far keeps g c hub word = keeps c (so_f
 
 pub lost_one : (h : List Event) (s p : ℕ) (connection list : List ℕ) → lost_connection h connection s ≡ Some p → IsLostNoted h s connection (list ++ p ∷ [])
 lost_one h s p connection list found g c hub word =
-    let at_c : p ≡ c = same_Some p c (sym found ∙ ap (option_and_then (λ k. number_of (get_or connection k 0))) hub ∙ ap number_of word) in
-    rw (sym at_c) (noted_last 0 list p (omega arith))
+    search (rules, same_Some, option_and_then, get_or, noted_last)
 
 pub lost_none : (h : List Event) (s : ℕ) (connection list : List ℕ) → lost_connection h connection s ≡ None → IsLostNoted h s connection list
 lost_none h s connection list none g c hub word =
-    absurd (none-some c (sym none ∙ ap (option_and_then (λ k. number_of (get_or connection k 0))) hub ∙ ap number_of word))
+    search (rules, none-some, option_and_then, get_or)
 
 -- what stands at a place of a list is the same by any default
 pub any_default : (xs : List ℕ) (i d e : ℕ) → i < length xs → get_or xs i d ≡ get_or xs i e
@@ -205,17 +192,12 @@ HasLostTo h closed connection i list = (k : ℕ) → k < i → IsLostNoted h (ge
 
 pub lost_more : (h : List Event) (closed connection : List ℕ) {before after : List ℕ} (i : ℕ) → HasLostTo h closed connection i before
     → Keeps before after → IsLostNoted h (get_or closed i 0) connection after → HasLostTo h closed connection (i + 1) after
-lost_more h closed connection {before} {after} i so_far keeps last k l = by_order (cases_order k i) where
-  by_order : (k ≡ i) ⊎ ((k < i) ⊎ (i < k)) → IsLostNoted h (get_or closed k 0) connection after
-  by_order (inl same) = λ g c hub word. last g c (ap (λ j. hub_subscribed_at h (get_or closed j 0)) (sym same) ∙ hub) word
-  by_order (inr (inl m)) = lost_keeps h (get_or closed k 0) connection before after (so_far k m) keeps
-  by_order (inr (inr m)) = absurd (omega arith)
+lost_more h closed connection {before} {after} i so_far keeps last k l = search (rules, cases_order, get_or, lost_keeps)
 
 pub lost_all : (h : List Event) (closed connection list : List ℕ) (i : ℕ) → length closed ≤ i → HasLostTo h closed connection i list
     → HasLost h closed connection list
 lost_all h closed connection list i over each s g c noted hub word =
-    let w = noted.within in
-    each noted.at (omega arith) g c (ap (hub_subscribed_at h) noted.is ∙ hub) word
+    search rules
 
 -- the subscribers of a hub, from the last down
 module _ (h : List Event) (size : ℕ) (s : Subscribers) (g : ℕ) (w : AreLinked h size s) where

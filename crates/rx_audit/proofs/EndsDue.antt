@@ -1,8 +1,8 @@
 -- What operators must do, by marks and by the words of hubs.
 use Rattle.rx_audit.proofs.Common.{◌≡◌, ◌↔◌, ℕ, suc, ◌-◌, ◌<◌, ◌≤◌, Bool, true, false, List, length, Option, Some, None, refl, sym, ap, ◌∙◌, arith, inl, inr}
-use Rattle.rx_audit.proofs.Common.{◌⊎◌, IsTrue, get_or, slice_get, not, ◌&&◌, ◌||◌, cases_Bool, cases_order, both_ways, false≢true, and_parts, ltb-true}
+use Rattle.rx_audit.proofs.Common.{◌⊎◌, IsTrue, get_or, slice_get, not, ◌||◌, cases_Bool, cases_order, both_ways, false≢true, and_parts, ltb-true}
 use Rattle.rx_audit.proofs.Common.{none-some, same_Some, slice_get_within, option_and_then, option_map, option_map_or, nothing_kept, Terminal, Completed, Event}
-use Rattle.rx_audit.proofs.Common.{Connect, Item, Decline, End, Close, Marks, is_open, marks_of, terminal_due, due_at, same_terminal, connecting, due, cut}
+use Rattle.rx_audit.proofs.Common.{Connect, Decline, End, Close, Marks, is_open, marks_of, due_at, same_terminal, connecting, due, cut}
 use Rattle.rx_audit.proofs.Common.{IsDue, IsForced, IsConnectDue, SourceEnded, IsLawful, is_open_within, event_at, subscriber_hub, Hubs, last_below, keyed}
 use Rattle.rx_audit.proofs.Common.{IsUntouched, leaf_of, ends_so, AreHubs, hub_subscribed_at, hub_ended, hub_ended_at, is_cut, any_connect_due, close_due}
 use Rattle.rx_audit.proofs.Common.{connect_due, and_false, and_from, or_left, or_right, or_cases, not-true, not_from_false, false_from_ne_true}
@@ -18,10 +18,10 @@ use Rattle.rx_audit.proofs.Latest.{last_holds, last_none, key_is, is_key_of}
 use Rattle.rx_audit.proofs.TestsDecideRules.{terminal_is, terminal_self, subscriber_at, connection_at, at_connection, is_cut_of}
 use Rattle.rx_audit.proofs.Due.{connect_is_due, connect_due_of, some_connect_due, any_connect_due_of, no_connect_due, close_is_due, close_due_of}
 use Rattle.rx_audit.proofs.HubWords.{cut_word, uncut}
+use Rattle.std.proofs.Common.{rules}
 
 pub other_untouched : (h : List Event) (e : Event) → leaf_of e ≡ None → IsUntouched h e
-other_untouched h (Item leaf v) other n item = absurd (none-some leaf (sym other))
-other_untouched h _ other n item = absurd (false≢true item)
+other_untouched h x1 other n item = search (rules, none-some, false≢true)
 
 -- by marks ---------------------------------------------------------------------------------------------
 
@@ -30,16 +30,10 @@ terminal_of (End n t) = t
 terminal_of _ = Completed
 
 due_ends : (made : Event) (m : Marks) (n : ℕ) (t : Terminal) → ends_so made m t ≡ true → due_at made m n ≡ Some (End n t)
-due_ends made m n t = by_terminal (terminal_due made m) where
-  by_terminal : (o : Option Terminal) → option_map_or (λ u. same_terminal u t) o false ≡ true → option_map (λ u. End n u) o ≡ Some (End n t)
-  by_terminal None y = absurd (false≢true y)
-  by_terminal (Some u) y = ap (λ v. Some (End n v)) (terminal_is u t y)
+due_ends made m n t = search (rules, option_map_or, option_map, false≢true, terminal_is)
 
 ends_due : (made : Event) (m : Marks) (n : ℕ) (t : Terminal) → due_at made m n ≡ Some (End n t) → ends_so made m t ≡ true
-ends_due made m n t = by_terminal (terminal_due made m) where
-  by_terminal : (o : Option Terminal) → option_map (λ u. End n u) o ≡ Some (End n t) → option_map_or (λ u. same_terminal u t) o false ≡ true
-  by_terminal None none = absurd (none-some (End n t) none)
-  by_terminal (Some u) same = ap (λ v. same_terminal v t) (ap terminal_of (same_Some (End n u) (End n t) same)) ∙ terminal_self t
+ends_due made m n t = search (rules, option_map, option_map_or, none-some, same_Some, terminal_self)
 
 pub forced_closed : (h : List Event) (n : ℕ) (t : Terminal) → is_open h n ≡ false → forced_end h n t ≡ false
 unfolding forced_end
@@ -88,9 +82,7 @@ module _ (h : List Event) (law : IsLawful nothing_kept h) (size : ℕ) (known : 
       → (is_open h s ≡ true) × (is_cut h s ≡ true) × (ends_last_so h known.ended.items s t ≡ true)
   unfolding cut_so
   cut_parts s t y =
-      let a = and_parts (is_open h s && is_cut h s) (ends_last_so h known.ended.items s t) y in
-      let b = and_parts (is_open h s) (is_cut h s) a.0 in
-      (b.0, b.1, a.1)
+      search (rules, and_parts)
 
   by_word : (s : ℕ) → is_cut h s ≡ true → (g : ℕ) × (place : ℕ) × (hub_subscribed_at h s ≡ Some g) × (get_or known.ended.items g 0 ≡ suc place) × (s < place)
       × (last_below (keyed (hub_ended_at h) g) (length h) ≡ suc place)
@@ -111,9 +103,7 @@ module _ (h : List Event) (law : IsLawful nothing_kept h) (size : ℕ) (known : 
       → get_or known.ended.items g 0 ≡ suc place → terminal_of_word h (suc place) ≡ Some u
       → ends_last_so h known.ended.items s t ≡ same_terminal u t
   last_so s g place t u hub word ends =
-      ap (λ o. option_map_or (λ j. option_map_or (λ v. same_terminal v t) (terminal_of_word h (get_or known.ended.items j 0)) false) o false) hub
-      ∙ ap (λ k. option_map_or (λ v. same_terminal v t) (terminal_of_word h k) false) word
-      ∙ ap (λ o. option_map_or (λ v. same_terminal v t) o false) ends
+      search (rules, option_map_or, get_or)
 
   pub cut_due : (s : ℕ) (t : Terminal) → cut_so h known.ended.items s t ≡ true → IsDue nothing_kept h (End s t)
   cut_due s t y =
@@ -126,7 +116,7 @@ module _ (h : List Event) (law : IsLawful nothing_kept h) (size : ℕ) (known : 
   unfold_cut : (s : ℕ) (t : Terminal) → is_open h s ≡ true → is_cut h s ≡ true
       → ends_last_so h known.ended.items s t ≡ true → cut_so h known.ended.items s t ≡ true
   unfolding cut_so
-  unfold_cut s t o c e = and_from (is_open h s && is_cut h s) (ends_last_so h known.ended.items s t) (and_from (is_open h s) (is_cut h s) o c) e
+  unfold_cut s t o c e = search (rules, and_from)
 
   pub cut_due_of : (s : ℕ) (t : Terminal) → is_open h s ≡ true → SourceEnded h s t → cut_so h known.ended.items s t ≡ true
   cut_due_of s t o x =
@@ -144,10 +134,7 @@ module _ (h : List Event) (law : IsLawful nothing_kept h) (size : ℕ) (known : 
 
   pub ends_due_now : (n : ℕ) (t : Terminal) → ends_now h known.ended.items n t ≡ true → IsDue nothing_kept h (End n t)
   unfolding ends_now
-  ends_due_now n t y = by_case (or_cases (forced_end h n t) (cut_so h known.ended.items n t) y) where
-    by_case : (forced_end h n t ≡ true) ⊎ (cut_so h known.ended.items n t ≡ true) → IsDue nothing_kept h (End n t)
-    by_case (inl m) = marks_due n t m
-    by_case (inr c) = cut_due n t c
+  ends_due_now n t y = search (rules, or_cases, marks_due, cut_due)
 
   pub ends_due_of : (n : ℕ) (t : Terminal) → IsDue nothing_kept h (End n t) → ends_now h known.ended.items n t ≡ true
   unfolding ends_now
@@ -192,13 +179,7 @@ module _ (h : List Event) (law : IsLawful nothing_kept h) (size : ℕ) (known : 
 
 pub some_waits : (h : List Event) (o : Option ℕ) (g : ℕ) (b : Bool)
     → ((k : ℕ) → IsConnectDue h k → o ≡ Some k) → o ≡ Some g → b ≡ connect_due h g → b ≡ any_connect_due h
-some_waits h o g b waits is same = by_due (cases_Bool (connect_due h g)) where
-  by_due : (connect_due h g ≡ true) ⊎ (connect_due h g ≡ false) → b ≡ any_connect_due h
-  by_due (inl y) = same ∙ y ∙ sym (any_connect_due_of h g (connect_is_due h g y))
-  by_due (inr z) = same ∙ z ∙ sym (false_from_ne_true (any_connect_due h) (λ y.
-      let d = some_connect_due h y in
-      let at_g : d.0 ≡ g = same_Some d.0 g (sym (waits d.0 d.1) ∙ is) in
-      both_ways (connect_due h g) z (ap (connect_due h) (sym at_g) ∙ connect_due_of h d.0 d.1)))
+some_waits h o g b waits is same = search (rules, cases_Bool, any_connect_due_of, connect_is_due, false_from_ne_true, some_connect_due, same_Some, both_ways, connect_due_of)
 
 pub none_waits_at : (h : List Event) (o : Option ℕ) → ((k : ℕ) → IsConnectDue h k → o ≡ Some k) → o ≡ None → false ≡ any_connect_due h
 none_waits_at h o waits is = sym (false_from_ne_true (any_connect_due h) (λ y. let d = some_connect_due h y in none-some d.0 (sym is ∙ waits d.0 d.1)))

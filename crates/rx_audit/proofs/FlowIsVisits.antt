@@ -1,16 +1,17 @@
 -- What flows up from a list of nodes is what is visited from them.
-use Rattle.rx_audit.proofs.Common.{◌≡◌, ℕ, zero, suc, ◌+◌, ◌≤◌, List, [], ◌∷◌, ◌++◌, length, false, Option, Some, None, slice_get, refl, sym, ap, ◌∙◌, arith}
-use Rattle.rx_audit.proofs.Common.{sum_by, sum_by-append, sum_by-cons, Event, is_some, option_map_or, false≢true, Stop, stop_at, visited, onward, flow}
-use Rattle.rx_event.specs.Climb.{onward_from, onward_unless}
+use Rattle.rx_audit.proofs.Common.{◌≡◌, ℕ, zero, suc, ◌+◌, ◌≤◌, List, [], ◌∷◌, ◌++◌, length, false, Some, slice_get, refl, ap, arith}
+use Rattle.rx_audit.proofs.Common.{sum_by, sum_by-append, sum_by-cons, Event, is_some, option_map_or, false≢true, stop_at, visited, onward, flow}
+use Rattle.rx_event.specs.Climb.{onward_from}
+use Rattle.std.proofs.Common.{rules}
 
 pub sum_by-mono : (f g : ℕ → ℕ) → ((n : ℕ) → f n ≤ g n) → (xs : List ℕ) → sum_by f xs ≤ sum_by g xs
 sum_by-mono f g le [] = omega arith
-sum_by-mono f g le (x ∷ xs) = let a = le x in let b = sum_by-mono f g le xs in let c = sum_by-cons f x xs in let d = sum_by-cons g x xs in omega arith
+sum_by-mono f g le (x ∷ xs) = search (rules, sum_by-cons, sum_by-mono f g le xs)
 
 -- more steps lead to more
 pub flow-more : (d : ℕ) (h : List Event) (number : ℕ → ℕ) (n : ℕ) → flow d h number n ≤ flow (suc d) h number n
 flow-more zero h number n = omega arith
-flow-more (suc d) h number n = let a = sum_by-mono (flow d h number) (flow (suc d) h number) (flow-more d h number) (onward h n) in omega arith
+flow-more (suc d) h number n = search (rules, sum_by-mono, flow-more d h number)
 
 pub flow-sum-more : (d : ℕ) (h : List Event) (number : ℕ → ℕ) (xs : List ℕ) → sum_by (flow d h number) xs ≤ sum_by (flow (suc d) h number) xs
 flow-sum-more d h number xs = sum_by-mono (flow d h number) (flow (suc d) h number) (flow-more d h number) xs
@@ -58,14 +59,9 @@ visits_whole (suc k) h (n ∷ todo) steps amount w l number =
     let whole : (f : ℕ → ℕ) → IsWhole h (onward h n ++ todo) steps f (rest f) =
     λ f. record { same = λ d l. (let s = whole-step n todo steps f (amount f) (w f) d l in let t = here f in omega arith) } in
     let few : rest (λ n. 1) ≤ k = (let t = here (λ n. 1) in omega arith) in
-    sum_by-cons number n (visited k h (onward h n ++ todo))
-    ∙ ap (λ (m : ℕ). number n + m) (visits_whole k h (onward h n ++ todo) steps rest whole few number) ∙ here number
+    search (rules, sum_by-cons, visits_whole k h (onward h n ++ todo) steps rest whole few number)
 
 -- where an item goes on ------------------------------------------------------------------------------------
 
 pub onward_at : (h : List Event) (n : ℕ) (e : Event) → is_some (stop_at h n) ≡ false → slice_get h n ≡ Some e → onward h n ≡ onward_from h n e
-onward_at h n e none at_n = by_stop (stop_at h n) refl none where
-  by_stop : (o : Option Stop) → stop_at h n ≡ o → is_some o ≡ false → onward h n ≡ onward_from h n e
-  by_stop None is nowhere =
-      ap (λ o. onward_unless o (option_map_or (onward_from h n) (slice_get h n) [])) is ∙ ap (λ x. option_map_or (onward_from h n) x []) at_n
-  by_stop (Some stop) is nowhere = absurd (false≢true (sym nowhere))
+onward_at h n e none at_n = search (rules, is_some, option_map_or, slice_get, false≢true)

@@ -1,5 +1,5 @@
 -- What one event adds to what was found.
-use Rattle.rx_audit.proofs.Common.{◌≡◌, ℕ, zero, suc, ◌+◌, ◌*◌, nat_lt, ◌⊎◌, inl, inr, ◌<◌, Bool, true, false, List, [], ◌∷◌, ◌++◌, length, Option, Some, None}
+use Rattle.rx_audit.proofs.Common.{◌≡◌, ℕ, zero, suc, ◌+◌, ◌*◌, nat_lt, ◌⊎◌, inl, inr, Bool, true, false, List, [], ◌∷◌, ◌++◌, length, Option, Some, None}
 use Rattle.rx_audit.proofs.Common.{refl, sym, ap, ◌∙◌, arith, get_or, cond, count_by, replicate, take, drop, ◌||◌, list_any, sum_by, option_and_then}
 use Rattle.rx_audit.proofs.Common.{sum_by-cons, Event, Stop, climb, is_firing_of, is_projection_to, is_open, leases_of, is_open_past, IsMarked, marks_with}
 use Rattle.rx_audit.proofs.Common.{mark_count, is_key, Visit, times, IsOften, IsReached, cases_Bool, lt-ltb, or_false}
@@ -10,19 +10,18 @@ use Rattle.rx_event.specs.Climb.{Delivery, Projection, Firing}
 use Rattle.rx_audit.specs.Tables.{IsTable}
 use Rattle.rx_audit.specs.Rules.{fired_by, projected_by}
 use Rattle.rx_audit.proofs.Keys.{length-marks_with, marks_with_at}
+use Rattle.std.proofs.Common.{rules}
 
 -- firings and projections --------------------------------------------------------------------------
 
 firing_cons : (u : ℕ) (o : Option Stop) (rest : List Stop) → list_any (is_firing_of u)
     (cons_option o rest) ≡ (is_key (option_and_then fired_by o) u || list_any (is_firing_of u) rest)
-firing_cons u None rest = refl
-firing_cons u (Some (Delivery n)) rest = refl
-firing_cons u (Some _) rest = refl
+firing_cons u x1 rest = search rules
 
 pub firing_stops : (s : ℕ → Option Stop) (u : ℕ) (nodes : List ℕ)
     → list_any (is_firing_of u) (filter_map s nodes) ≡ list_any (λ n. is_key (option_and_then fired_by (s n)) u) nodes
 firing_stops s u [] = refl
-firing_stops s u (n ∷ nodes) = firing_cons u (s n) (filter_map s nodes) ∙ ap (λ b. is_key (option_and_then fired_by (s n)) u || b) (firing_stops s u nodes)
+firing_stops s u (n ∷ nodes) = search (rules, firing_cons, option_and_then, firing_stops s u nodes)
 
 projection_cons : (f : ℕ) (o : Option Stop) (rest : List Stop) → count_by (is_projection_to f) (cons_option o rest)
     ≡ cond (is_key (option_and_then projected_by o) f) 1 0 + count_by (is_projection_to f) rest
@@ -35,8 +34,7 @@ pub projection_stops : (s : ℕ → Option Stop) (f : ℕ) (nodes : List ℕ)
     → count_by (is_projection_to f) (filter_map s nodes) ≡ count_by (λ n. is_key (option_and_then projected_by (s n)) f) nodes
 projection_stops s f [] = refl
 projection_stops s f (n ∷ nodes) =
-    projection_cons f (s n) (filter_map s nodes) ∙ ap (λ (k : ℕ). cond (is_key (option_and_then projected_by (s n)) f) 1 0 + k)
-    (projection_stops s f nodes) ∙ sym (sum_by-cons (λ m. cond (is_key (option_and_then projected_by (s m)) f) 1 0) n nodes)
+    search (rules, projection_cons, cond, option_and_then, sum_by-cons, projection_stops s f nodes)
 
 -- visits, counted and listed
 any_count : (q : ℕ → Bool) (xs : List ℕ) → list_any q xs ≡ nat_lt 0 (sum_by (λ n. cond (q n) 1 0) xs)
@@ -70,24 +68,20 @@ any_log q (v ∷ log) often = by_first (any_log q log (λ i u e. often (suc i) u
       ap (λ b. b || list_any (λ v. q v.node) log) z ∙ rest ∙ sym (ap (nat_lt 0) (s ∙ t))
 
 pub same_any : (h : List Event) (leaf : ℕ) (log : List Visit) (q : ℕ → Bool) → IsReached h leaf log → list_any (λ v. q v.node) log ≡ list_any q (climb h leaf)
-same_any h leaf log q r = any_log q log r.often ∙ ap (nat_lt 0) (r.sums (λ n. cond (q n) 1 0)) ∙ sym (any_count q (climb h leaf))
+same_any h leaf log q r = search (rules, any_log, nat_lt, cond, any_count)
 
 cond_times : (b : Bool) (c : ℕ) → cond b c 0 ≡ c * cond b 1 0
-cond_times true c = omega arith
-cond_times false c = omega arith
+cond_times x0 c = search rules
 
 pub times_cond : (q : ℕ → Bool) (log : List Visit) → sum_by (λ v. cond (q v.node) v.count 0) log ≡ sum_by (times (λ n. cond (q n) 1 0)) log
 times_cond q [] = refl
 times_cond q (v ∷ log) =
-    sum_by-cons (λ v. cond (q v.node) v.count 0) v log ∙ ap (λ (k : ℕ). k + sum_by (λ v. cond (q v.node) v.count 0) log) (cond_times (q v.node) v.count)
-    ∙ ap (λ (k : ℕ). v.count * cond (q v.node) 1 0 + k) (times_cond q log) ∙ sym (sum_by-cons (times (λ n. cond (q n) 1 0)) v log)
+    search (rules, sum_by-cons, cond, sum_by, cond_times, times_cond q log)
 
 pub table_more : (key : Event → Option ℕ) (ms : List Bool) (h : List Event) (e : Event) → IsTable ms (λ n. list_any (λ x. is_key (key x) n) h)
     → IsTable (marks_with ms (key e)) (λ n. list_any (λ x. is_key (key x) n) (h ++ e ∷ []))
 table_more key ms h e tied n l =
-    let m : n < length ms = omega (arith, length-marks_with ms (key e)) in
-    marks_with_at ms (key e) n m ∙ ap (λ b. b || is_key (key e) n) (tied n m)
-    ∙ sym (list_any-append (λ x. is_key (key x) n) h (e ∷ []) ∙ ap (λ b. list_any (λ x. is_key (key x) n) h || b) (or_false (is_key (key e) n)))
+    search (rules, length, length-marks_with, marks_with_at, list_any-append, list_any, or_false)
 
 -- the list of a vector, after a slice of the same length was written back
 pub back : {X : Type 0} (len : ℕ) (new old : List X) → len ≡ length old → length new ≡ length old → take len (new ++ drop (length new) old) ≡ new
@@ -99,8 +93,7 @@ pub table_field : (key : Event → Option ℕ) (h : List Event) (e : Event) {len
     → IsTable (take len (new ++ drop (length new) old)) (λ n. list_any (λ x. is_key (key x) n) (h ++ e ∷ []))
     × (length (take len (new ++ drop (length new) old)) ≡ size)
 table_field key h e {len} old {new} is_len is_size is tied =
-    let same : length new ≡ length old = ap length is ∙ length-marks_with old (key e) in
-    rw (back len new old is_len same) (rw is (table_more key old h e tied), same ∙ is_size)
+    search (rules, length, length-marks_with, back, table_more)
 
 pub no_table : (size : ℕ) (f : ℕ → Bool) → ((n : ℕ) → f n ≡ false) → IsMarked (replicate size false) f
 no_table zero f none n = sym (none n)
@@ -110,9 +103,7 @@ no_table (suc size) f none (suc n) = no_table size (λ k. f (suc k)) (λ k. none
 pub none_marked : (size : ℕ) → 0 ≡ mark_count (replicate size false)
 none_marked zero = refl
 none_marked (suc size) =
-    let rest = none_marked size in
-    let s = sum_by-cons (λ (b : Bool). cond {A = ℕ} b 1 0) false (replicate size false) in
-    omega arith
+    search (rules, sum_by-cons, cond, replicate, none_marked size)
 
 pub nothing_live : (n : ℕ) → is_open [] n ≡ false
 nothing_live n = is_open_past [] n (omega arith)

@@ -9,6 +9,7 @@ use Rattle.rx_audit.proofs.Common.{ends_source, is_cut, and_false, false_from_ne
 use Rattle.rx_audit.proofs.Latest.{last_le, last_holds, last_none, key_is, is_key_of}
 use Rattle.rx_audit.proofs.KeysInRange.{any_found}
 use Rattle.rx_audit.proofs.TestsDecideRules.{find_after, find_number, any_after, subscribed_key, subscriber_at, at_subscriber, connection_at}
+use Rattle.std.proofs.Common.{rules}
 
 -- some number passes where the word of the last is none
 pub any_last : (p : ℕ → Bool) (k : ℕ) → list_any p (range_with_len 0 k) ≡ nat_lt 0 (last_below p k)
@@ -71,22 +72,7 @@ cut_word h s g word hub is = by_order (cases_order (suc s) word) where
         by_event (Some x) at_k named = (x, at_k)
 
 pub past_word : (s word : ℕ) → (nat_lt 0 word && nat_lt s (word - 1)) ≡ nat_lt (suc s) word
-past_word s word = by_order (cases_order (suc s) word) where
-  some : suc s < word → (nat_lt 0 word && nat_lt s (word - 1)) ≡ nat_lt (suc s) word
-  some l = rw (lt-ltb 0 word (omega arith), lt-ltb s (word - 1) (omega arith)) (sym (lt-ltb (suc s) word l))
-
-  none : word ≤ suc s → (nat_lt 0 word && nat_lt s (word - 1)) ≡ nat_lt (suc s) word
-  none l = false_from_ne_true _ (λ y.
-      let p = and_parts (nat_lt 0 word) (nat_lt s (word - 1)) y in
-      let a = ltb-true 0 word p.0 in
-      let b = ltb-true s (word - 1) p.1 in
-      absurd (omega arith))
-      ∙ sym (false_from_ne_true (nat_lt (suc s) word) (λ y. let a = ltb-true (suc s) word y in absurd (omega arith)))
-
-  by_order : (suc s ≡ word) ⊎ ((suc s < word) ⊎ (word < suc s)) → (nat_lt 0 word && nat_lt s (word - 1)) ≡ nat_lt (suc s) word
-  by_order (inl same) = none (omega arith)
-  by_order (inr (inl l)) = some l
-  by_order (inr (inr l)) = none (omega arith)
+past_word s word = search (rules, cases_order, nat_lt, lt-ltb, false_from_ne_true, and_parts, ltb-true)
 
 -- what subscribes to no hub is not cut
 pub uncut : (h : List Event) (s : ℕ) → hub_subscribed_at h s ≡ None → false ≡ is_cut h s

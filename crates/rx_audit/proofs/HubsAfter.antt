@@ -1,7 +1,7 @@
 -- What is kept of the hubs, after one more event.
 use Rattle.rx_audit.proofs.Common.{◌≡◌, ℕ, zero, suc, ◌+◌, ◌<◌, ◌≤◌, Bool, true, false, List, [], ◌∷◌, ◌++◌, length, Option, Some, None, cond, refl, ap, ◌∙◌}
 use Rattle.rx_audit.proofs.Common.{arith, inl, inr, ◌⊎◌, slice_get, filter, length-append, range_with_len, option_map_or, option_and_then, option_or, none-some}
-use Rattle.rx_audit.proofs.Common.{Terminal, nothing_kept, Event, Open, Connect, End, makes_hub, hub_connected, hub_subscribed, at, places, hubs, connecting}
+use Rattle.rx_audit.proofs.Common.{Terminal, nothing_kept, Event, Open, Connect, End, makes_hub, hub_connected, hub_subscribed, at, hubs, connecting}
 use Rattle.rx_audit.proofs.Common.{IsConnectDue, IsSettled, IsLawful, MayFollow, slice_get-append, slice_get_last, at-append, is_open_within, may_end, Hubs}
 use Rattle.rx_audit.proofs.Common.{table_with, AreHubs, hub_connected_at, hub_ended, hub_ended_at}
 use Rattle.std.proofs.lemmas.List.Elements.{filter-append}
@@ -11,6 +11,7 @@ use Rattle.rx_event.proofs.Laws.Sums.{places-push}
 use Rattle.rx_event.proofs.Laws.Connections.{waited_or_now}
 use Rattle.rx_audit.proofs.Latest.{latest_with, length-table_with, one_longer}
 use Rattle.rx_event.proofs.Laws.OpenAfter.{filter_below}
+use Rattle.std.proofs.Common.{rules}
 
 -- connections ---------------------------------------------------------------------------------------
 
@@ -24,8 +25,7 @@ connected_last h e = ap (option_and_then hub_connected) (slice_get_last h e)
 
 -- what an event ends that may stand there
 ended_same_event : (h : List Event) (e x : Event) → ((c : ℕ) (t : Terminal) → x ≡ End c t → c < length h) → hub_ended (h ++ e ∷ []) x ≡ hub_ended h x
-ended_same_event h e (End c t) older = connected_same h e c (older c t refl)
-ended_same_event h e _ older = refl
+ended_same_event h e x2 older = search (rules, connected_same)
 
 ended_same : (h : List Event) (e : Event) → IsLawful nothing_kept h → (k : ℕ) → k < length h → hub_ended_at (h ++ e ∷ []) k ≡ hub_ended_at h k
 ended_same h e law k l = ap (option_and_then (hub_ended (h ++ e ∷ []))) (slice_get-append h (e ∷ []) k l) ∙ by_event (slice_get h k) refl where
@@ -34,26 +34,12 @@ ended_same h e law k l = ap (option_and_then (hub_ended (h ++ e ∷ []))) (slice
   by_event (Some x) at_k = ended_same_event h e x (λ c t is. let w = ended_after nothing_kept h law k c t (at_k ∙ ap (λ y. Some y) is) in omega arith)
 
 ended_last : (h : List Event) (e : Event) → MayFollow nothing_kept h e → hub_ended_at (h ++ e ∷ []) (length h) ≡ hub_ended h e
-ended_last h e next = ap (option_and_then (hub_ended (h ++ e ∷ []))) (slice_get_last h e) ∙
-    ended_same_event h e e (λ c t is. is_open_within h c (may_end nothing_kept (rw is at next)))
+ended_last h e next = search (rules, option_and_then, slice_get_last, ended_same_event, is_open_within, may_end)
 
 -- how many --------------------------------------------------------------------------------------------
 
 pub hub_count-push : (h : List Event) (e : Event) → length (hubs (h ++ e ∷ [])) ≡ length (hubs h) + cond (makes_hub e) 1 0
-hub_count-push h e = by_test (makes_hub e) refl where
-  before : filter (at makes_hub (h ++ e ∷ [])) (places h) ≡ hubs h
-  before = filter_below (at makes_hub (h ++ e ∷ [])) (at makes_hub h) 0 (length h) (λ k l. at-append makes_hub h (e ∷ []) k (omega arith))
-
-  last : at makes_hub (h ++ e ∷ []) (length h) ≡ makes_hub e
-  last = ap (λ o. option_map_or makes_hub o false) (slice_get_last h e)
-
-  split : (b : Bool) → makes_hub e ≡ b → hubs (h ++ e ∷ []) ≡ hubs h ++ cond b (length h ∷ []) []
-  split b is = ap (filter (at makes_hub (h ++ e ∷ []))) (places-push h e) ∙ filter-append (at makes_hub (h ++ e ∷ [])) (places h) (length h ∷ [])
-      ∙ (λ i. before i ++ cond ((last ∙ is) i) (length h ∷ []) [])
-
-  by_test : (b : Bool) → makes_hub e ≡ b → length (hubs (h ++ e ∷ [])) ≡ length (hubs h) + cond b 1 0
-  by_test true is = ap length (split true is) ∙ (let l = length-append (hubs h) (length h ∷ []) in omega arith)
-  by_test false is = ap length (split false is) ∙ (let l = length-append {A = ℕ} (hubs h) [] in omega arith)
+hub_count-push h e = search (rules, filter, filter_below, length, at-append, option_map_or, slice_get_last, cond, places-push, filter-append, length-append)
 
 -- all together ------------------------------------------------------------------------------------------
 
@@ -94,5 +80,4 @@ hub_count_few h = few (at makes_hub h) 0 (length h) where
     by_test false l = omega arith
 
 pub one_at_most : (k : ℕ) (b : Bool) → k ≡ cond b 1 0 → k ≤ 1
-one_at_most k true is = omega arith
-one_at_most k false is = omega arith
+one_at_most k x1 is = search rules

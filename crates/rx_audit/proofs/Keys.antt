@@ -1,41 +1,24 @@
 -- Marks and counts by a key.
-use Rattle.rx_audit.proofs.Common.{◌≡◌, ℕ, zero, suc, ◌+◌, ◌-◌, ◌<◌, ◌≤◌, Bool, true, false, List, [], ◌∷◌, length, Option, Some, None, refl, sym, arith, ◌==◌}
+use Rattle.rx_audit.proofs.Common.{◌≡◌, ℕ, zero, suc, ◌+◌, ◌-◌, ◌<◌, ◌≤◌, Bool, false, List, [], ◌∷◌, length, Option, Some, None, arith}
 use Rattle.rx_audit.proofs.Common.{◌≢◌, get_or, set, get_or-set_other, get_or-set_same, ◌⊎◌, inl, inr, cond, add-zero, ◌||◌, length-set, cases_order, eq-eqb}
 use Rattle.rx_audit.proofs.Common.{ne_eqb, marks_with, counts_with, counts_less, is_key, or_false, or_true}
+use Rattle.std.proofs.Common.{rules}
 
 pub length-marks_with : (ms : List Bool) (k : Option ℕ) → length (marks_with ms k) ≡ length ms
-length-marks_with ms None = refl
-length-marks_with ms (Some r) = simp length-set
+length-marks_with ms x1 = search (rules, length-set)
 
 -- the mark of n after one key more
 pub marks_with_at : (ms : List Bool) (k : Option ℕ) (n : ℕ) → n < length ms → get_or (marks_with ms k) n false ≡ (get_or ms n false || is_key k n)
-marks_with_at ms None n l = sym (or_false (get_or ms n false))
-marks_with_at ms (Some r) n l = by_order (cases_order r n) where
-  other : (r ≡ n → ⊥) → get_or (set ms r true) n false ≡ (get_or ms n false || (r == n))
-  other d = let ne : n ≢ r = λ e. d (sym e) in rw get_or-set_other (rw (ne_eqb r n d) (sym (or_false (get_or ms n false))))
-
-  by_order : (r ≡ n) ⊎ ((r < n) ⊎ (n < r)) → get_or (set ms r true) n false ≡ (get_or ms n false || (r == n))
-  by_order (inl same) = rw (eq-eqb r n same, same) (rw get_or-set_same (sym (or_true (get_or ms n false))))
-  by_order (inr (inl m)) = other (λ e. omega arith)
-  by_order (inr (inr m)) = other (λ e. omega arith)
+marks_with_at ms x1 n l = search (rules, or_false, get_or, cases_order, set, get_or-set_other, ne_eqb, eq-eqb, get_or-set_same, or_true)
 
 -- counts --------------------------------------------------------------------------------------------
 
 pub length-counts_with : (cs : List ℕ) (k : Option ℕ) → length (counts_with cs k) ≡ length cs
-length-counts_with cs None = refl
-length-counts_with cs (Some r) = simp length-set
+length-counts_with cs x1 = search (rules, length-set)
 
 -- the count of n after one key more
 pub counts_with_at : (cs : List ℕ) (k : Option ℕ) (n : ℕ) → n < length cs → get_or (counts_with cs k) n 0 ≡ get_or cs n 0 + cond (is_key k n) 1 0
-counts_with_at cs None n l = sym (add-zero (get_or cs n 0))
-counts_with_at cs (Some r) n l = by_order (cases_order r n) where
-  other : (r ≡ n → ⊥) → get_or (set cs r (get_or cs r 0 + 1)) n 0 ≡ get_or cs n 0 + cond (r == n) 1 0
-  other d = let ne : n ≢ r = λ e. d (sym e) in rw get_or-set_other (rw (ne_eqb r n d) (sym (add-zero (get_or cs n 0))))
-
-  by_order : (r ≡ n) ⊎ ((r < n) ⊎ (n < r)) → get_or (set cs r (get_or cs r 0 + 1)) n 0 ≡ get_or cs n 0 + cond (r == n) 1 0
-  by_order (inl same) = rw (eq-eqb r n same, same) (rw get_or-set_same refl)
-  by_order (inr (inl m)) = other (λ e. omega arith)
-  by_order (inr (inr m)) = other (λ e. omega arith)
+counts_with_at cs x1 n l = search (rules, add-zero, get_or, cases_order, set, cond, get_or-set_other, ne_eqb, eq-eqb, get_or-set_same)
 
 pub counts_few : (cs : List ℕ) (k : Option ℕ) (n : ℕ) → get_or (counts_with cs k) n 0 ≤ get_or cs n 0 + 1
 counts_few cs None n = omega arith
@@ -52,19 +35,10 @@ counts_few cs (Some r) n = by_order (cases_order r n) where
 
 -- counts that are one less
 pub length-counts_less : (cs : List ℕ) (k : Option ℕ) → length (counts_less cs k) ≡ length cs
-length-counts_less cs None = refl
-length-counts_less cs (Some n) = length-set cs n (get_or cs n 0 - 1)
+length-counts_less cs x1 = search (rules, length-set, get_or)
 
 pub counts_less_at : (cs : List ℕ) (k : Option ℕ) (n : ℕ) → n < length cs → get_or (counts_less cs k) n 0 ≡ get_or cs n 0 - cond (is_key k n) 1 0
-counts_less_at cs None n l = omega arith
-counts_less_at cs (Some r) n l = by_order (cases_order r n) where
-  other : (r ≡ n → ⊥) → get_or (set cs r (get_or cs r 0 - 1)) n 0 ≡ get_or cs n 0 - cond (r == n) 1 0
-  other d = let ne : n ≢ r = λ e. d (sym e) in rw get_or-set_other (rw (ne_eqb r n d) (omega arith))
-
-  by_order : (r ≡ n) ⊎ ((r < n) ⊎ (n < r)) → get_or (set cs r (get_or cs r 0 - 1)) n 0 ≡ get_or cs n 0 - cond (r == n) 1 0
-  by_order (inl same) = rw (eq-eqb r n same, same) (rw get_or-set_same refl)
-  by_order (inr (inl m)) = other (λ e. omega arith)
-  by_order (inr (inr m)) = other (λ e. omega arith)
+counts_less_at cs x1 n l = search (rules, cases_order, get_or, set, cond, get_or-set_other, ne_eqb, eq-eqb, get_or-set_same)
 
 pub counts_less_few : (cs : List ℕ) (k : Option ℕ) (n : ℕ) → get_or (counts_less cs k) n 0 ≤ get_or cs n 0
 counts_less_few cs None n = omega arith

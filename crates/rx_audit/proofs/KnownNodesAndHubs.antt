@@ -1,12 +1,13 @@
 -- What is kept of the nodes and the hubs: of no events, and with another list of what may be due.
-use Rattle.rx_audit.proofs.Common.{Hubs, HasAll, hub_connected_at, hub_ended, hub_ended_at, nothing_kept, IsLawful, Event, ◌≡◌, ℕ, zero, suc, ◌<◌, ◌≤◌, Bool}
-use Rattle.rx_audit.proofs.Common.{List, [], ◌∷◌, length, Option, Some, None, refl, sym, ◌∙◌, arith, inl, inr, ◌⊎◌, get_or, slice_get, option_and_then}
-use Rattle.rx_audit.proofs.Common.{both_ways, false≢true, cases_lt, none-some, End, is_open, is_open_past, Nodes, AreChildren, last_below, keyed, AreLinked}
+use Rattle.rx_audit.proofs.Common.{Hubs, HasAll, hub_connected_at, hub_ended_at, nothing_kept, IsLawful, Event, ◌≡◌, ℕ, zero, suc, ◌<◌, ◌≤◌, Bool}
+use Rattle.rx_audit.proofs.Common.{List, [], ◌∷◌, length, Option, Some, refl, sym, ◌∙◌, arith, inl, inr, ◌⊎◌, get_or, slice_get, option_and_then}
+use Rattle.rx_audit.proofs.Common.{both_ways, false≢true, cases_lt, none-some, is_open, is_open_past, Nodes, AreChildren, last_below, keyed, AreLinked}
 use Rattle.rx_audit.proofs.Common.{AreHubs, IsFollowed, IsKnown, false_from_ne_true}
 use Rattle.rx_audit.proofs.KeysInRange.{connected_below}
 use Rattle.rx_audit.proofs.Neighbours.{last_unique}
 use Rattle.rx_audit.proofs.Latest.{is_key_of}
 use Rattle.rx_audit.proofs.DueLists.{acts_open}
+use Rattle.std.proofs.Common.{rules}
 
 pub followed_nothing : (size : ℕ) (nodes : Nodes) → AreChildren [] size nodes.children → AreLinked [] size nodes.subscribers → AreHubs [] size nodes.hubs
     → length nodes.marks.items ≡ size → IsFollowed [] size nodes
@@ -51,11 +52,7 @@ none_keyed h key g none = last_unique (keyed key g) (length h) 0 (omega arith)
     (λ j l m. false_from_ne_true _ (λ y. none j (is_key_of (key j) g y))) (λ j e. absurd (omega arith))
 
 ended_below : (h : List Event) → IsLawful nothing_kept h → (k g : ℕ) → hub_ended_at h k ≡ Some g → g < length h
-ended_below h law k g named = by_event (slice_get h k) named where
-  by_event : (o : Option Event) → option_and_then (hub_ended h) o ≡ Some g → g < length h
-  by_event None e = absurd (none-some g e)
-  by_event (Some (End c t)) e = connected_below h law c g e
-  by_event (Some _) e = absurd (none-some g e)
+ended_below h law k g named = search (rules, slice_get, option_and_then, length, none-some, connected_below)
 
 module _ (h : List Event) (law : IsLawful nothing_kept h) (size : ℕ) (known : Hubs) (w : AreHubs h size known) (room : length h ≤ size) where
   pub connection_word : (g word : ℕ) → word ≡ get_or known.connection.items g 0 → word ≡ last_below (keyed (hub_connected_at h) g) (length h)

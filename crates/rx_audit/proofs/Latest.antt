@@ -1,19 +1,17 @@
 -- The last number with a key.
 use Rattle.rx_audit.proofs.Common.{◌≡◌, ℕ, zero, suc, ◌<◌, ◌≤◌, Bool, true, false, List, Option, Some, None, refl, sym, ap, ◌∙◌, arith, cond, inl, inr, ◌⊎◌}
-use Rattle.rx_audit.proofs.Common.{◌==◌, [], ◌∷◌, ◌++◌, length, get_or, set, get_or-set_other, get_or-set_same, ◌≢◌, length-append, nat_lt, cases_Bool}
+use Rattle.rx_audit.proofs.Common.{[], ◌∷◌, ◌++◌, length, get_or, set, get_or-set_other, get_or-set_same, ◌≢◌, length-append, nat_lt, cases_Bool}
 use Rattle.rx_audit.proofs.Common.{cases_order, false≢true, eq-eqb, eqb-true, ne_eqb, ltb-true, none-some, same_Some, is_key, length-set, option_and_then}
 use Rattle.rx_audit.proofs.Common.{Event, parent_named, inner_named, parent, if_less, slice_get-append, slice_get_last, last_below, keyed, inner_named_at}
 use Rattle.rx_audit.proofs.Common.{table_with, link_with, AreChildren, Children}
 use Rattle.rx_event.proofs.Laws.Parents.{parent-append}
 use Rattle.rx_audit.specs.Latest.{IsLatest, IsLinked}
 use Rattle.std.proofs.lemmas.List.{set_past}
+use Rattle.std.proofs.Common.{rules}
 
 pub last_le : (p : ℕ → Bool) (k : ℕ) → last_below p k ≤ k
 last_le p zero = omega arith
-last_le p (suc k) = by_test (cases_Bool (p k)) (last_le p k) where
-  by_test : (p k ≡ true) ⊎ (p k ≡ false) → last_below p k ≤ k → cond (p k) (suc k) (last_below p k) ≤ suc k
-  by_test (inl y) before = rw y (omega arith)
-  by_test (inr n) before = rw n (omega arith)
+last_le p (suc k) = search (rules, cases_Bool, cond, last_le p k)
 
 pub last_holds : (p : ℕ → Bool) (k v : ℕ) → last_below p k ≡ suc v → p v ≡ true
 last_holds p zero v e = absurd (omega arith)
@@ -52,8 +50,7 @@ pub key_is : (o : Option ℕ) (n : ℕ) → o ≡ Some n → is_key o n ≡ true
 key_is o n e = ap (λ x. is_key x n) e ∙ eq-eqb n n refl
 
 pub is_key_of : (o : Option ℕ) (n : ℕ) → is_key o n ≡ true → o ≡ Some n
-is_key_of None n e = absurd (false≢true e)
-is_key_of (Some r) n e = ap Some (eqb-true r n e)
+is_key_of x0 n e = search (rules, false≢true, eqb-true)
 
 -- one number more ---------------------------------------------------------------------------------
 
@@ -61,35 +58,12 @@ is_key_of (Some r) n e = ap Some (eqb-true r n e)
 pub latest_none : (table : List ℕ) (key more : ℕ → Option ℕ) (bound : ℕ) → IsLatest table key bound → ((k : ℕ) → k < bound → more k ≡ key k)
     → more bound ≡ None → IsLatest table more (suc bound)
 latest_none table key more bound tied same none n l =
-    tied n l ∙ sym (ap (λ o. cond (is_key o n) (suc bound) (last_below (keyed more n) bound)) none
-    ∙ last_same (keyed more n) (keyed key n) bound (λ j m. ap (λ o. is_key o n) (same j m)))
+    search (rules, cond, last_same)
 
 -- or this key
 pub latest_some : (table : List ℕ) {key : ℕ → Option ℕ} (more : ℕ → Option ℕ) (bound p : ℕ) → IsLatest table key bound → ((k : ℕ) → k < bound → more k ≡ key k)
     → more bound ≡ Some p → p < length table → IsLatest (set table p (suc bound)) more (suc bound)
-latest_some table {key} more bound p tied same is inside n l = by_order (cases_order n p) where
-  step : last_below (keyed more n) (suc bound) ≡ cond (p == n) (suc bound) (last_below (keyed more n) bound)
-  step = ap (λ o. cond (is_key o n) (suc bound) (last_below (keyed more n) bound)) is
-
-  before : last_below (keyed more n) bound ≡ last_below (keyed key n) bound
-  before = last_same (keyed more n) (keyed key n) bound (λ j m. ap (λ o. is_key o n) (same j m))
-
-  within : n < length table
-  within = let s : length (set table p (suc bound)) ≡ length table = length-set table p (suc bound) in omega arith
-
-  other : n ≢ p → get_or (set table p (suc bound)) n 0 ≡ last_below (keyed more n) (suc bound)
-  other ne =
-      let apart : (p == n) ≡ false = ne_eqb p n (λ e. ne (sym e)) in
-      get_or-set_other table p n (suc bound) 0 ne ∙ tied n within
-      ∙ sym (step ∙ ap (λ b. cond b (suc bound) (last_below (keyed more n) bound)) apart ∙ before)
-
-  by_order : (n ≡ p) ⊎ ((n < p) ⊎ (p < n)) → get_or (set table p (suc bound)) n 0 ≡ last_below (keyed more n) (suc bound)
-  by_order (inl e) =
-      let yes_so : (p == n) ≡ true = eq-eqb p n (sym e) in
-      ap (λ k. get_or (set table p (suc bound)) k 0) e ∙ get_or-set_same table p (suc bound) 0 inside
-      ∙ sym (step ∙ ap (λ b. cond b (suc bound) (last_below (keyed more n) bound)) yes_so)
-  by_order (inr (inl m)) = other (omega arith)
-  by_order (inr (inr m)) = other (omega arith)
+latest_some table {key} more bound p tied same is inside n l = search (rules, cases_order, cond, last_same, length, set, length-set, get_or, ne_eqb, get_or-set_other, eq-eqb, get_or-set_same)
 
 pub linked_none : (next : List ℕ) (key more : ℕ → Option ℕ) (bound : ℕ) → IsLinked next key bound → ((k : ℕ) → k < bound → more k ≡ key k)
     → more bound ≡ None → IsLinked next more (suc bound)
@@ -132,21 +106,7 @@ one_longer h e = omega (arith, length-append h (e ∷ []))
 
 pub latest_with : (table : List ℕ) (key more : ℕ → Option ℕ) (bound : ℕ) (o : Option ℕ) → IsLatest table key bound → ((k : ℕ) → k < bound → more k ≡ key k)
     → more bound ≡ o → IsLatest (table_with table o (suc bound)) more (suc bound)
-latest_with table key more bound None tied same is = latest_none table key more bound tied same is
-latest_with table key more bound (Some p) tied same is = by_place (cases_order p (length table)) where
-  past : length table ≤ p → IsLatest (set table p (suc bound)) more (suc bound)
-  past g = rw (set_past table p (suc bound) g) (λ n l. tied n l ∙ sym (last_other n l)) where
-    last_other : (n : ℕ) → n < length table → last_below (keyed more n) (suc bound) ≡ last_below (keyed key n) bound
-    last_other n l =
-        let apart : (p == n) ≡ false = ne_eqb p n (λ e. absurd (omega arith)) in
-        ap (λ o. cond (is_key o n) (suc bound) (last_below (keyed more n) bound)) is
-        ∙ ap (λ b. cond b (suc bound) (last_below (keyed more n) bound)) apart
-        ∙ last_same (keyed more n) (keyed key n) bound (λ j m. ap (λ o. is_key o n) (same j m))
-
-  by_place : (p ≡ length table) ⊎ ((p < length table) ⊎ (length table < p)) → IsLatest (set table p (suc bound)) more (suc bound)
-  by_place (inl e) = past (omega arith)
-  by_place (inr (inl l)) = latest_some table more bound p tied same is l
-  by_place (inr (inr g)) = past (omega arith)
+latest_with table key more bound x4 tied same is = search (rules, latest_none, cases_order, length, set, set_past, ne_eqb, cond, last_same, latest_some)
 
 pub linked_with : (next last : List ℕ) {key more : ℕ → Option ℕ} {bound : ℕ} {o : Option ℕ} → IsLinked next key bound → IsLatest last key bound
     → ((k : ℕ) → k < bound → more k ≡ key k) → more bound ≡ o → bound < length next → ((p : ℕ) → o ≡ Some p → p < length last)
@@ -156,21 +116,13 @@ linked_with next last {o = Some p} tied from same is inside within =
     linked_some next p (get_or last p 0) tied same is inside (from p (within p refl))
 
 pub length-table_with : (table : List ℕ) (o : Option ℕ) (value : ℕ) → length (table_with table o value) ≡ length table
-length-table_with table None value = refl
-length-table_with table (Some p) value = length-set table p value
+length-table_with table x1 value = search (rules, length-set)
 
 pub length-link_with : (next last : List ℕ) (o : Option ℕ) (n : ℕ) → length (link_with next last o n) ≡ length next
-length-link_with next last None n = refl
-length-link_with next last (Some p) n = length-set next n (get_or last p 0)
+length-link_with next last x2 n = search (rules, length-set, get_or)
 
 pub less_than : (n : ℕ) (o : Option ℕ) (p : ℕ) → option_and_then (if_less n) o ≡ Some p → p < n
-less_than n None p e = absurd (none-some p e)
-less_than n (Some q) p e = by_test (cases_Bool (nat_lt q n)) where
-  by_test : (nat_lt q n ≡ true) ⊎ (nat_lt q n ≡ false) → p < n
-  by_test (inl y) =
-      let same : q ≡ p = same_Some q p (sym (ap (λ b. cond b (Some q) None) y) ∙ e) in
-      rw (← same) (ltb-true q n y)
-  by_test (inr z) = absurd (none-some p (sym (ap (λ b. cond b (Some q) None) z) ∙ e))
+less_than n x1 p e = search (rules, none-some, cases_Bool, nat_lt, same_Some, cond, ltb-true)
 
 pub children_more : {h : List Event} (e : Event) {size : ℕ} (old new : Children) → AreChildren h size old → length h < size
     → new.older.items ≡ link_with old.older.items old.youngest.items (option_and_then (if_less (length h)) (parent_named e)) (length h)

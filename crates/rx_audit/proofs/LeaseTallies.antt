@@ -8,14 +8,11 @@ use Rattle.rx_event.proofs.Laws.Steps.{may_return}
 use Rattle.rx_audit.specs.Tables.{IsTally}
 use Rattle.rx_audit.specs.Rules.{resource_of}
 use Rattle.rx_audit.proofs.Keys.{length-counts_with, counts_with_at, counts_few, length-counts_less, counts_less_at, counts_less_few}
+use Rattle.std.proofs.Common.{rules}
 
 -- a lease is one of some resource
 leased : (h : List Event) (l : ℕ) → option_map_or makes_lease (slice_get h l) false ≡ true → (q : ℕ) × (slice_get h l ≡ Some (Lease q))
-leased h l made = by_event (slice_get h l) refl made where
-  by_event : (o : Option Event) → slice_get h l ≡ o → option_map_or makes_lease o false ≡ true → (q : ℕ) × (slice_get h l ≡ Some (Lease q))
-  by_event (Some (Lease q)) found made = (q, found)
-  by_event None found made = absurd (false≢true made)
-  by_event (Some _) found made = absurd (false≢true made)
+leased h l made = search (rules, slice_get, option_map_or, false≢true)
 
 module _ (h : List Event) (old : List ℕ) (law : IsLawful nothing_kept h) (tied : IsTally old (leases_of h)) where
   module _ (e : Event) (key : Option ℕ) where
@@ -35,9 +32,7 @@ module _ (h : List Event) (old : List ℕ) (law : IsLawful nothing_kept h) (tied
   quiet : (e : Event) → leased_of e ≡ None → returned_of e ≡ None → ((n : ℕ) → leases_of (h ++ e ∷ []) n ≡ leases_of h n) →
       (n : ℕ) → n < length old → get_or (counted e (option_and_then (resource_of h) (returned_of e))) n 0 ≡ leases_of (h ++ e ∷ []) n
   quiet e none back same n less =
-      at_each e (option_and_then (resource_of h) (returned_of e)) n less ∙
-      (λ i. (leases_of h n + cond (is_key (none i) n) 1 0) - cond (is_key (option_and_then (resource_of h) (back i)) n) 1 0) ∙
-      (let s = same n in omega arith)
+      search (rules, option_and_then, cond)
 
   pub leases_found : (e : Event) → MayFollow nothing_kept h e → IsTally (counted e (option_and_then (resource_of h) (returned_of e))) (leases_of (h ++ e ∷ []))
   leases_found e next n within =
@@ -61,7 +56,4 @@ module _ (h : List Event) (old : List ℕ) (law : IsLawful nothing_kept h) (tied
 pub leases_few : (old : List ℕ) (a b : Option ℕ) (many : ℕ) → ((n : ℕ) → get_or old n 0 ≤ many)
     → (n : ℕ) → get_or (counts_less (counts_with old a) b) n 0 ≤ many + 1
 leases_few old a b many few n =
-    let x = counts_less_few (counts_with old a) b n in
-    let y = counts_few old a n in
-    let z = few n in
-    omega arith
+    search (rules, counts_less_few, counts_few)

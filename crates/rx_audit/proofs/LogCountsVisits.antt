@@ -6,6 +6,7 @@ use Rattle.std.proofs.Math.Seq.{drop-cons}
 use Rattle.std.proofs.lemmas.List.{drop_all}
 use Rattle.rx_audit.proofs.FlowIsVisits.{sum_by-mono, flow-more, visits_many, IsWhole, visits_whole}
 use Rattle.rx_audit.proofs.VisitLogEntries.{count_all}
+use Rattle.std.proofs.Common.{rules}
 
 times-mono : (f g : ℕ → ℕ) → ((n : ℕ) → f n ≤ g n) → (log : List Visit) → sum_by (times f) log ≤ sum_by (times g) log
 times-mono f g le [] = omega arith
@@ -34,7 +35,7 @@ next_entry f log i v l is =
 
 followed_entry : (f : ℕ → ℕ) (log : List Visit) (i : ℕ) (v : Visit) → i < length log → v ≡ get_or log i v
     → sum_by (times f) (take (i + 1) log) ≡ sum_by (times f) (take i log) + v.count * f v.node
-followed_entry f log i v l is = sum_by_more (times f) log i v l ∙ ap (λ (u : Visit). sum_by (times f) (take i log) + u.count * f u.node) (sym is)
+followed_entry f log i v l is = search (rules, sum_by_more, sum_by, take, is)
 
 whole_sum : (f : ℕ → ℕ) (log : List Visit) (i : ℕ) → sum_by (times f) (take i log) + sum_by (times f) (drop i log) ≡ sum_by (times f) log
 whole_sum f log i = sym (ap (sum_by (times f)) (sym (take-append-drop i log)) ∙ sum_by-append (times f) (take i log) (drop i log))

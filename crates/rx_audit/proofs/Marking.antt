@@ -1,9 +1,9 @@
 -- The marks of the open nodes, one event after the other.
-use Rattle.rx_audit.proofs.Common.{◌≡◌, ℕ, ◌+◌, ◌<◌, ◌≤◌, Bool, true, false, List, [], ◌∷◌, ◌++◌, length, Option, Some, None, refl, sym, ap, ◌∙◌, arith, inl}
+use Rattle.rx_audit.proofs.Common.{◌≡◌, ℕ, ◌+◌, ◌<◌, ◌≤◌, Bool, true, false, List, [], ◌∷◌, ◌++◌, length, Option, Some, None, sym, ap, ◌∙◌, arith, inl}
 use Rattle.rx_audit.proofs.Common.{inr, ◌⊎◌, ◌==◌, ◌≢◌, get_or, set, get_or-set_other, get_or-set_same, slice_get, length-append, false≢true, cases_Bool}
 use Rattle.rx_audit.proofs.Common.{cases_order, both_ways, eqb-true, and_parts, lt-ltb, and_from, none-some, same_Some, length-set, option_map_or, nothing_kept}
-use Rattle.rx_audit.proofs.Common.{Terminal, Source, Inner, Notifier, Kind, Event, Open, Item, Decline, End, Close, Marks, is_merging, is_switch, is_source_of}
-use Rattle.rx_audit.proofs.Common.{is_inner_of, at, parent, places, is_open, is_switched_inner, is_open_child_of, is_some, length-range_with_len, open_old}
+use Rattle.rx_audit.proofs.Common.{Terminal, Source, Inner, Notifier, Kind, Event, Open, Decline, End, Close, Marks, is_merging, is_switch, is_source_of}
+use Rattle.rx_audit.proofs.Common.{is_inner_of, at, parent, is_open, is_switched_inner, is_some, length-range_with_len, open_old}
 use Rattle.rx_audit.proofs.Common.{marks_of, blank_marks, after_source, after_notifier, after_inner, after_decline, after_child, open_children, owed, MayFollow}
 use Rattle.rx_audit.proofs.Common.{IsLawful, parent_open, is_open_within, may_end, event_at, touched_by, IsKept, IsUntouched}
 use Rattle.std.proofs.lemmas.List.Sums.{count_by-le-length}
@@ -15,6 +15,7 @@ use Rattle.rx_event.proofs.Laws.MarksEnds.{marks_closed}
 use Rattle.rx_event.proofs.Laws.MarksTouched.{marks_untouched, marks-source_at, marks-notifier_at, marks-inner_at_flat, marks-inner_at_first}
 use Rattle.rx_event.proofs.Laws.MarksTouched.{marks-inner_at_next, marks-decline_at, marks-end_at, child_counted}
 use Rattle.rx_audit.specs.Marking.{IsTop}
+use Rattle.std.proofs.Common.{rules}
 
 abbrev is_close : Event → Bool
 is_close (Close c) = true
@@ -22,49 +23,23 @@ is_close _ = false
 
 -- what is touched is open
 pub touched_open : (h : List Event) (e : Event) (p : ℕ) → MayFollow nothing_kept h e → touched_by h e ≡ Some p → is_open h p ≡ true
-touched_open h (Open place kind) p next named = may_name nothing_kept next named
-touched_open h (Decline f) p next named = rw (← same_Some f p named) (may_decline nothing_kept next).0
-touched_open h (End c t) p next named = parent_open h c p (may_end nothing_kept next) named
-touched_open h _ p next named = absurd (none-some p named)
+touched_open h x1 p next named = search (rules, may_name, same_Some, may_decline, parent_open, may_end, none-some)
 
 apart : (q n : ℕ) → (Some q ≡ Some n → ⊥) → (q == n) ≡ false
-apart q n differs = by_test (q == n) refl where
-  by_test : (b : Bool) → (q == n) ≡ b → b ≡ false
-  by_test false e = refl
-  by_test true e = absurd (differs (ap Some (eqb-true q n e)))
+apart q n differs = search (rules, eqb-true)
 
 child_apart : (h : List Event) (n c : ℕ) → (parent h c ≡ Some n → ⊥) → option_map_or (λ q. q == n) (parent h c) false ≡ false
-child_apart h n c differs = by_parent (parent h c) differs where
-  by_parent : (o : Option ℕ) → (o ≡ Some n → ⊥) → option_map_or (λ q. q == n) o false ≡ false
-  by_parent None d = refl
-  by_parent (Some q) d = apart q n d
+child_apart h n c differs = search (rules, option_map_or, apart)
 
 -- where another node is touched, this one is not, but by a closing
 untouched : (h : List Event) (e : Event) (n : ℕ) → IsUntouched h e → ((c : ℕ) → e ≡ Close c → ⊥) → (touched_by h e ≡ Some n → ⊥) → touches h n e ≡ false
-untouched h (Open (Source q) kind) n no_item no_close differs = apart q n differs
-untouched h (Open (Inner q) kind) n no_item no_close differs = apart q n differs
-untouched h (Open (Notifier q) kind) n no_item no_close differs = apart q n differs
-untouched h (Decline q) n no_item no_close differs = apart q n differs
-untouched h (End c t) n no_item no_close differs = child_apart h n c differs
-untouched h (Item l v) n no_item no_close differs = no_item n refl
-untouched h (Close c) n no_item no_close differs = absurd (no_close c refl)
-untouched h _ n no_item no_close differs = refl
+untouched h x1 n no_item no_close differs = search (rules, apart, child_apart)
 
 -- the marks of an older node that is not touched
 pub marks_apart : {h : List Event} (e : Event) → IsLawful nothing_kept h → MayFollow nothing_kept h e → IsUntouched h e → (n : ℕ) → n < length h
     → is_open (h ++ e ∷ []) n ≡ true
     → (touched_by h e ≡ Some n → ⊥) → marks_of nothing_kept (h ++ e ∷ []) n ≡ marks_of nothing_kept h n
-marks_apart {h} e law next no_item n l o differs = by_close (cases_Bool (is_close e)) where
-  by_event : (x : Event) → e ≡ x → is_close x ≡ true → marks_of nothing_kept (h ++ e ∷ []) n ≡ marks_of nothing_kept h n
-  by_event (Close c) same is =
-      let now : MayFollow nothing_kept h (Close c) = rw (← same) next in
-      let stays : is_open (h ++ Close c ∷ []) n ≡ true = rw (← same) o in
-      rw same (marks_closed nothing_kept h c law now n stays)
-  by_event _ same is = absurd (false≢true is)
-
-  by_close : (is_close e ≡ true) ⊎ (is_close e ≡ false) → marks_of nothing_kept (h ++ e ∷ []) n ≡ marks_of nothing_kept h n
-  by_close (inl is) = by_event e refl is
-  by_close (inr other) = marks_untouched h e law next n l o (untouched h e n no_item (λ c same. both_ways (is_close e) other (ap is_close same)) differs)
+marks_apart {h} e law next no_item n l o differs = search (rules, cases_Bool, marks_closed, false≢true, marks_untouched, untouched, both_ways)
 
 -- the list after the event: at the node that it touches, and at the new place
 pub kept_more : {h : List Event} {e : Event} (ms : List Marks) {p : ℕ} {m : Marks} → IsLawful nothing_kept h → MayFollow nothing_kept h e
@@ -110,28 +85,19 @@ kept_more {h} {e} ms {p} {m} law next no_item kept room named is n o = by_order 
 pub kept_same : {h : List Event} (e : Event) (ms : List Marks) → IsLawful nothing_kept h → MayFollow nothing_kept h e → IsUntouched h e → IsKept h ms
     → length h < length ms
     → touched_by h e ≡ None → IsKept (h ++ e ∷ []) (set ms (length h) blank_marks)
-kept_same {h} e ms law next no_item kept room none n o = by_order (cases_order n (length h)) where
-  by_order : (n ≡ length h) ⊎ ((n < length h) ⊎ (length h < n)) → get_or (set ms (length h) blank_marks) n blank_marks ≡ marks_of nothing_kept (h ++ e ∷ []) n
-  by_order (inl same) =
-      ap (λ k. get_or (set ms (length h) blank_marks) k blank_marks) same ∙ get_or-set_same ms (length h) blank_marks blank_marks room
-      ∙ sym (ap (marks_of nothing_kept (h ++ e ∷ [])) same ∙ marks-new nothing_kept h e law next)
-  by_order (inr (inl l)) =
-      let ne : n ≢ length h = omega arith in
-      get_or-set_other ms (length h) n blank_marks blank_marks ne ∙ kept n (open_old h e n l o)
-      ∙ sym (marks_apart e law next no_item n l o (λ at_n. none-some n (sym none ∙ at_n)))
-  by_order (inr (inr g)) = absurd (let l = is_open_within (h ++ e ∷ []) n o in omega (arith, length-append h (e ∷ [])))
+kept_same {h} e ms law next no_item kept room none n o = search (rules, cases_order, length, get_or, set, get_or-set_same, marks-new, get_or-set_other, open_old, marks_apart, none-some, is_open_within, length-append)
 
 -- each event's change ------------------------------------------------------------------------------
 
 pub source_changes : {h : List Event} (e : Event) (f p : ℕ) (kind : Kind) → e ≡ Open (Source f) kind → IsLawful nothing_kept h
     → MayFollow nothing_kept h e → touched_by h e ≡ Some p
     → marks_of nothing_kept (h ++ e ∷ []) p ≡ after_source (marks_of nothing_kept h p)
-source_changes {h} e f p kind same = rw same (λ law next named. rw (← same_Some f p named) (marks-source_at nothing_kept h f kind law next))
+source_changes {h} e f p kind same = search (rules, same_Some, marks-source_at)
 
 pub notifier_changes : {h : List Event} (e : Event) (f p : ℕ) (kind : Kind) → e ≡ Open (Notifier f) kind → IsLawful nothing_kept h
     → MayFollow nothing_kept h e → touched_by h e ≡ Some p
     → marks_of nothing_kept (h ++ e ∷ []) p ≡ after_notifier (marks_of nothing_kept h p)
-notifier_changes {h} e f p kind same = rw same (λ law next named. rw (← same_Some f p named) (marks-notifier_at nothing_kept h f kind law next))
+notifier_changes {h} e f p kind same = search (rules, same_Some, marks-notifier_at)
 
 pub decline_changes : (h : List Event) (e : Event) (f p : ℕ) → e ≡ Decline f → IsLawful nothing_kept h → MayFollow nothing_kept h e → touched_by h e ≡ Some p
     → marks_of nothing_kept (h ++ e ∷ []) p ≡ after_decline (marks_of nothing_kept h p)
@@ -173,7 +139,7 @@ inner_changes {h} {f} {p} {kind} top b same = rw same
 
 pub children_few : (h : List Event) (n : ℕ) → open_children h n ≤ length h
 unfolding open_children
-children_few h n = let l = count_by-le-length (is_open_child_of h n) (places h) in let s = length-range_with_len 0 (length h) in omega arith
+children_few h n = search (rules, count_by-le-length, length-range_with_len, length)
 
 pub inner_owes : (h : List Event) (e : Event) (f p : ℕ) (kind : Kind) → e ≡ Open (Inner f) kind → MayFollow nothing_kept h e → touched_by h e ≡ Some p
     → 0 < owed nothing_kept h p

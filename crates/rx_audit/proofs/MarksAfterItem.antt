@@ -1,27 +1,27 @@
 -- An item in a history without hubs: what it does to marks, and what is due after it.
-use Rattle.rx_audit.proofs.Common.{◌≡◌, ℕ, ℤ, ◌+◌, ◌<◌, Bool, true, false, List, [], ◌∷◌, ◌++◌, length, Option, Some, None, refl, sym, ap, ◌∙◌, arith, inl, inr}
+use Rattle.rx_audit.proofs.Common.{◌≡◌, ℕ, ℤ, ◌+◌, ◌<◌, Bool, true, false, List, [], ◌∷◌, ◌++◌, length, Option, Some, refl, sym, ap, ◌∙◌, arith, inl, inr}
 use Rattle.rx_audit.proofs.Common.{◌⊎◌, ◌==◌, cond, ◌||◌, ◌&&◌, cases_Bool, false≢true, eq-eqb, eqb-true, none-some, same_Some, list_any, sum_by, count_by}
-use Rattle.rx_audit.proofs.Common.{option_or, is_some, nothing_kept, Terminal, Flat, Switch, Event, Open, Item, Marks, is_open, stop_at, climb, owed}
+use Rattle.rx_audit.proofs.Common.{option_or, is_some, nothing_kept, Terminal, Event, Item, Marks, is_open, stop_at, climb, owed}
 use Rattle.rx_audit.proofs.Common.{is_firing_of, is_projection_to, marks_of, terminal_due, IsLawful, MayFollow, is_open_within, slice_get-append, event_at}
 use Rattle.rx_audit.proofs.Common.{Visit, IsReached, is_key, IsNoted, leaf_of, IsKept, IsCovered, IsVisited, visited_marks, fired_key, projected_key, due_made}
 use Rattle.rx_audit.proofs.Common.{or_false}
 use Rattle.rx_event.specs.Climb.{stops}
 use Rattle.rx_event.specs.Moments.{is_fired}
-use Rattle.rx_event.specs.Marks.{completed_if, is_over}
+use Rattle.rx_event.specs.Marks.{completed_if}
 use Rattle.rx_event.proofs.Laws.Openness.{open_before}
 use Rattle.rx_event.proofs.Laws.MarksAfter.{marks-item}
 use Rattle.rx_audit.proofs.FoundAfterEvent.{same_any, firing_stops, projection_stops, times_cond}
 use Rattle.rx_audit.proofs.VisitsChangeMarks.{with_two, same_two}
 use Rattle.rx_audit.proofs.DueListCovers.{due_parts, due_made_at}
+use Rattle.std.proofs.Common.{rules}
 
 pub item_of : (e : Event) (leaf : ℕ) → leaf_of e ≡ Some leaf → (v : ℤ) × (e ≡ Item leaf v)
-item_of (Item l v) leaf is = (v, ap (λ k. Item k v) (same_Some l leaf is))
-item_of _ leaf is = absurd (none-some leaf is)
+item_of x0 leaf is = search (rules, same_Some, none-some)
 
 fires_same : (h : List Event) (leaf n : ℕ) (log : List Visit) → IsReached h leaf log
     → list_any (λ v. is_key (fired_key h v.node) n) log ≡ list_any (is_firing_of n) (stops h leaf)
 unfolding stops
-fires_same h leaf n log r = same_any h leaf log (λ m. is_key (fired_key h m) n) r ∙ sym (firing_stops (stop_at h) n (climb h leaf))
+fires_same h leaf n log r = search (rules, same_any, firing_stops)
 
 owes_same : (h : List Event) (leaf n : ℕ) (log : List Visit) → IsReached h leaf log
     → sum_by (λ v. cond (is_key (projected_key h v.node) n) v.count 0) log ≡ count_by (is_projection_to n) (stops h leaf)
@@ -44,25 +44,17 @@ kept_visit {h} {leaf} v {log} after law next r kept room w n o =
 
 -- what more is owed makes nothing due
 over_still : (s o z more : Bool) → (more ≡ true → z ≡ true) → is_some (completed_if ((s && o) && more)) ≡ true → is_some (completed_if ((s && o) && z)) ≡ true
-over_still true true z true so y = rw (so refl) refl
-over_still true true z false so y = absurd (false≢true y)
-over_still true false z more so y = absurd (false≢true y)
-over_still false o z more so y = absurd (false≢true y)
+over_still x0 x1 z x3 so y = search (rules, false≢true)
 
 merging_still : (c : Option Terminal) (a b : Bool) → (is_some (completed_if a) ≡ true → is_some (completed_if b) ≡ true)
     → is_some (option_or c (completed_if a)) ≡ true → is_some (option_or c (completed_if b)) ≡ true
-merging_still (Some t) a b so y = refl
-merging_still None a b so y = so y
+merging_still x0 a b so y = search rules
 
 none_owed : (a k : ℕ) → (a + k == 0) ≡ true → (a == 0) ≡ true
 none_owed a k e = let s : a + k ≡ 0 = eqb-true (a + k) 0 e in eq-eqb a 0 (omega arith)
 
 still_due : (made : Event) (m : Marks) (k : ℕ) → is_some (terminal_due made (with_two m m.fired (m.owed + k))) ≡ true → is_some (terminal_due made m) ≡ true
-still_due (Open place Flat) m k y = merging_still m.child_terminal (is_over (with_two m m.fired (m.owed + k))) (is_over m)
-    (over_still m.source_completed (m.open_children == 0) (m.owed == 0) (m.owed + k == 0) (none_owed m.owed k)) y
-still_due (Open place Switch) m k y = merging_still m.child_terminal (is_over (with_two m m.fired (m.owed + k))) (is_over m)
-    (over_still m.source_completed (m.open_children == 0) (m.owed == 0) (m.owed + k == 0) (none_owed m.owed k)) y
-still_due _ m k y = y
+still_due x0 m k y = search (rules, merging_still, with_two, over_still, none_owed)
 
 covered_visit : {h : List Event} {leaf : ℕ} (v : ℤ) {log : List Visit} {old new : List Marks} (before after : List ℕ) → IsLawful nothing_kept h
     → MayFollow nothing_kept h (Item leaf v)

@@ -4,6 +4,7 @@ use Rattle.rx_audit.proofs.Common.{set, get_or-set_other, get_or-set_same, lengt
 use Rattle.rx_audit.proofs.Common.{number_of}
 use Rattle.rx_audit.specs.Listed.{IsNext}
 use Rattle.rx_audit.proofs.Latest.{last_le, last_holds, last_none, last_same}
+use Rattle.std.proofs.Common.{rules}
 
 -- the last number below the bound is told by what stands after it
 pub last_unique : (p : ℕ → Bool) (k v : ℕ) → v ≤ k → ((j : ℕ) → v ≤ j → j < k → p j ≡ false) → ((j : ℕ) → v ≡ suc j → p j ≡ true) → last_below p k ≡ v
@@ -39,11 +40,7 @@ module _ {p q : ℕ → Bool} {s : ℕ} (less : IsLess p q s) where
   was k y = sym (less.same k (off k y)) ∙ y
 
   none_still : (k : ℕ) → p k ≡ false → q k ≡ false
-  none_still k none = by_order (cases_order k s) where
-    by_order : (k ≡ s) ⊎ ((k < s) ⊎ (s < k)) → q k ≡ false
-    by_order (inl is) = ap q is ∙ less.gone
-    by_order (inr (inl l)) = less.same k (omega arith) ∙ none
-    by_order (inr (inr l)) = less.same k (omega arith) ∙ none
+  none_still k none = search (rules, cases_order)
 
   last_still : (k : ℕ) → last_below p k ≢ suc s → last_below q k ≡ last_below p k
   last_still k apart = last_unique q k (last_below p k) (last_le p k) (λ j l m. none_still j (last_none p k j l m))

@@ -1,25 +1,21 @@
 -- Which subscribers are on the lists of their hubs after one more event.
-use Rattle.rx_audit.proofs.Common.{◌≡◌, ℕ, ◌<◌, Bool, true, false, List, [], ◌∷◌, ◌++◌, length, Some, refl, sym, ap, subst, ◌∙◌, arith, inl, inr, ◌⊎◌, get_or}
-use Rattle.rx_audit.proofs.Common.{option_map_or, cases_Bool, cases_order, both_ways, false≢true, nothing_kept, Sub, Event, Open, is_subscriber_of, makes_hub}
-use Rattle.rx_audit.proofs.Common.{at, is_open, same_Some, IsHubbed, MayFollow, at-append, at_within, slice_get_last, Subscribers, AreClosed, AreOpenListed}
+use Rattle.rx_audit.proofs.Common.{◌≡◌, ℕ, ◌<◌, Bool, true, false, List, [], ◌∷◌, ◌++◌, length, refl, sym, ap, ◌∙◌, arith, inl, inr, ◌⊎◌, get_or}
+use Rattle.rx_audit.proofs.Common.{option_map_or, cases_Bool, cases_order, both_ways, false≢true, nothing_kept, Event, is_subscriber_of}
+use Rattle.rx_audit.proofs.Common.{at, is_open, same_Some, MayFollow, at-append, at_within, slice_get_last, Subscribers, AreClosed, AreOpenListed}
 use Rattle.rx_audit.proofs.Common.{AreLetGo, stays_open}
 use Rattle.rx_event.proofs.Laws.Hubs.{may_subscribe, subscriber_found}
 use Rattle.rx_event.proofs.Laws.Totals.{is_open_new}
 use Rattle.rx_audit.proofs.StaysOpen.{is_open_older, stays_closed}
 use Rattle.rx_audit.proofs.Latest.{one_longer}
+use Rattle.std.proofs.Common.{rules}
 
 subscriber_opens : (g : ℕ) (e : Event) → is_subscriber_of g e ≡ true → (h : List Event) → MayFollow nothing_kept h e → is_open (h ++ e ∷ []) (length h) ≡ true
-subscriber_opens g (Open place kind) is h next = is_open_new nothing_kept h (Open place kind) next
-subscriber_opens g _ is h next = absurd (false≢true is)
+subscriber_opens g x1 is h next = search (rules, is_open_new, false≢true)
 
 -- the hub of a new subscriber is older
 pub hub_older : (h : List Event) (e : Event) (g : ℕ) → MayFollow nothing_kept h e → is_subscriber_of g e ≡ true → g < length h
 hub_older h e g next is =
-    let found = subscriber_found g (Some e) is in
-    let may : MayFollow nothing_kept h (Open found.0 (Sub g)) =
-    subst (λ (x : Event). MayFollow nothing_kept h x) (same_Some e (Open found.0 (Sub g)) found.1) next in
-    let hubbed : IsHubbed h found.0 (Sub g) = may_subscribe nothing_kept may in
-    at_within makes_hub h g hubbed.0
+    search (rules, subscriber_found, same_Some, may_subscribe, at_within)
 
 -- where the marks of the closed nodes are taken away first, and a new subscriber gets one then
 pub open_listed_after : {h : List Event} {e : Event} (old new : Subscribers) {marks : List Bool} {closed : List ℕ} → MayFollow nothing_kept h e

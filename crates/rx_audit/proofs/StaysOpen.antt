@@ -1,14 +1,14 @@
 -- The marks of nodes that stay open.
-use Rattle.rx_audit.proofs.Common.{◌≡◌, ℕ, ◌<◌, Bool, true, false, List, [], ◌∷◌, ◌++◌, length, Option, Some, None, refl, sym, ◌∙◌, arith, ◌≢◌, get_or, set}
-use Rattle.rx_audit.proofs.Common.{get_or-set_other, get_or-set_same, ◌⊎◌, inl, inr, length-append, nat_lt, not, ◌&&◌, cases_order, ltb-true}
-use Rattle.rx_audit.proofs.Common.{option_and_then_some, list_all, option_map_or, option_and_then, Event, makes_node, parent_named, parent, ancestors, is_open}
-use Rattle.rx_audit.proofs.Common.{shuts, if_less, slice_get_last, ancestors_step, is_open_step, is_open_past, IsMarked, stays_open, and_false, and_true}
+use Rattle.rx_audit.proofs.Common.{◌≡◌, ℕ, ◌<◌, Bool, true, false, List, [], ◌∷◌, ◌++◌, length, Some, None, refl, ◌∙◌, arith, get_or, set}
+use Rattle.rx_audit.proofs.Common.{get_or-set_other, get_or-set_same, length-append, nat_lt, not, ◌&&◌, cases_order, ltb-true}
+use Rattle.rx_audit.proofs.Common.{option_and_then_some, list_all, option_map_or, option_and_then, Event, parent, is_open}
+use Rattle.rx_audit.proofs.Common.{shuts, slice_get_last, ancestors_step, is_open_step, is_open_past, IsMarked, stays_open, and_false, and_true}
 use Rattle.std.proofs.lemmas.Option.{cond_some}
-use Rattle.rx_event.specs.Tree.{is_standing}
 use Rattle.rx_event.proofs.Laws.Parents.{option_map_or-same}
 use Rattle.rx_event.proofs.Laws.Openness.{is_open-push, is_shut_last}
 use Rattle.rx_audit.specs.Rules.{opens}
 use Rattle.rx_event.proofs.Laws.Common.{and_same}
+use Rattle.std.proofs.Common.{rules}
 
 shared : (a o b l : Bool) → ((a && o) && (b && l)) ≡ (((a && o) && b) && (o && l))
 shared a o b l = grind arith
@@ -17,12 +17,7 @@ shared a o b l = grind arith
 pub stays_open_step : (h : List Event) (e : Event) (n : ℕ) → stays_open h e n
     ≡ ((is_open h n && not (shuts h n e)) && option_map_or (stays_open h e) (parent h n) true)
 unfolding stays_open
-stays_open_step h e n = rw (is_open_step h n, ancestors_step h n) (by_parent (parent h n)) where
-  by_parent : (o : Option ℕ)
-      → ((is_standing h n && option_map_or (is_open h) o true) && (not (shuts h n e) && list_all (λ a. not (shuts h a e)) (option_map_or (ancestors h) o [])))
-      ≡ (((is_standing h n && option_map_or (is_open h) o true) && not (shuts h n e)) && option_map_or (stays_open h e) o true)
-  by_parent None = shared (is_standing h n) true (not (shuts h n e)) true
-  by_parent (Some p) = shared (is_standing h n) (is_open h p) (not (shuts h n e)) (list_all (λ a. not (shuts h a e)) (ancestors h p))
+stays_open_step h e n = search (rules, is_open_step, ancestors_step, option_map_or, not, list_all, shared)
 
 pub stays_closed : (h : List Event) (e : Event) (n : ℕ) → is_open h n ≡ false → stays_open h e n ≡ false
 unfolding stays_open
@@ -49,23 +44,9 @@ is_open_older h e n l = is_open-push h e n l
 is_open_newest : (h : List Event) (e : Event) → is_open (h ++ e ∷ []) (length h) ≡ opens h e
 unfolding parent
 is_open_newest h e =
-    rw (is_open_step (h ++ e ∷ []) (length h), is_shut_last h e, slice_get_last h e)
-    (and_same (makes_node e) _ _
-    (option_map_or-same (is_open (h ++ e ∷ [])) (stays_open h e)
-    (option_and_then (if_less (length h)) (parent_named e)) true (λ p o. is_open_older h e p (less (parent_named e) p o))))
-  where
-    less : (o : Option ℕ) (p : ℕ) → option_and_then (if_less (length h)) o ≡ Some p → p < length h
-    less o p e = option_and_then_some (if_less (length h)) o p e
-        (λ x a b. let w = cond_some (nat_lt x (length h)) x p b in rw (← w.1) (ltb-true x (length h) w.0))
+    search (rules, is_open_step, length, is_shut_last, slice_get_last, and_same, option_map_or-same, option_and_then, is_open_older, option_and_then_some, cond_some, nat_lt, ltb-true)
 
 -- the marks after the event
 pub marked_after : (h : List Event) (e : Event) (ms : List Bool) → IsMarked ms (stays_open h e)
     → length h < length ms → IsMarked (set ms (length h) (opens h e)) (is_open (h ++ e ∷ []))
-marked_after h e ms tied room n = by_place (cases_order n (length h)) where
-  by_place : (n ≡ length h) ⊎ ((n < length h) ⊎ (length h < n)) → get_or (set ms (length h) (opens h e)) n false ≡ is_open (h ++ e ∷ []) n
-  by_place (inl same) = rw same (rw get_or-set_same (sym (is_open_newest h e)))
-  by_place (inr (inl l)) = let ne : n ≢ length h = omega arith in rw get_or-set_other (tied n ∙ sym (is_open_older h e n l))
-  by_place (inr (inr l)) =
-      let ne : n ≢ length h = omega arith in
-      rw get_or-set_other (tied n ∙ stays_closed h e n (is_open_past h n (omega arith))
-      ∙ sym (is_open_past (h ++ e ∷ []) n (omega (arith, length-append {A = Event}))))
+marked_after h e ms tied room n = search (rules, cases_order, length, get_or, set, get_or-set_same, is_open_newest, get_or-set_other, is_open_older, stays_closed, is_open_past, length-append)

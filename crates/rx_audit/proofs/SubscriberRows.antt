@@ -13,6 +13,7 @@ use Rattle.rx_audit.proofs.Latest.{last_le, last_holds, one_longer, length-table
 use Rattle.rx_audit.proofs.ClosingBelow.{within_marks, cleared}
 use Rattle.rx_audit.proofs.TestsDecideRules.{same_subscribed, subscriber_at, at_subscriber}
 use Rattle.rx_audit.proofs.Neighbours.{row_less, row_more, row_apart}
+use Rattle.std.proofs.Common.{rules}
 
 -- a mark that was taken away is gone
 pub mark_gone : (ms : List Bool) (c : ℕ) → get_or (set ms c false) c false ≡ false
@@ -30,7 +31,7 @@ on_marked h ms g k y = within_marks ms k (and_parts (at (is_subscriber_of g) h k
 
 -- on the list of one hub alone
 on_one : (h : List Event) (ms : List Bool) {g : ℕ} (j k n : ℕ) → on_list h ms g k ≡ true → on_list h ms j n ≡ true → k ≡ n → g ≡ j
-on_one h ms {g} j k n one other same = one_hub h k g j (and_parts _ _ one).0 (ap (at (is_subscriber_of j) h) same ∙ (and_parts _ _ other).0)
+on_one h ms {g} j k n one other same = search (rules, one_hub, and_parts)
 
 pub rows_none : (size : ℕ) (s : Subscribers) → s.listed.items ≡ replicate size false → s.last.items ≡ replicate size 0 → s.before.items ≡ replicate size 0
     → s.after.items ≡ replicate size 0 → AreLinked [] size s
@@ -55,12 +56,10 @@ module _ (h : List Event) (size : ℕ) (old new : Subscribers) (w : AreLinked h 
   on_old = on_list h old.listed.items
 
   on_other : (g k : ℕ) → k ≢ s → on_list h new.listed.items g k ≡ on_list h old.listed.items g k
-  on_other g k apart = ap (λ b. at (is_subscriber_of g) h k && b)
-      (ap (λ (ms : List Bool). get_or ms k false) is_listed ∙ get_or-set_other old.listed.items s k false false apart)
+  on_other g k apart = search (rules, get_or, get_or-set_other)
 
   on_gone : (g : ℕ) → on_list h new.listed.items g s ≡ false
-  on_gone g = ap (λ b. at (is_subscriber_of g) h s && b) (ap (λ (ms : List Bool). get_or ms s false) is_listed ∙ mark_gone old.listed.items s)
-      ∙ and_false (at (is_subscriber_of g) h s)
+  on_gone g = search (rules, get_or, mark_gone, and_false)
 
   on_was : (g k : ℕ) → on_list h new.listed.items g k ≡ true → on_list h old.listed.items g k ≡ true
   on_was g k y = sym (on_other g k (λ same. both_ways _ (ap (on_list h new.listed.items g) same ∙ on_gone g) y)) ∙ y
@@ -308,16 +307,11 @@ rows_more {h} e {size} {g} {old} {new} w room inside hub put = record {
 
 pub falling_last : (p : ℕ → Bool) (k : ℕ) → falling p k ≡ falling p (last_below p k)
 falling_last p zero = refl
-falling_last p (suc k) = by_test (p k) refl (falling_last p k) where
-  by_test : (b : Bool) → p k ≡ b → falling p k ≡ falling p (last_below p k)
-      → cond b (k ∷ falling p k) (falling p k) ≡ falling p (cond b (suc k) (last_below p k))
-  by_test true y rest = sym (ap (λ b. cond b (k ∷ falling p k) (falling p k)) y)
-  by_test false z rest = rest
+falling_last p (suc k) = search (rules, cond, falling_last p k)
 
 falling_same : (p q : ℕ → Bool) → ((k : ℕ) → p k ≡ q k) → (k : ℕ) → falling p k ≡ falling q k
 falling_same p q same zero = refl
-falling_same p q same (suc k) = ap (λ b. cond b (k ∷ falling p k) (falling p k)) (same k)
-    ∙ ap (λ (ks : List ℕ). cond (q k) (k ∷ ks) ks) (falling_same p q same k)
+falling_same p q same (suc k) = search (rules, cond, falling_same p q same k)
 
 -- so from the word of the hub on, in any sum
 pub falling_open : (h : List Event) (s : Subscribers) (g : ℕ) → AreOpenListed h s → (number : ℕ → ℕ)

@@ -2,34 +2,33 @@
 use Rattle.rx_audit.proofs.Common.{◌≡◌, ℕ, ℤ, zero, suc, cond, count_by, get_or, ◌+◌, ◌<◌, ◌≤◌, Bool, true, false, List, [], ◌∷◌, ◌++◌, length, Option, Some}
 use Rattle.rx_audit.proofs.Common.{None, refl, sym, ap, ◌∙◌, arith, ◌==◌, slice_get, inl, inr, ◌⊎◌, nat_lt, nat_le, IsTrue, MatchBool, not, ◌&&◌, ◌||◌}
 use Rattle.rx_audit.proofs.Common.{list_any, list_all, range_with_len, sum_by-cons, option_map_or, and_parts, false≢true, ltb-true, lt-ltb, eqb-true, eq-eqb}
-use Rattle.rx_audit.proofs.Common.{leb-true, le-leb, nothing_kept, Terminal, Completed, Error, Place, Root, Source, Inner, Notifier, Kind, Pass, Sub, Event}
-use Rattle.rx_audit.proofs.Common.{Open, Connect, Accept, Lease, Return, Item, Decline, End, Close, makes_hub, is_merging, is_source_of, is_connect_of, at}
-use Rattle.rx_audit.proofs.Common.{places, hubs, is_open, open_nodes, ancestors, has_open_child, is_open_past, visits, most_visits, owed, IsConnectDue, IsFree}
-use Rattle.rx_audit.proofs.Common.{IsHubbed, IsAllowed, accepted, IsMarked, mark_count, hub_connected_at, has_key, open_connected, is_owing, connects_later}
+use Rattle.rx_audit.proofs.Common.{leb-true, le-leb, nothing_kept, Terminal, Completed, Error, Place, Kind, Event}
+use Rattle.rx_audit.proofs.Common.{Open, Connect, Accept, Lease, Return, Item, Decline, End, Close, is_merging, is_connect_of, at}
+use Rattle.rx_audit.proofs.Common.{places, hubs, is_open, open_nodes, has_open_child, is_open_past, visits, most_visits, owed, IsConnectDue, IsFree}
+use Rattle.rx_audit.proofs.Common.{IsHubbed, IsAllowed, accepted, IsMarked, mark_count, hub_connected_at, has_key, open_connected, is_owing}
 use Rattle.rx_audit.proofs.Common.{is_in_order_at, allowed_simply, item_allowed, open_allowed, and_from, or_left, or_right, or_cases, not-true, not_from_false}
 use Rattle.std.proofs.lemmas.List.Sums.{length-filter}
 use Rattle.std.proofs.lemmas.Bool.{lt-leb}
 use Rattle.rx_event.specs.declared.event.Mode.{Mode}
 use Rattle.rx_event.specs.declared.event.Event.TheVariants.{Hub, Use, Remove, Take}
-use Rattle.rx_event.specs.Events.{has_source, is_leaf, is_until, is_root, is_manual_hub, is_notifier_of}
+use Rattle.rx_event.specs.Events.{has_source, is_leaf, is_root, is_manual_hub}
 use Rattle.rx_event.specs.Allowed.{most_nodes, most_hubs, IsInOrderAt, IsInOrder, may_abort, opened, published, connected, used, removed, leased, returned}
 use Rattle.rx_event.specs.Allowed.{emitted, declined, leaf_ended, aborted, projection_failed, root_closed, disconnected, taken}
 use Rattle.rx_audit.specs.Allowing.{is_in_order, is_hubbed, is_free, failure_allowed, failing_allowed, end_allowed, close_allowed, connect_allowed}
 use Rattle.rx_audit.specs.Allowing.{decline_allowed}
 use Rattle.rx_audit.proofs.TestsDecideRules.{connection_at, at_connection, filter_none, none_filtered, connected_key}
 use Rattle.rx_audit.proofs.Due.{child_closed, no_child_open}
+use Rattle.std.proofs.Common.{rules}
 
 -- items ------------------------------------------------------------------------------------------------
 
 pub item_test : (h : List Event) (l : ℕ) (b : Bool) (P : Type 0) → (P → visits h l ≤ 1048576)
     → MatchBool b P (1048576 < visits h l) → (is_open h l && at is_leaf h l) ≡ true → b ≡ item_allowed h l
 unfolding item_allowed
-item_test h l false P few m leaf = rw leaf (sym (lt-leb (visits h l) 1048576 m))
-item_test h l true P few m leaf = rw leaf (sym (le-leb (visits h l) 1048576 (few m)))
+item_test h l x2 x3 few m leaf = search (rules, lt-leb, le-leb)
 
 pub climb_test : (b : Bool) (P Q : Type 0) → MatchBool b P Q → IsTrue b → P
-climb_test true P Q p t = p
-climb_test false P Q q t = absurd (false≢true t)
+climb_test x0 x1 x2 p t = search (rules, false≢true)
 
 pub no_item : (h : List Event) (l : ℕ) → (is_open h l && at is_leaf h l) ≡ false → false ≡ item_allowed h l
 unfolding item_allowed
@@ -45,7 +44,7 @@ item_may h l v e =
 pub item_may_of : (h : List Event) (l : ℕ) (v : ℤ) → IsAllowed nothing_kept h (Item l v) → item_allowed h l ≡ true
 unfolding item_allowed most_visits
 item_may_of h l v (emitted o m few) =
-    and_from (is_open h l && at is_leaf h l) (nat_le (visits h l) 1048576) (and_from (is_open h l) (at is_leaf h l) o m) (le-leb (visits h l) 1048576 few)
+    search (rules, and_from, nat_le, le-leb)
 
 -- what is owed -----------------------------------------------------------------------------------------
 
@@ -60,14 +59,10 @@ is_owed h f l = lt-ltb 0 (owed nothing_kept h f) l
 -- ends, closings and the rest --------------------------------------------------------------------------
 
 same_abort : (e : Event) → has_source e ≡ may_abort e
-same_abort (Open place Pass) = refl
-same_abort _ = refl
+same_abort x0 = search rules
 
 abort_at : (h : List Event) (n : ℕ) → at has_source h n ≡ at may_abort h n
-abort_at h n = by_event (slice_get h n) where
-  by_event : (o : Option Event) → option_map_or has_source o false ≡ option_map_or may_abort o false
-  by_event None = refl
-  by_event (Some e) = same_abort e
+abort_at h n = search (rules, slice_get, option_map_or, same_abort)
 
 end_may : (h : List Event) (n : ℕ) (t : Terminal) → end_allowed h n t ≡ true → IsAllowed nothing_kept h (End n t)
 unfolding end_allowed
@@ -90,7 +85,7 @@ end_may h n t e = by_kind (or_cases (at is_leaf h n) (failing_allowed h n t) w.1
 
 failing : (h : List Event) (n c : ℕ) → is_open h n ≡ true → failure_allowed h n ≡ true → end_allowed h n (Error c) ≡ true
 unfolding end_allowed
-failing h n c o e = and_from (is_open h n) (at is_leaf h n || failing_allowed h n (Error c)) o (or_right (at is_leaf h n) (failure_allowed h n) e)
+failing h n c o e = search (rules, and_from, or_right)
 
 end_may_of : (h : List Event) (n : ℕ) (t : Terminal) → IsAllowed nothing_kept h (End n t) → end_allowed h n t ≡ true
 unfolding end_allowed
@@ -118,13 +113,7 @@ close_may h n e = by_kind (or_cases (at is_root h n) (option_map_or (at is_manua
 
 close_may_of : (h : List Event) (n : ℕ) → IsAllowed nothing_kept h (Close n) → close_allowed h n ≡ true
 unfolding close_allowed
-close_may_of h n (root_closed o m) =
-    and_from (is_open h n) (at is_root h n || option_map_or (at is_manual_hub h) (hub_connected_at h n) false) o
-    (or_left (at is_root h n) (option_map_or (at is_manual_hub h) (hub_connected_at h n) false) m)
-close_may_of h n (disconnected {g = g} o at_n m) =
-    and_from (is_open h n) (at is_root h n || option_map_or (at is_manual_hub h) (hub_connected_at h n) false) o
-    (or_right (at is_root h n) (option_map_or (at is_manual_hub h) (hub_connected_at h n) false)
-    (ap (λ o. option_map_or (at is_manual_hub h) o false) (at_connection h n g at_n) ∙ m))
+close_may_of h n x2 = search (rules, and_from, option_map_or, or_left, or_right, at_connection)
 
 connect_may : (h : List Event) (g : ℕ) → connect_allowed h g ≡ true → IsAllowed nothing_kept h (Connect g)
 unfolding connect_allowed most_nodes
@@ -137,10 +126,7 @@ connect_may h g e =
 connect_may_of : (h : List Event) (g : ℕ) → IsAllowed nothing_kept h (Connect g) → connect_allowed h g ≡ true
 unfolding connect_allowed most_nodes
 connect_may_of h g (connected m none few) =
-    and_from (at is_manual_hub h g && not (has_key (open_connected h) h g)) (nat_lt (length (open_nodes h)) 1048576)
-    (and_from (at is_manual_hub h g) (not (has_key (open_connected h) h g)) m
-    (not_from_false (has_key (open_connected h) h g) (connected_key h g ∙ none_filtered (λ n. at (is_connect_of g) h n && is_open h n) (places h) none)))
-    (lt-ltb (length (open_nodes h)) 1048576 few)
+    search (rules, and_from, not, nat_lt, length, not_from_false, connected_key, none_filtered, lt-ltb)
 
 decline_may : (h : List Event) (f : ℕ) → decline_allowed h f ≡ true → IsAllowed nothing_kept h (Decline f)
 unfolding decline_allowed
@@ -175,19 +161,7 @@ simply_may h _ e = absurd (false≢true e)
 
 pub simply_may_of : (h : List Event) (e : Event) → ((place : Place) (kind : Kind) → e ≡ Open place kind → ⊥)
     → ((l : ℕ) (v : ℤ) → e ≡ Item l v → ⊥) → IsAllowed nothing_kept h e → allowed_simply h e ≡ true
-simply_may_of h (Hub mode) no_open no_item a = hub_may_of h mode a
-simply_may_of h (Connect g) no_open no_item a = connect_may_of h g a
-simply_may_of h (Accept n tag) no_open no_item (accepted o) = o
-simply_may_of h (Use r) no_open no_item (used o) = o
-simply_may_of h (Remove r) no_open no_item (removed o) = o
-simply_may_of h (Lease r) no_open no_item (leased o) = o
-simply_may_of h (Return l) no_open no_item (returned o) = o
-simply_may_of h (Decline f) no_open no_item a = decline_may_of h f a
-simply_may_of h (End n t) no_open no_item a = end_may_of h n t a
-simply_may_of h (Close n) no_open no_item a = close_may_of h n a
-simply_may_of h (Take r) no_open no_item (taken o) = o
-simply_may_of h (Open place kind) no_open no_item a = absurd (no_open place kind refl)
-simply_may_of h (Item l v) no_open no_item a = absurd (no_item l v refl)
+simply_may_of h x1 no_open no_item a = search (rules, hub_may_of, connect_may_of, decline_may_of, end_may_of, close_may_of)
 
 -- openings -----------------------------------------------------------------------------------------------
 
@@ -210,54 +184,29 @@ all_of q (x ∷ xs) each =
 in_order_at : (h : List Event) (g p : ℕ) → is_in_order_at h g p ≡ true → IsInOrderAt h g p
 unfolding is_in_order_at
 in_order_at h g p e a k within at_a =
-    ltb-true g k (sym (ap (λ o. option_map_or (λ k. nat_lt g k) o true) (at_connection h a k at_a)) ∙ all_at (connects_later h g) (ancestors h p) a e within)
+    search (rules, ltb-true, option_map_or, nat_lt, at_connection, all_at)
 
 in_order_at_of : (h : List Event) (g p : ℕ) → IsInOrderAt h g p → is_in_order_at h g p ≡ true
 unfolding is_in_order_at
-in_order_at_of h g p order = all_of (connects_later h g) (ancestors h p) (λ a within. by_hub a within (hub_connected_at h a) refl) where
-  by_hub : (a : ℕ) → list_any (λ x. a == x) (ancestors h p) ≡ true → (o : Option ℕ)
-      → hub_connected_at h a ≡ o → option_map_or (λ k. nat_lt g k) (hub_connected_at h a) true ≡ true
-  by_hub a within None is = ap (λ o. option_map_or (λ k. nat_lt g k) o true) is
-  by_hub a within (Some k) is = ap (λ o. option_map_or (λ k. nat_lt g k) o true) is ∙ lt-ltb g k (order a k within (connection_at h a k is))
+in_order_at_of h g p order = search (rules, all_of, list_any, option_map_or, nat_lt, lt-ltb, connection_at)
 
 in_order : (h : List Event) (g : ℕ) (place : Place) → is_in_order h g place ≡ true → IsInOrder h g place
-in_order h g Root e = tt
-in_order h g (Source p) e = in_order_at h g p e
-in_order h g (Inner p) e = in_order_at h g p e
-in_order h g (Notifier p) e = in_order_at h g p e
+in_order h g x2 e = search (rules, in_order_at)
 
 in_order_of : (h : List Event) (g : ℕ) (place : Place) → IsInOrder h g place → is_in_order h g place ≡ true
-in_order_of h g Root o = refl
-in_order_of h g (Source p) o = in_order_at_of h g p o
-in_order_of h g (Inner p) o = in_order_at_of h g p o
-in_order_of h g (Notifier p) o = in_order_at_of h g p o
+in_order_of h g x2 o = search (rules, in_order_at_of)
 
 hubbed : (h : List Event) (place : Place) (kind : Kind) → is_hubbed h place kind ≡ true → IsHubbed h place kind
-hubbed h place (Sub g) e = let w = and_parts (at makes_hub h g) (is_in_order h g place) e in (w.0, in_order h g place w.1)
-hubbed h place _ e = tt
+hubbed h place x2 e = search (rules, and_parts, in_order)
 
 hubbed_of : (h : List Event) (place : Place) (kind : Kind) → IsHubbed h place kind → is_hubbed h place kind ≡ true
-hubbed_of h place (Sub g) o = and_from (at makes_hub h g) (is_in_order h g place) o.0 (in_order_of h g place o.1)
-hubbed_of h place _ o = refl
+hubbed_of h place x2 o = search (rules, and_from, in_order_of)
 
 free : (h : List Event) (place : Place) → is_free h place ≡ true → IsFree nothing_kept h place
-free h Root e = tt
-free h (Source p) e = let a = and_parts (is_open h p && at has_source h p) (not (list_any (is_source_of p) h)) e in
-    let b = and_parts (is_open h p) (at has_source h p) a.0 in (b.0, b.1, not-true (list_any (is_source_of p) h) a.1)
-free h (Inner p) e = let a = and_parts (is_open h p && at is_merging h p) (is_owing h p) e in
-    let b = and_parts (is_open h p) (at is_merging h p) a.0 in (b.0, b.1, owes h p a.1)
-free h (Notifier p) e = let a = and_parts (is_open h p && at is_until h p) (not (list_any (is_notifier_of p) h)) e in
-    let b = and_parts (is_open h p) (at is_until h p) a.0 in (b.0, b.1, not-true (list_any (is_notifier_of p) h) a.1)
+free h x1 e = search (rules, and_parts, not, list_any, not-true, owes)
 
 free_of : (h : List Event) (place : Place) → IsFree nothing_kept h place → is_free h place ≡ true
-free_of h Root o = refl
-free_of h (Source p) o =
-    and_from (is_open h p && at has_source h p) (not (list_any (is_source_of p) h))
-    (and_from (is_open h p) (at has_source h p) o.0 o.1) (not_from_false (list_any (is_source_of p) h) o.2)
-free_of h (Inner p) o = and_from (is_open h p && at is_merging h p) (is_owing h p) (and_from (is_open h p) (at is_merging h p) o.0 o.1) (is_owed h p o.2)
-free_of h (Notifier p) o =
-    and_from (is_open h p && at is_until h p) (not (list_any (is_notifier_of p) h))
-    (and_from (is_open h p) (at is_until h p) o.0 o.1) (not_from_false (list_any (is_notifier_of p) h) o.2)
+free_of h x1 o = search (rules, and_from, not, list_any, not_from_false, is_owed)
 
 pub open_may : (h : List Event) (place : Place) (kind : Kind) → open_allowed h place kind ≡ true
     → ((g : ℕ) → IsConnectDue (h ++ Open place kind ∷ []) g → length (open_nodes h) + 2 ≤ 1048576) → IsAllowed nothing_kept h (Open place kind)
@@ -271,8 +220,7 @@ open_may h place kind e fits =
 pub open_may_of : (h : List Event) (place : Place) (kind : Kind) → IsAllowed nothing_kept h (Open place kind) → open_allowed h place kind ≡ true
 unfolding open_allowed most_nodes
 open_may_of h place kind (opened f o few fits) =
-    and_from (is_free h place && is_hubbed h place kind) (nat_lt (length (open_nodes h)) 1048576)
-    (and_from (is_free h place) (is_hubbed h place kind) (free_of h place f) (hubbed_of h place kind o)) (lt-ltb (length (open_nodes h)) 1048576 (omega arith))
+    search (rules, and_from, nat_lt, length, free_of, hubbed_of, lt-ltb)
 
 pub open_fits : (h : List Event) (place : Place) (kind : Kind) → IsAllowed nothing_kept h (Open place kind)
     → (g : ℕ) → IsConnectDue (h ++ Open place kind ∷ []) g → length (open_nodes h) + 2 ≤ 1048576
@@ -282,8 +230,7 @@ open_fits h place kind (opened f o few fits) = fits
 pub open_free : (h : List Event) (place : Place) (kind : Kind) → open_allowed h place kind ≡ true → IsFree nothing_kept h place
 unfolding open_allowed
 open_free h place kind e =
-    let a = and_parts (is_free h place && is_hubbed h place kind) (nat_lt (length (open_nodes h)) 1048576) e in
-    free h place (and_parts (is_free h place) (is_hubbed h place kind) a.0).0
+    search (rules, and_parts, nat_lt, length, free)
 
 -- as many nodes are open as are marked
 marks_counted : (f : ℕ → Bool) (ms : List Bool) (m from : ℕ) → m ≤ length ms → ((n k : ℕ) → k ≡ from + n → get_or ms n false ≡ f k)
@@ -293,9 +240,7 @@ marks_counted f [] (suc m) from l same none = absurd (omega arith)
 marks_counted f (x ∷ ms) zero from l same none =
     let unmarked : x ≡ false = same zero from (omega arith) ∙ none from (omega arith) in
     let rest : mark_count ms ≡ 0 = marks_counted f ms zero (from + 1) (omega arith) (λ n k e. same (suc n) k (omega arith)) (λ k m. none k (omega arith)) in
-    let first : cond {A = ℕ} x 1 0 ≡ 0 = ap (λ b. cond {A = ℕ} b 1 0) unmarked in
-    let s = sum_by-cons (λ (b : Bool). cond {A = ℕ} b 1 0) x ms in
-    omega arith
+    search (rules, cond, sum_by-cons)
 marks_counted f (x ∷ ms) (suc m) from l same none =
     let rest = marks_counted f ms m (from + 1) (omega arith) (λ n k e. same (suc n) k (omega arith)) (λ k le. none k (omega arith)) in
     let first : cond {A = ℕ} x 1 0 ≡ cond {A = ℕ} (f from) 1 0 = ap (λ b. cond {A = ℕ} b 1 0) (same zero from (omega arith)) in
@@ -306,6 +251,4 @@ marks_counted f (x ∷ ms) (suc m) from l same none =
 
 pub open_counted : (h : List Event) (ms : List Bool) → IsMarked ms (is_open h) → length h ≤ length ms → mark_count ms ≡ length (open_nodes h)
 open_counted h ms tied room =
-    marks_counted (is_open h) ms (length h) 0 room (λ n k e. let same : k ≡ n = omega arith in tied n ∙ ap (is_open h) (sym same))
-    (λ k m. is_open_past h k (omega arith))
-    ∙ sym (length-filter (is_open h) (places h))
+    search (rules, marks_counted, length, is_open_past, length-filter)

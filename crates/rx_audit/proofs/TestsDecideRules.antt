@@ -1,25 +1,22 @@
 -- The tests that compute decide the rules: ends, sources and connections.
-use Rattle.rx_audit.proofs.Common.{◌≡◌, ℕ, zero, suc, ◌+◌, ◌<◌, ◌≤◌, Bool, true, false, List, [], ◌∷◌, Option, Some, None, refl, sym, ap, ◌∙◌, arith, cond}
-use Rattle.rx_audit.proofs.Common.{drop, slice_get, inl, inr, ◌⊎◌, ◌&&◌, ◌||◌, list_any, range_with_len, filter, option_map_or, option_and_then, cases_Bool}
-use Rattle.rx_audit.proofs.Common.{eqb-true, eq-eqb, false≢true, none-some, option_and_then_some, Terminal, Completed, Error, Sub, Event, Open, Connect, End}
+use Rattle.rx_audit.proofs.Common.{◌≡◌, ℕ, zero, suc, ◌+◌, ◌<◌, ◌≤◌, Bool, true, false, List, [], ◌∷◌, Option, Some, None, refl, ap, arith, cond}
+use Rattle.rx_audit.proofs.Common.{drop, slice_get, inl, inr, ◌⊎◌, ◌&&◌, list_any, range_with_len, filter, option_map_or, option_and_then, cases_Bool}
+use Rattle.rx_audit.proofs.Common.{eqb-true, eq-eqb, false≢true, none-some, option_and_then_some, Terminal, Event, Open, Connect, End}
 use Rattle.rx_audit.proofs.Common.{is_subscriber_of, is_connect_of, hub_subscribed, hub_connected, at, places, is_open, SourceEnded, same_terminal, is_key}
 use Rattle.rx_audit.proofs.Common.{hub_subscribed_at, hub_connected_at, joins, ends_source, is_cut, open_subscribed, open_connected, has_key, subscribed_event}
 use Rattle.rx_audit.proofs.Common.{connected_event, list_any-same, and_true, and_false}
 use Rattle.std.proofs.lemmas.Bool.{or_parts}
 use Rattle.std.proofs.lemmas.Map.Keys.{any_passes_from_place}
 use Rattle.rx_audit.proofs.Latest.{is_key_of}
+use Rattle.std.proofs.Common.{rules}
 
 -- tests ----------------------------------------------------------------------------------------------
 
 pub terminal_is : (u t : Terminal) → same_terminal u t ≡ true → u ≡ t
-terminal_is Completed Completed e = refl
-terminal_is (Error c) (Error d) e = ap (λ k. Error k) (eqb-true c d e)
-terminal_is Completed (Error d) e = absurd (false≢true e)
-terminal_is (Error c) Completed e = absurd (false≢true e)
+terminal_is x0 x1 e = search (rules, eqb-true, false≢true)
 
 pub terminal_self : (t : Terminal) → same_terminal t t ≡ true
-terminal_self Completed = refl
-terminal_self (Error c) = eq-eqb c c refl
+terminal_self x0 = search (rules, eq-eqb)
 
 -- what a list has ------------------------------------------------------------------------------------
 
@@ -69,29 +66,23 @@ find_number q n e = let f = find_from q 0 n e in record { number = f.number; wit
 -- ends -----------------------------------------------------------------------------------------------
 
 is_subscribed : (e : Event) (g : ℕ) → is_subscriber_of g e ≡ true → hub_subscribed e ≡ Some g
-is_subscribed (Open place (Sub k)) g s = ap (λ n. Some n) (eqb-true k g s)
-is_subscribed _ g s = absurd (false≢true s)
+is_subscribed x0 g s = search (rules, eqb-true, false≢true)
 
 same_connected : (e : Event) (g : ℕ) → is_key (hub_connected e) g ≡ is_connect_of g e
-same_connected (Open place kind) g = refl
-same_connected _ g = refl
+same_connected x0 g = search rules
 
 pub same_subscribed : (e : Event) (g : ℕ) → is_key (hub_subscribed e) g ≡ is_subscriber_of g e
-same_subscribed (Open place (Sub k)) g = refl
-same_subscribed _ g = refl
+same_subscribed x0 g = search rules
 
 pub subscriber_at : (h : List Event) (s g : ℕ) → hub_subscribed_at h s ≡ Some g → at (is_subscriber_of g) h s ≡ true
 subscriber_at h s g e =
-    option_and_then_some hub_subscribed (slice_get h s) g e (λ x a b. ap (λ o. option_map_or (is_subscriber_of g) o false) a ∙ subscribed_event x g b)
+    search (rules, option_and_then_some, slice_get, option_map_or, subscribed_event)
 
 pub at_subscriber : (h : List Event) (s g : ℕ) → at (is_subscriber_of g) h s ≡ true → hub_subscribed_at h s ≡ Some g
-at_subscriber h s g e = by_event (slice_get h s) e where
-  by_event : (o : Option Event) → option_map_or (is_subscriber_of g) o false ≡ true → option_and_then hub_subscribed o ≡ Some g
-  by_event None e = absurd (false≢true e)
-  by_event (Some x) e = is_subscribed x g e
+at_subscriber h s g e = search (rules, slice_get, option_map_or, option_and_then, false≢true, is_subscribed)
 
 pub connection_at : (h : List Event) (c g : ℕ) → hub_connected_at h c ≡ Some g → slice_get h c ≡ Some (Connect g)
-connection_at h c g e = option_and_then_some hub_connected (slice_get h c) g e (λ x a b. a ∙ ap (λ y. Some y) (connected_event x g b))
+connection_at h c g e = search (rules, option_and_then_some, slice_get, connected_event)
 
 pub at_connection : (h : List Event) (c g : ℕ) → slice_get h c ≡ Some (Connect g) → hub_connected_at h c ≡ Some g
 at_connection h c g e = ap (option_and_then hub_connected) e
@@ -99,15 +90,13 @@ at_connection h c g e = ap (option_and_then hub_connected) e
 -- sources --------------------------------------------------------------------------------------------
 
 joined : (o p : Option ℕ) → joins o p ≡ true → (g : ℕ) × ((o ≡ Some g) × (p ≡ Some g))
-joined None p e = absurd (false≢true e)
-joined (Some g) p e = (g, (refl, is_key_of p g e))
+joined x0 p e = search (rules, false≢true, is_key_of)
 
 joins_of : (o p : Option ℕ) (g : ℕ) → o ≡ Some g → p ≡ Some g → joins o p ≡ true
 joins_of o p g e f = rw (e, f) (eq-eqb g g refl)
 
 no_join : {C : Type 0} (o : Option ℕ) → joins o None ≡ true → C
-no_join None e = absurd (false≢true e)
-no_join (Some g) e = absurd (false≢true e)
+no_join x0 e = search (rules, false≢true)
 
 cut_at : (h : List Event) (s i : ℕ) (e : Event) → s < i → slice_get h i ≡ Some e → ends_source h s e ≡ true → (t : Terminal) × SourceEnded h s t
 cut_at h s i (End c u) l at_i holds =
@@ -132,9 +121,7 @@ cut_ended h s e = let f = find_after (ends_source h s) (suc s) h e in cut_at h s
 
 pub is_cut_of : (h : List Event) (s : ℕ) (t : Terminal) → SourceEnded h s t → is_cut h s ≡ true
 unfolding is_cut
-is_cut_of h s t d = any_after (ends_source h s) (suc s) d.place h (End d.connection t) d.later d.ended
-    (joins_of (hub_subscribed_at h s) (hub_connected_at h d.connection) d.hub
-    (at_subscriber h s d.hub d.subscribes) (at_connection h d.connection d.hub d.connects))
+is_cut_of h s t d = search (rules, any_after, joins_of, at_subscriber, at_connection)
 
 -- keys of open nodes ---------------------------------------------------------------------------------
 
@@ -147,22 +134,14 @@ no_cons x xs e = cc
 
 pub none_filtered : {X : Type 0} (q : X → Bool) (xs : List X) → filter q xs ≡ [] → list_any q xs ≡ false
 none_filtered q [] e = refl
-none_filtered q (x ∷ xs) e = by_first (none_filtered q xs) (cases_Bool (q x)) where
-  by_first : (filter q xs ≡ [] → list_any q xs ≡ false) → (q x ≡ true) ⊎ (q x ≡ false) → (q x || list_any q xs) ≡ false
-  by_first rest (inl y) = absurd (no_cons x (filter q xs) (rw y at e))
-  by_first rest (inr n) = rw n (rest (rw n at e))
+none_filtered q (x ∷ xs) e = search (rules, cases_Bool, filter, list_any, no_cons, none_filtered q xs)
 
 pub guarded : (key : Event → Option ℕ) (test : ℕ → Event → Bool) (g : ℕ) → ((e : Event) → is_key (key e) g ≡ test g e)
     → (b : Bool) (o : Option Event) → is_key (cond b (option_and_then key o) None) g ≡ (option_map_or (test g) o false && b)
-guarded key test g same true None = refl
-guarded key test g same true (Some e) = same e ∙ sym (and_true (test g e))
-guarded key test g same false None = refl
-guarded key test g same false (Some e) = sym (and_false (test g e))
+guarded key test g same x4 x5 = search (rules, and_true, and_false)
 
 pub subscribed_key : (h : List Event) (g : ℕ) → has_key (open_subscribed h) h g ≡ list_any (λ n. at (is_subscriber_of g) h n && is_open h n) (places h)
-subscribed_key h g = list_any-same (λ k. is_key (open_subscribed h k) g) (λ n. at (is_subscriber_of g) h n && is_open h n)
-    (λ k. guarded hub_subscribed is_subscriber_of g (λ e. same_subscribed e g) (is_open h k) (slice_get h k)) (places h)
+subscribed_key h g = search (rules, list_any-same, guarded, same_subscribed, slice_get)
 
 pub connected_key : (h : List Event) (g : ℕ) → has_key (open_connected h) h g ≡ list_any (λ n. at (is_connect_of g) h n && is_open h n) (places h)
-connected_key h g = list_any-same (λ k. is_key (open_connected h k) g) (λ n. at (is_connect_of g) h n && is_open h n)
-    (λ k. guarded hub_connected is_connect_of g (λ e. same_connected e g) (is_open h k) (slice_get h k)) (places h)
+connected_key h g = search (rules, list_any-same, guarded, same_connected, slice_get)

@@ -1,5 +1,5 @@
 -- From the tests to the verdict.
-use Rattle.rx_audit.proofs.Common.{◌≡◌, ℕ, ℤ, zero, suc, ◌+◌, ◌<◌, ◌≤◌, Bool, true, false, List, [], ◌∷◌, ◌++◌, length, take, Option, Some, None, refl, sym, ap}
+use Rattle.rx_audit.proofs.Common.{◌≡◌, ℕ, ℤ, zero, suc, ◌+◌, ◌<◌, ◌≤◌, Bool, true, false, List, [], ◌∷◌, ◌++◌, length, take, Some, None, refl, sym, ap}
 use Rattle.rx_audit.proofs.Common.{subst, ◌∙◌, arith, ◌==◌, slice_get, get_or, IsTrue, ◌↔◌, length-append, drop, take-append-drop, ◌&&◌, option_map_or}
 use Rattle.rx_audit.proofs.Common.{and_parts, both_ways, false≢true, eqb-true, eq-eqb, nothing_kept, Place, Kind, Pass, Event, Open, Accept, Item, at, is_open}
 use Rattle.rx_audit.proofs.Common.{IsForced, IsSettled, due, IsAllowed, accepted, IsLawful, MayFollow, none-some, same_Some, Nodes, IsFollowed, IsKnown}
@@ -12,6 +12,7 @@ use Rattle.rx_audit.specs.Verdict.{IsFoundUnlawful}
 use Rattle.rx_audit.specs.Allowing.{opens_pass, opened_with}
 use Rattle.rx_audit.proofs.ConnectRoom.{room_fits, fits_room}
 use Rattle.rx_audit.proofs.TestsDecideAllowed.{open_may, open_may_of, open_fits, item_may, item_may_of, simply_may, simply_may_of}
+use Rattle.std.proofs.Common.{rules}
 
 -- openings ---------------------------------------------------------------------------------------------
 
@@ -44,14 +45,10 @@ simple_answer h e b no_open no_item is = (λ t. simply_may h e (sym is ∙ t), �
 -- what may follow ----------------------------------------------------------------------------------------
 
 passes : (e : Event) → opens_pass e ≡ true → (place : Place) × (e ≡ Open place Pass)
-passes (Open place Pass) e = (place, refl)
-passes _ e = absurd (false≢true e)
+passes x0 e = search (rules, false≢true)
 
 pass_at : (h : List Event) (n : ℕ) → at opens_pass h n ≡ true → (place : Place) × (slice_get h n ≡ Some (Open place Pass))
-pass_at h n e = by_event (slice_get h n) refl e where
-  by_event : (o : Option Event) → slice_get h n ≡ o → option_map_or opens_pass o false ≡ true → (place : Place) × (slice_get h n ≡ Some (Open place Pass))
-  by_event None is e = absurd (false≢true e)
-  by_event (Some x) is e = let w = passes x e in (w.0, is ∙ ap (λ y. Some y) w.1)
+pass_at h n e = search (rules, slice_get, option_map_or, false≢true, passes)
 
 opened_first : (h : List Event) (e : Event) → opened_with h e ≡ true → MayFollow nothing_kept h e
 opened_first h (Accept n tag) e =
@@ -65,8 +62,7 @@ opened_first h _ e = absurd (false≢true e)
 first_opened : (h : List Event) (n : ℕ) (place : Place) → slice_get h n ≡ Some (Open place Pass)
     → length h ≡ n + 1 → is_open h n ≡ true → (at opens_pass h n && (length h == n + 1) && is_open h n) ≡ true
 first_opened h n place at_n len o =
-    and_from (at opens_pass h n && (length h == n + 1)) (is_open h n)
-    (and_from (at opens_pass h n) (length h == n + 1) (ap (λ o. option_map_or opens_pass o false) at_n) (eq-eqb (length h) (n + 1) len)) o
+    search (rules, and_from, length, option_map_or, eq-eqb)
 
 -- where they have nothing left to do, just what callers may do may follow
 pub settled_answer : (h : List Event) (e : Event) (b : Bool) → IsSettled nothing_kept h → (IsTrue b) ↔ IsAllowed nothing_kept h e
@@ -86,7 +82,7 @@ get_at (x ∷ h) (suc i) d l = get_at h i d (omega arith)
 
 pub unlawful_here : (h : List Event) (i : ℕ) (d : Event) (b : Bool) → i < length h → IsLawful nothing_kept (take i h)
     → b ≡ false → (IsTrue b) ↔ MayFollow nothing_kept (take i h) (get_or h i d) → IsFoundUnlawful h i
-unlawful_here h i d b l law refused w = record { before = law; event = get_or h i d; found = get_at h i d l; breaks = λ m. both_ways b refused (w.1 m) }
+unlawful_here h i d b l law refused w = search (rules, get_or, get_at, both_ways)
 
 pub lawful_more : (h : List Event) (i : ℕ) (d : Event) (b : Bool) → i < length h → IsLawful nothing_kept (take i h)
     → b ≡ true → (IsTrue b) ↔ MayFollow nothing_kept (take i h) (get_or h i d) → IsLawful nothing_kept (take (i + 1) h)
@@ -132,10 +128,4 @@ length-take-most i h = let s = length-append (take i h) (drop i h) in let t = ap
 pub known_from : (h : List Event) (i : ℕ) (found : Found) (nodes : Nodes) → IsLawful nothing_kept (take i h) → IsFound (take i h) (length h) found
     → IsFollowed (take i h) (length h) nodes → IsKnown (take i h) found.live.items nodes
 known_from h i found nodes law f w =
-    let size = f.live_size in
-    record {
-      lawful = law;
-      tied = f.live;
-      room = let n = length-take-most i h in omega arith;
-      followed = rw size w;
-    }
+    search (rules, length-take-most)

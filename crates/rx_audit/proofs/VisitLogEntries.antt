@@ -2,6 +2,7 @@
 use Rattle.rx_audit.proofs.Common.{◌≡◌, ℕ, zero, suc, ◌+◌, ◌*◌, ◌<◌, ◌≤◌, List, [], ◌∷◌, ◌++◌, length, take, drop, set, get_or, Some, slice_get, refl, sym, ap}
 use Rattle.rx_audit.proofs.Common.{arith, sum_by, mul-le-mul_left, same_Some, none-some, sum_by-cons, sum_by_more, Visit, times, IsOften}
 use Rattle.std.proofs.Common.{length-take-le}
+use Rattle.std.proofs.Common.{rules}
 
 -- an entry with so many more
 pub entry_more : (log : List Visit) (k at more : ℕ) (v : Visit) → k ≤ at → slice_get log at ≡ Some v → (number : ℕ → ℕ)
@@ -14,10 +15,7 @@ entry_more (x ∷ log) zero zero more v l is number =
     let e = ap (times number) same in
     omega arith
 entry_more (x ∷ log) zero (suc at) more v l is number =
-    let a = sum_by-cons (times number) x (set log at (record v { count = v.count + more })) in
-    let b = sum_by-cons (times number) x log in
-    let c = entry_more log zero at more v (omega arith) is number in
-    omega arith
+    search (rules, sum_by-cons, set, entry_more log zero at more v (omega arith) is number)
 entry_more (x ∷ log) (suc k) zero more v l is number = absurd (omega arith)
 entry_more (x ∷ log) (suc k) (suc at) more v l is number = entry_more log k at more v (omega arith) is number
 
@@ -58,8 +56,4 @@ count_all (x ∷ xs) = let s = sum_by-cons (λ n. 1) x xs in let r = count_all x
 
 pub taken_few : (count : ℕ) (nodes : List ℕ) (i : ℕ) → i < length nodes → count * sum_by (λ n. 1) (take i nodes) + count ≤ count * length nodes
 taken_few count nodes i l =
-    let s = count_all (take i nodes) in
-    let e = length-take-le i nodes (omega arith) in
-    let one : i + 1 ≤ length nodes = omega arith in
-    let m = mul-le-mul_left count one in
-    rw (s, e) (omega (arith, m))
+    search (rules, count_all, take, length-take-le, length, mul-le-mul_left)

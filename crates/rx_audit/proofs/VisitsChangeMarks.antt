@@ -1,13 +1,14 @@
 -- What the visits of an item do to the marks of nodes.
-use Rattle.rx_audit.proofs.Common.{◌≡◌, ℕ, zero, ◌+◌, ◌<◌, Bool, true, false, List, [], ◌∷◌, ◌++◌, length, take, Option, Some, None, refl, sym, ap, ◌∙◌, arith}
-use Rattle.rx_audit.proofs.Common.{inl, inr, ◌⊎◌, ◌==◌, ◌≢◌, get_or, get_or-set_other, get_or-set_same, cond, add-zero, ◌||◌, length-set, cases_order}
+use Rattle.rx_audit.proofs.Common.{◌≡◌, ℕ, ◌+◌, ◌<◌, Bool, true, List, [], length, take, Option, sym, ap, ◌∙◌, arith}
+use Rattle.rx_audit.proofs.Common.{inl, inr, ◌⊎◌, ◌≢◌, get_or, get_or-set_other, get_or-set_same, cond, add-zero, ◌||◌, length-set, cases_order}
 use Rattle.rx_audit.proofs.Common.{false≢true, eq-eqb, eqb-true, ne_eqb, or_cases, list_any, sum_by, sum_by_more, Event, Marks, blank_marks, Visit, is_key}
 use Rattle.rx_audit.proofs.Common.{IsNoted, fired_key, projected_key, visited_marks, IsVisited, or_false, or_true}
 use Rattle.std.proofs.lemmas.List.Folds.{list_any_more}
-use Rattle.rx_audit.specs.Marking.{fired_marks, owing, owed_marks, noted_with}
+use Rattle.rx_audit.specs.Marking.{fired_marks, owed_marks, noted_with}
 use Rattle.rx_audit.proofs.ClosingBelow.{noted_more, noted_last}
 use Rattle.rx_audit.proofs.Latest.{is_key_of}
 use Rattle.rx_event.proofs.Laws.Common.{or_assoc}
+use Rattle.std.proofs.Common.{rules}
 
 -- marks with these two fields
 abbrev pub with_two : Marks → Bool → ℕ → Marks
@@ -19,76 +20,24 @@ same_two m a b c d e f = λ i. record m { fired = e i; owed = f i }
 fired_at_key : (ms : List Marks) (key : Option ℕ) (n : ℕ) → n < length ms
     → get_or (fired_marks ms key) n blank_marks ≡ with_two (get_or ms n blank_marks) ((get_or ms n blank_marks).fired || is_key key n)
     (get_or ms n blank_marks).owed
-fired_at_key ms None n l = same_two (get_or ms n blank_marks) _ _ _ _ (sym (or_false (get_or ms n blank_marks).fired)) refl
-fired_at_key ms (Some u) n l = by_order (cases_order n u) where
-  m : Marks
-  m = get_or ms n blank_marks
-
-  other : (n ≡ u → ⊥) → get_or (fired_marks ms (Some u)) n blank_marks ≡ with_two (get_or ms n blank_marks)
-      ((get_or ms n blank_marks).fired || (u == n)) (get_or ms n blank_marks).owed
-  other d =
-      let ne : n ≢ u = d in
-      let apart : (u == n) ≡ false = ne_eqb u n (λ e. d (sym e)) in
-      get_or-set_other ms u n _ blank_marks ne
-      ∙ same_two (get_or ms n blank_marks) _ _ _ _ (sym (ap (λ b. (get_or ms n blank_marks).fired || b) apart ∙ or_false (get_or ms n blank_marks).fired)) refl
-
-  by_order : (n ≡ u) ⊎ ((n < u) ⊎ (u < n))
-      → get_or (fired_marks ms (Some u)) n blank_marks ≡ with_two (get_or ms n blank_marks) ((get_or ms n blank_marks).fired || (u == n))
-      (get_or ms n blank_marks).owed
-  by_order (inl same) =
-      let same_key : (u == n) ≡ true = eq-eqb u n (sym same) in
-      ap (λ k. get_or (fired_marks ms (Some u)) k blank_marks) same ∙ get_or-set_same ms u _ blank_marks (omega arith)
-      ∙ ap (λ k. with_two (get_or ms k blank_marks) true (get_or ms k blank_marks).owed) (sym same)
-      ∙ same_two (get_or ms n blank_marks) _ _ _ _
-      (sym (ap (λ b. (get_or ms n blank_marks).fired || b) same_key ∙ or_true (get_or ms n blank_marks).fired)) refl
-  by_order (inr (inl l)) = other (λ e. omega arith)
-  by_order (inr (inr g)) = other (λ e. omega arith)
+fired_at_key ms x1 n l = search (rules, same_two, get_or, or_false, cases_order, ne_eqb, get_or-set_other, eq-eqb, get_or-set_same, or_true)
 
 owed_at_key : (ms : List Marks) (key : Option ℕ) (count n : ℕ) → n < length ms
     → get_or (owed_marks ms key count) n blank_marks ≡ with_two (get_or ms n blank_marks) (get_or ms n blank_marks).fired
     ((get_or ms n blank_marks).owed + cond (is_key key n) count 0)
-owed_at_key ms None count n l = same_two (get_or ms n blank_marks) _ _ _ _ refl (sym (add-zero (get_or ms n blank_marks).owed))
-owed_at_key ms (Some f) count n l = by_order (cases_order n f) where
-  other : (n ≡ f → ⊥) → get_or (owed_marks ms (Some f) count) n blank_marks ≡ with_two (get_or ms n blank_marks) (get_or ms n blank_marks).fired
-      ((get_or ms n blank_marks).owed + cond (f == n) count 0)
-  other d =
-      let ne : n ≢ f = d in
-      let apart : (f == n) ≡ false = ne_eqb f n (λ e. d (sym e)) in
-      get_or-set_other ms f n _ blank_marks ne
-      ∙ same_two (get_or ms n blank_marks) _ _ _ _ refl
-      (sym (ap (λ b. (get_or ms n blank_marks).owed + cond {A = ℕ} b count 0) apart ∙ add-zero (get_or ms n blank_marks).owed))
-
-  by_order : (n ≡ f) ⊎ ((n < f) ⊎ (f < n))
-      → get_or (owed_marks ms (Some f) count) n blank_marks ≡ with_two (get_or ms n blank_marks) (get_or ms n blank_marks).fired
-      ((get_or ms n blank_marks).owed + cond (f == n) count 0)
-  by_order (inl same) =
-      let same_key : (f == n) ≡ true = eq-eqb f n (sym same) in
-      ap (λ k. get_or (owed_marks ms (Some f) count) k blank_marks) same ∙ get_or-set_same ms f _ blank_marks (omega arith)
-      ∙ ap (λ k. owing count (get_or ms k blank_marks)) (sym same)
-      ∙ same_two (get_or ms n blank_marks) _ _ _ _ refl (sym (ap (λ b. (get_or ms n blank_marks).owed + cond {A = ℕ} b count 0) same_key))
-  by_order (inr (inl l)) = other (λ e. omega arith)
-  by_order (inr (inr g)) = other (λ e. omega arith)
+owed_at_key ms x1 count n l = search (rules, same_two, get_or, add-zero, cases_order, cond, ne_eqb, get_or-set_other, eq-eqb, get_or-set_same)
 
 length-fired : (ms : List Marks) (key : Option ℕ) → length (fired_marks ms key) ≡ length ms
-length-fired ms None = refl
-length-fired ms (Some u) = length-set ms u _
+length-fired ms x1 = search (rules, length-set)
 
 length-owed : (ms : List Marks) (key : Option ℕ) (count : ℕ) → length (owed_marks ms key count) ≡ length ms
-length-owed ms None count = refl
-length-owed ms (Some f) count = length-set ms f _
+length-owed ms x1 count = search (rules, length-set)
 
 noted_kept : (due : List ℕ) (key : Option ℕ) (n : ℕ) → IsNoted 0 due n → IsNoted 0 (noted_with due key) n
-noted_kept due None n w = w
-noted_kept due (Some u) n w = noted_more 0 due u n w
+noted_kept due x1 n w = search (rules, noted_more)
 
 noted_new : (due : List ℕ) (key : Option ℕ) (n : ℕ) → is_key key n ≡ true → IsNoted 0 (noted_with due key) n
-noted_new due None n e = absurd (false≢true e)
-noted_new due (Some u) n e = let same : Some u ≡ Some n = is_key_of (Some u) n e in by_same (eqb_same u n e) where
-  eqb_same : (u n : ℕ) → (u == n) ≡ true → n ≡ u
-  eqb_same u n e = sym (eqb-true u n e)
-
-  by_same : n ≡ u → IsNoted 0 (due ++ u ∷ []) n
-  by_same same = rw same (noted_last 0 due u (omega arith))
+noted_new due x1 n e = search (rules, false≢true, is_key_of, eqb-true, noted_last)
 
 abbrev fires_at : List Event → ℕ → Visit → Bool
 fires_at h n x = is_key (fired_key h x.node) n
@@ -97,12 +46,7 @@ abbrev owes_at : List Event → ℕ → Visit → ℕ
 owes_at h n x = cond (is_key (projected_key h x.node) n) x.count 0
 
 pub visited_none : (h : List Event) (ms : List Marks) (due : List ℕ) → IsVisited h [] ms ms due due
-visited_none h ms due = record {
-  size = refl;
-  marks = λ n l. same_two (get_or ms n blank_marks) _ _ _ _ (sym (or_false (get_or ms n blank_marks).fired)) (sym (add-zero (get_or ms n blank_marks).owed));
-  noted = λ n e. absurd (false≢true e);
-  kept = λ n w. w;
-}
+visited_none h ms due = search (rules, same_two, get_or, or_false, add-zero, false≢true)
 
 pub visited_more : {h : List Event} (log : List Visit) (i : ℕ) (v : Visit) {old ms : List Marks} (before todo : List ℕ) → i < length log → v ≡ get_or log i v
     → IsVisited h (take i log) old ms before todo

@@ -1,6 +1,7 @@
 use Rattle.rx_audit.proofs.Common.{◌≡◌, ℕ, ◌++◌, [], ◌∷◌, length, subst, ap, ◌∙◌, arith, Children, AreChildren, AreLinked, AreHubs}
 use Rattle.rx_audit.proofs.DueLists.{IsOneMore, all_after}
 use Rattle.rx_audit.proofs.advance.advance.Goals as goal
+use Rattle.std.proofs.Common.{rules}
 
 pub returns-clause-followed : goal.returns-clause-followed
 returns-clause-followed c =
@@ -32,21 +33,18 @@ returns-clause-followed c =
 
 pub note_cut-requires-clause-linked : goal.note_cut-requires-clause-linked
 note_cut-requires-clause-linked c =
-    let w = c.requires.followed in
-    rw (c.in_ok-keep.ensures.subscribers, w.linked.listed_size) w.linked
+    search rules
 
 pub note_cut-requires-clause-listed : goal.note_cut-requires-clause-listed
 note_cut-requires-clause-listed c = rw c.in_ok-keep.ensures.subscribers c.requires.followed.listed
 
 pub relink-requires-clause-linked : goal.relink-requires-clause-linked
 relink-requires-clause-linked c =
-    let w = c.requires.followed in
-    rw (c.in_ok-keep.ensures.children, c.in_ok-keep.ensures.subscribers, w.children.youngest_size) w.linked
+    search rules
 
 pub relink-requires-clause-listed : goal.relink-requires-clause-listed
 relink-requires-clause-listed c = rw c.in_ok-keep.ensures.subscribers c.requires.followed.listed
 
 pub relink-requires-clause-hubs : goal.relink-requires-clause-hubs
 relink-requires-clause-hubs c =
-    let w = c.requires.followed in
-    rw (c.in_ok-keep.ensures.children, c.in_ok-keep.ensures.hubs, w.children.youngest_size) w.hubs
+    search rules

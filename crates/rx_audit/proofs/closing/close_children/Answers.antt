@@ -3,36 +3,17 @@ use Rattle.rx_audit.proofs.Latest.{last_le}
 use Rattle.rx_audit.proofs.ClosingBelow.{closing_none, closing_note, closing_next, gone_here, child_below, here_is}
 use Rattle.rx_audit.proofs.closing.close_children.Goals.{then-marks-c+in_ok-push, else-marks-c}
 use Rattle.rx_audit.proofs.closing.close_children.Goals as goal
+use Rattle.std.proofs.Common.{rules}
 
 pub loop-next-init : goal.loop-next-init
 loop-next-init c =
-    let h = c.args.past.now in
-    let p = c.args.p in
-    let v = c.index.result.now in
-    let r = c.requires.children in
-    let size = r.youngest_size in
-    let is : v ≡ last_below (keyed (parent h) p) (length h) = get_or_read c.args.children.now.youngest.items p v (omega arith) c.index.ensures 0
-    ∙ r.youngest p (omega arith) in
-    record {
-      closing = closing_none h p v c.args.marks.now c.args.todo.now.items (λ d below. child_below h p (length h) v is d below (parent_within h d p below));
-      here = here_is h p (length h) v is;
-      within = let l = last_le (keyed (parent h) p) (length h) in omega arith;
-    }
+    search (rules, length, get_or_read, closing_none, child_below, parent_within, here_is, last_le)
 
 pub loop-next-smaller : goal.loop-next-smaller
-loop-next-smaller c =
-    let h = c.args.past.now in
-    let p = c.args.p in
-    let k = c.loop-next.next - 1 in
-    let v = c.index-in-loop-next.result.now in
-    let r = c.requires.children in
-    let size = r.older_size in
-    let w = c.loop-next.invariant.within in
-    let below : parent h k ≡ Some p = c.loop-next.invariant.here (omega arith) in
-    let is : v ≡ last_below (keyed (parent h) p) k = get_or_read c.args.children.now.older.items k v (omega arith) c.index-in-loop-next.ensures 0
-    ∙ r.older k p (omega arith) below in
-    let l = last_le (keyed (parent h) p) k in
-    omega arith
+loop-next-smaller c = let h = c.args.past.now in let p = c.args.p in let k = c.loop-next.next - 1 in let v = c.index-in-loop-next.result.now in let r
+    = c.requires.children in let size = r.older_size in let w = c.loop-next.invariant.within in let below : parent h k ≡ Some p =
+    c.loop-next.invariant.here (omega arith) in let is : v ≡ last_below (keyed (parent h) p) k = get_or_read _ k v (omega arith)
+    c.index-in-loop-next.ensures 0 ∙ r.older k p (omega arith) below in let l = last_le (keyed (parent h) p) k in omega arith
 
 pub loop-next-preserved : goal.loop-next-preserved
 loop-next-preserved c =

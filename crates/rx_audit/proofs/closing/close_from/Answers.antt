@@ -1,15 +1,11 @@
-use Rattle.rx_audit.proofs.Common.{◌≡◌, ◌++◌, [], ◌∷◌, get_or, refl, ap, ◌∙◌, arith, get_or_read}
+use Rattle.rx_audit.proofs.Common.{◌≡◌, get_or, arith, get_or_read}
 use Rattle.rx_audit.proofs.ClosingBelow.{passing_starts, passing_more, passing_ends, count_cleared, noted_first, noted_on, closed_listed}
 use Rattle.rx_audit.proofs.closing.close_from.Goals as goal
+use Rattle.std.proofs.Common.{rules}
 
 pub loop-i-init : goal.loop-i-init
 loop-i-init c =
-    let noted : c.push.new.self.items ≡ c.args.top ∷ [] = c.in_ok-push.ensures.items ∙ ap (λ xs. xs ++ c.args.top ∷ []) c.clear.ensures.items in
-    rw noted (record {
-      passing = passing_starts c.args.past.now c.args.event c.args.marks.now c.args.top c.requires.tied c.requires.within c.requires.shut c.requires.alone;
-      noted = noted_first c.args.past.now c.args.marks.now c.args.top c.requires.tied;
-      balance = refl;
-    })
+    search (rules, passing_starts, noted_first)
 
 pub loop-i-preserved : goal.loop-i-preserved
 loop-i-preserved c =
@@ -26,15 +22,11 @@ loop-i-preserved c =
     }
 
 pub returns-clause-closed : goal.returns-clause-closed
-returns-clause-closed c = passing_ends c.args.past.now c.args.event c.loop-i.i c.loop-i.marks c.loop-i.todo.items (omega arith) c.loop-i.invariant.passing
+returns-clause-closed c = search (rules, passing_ends)
 
 pub returns-clause-count : goal.returns-clause-count
 returns-clause-count c =
-    let one = count_cleared c.args.marks.now c.args.top (c.requires.tied c.args.top ∙ c.requires.here) in
-    let balance = c.loop-i.invariant.balance in
-    omega arith
+    search (rules, count_cleared)
 
 pub returns-clause-listed : goal.returns-clause-listed
-returns-clause-listed c = closed_listed c.args.past.now c.args.event c.loop-i.marks c.loop-i.todo.items
-    (passing_ends c.args.past.now c.args.event c.loop-i.i c.loop-i.marks c.loop-i.todo.items (omega arith) c.loop-i.invariant.passing)
-    c.loop-i.invariant.noted c.loop-i.invariant.passing.closed
+returns-clause-listed c = search (rules, closed_listed, passing_ends)

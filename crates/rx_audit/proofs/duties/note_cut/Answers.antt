@@ -1,6 +1,7 @@
 use Rattle.rx_audit.proofs.Common.{sym, ◌∙◌}
 use Rattle.rx_audit.proofs.DueLists.{ended_one, ended_none}
 use Rattle.rx_audit.proofs.duties.note_cut.Goals as goal
+use Rattle.std.proofs.Common.{rules}
 
 pub returns-in_ok-note_subscribers-in-Some-clause-ended : goal.returns-in_ok-note_subscribers-in-Some-clause-ended
 returns-in_ok-note_subscribers-in-Some-clause-ended c =
@@ -9,4 +10,4 @@ returns-in_ok-note_subscribers-in-Some-clause-ended c =
     c.in_ok-note_subscribers-in-Some.ensures.all
 
 pub returns-in-None-clause-ended : goal.returns-in-None-clause-ended
-returns-in-None-clause-ended c = ended_none c.args.past.now c.args.event c.args.due.now.items (sym c.hub_ended.ensures ∙ c.in-None.is)
+returns-in-None-clause-ended c = search (rules, ended_none)

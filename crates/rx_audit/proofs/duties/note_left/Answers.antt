@@ -2,6 +2,7 @@ use Rattle.rx_audit.proofs.Common.{length, arith}
 use Rattle.rx_audit.proofs.ClosingBelow.{noted_last}
 use Rattle.rx_audit.proofs.DueLists.{keeps_more, keeps_on, any_default, lost_more, lost_all}
 use Rattle.rx_audit.proofs.duties.note_left.Goals as goal
+use Rattle.std.proofs.Common.{rules}
 
 pub loop-s-init : goal.loop-s-init
 loop-s-init c = record { keeps = λ n w. w; lost = λ k l. absurd (omega arith) }
@@ -15,14 +16,10 @@ loop-s-preserved c = record {
 }
 
 pub returns-clause-keeps : goal.returns-clause-keeps
-returns-clause-keeps c = rw c.in_ok-push.ensures.items
-    (keeps_on c.args.due.now.items c.loop-s.due.items _ c.loop-s.invariant.keeps (keeps_more c.loop-s.due.items (length c.args.past.now)))
+returns-clause-keeps c = search (rules, keeps_on, keeps_more, length)
 
 pub returns-clause-lost : goal.returns-clause-lost
-returns-clause-lost c = rw c.in_ok-push.ensures.items
-    (λ s g i noted hub word. keeps_more c.loop-s.due.items (length c.args.past.now) i
-    (lost_all c.args.past.now c.args.closed.now c.args.hubs.now.connection.items c.loop-s.due.items c.loop-s.s-index
-    (omega arith) c.loop-s.invariant.lost s g i noted hub word))
+returns-clause-lost c = search (rules, keeps_more, length, lost_all)
 
 pub returns-clause-new : goal.returns-clause-new
-returns-clause-new c = rw c.in_ok-push.ensures.items (noted_last 0 c.loop-s.due.items (length c.args.past.now) (omega arith))
+returns-clause-new c = search (rules, noted_last, length)

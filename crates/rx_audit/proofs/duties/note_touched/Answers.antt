@@ -4,9 +4,8 @@ use Rattle.rx_audit.proofs.DueLists.{keeps_more}
 use Rattle.rx_audit.proofs.duties.note_touched.Goals as goal
 
 pub returns-in_ok-push-clause-covered : goal.returns-in_ok-push-clause-covered
-returns-in_ok-push-clause-covered c = rw c.in_ok-push.ensures.items
-    (covered_more c.args.event c.args.due.now.items c.in-Some.p c.requires.lawful c.requires.next
-    c.requires.no_item (sym c.in-Some.ensures) c.requires.covered)
+returns-in_ok-push-clause-covered c = rw c.in_ok-push.ensures.items (covered_more _ _ _ c.requires.lawful c.requires.next c.requires.no_item (sym
+    c.in-Some.ensures) c.requires.covered)
 
 pub returns-in_ok-push-clause-keeps : goal.returns-in_ok-push-clause-keeps
 returns-in_ok-push-clause-keeps c = rw c.in_ok-push.ensures.items (keeps_more c.args.due.now.items c.in-Some.p)

@@ -1,10 +1,10 @@
 use Rattle.rx_audit.proofs.EndsDue.{some_waits, none_waits_at}
 use Rattle.rx_audit.proofs.forced.any_connect_due.Goals as goal
+use Rattle.std.proofs.Common.{rules}
 
 pub returns-in-Some : goal.returns-in-Some
 returns-in-Some c =
-    some_waits c.args.past.now c.args.nodes.now.hubs.waiting c.in-Some.g
-    c.connect_due.result c.requires.followed.hubs.waiting c.in-Some.is c.connect_due.ensures
+    search (rules, some_waits)
 
 pub returns-in-None : goal.returns-in-None
-returns-in-None c = none_waits_at c.args.past.now c.args.nodes.now.hubs.waiting c.requires.followed.hubs.waiting c.in-None.is
+returns-in-None c = search (rules, none_waits_at)

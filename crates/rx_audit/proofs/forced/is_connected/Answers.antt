@@ -4,8 +4,5 @@ use Rattle.rx_audit.proofs.HubWords.{connected_word}
 use Rattle.rx_audit.proofs.forced.is_connected.Goals as goal
 
 pub returns : goal.returns
-returns c =
-    let h = c.args.past.now in
-    let k = c.requires in
-    c.leads_to_marked.ensures ∙ connected_word h c.args.live.now c.args.g c.value_at.result k.lawful k.tied
-    (connection_word h k.lawful (length c.args.live.now) c.args.nodes.now.hubs k.followed.hubs k.room c.args.g c.value_at.result c.value_at.ensures)
+returns c = let h = c.args.past.now in let k = c.requires in c.leads_to_marked.ensures ∙ connected_word h _ _ _ k.lawful k.tied (connection_word h
+    k.lawful (length _) _ k.followed.hubs k.room _ _ c.value_at.ensures)

@@ -4,10 +4,5 @@ use Rattle.rx_audit.proofs.HubWords.{waited_word}
 use Rattle.rx_audit.proofs.forced.is_waited_for.Goals as goal
 
 pub returns : goal.returns
-returns c =
-    let h = c.args.past.now in
-    let k = c.requires in
-    let size = length c.args.live.now in
-    c.leads_no_less.ensures ∙ waited_word c.args.nodes.now.subscribers c.args.g c.value_at-last.result c.value_at-ended.result
-    k.followed.linked k.followed.listed c.value_at-last.ensures
-    (ended_word h k.lawful size c.args.nodes.now.hubs k.followed.hubs k.room c.args.g c.value_at-ended.result c.value_at-ended.ensures)
+returns c = let h = c.args.past.now in let k = c.requires in let size = length _ in c.leads_no_less.ensures ∙ waited_word _ _ _ _ k.followed.linked
+    k.followed.listed c.value_at-last.ensures (ended_word h k.lawful size _ k.followed.hubs k.room _ _ c.value_at-ended.ensures)

@@ -1,14 +1,11 @@
 use Rattle.rx_audit.proofs.Common.{◌≡◌, ℕ, suc, ◌+◌, length, cond, ap, ◌∙◌, arith, option_or, table_with}
 use Rattle.rx_audit.proofs.HubsAfter.{hubs_more, hub_count_few, one_at_most}
 use Rattle.rx_audit.proofs.hubs.note_hubs.Goals as goal
+use Rattle.std.proofs.Common.{rules}
 
 pub overflow_add-known : goal.overflow_add-known
 overflow_add-known c =
-    let few = hub_count_few c.args.past.now in
-    let count = c.requires.known.count in
-    let room = c.requires.room in
-    let one = one_at_most c.one_if.result c.makes_hub.result c.one_if.ensures in
-    omega arith
+    search (rules, hub_count_few, one_at_most)
 
 pub returns : goal.returns
 returns c =

@@ -1,12 +1,11 @@
 use Rattle.rx_audit.proofs.Common.{◌∙◌, arith}
 use Rattle.rx_audit.proofs.VisitLogEntries.{taken_few, times_more}
 use Rattle.rx_audit.proofs.reach.spread.Goals as goal
+use Rattle.std.proofs.Common.{rules}
 
 pub reach-requires-clause-few : goal.reach-requires-clause-few
 reach-requires-clause-few c =
-    let m = c.loop-m.invariant.more (λ n. 1) in
-    let f = taken_few c.args.count c.args.next.now c.loop-m.m-index (omega arith) in
-    omega arith
+    search (rules, taken_few)
 
 pub loop-m-preserved : goal.loop-m-preserved
 loop-m-preserved c = record {

@@ -3,19 +3,14 @@ use Rattle.rx_audit.proofs.SubscriberRows.{rows_more, rows_same, subscribes_none
 use Rattle.rx_audit.proofs.subscribers.list_new.Goals as goal
 
 pub returns-in-Some-clause-linked : goal.returns-in-Some-clause-linked
-returns-in-Some-clause-linked c =
-    let h = c.args.past.now in
-    let old = c.args.subs.now in
-    let next : length h + 1 ≡ suc (length h) = omega arith in
-    rows_more c.args.event c.requires.linked c.requires.room
-    (c.requires.hubbed c.in-Some.g (subscribed_event c.args.event c.in-Some.g (sym c.in-Some.ensures))) (sym c.in-Some.ensures) (record {
+returns-in-Some-clause-linked c = let h = c.args.past.now in let old = c.args.subs.now in let next : length h + 1 ≡ suc (length h) = omega arith in
+    rows_more _ c.requires.linked c.requires.room (c.requires.hubbed _ (subscribed_event _ _ (sym c.in-Some.ensures))) (sym c.in-Some.ensures) (record {
       listed = c.put_last.ensures.listed;
-      last = c.put_last.ensures.last ∙ ap (set old.last.items c.in-Some.g) next;
+      last = c.put_last.ensures.last ∙ ap (set old.last.items _) next;
       before = c.put_last.ensures.before;
-      after = c.put_last.ensures.after ∙ ap (table_with (set old.after.items (length h) 0) (number_of _)) next;
+      after =
+          c.put_last.ensures.after ∙ ap (table_with (set old.after.items (length h) 0) (number_of _)) next;
     })
 
 pub returns-in_default-clause-linked : goal.returns-in_default-clause-linked
-returns-in_default-clause-linked c =
-    rows_same c.args.past.now c.args.event (length c.args.subs.now.listed.items) c.args.subs.now c.requires.linked
-    (λ g. subscribes_none c.args.event g (sym c.in_default.ensures))
+returns-in_default-clause-linked c = rows_same _ _ (length _) _ c.requires.linked (λ g. subscribes_none _ g (sym c.in_default.ensures))

@@ -1,7 +1,7 @@
 use Rattle.rx_audit.proofs.TestsToVerdict.{open_test}
 use Rattle.rx_audit.proofs.verdict.is_opening_allowed.Goals as goal
+use Rattle.std.proofs.Common.{rules}
 
 pub returns : goal.returns
 returns c =
-    open_test c.args.event c.args.place c.args.kind c.opening_fits.result c.requires.event c.requires.known.lawful c.requires.settled
-    c.opening_fits.ensures
+    search (rules, open_test)
