@@ -90,10 +90,11 @@ fn fill_notes(book: &mut Probe<Sample>) -> Result<Asking, Fail> {
     Ok(Asking::Next(leaf))
 }
 
+// Room for 4 nodes or resources, then 32: eight times as many, and twice as many where that is refused.
 fn fill_nodes(book: &mut Probe<Sample>, asking: Asking) -> Result<Asking, Fail> {
     let leaf = book.open(At::Root, Kind::Leaf)?.key;
     emit(book, leaf, 200)?;
-    for _ in 1..64 {
+    for _ in 1..32 {
         book.open(At::Root, Kind::Pass)?;
     }
     Ok(asking)
@@ -102,7 +103,7 @@ fn fill_nodes(book: &mut Probe<Sample>, asking: Asking) -> Result<Asking, Fail> 
 fn fill_resources(book: &mut Probe<Sample>) -> Result<Asking, Fail> {
     let leaf = book.open(At::Root, Kind::Leaf)?.key;
     emit(book, leaf, 200)?;
-    for tag in 0..64 {
+    for tag in 0..32 {
         book.hold(leaf, Sample::new(tag))?;
     }
     Ok(Asking::Hold(leaf))
@@ -171,13 +172,13 @@ fn a_use_or_an_item_takes_just_the_memory_that_it_needs(rt: HostRuntime) -> Resu
 }
 
 #[test]
-fn an_opening_or_a_resource_beside_64_others_takes_room_for_64_more(
+fn an_opening_or_a_resource_beside_32_others_takes_room_for_32_more(
     rt: HostRuntime,
 ) -> Result<(), Fail> {
     let needs = [
-        (Full::Nodes, for_others(127, 0), for_others(128, 0)),
-        (Full::NodesUsing, for_others(127, 4), for_others(128, 4)),
-        (Full::Resources, for_others(0, 127), for_others(0, 128)),
+        (Full::Nodes, for_others(63, 0), for_others(64, 0)),
+        (Full::NodesUsing, for_others(63, 4), for_others(64, 4)),
+        (Full::Resources, for_others(0, 63), for_others(0, 64)),
     ];
     are_met_by_just(&rt, rt.alloc(), &needs)
 }
