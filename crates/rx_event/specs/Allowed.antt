@@ -1,14 +1,7 @@
 -- What callers may do. A number that names nothing of the needed sort is never allowed.
-use Rattle.std.specs.Prelude.{◌≡◌, ℕ, ℤ, ◌+◌, ◌<◌, ◌≤◌, Bool, true, false, Some, List, [], ◌∷◌, ◌++◌, length, slice_get, IsTrue}
-use Rattle.rx_note.specs.declared.note.Terminal.{Terminal}
-use Rattle.rx_note.specs.declared.note.Terminal.TheVariants.{Error}
-use Rattle.rx_event.specs.declared.event.Place.{Place}
-use Rattle.rx_event.specs.declared.event.Place.TheVariants.{Root, Source, Inner, Notifier}
-use Rattle.rx_event.specs.declared.event.Kind.{Kind}
-use Rattle.rx_event.specs.declared.event.Kind.TheVariants.{Leaf, Pass, Flat, Switch, Until, Sub}
-use Rattle.rx_event.specs.declared.event.Mode.{Mode}
-use Rattle.rx_event.specs.declared.event.Event.{Event}
-use Rattle.rx_event.specs.declared.event.Event.TheVariants.{Open, Hub, Connect, Accept, Use, Remove, Lease, Return, Item, Decline, End, Close, Take}
+use Rattle.rx_event.specs.Imports.{◌≡◌, ℕ, ℤ, ◌+◌, ◌<◌, ◌≤◌, Bool, true, false, Some, List, [], ◌∷◌, ◌++◌, length, slice_get, IsTrue, Terminal, Error, Place}
+use Rattle.rx_event.specs.Imports.{Root, Source, Inner, Notifier, Kind, Leaf, Pass, Flat, Switch, Until, Sub, Mode, Event, Open, Hub, Connect, Accept, Use}
+use Rattle.rx_event.specs.Imports.{Remove, Lease, Return, Item, Decline, End, Close, Take}
 use Rattle.rx_event.specs.Events.{makes_hub, has_source, is_leaf, is_merging, is_until, is_root, is_manual_hub}
 use Rattle.rx_event.specs.Kept.{Kept}
 use Rattle.rx_event.specs.Opened.{source_opened, notifier_opened}
@@ -53,12 +46,7 @@ IsHubbed h place Until = Unit {0}
 
 -- a node that a caller may end with an error, where it has no open child: neither a leaf nor a subscriber
 abbrev pub may_abort : Event → Bool
-may_abort (Open place Pass) = true
-may_abort (Open place Flat) = true
-may_abort (Open place Switch) = true
-may_abort (Open place Until) = true
-may_abort (Connect hub) = true
-may_abort _ = false
+may_abort e = has_source e
 
 -- a caller's event may come next
 pub data IsAllowed (b : Kept) (h : List Event) : Event → Type 0 where

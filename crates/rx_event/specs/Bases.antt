@@ -1,11 +1,6 @@
 -- The base of a stored history, and which stored histories agree. b is the base, h the list that base and events read as.
-use Rattle.std.specs.Prelude.{◌≡◌, ℕ, Bool, ◌||◌, Some, List, [], map, filter, length, slice_get, IsTrue, false, if◌then◌else◌}
-use Rattle.std.specs.Option.{option_map_or}
-use Rattle.rx_note.specs.declared.note.Terminal.{Terminal}
-use Rattle.rx_note.specs.declared.note.Terminal.TheVariants.{Error}
-use Rattle.rx_event.specs.declared.event.Mode.{Mode}
-use Rattle.rx_event.specs.declared.event.Event.{Event}
-use Rattle.rx_event.specs.declared.event.Event.TheVariants.{Hub, Connect, Accept, Lease, Close}
+use Rattle.rx_event.specs.Imports.{◌≡◌, ℕ, Bool, ◌||◌, Some, List, [], map, filter, length, slice_get, IsTrue, false, if◌then◌else◌, option_map_or, Terminal}
+use Rattle.rx_event.specs.Imports.{Error, Mode, Event, Hub, Connect, Accept, Lease, Close}
 use Rattle.rx_event.specs.declared.base.BaseHub.{BaseHub}
 use Rattle.rx_event.specs.declared.base.BaseNode.{BaseNode}
 use Rattle.rx_event.specs.declared.base.BaseResource.{BaseResource}

@@ -1,13 +1,6 @@
 -- The events that a call of the book adds before those that they force.
-use Rattle.std.specs.Prelude.{ℕ, ℤ, List, [], ◌∷◌, length, map}
-use Rattle.rx_note.specs.declared.note.Terminal.{Terminal}
-use Rattle.rx_note.specs.declared.note.Terminal.TheVariants.{Error}
-use Rattle.rx_event.specs.declared.event.Place.{Place}
-use Rattle.rx_event.specs.declared.event.Kind.{Kind}
-use Rattle.rx_event.specs.declared.event.Kind.TheVariants.{Pass}
-use Rattle.rx_event.specs.declared.event.Mode.{Mode}
-use Rattle.rx_event.specs.declared.event.Event.{Event}
-use Rattle.rx_event.specs.declared.event.Event.TheVariants.{Open, Hub, Connect, Accept, Use, Remove, Lease, Return, Item, Decline, End, Close, Take}
+use Rattle.rx_event.specs.Imports.{ℕ, ℤ, List, [], ◌∷◌, length, map, Terminal, Error, Place, Kind, Pass, Mode, Event, Open, Hub, Connect, Accept, Use, Remove}
+use Rattle.rx_event.specs.Imports.{Lease, Return, Item, Decline, End, Close, Take}
 use Rattle.rx_event.specs.Kept.{Kept}
 use Rattle.rx_event.specs.Tree.{open_connections}
 use Rattle.rx_event.specs.Lawful.{IsStep}

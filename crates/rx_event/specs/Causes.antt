@@ -1,19 +1,8 @@
 -- Which causes stand against a call: the table of refusals, a row for each call. In each row the causes stand in the order of refusal.
-use Rattle.std.specs.Prelude.{ℕ, ℤ, ◌+◌, ◌*◌, Bool, true, false, ◌&&◌, ◌==◌, nat_lt, List, length, count_by, if◌then◌else◌}
-use Rattle.std.proofs.Math.Bool.{not}
-use Rattle.std.specs.List.{list_any}
-use Rattle.std.specs.Option.{option_map_or}
-use Rattle.rx_event.specs.declared.event.Place.{Place}
-use Rattle.rx_event.specs.declared.event.Place.TheVariants.{Root, Source, Inner, Notifier}
-use Rattle.rx_event.specs.declared.event.Kind.{Kind}
-use Rattle.rx_event.specs.declared.event.Kind.TheVariants.{Sub}
-use Rattle.rx_event.specs.declared.event.Mode.{Mode}
-use Rattle.rx_event.specs.declared.event.Event.{Event}
-use Rattle.rx_event.specs.declared.event.Event.TheVariants.{Connect}
-use Rattle.rx_event.specs.declared.refusal.Refusal.{Refusal}
-use Rattle.rx_event.specs.declared.refusal.Refusal.TheVariants.{Full, Gone, WrongKind, PlaceTaken, NothingOwed, NotRoot}
-use Rattle.rx_event.specs.declared.refusal.Refusal.TheVariants.{NoHub, HubOrder, Connected, NotConnected}
-use Rattle.rx_event.specs.declared.refusal.Refusal.TheVariants.{NotFresh, NoLease, NotHeld, Leased, HasChild, MailLeft, TooMany}
+use Rattle.rx_event.specs.Imports.{ℕ, ℤ, ◌+◌, ◌*◌, Bool, true, false, ◌&&◌, ◌==◌, nat_lt, List, length, count_by, if◌then◌else◌, not, list_any, option_map_or}
+use Rattle.rx_event.specs.Imports.{Place, Root, Source, Inner, Notifier, Kind, Sub, Mode, Event, Connect, Refusal, Full, Gone, WrongKind, PlaceTaken}
+use Rattle.rx_event.specs.Imports.{NothingOwed, NotRoot, NoHub, HubOrder, Connected, NotConnected, NotFresh, NoLease, NotHeld, Leased, HasChild, MailLeft}
+use Rattle.rx_event.specs.Imports.{TooMany}
 use Rattle.rx_event.specs.Events.{makes_hub, named_by, has_source, is_leaf, is_merging, is_until, is_root, is_auto_hub, is_manual_hub}
 use Rattle.rx_event.specs.Kept.{Kept}
 use Rattle.rx_event.specs.Opened.{source_opened, notifier_opened}

@@ -1,3 +1,4 @@
+pub mod Imports
 pub mod Nodes
 pub mod Resources
 pub mod Totals

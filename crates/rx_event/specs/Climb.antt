@@ -1,11 +1,8 @@
 -- Where an item goes: up from its leaf, each operator passing on what reaches it (Observable Contract; FlatMap, Switch,
 -- TakeUntil; Publish: a connection passes on to every subscriber).
-use Rattle.std.specs.Prelude.{ℕ, zero, suc, Option, Some, None, List, [], ◌∷◌, ◌++◌, length, slice_get, if◌then◌else◌}
-use Rattle.std.specs.List.{filter_map}
-use Rattle.std.specs.Option.{option_and_then, option_map_or, option_to_list}
-use Rattle.rx_event.specs.declared.event.Place.TheVariants.{Root, Source, Notifier}
-use Rattle.rx_event.specs.declared.event.Event.{Event}
-use Rattle.rx_event.specs.declared.event.Event.TheVariants.{Open, Connect}
+use Rattle.rx_event.specs.Imports.{ℕ, zero, suc, Option, Some, None, List, [], ◌∷◌, ◌++◌, length, slice_get, if◌then◌else◌, filter_map, option_and_then}
+use Rattle.rx_event.specs.Imports.{option_map_or, Root, Source, Notifier, Event, Open, Connect}
+use Rattle.std.specs.Option.{option_to_list}
 use Rattle.rx_event.specs.Events.{is_merging}
 use Rattle.rx_event.specs.Tree.{at, parent, open_subscribers}
 

@@ -1,12 +1,7 @@
 -- Tests of one event. Numbers are places in a history: each names what the event at that place made.
-use Rattle.std.specs.Prelude.{ℕ, Bool, true, false, ◌==◌, Option, Some, None}
-use Rattle.rx_note.specs.declared.note.Terminal.TheVariants.{Completed, Error}
-use Rattle.rx_event.specs.declared.event.Place.{Place}
-use Rattle.rx_event.specs.declared.event.Place.TheVariants.{Root, Source, Inner, Notifier}
-use Rattle.rx_event.specs.declared.event.Kind.TheVariants.{Leaf, Pass, Flat, Switch, Until, Sub}
-use Rattle.rx_event.specs.declared.event.Mode.TheVariants.{Auto, Manual}
-use Rattle.rx_event.specs.declared.event.Event.{Event}
-use Rattle.rx_event.specs.declared.event.Event.TheVariants.{Open, Hub, Connect, Accept, Use, Remove, Lease, Return, Item, Decline, End, Close, Take}
+use Rattle.rx_event.specs.Imports.{ℕ, Bool, true, false, ◌==◌, Option, Some, None, Completed, Error, Place, Root, Source, Inner, Notifier, Leaf, Pass, Flat}
+use Rattle.rx_event.specs.Imports.{Switch, Until, Sub, Auto, Manual, Event, Open, Hub, Connect, Accept, Use, Remove, Lease, Return, Item, Decline, End, Close}
+use Rattle.rx_event.specs.Imports.{Take}
 
 -- what an event makes -----------------------------------------------------------------------------
 

@@ -1,12 +1,8 @@
 -- What operators must do before a caller may go on. While a hub waits for its connection nothing else is forced; among the
 -- rest the order is free.
-use Rattle.std.specs.Prelude.{◌≡◌, ℕ, ◌<◌, Some, List, [], slice_get, IsTrue, false}
+use Rattle.rx_event.specs.Imports.{◌≡◌, ℕ, ◌<◌, Some, List, [], slice_get, IsTrue, false, Terminal, Completed, Error, Event, Connect, End, Close}
 use Rattle.rx_event.specs.Kept.{Kept}
 use Rattle.rx_event.specs.Marks.{source_completed}
-use Rattle.rx_note.specs.declared.note.Terminal.{Terminal}
-use Rattle.rx_note.specs.declared.note.Terminal.TheVariants.{Completed, Error}
-use Rattle.rx_event.specs.declared.event.Event.{Event}
-use Rattle.rx_event.specs.declared.event.Event.TheVariants.{Connect, End, Close}
 use Rattle.rx_event.specs.Events.{is_mirroring, is_until, is_merging, is_auto_hub, is_subscriber_of}
 use Rattle.rx_event.specs.Tree.{at, parent, is_open, open_subscribers, open_connections}
 use Rattle.rx_event.specs.Moments.{owed, is_fired}

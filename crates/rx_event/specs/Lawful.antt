@@ -1,13 +1,6 @@
 -- Which histories there are, and what one call adds to one.
-use Rattle.std.specs.Prelude.{◌≡◌, ℕ, ◌+◌, ◌<◌, ◌≤◌, Some, None, List, [], ◌∷◌, ◌++◌, length, slice_get, take, count_by, IsTrue, false}
-use Rattle.std.specs.List.{AllByRecursion}
-use Rattle.rx_note.specs.declared.note.Terminal.{Terminal}
-use Rattle.rx_event.specs.declared.event.Place.{Place}
-use Rattle.rx_event.specs.declared.event.Place.TheVariants.{Root, Source, Inner, Notifier}
-use Rattle.rx_event.specs.declared.event.Kind.{Kind}
-use Rattle.rx_event.specs.declared.event.Kind.TheVariants.{Pass}
-use Rattle.rx_event.specs.declared.event.Event.{Event}
-use Rattle.rx_event.specs.declared.event.Event.TheVariants.{Open, Connect, Accept, Lease, End}
+use Rattle.rx_event.specs.Imports.{◌≡◌, ℕ, ◌+◌, ◌<◌, ◌≤◌, Some, None, List, [], ◌∷◌, ◌++◌, length, slice_get, take, count_by, IsTrue, false, AllByRecursion}
+use Rattle.rx_event.specs.Imports.{Terminal, Place, Root, Source, Inner, Notifier, Kind, Pass, Event, Open, Connect, Accept, Lease, End}
 use Rattle.rx_event.specs.Events.{has_source, is_merging, is_until, is_switch, is_source_of, is_inner_of, is_connect_of, makes_hub, makes_node, makes_resource}
 use Rattle.rx_event.specs.Events.{parent_named, is_making, pays}
 use Rattle.rx_event.specs.Kept.{Kept, shown, stored, node_kept, resource_kept}

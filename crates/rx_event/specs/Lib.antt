@@ -1,3 +1,4 @@
+pub mod Imports
 pub mod Events
 pub mod Kept
 pub mod Opened

@@ -1,10 +1,6 @@
 -- What each event did in the history before it.
-use Rattle.std.specs.Prelude.{ℕ, ◌+◌, ◌-◌, Bool, true, false, ◌==◌, List, [], ◌∷◌, ◌++◌, count_by, sum_by}
-use Rattle.std.specs.List.{list_any}
-use Rattle.std.specs.Option.{option_map_or}
+use Rattle.rx_event.specs.Imports.{ℕ, ◌+◌, ◌-◌, Bool, true, false, ◌==◌, List, [], ◌∷◌, ◌++◌, count_by, sum_by, list_any, option_map_or, Event, Item}
 use Rattle.rx_event.specs.Kept.{Kept, node_kept, shown}
-use Rattle.rx_event.specs.declared.event.Event.{Event}
-use Rattle.rx_event.specs.declared.event.Event.TheVariants.{Item}
 use Rattle.rx_event.specs.Events.{pays}
 use Rattle.rx_event.specs.Climb.{Stop, Delivery, Projection, Firing, stops}
 

@@ -1,11 +1,9 @@
 -- What observers are told (Observable Contract: OnNext, OnCompleted, OnError).
-use Rattle.std.specs.Prelude.{ℕ, ℤ, ◌==◌, Option, Some, None, List, [], ◌∷◌, length, filter, map, if◌then◌else◌}
-use Rattle.std.specs.List.{filter_map, flat_map}
+use Rattle.rx_event.specs.Imports.{ℕ, ℤ, ◌==◌, Option, Some, None, List, [], ◌∷◌, length, filter, map, if◌then◌else◌, filter_map, flat_map, Project, Event}
+use Rattle.rx_event.specs.Imports.{Item, End}
 use Rattle.rx_note.specs.declared.note.Note.{Note}
-use Rattle.rx_note.specs.declared.note.Note.TheVariants.{Next, Project}
+use Rattle.rx_note.specs.declared.note.Note.TheVariants.{Next}
 use Rattle.rx_event.specs.declared.mail.Mail.{Mail}
-use Rattle.rx_event.specs.declared.event.Event.{Event}
-use Rattle.rx_event.specs.declared.event.Event.TheVariants.{Item, End}
 use Rattle.rx_event.specs.Events.{is_root}
 use Rattle.rx_event.specs.Tree.{at}
 use Rattle.rx_event.specs.Climb.{Stop, Delivery, Projection, Firing, stops}

@@ -1,9 +1,5 @@
 -- Whether the places below a node were ever opened.
-use Rattle.std.specs.Prelude.{ℕ, Bool, false, List}
-use Rattle.std.proofs.Math.Bool.{◌||◌}
-use Rattle.std.specs.List.{list_any}
-use Rattle.std.specs.Option.{option_map_or}
-use Rattle.rx_event.specs.declared.event.Event.{Event}
+use Rattle.rx_event.specs.Imports.{ℕ, Bool, false, List, ◌||◌, list_any, option_map_or, Event}
 use Rattle.rx_event.specs.Events.{is_source_of, is_notifier_of}
 use Rattle.rx_event.specs.Kept.{Kept, node_kept}
 

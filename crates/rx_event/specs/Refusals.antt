@@ -1,8 +1,7 @@
 -- The order in which a call's causes of refusal are looked at.
-use Rattle.std.specs.Prelude.{◌≡◌, ◌⊎◌, Bool, Option, Some, None, List, [], ◌∷◌, if◌then◌else◌}
-use Rattle.rx_event.specs.declared.refusal.Refusal.{Refusal}
-use Rattle.rx_event.specs.declared.refusal.Refusal.TheVariants.{NoMemory, Full, Gone, WrongKind, PlaceTaken, NothingOwed, NotRoot, NoHub, HubOrder}
-use Rattle.rx_event.specs.declared.refusal.Refusal.TheVariants.{Connected, NotConnected, NotFresh, NotHeld, HasChild, MailLeft, TooMany, NoLease, Leased}
+use Rattle.rx_event.specs.Imports.{◌≡◌, ◌⊎◌, Bool, Option, Some, None, List, [], ◌∷◌, if◌then◌else◌, Refusal, Full, Gone, WrongKind, PlaceTaken, NothingOwed}
+use Rattle.rx_event.specs.Imports.{NotRoot, NoHub, HubOrder, Connected, NotConnected, NotFresh, NotHeld, HasChild, MailLeft, TooMany, NoLease, Leased}
+use Rattle.rx_event.specs.declared.refusal.Refusal.TheVariants.{NoMemory}
 
 abbrev pub refusal_order : List Refusal
 refusal_order = NoHub ∷ Gone ∷ WrongKind ∷ PlaceTaken ∷ NothingOwed ∷ NotRoot ∷ HubOrder ∷ Connected ∷ NotConnected ∷ NotFresh ∷ NoLease ∷ NotHeld ∷ Leased

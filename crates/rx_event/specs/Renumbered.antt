@@ -1,14 +1,8 @@
 -- Two histories that are the same but for their numbers, as far as what may come next can tell.
-use Rattle.std.specs.Prelude.{◌≡◌, ℕ, ◌+◌, ◌<◌, Bool, true, false, Some, List, length, slice_get, count_by, IsTrue}
-use Rattle.rx_note.specs.declared.note.Terminal.{Terminal}
+use Rattle.rx_event.specs.Imports.{◌≡◌, ℕ, ◌+◌, ◌<◌, Bool, true, false, Some, List, length, slice_get, count_by, IsTrue, Terminal, Place, Root, Source, Inner}
+use Rattle.rx_event.specs.Imports.{Notifier, Kind, Leaf, Pass, Flat, Switch, Until, Sub, Mode, Event, Open, Hub, Connect, Accept, Use, Remove, Lease, Return}
+use Rattle.rx_event.specs.Imports.{Item, Decline, End, Close, Take}
 use Rattle.rx_event.specs.Kept.{Kept}
-use Rattle.rx_event.specs.declared.event.Place.{Place}
-use Rattle.rx_event.specs.declared.event.Place.TheVariants.{Root, Source, Inner, Notifier}
-use Rattle.rx_event.specs.declared.event.Kind.{Kind}
-use Rattle.rx_event.specs.declared.event.Kind.TheVariants.{Leaf, Pass, Flat, Switch, Until, Sub}
-use Rattle.rx_event.specs.declared.event.Mode.{Mode}
-use Rattle.rx_event.specs.declared.event.Event.{Event}
-use Rattle.rx_event.specs.declared.event.Event.TheVariants.{Open, Hub, Connect, Accept, Use, Remove, Lease, Return, Item, Decline, End, Close, Take}
 use Rattle.rx_event.specs.Events.{makes_node, makes_hub, makes_resource, makes_lease}
 use Rattle.rx_event.specs.Tree.{at, is_open}
 use Rattle.rx_event.specs.Resources.{is_owned, is_out, leases_of, is_held, is_taken, uses}

@@ -1,10 +1,6 @@
 -- Where each resource is (Using: it is disposed of when the observer unsubscribes or the observable terminates; Finally).
-use Rattle.std.specs.Prelude.{ℕ, ◌+◌, Bool, false, ◌&&◌, nat_lt, Option, Some, List, slice_get, filter, count_by}
-use Rattle.std.proofs.Math.Bool.{not, ◌||◌}
-use Rattle.std.specs.List.{list_any}
-use Rattle.std.specs.Option.{option_and_then, option_map_or}
-use Rattle.rx_event.specs.declared.event.Event.{Event}
-use Rattle.rx_event.specs.declared.event.Event.TheVariants.{Accept}
+use Rattle.rx_event.specs.Imports.{ℕ, ◌+◌, Bool, false, ◌&&◌, nat_lt, Option, Some, List, slice_get, filter, count_by, not, ◌||◌, list_any, option_and_then}
+use Rattle.rx_event.specs.Imports.{option_map_or, Event, Accept}
 use Rattle.rx_event.specs.Kept.{Kept, resource_kept}
 use Rattle.rx_event.specs.Events.{makes_resource, makes_lease, node_of_accept, is_remove_of, is_lease_of, is_return_of, is_take_of, is_use_of}
 use Rattle.rx_event.specs.Tree.{at, is_open, places}

@@ -1,16 +1,8 @@
 -- Whether two events are the same, as a test.
-use Rattle.std.specs.Prelude.{Bool, true, false, ◌&&◌, ◌==◌}
+use Rattle.rx_event.specs.Imports.{Bool, true, false, ◌&&◌, ◌==◌, Terminal, Completed, Error, Place, Root, Source, Inner, Notifier, Kind, Leaf, Pass, Flat}
+use Rattle.rx_event.specs.Imports.{Switch, Until, Sub, Mode, Auto, Manual, Event, Open, Hub, Connect, Accept, Use, Remove, Lease, Return, Item, Decline, End}
+use Rattle.rx_event.specs.Imports.{Close, Take}
 use Rattle.std.specs.Ordering.{int_eq}
-use Rattle.rx_note.specs.declared.note.Terminal.{Terminal}
-use Rattle.rx_note.specs.declared.note.Terminal.TheVariants.{Completed, Error}
-use Rattle.rx_event.specs.declared.event.Place.{Place}
-use Rattle.rx_event.specs.declared.event.Place.TheVariants.{Root, Source, Inner, Notifier}
-use Rattle.rx_event.specs.declared.event.Kind.{Kind}
-use Rattle.rx_event.specs.declared.event.Kind.TheVariants.{Leaf, Pass, Flat, Switch, Until, Sub}
-use Rattle.rx_event.specs.declared.event.Mode.{Mode}
-use Rattle.rx_event.specs.declared.event.Mode.TheVariants.{Auto, Manual}
-use Rattle.rx_event.specs.declared.event.Event.{Event}
-use Rattle.rx_event.specs.declared.event.Event.TheVariants.{Open, Hub, Connect, Accept, Use, Remove, Lease, Return, Item, Decline, End, Close, Take}
 
 abbrev pub same_terminal : Terminal → Terminal → Bool
 same_terminal Completed Completed = true

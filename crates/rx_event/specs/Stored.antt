@@ -1,6 +1,5 @@
 -- What a stored history is.
-use Rattle.std.specs.Prelude.{ℕ, List}
-use Rattle.rx_event.specs.declared.event.Event.{Event}
+use Rattle.rx_event.specs.Imports.{ℕ, List, Event}
 use Rattle.rx_event.specs.Kept.{Kept}
 
 -- what it begins with; all events as one list, which begins with what that shows; how many there may be since; and how many more

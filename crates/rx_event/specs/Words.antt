@@ -1,9 +1,6 @@
 -- What an event says that is stored as words and numbers.
-use Rattle.std.specs.Prelude.{ℕ}
+use Rattle.rx_event.specs.Imports.{ℕ, Event, Kind, Place}
 use Rattle.rx_note.specs.declared.Terminal.{Terminal}
-use Rattle.rx_event.specs.declared.event.Event.{Event}
-use Rattle.rx_event.specs.declared.event.Kind.{Kind}
-use Rattle.rx_event.specs.declared.event.Place.{Place}
 use Rattle.rx_event.specs.declared.stored.EndWord.{EndWord}
 use Rattle.rx_event.specs.declared.stored.KindWord.{KindWord}
 use Rattle.rx_event.specs.declared.stored.PlaceWord.{PlaceWord}

@@ -1,20 +1,9 @@
 -- What is promised of checkpoints.
-use Rattle.std.specs.Prelude.{◌≡◌, ◌↔◌, ℕ, ◌-◌, List, [], ◌∷◌, ◌++◌, slice_get, count_by}
-use Rattle.std.specs.List.{list_any, AllByRecursion}
-use Rattle.rx_note.specs.declared.note.Terminal.{Terminal}
-use Rattle.rx_event.specs.declared.event.Event.{Event}
-use Rattle.rx_event.specs.Events.{is_source_of, is_notifier_of, is_use_of, is_item, is_take, makes_resource, pays}
-use Rattle.rx_event.specs.Opened.{source_opened, notifier_opened}
-use Rattle.rx_event.specs.Resources.{uses, accepted_by}
-use Rattle.rx_event.specs.Moments.{stops_of, moments, projections, owed}
-use Rattle.rx_event.specs.Notes.{mail_of}
-use Rattle.rx_event.specs.Marks.{completes_source, source_completed}
-use Rattle.rx_event.specs.Totals.{item_count, accepted_count, taken_count, debt}
-use Rattle.rx_event.specs.Forced.{IsConnectDue, IsForced, IsSettled}
-use Rattle.rx_event.specs.Allowed.{IsAllowed}
-use Rattle.rx_event.specs.Lawful.{Started, MayFollow, IsLawful}
-use Rattle.rx_event.specs.Kept.{Kept, nothing_kept, shown}
-use Rattle.rx_event.specs.Bases.{base_of, Mirrors, Fires, Fails, Completes, Cuts, Leaves, Agree}
+use Rattle.rx_event.specs.Claims.Imports.{◌≡◌, ◌↔◌, ℕ, ◌-◌, List, [], ◌∷◌, ◌++◌, slice_get, count_by, list_any, AllByRecursion, Terminal, Event, is_source_of}
+use Rattle.rx_event.specs.Claims.Imports.{is_notifier_of, is_use_of, is_item, is_take, makes_resource, pays, source_opened, notifier_opened, uses}
+use Rattle.rx_event.specs.Claims.Imports.{accepted_by, stops_of, moments, projections, owed, mail_of, completes_source, source_completed, item_count}
+use Rattle.rx_event.specs.Claims.Imports.{accepted_count, taken_count, debt, IsConnectDue, IsForced, IsSettled, IsAllowed, Started, MayFollow, IsLawful, Kept}
+use Rattle.rx_event.specs.Claims.Imports.{nothing_kept, shown, base_of, Mirrors, Fires, Fails, Completes, Cuts, Leaves, Agree}
 
 -- two lawful stored histories that agree are followed by the same
 pub record AgreeingGoOn (b : Kept) (h : List Event) (c : Kept) (k : List Event) (e : Event) : Type 0 where

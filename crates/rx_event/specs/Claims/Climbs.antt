@@ -1,14 +1,8 @@
 -- What is promised of climbs.
-use Rattle.std.specs.Prelude.{◌≡◌, ◌↔◌, ℕ, suc, ◌+◌, ◌*◌, ◌<◌, ◌≤◌, ◌==◌, if◌then◌else◌, Some, None, List}
-use Rattle.std.specs.Prelude.{[], ◌∷◌, ◌++◌, length, slice_get, take, count_by, sum_by, IsTrue}
-use Rattle.std.specs.List.{AllByRecursion, filter_map, flat_map}
-use Rattle.rx_event.specs.Kept.{Kept}
-use Rattle.rx_event.specs.declared.event.Event.{Event}
-use Rattle.rx_event.specs.declared.event.Event.TheVariants.{Connect}
-use Rattle.rx_event.specs.Events.{is_root, is_merging, is_until, is_subscriber_of}
-use Rattle.rx_event.specs.Tree.{at, places, is_within, is_open}
-use Rattle.rx_event.specs.Climb.{Stop, Delivery, Projection, Firing, stop_at, onward, most_visits, climb, stops, visits}
-use Rattle.rx_event.specs.Lawful.{IsLawful}
+use Rattle.rx_event.specs.Claims.Imports.{◌≡◌, ◌↔◌, ℕ, suc, ◌+◌, ◌*◌, ◌<◌, ◌≤◌, ◌==◌, if◌then◌else◌, Some, None, List, [], ◌∷◌, ◌++◌, length, slice_get, take}
+use Rattle.rx_event.specs.Claims.Imports.{count_by, sum_by, IsTrue, AllByRecursion, filter_map, flat_map, Event, Connect, Kept, is_root, is_merging, is_until}
+use Rattle.rx_event.specs.Claims.Imports.{is_subscriber_of, at, places, is_within, is_open, Stop, Delivery, Projection, Firing, stop_at, onward, most_visits}
+use Rattle.rx_event.specs.Claims.Imports.{climb, stops, visits, IsLawful}
 
 -- the whole climbs from these nodes, one after the other: a node, then the climbs of where it goes on, in order, and then those
 -- of the others

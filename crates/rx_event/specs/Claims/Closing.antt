@@ -1,16 +1,8 @@
 -- What is promised of closing everything: a caller unsubscribes its roots and disconnects what it connected, and the rest goes
 -- by itself.
-use Rattle.std.specs.Prelude.{◌≡◌, ℕ, ◌+◌, ◌≤◌, Bool, false, ◌&&◌, Some, List, [], ◌∷◌, ◌++◌, slice_get, count_by, IsTrue}
-use Rattle.std.proofs.Math.Bool.{not}
-use Rattle.std.specs.List.{list_all}
-use Rattle.rx_event.specs.Kept.{Kept}
-use Rattle.rx_event.specs.declared.event.Event.{Event}
-use Rattle.rx_event.specs.declared.event.Event.TheVariants.{Connect, Close}
-use Rattle.rx_event.specs.Events.{makes_node, makes_hub, is_root, is_manual_hub}
-use Rattle.rx_event.specs.Tree.{at, places, is_open, open_connections}
-use Rattle.rx_event.specs.Totals.{open_count}
-use Rattle.rx_event.specs.Forced.{IsSettled}
-use Rattle.rx_event.specs.Lawful.{IsForcedOn, IsLawful}
+use Rattle.rx_event.specs.Claims.Imports.{◌≡◌, ℕ, ◌+◌, ◌≤◌, Bool, false, ◌&&◌, Some, List, [], ◌∷◌, ◌++◌, slice_get, count_by, IsTrue, not, list_all, Event}
+use Rattle.rx_event.specs.Claims.Imports.{Connect, Close, Kept, makes_node, makes_hub, is_root, is_manual_hub, at, places, is_open, open_connections}
+use Rattle.rx_event.specs.Claims.Imports.{open_count, IsSettled, IsForcedOn, IsLawful}
 
 -- an open root
 abbrev pub is_open_root : List Event → ℕ → Bool

@@ -1,14 +1,7 @@
 -- What is promised of connections, one event after the other: by which of them all is told, and what each event changes.
-use Rattle.std.specs.Prelude.{◌≡◌, ◌↔◌, ◌⊎◌, ℕ, zero, suc, ◌<◌, ◌≤◌, Bool, false, ◌&&◌, Some, List}
-use Rattle.std.specs.Prelude.{[], ◌∷◌, ◌++◌, length, slice_get, sum_by, IsTrue, if◌then◌else◌}
-use Rattle.rx_note.specs.declared.note.Terminal.{Terminal}
-use Rattle.rx_event.specs.Kept.{Kept}
-use Rattle.rx_event.specs.declared.event.Event.{Event}
-use Rattle.rx_event.specs.declared.event.Event.TheVariants.{Connect, End, Close}
-use Rattle.rx_event.specs.Events.{is_connect_of, is_subscriber_of, hub_subscribed}
-use Rattle.rx_event.specs.Tree.{at, is_open, open_subscribers}
-use Rattle.rx_event.specs.Forced.{SourceEnded, IsDue, IsConnectDue}
-use Rattle.rx_event.specs.Lawful.{MayFollow, IsLawful}
+use Rattle.rx_event.specs.Claims.Imports.{◌≡◌, ◌↔◌, ◌⊎◌, ℕ, zero, suc, ◌<◌, ◌≤◌, Bool, false, ◌&&◌, Some, List, [], ◌∷◌, ◌++◌, length, slice_get, sum_by}
+use Rattle.rx_event.specs.Claims.Imports.{IsTrue, if◌then◌else◌, Terminal, Event, Connect, End, Close, Kept, is_connect_of, is_subscriber_of, hub_subscribed}
+use Rattle.rx_event.specs.Claims.Imports.{at, is_open, open_subscribers, SourceEnded, IsDue, IsConnectDue, MayFollow, IsLawful}
 
 -- the event at the place ends a connection of g so
 pub record EndsConnection (h : List Event) (g place : ℕ) (t : Terminal) : Type 0 where

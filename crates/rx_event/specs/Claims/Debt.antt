@@ -1,18 +1,8 @@
 -- What is promised of the debt.
-use Rattle.std.specs.Prelude.{◌≡◌, ℕ, ℤ, ◌+◌, ◌≤◌, false, List, [], ◌∷◌, ◌++◌, count_by}
-use Rattle.rx_note.specs.declared.note.Terminal.{Terminal}
-use Rattle.rx_event.specs.Kept.{Kept}
-use Rattle.rx_event.specs.declared.event.Place.TheVariants.{Root, Source, Inner, Notifier}
-use Rattle.rx_event.specs.declared.event.Kind.{Kind}
-use Rattle.rx_event.specs.declared.event.Mode.{Mode}
-use Rattle.rx_event.specs.declared.event.Event.{Event}
-use Rattle.rx_event.specs.declared.event.Event.TheVariants.{Open, Hub, Connect, Accept, Use, Remove, Lease, Return, Item, Decline, End, Close, Take}
-use Rattle.rx_event.specs.Events.{is_switch}
-use Rattle.rx_event.specs.Tree.{at}
-use Rattle.rx_event.specs.Climb.{stops}
-use Rattle.rx_event.specs.Moments.{is_projection}
-use Rattle.rx_event.specs.Totals.{open_count, owned_count, held_count, lease_count, waiting_count, owed_count, debt}
-use Rattle.rx_event.specs.Lawful.{MayFollow, IsLawful}
+use Rattle.rx_event.specs.Claims.Imports.{◌≡◌, ℕ, ℤ, ◌+◌, ◌≤◌, false, List, [], ◌∷◌, ◌++◌, count_by, Terminal, Root, Source, Inner, Notifier, Kind, Mode}
+use Rattle.rx_event.specs.Claims.Imports.{Event, Open, Hub, Connect, Accept, Use, Remove, Lease, Return, Item, Decline, End, Close, Take, Kept, is_switch, at}
+use Rattle.rx_event.specs.Claims.Imports.{stops, is_projection, open_count, owned_count, held_count, lease_count, waiting_count, owed_count, debt, MayFollow}
+use Rattle.rx_event.specs.Claims.Imports.{IsLawful}
 
 -- the debt after one more event
 pub record DebtChanges (base : Kept) : Type 0 where

@@ -1,18 +1,9 @@
 -- What is promised of the order in which forced events come: but for the places of ends and closings it leaves no trace.
-use Rattle.std.specs.Prelude.{◌≡◌, ℕ, ◌<◌, ◌≤◌, Bool, true, false, Some, List, length, slice_get, count_by, IsTrue}
-use Rattle.rx_note.specs.declared.note.Terminal.{Terminal}
-use Rattle.rx_event.specs.Kept.{Kept}
-use Rattle.rx_event.specs.declared.event.Event.{Event}
-use Rattle.rx_event.specs.declared.event.Event.TheVariants.{Connect, End, Close}
-use Rattle.rx_event.specs.Events.{makes_node}
-use Rattle.rx_event.specs.Tree.{is_open, open_nodes, open_connections, open_subscribers}
-use Rattle.rx_event.specs.Resources.{is_owned, is_out, leases_of, leases_out, is_held, is_taken, is_waiting, held_resources, waiting_resources, uses}
-use Rattle.rx_event.specs.Moments.{owed}
-use Rattle.rx_event.specs.Notes.{notes_to}
-use Rattle.rx_event.specs.Totals.{item_count, accepted_count, taken_count, open_count, owned_count, held_count, lease_count, waiting_count}
-use Rattle.rx_event.specs.Marks.{marks_of}
-use Rattle.rx_event.specs.Forced.{IsSettled}
-use Rattle.rx_event.specs.Lawful.{IsLawful, IsForcedOn, IsStep}
+use Rattle.rx_event.specs.Claims.Imports.{◌≡◌, ℕ, ◌<◌, ◌≤◌, Bool, true, false, Some, List, length, slice_get, count_by, IsTrue, Terminal, Event, Connect, End}
+use Rattle.rx_event.specs.Claims.Imports.{Close, Kept, makes_node, is_open, open_nodes, open_connections, open_subscribers, is_owned, is_out, leases_of}
+use Rattle.rx_event.specs.Claims.Imports.{leases_out, is_held, is_taken, is_waiting, held_resources, waiting_resources, uses, owed, notes_to, item_count}
+use Rattle.rx_event.specs.Claims.Imports.{accepted_count, taken_count, open_count, owned_count, held_count, lease_count, waiting_count, marks_of, IsSettled}
+use Rattle.rx_event.specs.Claims.Imports.{IsLawful, IsForcedOn, IsStep}
 
 -- the event ends a node, or closes one
 abbrev pub is_closing : Event → Bool

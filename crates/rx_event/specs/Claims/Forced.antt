@@ -1,14 +1,6 @@
 -- What is promised of what is forced.
-use Rattle.std.specs.Prelude.{◌≡◌, ℕ, ◌+◌, ◌≤◌, false, List, [], ◌∷◌, ◌++◌}
-use Rattle.std.specs.Option.{option_map_or}
-use Rattle.rx_event.specs.Kept.{Kept}
-use Rattle.rx_event.specs.declared.event.Event.{Event}
-use Rattle.rx_event.specs.declared.event.Event.TheVariants.{Accept}
-use Rattle.rx_event.specs.Events.{is_connect, hub_subscribed}
-use Rattle.rx_event.specs.Totals.{open_count, connect_count}
-use Rattle.rx_event.specs.Forced.{IsForced, IsSettled, IsConnected, MayWait}
-use Rattle.rx_event.specs.Allowed.{IsAllowed}
-use Rattle.rx_event.specs.Lawful.{IsForcedOn, IsLawful}
+use Rattle.rx_event.specs.Claims.Imports.{◌≡◌, ℕ, ◌+◌, ◌≤◌, false, List, [], ◌∷◌, ◌++◌, option_map_or, Event, Accept, Kept, is_connect, hub_subscribed}
+use Rattle.rx_event.specs.Claims.Imports.{open_count, connect_count, IsForced, IsSettled, IsConnected, MayWait, IsAllowed, IsForcedOn, IsLawful}
 
 -- one step connects one hub at most, and first; each other forced event closes a node
 pub record StepsConnectOnce (base : Kept) : Type 0 where

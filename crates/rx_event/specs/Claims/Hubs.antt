@@ -1,11 +1,7 @@
 -- What is promised of hubs.
-use Rattle.std.specs.Prelude.{◌≡◌, ◌≢◌, ℕ, ◌≤◌, List, [], length, IsTrue}
-use Rattle.rx_event.specs.Kept.{Kept}
-use Rattle.rx_event.specs.declared.event.Event.{Event}
-use Rattle.rx_event.specs.Events.{is_auto_hub}
-use Rattle.rx_event.specs.Tree.{at, open_subscribers, open_connections}
-use Rattle.rx_event.specs.Forced.{IsSettled}
-use Rattle.rx_event.specs.Lawful.{IsLawful}
+use Rattle.rx_event.specs.Claims.Imports.{◌≡◌, ℕ, ◌≤◌, List, [], length, IsTrue, Event, Kept, is_auto_hub, at, open_subscribers, open_connections, IsSettled}
+use Rattle.rx_event.specs.Claims.Imports.{IsLawful}
+use Rattle.std.specs.Prelude.{◌≢◌}
 
 -- a hub has at most one open connection (Publish: all subscribers share one subscription)
 pub record ConnectsOnce (base : Kept) : Type 0 where

@@ -1,17 +1,8 @@
 -- What is promised of marks.
-use Rattle.std.specs.Prelude.{◌≡◌, ℕ, ℤ, ◌<◌, true, false, Some, None, List, [], ◌∷◌, ◌++◌, length, slice_get, IsTrue}
-use Rattle.rx_note.specs.declared.note.Terminal.{Terminal}
-use Rattle.rx_event.specs.Kept.{Kept}
-use Rattle.rx_event.specs.declared.event.Place.TheVariants.{Source, Inner, Notifier}
-use Rattle.rx_event.specs.declared.event.Kind.{Kind}
-use Rattle.rx_event.specs.declared.event.Event.{Event}
-use Rattle.rx_event.specs.declared.event.Event.TheVariants.{Open, Item, Decline, End, Close}
-use Rattle.rx_event.specs.Events.{is_merging, is_switch, is_source_of, is_inner_of}
-use Rattle.rx_event.specs.Tree.{at, parent, is_open}
-use Rattle.rx_event.specs.Climb.{stops}
-use Rattle.rx_event.specs.Forced.{SourceEnded, IsDue, IsConnected, IsSettled}
-use Rattle.rx_event.specs.Marks.{marks_of, blank_marks, due_at, touches, after_source, after_notifier, after_inner, after_decline, after_child, after_stops}
-use Rattle.rx_event.specs.Lawful.{MayFollow, IsLawful}
+use Rattle.rx_event.specs.Claims.Imports.{◌≡◌, ℕ, ℤ, ◌<◌, true, false, Some, None, List, [], ◌∷◌, ◌++◌, length, slice_get, IsTrue, Terminal, Source, Inner}
+use Rattle.rx_event.specs.Claims.Imports.{Notifier, Kind, Event, Open, Item, Decline, End, Close, Kept, is_merging, is_switch, is_source_of, is_inner_of, at}
+use Rattle.rx_event.specs.Claims.Imports.{parent, is_open, stops, SourceEnded, IsDue, IsConnected, IsSettled, marks_of, blank_marks, due_at, touches}
+use Rattle.rx_event.specs.Claims.Imports.{after_source, after_notifier, after_inner, after_decline, after_child, after_stops, MayFollow, IsLawful}
 use Rattle.rx_event.specs.Claims.Nodes.{IsOpenInner}
 
 -- what is due at an open node is what its marks say, but for what hubs force

@@ -1,15 +1,7 @@
 -- What is promised of nodes.
-use Rattle.std.specs.Prelude.{◌≡◌, ℕ, ◌<◌, false, ◌&&◌, Some, List, [], ◌∷◌, ◌++◌, length, slice_get, IsTrue}
-use Rattle.std.proofs.Math.Bool.{not}
-use Rattle.rx_note.specs.declared.note.Terminal.{Terminal}
-use Rattle.rx_event.specs.Kept.{Kept}
-use Rattle.rx_event.specs.declared.event.Place.TheVariants.{Source, Inner, Notifier}
-use Rattle.rx_event.specs.declared.event.Kind.{Kind}
-use Rattle.rx_event.specs.declared.event.Event.{Event}
-use Rattle.rx_event.specs.declared.event.Event.TheVariants.{Open, Connect, End, Close}
-use Rattle.rx_event.specs.Events.{makes_node, has_source, is_merging, is_until, is_switch, is_inner_of}
-use Rattle.rx_event.specs.Tree.{at, parent, is_within, is_open, shuts}
-use Rattle.rx_event.specs.Lawful.{MayFollow, IsLawful}
+use Rattle.rx_event.specs.Claims.Imports.{◌≡◌, ℕ, ◌<◌, false, ◌&&◌, Some, List, [], ◌∷◌, ◌++◌, length, slice_get, IsTrue, not, Terminal, Source, Inner}
+use Rattle.rx_event.specs.Claims.Imports.{Notifier, Kind, Event, Open, Connect, End, Close, Kept, makes_node, has_source, is_merging, is_until, is_switch}
+use Rattle.rx_event.specs.Claims.Imports.{is_inner_of, at, parent, is_within, is_open, shuts, MayFollow, IsLawful}
 
 -- a node below one that is not open is not open; and a node that is not open stays so under any further event
 pub record ClosedStaysClosed : Type 0 where

@@ -1,14 +1,7 @@
 -- What is promised of notes.
-use Rattle.std.specs.Prelude.{◌≡◌, ℕ, ℤ, false, List, [], ◌∷◌, ◌++◌}
-use Rattle.std.specs.List.{AllByRecursion}
-use Rattle.rx_note.specs.declared.note.Note.TheVariants.{Project}
+use Rattle.rx_event.specs.Claims.Imports.{◌≡◌, ℕ, ℤ, false, List, [], ◌∷◌, ◌++◌, AllByRecursion, Project, Event, Kept, is_root, at, is_open, notes_to}
+use Rattle.rx_event.specs.Claims.Imports.{MayFollow, IsLawful}
 use Rattle.rx_note.specs.Notes.{IsGrammatical}
-use Rattle.rx_event.specs.Kept.{Kept}
-use Rattle.rx_event.specs.declared.event.Event.{Event}
-use Rattle.rx_event.specs.Events.{is_root}
-use Rattle.rx_event.specs.Tree.{at, is_open}
-use Rattle.rx_event.specs.Notes.{notes_to}
-use Rattle.rx_event.specs.Lawful.{MayFollow, IsLawful}
 
 -- each observer is told items, then at most one end, then nothing (Observable Contract)
 pub record NotesInOrder (base : Kept) : Type 0 where

@@ -1,13 +1,6 @@
 -- What is promised of histories that are the same but for their numbers, and of the one order of what is forced.
-use Rattle.std.specs.Prelude.{◌≡◌, ℕ, None, List, [], ◌∷◌, ◌++◌}
-use Rattle.rx_event.specs.Kept.{Kept, shown}
-use Rattle.rx_event.specs.declared.event.Event.{Event}
-use Rattle.rx_event.specs.Forced.{IsForced, IsSettled}
-use Rattle.rx_event.specs.Allowed.{IsAllowed}
-use Rattle.rx_event.specs.Lawful.{Started, MayFollow, IsLawful, IsForcedOn}
-use Rattle.rx_event.specs.Calls.{Call, IsStepOf}
-use Rattle.rx_event.specs.Renumbered.{event_by, call_by, IsKnown, AreSameBy, AreSame, AreSameSince}
-use Rattle.rx_event.specs.Canonical.{first_forced, IsFirstOn}
+use Rattle.rx_event.specs.Claims.Imports.{◌≡◌, ℕ, None, List, [], ◌∷◌, ◌++◌, Event, Kept, shown, IsForced, IsSettled, IsAllowed, Started, MayFollow, IsLawful}
+use Rattle.rx_event.specs.Claims.Imports.{IsForcedOn, Call, IsStepOf, event_by, call_by, IsKnown, AreSameBy, AreSame, AreSameSince, first_forced, IsFirstOn}
 
 -- the same may come next in both, and leaves both the same
 pub record NumbersDoNotMatter (base : Kept) : Type 0 where

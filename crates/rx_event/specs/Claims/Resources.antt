@@ -1,15 +1,9 @@
 -- What is promised of resources.
-use Rattle.std.specs.Prelude.{◌≡◌, ℕ, ◌+◌, ◌<◌, ◌≤◌, ◌==◌, false, ◌&&◌, ◌||◌, Some, List, [], ◌∷◌, ◌++◌, length, slice_get, if◌then◌else◌, IsTrue}
-use Rattle.std.proofs.Math.Bool.{not}
-use Rattle.rx_note.specs.declared.note.Terminal.{Terminal}
-use Rattle.rx_event.specs.Kept.{Kept}
-use Rattle.rx_event.specs.declared.event.Event.{Event}
-use Rattle.rx_event.specs.declared.event.Event.TheVariants.{Accept, Remove, Lease, Return, End, Close}
-use Rattle.rx_event.specs.Events.{makes_resource, makes_lease, is_remove_of, is_lease_of, is_return, is_return_of, is_take_of}
-use Rattle.rx_event.specs.Tree.{at, is_within, is_open}
-use Rattle.rx_event.specs.Resources.{is_owned, is_out, leases_of, is_leased, is_held, is_taken, is_waiting}
-use Rattle.rx_event.specs.Totals.{open_count, accepted_count, owned_count, held_count, lease_count, waiting_count, taken_count}
-use Rattle.rx_event.specs.Lawful.{MayFollow, IsLawful}
+use Rattle.rx_event.specs.Claims.Imports.{◌≡◌, ℕ, ◌+◌, ◌<◌, ◌≤◌, ◌==◌, false, ◌&&◌, ◌||◌, Some, List, [], ◌∷◌, ◌++◌, length, slice_get, if◌then◌else◌, IsTrue}
+use Rattle.rx_event.specs.Claims.Imports.{not, Terminal, Event, Accept, Remove, Lease, Return, End, Close, Kept, makes_resource, makes_lease, is_remove_of}
+use Rattle.rx_event.specs.Claims.Imports.{is_lease_of, is_return, is_return_of, is_take_of, at, is_within, is_open, is_owned, is_out, leases_of, is_leased}
+use Rattle.rx_event.specs.Claims.Imports.{is_held, is_taken, is_waiting, open_count, accepted_count, owned_count, held_count, lease_count, waiting_count}
+use Rattle.rx_event.specs.Claims.Imports.{taken_count, MayFollow, IsLawful}
 
 -- each resource is held, waits, or was taken, and only one of these
 pub record EachInOnePlace (base : Kept) : Type 0 where

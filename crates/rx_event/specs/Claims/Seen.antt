@@ -1,17 +1,8 @@
 -- What callers see of histories that are the same but for their numbers.
-use Rattle.std.specs.Prelude.{◌≡◌, ℕ, List, map, length, IsTrue}
-use Rattle.rx_event.specs.Kept.{Kept}
-use Rattle.rx_event.specs.declared.event.Event.{Event}
-use Rattle.rx_event.specs.Events.{makes_node, makes_hub, makes_resource, makes_lease, has_source, is_leaf, is_merging, is_until, is_root, is_auto_hub}
-use Rattle.rx_event.specs.Events.{is_manual_hub}
-use Rattle.rx_event.specs.Tree.{at, hubs, is_open, open_nodes, open_connections, open_subscribers, has_open_child}
-use Rattle.rx_event.specs.Resources.{is_owned, is_out, leases_of, is_held, is_waiting}
-use Rattle.rx_event.specs.Climb.{visits}
-use Rattle.rx_event.specs.Moments.{owed}
-use Rattle.rx_event.specs.Opened.{source_opened, notifier_opened}
-use Rattle.rx_event.specs.Totals.{open_count}
-use Rattle.rx_event.specs.Allowed.{may_abort, IsInOrderAt}
-use Rattle.rx_event.specs.Renumbered.{AreSameBy}
+use Rattle.rx_event.specs.Claims.Imports.{◌≡◌, ℕ, List, map, length, IsTrue, Event, Kept, makes_node, makes_hub, makes_resource, makes_lease, has_source}
+use Rattle.rx_event.specs.Claims.Imports.{is_leaf, is_merging, is_until, is_root, is_auto_hub, is_manual_hub, at, hubs, is_open, open_nodes, open_connections}
+use Rattle.rx_event.specs.Claims.Imports.{open_subscribers, has_open_child, is_owned, is_out, leases_of, is_held, is_waiting, visits, owed, source_opened}
+use Rattle.rx_event.specs.Claims.Imports.{notifier_opened, open_count, may_abort, IsInOrderAt, AreSameBy}
 
 -- all that a refusal may rest on
 pub record CallersSeeTheSame (base : Kept) (r s : ℕ → ℕ) (h c : List Event) : Type 0 where

@@ -1,19 +1,7 @@
 -- What is promised of what stays open through what is forced, and of events that force nothing.
-use Rattle.std.specs.Prelude.{◌≡◌, ℕ, Bool, true, false, Some, None, List, [], ◌∷◌, ◌++◌, length, slice_get, IsTrue}
-use Rattle.std.specs.List.{list_any}
-use Rattle.rx_note.specs.declared.note.Terminal.{Terminal}
-use Rattle.rx_event.specs.Kept.{Kept}
-use Rattle.rx_event.specs.declared.event.Place.{Place}
-use Rattle.rx_event.specs.declared.event.Kind.{Kind}
-use Rattle.rx_event.specs.declared.event.Kind.TheVariants.{Pass, Sub}
-use Rattle.rx_event.specs.declared.event.Event.{Event}
-use Rattle.rx_event.specs.declared.event.Event.TheVariants.{Open, Connect, Accept, Decline, End}
-use Rattle.rx_event.specs.Events.{hub_subscribed}
-use Rattle.rx_event.specs.Tree.{is_open}
-use Rattle.rx_event.specs.Moments.{is_firing_of, stops_of}
-use Rattle.rx_event.specs.Marks.{marks_of, due_at}
-use Rattle.rx_event.specs.Forced.{IsDue, IsForced, IsSettled}
-use Rattle.rx_event.specs.Lawful.{MayFollow, IsLawful, IsForcedOn}
+use Rattle.rx_event.specs.Claims.Imports.{◌≡◌, ℕ, Bool, true, false, Some, None, List, [], ◌∷◌, ◌++◌, length, slice_get, IsTrue, list_any, Terminal, Place}
+use Rattle.rx_event.specs.Claims.Imports.{Kind, Pass, Sub, Event, Open, Connect, Accept, Decline, End, Kept, hub_subscribed, is_open, is_firing_of, stops_of}
+use Rattle.rx_event.specs.Claims.Imports.{marks_of, due_at, IsDue, IsForced, IsSettled, MayFollow, IsLawful, IsForcedOn}
 
 -- the event ends a node, or declines what a FlatMap or Switch owes
 abbrev pub ends_or_declines : Event → Bool

@@ -1,17 +1,9 @@
 -- What is promised of totals.
-use Rattle.std.specs.Prelude.{◌≡◌, ℕ, ◌+◌, ◌≤◌, false, ◌&&◌, List, [], ◌∷◌, ◌++◌, length, count_by, if◌then◌else◌, IsTrue}
-use Rattle.rx_note.specs.declared.note.Terminal.{Terminal}
-use Rattle.rx_event.specs.Kept.{Kept}
-use Rattle.rx_event.specs.declared.event.Place.TheVariants.{Inner}
-use Rattle.rx_event.specs.declared.event.Kind.{Kind}
-use Rattle.rx_event.specs.declared.event.Event.{Event}
-use Rattle.rx_event.specs.declared.event.Event.TheVariants.{Open, Accept, Remove, End, Close, Take}
-use Rattle.rx_event.specs.Events.{makes_node, makes_resource, makes_lease, is_item, is_take, is_return, is_use_of, pays}
-use Rattle.rx_event.specs.Tree.{places, is_within, is_open, shuts}
-use Rattle.rx_event.specs.Resources.{is_leased, uses}
-use Rattle.rx_event.specs.Moments.{owed, is_projection_to, stops_of}
-use Rattle.rx_event.specs.Totals.{item_count, accepted_count, taken_count, owned_count, held_count, lease_count, waiting_count, open_count}
-use Rattle.rx_event.specs.Lawful.{MayFollow, IsLawful}
+use Rattle.rx_event.specs.Claims.Imports.{◌≡◌, ℕ, ◌+◌, ◌≤◌, false, ◌&&◌, List, [], ◌∷◌, ◌++◌, length, count_by, if◌then◌else◌, IsTrue, Terminal, Inner, Kind}
+use Rattle.rx_event.specs.Claims.Imports.{Event, Open, Accept, Remove, End, Close, Take, Kept, makes_node, makes_resource, makes_lease, is_item, is_take}
+use Rattle.rx_event.specs.Claims.Imports.{is_return, is_use_of, pays, places, is_within, is_open, shuts, is_leased, uses, owed, is_projection_to, stops_of}
+use Rattle.rx_event.specs.Claims.Imports.{item_count, accepted_count, taken_count, owned_count, held_count, lease_count, waiting_count, open_count, MayFollow}
+use Rattle.rx_event.specs.Claims.Imports.{IsLawful}
 use Rattle.rx_event.specs.Claims.Nodes.{IsOpenInner}
 
 -- the totals after one more event

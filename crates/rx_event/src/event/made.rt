@@ -134,13 +134,7 @@ impl Event {
     pub fn may_abort(self) -> bool
         ensures { result ≡ may_abort self }
     {
-        matches!(
-            self,
-            Event::Open {
-                kind: Kind::Pass | Kind::Flat | Kind::Switch | Kind::Until,
-                ..
-            } | Event::Connect(_)
-        )
+        self.has_source()
     }
 
     /// Whether it makes a hub with RefCount.
