@@ -37,8 +37,7 @@ debt-counts base h =
     let c = sum_by-plus (λ n. cond (is_open h n) 1 0 + kept_debt h n + cond (is_out h n) 1 0) (owed_open base h) (length h) in
     let k = sum_by-same (λ r. cond (is_owned h r) 1 0 + cond (is_held h r) 1 0 + cond (is_waiting h r) 1 0) (kept_debt h) (length h) (λ r l. kept_parts h r) in
     let d = sum_by-plus (λ r. cond (is_owned h r) 1 0 + cond (is_held h r) 1 0) (λ r. cond (is_waiting h r) 1 0) (length h) in
-    let e = sum_by-plus (λ r. cond (is_owned h r) 1 0) (λ r. cond (is_held h r) 1 0) (length h) in
-    omega arith
+    let e = sum_by-plus (λ r. cond (is_owned h r) 1 0) (λ r. cond (is_held h r) 1 0) (length h) in omega arith
 
 -- owed --------------------------------------------------------------------------------------------
 
@@ -59,8 +58,7 @@ pub owed_count-push : (base : Kept) → (h : List Event) (e : Event) → IsLawfu
     owed_count base (h ++ e ∷ []) + paid_count h e ≡ owed_count base h + sum_by (projected_open h (stops_of h e)) (places h)
 owed_count-push base h e law next whole =
     let older = owed_count_older base h law e in
-    let balance =
-    sums_balance (owed_open base (h ++ e ∷ [])) (λ n. cond ((is_open h n && at is_merging h n) && pays n e) 1 0) (owed_open base h)
+    let balance = sums_balance (owed_open base (h ++ e ∷ [])) (λ n. cond ((is_open h n && at is_merging h n) && pays n e) 1 0) (owed_open base h)
     (projected_open h (stops_of h e)) (length h) (λ n l.
     rw (is_open_cut h e n l, whole n, at-append is_merging h (e ∷ []) n l) (shape (is_open h n) (at is_merging h n) (pays n e) _ _ _
     (owed-push base h e law next n))) in
@@ -72,54 +70,44 @@ owed_count-push base h e law next whole =
 
 owed_open_no_rise : (base : Kept) → (h : List Event) (e : Event) → IsLawful base h → MayFollow base h e → stops_of h e ≡ [] → (n : ℕ) → n < length h →
     owed_open base (h ++ e ∷ []) n ≤ owed_open base h n
-owed_open_no_rise base h e law next no_stops n l =
-    search (rules, owed-push, count_by, is_open_cut, at-append, cond, not)
+owed_open_no_rise base h e law next no_stops n l = search (rules, owed-push, count_by, is_open_cut, at-append, cond, not)
 
 -- an event that projects nothing raises nothing that is owed
 pub owed_count_no_rise : (base : Kept) → (h : List Event) (e : Event) → IsLawful base h → MayFollow base h e → stops_of h e ≡ [] →
     owed_count base (h ++ e ∷ []) ≤ owed_count base h
-owed_count_no_rise base h e law next no_stops =
-    search (rules, owed_count_older, sum_by_no_rise, length, owed_open_no_rise)
+owed_count_no_rise base h e law next no_stops = search (rules, owed_count_older, sum_by_no_rise, length, owed_open_no_rise)
 
 -- the opening of an inner pays one
 pub owed_count_falls-inner : (base : Kept) → (h : List Event) (f : ℕ) (kind : Kind) → IsLawful base h → MayFollow base h (Open (Inner f) kind) →
     owed_count base (h ++ Open (Inner f) kind ∷ []) + 1 ≤ owed_count base h
 owed_count_falls-inner base h f kind law next =
+    let l : f < length h = is_open_within h f (may_open base next).0 in
+    let at_f : owed_open base (h ++ Open (Inner f) kind ∷ []) f + 1 ≤ owed_open base h f =
+    let b : owed base (h ++ Open (Inner f) kind ∷ []) f + cond (f == f) 1 0 ≡ owed base h f + 0 = owed-push base h (Open (Inner f) kind) law next f in
+    let c : cond {A = ℕ} (f == f) 1 0 ≡ 1 = one_if (eq-eqb f f refl) in
+    rw (
+      is_open_cut h (Open (Inner f) kind) f l,
+      is_cut_inner h f kind f (omega arith),
+      at-append is_merging h (Open (Inner f) kind ∷ []) f l,
+      (may_open base next).0,
+      (may_open base next).1,
+    ) (omega arith) in
     let older = owed_count_older base h law (Open (Inner f) kind) in
-    let falls =
-    sum_by_falls (owed_open base h) (owed_open base (h ++ Open (Inner f) kind ∷ [])) (length h) f l
+    let falls = sum_by_falls (owed_open base h) (owed_open base (h ++ Open (Inner f) kind ∷ [])) (length h) f l
     (owed_open_no_rise base h (Open (Inner f) kind) law next refl) at_f in
     omega arith
-  where
-    l : f < length h
-    l = is_open_within h f (may_open base next).0
-
-    at_f : owed_open base (h ++ Open (Inner f) kind ∷ []) f + 1 ≤ owed_open base h f
-    at_f =
-        let b : owed base (h ++ Open (Inner f) kind ∷ []) f + cond (f == f) 1 0 ≡ owed base h f + 0 = owed-push base h (Open (Inner f) kind) law next f in
-        let c : cond {A = ℕ} (f == f) 1 0 ≡ 1 = one_if (eq-eqb f f refl) in
-        rw (
-          is_open_cut h (Open (Inner f) kind) f l,
-          is_cut_inner h f kind f (omega arith),
-          at-append is_merging h (Open (Inner f) kind ∷ []) f l,
-          (may_open base next).0,
-          (may_open base next).1,
-        ) (omega arith)
 
 paid_none : (h : List Event) (e : Event) → ((n : ℕ) → pays n e ≡ false) → paid_count h e ≡ 0
 paid_none h e never = sum_by_none _ (length h) (λ n l. rw (never n) (none_counted (is_open h n && at is_merging h n)))
 
 paid_one : (h : List Event) (e : Event) (f : ℕ) → is_open h f ≡ true → at is_merging h f ≡ true → ((n : ℕ) → pays n e ≡ (f == n)) → paid_count h e ≡ 1
-paid_one h e f o m just =
-    sum_by-same (λ n. cond (f == n) 1 0) (λ n. cond ((is_open h n && at is_merging h n) && pays n e) 1 0) (length h)
-    (λ n l. rw (just n) (by_number n (f == n) refl)) ∙
-    count_by_one f (length h) (is_open_within h f o)
+paid_one h e f o m just = sum_by-same (λ n. cond (f == n) 1 0) (λ n. cond ((is_open h n && at is_merging h n) && pays n e) 1 0) (length h)
+    (λ n l. rw (just n) (by_number n (f == n) refl)) ∙ count_by_one f (length h) (is_open_within h f o)
   where
     by_number : (n : ℕ) (b : Bool) → (f == n) ≡ b → cond {A = ℕ} ((is_open h n && at is_merging h n) && b) 1 0 ≡ cond b 1 0
     by_number n true same =
         let p : is_open h n ≡ true = rw (← eqb-true f n same) o in
-        let q : at is_merging h n ≡ true = rw (← eqb-true f n same) m in
-        rw (p, q) refl
+        let q : at is_merging h n ≡ true = rw (← eqb-true f n same) m in rw (p, q) refl
     by_number n false apart = none_counted (is_open h n && at is_merging h n)
 
 projects_nothing : (h : List Event) → sum_by (projected_open h []) (places h) ≡ 0
@@ -143,188 +131,112 @@ no_loss h e whole keeps = unowned_none h e (λ r. by_node (node_of h r) (keeps r
   by_node None none = none
   by_node (Some n) none = rw (whole n) none
 
--- The event takes nothing away and makes no resource, and it neither pays nor projects
-record TakesNone (h : List Event) (e : Event) : Type 0 where
-  pub shuts : shuts_none e ≡ true
-  pub accepts : makes_resource e ≡ false
-  pub takes : is_take e ≡ false
-  pub returns : is_return e ≡ false
-  pub removes_none : (r : ℕ) → is_remove_of r e ≡ false
-  pub declines : (n : ℕ) → pays n e ≡ false
-  pub climbs : stops_of h e ≡ []
+-- the debt after an event that shuts nothing: what it takes away and pays, against what it makes and projects
+debt_whole : (base : Kept) → (h : List Event) (e : Event) → IsLawful base h → MayFollow base h e → ((n : ℕ) → is_cut h e n ≡ false) →
+    debt base (h ++ e ∷ []) + unowned_count h e + cond (is_take e) 1 0 + cond (is_return e) 1 0 + paid_count h e ≡ debt base h + cond (makes_node e) 1 0 +
+    2 * cond (makes_resource e) 1 0 + cond (makes_lease e) 1 0 + sum_by (projected_open h (stops_of h e)) (places h)
+debt_whole base h e law next whole =
+    let b = debt-push base h e law next in let c = no_cut_count h e whole in let w = owed_count-push base h e law next whole in omega arith
 
--- it does no more than to make a node or a lease
-abbrev only_makes : Event → Bool
-only_makes (Open Root kind) = true
-only_makes (Open (Source p) kind) = true
-only_makes (Open (Notifier p) kind) = true
-only_makes (Connect g) = true
-only_makes (Hub mode) = true
-only_makes (Use r) = true
-only_makes (Lease r) = true
-only_makes _ = false
-
-takes_none : (h : List Event) (e : Event) → only_makes e ≡ true → TakesNone h e
-takes_none h (Open Root kind) only =
-    record { shuts = refl; accepts = refl; takes = refl; returns = refl; removes_none = λ r. refl; declines = λ n. refl; climbs = refl }
-takes_none h (Open (Source p) kind) only =
-    record { shuts = refl; accepts = refl; takes = refl; returns = refl; removes_none = λ r. refl; declines = λ n. refl; climbs = refl }
-takes_none h (Open (Notifier p) kind) only =
-    record { shuts = refl; accepts = refl; takes = refl; returns = refl; removes_none = λ r. refl; declines = λ n. refl; climbs = refl }
-takes_none h (Open (Inner p) kind) only = absurd (false≢true only)
-takes_none h (Connect g) only =
-    record { shuts = refl; accepts = refl; takes = refl; returns = refl; removes_none = λ r. refl; declines = λ n. refl; climbs = refl }
-takes_none h (Hub mode) only =
-    record { shuts = refl; accepts = refl; takes = refl; returns = refl; removes_none = λ r. refl; declines = λ n. refl; climbs = refl }
-takes_none h (Use q) only =
-    record { shuts = refl; accepts = refl; takes = refl; returns = refl; removes_none = λ r. refl; declines = λ n. refl; climbs = refl }
-takes_none h (Lease q) only =
-    record { shuts = refl; accepts = refl; takes = refl; returns = refl; removes_none = λ r. refl; declines = λ n. refl; climbs = refl }
-takes_none h _ only = absurd (false≢true only)
-
-debt_made : (base : Kept) → (h : List Event) (e : Event) → IsLawful base h → MayFollow base h e → only_makes e ≡ true →
-    debt base (h ++ e ∷ []) ≡ debt base h + cond (makes_node e) 1 0 + cond (makes_lease e) 1 0
-debt_made base h e law next only =
-    let plain = takes_none h e only in
-    let whole : (n : ℕ) → is_cut h e n ≡ false = λ n. is_cut_none h e n plain.shuts in
-    let b = debt-push base h e law next in
-    let c = no_cut_count h e whole in
-    let d = no_loss h e whole plain.removes_none in
-    let t = one_if plain.takes in
-    let l = one_if plain.returns in
-    let a = one_if plain.accepts in
-    let w = owed_count-push base h e law next whole in
-    let p = paid_none h e plain.declines in
-    let q : sum_by (projected_open h (stops_of h e)) (places h) ≡ 0 = ap (λ ss. sum_by (projected_open h ss) (places h)) plain.climbs ∙ projects_nothing h in
+-- and after one that neither removes nor pays nor projects either
+debt_made : (base : Kept) → (h : List Event) (e : Event) → IsLawful base h → MayFollow base h e → shuts_none e ≡ true →
+    ((r : ℕ) → is_remove_of r e ≡ false) → ((n : ℕ) → pays n e ≡ false) → stops_of h e ≡ [] →
+    debt base (h ++ e ∷ []) + cond (is_take e) 1 0 + cond (is_return e) 1 0 ≡
+    debt base h + cond (makes_node e) 1 0 + 2 * cond (makes_resource e) 1 0 + cond (makes_lease e) 1 0
+debt_made base h e law next shuts keeps unpaid still =
+    let whole : (n : ℕ) → is_cut h e n ≡ false = λ n. is_cut_none h e n shuts in
+    let b = debt_whole base h e law next whole in
+    let d = no_loss h e whole keeps in
+    let p = paid_none h e unpaid in
+    let q : sum_by (projected_open h (stops_of h e)) (places h) ≡ 0 = ap (λ ss. sum_by (projected_open h ss) (places h)) still ∙ projects_nothing h in
     omega arith
 
 -- one more open node
 pub debt-root : (base : Kept) → (h : List Event) (kind : Kind) → IsLawful base h → MayFollow base h (Open Root kind) →
     debt base (h ++ Open Root kind ∷ []) ≡ debt base h + 1
-debt-root base h kind law next = let b = debt_made base h (Open Root kind) law next refl in omega arith
+debt-root base h kind law next = let b = debt_made base h (Open Root kind) law next refl (λ r. refl) (λ n. refl) refl in omega arith
 
 pub debt-source : (base : Kept) → (h : List Event) (p : ℕ) (kind : Kind) → IsLawful base h → MayFollow base h (Open (Source p) kind) →
     debt base (h ++ Open (Source p) kind ∷ []) ≡ debt base h + 1
-debt-source base h p kind law next = let b = debt_made base h (Open (Source p) kind) law next refl in omega arith
+debt-source base h p kind law next = let b = debt_made base h (Open (Source p) kind) law next refl (λ r. refl) (λ n. refl) refl in omega arith
 
 pub debt-notifier : (base : Kept) → (h : List Event) (p : ℕ) (kind : Kind) → IsLawful base h → MayFollow base h (Open (Notifier p) kind) →
     debt base (h ++ Open (Notifier p) kind ∷ []) ≡ debt base h + 1
-debt-notifier base h p kind law next = let b = debt_made base h (Open (Notifier p) kind) law next refl in omega arith
+debt-notifier base h p kind law next = let b = debt_made base h (Open (Notifier p) kind) law next refl (λ r. refl) (λ n. refl) refl in omega arith
 
 pub debt-connect : (base : Kept) → (h : List Event) (g : ℕ) → IsLawful base h → MayFollow base h (Connect g) → debt base (h ++ Connect g ∷ []) ≡ debt base h + 1
-debt-connect base h g law next = let b = debt_made base h (Connect g) law next refl in omega arith
+debt-connect base h g law next = let b = debt_made base h (Connect g) law next refl (λ r. refl) (λ n. refl) refl in omega arith
 
 -- a hub and a use cost nothing
 pub debt-hub : (base : Kept) → (h : List Event) (mode : Mode) → IsLawful base h → MayFollow base h (Hub mode) → debt base (h ++ Hub mode ∷ []) ≡ debt base h
-debt-hub base h mode law next = let b = debt_made base h (Hub mode) law next refl in omega arith
+debt-hub base h mode law next = let b = debt_made base h (Hub mode) law next refl (λ r. refl) (λ n. refl) refl in omega arith
 
 pub debt-use : (base : Kept) → (h : List Event) (r : ℕ) → IsLawful base h → MayFollow base h (Use r) → debt base (h ++ Use r ∷ []) ≡ debt base h
-debt-use base h r law next = let b = debt_made base h (Use r) law next refl in omega arith
+debt-use base h r law next = let b = debt_made base h (Use r) law next refl (λ q. refl) (λ n. refl) refl in omega arith
 
 -- a lease costs one: its return
 pub debt-lease : (base : Kept) → (h : List Event) (r : ℕ) → IsLawful base h → MayFollow base h (Lease r) → debt base (h ++ Lease r ∷ []) ≡ debt base h + 1
-debt-lease base h r law next = let b = debt_made base h (Lease r) law next refl in omega arith
+debt-lease base h r law next = let b = debt_made base h (Lease r) law next refl (λ q. refl) (λ n. refl) refl in omega arith
 
 -- a resource costs two: its removal and its taking
 pub debt-accept : (base : Kept) → (h : List Event) (n tag : ℕ) → IsLawful base h → MayFollow base h (Accept n tag) →
     debt base (h ++ Accept n tag ∷ []) ≡ debt base h + 2
-debt-accept base h n tag law next =
-    let whole : (m : ℕ) → is_cut h (Accept n tag) m ≡ false = λ m. is_cut_none h (Accept n tag) m refl in
-    let b = debt-push base h (Accept n tag) law next in
-    let c = no_cut_count h (Accept n tag) whole in
-    let d = no_loss h (Accept n tag) whole (λ r. refl) in
-    let w = owed_count-push base h (Accept n tag) law next whole in
-    let p = paid_none h (Accept n tag) (λ m. refl) in
-    let q = projects_nothing h in
-    omega arith
+debt-accept base h n tag law next = let b = debt_made base h (Accept n tag) law next refl (λ r. refl) (λ m. refl) refl in omega arith
 
 -- the removal of a held resource pays one
 pub debt-remove : (base : Kept) → (h : List Event) (q : ℕ) → IsLawful base h → MayFollow base h (Remove q) → debt base (h ++ Remove q ∷ []) + 1 ≡ debt base h
 debt-remove base h q law next =
-    let whole : (m : ℕ) → is_cut h (Remove q) m ≡ false = λ m. is_cut_none h (Remove q) m refl in
-    let b = debt-push base h (Remove q) law next in
-    let c = no_cut_count h (Remove q) whole in
+    let b = debt_whole base h (Remove q) law next (λ m. is_cut_none h (Remove q) m refl) in
     let d = unowned_one h q (may_remove base next) in
-    let w = owed_count-push base h (Remove q) law next whole in
     let p = paid_none h (Remove q) (λ m. refl) in
-    let z = projects_nothing h in
-    omega arith
+    let z = projects_nothing h in omega arith
 
 -- so does a taking
 pub debt-take : (base : Kept) → (h : List Event) (q : ℕ) → IsLawful base h → MayFollow base h (Take q) → debt base (h ++ Take q ∷ []) + 1 ≡ debt base h
-debt-take base h q law next =
-    let whole : (m : ℕ) → is_cut h (Take q) m ≡ false = λ m. is_cut_none h (Take q) m refl in
-    let b = debt-push base h (Take q) law next in
-    let c = no_cut_count h (Take q) whole in
-    let d = no_loss h (Take q) whole (λ r. refl) in
-    let w = owed_count-push base h (Take q) law next whole in
-    let p = paid_none h (Take q) (λ m. refl) in
-    let z = projects_nothing h in
-    omega arith
+debt-take base h q law next = let b = debt_made base h (Take q) law next refl (λ r. refl) (λ m. refl) refl in omega arith
 
 -- and a return
 pub debt-return : (base : Kept) → (h : List Event) (l : ℕ) → IsLawful base h → MayFollow base h (Return l) → debt base (h ++ Return l ∷ []) + 1 ≡ debt base h
-debt-return base h l law next =
-    let whole : (m : ℕ) → is_cut h (Return l) m ≡ false = λ m. is_cut_none h (Return l) m refl in
-    let b = debt-push base h (Return l) law next in
-    let c = no_cut_count h (Return l) whole in
-    let d = no_loss h (Return l) whole (λ r. refl) in
-    let w = owed_count-push base h (Return l) law next whole in
-    let p = paid_none h (Return l) (λ m. refl) in
-    let z = projects_nothing h in
-    omega arith
+debt-return base h l law next = let b = debt_made base h (Return l) law next refl (λ r. refl) (λ m. refl) refl in omega arith
 
 -- an item costs one for each of its projections
 pub debt-item : (base : Kept) → (h : List Event) (l : ℕ) (v : ℤ) → IsLawful base h → MayFollow base h (Item l v) →
     debt base (h ++ Item l v ∷ []) ≡ debt base h + count_by is_projection (stops h l)
 debt-item base h l v law next =
     let whole : (m : ℕ) → is_cut h (Item l v) m ≡ false = λ m. is_cut_none h (Item l v) m refl in
-    let b = debt-push base h (Item l v) law next in
-    let c = no_cut_count h (Item l v) whole in
+    let b = debt_whole base h (Item l v) law next whole in
     let d = no_loss h (Item l v) whole (λ r. refl) in
-    let w = owed_count-push base h (Item l v) law next whole in
     let p = paid_none h (Item l v) (λ m. refl) in
-    let z = projected_count h (stops h l) (stops_open base h l law (may_emit base next)) in
-    omega arith
+    let z = projected_count h (stops h l) (stops_open base h l law (may_emit base next)) in omega arith
 
 -- a declined projection pays one
 pub debt-decline : (base : Kept) → (h : List Event) (f : ℕ) → IsLawful base h → MayFollow base h (Decline f) → debt base (h ++ Decline f ∷ []) + 1 ≡ debt base h
 debt-decline base h f law next =
     let whole : (m : ℕ) → is_cut h (Decline f) m ≡ false = λ m. is_cut_none h (Decline f) m refl in
-    let b = debt-push base h (Decline f) law next in
-    let c = no_cut_count h (Decline f) whole in
+    let b = debt_whole base h (Decline f) law next whole in
     let d = no_loss h (Decline f) whole (λ r. refl) in
-    let w = owed_count-push base h (Decline f) law next whole in
     let p = paid_one h (Decline f) f (may_decline base next).0 (may_decline base next).1 (λ n. refl) in
-    let z = projects_nothing h in
-    omega arith
+    let z = projects_nothing h in omega arith
 
 -- an inner of a FlatMap costs what the projection cost that it pays
 pub debt-inner_flat : (base : Kept) → (h : List Event) (f : ℕ) (kind : Kind) → IsLawful base h → MayFollow base h (Open (Inner f) kind) →
-    at is_switch h f ≡ false →
-    debt base (h ++ Open (Inner f) kind ∷ []) ≡ debt base h
+    at is_switch h f ≡ false → debt base (h ++ Open (Inner f) kind ∷ []) ≡ debt base h
 debt-inner_flat base h f kind law next flat =
     let whole : (m : ℕ) → is_cut h (Open (Inner f) kind) m ≡ false = is_cut_inner_flat h f kind flat in
-    let b = debt-push base h (Open (Inner f) kind) law next in
-    let c = no_cut_count h (Open (Inner f) kind) whole in
+    let b = debt_whole base h (Open (Inner f) kind) law next whole in
     let d = no_loss h (Open (Inner f) kind) whole (λ r. refl) in
-    let w = owed_count-push base h (Open (Inner f) kind) law next whole in
     let p = paid_one h (Open (Inner f) kind) f (may_open base next).0 (may_open base next).1 (λ n. refl) in
-    let z = projects_nothing h in
-    omega arith
+    let z = projects_nothing h in omega arith
 
 -- an inner of a Switch costs no more
 pub debt_no_rise-inner : (base : Kept) → (h : List Event) (f : ℕ) (kind : Kind) → IsLawful base h → MayFollow base h (Open (Inner f) kind) →
     debt base (h ++ Open (Inner f) kind ∷ []) ≤ debt base h
-debt_no_rise-inner base h f kind law next =
-    search (rules, debt-push, owed_count_falls-inner)
+debt_no_rise-inner base h f kind law next = search (rules, debt-push, owed_count_falls-inner)
 
 -- an end and a closing pay at least one
 pub debt_falls-end : (base : Kept) → (h : List Event) (c : ℕ) (t : Terminal) → IsLawful base h → MayFollow base h (End c t) →
     debt base (h ++ End c t ∷ []) + 1 ≤ debt base h
-debt_falls-end base h c t law next =
-    search (rules, debt-push, within_some, may_end, owed_count_no_rise)
+debt_falls-end base h c t law next = search (rules, debt-push, within_some, may_end, owed_count_no_rise)
 
 pub debt_falls-close : (base : Kept) → (h : List Event) (c : ℕ) → IsLawful base h → MayFollow base h (Close c) → debt base (h ++ Close c ∷ []) + 1 ≤ debt base h
-debt_falls-close base h c law next =
-    search (rules, debt-push, within_some, may_close, owed_count_no_rise)
+debt_falls-close base h c law next = search (rules, debt-push, within_some, may_close, owed_count_no_rise)
